@@ -1,0 +1,89 @@
+-- Valid domains and the number rule of their last label, after the URL Standard, sections 3.3 to 3.5, and UTS #46, section 4.
+-- A text is a list of code points; the words of UTS #46 are over its UTF-8 bytes.
+use Rattle.std.specs.Prelude.{◌≡◌, ℕ, ◌-◌, ◌<◌, ◌≤◌, Bool, true, false, not, ◌&&◌, ◌||◌, ◌==◌, nat_eq, nat_le, nat_lt, List, [], ◌∷◌, length, take, drop, slice_index, codes, encode_utf8_all, All, Option, Some, None, IsSome, if◌then◌else◌}
+use Rattle.std.specs.Int.{is_in_range}
+use Rattle.std.specs.List.{list_all, list_any, starts_with, after_last}
+use Rattle.std.specs.Char.{is_ascii, is_ascii_alphanumeric, is_ascii_digit, is_ascii_lowercase, is_ascii_hexdigit}
+use Rattle.idna.specs.declared.deny_list.TheConstants.AsciiDenyList.{STD3, EMPTY}
+use Rattle.idna.specs.declared.options.Hyphens.TheVariants.{Check}
+use Rattle.idna.specs.declared.options.DnsLength.TheVariants.{Ignore}
+use Rattle.idna.specs.Labels.{is_full_stop, labels_of}
+use Rattle.idna.specs.Uts46.{to_ascii, to_unicode, domain_to_ascii}
+use Rattle.idna.specs.Validity.{has_ace_prefix}
+use Rattle.uv_model.specs.Ascii.{hyphen, full_stop}
+use Rattle.uv_model.specs.Scheme.{lowercase}
+
+-- ---- the number rule
+
+-- the text without one full stop at its end
+abbrev pub without_root : List ℕ → List ℕ
+without_root text = if is_full_stop (slice_index text (length text - 1)) then take (length text - 1) text else text
+
+-- digits alone, and at least one
+abbrev pub is_digits : List ℕ → Bool
+is_digits label = nat_lt 0 (length label) && list_all is_ascii_digit label
+
+-- `0x` and hex digits, or nothing, after it
+abbrev pub is_hexadecimal : List ℕ → Bool
+is_hexadecimal label = starts_with nat_eq label (codes "0x") && list_all is_ascii_hexdigit (drop 2 label)
+
+-- the last label, where one empty label at the end is dropped
+abbrev pub last_label : List ℕ → List ℕ
+last_label text = after_last is_full_stop (without_root text)
+
+-- the last label is a number
+unfoldable pub ends_in_number : List ℕ → Bool
+ends_in_number text = is_digits (last_label text) || is_hexadecimal (last_label text)
+
+-- ---- valid domains
+
+-- the code point is beyond ASCII, or a letter, a digit, the hyphen or the full stop
+abbrev pub is_permitted : ℕ → Bool
+is_permitted c = not (is_ascii c) || (is_ascii_alphanumeric c || ((c == hyphen) || (c == full_stop)))
+
+-- the ASCII code points of the text are letters, digits, hyphens and full stops
+unfoldable pub has_permitted : List ℕ → Bool
+has_permitted text = list_all is_permitted text
+
+-- a lower-case letter, a digit, the hyphen or the full stop
+abbrev pub is_form_code_point : ℕ → Bool
+is_form_code_point c = is_ascii_lowercase c || (is_ascii_digit c || ((c == hyphen) || (c == full_stop)))
+
+-- each label has 1 to 63 code points and the whole 1 to 253, where one full stop at the end isn't counted
+abbrev pub has_lengths : List ℕ → Bool
+has_lengths form =
+    is_in_range 1 253 (length (without_root form))
+    && list_all (λ label. is_in_range 1 63 (length label)) (labels_of (without_root form))
+
+-- ToASCII at the strict settings
+abbrev pub strict_form : List ℕ → Option (List ℕ)
+strict_form text = to_ascii STD3 Check Ignore (encode_utf8_all text)
+
+-- ASCII, and no label begins with `xn--` in any case
+abbrev pub is_plain_ascii : List ℕ → Bool
+is_plain_ascii text = list_all is_ascii text && list_all (λ label. not (has_ace_prefix label)) (labels_of (lowercase text))
+
+-- ToASCII at the settings of the URL parser
+unfoldable pub parser_form : List ℕ → Option (List ℕ)
+parser_form text = if is_plain_ascii text then Some (lowercase text) else domain_to_ascii EMPTY (encode_utf8_all text)
+
+-- the text has this form, by both settings, and ToUnicode takes the form
+pub record IsForm (text form : List ℕ) : Type 0 where
+  pub permitted : has_permitted text ≡ true
+  pub strict : strict_form text ≡ Some form
+  pub letters : All (λ c. is_form_code_point c ≡ true) form
+  pub lengths : has_lengths form ≡ true
+  pub parsed : parser_form text ≡ Some form
+  pub shown : IsSome (to_unicode STD3 Check form)
+
+-- a valid domain of this form
+abbrev pub IsDomain : List ℕ → List ℕ → Type 0
+IsDomain text form = IsForm text form × (ends_in_number form ≡ false)
+
+-- a domain but for its form, which ends in a number
+abbrev pub IsNumberText : List ℕ → Type 0
+IsNumberText text = (form : List ℕ) × IsForm text form × (ends_in_number form ≡ true)
+
+-- the text has no form
+abbrev pub HasNoForm : List ℕ → Type 0
+HasNoForm text = (form : List ℕ) → ¬ (IsForm text form)

@@ -1,0 +1,85 @@
+//! The texts of a record, which are ASCII.
+ghost use Rattle.std.specs.Prelude.{◌≡◌, string_bytes};
+ghost use Rattle.std.specs.Str.{IsAscii};
+
+use std::marker::Model;
+
+/// An owned ASCII text. Contracts see its code points, which are its bytes.
+#[derive(Debug, Drop)]
+pub struct Text {
+    inner: String,
+}
+
+impl Model for Text {
+    ghost use Rattle.std.specs.Prelude.{ℕ, List, string_bytes};
+    ghost use Rattle.std.specs.Str.{IsAscii};
+
+    ghost Value = { List ℕ };
+
+    ghost view = { λ t. string_bytes t.inner };
+
+    ghost invariant = { λ t. IsAscii (string_bytes t.inner) };
+}
+
+impl Text {
+    /// The text of an ASCII string.
+    pub fn of(text: String) -> Text
+        requires { IsAscii (string_bytes text) }
+        ensures { result ≡ string_bytes text }
+    {
+        Text { inner: text }
+    }
+
+    /// The text as a slice.
+    pub fn as_str(&self) -> &str
+        ensures text { result.now ≡ self.now }
+        ensures ascii { IsAscii self.now }
+    {
+        self.inner.as_str()
+    }
+
+    /// The string given back, without a copy.
+    pub fn into_string(self) -> String
+        ensures text { string_bytes result ≡ self }
+        ensures ascii { IsAscii self }
+    {
+        self.inner
+    }
+}
+
+/// A list of ASCII texts, as the segments of a path.
+#[derive(Debug, Drop)]
+pub struct TextList {
+    items: Vec<Text>,
+}
+
+impl Model for TextList {
+    ghost use Rattle.std.specs.Prelude.{ℕ, List};
+
+    ghost Value = { List (List ℕ) };
+
+    ghost view = { λ t. t.items.items };
+}
+
+impl TextList {
+    /// The list of these texts, without a copy.
+    pub fn of(items: Vec<Text>) -> TextList
+        ensures { result ≡ items.items }
+    {
+        TextList { items }
+    }
+
+    /// The texts as a slice.
+    pub fn as_slice(&self) -> &[Text]
+        ensures { result.now ≡ self.now }
+    {
+        self.items.as_slice()
+    }
+
+    /// The texts given back, without a copy.
+    pub fn into_items(self) -> Vec<Text>
+        ensures { result.items ≡ self }
+    {
+        self.items
+    }
+}
