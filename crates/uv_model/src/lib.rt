@@ -1,11 +1,15 @@
 //! The definitions of valid URL strings and of the URL parser, the records, and the devices.
 #![tactic(auto)]
 
+mod adapters;
+mod device;
 mod host;
 mod path;
 mod scheme;
 mod text;
 
+pub use adapters::ToWriter;
+pub use device::{DeviceFault, Sink, write_whole};
 pub use host::Host;
 pub use path::UrlPath;
 pub use scheme::Class;

@@ -1,0 +1,50 @@
+//! Devices that take bytes: what the outputs of this product are written to.
+ghost use Rattle.std.specs.Prelude.{◌≡◌, ℕ, List, Option, OnOk, OnErr, length, take, ◌+◌, ◌-◌, ◌^◌, ◌<◌};
+ghost use Rattle.std.specs.Io.{WritesAtMost};
+ghost use Rattle.std.specs.Io.KnownBytes.{Appends, WriteAppends};
+ghost use Rattle.uv_model.specs.Device.{write_failures};
+
+/// A read or a write failed, or a write took nothing of a piece that had bytes.
+#[derive(Clone, Copy, Debug, PartialEq, Eq)]
+pub struct DeviceFault;
+
+/// What takes bytes.
+pub trait Sink {
+    // The bytes that it holds, where the device tells them.
+    ghost contents: { Self → Option (List ℕ) };
+
+    // How many writes have failed.
+    ghost failed: { Self → ℕ };
+
+    /// Takes a front of the piece, and says how many bytes that are. An error takes none.
+    fn write(&mut self, from: &[u8]) -> Result<usize, DeviceFault>
+        requires { failed self.old < 2 ^ 64 - 1 }
+        ensures bound { WritesAtMost result from.now }
+        ensures bytes { WriteAppends (contents self.old) (contents self.new) result from.now }
+        ensures count { failed self.new ≡ failed self.old + write_failures result from.now };
+
+    /// How many writes have failed: those that answered an error, and those that took nothing of a piece that had bytes.
+    fn failures(&self) -> u64
+        ensures { result ≡ failed self.now };
+}
+
+/// Writes a whole piece.
+///
+/// A fault comes at the first write that fails, and leaves a front of the piece written.
+pub fn write_whole<S: Sink>(out: &mut S, piece: &[u8]) -> Result<(), DeviceFault>
+    requires { S.failed out.old < 2 ^ 64 - 1 }
+    ensures whole { OnOk result (Appends (S.contents out.old) (S.contents out.new) piece.now) }
+    ensures quiet { OnOk result (S.failed out.new ≡ S.failed out.old) }
+    ensures front { OnErr result ((n : ℕ) × Appends (S.contents out.old) (S.contents out.new) (take n piece.now)) }
+    ensures failed { OnErr result (S.failed out.new ≡ S.failed out.old + 1) }
+{
+    let mut at = 0;
+    while at < piece.len() {
+        match out.write(&piece[at..]) {
+            Err(DeviceFault) => return Err(DeviceFault),
+            Ok(0) => return Err(DeviceFault),
+            Ok(taken) => at += taken,
+        }
+    }
+    Ok(())
+}
