@@ -11,6 +11,8 @@ pub mod Machine
 pub mod OpaqueHost
 pub mod Parts
 pub mod Path
+pub mod Refusal
+pub mod Rule
 pub mod Run
 pub mod Scheme
 pub mod Serialize

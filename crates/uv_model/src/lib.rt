@@ -5,6 +5,7 @@ mod adapters;
 mod device;
 mod host;
 mod path;
+mod rule;
 mod scheme;
 mod text;
 
@@ -12,5 +13,6 @@ pub use adapters::ToWriter;
 pub use device::{DeviceFault, Sink, write_whole};
 pub use host::Host;
 pub use path::UrlPath;
+pub use rule::{Refusal, Rule};
 pub use scheme::Class;
 pub use text::{Text, TextList};

@@ -1,0 +1,49 @@
+-- The rules that a text can violate, by their numbers and names.
+use Rattle.std.specs.Prelude.{◌≡◌, ℕ, List, [], ◌∷◌, codes, Option, find}
+use Rattle.std.specs.Str.{bytes_eq}
+use Rattle.uv_model.specs.declared.rule.Rule.{Rule}
+use Rattle.uv_model.specs.declared.rule.Rule.TheVariants.{NoScheme, OpaqueBase, TwoSlashes, HostMissing, HostDomain, HostNumber, HostIpv6, HostCodePoint, PortDigit, PortRange, FirstSegmentEmpty, DriveAfterHost, CodePoint, Percent}
+
+-- the number of a rule
+abbrev pub rule_number : Rule → ℕ
+rule_number NoScheme = 1
+rule_number OpaqueBase = 2
+rule_number TwoSlashes = 3
+rule_number HostMissing = 4
+rule_number HostDomain = 5
+rule_number HostNumber = 6
+rule_number HostIpv6 = 7
+rule_number HostCodePoint = 8
+rule_number PortDigit = 9
+rule_number PortRange = 10
+rule_number FirstSegmentEmpty = 11
+rule_number DriveAfterHost = 12
+rule_number CodePoint = 13
+rule_number Percent = 14
+
+-- the name of a rule
+abbrev pub rule_name : Rule → List ℕ
+rule_name NoScheme = codes "no-scheme"
+rule_name OpaqueBase = codes "opaque-base"
+rule_name TwoSlashes = codes "two-slashes"
+rule_name HostMissing = codes "host-missing"
+rule_name HostDomain = codes "host-domain"
+rule_name HostNumber = codes "host-number"
+rule_name HostIpv6 = codes "host-ipv6"
+rule_name HostCodePoint = codes "host-code-point"
+rule_name PortDigit = codes "port-digit"
+rule_name PortRange = codes "port-range"
+rule_name FirstSegmentEmpty = codes "first-segment-empty"
+rule_name DriveAfterHost = codes "drive-after-host"
+rule_name CodePoint = codes "code-point"
+rule_name Percent = codes "percent"
+
+-- the rules in the order of their numbers
+abbrev pub rules_in_order : List Rule
+rules_in_order =
+    NoScheme ∷ OpaqueBase ∷ TwoSlashes ∷ HostMissing ∷ HostDomain ∷ HostNumber ∷ HostIpv6 ∷ HostCodePoint ∷ PortDigit
+    ∷ PortRange ∷ FirstSegmentEmpty ∷ DriveAfterHost ∷ CodePoint ∷ Percent ∷ []
+
+-- the rule with a name, where there is one
+abbrev pub named_rule : List ℕ → Option Rule
+named_rule name = find (λ rule. bytes_eq name (rule_name rule)) rules_in_order

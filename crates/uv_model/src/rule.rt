@@ -1,0 +1,114 @@
+//! The rules that a text can violate, and refusals.
+ghost use Rattle.std.specs.Prelude.{◌≡◌, codes};
+ghost use Rattle.uv_model.specs.Rule.{rule_number, rule_name, named_rule};
+
+/// A rule of valid URL strings (URL Standard, sections 3.4 and 4.3) that a text violates, in the order of the rules' numbers.
+#[derive(Clone, Copy, Debug, PartialEq, Eq)]
+pub enum Rule {
+    /// A text without a scheme has no base.
+    NoScheme,
+    /// A text without a scheme is more than a fragment, and the base's path is opaque.
+    OpaqueBase,
+    /// A special scheme and its `:` aren't followed by `//`.
+    TwoSlashes,
+    /// The host is empty where one is needed.
+    HostMissing,
+    /// The host is no valid domain.
+    HostDomain,
+    /// The host would be a valid domain, but ends in a number.
+    HostNumber,
+    /// The host begins with `[` and is no bracketed IPv6 address.
+    HostIpv6,
+    /// A code point that an opaque host can't hold.
+    HostCodePoint,
+    /// A code point of the port that is no digit.
+    PortDigit,
+    /// The port is above 65535.
+    PortRange,
+    /// The path's first segment is empty and isn't its only one.
+    FirstSegmentEmpty,
+    /// The path of a `file` URL with a host begins with a Windows drive letter.
+    DriveAfterHost,
+    /// A code point of the path, query or fragment that is neither a URL code point nor `%`.
+    CodePoint,
+    /// A `%` that isn't followed by two hex digits.
+    Percent,
+}
+
+impl Rule {
+    /// The rule's number, from 1 to 14 in the order of the variants.
+    pub fn number(self) -> u8
+        ensures { result ≡ rule_number self }
+    {
+        match self {
+            Rule::NoScheme => 1,
+            Rule::OpaqueBase => 2,
+            Rule::TwoSlashes => 3,
+            Rule::HostMissing => 4,
+            Rule::HostDomain => 5,
+            Rule::HostNumber => 6,
+            Rule::HostIpv6 => 7,
+            Rule::HostCodePoint => 8,
+            Rule::PortDigit => 9,
+            Rule::PortRange => 10,
+            Rule::FirstSegmentEmpty => 11,
+            Rule::DriveAfterHost => 12,
+            Rule::CodePoint => 13,
+            Rule::Percent => 14,
+        }
+    }
+
+    /// The rule's name, as refusals are printed.
+    pub fn name(self) -> &'static str
+        ensures { result.now ≡ rule_name self }
+    {
+        match self {
+            Rule::NoScheme => "no-scheme",
+            Rule::OpaqueBase => "opaque-base",
+            Rule::TwoSlashes => "two-slashes",
+            Rule::HostMissing => "host-missing",
+            Rule::HostDomain => "host-domain",
+            Rule::HostNumber => "host-number",
+            Rule::HostIpv6 => "host-ipv6",
+            Rule::HostCodePoint => "host-code-point",
+            Rule::PortDigit => "port-digit",
+            Rule::PortRange => "port-range",
+            Rule::FirstSegmentEmpty => "first-segment-empty",
+            Rule::DriveAfterHost => "drive-after-host",
+            Rule::CodePoint => "code-point",
+            Rule::Percent => "percent",
+        }
+    }
+
+    /// The rule with this name, or `None` where no rule has it.
+    pub fn of_name(name: &str) -> Option<Rule>
+        ensures { result ≡ named_rule name.now }
+    {
+        match name {
+            "no-scheme" => Some(Rule::NoScheme),
+            "opaque-base" => Some(Rule::OpaqueBase),
+            "two-slashes" => Some(Rule::TwoSlashes),
+            "host-missing" => Some(Rule::HostMissing),
+            "host-domain" => Some(Rule::HostDomain),
+            "host-number" => Some(Rule::HostNumber),
+            "host-ipv6" => Some(Rule::HostIpv6),
+            "host-code-point" => Some(Rule::HostCodePoint),
+            "port-digit" => Some(Rule::PortDigit),
+            "port-range" => Some(Rule::PortRange),
+            "first-segment-empty" => Some(Rule::FirstSegmentEmpty),
+            "drive-after-host" => Some(Rule::DriveAfterHost),
+            "code-point" => Some(Rule::CodePoint),
+            "percent" => Some(Rule::Percent),
+            _ => None,
+        }
+    }
+}
+
+/// Where a text is refused, and by which rule.
+#[derive(Clone, Copy, Debug, PartialEq, Eq)]
+pub struct Refusal {
+    /// The place: a number of code points, counted from 0 at the text's start.
+    pub place: usize,
+    /// The rule that is violated there.
+    pub rule: Rule,
+}
