@@ -14,8 +14,10 @@ use Rattle.uv_model.specs.Parts.{Form, SchemeAuthority, SchemePath, SchemeOpaque
 use Rattle.uv_model.specs.Valid.{scheme_in}
 
 -- the scheme of the text in lower case, else that of the base
-abbrev pub denoted_scheme : Option Url → Parts → List ℕ
-denoted_scheme base parts = lowercase (scheme_in base parts)
+abbrev pub denoted_scheme : Option Url → Option (List ℕ) → List ℕ
+denoted_scheme base (Some scheme) = lowercase scheme
+denoted_scheme (Some url) None = url.scheme
+denoted_scheme None None = []
 
 -- the host of an authority: its value, else its text as an opaque host
 abbrev pub authority_host : Parts → Option Host
@@ -105,7 +107,7 @@ unfoldable pub denote : Option Url → Parts → Url
 denote base parts =
     let kind = scheme_class (scheme_in base parts) in
     record {
-      scheme = denoted_scheme base parts;
+      scheme = denoted_scheme base parts.scheme;
       host = denoted_host base parts.form parts;
       port = denoted_port base parts.form parts;
       path = denoted_path base kind parts.form parts;
