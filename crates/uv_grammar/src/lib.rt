@@ -1,0 +1,8 @@
+//! The checker of valid URL strings, and the parts of those that it takes (URL Standard, section 4.3).
+#![tactic(auto)]
+
+mod form;
+mod parts;
+
+pub use form::Form;
+pub use parts::{Parts, Segments};
