@@ -1,8 +1,8 @@
 -- Schemes, after the URL Standard, sections 4.2 and 4.3.
-use Rattle.std.specs.Prelude.{◌≡◌, ℕ, Bool, true, false, ◌&&◌, ◌||◌, ◌==◌, List, [], ◌∷◌, map, codes, Option, Some, None, is_some, if◌then◌else◌}
+use Rattle.std.specs.Prelude.{◌≡◌, ℕ, Bool, true, false, not, ◌&&◌, ◌||◌, ◌==◌, List, [], ◌∷◌, map, codes, Option, Some, None, is_some, if◌then◌else◌}
 use Rattle.std.specs.List.{list_all}
 use Rattle.std.specs.Str.{bytes_eq}
-use Rattle.std.specs.Char.{is_ascii_alphabetic, is_ascii_alphanumeric, to_ascii_lowercase}
+use Rattle.std.specs.Char.{is_ascii, is_ascii_alphabetic, is_ascii_alphanumeric, is_ascii_uppercase, to_ascii_lowercase}
 use Rattle.uv_model.specs.Ascii.{plus_sign, hyphen, full_stop}
 use Rattle.uv_model.specs.declared.scheme.Class.{Class}
 use Rattle.uv_model.specs.declared.scheme.Class.TheVariants.{Special, File, Other}
@@ -10,6 +10,10 @@ use Rattle.uv_model.specs.declared.scheme.Class.TheVariants.{Special, File, Othe
 -- the text in ASCII lower case
 abbrev pub lowercase : List ℕ → List ℕ
 lowercase text = map to_ascii_lowercase text
+
+-- ASCII without upper case
+abbrev pub is_lowercase_ascii : List ℕ → Bool
+is_lowercase_ascii text = list_all (λ c. is_ascii c && not (is_ascii_uppercase c)) text
 
 -- a code point of a scheme behind its first
 abbrev pub is_scheme_code_point : ℕ → Bool

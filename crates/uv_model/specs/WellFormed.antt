@@ -21,6 +21,11 @@ use Rattle.uv_model.specs.Valid.{is_default_port}
 abbrev pub is_ascii_text : List ℕ → Bool
 is_ascii_text text = list_all is_ascii text
 
+-- an absent text, or ASCII
+abbrev pub MayBeAscii : Option (List ℕ) → Type 0
+MayBeAscii None = Unit {0}
+MayBeAscii (Some text) = is_ascii_text text ≡ true
+
 -- ASCII URL units
 pub record IsAsciiUnits (text : List ℕ) : Type 0 where
   pub units : IsUnits text

@@ -1,0 +1,19 @@
+-- Texts of ASCII code points, whose bytes are their code points.
+use Rattle.std.proofs.Common.{◌≡◌, ℕ, ◌<◌, true, List, [], ◌∷◌, ◌∙◌, sym, arith}
+use Rattle.std.specs.List.{list_all}
+use Rattle.std.specs.Char.{is_ascii}
+use Rattle.std.specs.Str.{IsAscii, IsUtf8, chars}
+use Rattle.std.proofs.lemmas.Bool.{and_parts, ltb-true}
+use Rattle.std.proofs.lemmas.Str.{encodes-IsAscii, encodes-chars}
+use Rattle.std.proofs.lemmas.Str.Ascii.{IsAscii-nil, IsAscii-cons}
+
+-- a text of which each code point is ASCII
+pub IsAscii-from_test : (text : List ℕ) → list_all is_ascii text ≡ true → IsAscii text
+IsAscii-from_test [] passes = IsAscii-nil
+IsAscii-from_test (c ∷ rest) passes =
+    let parts = and_parts (is_ascii c) (list_all is_ascii rest) passes in
+    IsAscii-cons c rest (ltb-true c 128 parts.0) (IsAscii-from_test rest parts.1)
+
+-- ASCII code points are the bytes
+pub chars-from_IsAscii : (bytes : List ℕ) → IsUtf8 bytes → IsAscii (chars bytes) → chars bytes ≡ bytes
+chars-from_IsAscii bytes utf8 ascii = sym (encodes-IsAscii (chars bytes) ascii) ∙ encodes-chars bytes utf8

@@ -1,0 +1,57 @@
+-- Schemes: what lower case keeps, and that names compare by bytes as by code points.
+use Rattle.std.proofs.Common.{◌≡◌, ℕ, ◌<◌, Bool, true, false, List, [], ◌∷◌, ◌∙◌, map, not, ◌&&◌, ◌↔◌, refl, sym, ap, arith}
+use Rattle.std.specs.List.{list_all}
+use Rattle.std.specs.Char.{is_ascii, is_ascii_uppercase, to_ascii_lowercase}
+use Rattle.std.specs.Str.{IsAscii, IsUtf8, bytes_eq, chars}
+use Rattle.std.proofs.lemmas.Bool.{and_parts, not-true}
+use Rattle.std.proofs.lemmas.Bool.Decides.{nat_tests, same_from_decides}
+use Rattle.std.proofs.lemmas.Slice.Eq.{bytes_eq-Decides}
+use Rattle.std.proofs.lemmas.Str.{chars-IsAscii}
+use Rattle.std.proofs.lemmas.Str.Ascii.{IsAscii-nil, IsAscii-cons}
+use Rattle.uv_model.specs.Scheme.{is_lowercase_ascii, lowercase}
+use Rattle.uv_model.proofs.AsciiLemmas.{chars-from_IsAscii}
+
+-- a code point that is ASCII in lower case is ASCII
+ascii_code_point : (c d : ℕ) → to_ascii_lowercase c ≡ d → is_ascii d ≡ true → c < 128
+ascii_code_point c d e passes = grind (arith, nat_tests)
+
+-- a code point in lower case stays
+lowercase_code_point : (c : ℕ) → is_ascii_uppercase c ≡ false → to_ascii_lowercase c ≡ c
+lowercase_code_point c passes = grind (arith, nat_tests)
+
+-- a name in lower case stays
+pub lowercase-name : (name : List ℕ) → is_lowercase_ascii name ≡ true → lowercase name ≡ name
+lowercase-name [] small = refl
+lowercase-name (c ∷ rest) small =
+    let parts = and_parts (is_ascii c && not (is_ascii_uppercase c)) (is_lowercase_ascii rest) small in
+    let first = and_parts (is_ascii c) (not (is_ascii_uppercase c)) parts.0 in
+    let same : to_ascii_lowercase c ≡ c = lowercase_code_point c (not-true _ first.1) in
+    let others : lowercase rest ≡ rest = lowercase-name rest parts.1 in
+    cc
+
+-- a text that is a name in lower case is ASCII
+pub IsAscii-from_name : (text name : List ℕ) → is_lowercase_ascii name ≡ true → lowercase text ≡ name → IsAscii text
+IsAscii-from_name [] name small e = IsAscii-nil
+IsAscii-from_name (c ∷ rest) [] small e = absurd cc
+IsAscii-from_name (c ∷ rest) (d ∷ others) small e =
+    let parts = and_parts (is_ascii d && not (is_ascii_uppercase d)) (is_lowercase_ascii others) small in
+    let first = and_parts (is_ascii d) (not (is_ascii_uppercase d)) parts.0 in
+    let same : to_ascii_lowercase c ≡ d = cc in
+    let later : lowercase rest ≡ others = cc in
+    IsAscii-cons c rest (ascii_code_point c d same first.0) (IsAscii-from_name rest others parts.1 later)
+
+-- the test of the bytes is that of the code points
+pub same_by_bytes : (text name : List ℕ) (r : Bool) → IsUtf8 text → is_lowercase_ascii name ≡ true
+    → ((r ≡ true) ↔ (lowercase text ≡ lowercase name)) → r ≡ bytes_eq (lowercase (chars text)) name
+same_by_bytes text name r utf8 small says =
+    same_from_decides r (bytes_eq (lowercase (chars text)) name) (forth, back) (bytes_eq-Decides (lowercase (chars text)) name)
+  where
+    forth : r ≡ true → lowercase (chars text) ≡ name
+    forth e =
+        let by_bytes : lowercase text ≡ name = says.0 e ∙ lowercase-name name small in
+        rw (chars-IsAscii text (IsAscii-from_name text name small by_bytes)) by_bytes
+
+    back : lowercase (chars text) ≡ name → r ≡ true
+    back e =
+        let same : chars text ≡ text = chars-from_IsAscii text utf8 (IsAscii-from_name (chars text) name small e) in
+        says.1 (ap lowercase (sym same) ∙ (e ∙ sym (lowercase-name name small)))

@@ -1,0 +1,160 @@
+//! Records: the URLs that valid texts denote, each well formed.
+ghost use Rattle.std.specs.Prelude.{◌≡◌, IfOk, Option, Some, None, option_copied, option_map, string_bytes};
+ghost use Rattle.uv_model.specs.Url.{Url, is_opaque};
+ghost use Rattle.uv_model.specs.WellFormed.{MayBeAscii, WellFormed};
+
+use crate::host::Host;
+use crate::path::UrlPath;
+use crate::text::Text;
+use std::marker::Model;
+
+/// A URL's record (URL Standard, section 4.1) without credentials. It is well formed.
+#[derive(Debug, Drop)]
+pub struct Record {
+    scheme: Text,
+    host: Option<Host>,
+    port: Option<u16>,
+    path: UrlPath,
+    query: Option<Text>,
+    fragment: Option<Text>,
+}
+
+impl Model for Record {
+    ghost use Rattle.uv_model.specs.Url.{Url};
+
+    ghost Value = { Url };
+
+    ghost use Rattle.uv_model.specs.WellFormed.{WellFormed};
+
+    ghost view = { λ r. record {
+      scheme = r.scheme;
+      host = r.host;
+      port = r.port;
+      path = r.path;
+      query = r.query;
+      fragment = r.fragment;
+    } };
+
+    ghost invariant = { λ r. WellFormed (record {
+      scheme = r.scheme;
+      host = r.host;
+      port = r.port;
+      path = r.path;
+      query = r.query;
+      fragment = r.fragment;
+    }) };
+}
+
+impl Record {
+    /// The record of these parts, without a copy. They have to be well formed.
+    pub fn make(
+        scheme: String,
+        host: Option<Host>,
+        port: Option<u16>,
+        path: UrlPath,
+        query: Option<String>,
+        fragment: Option<String>,
+    ) -> Record
+        requires { WellFormed (record {
+          scheme = string_bytes scheme;
+          host = host;
+          port = port;
+          path = path;
+          query = option_map (λ s. string_bytes s) query;
+          fragment = option_map (λ s. string_bytes s) fragment;
+        }) }
+        ensures { result ≡ record {
+          scheme = string_bytes scheme;
+          host = host;
+          port = port;
+          path = path;
+          query = option_map (λ s. string_bytes s) query;
+          fragment = option_map (λ s. string_bytes s) fragment;
+        } }
+    {
+        let query = text_of(query);
+        let fragment = text_of(fragment);
+        Record {
+            scheme: Text::of(scheme),
+            host,
+            port,
+            path,
+            query,
+            fragment,
+        }
+    }
+
+    /// The scheme, in lower case.
+    pub fn scheme(&self) -> &str
+        ensures { result.now ≡ self.now.scheme }
+    {
+        self.scheme.as_str()
+    }
+
+    /// The host, which is absent where the URL has none.
+    pub fn host(&self) -> Option<&Host>
+        ensures { option_copied result ≡ self.now.host }
+    {
+        self.host.as_ref()
+    }
+
+    /// The port, which is absent where the URL has none or its scheme's default.
+    pub fn port(&self) -> Option<u16>
+        ensures { result ≡ self.now.port }
+    {
+        self.port
+    }
+
+    /// The path.
+    pub fn path(&self) -> &UrlPath
+        ensures path { result.now ≡ self.now.path }
+        ensures well_formed { WellFormed self.now }
+    {
+        &self.path
+    }
+
+    /// The query without its `?`, which is absent where the URL has none.
+    pub fn query(&self) -> Option<&str>
+        ensures { option_copied result ≡ self.now.query }
+    {
+        as_text(&self.query)
+    }
+
+    /// The fragment without its `#`, which is absent where the URL has none.
+    pub fn fragment(&self) -> Option<&str>
+        ensures { option_copied result ≡ self.now.fragment }
+    {
+        as_text(&self.fragment)
+    }
+
+    /// The path is an opaque text.
+    pub fn is_opaque(&self) -> bool
+        ensures { result ≡ is_opaque self.now.path }
+    {
+        match &self.path {
+            UrlPath::Opaque(_) => true,
+            UrlPath::Segments(_) => false,
+        }
+    }
+}
+
+// The text of a string that is ASCII.
+fn text_of(string: Option<String>) -> Option<Text>
+    requires { MayBeAscii (option_map (λ s. string_bytes s) string) }
+    ensures { result ≡ option_map (λ s. string_bytes s) string }
+{
+    match string {
+        Some(string) => Some(Text::of(string)),
+        None => None,
+    }
+}
+
+// The text as a slice.
+fn as_text(text: &Option<Text>) -> Option<&str>
+    ensures { option_copied result ≡ text.now }
+{
+    match text {
+        Some(text) => Some(text.as_str()),
+        None => None,
+    }
+}
