@@ -1,0 +1,159 @@
+-- URL units: a concatenation of units is a text without a fault, and what each of its code points is.
+use Rattle.std.proofs.Common.{◌≡◌, ◌≢◌, ℕ, ◌<◌, ◌≤◌, Bool, true, false, not, ◌&&◌, ◌||◌, ◌==◌, List, [], ◌∷◌, ◌++◌, refl, sym, ap, ◌∙◌, subst, inl, inr, arith, lt-ltb, append-nil}
+use Rattle.std.specs.Prelude.{if◌then◌else◌}
+use Rattle.std.specs.List.{concat, list_all}
+use Rattle.std.specs.Char.{is_ascii_hexdigit}
+use Rattle.std.proofs.lemmas.Bool.{false≢true, cases_Bool, and_parts, and_from, and_right, cases_eq, cases_lt, ne_eqb, eqb-true, agree_below_at}
+use Rattle.std.proofs.lemmas.Bool.Decides.{nat_tests}
+use Rattle.std.proofs.Math.Bool.{and_assoc}
+use Rattle.std.proofs.lemmas.List.Folds.{list_all-append, concat-append}
+use Rattle.uv_model.specs.Ascii.{percent_sign}
+use Rattle.uv_model.specs.Units.{is_url_code_point, starts_with_two_hex, is_unit, IsUnits, is_unit_at, is_faultless}
+
+-- ---- one code point
+
+-- a URL code point isn't `%`
+pub url_not_percent : (c : ℕ) → is_url_code_point c ≡ true → (c == percent_sign) ≡ false
+unfolding is_url_code_point
+url_not_percent c url = grind (arith, nat_tests)
+
+-- a hex digit is a URL code point
+pub hex_is_url : (c : ℕ) → is_ascii_hexdigit c ≡ true → is_url_code_point c ≡ true
+unfolding is_url_code_point
+hex_is_url c hex = grind (arith, nat_tests)
+
+-- a URL code point is no fault, whatever follows it
+pub is_unit_at-url : (c : ℕ) (rest : List ℕ) → is_url_code_point c ≡ true → is_unit_at c rest ≡ true
+unfolding is_unit_at
+is_unit_at-url c rest url = rw (url_not_percent c url) url
+
+-- what is no fault and no `%` is a URL code point
+pub url_from_unit_at : (c : ℕ) (rest : List ℕ) → c ≢ percent_sign → is_unit_at c rest ≡ true → is_url_code_point c ≡ true
+unfolding is_unit_at
+url_from_unit_at c rest other ok = rw (ne_eqb c percent_sign other) at ok
+
+-- ---- from units to no fault
+
+-- one unit before a text without a fault
+is_faultless-unit : (unit text : List ℕ) → is_unit unit ≡ true → is_faultless text ≡ true → is_faultless (unit ++ text) ≡ true
+unfolding is_unit_at
+is_faultless-unit [] text unit rest = absurd (false≢true unit)
+is_faultless-unit (c ∷ []) text unit rest = and_from _ _ (is_unit_at-url c text unit) rest
+is_faultless-unit (c ∷ high ∷ []) text unit rest = absurd (false≢true unit)
+is_faultless-unit (c ∷ high ∷ low ∷ []) text unit rest =
+    let parts = and_parts (c == percent_sign) (is_ascii_hexdigit high && is_ascii_hexdigit low) unit in
+    let hex = and_parts _ _ parts.1 in
+    and_from _ _ (rw parts.0 parts.1)
+    (and_from _ _ (is_unit_at-url high (low ∷ text) (hex_is_url high hex.0))
+    (and_from _ _ (is_unit_at-url low text (hex_is_url low hex.1)) rest))
+is_faultless-unit (c ∷ high ∷ low ∷ more ∷ others) text unit rest = absurd (false≢true unit)
+
+is_faultless-concat : (units : List (List ℕ)) → list_all is_unit units ≡ true → is_faultless (concat units) ≡ true
+is_faultless-concat [] each = refl
+is_faultless-concat (unit ∷ units) each =
+    let parts = and_parts _ _ each in
+    is_faultless-unit unit (concat units) parts.0 (is_faultless-concat units parts.1)
+
+-- a concatenation of units has no fault
+pub is_faultless-units : (text : List ℕ) → IsUnits text → is_faultless text ≡ true
+is_faultless-units text is = rw is.joined (is_faultless-concat is.units is.each)
+
+-- ---- from no fault to units
+
+-- the empty text is units
+pub IsUnits-nil : IsUnits []
+IsUnits-nil = record { units = []; each = refl; joined = refl }
+
+-- one unit before units
+pub IsUnits-unit : (unit text : List ℕ) → is_unit unit ≡ true → IsUnits text → IsUnits (unit ++ text)
+IsUnits-unit unit text first rest =
+    record { units = unit ∷ rest.units; each = and_from _ _ first rest.each; joined = ap (λ xs. unit ++ xs) rest.joined }
+
+-- at a `%` that is no fault two hex digits follow
+two_hex_from_unit_at : (c : ℕ) (rest : List ℕ) → c ≡ percent_sign → is_unit_at c rest ≡ true → starts_with_two_hex rest ≡ true
+unfolding is_unit_at
+two_hex_from_unit_at c rest same ok = rw same at ok
+
+-- a URL code point before units
+IsUnits-url : (c : ℕ) (rest : List ℕ) → c ≢ percent_sign → is_unit_at c rest ≡ true → IsUnits rest → IsUnits (c ∷ rest)
+IsUnits-url c rest other ok units = IsUnits-unit (c ∷ []) rest (url_from_unit_at c rest other ok) units
+
+-- a percent-encoded byte before units
+IsUnits-escape : (c high low : ℕ) (rest : List ℕ) → c ≡ percent_sign → is_unit_at c (high ∷ low ∷ rest) ≡ true → IsUnits rest → IsUnits (c ∷ high ∷ low ∷ rest)
+IsUnits-escape c high low rest same ok units =
+    IsUnits-unit (c ∷ high ∷ low ∷ []) rest (rw same (two_hex_from_unit_at c (high ∷ low ∷ rest) same ok)) units
+
+-- a text without a fault is a concatenation of units
+pub IsUnits-faultless : (text : List ℕ) → is_faultless text ≡ true → IsUnits text
+IsUnits-faultless [] none = IsUnits-nil
+IsUnits-faultless (c ∷ []) none =
+    let parts = and_parts _ _ none in
+    elim (cases_eq c percent_sign) [
+      | inl same ↦ absurd (false≢true (two_hex_from_unit_at c [] same parts.0))
+      | inr other ↦ IsUnits-url c [] other parts.0 IsUnits-nil
+    ]
+IsUnits-faultless (c ∷ high ∷ []) none =
+    let parts = and_parts _ _ none in
+    elim (cases_eq c percent_sign) [
+      | inl same ↦ absurd (false≢true (two_hex_from_unit_at c (high ∷ []) same parts.0))
+      | inr other ↦ IsUnits-url c (high ∷ []) other parts.0 (IsUnits-faultless (high ∷ []) parts.1)
+    ]
+IsUnits-faultless (c ∷ high ∷ low ∷ rest) none =
+    let parts = and_parts _ _ none in
+    let behind = and_parts _ _ (and_parts _ _ parts.1).1 in
+    elim (cases_eq c percent_sign) [
+      | inl same ↦ IsUnits-escape c high low rest same parts.0 (IsUnits-faultless rest behind.1)
+      | inr other ↦ IsUnits-url c (high ∷ low ∷ rest) other parts.0 (IsUnits-faultless (high ∷ low ∷ rest) parts.1)
+    ]
+
+-- ---- units of texts joined
+
+-- units behind units are units
+pub IsUnits-append : (xs ys : List ℕ) → IsUnits xs → IsUnits ys → IsUnits (xs ++ ys)
+IsUnits-append xs ys first second =
+    record {
+      units = first.units ++ second.units;
+      each = list_all-append is_unit first.units second.units ∙ and_from _ _ first.each second.each;
+      joined = rw (first.joined, second.joined) (sym (concat-append first.units second.units));
+    }
+
+-- no fault in two texts, none in the text that they make
+pub is_faultless-append : (xs ys : List ℕ) → is_faultless xs ≡ true → is_faultless ys ≡ true → is_faultless (xs ++ ys) ≡ true
+is_faultless-append xs ys first second =
+    is_faultless-units (xs ++ ys) (IsUnits-append xs ys (IsUnits-faultless xs first) (IsUnits-faultless ys second))
+
+-- what stands behind a front of a text without a fault has none
+pub is_faultless-behind : (xs ys : List ℕ) → is_faultless (xs ++ ys) ≡ true → is_faultless ys ≡ true
+is_faultless-behind [] ys none = none
+is_faultless-behind (c ∷ xs) ys none = is_faultless-behind xs ys (and_parts _ _ none).1
+
+-- ---- units of a text cut at a mark
+
+-- a mark that is no hex digit ends the digits that a `%` could have
+starts_with_two_hex-mark : (mark : ℕ) (xs ys : List ℕ) → is_ascii_hexdigit mark ≡ false → starts_with_two_hex (xs ++ mark ∷ ys) ≡ starts_with_two_hex xs
+starts_with_two_hex-mark mark [] [] other = refl
+starts_with_two_hex-mark mark [] (y ∷ ys) other = rw other
+starts_with_two_hex-mark mark (x ∷ []) ys other = and_right _ _ other
+starts_with_two_hex-mark mark (x ∷ next ∷ xs) ys other = refl
+
+-- so a code point before the mark is a fault or none as it is without the mark
+pub is_unit_at-mark : (mark c : ℕ) (xs ys : List ℕ) → is_ascii_hexdigit mark ≡ false → is_unit_at c (xs ++ mark ∷ ys) ≡ is_unit_at c xs
+unfolding is_unit_at
+is_unit_at-mark mark c xs ys other = rw (starts_with_two_hex-mark mark xs ys other)
+
+-- a text around a mark that is no hex digit has no fault exactly where both sides and the mark have none
+pub is_faultless-mark : (mark : ℕ) (xs ys : List ℕ) → is_ascii_hexdigit mark ≡ false → is_faultless (xs ++ mark ∷ ys) ≡ (is_faultless xs && is_faultless (mark ∷ ys))
+is_faultless-mark mark [] ys other = refl
+is_faultless-mark mark (c ∷ xs) ys other =
+    rw (is_unit_at-mark mark c xs ys other, is_faultless-mark mark xs ys other) (sym (and_assoc (is_unit_at c xs) _ _))
+
+-- units around a mark that is no hex digit: the text before it and the text behind it are units
+pub IsUnits-cut : (mark : ℕ) (xs ys : List ℕ) → is_ascii_hexdigit mark ≡ false → IsUnits (xs ++ mark ∷ ys) → IsUnits xs × IsUnits ys
+IsUnits-cut mark xs ys other units =
+    let none = is_faultless-units (xs ++ mark ∷ ys) units in
+    let parts = and_parts (is_faultless xs) (is_faultless (mark ∷ ys)) (sym (is_faultless-mark mark xs ys other) ∙ none) in
+    (IsUnits-faultless xs parts.0, IsUnits-faultless ys (and_parts _ _ parts.1).1)
+
+-- units before and behind a URL code point are units with it
+pub IsUnits-joined : (mark : ℕ) (xs ys : List ℕ) → is_url_code_point mark ≡ true → IsUnits xs → IsUnits ys → IsUnits (xs ++ mark ∷ ys)
+IsUnits-joined mark xs ys url first second = IsUnits-append xs (mark ∷ ys) first (IsUnits-unit (mark ∷ []) ys url second)
