@@ -1,3 +1,4 @@
 pub mod AsciiLemmas
 pub mod SchemeLemmas
+pub mod Steps
 pub mod UnitsLemmas
