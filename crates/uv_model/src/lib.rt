@@ -16,5 +16,5 @@ pub use host::Host;
 pub use path::UrlPath;
 pub use record::Record;
 pub use rule::{Refusal, Rule};
-pub use scheme::{Class, class_of, default_port};
+pub use scheme::{Class, class_of, default_port, is_name};
 pub use text::{Text, TextList};

@@ -51,10 +51,10 @@ pub fn default_port(scheme: &str) -> Option<u16>
     None
 }
 
-// The scheme is this name in any case.
-fn is_name(scheme: &str, name: &str) -> bool
+/// Whether a text is this name, which is in lower case, in any ASCII case.
+pub fn is_name(text: &str, name: &str) -> bool
     requires { is_lowercase_ascii name.now ≡ true }
-    ensures { result ≡ bytes_eq (lowercase (chars scheme.now)) name.now }
+    ensures { result ≡ bytes_eq (lowercase (chars text.now)) name.now }
 {
-    scheme.eq_ignore_ascii_case(name)
+    text.eq_ignore_ascii_case(name)
 }
