@@ -28,14 +28,16 @@ unfolding is_unit_at
 is_unit_at-url c rest url = rw (url_not_percent c url) url
 
 -- what is no fault and no `%` is a URL code point
-pub url_from_unit_at : (c : ℕ) (rest : List ℕ) → c ≢ percent_sign → is_unit_at c rest ≡ true → is_url_code_point c ≡ true
+pub url_from_unit_at : (c : ℕ) (rest : List ℕ) → c ≢ percent_sign → is_unit_at c rest ≡ true
+    → is_url_code_point c ≡ true
 unfolding is_unit_at
 url_from_unit_at c rest other ok = rw (ne_eqb c percent_sign other) at ok
 
 -- ---- from units to no fault
 
 -- one unit before a text without a fault
-is_faultless-unit : (unit text : List ℕ) → is_unit unit ≡ true → is_faultless text ≡ true → is_faultless (unit ++ text) ≡ true
+is_faultless-unit : (unit text : List ℕ) → is_unit unit ≡ true → is_faultless text ≡ true
+    → is_faultless (unit ++ text) ≡ true
 unfolding is_unit_at
 is_faultless-unit [] text unit rest = absurd (false≢true unit)
 is_faultless-unit (c ∷ []) text unit rest = and_from _ _ (is_unit_at-url c text unit) rest
@@ -67,19 +69,26 @@ IsUnits-nil = record { units = []; each = refl; joined = refl }
 -- one unit before units
 pub IsUnits-unit : (unit text : List ℕ) → is_unit unit ≡ true → IsUnits text → IsUnits (unit ++ text)
 IsUnits-unit unit text first rest =
-    record { units = unit ∷ rest.units; each = and_from _ _ first rest.each; joined = ap (λ xs. unit ++ xs) rest.joined }
+    record {
+      units = unit ∷ rest.units;
+      each = and_from _ _ first rest.each;
+      joined = ap (λ xs. unit ++ xs) rest.joined;
+    }
 
 -- at a `%` that is no fault two hex digits follow
-two_hex_from_unit_at : (c : ℕ) (rest : List ℕ) → c ≡ percent_sign → is_unit_at c rest ≡ true → starts_with_two_hex rest ≡ true
+two_hex_from_unit_at : (c : ℕ) (rest : List ℕ) → c ≡ percent_sign → is_unit_at c rest ≡ true
+    → starts_with_two_hex rest ≡ true
 unfolding is_unit_at
 two_hex_from_unit_at c rest same ok = rw same at ok
 
 -- a URL code point before units
-IsUnits-url : (c : ℕ) (rest : List ℕ) → c ≢ percent_sign → is_unit_at c rest ≡ true → IsUnits rest → IsUnits (c ∷ rest)
+IsUnits-url : (c : ℕ) (rest : List ℕ) → c ≢ percent_sign → is_unit_at c rest ≡ true → IsUnits rest
+    → IsUnits (c ∷ rest)
 IsUnits-url c rest other ok units = IsUnits-unit (c ∷ []) rest (url_from_unit_at c rest other ok) units
 
 -- a percent-encoded byte before units
-IsUnits-escape : (c high low : ℕ) (rest : List ℕ) → c ≡ percent_sign → is_unit_at c (high ∷ low ∷ rest) ≡ true → IsUnits rest → IsUnits (c ∷ high ∷ low ∷ rest)
+IsUnits-escape : (c high low : ℕ) (rest : List ℕ) → c ≡ percent_sign → is_unit_at c (high ∷ low ∷ rest) ≡ true
+    → IsUnits rest → IsUnits (c ∷ high ∷ low ∷ rest)
 IsUnits-escape c high low rest same ok units =
     IsUnits-unit (c ∷ high ∷ low ∷ []) rest (rw same (two_hex_from_unit_at c (high ∷ low ∷ rest) same ok)) units
 
@@ -118,7 +127,8 @@ IsUnits-append xs ys first second =
     }
 
 -- no fault in two texts, none in the text that they make
-pub is_faultless-append : (xs ys : List ℕ) → is_faultless xs ≡ true → is_faultless ys ≡ true → is_faultless (xs ++ ys) ≡ true
+pub is_faultless-append : (xs ys : List ℕ) → is_faultless xs ≡ true → is_faultless ys ≡ true
+    → is_faultless (xs ++ ys) ≡ true
 is_faultless-append xs ys first second =
     is_faultless-units (xs ++ ys) (IsUnits-append xs ys (IsUnits-faultless xs first) (IsUnits-faultless ys second))
 
@@ -130,30 +140,35 @@ is_faultless-behind (c ∷ xs) ys none = is_faultless-behind xs ys (and_parts _ 
 -- ---- units of a text cut at a mark
 
 -- a mark that is no hex digit ends the digits that a `%` could have
-starts_with_two_hex-mark : (mark : ℕ) (xs ys : List ℕ) → is_ascii_hexdigit mark ≡ false → starts_with_two_hex (xs ++ mark ∷ ys) ≡ starts_with_two_hex xs
+starts_with_two_hex-mark : (mark : ℕ) (xs ys : List ℕ) → is_ascii_hexdigit mark ≡ false
+    → starts_with_two_hex (xs ++ mark ∷ ys) ≡ starts_with_two_hex xs
 starts_with_two_hex-mark mark [] [] other = refl
 starts_with_two_hex-mark mark [] (y ∷ ys) other = rw other
 starts_with_two_hex-mark mark (x ∷ []) ys other = and_right _ _ other
 starts_with_two_hex-mark mark (x ∷ next ∷ xs) ys other = refl
 
 -- so a code point before the mark is a fault or none as it is without the mark
-pub is_unit_at-mark : (mark c : ℕ) (xs ys : List ℕ) → is_ascii_hexdigit mark ≡ false → is_unit_at c (xs ++ mark ∷ ys) ≡ is_unit_at c xs
+pub is_unit_at-mark : (mark c : ℕ) (xs ys : List ℕ) → is_ascii_hexdigit mark ≡ false
+    → is_unit_at c (xs ++ mark ∷ ys) ≡ is_unit_at c xs
 unfolding is_unit_at
 is_unit_at-mark mark c xs ys other = rw (starts_with_two_hex-mark mark xs ys other)
 
 -- a text around a mark that is no hex digit has no fault exactly where both sides and the mark have none
-pub is_faultless-mark : (mark : ℕ) (xs ys : List ℕ) → is_ascii_hexdigit mark ≡ false → is_faultless (xs ++ mark ∷ ys) ≡ (is_faultless xs && is_faultless (mark ∷ ys))
+pub is_faultless-mark : (mark : ℕ) (xs ys : List ℕ) → is_ascii_hexdigit mark ≡ false
+    → is_faultless (xs ++ mark ∷ ys) ≡ (is_faultless xs && is_faultless (mark ∷ ys))
 is_faultless-mark mark [] ys other = refl
 is_faultless-mark mark (c ∷ xs) ys other =
     rw (is_unit_at-mark mark c xs ys other, is_faultless-mark mark xs ys other) (sym (and_assoc (is_unit_at c xs) _ _))
 
 -- units around a mark that is no hex digit: the text before it and the text behind it are units
-pub IsUnits-cut : (mark : ℕ) (xs ys : List ℕ) → is_ascii_hexdigit mark ≡ false → IsUnits (xs ++ mark ∷ ys) → IsUnits xs × IsUnits ys
+pub IsUnits-cut : (mark : ℕ) (xs ys : List ℕ) → is_ascii_hexdigit mark ≡ false → IsUnits (xs ++ mark ∷ ys)
+    → IsUnits xs × IsUnits ys
 IsUnits-cut mark xs ys other units =
     let none = is_faultless-units (xs ++ mark ∷ ys) units in
     let parts = and_parts (is_faultless xs) (is_faultless (mark ∷ ys)) (sym (is_faultless-mark mark xs ys other) ∙ none) in
     (IsUnits-faultless xs parts.0, IsUnits-faultless ys (and_parts _ _ parts.1).1)
 
 -- units before and behind a URL code point are units with it
-pub IsUnits-joined : (mark : ℕ) (xs ys : List ℕ) → is_url_code_point mark ≡ true → IsUnits xs → IsUnits ys → IsUnits (xs ++ mark ∷ ys)
+pub IsUnits-joined : (mark : ℕ) (xs ys : List ℕ) → is_url_code_point mark ≡ true → IsUnits xs → IsUnits ys
+    → IsUnits (xs ++ mark ∷ ys)
 IsUnits-joined mark xs ys url first second = IsUnits-append xs (mark ∷ ys) first (IsUnits-unit (mark ∷ []) ys url second)

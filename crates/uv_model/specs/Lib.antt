@@ -7,6 +7,7 @@ pub mod Encoding
 pub mod HostParser
 pub mod Ipv4Parser
 pub mod Ipv6Parser
+pub mod Laws
 pub mod Machine
 pub mod OpaqueHost
 pub mod Parts

@@ -1,5 +1,5 @@
 -- The rules that a text can violate, by their numbers and names.
-use Rattle.std.specs.Prelude.{◌≡◌, ℕ, List, [], ◌∷◌, codes, Option, find}
+use Rattle.std.specs.Prelude.{◌≡◌, ◌≢◌, ℕ, List, [], ◌∷◌, codes, Option, find}
 use Rattle.std.specs.Str.{bytes_eq}
 use Rattle.uv_model.specs.declared.rule.Rule.{Rule}
 use Rattle.uv_model.specs.declared.rule.Rule.TheVariants.{NoScheme, OpaqueBase, TwoSlashes, HostMissing, HostDomain, HostNumber, HostIpv6, HostCodePoint, PortDigit, PortRange, FirstSegmentEmpty, DriveAfterHost, CodePoint, Percent}
@@ -47,3 +47,7 @@ rules_in_order =
 -- the rule with a name, where there is one
 abbrev pub named_rule : List ℕ → Option Rule
 named_rule name = find (λ rule. bytes_eq name (rule_name rule)) rules_in_order
+
+-- the text is the name of no rule
+abbrev pub IsNoName : List ℕ → Type 0
+IsNoName text = (rule : Rule) → text ≢ rule_name rule

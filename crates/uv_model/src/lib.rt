@@ -4,11 +4,13 @@
 mod adapters;
 mod device;
 mod host;
+pub mod laws;
 mod path;
 mod record;
 mod rule;
 mod scheme;
 mod text;
+mod units;
 
 pub use adapters::ToWriter;
 pub use device::{DeviceFault, Sink, write_whole};
@@ -18,3 +20,4 @@ pub use record::Record;
 pub use rule::{Refusal, Rule};
 pub use scheme::{Class, class_of, default_port, is_name};
 pub use text::{Text, TextList};
+pub use units::is_url_code_point;

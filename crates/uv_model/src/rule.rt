@@ -1,8 +1,8 @@
 //! The rules that a text can violate, and refusals.
-ghost use Rattle.std.specs.Prelude.{◌≡◌, codes};
-ghost use Rattle.uv_model.specs.Rule.{rule_number, rule_name, named_rule};
+ghost use Rattle.std.specs.Prelude.{◌≡◌, MatchOption};
+ghost use Rattle.uv_model.specs.Rule.{IsNoName, named_rule, rule_name, rule_number};
 
-/// A rule of valid URL strings (URL Standard, sections 3.4 and 4.3) that a text violates, in the order of the rules' numbers.
+/// A rule of valid URL strings (URL Standard, sections 3.4 and 4.3) that a text violates, by number.
 #[derive(Clone, Copy, Debug, PartialEq, Eq)]
 pub enum Rule {
     /// A text without a scheme has no base.
@@ -82,7 +82,8 @@ impl Rule {
 
     /// The rule with this name, or `None` where no rule has it.
     pub fn of_name(name: &str) -> Option<Rule>
-        ensures { result ≡ named_rule name.now }
+        ensures search { result ≡ named_rule name.now }
+        ensures exact { MatchOption result (IsNoName name.now) (λ rule. name.now ≡ rule_name rule) }
     {
         match name {
             "no-scheme" => Some(Rule::NoScheme),
