@@ -1,5 +1,7 @@
 pub mod Address
 pub mod Ascii
+pub mod Complaint
+pub mod Cut
 pub mod Denote
 pub mod Device
 pub mod Domain
@@ -10,6 +12,7 @@ pub mod Ipv6Parser
 pub mod Laws
 pub mod Machine
 pub mod OpaqueHost
+pub mod OpaqueHostComplaint
 pub mod Parts
 pub mod Path
 pub mod Refusal
@@ -17,6 +20,7 @@ pub mod Rule
 pub mod Run
 pub mod Scheme
 pub mod Serialize
+pub mod UnitComplaint
 pub mod Units
 pub mod Url
 pub mod Valid

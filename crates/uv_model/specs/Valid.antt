@@ -8,7 +8,7 @@ use Rattle.uv_model.specs.declared.scheme.Class.TheVariants.{Special, File, Othe
 use Rattle.uv_model.specs.declared.host.Host.{Host}
 use Rattle.uv_model.specs.declared.host.Host.TheVariants.{Domain, V4, V6, Opaque, Empty}
 use Rattle.uv_model.specs.Address.{IsIpv4, IsBracketedIpv6}
-use Rattle.uv_model.specs.OpaqueHost.{IsOpaqueHost, starts_with_bracket}
+use Rattle.uv_model.specs.OpaqueHost.{IsOpaqueHost}
 use Rattle.uv_model.specs.Domain.{IsDomain}
 use Rattle.uv_model.specs.Units.{IsUnits}
 use Rattle.uv_model.specs.Scheme.{is_scheme, is_scheme_code_point, scheme_class, default_port}
@@ -16,7 +16,7 @@ use Rattle.uv_model.specs.Ascii.{colon}
 use Rattle.std.specs.Char.{is_ascii_alphabetic}
 use Rattle.uv_model.specs.Path.{IsPathAbsolute, IsPathRelative, starts_with_drive}
 use Rattle.uv_model.specs.Url.{Url, is_opaque}
-use Rattle.uv_model.specs.Parts.{Form, SchemeAuthority, SchemePath, SchemeOpaque, Authority, PathAbsolute, PathRelative, NoPath, Parts, has_scheme, has_authority, written}
+use Rattle.uv_model.specs.Parts.{Form, SchemeAuthority, SchemePath, SchemeOpaque, Authority, PathAbsolute, PathRelative, NoPath, Parts, has_scheme, written}
 
 -- ---- hosts (section 3.4)
 
@@ -117,14 +117,15 @@ starts_with_scheme (c ∷ rest) = is_ascii_alphabetic c && goes_on rest
     goes_on [] = false
     goes_on (d ∷ rest) = (d == colon) || (is_scheme_code_point d && goes_on rest)
 
+-- a scheme, else that of the base
+abbrev pub scheme_or : Option Url → Option (List ℕ) → List ℕ
+scheme_or base (Some scheme) = scheme
+scheme_or (Some url) None = url.scheme
+scheme_or None None = []
+
 -- the scheme of the text, else that of the base
 abbrev pub scheme_in : Option Url → Parts → List ℕ
 scheme_in base parts = scheme_or base parts.scheme
-  where
-    scheme_or : Option Url → Option (List ℕ) → List ℕ
-    scheme_or base (Some scheme) = scheme
-    scheme_or (Some url) None = url.scheme
-    scheme_or None None = []
 
 -- a path-absolute reference to a file base with a host begins with no drive letter
 abbrev pub FitsDrive : Option Url → List ℕ → Type 0
