@@ -3,6 +3,7 @@
 
 mod adapters;
 mod device;
+mod domain;
 mod host;
 pub mod laws;
 mod path;
@@ -14,6 +15,7 @@ mod units;
 
 pub use adapters::ToWriter;
 pub use device::{DeviceFault, Sink, write_whole};
+pub use domain::ends_in_number;
 pub use host::Host;
 pub use path::UrlPath;
 pub use record::Record;

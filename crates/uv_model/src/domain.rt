@@ -1,0 +1,70 @@
+//! The number rule of a domain's last label, after the URL Standard, section 3.5.
+ghost use Rattle.std.specs.Char.{is_ascii_digit, is_ascii_hexdigit};
+ghost use Rattle.std.specs.List.{list_all};
+ghost use Rattle.std.specs.Prelude.{chars, ◌≡◌};
+ghost use Rattle.uv_model.specs.Domain as spec;
+
+/// Whether the text ends in a number (URL Standard, section 3.5, the ends-in-a-number checker): its last label, where
+/// one empty label at the end is dropped, is digits alone, or `0x` and then nothing or hex digits.
+pub fn ends_in_number(text: &str) -> bool
+    ensures { result ≡ spec.ends_in_number (chars text.now) }
+{
+    bytes_end_in_number(text.as_bytes())
+}
+
+/// The number rule on bytes.
+#[tactic(auto, unfolding(crate::specs::Domain::ends_in_number))]
+fn bytes_end_in_number(text: &[u8]) -> bool
+    ensures { result ≡ spec.ends_in_number text.now }
+{
+    let label = last_label(text);
+    is_digits(label) || is_hexadecimal(label)
+}
+
+/// The text without one full stop at its end.
+fn without_root(text: &[u8]) -> &[u8]
+    ensures { result.now ≡ spec.without_root text.now }
+{
+    match text {
+        [front @ .., b'.'] => front,
+        _ => text,
+    }
+}
+
+/// What stands behind the last full stop, where one full stop at the end isn't counted.
+fn last_label(text: &[u8]) -> &[u8]
+    ensures { result.now ≡ spec.last_label text.now }
+{
+    let name = without_root(text);
+    let mut start = name.len();
+    while start > 0 && name[start - 1] != b'.' {
+        start -= 1;
+    }
+    &name[start..]
+}
+
+/// Digits alone, and at least one.
+fn is_digits(label: &[u8]) -> bool
+    ensures { result ≡ spec.is_digits label.now }
+{
+    !label.is_empty() && all_digits(label)
+}
+
+fn all_digits(label: &[u8]) -> bool
+    ensures { result ≡ list_all is_ascii_digit label.now }
+{
+    label.iter().all(|b| b.is_ascii_digit())
+}
+
+/// `0x`, and then nothing or hex digits.
+fn is_hexadecimal(label: &[u8]) -> bool
+    ensures { result ≡ spec.is_hexadecimal label.now }
+{
+    label.starts_with(b"0x") && all_hexadecimal(&label[2..])
+}
+
+fn all_hexadecimal(label: &[u8]) -> bool
+    ensures { result ≡ list_all is_ascii_hexdigit label.now }
+{
+    label.iter().all(|b| b.is_ascii_hexdigit())
+}
