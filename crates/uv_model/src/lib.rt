@@ -10,6 +10,7 @@ mod path;
 mod record;
 mod rule;
 mod scheme;
+mod segments;
 mod text;
 mod units;
 
@@ -21,5 +22,6 @@ pub use path::UrlPath;
 pub use record::Record;
 pub use rule::{Refusal, Rule};
 pub use scheme::{Class, class_of, default_port, is_name};
+pub use segments::{is_double_dot, is_drive_letter, is_normalized_drive_letter, is_single_dot};
 pub use text::{Text, TextList};
 pub use units::is_url_code_point;
