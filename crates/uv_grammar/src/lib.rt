@@ -2,6 +2,7 @@
 #![tactic(auto)]
 
 mod form;
+mod marks;
 mod parts;
 
 pub use form::Form;
