@@ -1,4 +1,5 @@
 pub mod AsciiLemmas
+pub mod DomainLemmas
 pub mod LastLabelLemmas
 pub mod SchemeLemmas
 pub mod Steps
