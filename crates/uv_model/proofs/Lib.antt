@@ -1,3 +1,4 @@
+pub mod AddressLemmas
 pub mod AsciiLemmas
 pub mod DomainLemmas
 pub mod LastLabelLemmas

@@ -1,8 +1,9 @@
 -- The texts of IPv4 and IPv6 addresses, after the URL Standard, section 3.4, and RFC 4291, section 2.2.
-use Rattle.std.specs.Prelude.{◌≡◌, ℕ, ◌+◌, ◌-◌, ◌*◌, ◌<◌, ◌≤◌, ◌⊎◌, Bool, true, false, List, [], ◌∷◌, ◌++◌, length, replicate, codes, decimal}
+use Rattle.std.specs.Prelude.{◌≡◌, ℕ, ◌+◌, ◌-◌, ◌*◌, ◌<◌, ◌≤◌, ◌⊎◌, Bool, true, false, List, [], ◌∷◌, ◌++◌, length, replicate, codes, decimal, Option, MatchOption, ◌↔◌}
 use Rattle.std.specs.List.{list_all}
 use Rattle.std.specs.Char.{is_ascii_hexdigit}
 use Rattle.std.specs.Str.Parse.{digits_value}
+use Rattle.std.specs.Net.Grammar.{IsDotted, IsColonHex}
 use Rattle.uv_model.specs.Ascii.{colon, left_bracket, right_bracket}
 
 -- ---- IPv4
@@ -64,3 +65,14 @@ IsIpv6 text pieces = (IsGroupList true text pieces × (length pieces ≡ 8)) ⊎
 -- an IPv6 text in brackets
 abbrev pub IsBracketedIpv6 : List ℕ → List ℕ → Type 0
 IsBracketedIpv6 text pieces = (inner : List ℕ) × (text ≡ left_bracket ∷ (inner ++ right_bracket ∷ [])) × IsIpv6 inner pieces
+
+-- ---- what a reader answers, and the library's grammar
+
+-- the answer is what the text denotes, and none where it denotes nothing
+abbrev pub Reads : {A : Type 0} → (List ℕ → A → Type 0) → List ℕ → Option A → Type 0
+Reads {A} Denotes text answer = MatchOption answer ((value : A) → ¬ (Denotes text value)) (Denotes text)
+
+-- these are the texts of addresses of the standard library's grammar, with the same values
+pub record AreLibraryTexts : Type 0 where
+  pub numbers : (a b c d : ℕ) (text : List ℕ) → IsFourNumbers a b c d text ↔ IsDotted text (a ∷ b ∷ c ∷ d ∷ [])
+  pub pieces : (text pieces : List ℕ) → IsIpv6 text pieces ↔ IsColonHex text pieces
