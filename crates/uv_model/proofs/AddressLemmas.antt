@@ -14,7 +14,8 @@ use Rattle.uv_model.specs.Address.{IsFourNumbers, IsGroup, IsTwoPieces, IsGroupL
 -- ---- IPv4
 
 -- four numbers are a dotted text
-pub dotted_from_numbers : (a b c d : ℕ) (text : List ℕ) → IsFourNumbers a b c d text → IsDotted text (a ∷ b ∷ c ∷ d ∷ [])
+pub dotted_from_numbers : (a b c d : ℕ) (text : List ℕ) → IsFourNumbers a b c d text
+    → IsDotted text (a ∷ b ∷ c ∷ d ∷ [])
 dotted_from_numbers a b c d text is =
     record { a = a; b = b; c = c; d = d; fit = is.fit; value = refl; spelled = is.spelled }
 
@@ -45,7 +46,9 @@ hex_digit c h = grind (arith, nat_tests)
 -- hex digits are digits of radix 16
 digits_below : (text : List ℕ) → list_all is_ascii_hexdigit text ≡ true → AllDigits 16 text
 digits_below [] h = tt
-digits_below (c ∷ text) h = let both = and_parts (is_ascii_hexdigit c) (list_all is_ascii_hexdigit text) h in (digit_below c both.0, digits_below text both.1)
+digits_below (c ∷ text) h = let both =
+    and_parts (is_ascii_hexdigit c) (list_all is_ascii_hexdigit text) h in
+    (digit_below c both.0, digits_below text both.1)
 
 -- digits of radix 16 are hex digits
 hex_digits : (text : List ℕ) → AllDigits 16 text → list_all is_ascii_hexdigit text ≡ true
@@ -64,21 +67,35 @@ group_from text piece is =
 -- ---- lists of groups
 
 -- a list of groups, after any lead
-groups_to : (dotted : Bool) (lead text pieces : List ℕ) → IsGroupList dotted text pieces → IsGroupsAfter dotted lead (lead ++ text) pieces
+groups_to : (dotted : Bool) (lead text pieces : List ℕ) → IsGroupList dotted text pieces
+    → IsGroupsAfter dotted lead (lead ++ text) pieces
 groups_to dotted lead text [] h = absurd h
 groups_to dotted lead text (p ∷ []) h = inl (text, [], sym (append-nil (lead ++ text)), group_to text p h, refl)
 groups_to dotted lead text (p ∷ q ∷ rest) (inl (group, others, split, is, more)) =
-    inl (group, colon ∷ others, ap (λ t. lead ++ t) split ∙ sym (append_assoc lead group (colon ∷ others)), group_to group p is, groups_to dotted (codes ":") others (q ∷ rest) more)
+    inl (
+      group,
+      colon ∷ others,
+      ap (λ t. lead ++ t) split
+          ∙ sym (append_assoc lead group (colon ∷ others)),
+      group_to group p is,
+      groups_to dotted (codes ":") others
+          (q ∷ rest) more,
+    )
 groups_to dotted lead text (p ∷ q ∷ rest) (inr (allowed, none, (a, b, c, d, is, first, second))) =
     inr (text, a ∷ b ∷ c ∷ d ∷ [], allowed, refl, dotted_from_numbers a b c d text is, rw (first, second, none) refl)
 
 -- what the library reads after a lead is a list of groups
-groups_from : (dotted : Bool) (lead text : List ℕ) (p : ℕ) (rest : List ℕ) → IsGroupsAfter dotted lead text (p ∷ rest) → (inner : List ℕ) × (text ≡ lead ++ inner) × IsGroupList dotted inner (p ∷ rest)
+groups_from : (dotted : Bool) (lead text : List ℕ) (p : ℕ) (rest : List ℕ) → IsGroupsAfter dotted lead text (p ∷ rest)
+    → (inner : List ℕ) × (text ≡ lead ++ inner) × IsGroupList dotted inner (p ∷ rest)
 groups_from dotted lead text p [] (inl (group, others, split, is, none)) =
     (group, split ∙ ap (λ t. lead ++ group ++ t) none ∙ append-nil (lead ++ group), group_from group p is)
 groups_from dotted lead text p (q ∷ rest) (inl (group, others, split, is, more)) =
-    let (inner, after, list) = groups_from dotted (codes ":") others q rest more in
-    (group ++ colon ∷ inner, split ∙ ap (λ t. lead ++ group ++ t) after ∙ append_assoc lead group (colon ∷ inner), inl (group, inner, refl, group_from group p is, list))
+    let (inner, after, list) = groups_from dotted (codes ":") others q rest more in (
+      group ++ colon ∷ inner,
+      split ∙ ap (λ t. lead ++ group ++ t) after
+          ∙ append_assoc lead group (colon ∷ inner),
+      inl (group, inner, refl, group_from group p is, list),
+    )
 groups_from dotted lead text p [] (inr (last, octets, allowed, split, is, value)) =
     absurd (omega (arith, ap length (value ∙ ap segments_of is.value)))
 groups_from dotted lead text p (q ∷ rest) (inr (last, octets, allowed, split, is, value)) =
@@ -93,7 +110,8 @@ side_to dotted text pieces (inr list) = groups_to dotted [] text pieces list
 -- and back
 side_from : (dotted : Bool) (text pieces : List ℕ) → IsGroups dotted text pieces → IsSide dotted text pieces
 side_from dotted text [] nothing = inl (nothing, refl)
-side_from dotted text (p ∷ rest) groups = let (inner, same, list) = groups_from dotted [] text p rest groups in inr (rw same list)
+side_from dotted text (p ∷ rest) groups = let (inner, same, list) =
+    groups_from dotted [] text p rest groups in inr (rw same list)
 
 -- ---- the whole text
 

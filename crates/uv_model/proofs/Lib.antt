@@ -1,6 +1,12 @@
 pub mod AddressLemmas
+pub mod AddressRows
 pub mod AsciiLemmas
 pub mod DomainLemmas
+pub mod Ipv4ParserLemmas
+pub mod Ipv6LoopLemmas
+pub mod Ipv6MovesLemmas
+pub mod Ipv6ParserLemmas
+pub mod Ipv6ReadersLemmas
 pub mod LastLabelLemmas
 pub mod SchemeLemmas
 pub mod Steps

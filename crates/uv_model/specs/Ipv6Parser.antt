@@ -1,8 +1,10 @@
--- The IPv6 parser of the URL Standard, section 3.5.
+-- The IPv6 parser (URL Standard, section 3.5): pieces, a piece index and a compress index, and swaps at the end.
 use Rattle.std.specs.Prelude.{◌≡◌, ℕ, zero, suc, ◌+◌, ◌-◌, ◌*◌, Bool, true, false, not, ◌&&◌, ◌||◌, ◌==◌, nat_lt, nat_le, List, [], ◌∷◌, length, drop, replicate, slice_index, slice_set, Option, Some, None, is_some, option_map, option_and_then, if◌then◌else◌}
 use Rattle.std.specs.Char.{digit_value, is_digit}
 use Rattle.uv_model.specs.Ascii.{colon, full_stop}
 use Rattle.uv_model.specs.Address.{IsIpv6}
+
+-- ---- one hexadecimal piece
 
 -- hex digits, as many as are allowed: the value, how many they are, and the rest
 unfoldable pub read_hex : ℕ → ℕ → ℕ → List ℕ → ℕ × ℕ × List ℕ
@@ -12,16 +14,20 @@ read_hex (suc most) value count (c ∷ text) =
     let more = read_hex most (value * 16 + digit_value c) (count + 1) text in
     if is_digit c 16 then more else (value, count, c ∷ text)
 
+-- ---- an IPv4 address at the end
+
 -- the number after one more digit; a digit after the number 0, or a number above 255, fails
 abbrev pub add_digit : Option ℕ → ℕ → Option ℕ
 add_digit None digit = Some digit
-add_digit (Some n) digit = if n == 0 then None else (if nat_le (n * 10 + digit) 255 then Some (n * 10 + digit) else None)
+add_digit (Some n) digit =
+    if n == 0 then None else (if nat_le (n * 10 + digit) 255 then Some (n * 10 + digit) else None)
 
 -- the number and the rest; with no digit it fails
 abbrev pub finished : Option ℕ → List ℕ → Option (ℕ × List ℕ)
 finished None text = None
 finished (Some n) text = Some (n, text)
 
+-- digits one by one into the number, up to a code point that is no digit
 unfoldable pub read_digits : Option ℕ → List ℕ → Option (ℕ × List ℕ)
 read_digits number [] = finished number []
 read_digits number (c ∷ text) =
@@ -32,17 +38,25 @@ read_digits number (c ∷ text) =
 abbrev pub after_dot : ℕ → ℕ → List ℕ → Option (List ℕ)
 after_dot seen c text = if seen == 0 then Some (c ∷ text) else (if c == full_stop then Some text else None)
 
+-- the piece at the index takes another number as its low byte
+abbrev pub add_number : List ℕ → ℕ → ℕ → List ℕ
+add_number pieces i n = slice_set pieces i (slice_index pieces i * 256 + n)
+
 -- the numbers of an IPv4 address into the pieces, two each; the first argument is how many may come
 unfoldable pub read_dotted : ℕ → ℕ → List ℕ → ℕ → List ℕ → Option (List ℕ × ℕ)
 read_dotted turns seen pieces i [] = if seen == 4 then Some (pieces, i) else None
 read_dotted zero seen pieces i (c ∷ text) = None
 read_dotted (suc turns) seen pieces i (c ∷ text) =
+    let after = if seen == 1 || seen == 3 then i + 1 else i in
     option_and_then
     (λ front. option_and_then
-    (λ (n, rest). read_dotted turns (seen + 1) (slice_set pieces i (slice_index pieces i * 256 + n)) (if seen == 1 || seen == 3 then i + 1 else i) rest)
+    (λ (n, rest). read_dotted turns (seen + 1) (add_number pieces i n) after rest)
     (read_digits None front))
     (after_dot seen c text)
 
+-- ---- the main loop
+
+-- pieces, piece index and compress, or a failure
 abbrev pub Parsed : Type 0
 Parsed = Option (List ℕ × ℕ × Option ℕ)
 
@@ -62,19 +76,24 @@ main_loop (suc turns) pieces i compress (c ∷ text) =
     else (if length rest == 0 then further
     else (if slice_index rest 0 == colon && not (length (drop 1 rest) == 0) then further else None))))
 
+-- ---- swaps, and the whole
+
 -- the pieces at the two places change places
 abbrev pub swap : ℕ → ℕ → List ℕ → List ℕ
 swap i j pieces = slice_set (slice_set pieces i (slice_index pieces j)) j (slice_index pieces i)
 
--- the pieces after `compress` go to the end
+-- the pieces after `compress` go to the end, one swap each
 unfoldable pub move : ℕ → ℕ → ℕ → List ℕ → List ℕ
 move zero i compress pieces = pieces
-move (suc swaps) i compress pieces = if i == 0 then pieces else move swaps (i - 1) compress (swap i (compress + swaps) pieces)
+move (suc swaps) i compress pieces =
+    if i == 0 then pieces else move swaps (i - 1) compress (swap i (compress + swaps) pieces)
 
+-- after the loop: swaps where compress is set, and else eight pieces or a failure
 abbrev pub finish : List ℕ × ℕ × Option ℕ → Option (List ℕ)
 finish (pieces, i, None) = if i == 8 then Some pieces else None
 finish (pieces, i, Some compress) = Some (move (i - compress) 7 compress pieces)
 
+-- the eight pieces of the text, or none where the parser fails; `:` at its start has to be `::`
 unfoldable pub parse_ipv6 : List ℕ → Option (List ℕ)
 parse_ipv6 text =
     let zeros = replicate 8 0 in
@@ -84,6 +103,6 @@ parse_ipv6 text =
     else main_loop (length text) zeros 0 None text in
     option_and_then finish parsed
 
--- what an IPv6 text denotes is what the parser gives
+-- the law: on an IPv6 text the parser gives exactly its pieces
 abbrev pub Ipv6TextsAreParsed : Type 0
 Ipv6TextsAreParsed = (text pieces : List ℕ) → IsIpv6 text pieces → parse_ipv6 text ≡ Some pieces

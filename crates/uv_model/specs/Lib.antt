@@ -1,4 +1,5 @@
 pub mod Address
+pub mod AddressRows
 pub mod Ascii
 pub mod Complaint
 pub mod Cut

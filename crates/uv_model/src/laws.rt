@@ -1,5 +1,8 @@
 //! Laws over the definitions, each as the clause of a function that does nothing.
 ghost use Rattle.uv_model.specs.Address.{AreLibraryTexts};
+ghost use Rattle.uv_model.specs.AddressRows.{AddressParserRows};
+ghost use Rattle.uv_model.specs.Ipv4Parser.{Ipv4TextsAreParsed};
+ghost use Rattle.uv_model.specs.Ipv6Parser.{Ipv6TextsAreParsed};
 ghost use Rattle.uv_model.specs.Laws.{UnitsAreFaultless};
 
 /// A text is a concatenation of URL units exactly where no code point of it is a fault of units.
@@ -11,4 +14,19 @@ pub fn units_are_faultless()
 /// section 3.4; RFC 4291, section 2.2).
 pub fn addresses_are_library_texts()
     ensures { AreLibraryTexts }
+{}
+
+/// On every IPv4 text the IPv4 parser gives exactly the text's value (URL Standard, section 3.5).
+pub fn ipv4_texts_are_parsed()
+    ensures { Ipv4TextsAreParsed }
+{}
+
+/// On every IPv6 text the IPv6 parser gives exactly the text's eight pieces (URL Standard, section 3.5).
+pub fn ipv6_texts_are_parsed()
+    ensures { Ipv6TextsAreParsed }
+{}
+
+/// What both parsers make of texts that are written out, such as the failure on `1::2::3` (URL Standard, section 3.5).
+pub fn address_parser_rows()
+    ensures { AddressParserRows }
 {}
