@@ -8,6 +8,8 @@ pub mod Ipv6MovesLemmas
 pub mod Ipv6ParserLemmas
 pub mod Ipv6ReadersLemmas
 pub mod LastLabelLemmas
+pub mod RefusalLemmas
 pub mod SchemeLemmas
 pub mod Steps
+pub mod UnitComplaintLemmas
 pub mod UnitsLemmas

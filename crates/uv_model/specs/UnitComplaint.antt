@@ -1,5 +1,5 @@
 -- The faults of a text that should be URL units, after the URL Standard, section 4.3.
-use Rattle.std.specs.Prelude.{◌≡◌, ◌≢◌, ℕ, false, List, ◌∷◌, drop}
+use Rattle.std.specs.Prelude.{◌≡◌, ◌≢◌, ℕ, false, List, ◌∷◌, drop, ◌==◌, if◌then◌else◌}
 use Rattle.uv_model.specs.declared.rule.Rule.{Rule}
 use Rattle.uv_model.specs.declared.rule.Rule.TheVariants.{CodePoint, Percent}
 use Rattle.uv_model.specs.Ascii.{percent_sign}
@@ -24,3 +24,7 @@ abbrev pub UnitComplaint : List ℕ → ℕ → Rule → Type 0
 UnitComplaint text place CodePoint = HasForeignCodePoint text place
 UnitComplaint text place Percent = HasBarePercent text place
 UnitComplaint text place _ = ⊥
+
+-- the rule that a code point violates where it and what follows it are no unit
+abbrev pub unit_rule : ℕ → Rule
+unit_rule c = if c == percent_sign then Percent else CodePoint
