@@ -9,7 +9,10 @@ pub mod Ipv6ParserLemmas
 pub mod Ipv6ReadersLemmas
 pub mod LastLabelLemmas
 pub mod RefusalLemmas
+pub mod EncodingLemmas
+pub mod PathLemmas
 pub mod SchemeLemmas
 pub mod Steps
 pub mod UnitComplaintLemmas
 pub mod UnitsLemmas
+pub mod WellFormedLemmas
