@@ -2,6 +2,7 @@ pub mod AddressLemmas
 pub mod AddressRows
 pub mod AsciiLemmas
 pub mod DomainLemmas
+pub mod EncodingLemmas
 pub mod Ipv4ParserLemmas
 pub mod Ipv6LoopLemmas
 pub mod Ipv6MovesLemmas
