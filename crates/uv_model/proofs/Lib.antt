@@ -1,6 +1,7 @@
 pub mod AddressLemmas
 pub mod AddressRows
 pub mod AsciiLemmas
+pub mod DenotedRecords
 pub mod DomainLemmas
 pub mod EncodingLemmas
 pub mod Ipv4ParserLemmas
@@ -9,9 +10,8 @@ pub mod Ipv6MovesLemmas
 pub mod Ipv6ParserLemmas
 pub mod Ipv6ReadersLemmas
 pub mod LastLabelLemmas
-pub mod RefusalLemmas
-pub mod EncodingLemmas
 pub mod PathLemmas
+pub mod RefusalLemmas
 pub mod SchemeLemmas
 pub mod Steps
 pub mod UnitComplaintLemmas
