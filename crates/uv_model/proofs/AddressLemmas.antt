@@ -1,15 +1,20 @@
 -- The texts of addresses and the grammar of addresses of the standard library are one.
-use Rattle.std.proofs.Common.{◌≡◌, ◌↔◌, ℕ, ◌+◌, ◌*◌, ◌<◌, ◌≤◌, Bool, true, false, ◌&&◌, List, [], ◌∷◌, ◌++◌, length, codes, refl, sym, ap, ◌∙◌, inl, inr, ◌⊎◌, arith, append_assoc, append-nil}
+use Rattle.std.proofs.Common.{◌≡◌, ◌↔◌, ℕ, ◌+◌, ◌*◌, ◌<◌, ◌≤◌, Bool, true, false, ◌&&◌, List, [], ◌∷◌, ◌++◌, length, codes, decimal, lit<, refl, sym, ap, ◌∙◌, inl, inr, ◌⊎◌, arith, append_assoc, append-nil}
 use Rattle.std.specs.List.{list_all}
-use Rattle.std.specs.Char.{is_ascii_hexdigit, digit_value}
+use Rattle.std.specs.Char.{is_ascii, is_ascii_hexdigit, digit_value}
+use Rattle.std.specs.Str.{IsAscii}
 use Rattle.std.specs.Str.Parse.{AllDigits}
 use Rattle.std.specs.Net.Addr.{segments_of}
 use Rattle.std.specs.Net.Grammar
 use Rattle.std.specs.Net.Grammar.{IsDotted, IsGroupsAfter, IsGroups, IsElided, IsColonHex}
-use Rattle.std.proofs.lemmas.Bool.{and_parts}
+use Rattle.std.proofs.lemmas.Bool.{and_parts, ltb-true}
+use Rattle.std.proofs.lemmas.Fmt.{IsAscii-decimal}
+use Rattle.std.proofs.lemmas.Str.{IsAscii-append}
+use Rattle.std.proofs.lemmas.Str.Ascii.{IsAscii-nil, IsAscii-cons}
+use Rattle.uv_model.proofs.AsciiLemmas.{IsAscii-from_test}
 use Rattle.std.proofs.lemmas.Bool.Decides.{nat_tests}
 use Rattle.uv_model.specs.Ascii.{colon}
-use Rattle.uv_model.specs.Address.{IsFourNumbers, IsGroup, IsTwoPieces, IsGroupList, IsSide, IsCompressed, IsIpv6, AreLibraryTexts}
+use Rattle.uv_model.specs.Address.{IsFourNumbers, IsGroup, IsTwoPieces, IsGroupList, IsSide, IsCompressed, IsIpv4, IsIpv6, AreLibraryTexts}
 
 -- ---- IPv4
 
@@ -159,3 +164,57 @@ library_texts = record {
   numbers = λ a b c d text. (dotted_from_numbers a b c d text, numbers_again a b c d text);
   pieces = λ text pieces. (colon_hex_from_ipv6 text pieces, ipv6_from_colon_hex text pieces);
 }
+
+-- ---- their code points are ASCII
+
+ascii_decimal : (n : ℕ) → n < 256 → IsAscii (decimal n)
+ascii_decimal n small = IsAscii-decimal n (omega arith)
+
+dot : IsAscii (codes ".")
+dot = IsAscii-from_test (codes ".") refl
+
+-- four numbers and full stops are ASCII
+pub numbers_ascii : (a b c d : ℕ) (text : List ℕ) → IsFourNumbers a b c d text → IsAscii text
+numbers_ascii a b c d text is =
+    rw is.spelled
+    (IsAscii-append _ _
+    (IsAscii-append _ _ (IsAscii-append _ _ (IsAscii-append _ _ (IsAscii-append _ _ (IsAscii-append _ _ (ascii_decimal a is.fit.0) dot) (ascii_decimal b is.fit.1)) dot)
+    (ascii_decimal c is.fit.2)) dot)
+    (ascii_decimal d is.fit.3))
+
+-- a hex digit is ASCII
+hex_ascii : (c : ℕ) → is_ascii_hexdigit c ≡ true → is_ascii c ≡ true
+hex_ascii c h = grind (arith, nat_tests)
+
+digits_ascii : (text : List ℕ) → list_all is_ascii_hexdigit text ≡ true → IsAscii text
+digits_ascii [] h = IsAscii-nil
+digits_ascii (c ∷ text) h =
+    let both = and_parts (is_ascii_hexdigit c) (list_all is_ascii_hexdigit text) h in
+    IsAscii-cons c text (ltb-true c 128 (hex_ascii c both.0)) (digits_ascii text both.1)
+
+groups_ascii : (dotted : Bool) (text pieces : List ℕ) → IsGroupList dotted text pieces → IsAscii text
+groups_ascii dotted text [] h = absurd h
+groups_ascii dotted text (p ∷ []) h = digits_ascii text h.digits
+groups_ascii dotted text (p ∷ q ∷ rest) (inl (group, others, split, is, more)) =
+    rw split
+    (IsAscii-append _ _ (digits_ascii group is.digits)
+    (IsAscii-cons colon others (lit< tt) (groups_ascii dotted others (q ∷ rest) more)))
+groups_ascii dotted text (p ∷ q ∷ rest) (inr (allowed, none, (a, b, c, d, is, first, second))) =
+    numbers_ascii a b c d text is
+
+side_ascii : (dotted : Bool) (text pieces : List ℕ) → IsSide dotted text pieces → IsAscii text
+side_ascii dotted text pieces (inl (nothing, none)) = rw nothing IsAscii-nil
+side_ascii dotted text pieces (inr list) = groups_ascii dotted text pieces list
+
+-- an IPv4 text is ASCII
+pub ipv4_ascii : (text : List ℕ) (value : ℕ) → IsIpv4 text value → IsAscii text
+ipv4_ascii text value (a, b, c, d, is, e) = numbers_ascii a b c d text is
+
+-- an IPv6 text is ASCII
+pub ipv6_ascii : (text pieces : List ℕ) → IsIpv6 text pieces → IsAscii text
+ipv6_ascii text pieces (inl (list, eight)) = groups_ascii true text pieces list
+ipv6_ascii text pieces (inr is) =
+    rw is.spelled
+    (IsAscii-append _ _
+    (IsAscii-append _ _ (side_ascii false is.left_text is.left is.left_groups) (IsAscii-from_test (codes "::") refl))
+    (side_ascii true is.right_text is.right is.right_groups))

@@ -1,0 +1,26 @@
+-- What the reader of the standard library answers is what an IPv4 text denotes, on code points.
+use Rattle.std.proofs.Common.{◌≡◌, ℕ, ◌+◌, ◌*◌, List, [], ◌∷◌, sym, ◌∙◌, refl, arith}
+use Rattle.std.specs.declared.net.ipv4_addr.Ipv4Addr.{Ipv4Addr}
+use Rattle.std.specs.Net.Addr.{ipv4_octets, ipv4_bits}
+use Rattle.std.proofs.lemmas.Str.{chars-IsAscii}
+use Rattle.uv_model.specs.Address.{IsIpv4, address_of}
+use Rattle.uv_model.proofs.AddressLemmas.{dotted_from_numbers, numbers_from_dotted, numbers_ascii}
+use Rattle.uv_model.proofs.AsciiLemmas.{chars-from_IsAscii}
+use Rattle.uv_host.proofs.addresses.ipv4.Goals as goal
+
+bits_of : (address : Ipv4Addr) (a b c d : ℕ) → ipv4_octets address ≡ a ∷ b ∷ c ∷ d ∷ []
+    → ipv4_bits address ≡ address_of a b c d
+unfolding ipv4_bits
+bits_of address a b c d e = rw e (omega arith)
+
+pub returns-in-Ok : goal.returns-in-Ok
+returns-in-Ok k =
+    let is = k.in-Ok.ensures.value in
+    let numbers = numbers_from_dotted _ _ is in
+    let same = chars-IsAscii _ (numbers_ascii _ _ _ _ _ numbers) in
+    rw same (is.a, is.b, is.c, is.d, numbers, k.to_bits.ensures ∙ bits_of _ _ _ _ _ is.value)
+
+pub returns-in-Err : goal.returns-in-Err
+returns-in-Err k = λ value (a, b, c, d, is, e).
+    let same = chars-from_IsAscii _ k.utf8.text (numbers_ascii _ _ _ _ _ is) in
+    k.in-Err.ensures.value (record { octets = a ∷ b ∷ c ∷ d ∷ [] }) (rw same at (dotted_from_numbers a b c d _ is))
