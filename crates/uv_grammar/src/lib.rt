@@ -4,6 +4,7 @@
 mod form;
 mod marks;
 mod parts;
+mod starts;
 
 pub use form::Form;
 pub use parts::{Parts, Segments};

@@ -1,0 +1,165 @@
+-- Tests of a text that look at ASCII alone give the same of its bytes and of its code points.
+use Rattle.std.proofs.Common.{◌≡◌, ℕ, List, [], ◌∷◌, ◌++◌, Bool, true, false, refl, sym, ap, ◌∙◌, subst, arith}
+use Rattle.std.specs.Prelude.{◌&&◌}
+use Rattle.std.specs.Str.{chars, IsUtf8, IsAscii}
+use Rattle.std.proofs.lemmas.Str.{chars-append, chars-IsAscii, encodes-append, encodes-IsAscii, encodes-chars, IsUtf8-from_ascii}
+use Rattle.std.proofs.lemmas.Bool.{and_parts}
+use Rattle.std.proofs.lemmas.Bool.Decides.{nat_tests}
+use Rattle.std.specs.List.{list_all}
+use Rattle.std.specs.Char.{is_ascii, is_ascii_alphabetic, is_ascii_digit}
+use Rattle.std.proofs.Math.Utf8.{encodes}
+use Rattle.uv_model.proofs.AsciiLemmas.{chars-from_IsAscii, IsAscii-from_test}
+use Rattle.uv_model.specs.Complaint.{starts_with_number_sign}
+use Rattle.uv_model.specs.Cut.{starts_with_two_slashes}
+use Rattle.uv_model.specs.OpaqueHost.{starts_with_bracket}
+use Rattle.uv_model.specs.Path.{starts_with_slash, starts_with_drive}
+use Rattle.uv_model.specs.Scheme.{is_scheme, is_scheme_code_point}
+
+-- two tests with one answer where either is true
+pub same_tests : (a b : Bool) → (a ≡ true → b ≡ true) → (b ≡ true → a ≡ true) → a ≡ b
+same_tests true b forth back = sym (forth refl)
+same_tests false true forth back = back refl
+same_tests false false forth back = refl
+
+-- a test that only ASCII texts pass
+pub ascii_test : (test : List ℕ → Bool) → ((text : List ℕ) → test text ≡ true → IsAscii text)
+    → (bytes : List ℕ) → IsUtf8 bytes → test (chars bytes) ≡ test bytes
+ascii_test test ascii bytes utf8 =
+    same_tests (test (chars bytes)) (test bytes)
+    (λ passed. subst (λ (s : List ℕ). test s ≡ true) (chars-from_IsAscii bytes utf8 (ascii (chars bytes) passed)) passed)
+    (λ passed. subst (λ (s : List ℕ). test s ≡ true) (sym (chars-IsAscii bytes (ascii bytes passed))) passed)
+
+-- the text passes the test by an ASCII front
+pub record PassesByFront (test : List ℕ → Bool) (text : List ℕ) : Type 0 where
+  pub front : List ℕ
+  pub rest : List ℕ
+  pub whole : text ≡ front ++ rest
+  pub ascii : IsAscii front
+  pub any : (other : List ℕ) → test (front ++ other) ≡ true
+
+-- a test that is passed by an ASCII front alone
+pub front_test : (test : List ℕ → Bool) → ((text : List ℕ) → test text ≡ true → PassesByFront test text)
+    → (bytes : List ℕ) → IsUtf8 bytes → test (chars bytes) ≡ test bytes
+front_test test passes bytes utf8 =
+    same_tests (test (chars bytes)) (test bytes)
+    (λ passed. let p = passes (chars bytes) passed in
+    let same : bytes ≡ p.front ++ encodes p.rest
+    = sym (encodes-chars bytes utf8) ∙ (ap encodes p.whole ∙ (encodes-append p.front p.rest
+    ∙ ap (λ s. s ++ encodes p.rest) (encodes-IsAscii p.front p.ascii))) in
+    subst (λ (s : List ℕ). test s ≡ true) (sym same) (p.any (encodes p.rest)))
+    (λ passed. let p = passes bytes passed in
+    let same : chars bytes ≡ p.front ++ chars p.rest
+    = ap chars p.whole ∙ (chars-append p.front p.rest (IsUtf8-from_ascii p.front p.ascii)
+    ∙ ap (λ s. s ++ chars p.rest) (chars-IsAscii p.front p.ascii)) in
+    subst (λ (s : List ℕ). test s ≡ true) (sym same) (p.any (chars p.rest)))
+
+-- ---- the tests in use
+
+-- both of two tests are passed
+and_true : {a b : Bool} → a ≡ true → b ≡ true → (a && b) ≡ true
+and_true first second = rw (first, second) refl
+
+-- each element passes the weaker test
+pub list_all_weaker : (p q : ℕ → Bool) → ((c : ℕ) → p c ≡ true → q c ≡ true) → (xs : List ℕ)
+    → list_all p xs ≡ true → list_all q xs ≡ true
+list_all_weaker p q weaker [] passed = refl
+list_all_weaker p q weaker (x ∷ xs) passed =
+    let parts = and_parts (p x) (list_all p xs) passed in
+    and_true (weaker x parts.0) (list_all_weaker p q weaker xs parts.1)
+
+-- the first code point makes `/` first
+pub starts_with_slash-chars : (bytes : List ℕ) → IsUtf8 bytes → starts_with_slash (chars bytes) ≡ starts_with_slash bytes
+starts_with_slash-chars bytes utf8 = front_test starts_with_slash passes bytes utf8
+  where
+    passes : (text : List ℕ) → starts_with_slash text ≡ true → PassesByFront starts_with_slash text
+    passes [] passed = absurd cc
+    passes (c ∷ rest) passed = record {
+      front = c ∷ [];
+      rest = rest;
+      whole = refl;
+      ascii = IsAscii-from_test (c ∷ []) (grind (arith, nat_tests));
+      any = λ other. passed;
+    }
+
+pub starts_with_number_sign-chars : (bytes : List ℕ) → IsUtf8 bytes
+    → starts_with_number_sign (chars bytes) ≡ starts_with_number_sign bytes
+starts_with_number_sign-chars bytes utf8 = front_test starts_with_number_sign passes bytes utf8
+  where
+    passes : (text : List ℕ) → starts_with_number_sign text ≡ true → PassesByFront starts_with_number_sign text
+    passes [] passed = absurd cc
+    passes (c ∷ rest) passed = record {
+      front = c ∷ [];
+      rest = rest;
+      whole = refl;
+      ascii = IsAscii-from_test (c ∷ []) (grind (arith, nat_tests));
+      any = λ other. passed;
+    }
+
+pub starts_with_bracket-chars : (bytes : List ℕ) → IsUtf8 bytes → starts_with_bracket (chars bytes) ≡ starts_with_bracket bytes
+starts_with_bracket-chars bytes utf8 = front_test starts_with_bracket passes bytes utf8
+  where
+    passes : (text : List ℕ) → starts_with_bracket text ≡ true → PassesByFront starts_with_bracket text
+    passes [] passed = absurd cc
+    passes (c ∷ rest) passed = record {
+      front = c ∷ [];
+      rest = rest;
+      whole = refl;
+      ascii = IsAscii-from_test (c ∷ []) (grind (arith, nat_tests));
+      any = λ other. passed;
+    }
+
+pub starts_with_two_slashes-chars : (bytes : List ℕ) → IsUtf8 bytes
+    → starts_with_two_slashes (chars bytes) ≡ starts_with_two_slashes bytes
+starts_with_two_slashes-chars bytes utf8 = front_test starts_with_two_slashes passes bytes utf8
+  where
+    passes : (text : List ℕ) → starts_with_two_slashes text ≡ true → PassesByFront starts_with_two_slashes text
+    passes [] passed = absurd cc
+    passes (c ∷ []) passed = absurd cc
+    passes (c ∷ d ∷ rest) passed = record {
+      front = c ∷ d ∷ [];
+      rest = rest;
+      whole = refl;
+      ascii = IsAscii-from_test (c ∷ d ∷ []) (grind (arith, nat_tests));
+      any = λ other. passed;
+    }
+
+pub starts_with_drive-chars : (bytes : List ℕ) → IsUtf8 bytes → starts_with_drive (chars bytes) ≡ starts_with_drive bytes
+starts_with_drive-chars bytes utf8 = front_test starts_with_drive passes bytes utf8
+  where
+    passes : (text : List ℕ) → starts_with_drive text ≡ true → PassesByFront starts_with_drive text
+    passes [] passed = absurd cc
+    passes (a ∷ []) passed = absurd cc
+    passes (a ∷ b ∷ []) passed = absurd cc
+    passes (a ∷ b ∷ c ∷ []) passed = absurd cc
+    passes (a ∷ b ∷ c ∷ d ∷ rest) passed = record {
+      front = a ∷ b ∷ c ∷ d ∷ [];
+      rest = rest;
+      whole = refl;
+      ascii = IsAscii-from_test (a ∷ b ∷ c ∷ d ∷ []) (grind (arith, nat_tests));
+      any = λ other. passed;
+    }
+
+pub is_scheme-chars : (bytes : List ℕ) → IsUtf8 bytes → is_scheme (chars bytes) ≡ is_scheme bytes
+is_scheme-chars bytes utf8 = ascii_test is_scheme ascii bytes utf8
+  where
+    one : (c : ℕ) → is_scheme_code_point c ≡ true → is_ascii c ≡ true
+    one c passed = grind (arith, nat_tests)
+
+    first : (c : ℕ) → is_ascii_alphabetic c ≡ true → is_ascii c ≡ true
+    first c passed = grind (arith, nat_tests)
+
+    ascii : (text : List ℕ) → is_scheme text ≡ true → IsAscii text
+    ascii [] passed = absurd cc
+    ascii (c ∷ rest) passed =
+        let parts = and_parts (is_ascii_alphabetic c) (list_all is_scheme_code_point rest) passed in
+        IsAscii-from_test (c ∷ rest)
+        (and_true (first c parts.0) (list_all_weaker is_scheme_code_point is_ascii one rest parts.1))
+
+pub digits-chars : (bytes : List ℕ) → IsUtf8 bytes → list_all is_ascii_digit (chars bytes) ≡ list_all is_ascii_digit bytes
+digits-chars bytes utf8 = ascii_test (λ text. list_all is_ascii_digit text) ascii bytes utf8
+  where
+    one : (c : ℕ) → is_ascii_digit c ≡ true → is_ascii c ≡ true
+    one c passed = grind (arith, nat_tests)
+
+    ascii : (text : List ℕ) → list_all is_ascii_digit text ≡ true → IsAscii text
+    ascii text passed = IsAscii-from_test text (list_all_weaker is_ascii_digit is_ascii one text passed)
