@@ -87,7 +87,7 @@ shown_form text form e =
     let bytes = encode_utf8_all text in
     rw (to_unicode-to_ascii STD3 Check Ignore bytes form e) (shown bytes form e (process_utf8 STD3 Check bytes) refl)
 
--- a text has the form that strict ToASCII and the parser's ToASCII give, where its code points and the lengths are permitted
+-- the form that both ToASCII give is that of the text, where its code points and the lengths are permitted
 pub IsForm-from : (text form : List ℕ) → has_permitted text ≡ true → strict_form text ≡ Some form →
     verify_dns_length form true ≡ true → domain_to_ascii EMPTY (encode_utf8_all text) ≡ Some form → IsForm text form
 IsForm-from text form permitted strict lengths parsed =

@@ -6,7 +6,7 @@ use Rattle.std.proofs.Math.Seq.{get_or-append_seam}
 use Rattle.std.proofs.lemmas.Bool.{cases_Bool, cases_lt}
 use Rattle.std.proofs.lemmas.Bool.Decides.{nat_tests}
 use Rattle.std.proofs.lemmas.List.{get_or-append_right}
-use Rattle.std.proofs.lemmas.List.Elements.{All-nil, All-cons, All-head, All-tail, All-append}
+use Rattle.std.proofs.lemmas.List.Elements.{All-nil, All-cons, All-head, All-tail, All-append, All-weaker}
 use Rattle.std.proofs.lemmas.List.Sums.{suffix_len_is}
 use Rattle.std.proofs.lemmas.Str.{encodes-append, encode_ascii, length-le-encodes}
 use Rattle.idna.specs.Labels.{is_full_stop}
@@ -54,7 +54,7 @@ after_last_stop front label none =
         rw (at, append_assoc) (get_or-append_seam front full_stop label 0)
 
 -- the code point at the end of a text
-last_of : (front : List ℕ) (c : ℕ) → slice_index (front ++ c ∷ []) (length (front ++ c ∷ []) - 1) ≡ c
+pub last_of : (front : List ℕ) (c : ℕ) → slice_index (front ++ c ∷ []) (length (front ++ c ∷ []) - 1) ≡ c
 last_of front c =
     let at : length (front ++ c ∷ []) - 1 ≡ length front = omega (arith, length-append front (c ∷ [])) in
     rw at (get_or-append_seam front c [] 0)
@@ -80,6 +80,24 @@ from_end (c ∷ text) =
       | inr (front, last, shown) ↦ inr (c ∷ front, last, ap (λ rest. c ∷ rest) shown)
     ]
 
+-- the label behind the last full stop, where it isn't empty
+pub last_label-behind : (front label : List ℕ) → HasNoStop label → 0 < length label →
+    last_label (front ++ full_stop ∷ label) ≡ label
+last_label-behind front label none some =
+    elim (from_end label) [
+      | inl empty ↦ absurd (omega (arith, ap length empty))
+      | inr (others, c, shown) ↦
+          let at : get_or label (length others) 0 ≡ c = rw shown (get_or-append_seam others c [] 0) in
+          let within : length others < length label =
+          omega (arith, ap length shown, length-append others (c ∷ [])) in
+          let other : is_full_stop c ≡ false = rw at at (none (length others) 0 within) in
+          let split : front ++ full_stop ∷ label ≡ (front ++ full_stop ∷ others) ++ c ∷ [] =
+          ap (λ l. front ++ full_stop ∷ l) shown ∙ sym (append_assoc front (full_stop ∷ others) (c ∷ [])) in
+          let kept : without_root (front ++ full_stop ∷ label) ≡ front ++ full_stop ∷ label =
+          ap without_root split ∙ without_root-other (front ++ full_stop ∷ others) c other ∙ sym split in
+          ap (after_last is_full_stop) kept ∙ after_last_stop front label none
+    ]
+
 -- a text has no full stop, or a last one
 at_last_stop : (text : List ℕ) →
     HasNoStop text ⊎ ((front label : List ℕ) × (text ≡ front ++ full_stop ∷ label) × HasNoStop label)
@@ -100,7 +118,7 @@ at_last_stop (c ∷ text) =
 
 -- ---- UTF-8
 
--- bytes of a code point beyond ASCII: at least one, none a full stop, and the first and the last not ASCII
+-- bytes of a code point beyond ASCII: at least one, and none of them ASCII
 record IsHigh (bytes : List ℕ) : Type 0 where
   first : ℕ
   rest : List ℕ
@@ -110,17 +128,11 @@ record IsHigh (bytes : List ℕ) : Type 0 where
   last : ℕ
   ends : bytes ≡ front ++ last ∷ []
   last_high : 128 ≤ last
-  no_stop : HasNoStop bytes
+  high : All (λ b. 128 ≤ b) bytes
 
 -- a byte beyond ASCII is no full stop
 not_stop : (b : ℕ) → 128 ≤ b → is_full_stop b ≡ false
 not_stop b high = ne_eqb b full_stop (λ e. absurd (omega arith))
-
-no_stop-nil : HasNoStop []
-no_stop-nil = All-nil (λ c. is_full_stop c ≡ false)
-
-no_stop-cons : (b : ℕ) (bytes : List ℕ) → 128 ≤ b → HasNoStop bytes → HasNoStop (b ∷ bytes)
-no_stop-cons b bytes high none = All-cons (λ c. is_full_stop c ≡ false) b bytes (not_stop b high) none
 
 IsHigh-two : (a b : ℕ) → 128 ≤ a → 128 ≤ b → IsHigh (a ∷ b ∷ [])
 IsHigh-two a b ha hb = record {
@@ -132,7 +144,7 @@ IsHigh-two a b ha hb = record {
   last = b;
   ends = refl;
   last_high = hb;
-  no_stop = no_stop-cons a (b ∷ []) ha (no_stop-cons b [] hb no_stop-nil);
+  high = All-cons (λ x. 128 ≤ x) a (b ∷ []) ha (All-cons (λ x. 128 ≤ x) b [] hb (All-nil (λ x. 128 ≤ x)));
 }
 
 -- one more byte before
@@ -146,7 +158,7 @@ IsHigh-more a bytes ha h = record {
   last = h.last;
   ends = ap (λ bs. a ∷ bs) h.ends;
   last_high = h.last_high;
-  no_stop = no_stop-cons a bytes ha h.no_stop;
+  high = All-cons (λ x. 128 ≤ x) a bytes ha h.high;
 }
 
 IsHigh-encode : (c : ℕ) → 128 ≤ c → IsHigh (encode_utf8 c)
@@ -184,16 +196,22 @@ list_all-encoded test fails (c ∷ text) =
       | inr (high, is) ↦ rw (is.begins, fails is.first is.first_high, fails c high) refl
     ]
 
+-- what holds of each code point, and of all that isn't ASCII, holds of each byte
+pub All-encoded : (P : ℕ → Type 0) → ((b : ℕ) → 128 ≤ b → P b) → (text : List ℕ) → All P text →
+    All P (encode_utf8_all text)
+All-encoded P beyond [] all = all
+All-encoded P beyond (c ∷ text) all =
+    let further = All-encoded P beyond text (All-tail P c text all) in
+    elim (encoded_cases c) [
+      | inl (small, same) ↦ rw same (All-cons P c _ (All-head P c text all) further)
+      | inr (high, is) ↦
+          All-append P (encode_utf8 c) (encode_utf8_all text)
+          (All-weaker (λ b. 128 ≤ b) P beyond (encode_utf8 c) is.high) further
+    ]
+
 -- UTF-8 brings in no full stop
 no_stop-encoded : (text : List ℕ) → HasNoStop text → HasNoStop (encode_utf8_all text)
-no_stop-encoded [] none = none
-no_stop-encoded (c ∷ text) none =
-    let IsOther : ℕ → Type 0 = λ x. is_full_stop x ≡ false in
-    let further = no_stop-encoded text (All-tail IsOther c text none) in
-    elim (encoded_cases c) [
-      | inl (small, same) ↦ rw same (All-cons IsOther c _ (All-head IsOther c text none) further)
-      | inr (high, is) ↦ All-append IsOther (encode_utf8 c) (encode_utf8_all text) is.no_stop further
-    ]
+no_stop-encoded text none = All-encoded (λ c. is_full_stop c ≡ false) not_stop text none
 
 -- another code point than a full stop at the end stays
 whole : (front : List ℕ) (c : ℕ) → is_full_stop c ≡ false →

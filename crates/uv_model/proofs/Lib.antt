@@ -4,6 +4,7 @@ pub mod AsciiLemmas
 pub mod DenotedRecords
 pub mod DomainLemmas
 pub mod EncodingLemmas
+pub mod HostParserLemmas
 pub mod Ipv4ParserLemmas
 pub mod Ipv6LoopLemmas
 pub mod Ipv6MovesLemmas

@@ -8,8 +8,9 @@ use Rattle.uv_model.specs.declared.host.Host.TheVariants.{Domain, V4, V6, Opaque
 use Rattle.uv_model.specs.Ascii.{percent_sign, left_bracket, right_bracket}
 use Rattle.uv_model.specs.Units.{is_unit_at}
 use Rattle.uv_model.specs.Encoding.{encoded}
-use Rattle.uv_model.specs.OpaqueHost.{is_forbidden_host}
-use Rattle.uv_model.specs.Domain.{ends_in_number, parser_form}
+use Rattle.uv_model.specs.OpaqueHost.{is_forbidden_host, IsOpaqueHost}
+use Rattle.uv_model.specs.Address.{IsIpv4, IsBracketedIpv6}
+use Rattle.uv_model.specs.Domain.{ends_in_number, parser_form, IsDomain}
 use Rattle.uv_model.specs.Ipv4Parser.{parse_ipv4}
 use Rattle.uv_model.specs.Ipv6Parser.{parse_ipv6}
 
@@ -55,3 +56,26 @@ parse_host special [] = if special then None else Some Empty
 parse_host special (c ∷ rest) =
     if c == left_bracket then parse_bracketed rest
     else (if special then parse_domain (c ∷ rest) else parse_opaque_host (c ∷ rest))
+
+-- ---- laws
+
+-- a valid domain is parsed, for a special URL, as the domain of its form
+abbrev pub DomainsAreParsed : Type 0
+DomainsAreParsed = (text form : List ℕ) → IsDomain text form → parse_host true text ≡ Some (Domain form)
+
+-- an IPv4 text is parsed, for a special URL, as the address of its value
+abbrev pub Ipv4HostsAreParsed : Type 0
+Ipv4HostsAreParsed = (text : List ℕ) (value : ℕ) → IsIpv4 text value → parse_host true text ≡ Some (V4 value)
+
+-- an IPv6 text in brackets is parsed, for every URL, as the address of its pieces
+abbrev pub Ipv6HostsAreParsed : Type 0
+Ipv6HostsAreParsed =
+    (special : Bool) (text pieces : List ℕ) → IsBracketedIpv6 text pieces → parse_host special text ≡ Some (V6 pieces)
+
+-- an opaque-host string without brackets is parsed, for a URL that isn't special, as the opaque host that it encodes
+abbrev pub OpaqueHostsAreParsed : Type 0
+OpaqueHostsAreParsed = (text : List ℕ) → IsOpaqueHost text → parse_host false text ≡ Some (Opaque (encoded false text))
+
+-- the empty text is parsed, for a URL that isn't special, as the empty host
+abbrev pub EmptyHostIsParsed : Type 0
+EmptyHostIsParsed = parse_host false [] ≡ Some Empty
