@@ -5,6 +5,7 @@ pub mod DenotedRecords
 pub mod DomainLemmas
 pub mod EncodingLemmas
 pub mod HostParserLemmas
+pub mod HostTextLemmas
 pub mod Ipv4ParserLemmas
 pub mod Ipv6LoopLemmas
 pub mod Ipv6MovesLemmas

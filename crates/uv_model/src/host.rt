@@ -1,6 +1,10 @@
-//! Hosts.
+//! Hosts, and the host serializer.
+ghost use Rattle.std.specs.Prelude.{◌≡◌, IfOk, string_bytes};
+ghost use Rattle.uv_model.specs.Serialize.{serial_host, serial_ipv4};
 
 use crate::text::Text;
+use std::alloc::{AllocError, Global};
+use std::net::{Ipv4Addr, Ipv6Addr};
 
 /// The host of a URL.
 #[derive(Debug, Drop)]
@@ -15,4 +19,54 @@ pub enum Host {
     Opaque(Text),
     /// The empty host.
     Empty,
+}
+
+impl Host {
+    /// The host serialized, an IPv6 address in brackets (URL Standard, section 3.6). An error means that memory ran out.
+    #[tactic(auto, unfolding(crate::specs::Serialize::serial_host))]
+    pub fn text(&self, alloc: Global) -> Result<String, AllocError>
+        ensures { IfOk result (λ text. string_bytes text ≡ serial_host self.now) }
+    {
+        match self {
+            Host::Domain(form) => String::from_str(alloc, form.as_str()),
+            Host::V4(value) => ipv4_text(alloc, *value),
+            Host::V6(pieces) => format!(in alloc;
+                "[{}]",
+                Ipv6Addr::from_segments(*pieces).hex_groups()
+            ),
+            Host::Opaque(text) => String::from_str(alloc, text.as_str()),
+            Host::Empty => Ok(String::new(alloc)),
+        }
+    }
+}
+
+/// The four numbers of an IPv4 address, the highest first, with `.` between each two.
+#[tactic(auto, using(crate::proofs::HostTextLemmas::serial_ipv4_is))]
+fn ipv4_text(alloc: Global, value: u32) -> Result<String, AllocError>
+    ensures { IfOk result (λ text. string_bytes text ≡ serial_ipv4 value) }
+{
+    format!(in alloc; "{}", Ipv4Addr::from_bits(value))
+}
+
+#[cfg(test)]
+mod tests {
+    use super::*;
+    use std::test::Fail;
+
+    #[test]
+    fn writes_addresses(rt: HostRuntime) -> Result<(), Fail> {
+        for (pieces, want) in [
+            ([1, 2, 3, 4, 5, 6, 7, 0], "[1:2:3:4:5:6:7:0]"),
+            ([0, 0, 0, 0, 0, 0xFFFF, 0x102, 0x304], "[::ffff:102:304]"),
+            ([0, 0, 0, 0, 0, 0, 0, 0], "[::]"),
+            ([1, 0, 0, 2, 0, 0, 0, 3], "[1:0:0:2::3]"),
+            ([1, 0, 0, 2, 3, 0, 0, 4], "[1::2:3:0:0:4]"),
+        ] {
+            let text = Host::V6(pieces).text(rt.alloc())?;
+            assert_eq!(rt; text.as_str(), want);
+        }
+        let text = Host::V4(3232235521).text(rt.alloc())?;
+        assert_eq!(rt; text.as_str(), "192.168.0.1");
+        Ok(())
+    }
 }
