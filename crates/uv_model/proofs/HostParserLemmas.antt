@@ -29,11 +29,11 @@ use Rattle.uv_model.specs.Ascii.{percent_sign, full_stop, left_bracket, right_br
 use Rattle.uv_model.specs.Domain.{is_permitted, has_permitted, is_form_code_point, has_lengths, is_digits, strict_form, parser_form, ends_in_number, IsForm, IsDomain}
 use Rattle.uv_model.specs.Encoding.{encoded}
 use Rattle.uv_model.specs.HostParser.{is_forbidden_domain, is_faultless_host, percent_decoded, parse_domain, parse_host, DomainsAreParsed, Ipv4HostsAreParsed, Ipv6HostsAreParsed, OpaqueHostsAreParsed, EmptyHostIsParsed}
-use Rattle.uv_model.specs.Ipv4Parser.{Ipv4TextsAreParsed}
-use Rattle.uv_model.specs.Ipv6Parser.{Ipv6TextsAreParsed}
 use Rattle.uv_model.specs.OpaqueHost.{is_forbidden_host}
 use Rattle.uv_model.specs.Units.{is_unit_at, is_faultless}
 use Rattle.uv_model.proofs.DomainLemmas.{parser_form-is}
+use Rattle.uv_model.proofs.Ipv4ParserLemmas.{ipv4_parsed}
+use Rattle.uv_model.proofs.Ipv6ParserLemmas.{ipv6_parsed}
 use Rattle.uv_model.proofs.LastLabelLemmas.{HasNoStop, All-encoded, last_of, last_label-behind}
 use Rattle.uv_model.proofs.UnitsLemmas.{is_faultless-units}
 
@@ -75,7 +75,9 @@ utf8-form text form e =
     let bytes = encode_utf8_all text in
     elim (cases_Bool (is_utf8 bytes)) [
       | inl whole ↦ whole
-      | inr broken ↦ absurd (none-some form (sym (to_ascii-invalid STD3 Check Ignore bytes (not_utf8 bytes broken)) ∙ e))
+      | inr broken ↦
+          let none = to_ascii-invalid STD3 Check Ignore bytes (not_utf8 bytes broken) in
+          absurd (none-some form (sym none ∙ e))
     ]
 
 allowed_code_point : (c : ℕ) → is_form_code_point c ≡ true → is_forbidden_domain c ≡ false
@@ -96,7 +98,9 @@ some-form (c ∷ form) h = grind (arith, nat_tests)
 -- a permitted text doesn't begin with `[`
 not_bracket : (c : ℕ) (rest : List ℕ) → has_permitted (c ∷ rest) ≡ true → (c == left_bracket) ≡ false
 unfolding has_permitted
-not_bracket c rest h = let first = (and_parts (is_permitted c) (list_all is_permitted rest) h).0 in grind (arith, nat_tests)
+not_bracket c rest h =
+    let first = (and_parts (is_permitted c) (list_all is_permitted rest) h).0 in
+    grind (arith, nat_tests)
 
 -- a permitted text has no `%`
 no_percent-permitted : (text : List ℕ) → has_permitted text ≡ true → All (λ c. c ≢ percent_sign) text
@@ -115,6 +119,7 @@ no_form-empty form is =
     let same : [] ≡ form = same_Some [] form is.parsed in
     false≢true (ap has_lengths same ∙ is.lengths)
 
+-- a valid domain is read by the parser of domains as its form
 parse_domain-valid : (text form : List ℕ) → IsDomain text form → parse_domain text ≡ Some (Domain form)
 unfolding parse_domain
 parse_domain-valid text form (is, other) =
@@ -122,6 +127,7 @@ parse_domain-valid text form (is, other) =
     let read = percent_decoded-plain text none (utf8-form text form is.strict) in
     rw (read, is.parsed, some-form form is.lengths, allowed-form form is.letters, other)
 
+-- a valid domain is parsed as the domain of its form
 pub domains_are_parsed : DomainsAreParsed
 unfolding parse_host
 domains_are_parsed [] form is = absurd (no_form-empty form is.0)
@@ -151,24 +157,27 @@ opaque-at c rest faultless permitted =
     let allowed = not-true (is_forbidden_host c) (and_parts (not (is_forbidden_host c)) _ permitted).0 in
     rw (not_bracket-allowed c allowed, faultless-host (c ∷ rest) faultless permitted) refl
 
+-- an opaque-host string is parsed as the opaque host that it encodes
 pub opaque_hosts_are_parsed : OpaqueHostsAreParsed
 opaque_hosts_are_parsed text is =
     let faultless = subst (λ t. is_faultless t ≡ true) is.some (is_faultless-units text is.units) in
     let permitted = subst (λ t. list_all (λ x. not (is_forbidden_host x)) t ≡ true) is.some is.permitted in
     rw is.some (opaque-at is.first is.rest faultless permitted)
 
+-- the empty text is parsed as the empty host
 pub empty_host_is_parsed : EmptyHostIsParsed
 unfolding parse_host
 empty_host_is_parsed = refl
 
 -- ---- IPv6
 
-pub ipv6_hosts_are_parsed : Ipv6TextsAreParsed → Ipv6HostsAreParsed
+-- an IPv6 text in brackets is parsed as its address
+pub ipv6_hosts_are_parsed : Ipv6HostsAreParsed
 unfolding parse_host
-ipv6_hosts_are_parsed law special text pieces (inner, shown, is) =
+ipv6_hosts_are_parsed special text pieces (inner, shown, is) =
     let closed = right_bracket ∷ [] in
     let at : length (inner ++ closed) - 1 ≡ length inner = omega (arith, length-append inner closed) in
-    rw (shown, last_of inner right_bracket, at, take_at inner closed (length inner) refl, law inner pieces is) refl
+    rw (shown, last_of inner right_bracket, at, take_at inner closed (length inner) refl, ipv6_parsed inner pieces is) refl
 
 -- ---- IPv4
 
@@ -259,10 +268,10 @@ some-ipv4 text value (a, b, c, d, is, e) =
     let shown : text ≡ front ++ full_stop ∷ decimal d = is.spelled ∙ append_assoc front (codes ".") (decimal d) in
     omega (arith, ap length shown, length-append front (full_stop ∷ decimal d))
 
-parse_domain-ipv4 : Ipv4TextsAreParsed → (text : List ℕ) (value : ℕ) → IsIpv4 text value →
-    parse_domain text ≡ Some (V4 value)
+-- an IPv4 text is read by the parser of domains as its address
+parse_domain-ipv4 : (text : List ℕ) (value : ℕ) → IsIpv4 text value → parse_domain text ≡ Some (V4 value)
 unfolding parse_domain
-parse_domain-ipv4 law text value h =
+parse_domain-ipv4 text value h =
     let (a, b, c, d, is, e) = h in
     let simple = all_simple a b c d text is in
     let ascii = IsAscii-from_all text (All-weaker IsDigitOrDot (λ x. x < 128) ascii_byte text simple) in
@@ -274,7 +283,8 @@ parse_domain-ipv4 law text value h =
     let ends = ends_in_number-ipv4 text value h in
     let some : (length text == 0) ≡ false =
     ne_eqb (length text) 0 (λ none. absurd (omega (arith, some-ipv4 text value h))) in
-    rw (percent_decoded-plain text plain utf8, parser_form-ipv4 text value h, some, allowed, ends, law text value h) refl
+    let read = percent_decoded-plain text plain utf8 in
+    rw (read, parser_form-ipv4 text value h, some, allowed, ends, ipv4_parsed text value h) refl
 
 -- an IPv4 text doesn't begin with `[`
 not_bracket-ipv4 : (c : ℕ) (rest : List ℕ) (value : ℕ) → IsIpv4 (c ∷ rest) value → (c == left_bracket) ≡ false
@@ -285,18 +295,19 @@ not_bracket-ipv4 c rest value (p, q, r, s, is, e) =
     first (inl digit) = ne_eqb c left_bracket (λ e. absurd (omega (arith, digit.0, digit.1)))
     first (inr dot) = rw dot refl
 
-pub ipv4_hosts_are_parsed : Ipv4TextsAreParsed → Ipv4HostsAreParsed
+-- an IPv4 text is parsed as its address
+pub ipv4_hosts_are_parsed : Ipv4HostsAreParsed
 unfolding parse_host
-ipv4_hosts_are_parsed law [] value is = absurd (omega (arith, some-ipv4 [] value is))
-ipv4_hosts_are_parsed law (c ∷ rest) value is =
-    rw (not_bracket-ipv4 c rest value is) (parse_domain-ipv4 law (c ∷ rest) value is)
+ipv4_hosts_are_parsed [] value is = absurd (omega (arith, some-ipv4 [] value is))
+ipv4_hosts_are_parsed (c ∷ rest) value is =
+    rw (not_bracket-ipv4 c rest value is) (parse_domain-ipv4 (c ∷ rest) value is)
 
 -- ---- one value
 
 -- an IPv4 text has one value
-pub ipv4_unique : Ipv4TextsAreParsed → (text : List ℕ) (a b : ℕ) → IsIpv4 text a → IsIpv4 text b → a ≡ b
-ipv4_unique law text a b ha hb = same_Some a b (sym (law text a ha) ∙ law text b hb)
+pub ipv4_unique : (text : List ℕ) (a b : ℕ) → IsIpv4 text a → IsIpv4 text b → a ≡ b
+ipv4_unique text a b ha hb = same_Some a b (sym (ipv4_parsed text a ha) ∙ ipv4_parsed text b hb)
 
 -- an IPv6 text has one list of pieces
-pub ipv6_unique : Ipv6TextsAreParsed → (text a b : List ℕ) → IsIpv6 text a → IsIpv6 text b → a ≡ b
-ipv6_unique law text a b ha hb = same_Some a b (sym (law text a ha) ∙ law text b hb)
+pub ipv6_unique : (text a b : List ℕ) → IsIpv6 text a → IsIpv6 text b → a ≡ b
+ipv6_unique text a b ha hb = same_Some a b (sym (ipv6_parsed text a ha) ∙ ipv6_parsed text b hb)

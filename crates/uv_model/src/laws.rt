@@ -1,6 +1,7 @@
 //! Laws over the definitions, each as the clause of a function that does nothing.
 ghost use Rattle.uv_model.specs.Address.{AreLibraryTexts};
 ghost use Rattle.uv_model.specs.AddressRows.{AddressParserRows};
+ghost use Rattle.uv_model.specs.HostParser.{DomainsAreParsed, EmptyHostIsParsed, Ipv4HostsAreParsed, Ipv6HostsAreParsed, OpaqueHostsAreParsed};
 ghost use Rattle.uv_model.specs.Ipv4Parser.{Ipv4TextsAreParsed};
 ghost use Rattle.uv_model.specs.Ipv6Parser.{Ipv6TextsAreParsed};
 ghost use Rattle.uv_model.specs.Laws.{UnitsAreFaultless};
@@ -29,4 +30,31 @@ pub fn ipv6_texts_are_parsed()
 /// What both parsers make of texts that are written out, such as the failure on `1::2::3` (URL Standard, section 3.5).
 pub fn address_parser_rows()
     ensures { AddressParserRows }
+{}
+
+/// For a special URL the host parser makes of every valid domain the domain of exactly its form (URL Standard, section 3.5).
+pub fn domains_are_parsed()
+    ensures { DomainsAreParsed }
+{}
+
+/// For a special URL the host parser makes of every IPv4 text the address of exactly its value (URL Standard, section 3.5).
+pub fn ipv4_hosts_are_parsed()
+    ensures { Ipv4HostsAreParsed }
+{}
+
+/// For every URL the host parser makes of every IPv6 text in brackets the address of exactly its eight pieces (URL
+/// Standard, section 3.5).
+pub fn ipv6_hosts_are_parsed()
+    ensures { Ipv6HostsAreParsed }
+{}
+
+/// For a URL that isn't special the host parser makes of every opaque-host string without brackets the opaque host of
+/// exactly the encoded text (URL Standard, section 3.5).
+pub fn opaque_hosts_are_parsed()
+    ensures { OpaqueHostsAreParsed }
+{}
+
+/// For a URL that isn't special the host parser makes of the empty text the empty host (URL Standard, section 3.5).
+pub fn empty_host_is_parsed()
+    ensures { EmptyHostIsParsed }
 {}
