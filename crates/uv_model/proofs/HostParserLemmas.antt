@@ -177,7 +177,8 @@ unfolding parse_host
 ipv6_hosts_are_parsed special text pieces (inner, shown, is) =
     let closed = right_bracket ∷ [] in
     let at : length (inner ++ closed) - 1 ≡ length inner = omega (arith, length-append inner closed) in
-    rw (shown, last_of inner right_bracket, at, take_at inner closed (length inner) refl, ipv6_parsed inner pieces is) refl
+    let within = take_at inner closed (length inner) refl in
+    rw (shown, last_of inner right_bracket, at, within, ipv6_parsed inner pieces is) refl
 
 -- ---- IPv4
 

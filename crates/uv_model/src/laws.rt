@@ -32,12 +32,14 @@ pub fn address_parser_rows()
     ensures { AddressParserRows }
 {}
 
-/// For a special URL the host parser makes of every valid domain the domain of exactly its form (URL Standard, section 3.5).
+/// For a special URL the host parser makes of every valid domain the domain of exactly its form (URL Standard,
+/// section 3.5).
 pub fn domains_are_parsed()
     ensures { DomainsAreParsed }
 {}
 
-/// For a special URL the host parser makes of every IPv4 text the address of exactly its value (URL Standard, section 3.5).
+/// For a special URL the host parser makes of every IPv4 text the address of exactly its value (URL Standard,
+/// section 3.5).
 pub fn ipv4_hosts_are_parsed()
     ensures { Ipv4HostsAreParsed }
 {}
