@@ -1,6 +1,8 @@
 pub mod AddressLemmas
 pub mod AddressRows
 pub mod AsciiLemmas
+pub mod AuthorityCutLemmas
+pub mod CutLemmas
 pub mod DenotedRecords
 pub mod DomainLemmas
 pub mod EncodingLemmas
@@ -12,8 +14,10 @@ pub mod Ipv6MovesLemmas
 pub mod Ipv6ParserLemmas
 pub mod Ipv6ReadersLemmas
 pub mod LastLabelLemmas
+pub mod MarkLemmas
 pub mod PathLemmas
 pub mod RefusalLemmas
+pub mod SchemeCutLemmas
 pub mod SchemeLemmas
 pub mod Steps
 pub mod UnitComplaintLemmas

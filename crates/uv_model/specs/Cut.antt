@@ -177,18 +177,29 @@ abbrev pub port_cut : Class → List ℕ → Option (List ℕ)
 port_cut File authority = None
 port_cut _ authority = port_behind false authority
 
+-- the host text of what stands between the scheme and the query, where that has an authority
+abbrev pub host_text_cut : Class → List ℕ → Option (List ℕ)
+host_text_cut kind middle = if starts_with_two_slashes middle then Some (host_cut kind (authority_in middle)) else None
+
+-- the port text there
+abbrev pub port_text_cut : Class → List ℕ → Option (List ℕ)
+port_text_cut kind middle = if starts_with_two_slashes middle then port_cut kind (authority_in middle) else None
+
+-- the path text there, behind the authority
+abbrev pub path_text_cut : List ℕ → List ℕ
+path_text_cut middle =
+    if starts_with_two_slashes middle then drop (length (authority_in middle)) (drop 2 middle) else middle
+
 -- the cut of what stands before the query, beside a query and a fragment
 abbrev pub start_cut : Option Url → List ℕ → Option (List ℕ) → Option (List ℕ) → Cut
 start_cut base start query fragment =
     let kind = class_in base (scheme_cut start) in
     let middle = behind_scheme start in
-    let authority = authority_in middle in
-    let has_authority = starts_with_two_slashes middle in
     record {
       scheme = scheme_cut start;
-      host_text = if has_authority then Some (host_cut kind authority) else None;
-      port_text = if has_authority then port_cut kind authority else None;
-      path_text = if has_authority then drop (2 + length authority) middle else middle;
+      host_text = host_text_cut kind middle;
+      port_text = port_text_cut kind middle;
+      path_text = path_text_cut middle;
       query = query;
       fragment = fragment;
     }

@@ -3,6 +3,7 @@ pub mod AddressRows
 pub mod Ascii
 pub mod Complaint
 pub mod Cut
+pub mod CutLaws
 pub mod Denote
 pub mod Device
 pub mod Domain

@@ -108,14 +108,15 @@ FitsAuthority Other scheme host_text parts = IsOtherAuthority scheme host_text p
 
 -- ---- the forms
 
+-- code points of a scheme, and then `:`
+abbrev pub goes_on_to_colon : List ℕ → Bool
+goes_on_to_colon [] = false
+goes_on_to_colon (d ∷ rest) = (d == colon) || (is_scheme_code_point d && goes_on_to_colon rest)
+
 -- the text begins with a URL-scheme string and `:`
 abbrev pub starts_with_scheme : List ℕ → Bool
 starts_with_scheme [] = false
-starts_with_scheme (c ∷ rest) = is_ascii_alphabetic c && goes_on rest
-  where
-    goes_on : List ℕ → Bool
-    goes_on [] = false
-    goes_on (d ∷ rest) = (d == colon) || (is_scheme_code_point d && goes_on rest)
+starts_with_scheme (c ∷ rest) = is_ascii_alphabetic c && goes_on_to_colon rest
 
 -- a scheme, else that of the base
 abbrev pub scheme_or : Option Url → Option (List ℕ) → List ℕ

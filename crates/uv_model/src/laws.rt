@@ -1,6 +1,7 @@
 //! Laws over the definitions, each as the clause of a function that does nothing.
 ghost use Rattle.uv_model.specs.Address.{AreLibraryTexts};
 ghost use Rattle.uv_model.specs.AddressRows.{AddressParserRows};
+ghost use Rattle.uv_model.specs.CutLaws.{EveryTextHasOneCut};
 ghost use Rattle.uv_model.specs.HostParser.{DomainsAreParsed, EmptyHostIsParsed, Ipv4HostsAreParsed, Ipv6HostsAreParsed, OpaqueHostsAreParsed};
 ghost use Rattle.uv_model.specs.Ipv4Parser.{Ipv4TextsAreParsed};
 ghost use Rattle.uv_model.specs.Ipv6Parser.{Ipv6TextsAreParsed};
@@ -9,6 +10,11 @@ ghost use Rattle.uv_model.specs.Laws.{UnitsAreFaultless};
 /// A text is a concatenation of URL units exactly where no code point of it is a fault of units.
 pub fn units_are_faultless()
     ensures { UnitsAreFaultless }
+{}
+
+/// Every text has, against every base, exactly one cut into the texts of its parts.
+pub fn every_text_has_one_cut()
+    ensures { EveryTextHasOneCut }
 {}
 
 /// The texts of IPv4 and IPv6 addresses are those of the standard library's grammar, with the same values (URL Standard,
