@@ -2,6 +2,7 @@ pub mod AddressLemmas
 pub mod AddressRows
 pub mod AsciiLemmas
 pub mod AuthorityCutLemmas
+pub mod Computing
 pub mod CutLemmas
 pub mod DenotedRecords
 pub mod DomainLemmas
@@ -17,6 +18,8 @@ pub mod LastLabelLemmas
 pub mod MarkLemmas
 pub mod PathLemmas
 pub mod RefusalLemmas
+pub mod Rows
+pub mod RowsLemmas
 pub mod SchemeCutLemmas
 pub mod SchemeLemmas
 pub mod Steps

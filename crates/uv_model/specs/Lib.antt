@@ -18,6 +18,7 @@ pub mod OpaqueHostComplaint
 pub mod Parts
 pub mod Path
 pub mod Refusal
+pub mod Rows
 pub mod Rule
 pub mod Run
 pub mod Scheme

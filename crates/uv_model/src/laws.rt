@@ -6,6 +6,14 @@ ghost use Rattle.uv_model.specs.HostParser.{DomainsAreParsed, EmptyHostIsParsed,
 ghost use Rattle.uv_model.specs.Ipv4Parser.{Ipv4TextsAreParsed};
 ghost use Rattle.uv_model.specs.Ipv6Parser.{Ipv6TextsAreParsed};
 ghost use Rattle.uv_model.specs.Laws.{UnitsAreFaultless};
+ghost use Rattle.uv_model.specs.Rows.File.{FileRows};
+ghost use Rattle.uv_model.specs.Rows.Hosts.{HostRows};
+ghost use Rattle.uv_model.specs.Rows.Machine.{MachineRows};
+ghost use Rattle.uv_model.specs.Rows.OpaquePaths.{OpaquePathRows};
+ghost use Rattle.uv_model.specs.Rows.Other.{OtherRows};
+ghost use Rattle.uv_model.specs.Rows.References.{ReferenceRows};
+ghost use Rattle.uv_model.specs.Rows.SilentRefusals.{SilentRefusalRows};
+ghost use Rattle.uv_model.specs.Rows.Special.{SpecialRows};
 
 /// A text is a concatenation of URL units exactly where no code point of it is a fault of units.
 pub fn units_are_faultless()
@@ -65,4 +73,43 @@ pub fn opaque_hosts_are_parsed()
 /// For a URL that isn't special the host parser makes of the empty text the empty host (URL Standard, section 3.5).
 pub fn empty_host_is_parsed()
     ensures { EmptyHostIsParsed }
+
+/// What the parser machine does on one text for each way in which it stops or is done (URL Standard, section 4.4).
+pub fn machine_rows()
+    ensures { MachineRows }
+{}
+
+/// What the parser machine does on texts with an opaque path, and before its first step (URL Standard, section 4.4).
+pub fn opaque_path_rows()
+    ensures { OpaquePathRows }
+{}
+
+/// What the parser machine does on texts with a special scheme other than file (URL Standard, section 4.4).
+pub fn special_rows()
+    ensures { SpecialRows }
+{}
+
+/// What the parser machine, with its host parser, does on texts with domains and addresses (URL Standard, section 3.5).
+pub fn host_rows()
+    ensures { HostRows }
+{}
+
+/// What the parser machine does on texts with a scheme that isn't special and a `/` behind it (URL Standard, section 4.4).
+pub fn other_rows()
+    ensures { OtherRows }
+{}
+
+/// What the parser machine does on texts with the scheme file (URL Standard, section 4.4).
+pub fn file_rows()
+    ensures { FileRows }
+{}
+
+/// What the parser machine does on texts against a base (URL Standard, section 4.4).
+pub fn reference_rows()
+    ensures { ReferenceRows }
+{}
+
+/// On these texts the parser machine is done, although the standard profile refuses them.
+pub fn silent_refusal_rows()
+    ensures { SilentRefusalRows }
 {}

@@ -1,0 +1,9 @@
+-- The rows of specs/Rows hold, each by computation.
+pub mod File
+pub mod Hosts
+pub mod Machine
+pub mod OpaquePaths
+pub mod Other
+pub mod References
+pub mod SilentRefusals
+pub mod Special

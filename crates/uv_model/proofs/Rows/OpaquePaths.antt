@@ -1,0 +1,20 @@
+-- The rows of specs/Rows/OpaquePaths hold, by computation.
+use Rattle.std.specs.Prelude.{refl}
+use Rattle.uv_model.specs.Rows.{AllHold}
+use Rattle.uv_model.specs.Rows.OpaquePaths.{OpaquePathRows, opaque_rows, removed_rows}
+use Rattle.uv_model.proofs.Computing.{parser}
+use Rattle.uv_model.proofs.RowsLemmas.{all_hold}
+
+-- each row of the table, by computation
+opaque_rows_hold : AllHold opaque_rows
+unfolding parser
+opaque_rows_hold = all_hold opaque_rows refl
+
+-- each row of the table, by computation
+removed_rows_hold : AllHold removed_rows
+unfolding parser
+removed_rows_hold = all_hold removed_rows refl
+
+-- each table
+pub opaque_path_rows_hold : OpaquePathRows
+opaque_path_rows_hold = (opaque_rows_hold, removed_rows_hold)

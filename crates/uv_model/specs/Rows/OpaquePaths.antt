@@ -1,0 +1,49 @@
+-- Runs on texts with an opaque path, and the test before the first step (URL Standard, section 4.4).
+use Rattle.std.specs.Prelude.{List, [], ◌∷◌}
+use Rattle.uv_model.specs.Rows.{Row, AllHold, done, stops, within, unfinished, opaque, with_query, with_fragment}
+
+-- a scheme that isn't special, and no `/` behind it
+abbrev pub opaque_rows : List Row
+opaque_rows =
+    done "urn:isbn:0451450523" (opaque "urn" "isbn:0451450523") "urn:isbn:0451450523"
+    ∷ done "foo:" (opaque "foo" "") "foo:"
+    ∷ done "foo:?" (with_query "" (opaque "foo" "")) "foo:?"
+    ∷ done "foo:#" (with_fragment "" (opaque "foo" "")) "foo:#"
+    ∷ done "foo:?#" (with_query "" (with_fragment "" (opaque "foo" ""))) "foo:?#"
+    ∷ done "urn:é?x'y#'" (with_query "x'y" (with_fragment "'" (opaque "urn" "%C3%A9"))) "urn:%C3%A9?x'y#'"
+    ∷ done "urn:\u{10fffd}" (opaque "urn" "%F4%8F%BF%BD") "urn:%F4%8F%BF%BD"
+    ∷ done "urn:%e9" (opaque "urn" "%e9") "urn:%e9"
+    ∷ done "urn:a/b//../c" (opaque "urn" "a/b//../c") "urn:a/b//../c"
+    ∷ done "blob:https://h/x" (opaque "blob" "https://h/x") "blob:https://h/x"
+    ∷ done "UrN+a-1.B:X" (opaque "urn+a-1.b" "X") "urn+a-1.b:X"
+    ∷ done "a:?b?/c#d?/é" (with_query "b?/c" (with_fragment "d?/%C3%A9" (opaque "a" ""))) "a:?b?/c#d?/%C3%A9"
+    ∷ stops "urn:a b" 5
+    ∷ stops "urn:%4" 4
+    ∷ stops "urn:\u{fffe}" 4
+    ∷ stops "urn:\u{10fffe}" 4
+    ∷ stops "urn:a\\" 5
+    ∷ stops "urn:a?b c" 7
+    ∷ stops "urn:a#b\u{7f}" 7
+    ∷ stops "urn:a#b#c" 7
+    ∷ []
+
+-- Before the first step: a C0 control or a space at either end, and a tab, LF or CR wherever it stands.
+abbrev pub removed_rows : List Row
+removed_rows =
+    stops "" 0
+    ∷ within 0 (stops " " 0)
+    ∷ within 0 (stops "urn:a " 5)
+    ∷ within 0 (stops "\u{1f}urn:a" 0)
+    ∷ within 0 (stops "urn:a\0" 5)
+    ∷ within 0 (stops "u\tn:a " 1)
+    ∷ within 0 (stops "urn:\na" 4)
+    ∷ within 0 (stops "urn:a#\rb" 6)
+    ∷ unfinished "urn:\u{1}a" 0
+    ∷ stops "urn:\u{1}a" 4
+    ∷ unfinished "urn: a" 0
+    ∷ stops "urn: a" 4
+    ∷ []
+
+-- what the parser does on these texts
+abbrev pub OpaquePathRows : Type 0
+OpaquePathRows = AllHold opaque_rows × AllHold removed_rows
