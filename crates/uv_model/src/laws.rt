@@ -73,6 +73,7 @@ pub fn opaque_hosts_are_parsed()
 /// For a URL that isn't special the host parser makes of the empty text the empty host (URL Standard, section 3.5).
 pub fn empty_host_is_parsed()
     ensures { EmptyHostIsParsed }
+{}
 
 /// What the parser machine does on one text for each way in which it stops or is done (URL Standard, section 4.4).
 pub fn machine_rows()
