@@ -21,8 +21,13 @@ pub mod RefusalLemmas
 pub mod Rows
 pub mod RowsLemmas
 pub mod SchemeCutLemmas
+pub mod Looping
 pub mod SchemeLemmas
+pub mod SchemeStretch
 pub mod Steps
 pub mod UnitComplaintLemmas
+pub mod Tails
+pub mod UnitsAhead
 pub mod UnitsLemmas
 pub mod WellFormedLemmas
+pub mod Unremoved

@@ -154,6 +154,38 @@ module _ (base : Option Url) where
         leads_step base text _ 0 _ _ one (leads_none base text (Done h₁.url));
   }
 
+  -- a step past one code point, and behind it the end
+  pub ends_step : {s : State} {h : Held} {c : ℕ} {rest : List ℕ} {s₁ : State} {h₁ : Held} {k : ℕ} {url : Url}
+      → ((p : ℕ) → turn base s p h (c ∷ rest) ≡ onward s₁ h₁)
+      → Ends base s₁ h₁ rest k url → Ends base s h (c ∷ rest) (suc k) url
+  ends_step {s} {h} {c} {rest} {s₁} {h₁} {k} {url} row last = record {
+    goes = λ text p e.
+        let one : step base text (record { state = s; pointer = p; held = h }) ≡ at s₁ (p + 1) h₁
+        = step_at base text s p h (c ∷ rest) e ∙ ap (settle p (c ∷ rest)) (row p) in
+        leads_step base text _ k _ _ one (last.goes text (p + 1) (drop_one text p c rest e));
+  }
+
+  -- a step that stays at its place, and behind it the end
+  pub ends_again : {s : State} {h : Held} {rest : List ℕ} {s₁ : State} {h₁ : Held} {k : ℕ} {url : Url}
+      → ((p : ℕ) → turn base s p h rest ≡ again s₁ h₁) → Ends base s₁ h₁ rest k url → Ends base s h rest (suc k) url
+  ends_again {s} {h} {rest} {s₁} {h₁} {k} {url} row last = record {
+    goes = λ text p e.
+        let one : step base text (record { state = s; pointer = p; held = h }) ≡ at s₁ p h₁
+        = step_at base text s p h rest e ∙ ap (settle p rest) (row p) in
+        leads_step base text _ k _ _ one (last.goes text p e);
+  }
+
+  -- a step past two code points, and behind it the end
+  pub ends_past_two : {s : State} {h : Held} {c d : ℕ} {rest : List ℕ} {s₁ : State} {h₁ : Held} {k : ℕ} {url : Url}
+      → ((p : ℕ) → turn base s p h (c ∷ d ∷ rest) ≡ from_place (p + 2) s₁ h₁)
+      → Ends base s₁ h₁ rest k url → Ends base s h (c ∷ d ∷ rest) (suc k) url
+  ends_past_two {s} {h} {c} {d} {rest} {s₁} {h₁} {k} {url} row last = record {
+    goes = λ text p e.
+        let one : step base text (record { state = s; pointer = p; held = h }) ≡ at s₁ (p + 2) h₁
+        = step_at base text s p h (c ∷ d ∷ rest) e ∙ ap (settle p (c ∷ d ∷ rest)) (row p) in
+        leads_step base text _ k _ _ one (last.goes text (p + 2) (drop_two text p c d rest e));
+  }
+
   -- a law, and behind it the end
   pub ends_after : {s : State} {h : Held} {before : List ℕ} {j : ℕ}
       {s₁ : State} {h₁ : Held} {after : List ℕ} {k : ℕ} {url : Url}

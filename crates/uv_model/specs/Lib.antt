@@ -24,6 +24,7 @@ pub mod Run
 pub mod Scheme
 pub mod Serialize
 pub mod UnitComplaint
+pub mod Silent
 pub mod Units
 pub mod Url
 pub mod Valid

@@ -1,0 +1,44 @@
+-- Units where more text follows them, as the parser machine's states look ahead: what is no fault in a text is none
+-- with more behind it, and `#` is a fault wherever it stands.
+use Rattle.std.proofs.Common.{◌≡◌, ℕ, Bool, true, false, inl, inr, ◌&&◌, ◌==◌, List, [], ◌∷◌, ◌++◌, refl, ap, ◌∙◌, subst, arith}
+use Rattle.std.specs.Prelude.{if◌then◌else◌}
+use Rattle.std.specs.Char.{is_ascii_hexdigit}
+use Rattle.std.proofs.lemmas.Bool.{false≢true, cases_Bool, and_parts, eqb-true}
+use Rattle.std.proofs.lemmas.Bool.Decides.{nat_tests}
+use Rattle.uv_model.specs.Ascii.{slash, question_mark, number_sign, percent_sign}
+use Rattle.uv_model.specs.Path.{is_without}
+use Rattle.uv_model.specs.Units.{is_url_code_point, starts_with_two_hex, is_unit_at}
+
+-- two hex digits stay with more text behind them
+two_hex_ahead : (xs ys : List ℕ) → starts_with_two_hex xs ≡ true → starts_with_two_hex (xs ++ ys) ≡ true
+two_hex_ahead [] ys ok = absurd (false≢true ok)
+two_hex_ahead (high ∷ []) ys ok = absurd (false≢true ok)
+two_hex_ahead (high ∷ low ∷ rest) ys ok = ok
+
+-- what is no fault in a text is none with more text behind it
+pub is_unit_at-ahead : (c : ℕ) (xs ys : List ℕ) → is_unit_at c xs ≡ true → is_unit_at c (xs ++ ys) ≡ true
+unfolding is_unit_at
+is_unit_at-ahead c xs ys ok =
+    elim (cases_Bool (c == percent_sign)) [
+      | inl same ↦ rw same (two_hex_ahead xs ys (rw same at ok))
+      | inr other ↦ rw other (rw other at ok)
+    ]
+
+-- `#` is always a fault
+pub unit_not_number_sign : (c : ℕ) (rest : List ℕ) → is_unit_at c rest ≡ true → (c == number_sign) ≡ false
+unfolding is_unit_at is_url_code_point
+unit_not_number_sign c rest ok =
+    elim (cases_Bool (c == number_sign)) [
+      | inl same ↦ absurd (false≢true (rw (eqb-true c number_sign same) at ok))
+      | inr other ↦ other
+    ]
+
+-- a text without a mark begins with another code point, and goes on without the mark
+pub without_parts : (mark c : ℕ) (cs : List ℕ) → is_without mark (c ∷ cs) ≡ true
+    → ((c == mark) ≡ false) × (is_without mark cs ≡ true)
+without_parts mark c cs without =
+    let parts = and_parts (if c == mark then false else true) (is_without mark cs) without in
+    elim (cases_Bool (c == mark)) [
+      | inl same ↦ absurd (false≢true (rw same at parts.0))
+      | inr other ↦ (other, parts.1)
+    ]

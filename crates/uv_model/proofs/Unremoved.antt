@@ -1,0 +1,97 @@
+-- The test before the parser machine's first step: a text of which each code point is above U+0020 passes it, and the
+-- code points of the parts of a valid text are.
+use Rattle.std.proofs.Common.{◌≡◌, ℕ, ◌+◌, ◌<◌, Bool, true, false, ◌&&◌, ◌||◌, ◌==◌, List, [], ◌∷◌, ◌++◌, Option, Some, None, inl, inr, refl, ap, ◌∙◌, arith}
+use Rattle.std.specs.Prelude.{nat_lt}
+use Rattle.std.specs.List.{list_all}
+use Rattle.std.specs.Char.{is_ascii_alphabetic}
+use Rattle.std.proofs.lemmas.Bool.{false≢true, cases_Bool, and_parts, and_from, eqb-true}
+use Rattle.std.proofs.lemmas.Bool.Decides.{nat_tests}
+use Rattle.std.proofs.lemmas.List.Folds.{list_all-append}
+use Rattle.uv_model.specs.Ascii.{percent_sign, question_mark, number_sign}
+use Rattle.uv_model.specs.Parts.{written_behind}
+use Rattle.uv_model.specs.Scheme.{is_scheme, is_scheme_code_point}
+use Rattle.uv_model.specs.Units.{is_url_code_point, is_unit_at, is_faultless}
+use Rattle.uv_model.specs.Valid.{MayBeUnits}
+use Rattle.uv_model.specs.Run.{is_removed, removed_behind, first_removed}
+use Rattle.uv_model.proofs.UnitsLemmas.{is_faultless-units}
+
+-- a code point above U+0020, which is never removed
+abbrev pub is_kept : ℕ → Bool
+is_kept c = nat_lt 0x20 c
+
+-- wherever it stands, such a code point stays
+is_removed-kept : (at_border : Bool) (c : ℕ) → is_kept c ≡ true → is_removed at_border c ≡ false
+is_removed-kept true c kept = grind (arith, nat_tests)
+is_removed-kept false c kept = grind (arith, nat_tests)
+
+removed_behind-kept : (p : ℕ) (text : List ℕ) → list_all is_kept text ≡ true → removed_behind p text ≡ None
+removed_behind-kept p [] kept = refl
+removed_behind-kept p (c ∷ []) kept = rw (is_removed-kept true c (and_parts (is_kept c) true kept).0) refl
+removed_behind-kept p (c ∷ d ∷ rest) kept =
+    let parts = and_parts (is_kept c) (list_all is_kept (d ∷ rest)) kept in
+    rw (is_removed-kept false c parts.0) (removed_behind-kept (p + 1) (d ∷ rest) parts.1)
+
+-- a text of such code points passes the test
+pub first_removed-kept : (text : List ℕ) → list_all is_kept text ≡ true → first_removed text ≡ None
+unfolding first_removed
+first_removed-kept [] kept = refl
+first_removed-kept (c ∷ rest) kept =
+    let parts = and_parts (is_kept c) (list_all is_kept rest) kept in
+    rw (is_removed-kept true c parts.0) (removed_behind-kept 1 rest parts.1)
+
+-- ---- the parts of a valid text
+
+kept_url : (c : ℕ) → is_url_code_point c ≡ true → is_kept c ≡ true
+unfolding is_url_code_point
+kept_url c url = grind (arith, nat_tests)
+
+kept_unit_at : (c : ℕ) (rest : List ℕ) → is_unit_at c rest ≡ true → is_kept c ≡ true
+unfolding is_unit_at
+kept_unit_at c rest ok =
+    elim (cases_Bool (c == percent_sign)) [
+      | inl same ↦ rw (eqb-true c percent_sign same) refl
+      | inr other ↦ kept_url c (rw other at ok)
+    ]
+
+-- a text without a fault of units
+pub kept_faultless : (text : List ℕ) → is_faultless text ≡ true → list_all is_kept text ≡ true
+kept_faultless [] none = refl
+kept_faultless (c ∷ rest) none =
+    let parts = and_parts (is_unit_at c rest) (is_faultless rest) none in
+    and_from _ _ (kept_unit_at c rest parts.0) (kept_faultless rest parts.1)
+
+kept_scheme_code_point : (c : ℕ) → is_scheme_code_point c ≡ true → is_kept c ≡ true
+kept_scheme_code_point c ok = grind (arith, nat_tests)
+
+kept_scheme_rest : (text : List ℕ) → list_all is_scheme_code_point text ≡ true → list_all is_kept text ≡ true
+kept_scheme_rest [] ok = refl
+kept_scheme_rest (c ∷ rest) ok =
+    let parts = and_parts (is_scheme_code_point c) (list_all is_scheme_code_point rest) ok in
+    and_from _ _ (kept_scheme_code_point c parts.0) (kept_scheme_rest rest parts.1)
+
+kept_letter : (c : ℕ) → is_ascii_alphabetic c ≡ true → is_kept c ≡ true
+kept_letter c ok = grind (arith, nat_tests)
+
+-- a scheme
+pub kept_scheme : (text : List ℕ) → is_scheme text ≡ true → list_all is_kept text ≡ true
+kept_scheme [] ok = refl
+kept_scheme (c ∷ rest) ok =
+    let parts = and_parts (is_ascii_alphabetic c) (list_all is_scheme_code_point rest) ok in
+    and_from _ _ (kept_letter c parts.0) (kept_scheme_rest rest parts.1)
+
+-- one text behind another
+pub kept_append : (xs ys : List ℕ) → list_all is_kept xs ≡ true → list_all is_kept ys ≡ true
+    → list_all is_kept (xs ++ ys) ≡ true
+kept_append xs ys first second = list_all-append is_kept xs ys ∙ and_from _ _ first second
+
+-- a query and a fragment, each behind its mark
+pub kept_tail : (query fragment : Option (List ℕ)) → MayBeUnits query → MayBeUnits fragment
+    → list_all is_kept (written_behind question_mark query ++ written_behind number_sign fragment) ≡ true
+kept_tail None None query_units fragment_units = refl
+kept_tail None (Some fragment) query_units fragment_units =
+    kept_faultless fragment (is_faultless-units fragment fragment_units)
+kept_tail (Some query) None query_units fragment_units =
+    kept_append query [] (kept_faultless query (is_faultless-units query query_units)) refl
+kept_tail (Some query) (Some fragment) query_units fragment_units =
+    kept_append query (number_sign ∷ fragment) (kept_faultless query (is_faultless-units query query_units))
+    (kept_faultless fragment (is_faultless-units fragment fragment_units))
