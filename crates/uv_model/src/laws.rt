@@ -14,10 +14,17 @@ ghost use Rattle.uv_model.specs.Rows.Other.{OtherRows};
 ghost use Rattle.uv_model.specs.Rows.References.{ReferenceRows};
 ghost use Rattle.uv_model.specs.Rows.SilentRefusals.{SilentRefusalRows};
 ghost use Rattle.uv_model.specs.Rows.Special.{SpecialRows};
+ghost use Rattle.uv_model.specs.Silent.{OpaqueTextsRunSilently};
 
 /// A text is a concatenation of URL units exactly where no code point of it is a fault of units.
 pub fn units_are_faultless()
     ensures { UnitsAreFaultless }
+{}
+
+/// On every valid text with an opaque path, against every base and none, the URL parser runs to its end with no
+/// validation error and no failure, and gives exactly the URL that the text's parts denote (URL Standard, section 4.4).
+pub fn opaque_texts_run_silently()
+    ensures { OpaqueTextsRunSilently }
 {}
 
 /// Every text has, against every base, exactly one cut into the texts of its parts.
