@@ -1,5 +1,6 @@
 pub mod AddressLemmas
 pub mod AddressRows
+pub mod AddressUniqueness
 pub mod AsciiLemmas
 pub mod AuthorityCutLemmas
 pub mod Computing

@@ -3,6 +3,7 @@ ghost use Rattle.uv_model.specs.Address.{AreLibraryTexts};
 ghost use Rattle.uv_model.specs.AddressRows.{AddressParserRows};
 ghost use Rattle.uv_model.specs.CutLaws.{EveryTextHasOneCut};
 ghost use Rattle.uv_model.specs.HostParser.{DomainsAreParsed, EmptyHostIsParsed, Ipv4HostsAreParsed, Ipv6HostsAreParsed, OpaqueHostsAreParsed};
+ghost use Rattle.uv_model.specs.HostText.{AddressesAreReadBack};
 ghost use Rattle.uv_model.specs.Ipv4Parser.{Ipv4TextsAreParsed};
 ghost use Rattle.uv_model.specs.Ipv6Parser.{Ipv6TextsAreParsed};
 ghost use Rattle.uv_model.specs.Laws.{UnitsAreFaultless};
@@ -120,4 +121,10 @@ pub fn reference_rows()
 /// On these texts the parser machine is done, although the standard profile refuses them.
 pub fn silent_refusal_rows()
     ensures { SilentRefusalRows }
+{}
+
+/// What the host serializer writes for an address denotes that address, and no two addresses have one text (URL
+/// Standard, sections 3.4 and 3.6).
+pub fn addresses_are_read_back()
+    ensures { AddressesAreReadBack }
 {}
