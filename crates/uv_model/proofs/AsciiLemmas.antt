@@ -1,5 +1,5 @@
 -- Texts of ASCII code points, whose bytes are their code points.
-use Rattle.std.proofs.Common.{◌≡◌, ℕ, ◌<◌, true, List, [], ◌∷◌, ◌∙◌, sym, arith}
+use Rattle.std.proofs.Common.{◌≡◌, ℕ, ◌<◌, Bool, true, false, ◌==◌, length, List, [], ◌∷◌, ◌∙◌, refl, sym, arith}
 use Rattle.std.specs.List.{list_all}
 use Rattle.std.specs.Char.{is_ascii}
 use Rattle.std.specs.Str.{IsAscii, IsUtf8, chars}
@@ -17,3 +17,8 @@ IsAscii-from_test (c ∷ rest) passes =
 -- ASCII code points are the bytes
 pub chars-from_IsAscii : (bytes : List ℕ) → IsUtf8 bytes → IsAscii (chars bytes) → chars bytes ≡ bytes
 chars-from_IsAscii bytes utf8 ascii = sym (encodes-IsAscii (chars bytes) ascii) ∙ encodes-chars bytes utf8
+
+-- the first code point of a text that isn't empty, and the others
+pub first_of : (text : List ℕ) → (length text == 0) ≡ false → (first : ℕ) × (rest : List ℕ) × (text ≡ first ∷ rest)
+first_of [] some = absurd cc
+first_of (c ∷ rest) some = (c, rest, refl)

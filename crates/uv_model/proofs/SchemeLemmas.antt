@@ -9,7 +9,7 @@ use Rattle.std.proofs.lemmas.Slice.Eq.{bytes_eq-Decides}
 use Rattle.std.proofs.lemmas.Str.{chars-IsAscii}
 use Rattle.std.proofs.lemmas.Str.Ascii.{IsAscii-nil, IsAscii-cons, lowercase-lowercase}
 use Rattle.uv_model.specs.Scheme.{default_port, is_lowercase_ascii, is_scheme, is_scheme_code_point, lowercase, scheme_class}
-use Rattle.uv_model.proofs.AsciiLemmas.{chars-from_IsAscii}
+use Rattle.uv_model.proofs.AsciiLemmas.{IsAscii-from_test, chars-from_IsAscii}
 
 -- a code point that is ASCII in lower case is ASCII
 ascii_code_point : (c d : ℕ) → to_ascii_lowercase c ≡ d → is_ascii d ≡ true → c < 128
@@ -105,3 +105,29 @@ default_port-lowercase scheme = rw (lowercase_twice scheme) refl
 pub scheme_class-lowercase : (scheme : List ℕ) → scheme_class (lowercase scheme) ≡ scheme_class scheme
 unfolding scheme_class
 scheme_class-lowercase scheme = rw (lowercase_twice scheme, default_port-lowercase scheme) refl
+
+-- ---- schemes by bytes
+
+-- a code point of a scheme is ASCII
+scheme_first-ascii : (c : ℕ) → is_ascii_alphabetic c ≡ true → is_ascii c ≡ true
+scheme_first-ascii c letter = grind (arith, nat_tests)
+
+scheme_code_point-ascii : (c : ℕ) → is_scheme_code_point c ≡ true → is_ascii c ≡ true
+scheme_code_point-ascii c passes = grind (arith, nat_tests)
+
+scheme_rest-ascii : (rest : List ℕ) → list_all is_scheme_code_point rest ≡ true → list_all is_ascii rest ≡ true
+scheme_rest-ascii [] passes = refl
+scheme_rest-ascii (c ∷ rest) passes =
+    let parts = and_parts (is_scheme_code_point c) (list_all is_scheme_code_point rest) passes in
+    and_from _ _ (scheme_code_point-ascii c parts.0) (scheme_rest-ascii rest parts.1)
+
+-- a scheme is ASCII
+pub is_ascii-scheme : (scheme : List ℕ) → is_scheme scheme ≡ true → list_all is_ascii scheme ≡ true
+is_ascii-scheme [] is = refl
+is_ascii-scheme (c ∷ rest) is =
+    let parts = and_parts (is_ascii_alphabetic c) (list_all is_scheme_code_point rest) is in
+    and_from _ _ (scheme_first-ascii c parts.0) (scheme_rest-ascii rest parts.1)
+
+-- the code points of a scheme are its bytes
+pub chars-scheme : (scheme : List ℕ) → is_scheme scheme ≡ true → chars scheme ≡ scheme
+chars-scheme scheme is = chars-IsAscii scheme (IsAscii-from_test scheme (is_ascii-scheme scheme is))

@@ -24,8 +24,8 @@ pub mod Rule
 pub mod Run
 pub mod Scheme
 pub mod Serialize
-pub mod UnitComplaint
 pub mod Silent
+pub mod UnitComplaint
 pub mod Units
 pub mod Url
 pub mod Valid

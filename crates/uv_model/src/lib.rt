@@ -2,6 +2,7 @@
 #![tactic(auto)]
 
 mod adapters;
+mod ascii_units;
 mod device;
 mod domain;
 mod host;
@@ -14,6 +15,9 @@ mod scheme;
 mod segments;
 mod text;
 mod units;
+mod url_hosts;
+mod url_paths;
+mod well_formedness;
 
 pub use adapters::ToWriter;
 pub use device::{DeviceFault, Sink, write_whole};
@@ -27,3 +31,4 @@ pub use scheme::{Class, class_of, default_port, is_name};
 pub use segments::{is_double_dot, is_drive_letter, is_normalized_drive_letter, is_single_dot};
 pub use text::{Text, TextList};
 pub use units::is_url_code_point;
+pub use well_formedness::well_formed;

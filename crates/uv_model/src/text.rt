@@ -1,6 +1,6 @@
 //! The texts of a record, which are ASCII.
 ghost use Rattle.std.specs.Prelude.{◌≡◌, string_bytes};
-ghost use Rattle.std.specs.Str.{IsAscii};
+ghost use Rattle.std.specs.Str.{IsAscii, chars};
 
 use std::marker::Model;
 
@@ -34,6 +34,7 @@ impl Text {
     pub fn as_str(&self) -> &str
         ensures text { result.now ≡ self.now }
         ensures ascii { IsAscii self.now }
+        ensures code_points { chars result.now ≡ self.now }
     {
         self.inner.as_str()
     }

@@ -1,0 +1,20 @@
+-- An opaque host isn't empty.
+use Rattle.std.proofs.Common.{◌≡◌, ◌==◌, false, length}
+use Rattle.uv_model.specs.WellFormed.{IsAsciiUnits}
+use Rattle.uv_model.proofs.AsciiLemmas.{first_of}
+use Rattle.uv_model.proofs.url_hosts.is_url_opaque_host.Goals as goal
+
+pub returns : goal.returns
+returns c =
+    let text = c.args.text.now in
+    let some : (length text == 0) ≡ false = cc in
+    let parts = first_of text some in
+    let plain : IsAsciiUnits text =
+    rw (c.as_bytes-bytes.ensures.value, c.as_str.ensures.text) at (c.is_ascii_units.ensures.0 c.if-not-is_ascii_units.false)
+    in (
+      λ e. record {
+        host = record { first = parts.0; rest = parts.1; some = parts.2; units = plain.units; permitted = cc };
+        ascii = plain.ascii;
+      },
+      λ is. cc,
+    )

@@ -1,0 +1,121 @@
+//! Whether a host may stand in a record, by the class of the scheme (URL Standard, section 4.1).
+ghost use Rattle.std.specs.List.{list_all};
+ghost use Rattle.std.specs.Prelude.{◌≡◌, ◌↔◌, IsTrue, not, option_copied};
+ghost use Rattle.uv_model.specs.Domain.{is_form_code_point};
+ghost use Rattle.uv_model.specs.OpaqueHost.{is_forbidden_host};
+ghost use Rattle.uv_model.specs.WellFormed.{IsFileHost, IsOtherHost, IsSpecialHost, IsUrlDomain, IsUrlHost, IsUrlOpaqueHost};
+
+use crate::ascii_units::is_ascii_units;
+use crate::domain::ends_in_number;
+use crate::host::Host;
+use crate::scheme::Class;
+use crate::text::Text;
+
+/// Whether a URL of this class may have the host, or be without one.
+pub fn is_url_host(kind: Class, host: Option<&Host>) -> bool
+    ensures { IsTrue result ↔ IsUrlHost kind (option_copied host.entry) }
+{
+    match kind {
+        Class::Special => is_special_host(host),
+        Class::File => is_file_host(host),
+        Class::Other => is_other_host(host),
+    }
+}
+
+fn is_special_host(host: Option<&Host>) -> bool
+    ensures { IsTrue result ↔ IsSpecialHost (option_copied host.entry) }
+{
+    match host {
+        Some(Host::Domain(form)) => is_url_domain(form),
+        Some(Host::V4(_)) => true,
+        Some(Host::V6(_)) => true,
+        Some(Host::Opaque(_)) => false,
+        Some(Host::Empty) => false,
+        None => false,
+    }
+}
+
+fn is_file_host(host: Option<&Host>) -> bool
+    ensures { IsTrue result ↔ IsFileHost (option_copied host.entry) }
+{
+    match host {
+        Some(Host::Domain(form)) => {
+            if form.as_str() == "localhost" {
+                return false;
+            }
+            is_url_domain(form)
+        }
+        Some(Host::V4(_)) => true,
+        Some(Host::V6(_)) => true,
+        Some(Host::Opaque(_)) => false,
+        Some(Host::Empty) => true,
+        None => false,
+    }
+}
+
+fn is_other_host(host: Option<&Host>) -> bool
+    ensures { IsTrue result ↔ IsOtherHost (option_copied host.entry) }
+{
+    match host {
+        Some(Host::Domain(_)) => false,
+        Some(Host::V4(_)) => false,
+        Some(Host::V6(_)) => true,
+        Some(Host::Opaque(text)) => is_url_opaque_host(text),
+        Some(Host::Empty) => true,
+        None => true,
+    }
+}
+
+fn is_url_domain(form: &Text) -> bool
+    ensures { IsTrue result ↔ IsUrlDomain form.now }
+{
+    let text = form.as_str();
+    if text.is_empty() {
+        return false;
+    }
+    if ends_in_number(text) {
+        return false;
+    }
+    has_form_bytes(text.as_bytes())
+}
+
+fn is_url_opaque_host(text: &Text) -> bool
+    ensures { IsTrue result ↔ IsUrlOpaqueHost text.now }
+{
+    let bytes = text.as_str().as_bytes();
+    if bytes.is_empty() {
+        return false;
+    }
+    if !is_ascii_units(bytes) {
+        return false;
+    }
+    has_permitted_bytes(bytes)
+}
+
+// Lower-case letters, digits, hyphens and full stops.
+fn has_form_bytes(text: &[u8]) -> bool
+    ensures { result ≡ list_all is_form_code_point text.now }
+{
+    text.iter().all(|byte| byte.is_ascii_lowercase()
+        || byte.is_ascii_digit()
+        || *byte == b'-'
+        || *byte == b'.')
+}
+
+// No forbidden host code point (URL Standard, section 3.1).
+fn has_permitted_bytes(text: &[u8]) -> bool
+    ensures { result ≡ list_all (λ c. not (is_forbidden_host c)) text.now }
+{
+    text.iter().all(|byte| !is_forbidden_byte(*byte))
+}
+
+#[tactic(auto, using(std::proofs::lemmas::Bool::Decides::nat_tests))]
+fn is_forbidden_byte(byte: u8) -> bool
+    ensures { result ≡ is_forbidden_host byte }
+{
+    match byte {
+        0 | 9 | 10 | 13 | b' ' | b'#' | b'/' | b':' | b'<' => true,
+        b'>' | b'?' | b'@' | b'[' | b'\\' | b']' | b'^' | b'|' => true,
+        _ => false,
+    }
+}

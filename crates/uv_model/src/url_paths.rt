@@ -1,0 +1,114 @@
+//! Whether a path may stand in a record, by the class of the scheme and the host (URL Standard, section 4.1).
+ghost use Rattle.std.specs.Prelude.{◌≡◌, ◌↔◌, IsTrue, option_copied, true};
+ghost use Rattle.uv_model.specs.Path.{IsSegment, starts_with_slash};
+ghost use Rattle.uv_model.specs.WellFormed.{AreUrlSegments, IsUrlOpaquePath, IsUrlPath, IsUrlSegment, is_ascii_text, may_be_empty};
+
+use crate::ascii_units::{is_ascii_units, is_without};
+use crate::host::Host;
+use crate::path::UrlPath;
+use crate::scheme::Class;
+use crate::segments::{is_double_dot, is_single_dot};
+use crate::text::Text;
+
+/// Whether a URL of this class with this host may have the path.
+pub fn is_url_path(kind: Class, host: Option<&Host>, path: &UrlPath) -> bool
+    ensures { IsTrue result ↔ IsUrlPath kind (option_copied host.entry) path.now }
+{
+    match path {
+        UrlPath::Opaque(text) => {
+            if !may_be_opaque(kind, host) {
+                return false;
+            }
+            is_url_opaque_path(text)
+        }
+        UrlPath::Segments(list) => {
+            let segments = list.as_slice();
+            if segments.is_empty() {
+                return may_be_empty(kind, host);
+            }
+            are_url_segments(segments)
+        }
+    }
+}
+
+// Without segments a URL has to be of class Other and to have a host.
+fn may_be_empty(kind: Class, host: Option<&Host>) -> bool
+    ensures { result ≡ may_be_empty kind (option_copied host.entry) }
+{
+    match kind {
+        Class::Special => false,
+        Class::File => false,
+        Class::Other => host.is_some(),
+    }
+}
+
+// With an opaque path a URL has to be of class Other and to have no host.
+fn may_be_opaque(kind: Class, host: Option<&Host>) -> bool
+    ensures { IsTrue result ↔ ((kind ≡ Class.Other) × (option_copied host.entry ≡ None)) }
+{
+    match kind {
+        Class::Special => false,
+        Class::File => false,
+        Class::Other => host.is_none(),
+    }
+}
+
+fn is_url_opaque_path(text: &Text) -> bool
+    ensures { IsTrue result ↔ IsUrlOpaquePath text.now }
+{
+    let bytes = text.as_str().as_bytes();
+    if !is_ascii_units(bytes) {
+        return false;
+    }
+    if !is_without(b'?', bytes) {
+        return false;
+    }
+    !starts_with_slash(bytes)
+}
+
+fn starts_with_slash(text: &[u8]) -> bool
+    ensures { result ≡ starts_with_slash text.now }
+{
+    match text {
+        [first, ..] => *first == b'/',
+        [] => false,
+    }
+}
+
+fn are_url_segments(segments: &[Text]) -> bool
+    ensures { IsTrue result ↔ AreUrlSegments segments.now }
+{
+    let mut left = segments;
+    while let [segment, rest @ ..] = left {
+        if !is_url_segment(segment) {
+            return false;
+        }
+        left = rest;
+    }
+    true
+}
+
+fn is_url_segment(segment: &Text) -> bool
+    ensures { IsTrue result ↔ IsUrlSegment segment.now }
+{
+    let text = segment.as_str();
+    if !is_ascii_segment(text.as_bytes()) {
+        return false;
+    }
+    if is_single_dot(text) {
+        return false;
+    }
+    !is_double_dot(text)
+}
+
+fn is_ascii_segment(text: &[u8]) -> bool
+    ensures { IsTrue result ↔ (IsSegment text.now × (is_ascii_text text.now ≡ true)) }
+{
+    if !is_ascii_units(text) {
+        return false;
+    }
+    if !is_without(b'/', text) {
+        return false;
+    }
+    is_without(b'?', text)
+}

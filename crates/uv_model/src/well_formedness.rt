@@ -1,0 +1,166 @@
+//! Whether parts make a well-formed record, field by field (URL Standard, section 4.1).
+ghost use Rattle.std.specs.Char.{is_ascii_uppercase};
+ghost use Rattle.std.specs.List.{list_all};
+ghost use Rattle.std.specs.Prelude.{◌≡◌, ◌↔◌, IsTrue, Option, not, option_copied};
+ghost use Rattle.uv_model.specs.Scheme.{default_port, is_scheme, is_scheme_code_point, scheme_class};
+ghost use Rattle.uv_model.specs.Valid.{is_default_port};
+ghost use Rattle.uv_model.specs.WellFormed.{IsUrlFragment, IsUrlPort, IsUrlQuery, IsUrlScheme, WellFormed, takes_port};
+
+use crate::ascii_units::{is_ascii_units, is_without};
+use crate::host::Host;
+use crate::path::UrlPath;
+use crate::scheme::{Class, class_of, default_port};
+use crate::url_hosts::is_url_host;
+use crate::url_paths::is_url_path;
+
+/// Whether these parts make a well-formed record, and so may be given to `Record::make`. A text that isn't ASCII makes
+/// none. It takes no memory.
+pub fn well_formed(
+    scheme: &str,
+    host: Option<&Host>,
+    port: Option<u16>,
+    path: &UrlPath,
+    query: Option<&str>,
+    fragment: Option<&str>,
+) -> bool
+    ensures { IsTrue result ↔ WellFormed (record {
+      scheme = scheme.now;
+      host = option_copied host.entry;
+      port = port;
+      path = path.now;
+      query = option_copied query.entry;
+      fragment = option_copied fragment.entry;
+    }) }
+{
+    if !is_url_scheme(scheme) {
+        return false;
+    }
+    let kind = class_of_url_scheme(scheme);
+    if !is_url_host(kind, host) {
+        return false;
+    }
+    if !is_url_port(scheme, host, port) {
+        return false;
+    }
+    if !is_url_path(kind, host, path) {
+        return false;
+    }
+    if !is_url_query(kind, query) {
+        return false;
+    }
+    is_url_fragment(fragment)
+}
+
+fn is_url_scheme(scheme: &str) -> bool
+    ensures { IsTrue result ↔ IsUrlScheme scheme.now }
+{
+    let bytes = scheme.as_bytes();
+    if !is_scheme(bytes) {
+        return false;
+    }
+    has_no_uppercase(bytes)
+}
+
+// A URL-scheme string (URL Standard, section 4.3).
+fn is_scheme(text: &[u8]) -> bool
+    ensures { result ≡ is_scheme text.now }
+{
+    match text {
+        [first, rest @ ..] => first.is_ascii_alphabetic() && has_scheme_bytes(rest),
+        [] => false,
+    }
+}
+
+fn has_scheme_bytes(text: &[u8]) -> bool
+    ensures { result ≡ list_all is_scheme_code_point text.now }
+{
+    text.iter().all(|byte| byte.is_ascii_alphanumeric()
+        || *byte == b'+'
+        || *byte == b'-'
+        || *byte == b'.')
+}
+
+fn has_no_uppercase(text: &[u8]) -> bool
+    ensures { result ≡ list_all (λ c. not (is_ascii_uppercase c)) text.now }
+{
+    text.iter().all(|byte| !byte.is_ascii_uppercase())
+}
+
+fn class_of_url_scheme(scheme: &str) -> Class
+    requires { IsUrlScheme scheme.now }
+    ensures { result ≡ scheme_class scheme.now }
+{
+    class_of(scheme)
+}
+
+fn default_port_of_url_scheme(scheme: &str) -> Option<u16>
+    requires { IsUrlScheme scheme.now }
+    ensures { result ≡ default_port scheme.now }
+{
+    default_port(scheme)
+}
+
+fn is_url_port(scheme: &str, host: Option<&Host>, port: Option<u16>) -> bool
+    requires { IsUrlScheme scheme.now }
+    ensures { IsTrue result ↔ IsUrlPort scheme.now (option_copied host.entry) port }
+{
+    match port {
+        None => true,
+        Some(port) => {
+            if !takes_port(class_of_url_scheme(scheme), host) {
+                return false;
+            }
+            !is_default_port(scheme, port)
+        }
+    }
+}
+
+// A port may stand behind a host that isn't empty, in a URL whose scheme isn't `file`.
+fn takes_port(kind: Class, host: Option<&Host>) -> bool
+    ensures { result ≡ takes_port kind (option_copied host.entry) }
+{
+    match kind {
+        Class::File => false,
+        Class::Special | Class::Other => match host {
+            None | Some(Host::Empty) => false,
+            Some(_) => true,
+        },
+    }
+}
+
+fn is_default_port(scheme: &str, port: u16) -> bool
+    requires { IsUrlScheme scheme.now }
+    ensures { result ≡ is_default_port scheme.now port }
+{
+    match default_port_of_url_scheme(scheme) {
+        None => false,
+        Some(default) => port == default,
+    }
+}
+
+fn is_url_query(kind: Class, query: Option<&str>) -> bool
+    ensures { IsTrue result ↔ IsUrlQuery kind (option_copied query.entry) }
+{
+    match query {
+        None => true,
+        Some(query) => {
+            let bytes = query.as_bytes();
+            if !is_ascii_units(bytes) {
+                return false;
+            }
+            match kind {
+                Class::Other => true,
+                Class::Special | Class::File => is_without(b'\'', bytes),
+            }
+        }
+    }
+}
+
+fn is_url_fragment(fragment: Option<&str>) -> bool
+    ensures { IsTrue result ↔ IsUrlFragment (option_copied fragment.entry) }
+{
+    match fragment {
+        None => true,
+        Some(fragment) => is_ascii_units(fragment.as_bytes()),
+    }
+}
