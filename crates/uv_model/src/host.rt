@@ -22,6 +22,19 @@ pub enum Host {
 }
 
 impl Host {
+    /// An equal host. An error means that memory ran out.
+    pub fn copy(&self, alloc: Global) -> Result<Host, AllocError>
+        ensures { IfOk result (λ host. host ≡ self.now) }
+    {
+        match self {
+            Host::Domain(form) => Ok(Host::Domain(form.copy(alloc)?)),
+            Host::V4(value) => Ok(Host::V4(*value)),
+            Host::V6(pieces) => Ok(Host::V6(*pieces)),
+            Host::Opaque(text) => Ok(Host::Opaque(text.copy(alloc)?)),
+            Host::Empty => Ok(Host::Empty),
+        }
+    }
+
     /// The host serialized, an IPv6 address in brackets (URL Standard, section 3.6). An error means that memory ran out.
     #[tactic(auto, unfolding(crate::specs::Serialize::serial_host))]
     pub fn text(&self, alloc: Global) -> Result<String, AllocError>

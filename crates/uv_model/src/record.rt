@@ -6,6 +6,7 @@ ghost use Rattle.uv_model.specs.WellFormed.{MayBeAscii, WellFormed};
 use crate::host::Host;
 use crate::path::UrlPath;
 use crate::text::Text;
+use std::alloc::{AllocError, Global};
 use std::marker::Model;
 
 /// A URL's record (URL Standard, section 4.1) without credentials. It is well formed.
@@ -135,6 +136,43 @@ impl Record {
             UrlPath::Opaque(_) => true,
             UrlPath::Segments(_) => false,
         }
+    }
+
+    /// An equal record. An error means that memory ran out.
+    pub fn copy(&self, alloc: Global) -> Result<Record, AllocError>
+        ensures { IfOk result (λ r. r ≡ self.now) }
+    {
+        let scheme = self.scheme.copy(alloc)?;
+        let host = host_copy(alloc, &self.host)?;
+        let path = self.path.copy(alloc)?;
+        let query = text_copy(alloc, &self.query)?;
+        let fragment = text_copy(alloc, &self.fragment)?;
+        Ok(Record {
+            scheme,
+            host,
+            port: self.port,
+            path,
+            query,
+            fragment,
+        })
+    }
+}
+
+fn host_copy(alloc: Global, host: &Option<Host>) -> Result<Option<Host>, AllocError>
+    ensures { IfOk result (λ copy. copy ≡ host.now) }
+{
+    match host {
+        Some(host) => Ok(Some(host.copy(alloc)?)),
+        None => Ok(None),
+    }
+}
+
+fn text_copy(alloc: Global, text: &Option<Text>) -> Result<Option<Text>, AllocError>
+    ensures { IfOk result (λ copy. copy ≡ text.now) }
+{
+    match text {
+        Some(text) => Ok(Some(text.copy(alloc)?)),
+        None => Ok(None),
     }
 }
 

@@ -1,7 +1,8 @@
 //! The texts of a record, which are ASCII.
-ghost use Rattle.std.specs.Prelude.{◌≡◌, string_bytes};
+ghost use Rattle.std.specs.Prelude.{◌≡◌, IfOk, string_bytes};
 ghost use Rattle.std.specs.Str.{IsAscii, chars};
 
+use std::alloc::{AllocError, Global};
 use std::marker::Model;
 
 /// An owned ASCII text. Contracts see its code points, which are its bytes.
@@ -37,6 +38,14 @@ impl Text {
         ensures code_points { chars result.now ≡ self.now }
     {
         self.inner.as_str()
+    }
+
+    /// An equal text. An error means that memory ran out.
+    pub fn copy(&self, alloc: Global) -> Result<Text, AllocError>
+        ensures { IfOk result (λ t. t ≡ self.now) }
+    {
+        let string = String::from_str(alloc, self.as_str())?;
+        Ok(Text::of(string))
     }
 
     /// The string given back, without a copy.
@@ -75,6 +84,18 @@ impl TextList {
         ensures { result.now ≡ self.now }
     {
         self.items.as_slice()
+    }
+
+    /// An equal list. An error means that memory ran out.
+    pub fn copy(&self, alloc: Global) -> Result<TextList, AllocError>
+        ensures { IfOk result (λ list. list ≡ self.now) }
+    {
+        let texts = self.items.as_slice();
+        let mut items = Vec::with_capacity(alloc, texts.len())?;
+        for text in texts {
+            items.push(text.copy(alloc)?)?;
+        }
+        Ok(TextList { items })
     }
 
     /// The texts given back, without a copy.
