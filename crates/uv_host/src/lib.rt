@@ -2,5 +2,7 @@
 #![tactic(auto)]
 
 mod addresses;
+mod domains;
 
 pub use addresses::{ipv4, ipv6};
+pub use domains::{DomainAnswer, domain};

@@ -1,5 +1,5 @@
 -- Valid domains: what a form is, that it is one, and which texts have none.
-use Rattle.std.proofs.Common.{◌≡◌, ◌≢◌, ℕ, suc, ◌<◌, ◌-◌, true, false, not, ◌&&◌, nat_le, List, [], ◌∷◌, length, encode_utf8_all, IsAscii, Option, Some, None, IsSome, refl, sym, ap, ◌∙◌, inl, inr, arith}
+use Rattle.std.proofs.Common.{◌≡◌, ◌≢◌, ℕ, suc, ◌<◌, ◌-◌, true, false, not, ◌&&◌, nat_le, List, [], ◌∷◌, length, chars, encode_utf8_all, IsAscii, Option, Some, None, IsSome, refl, sym, ap, ◌∙◌, inl, inr, arith}
 use Rattle.std.specs.Char.{is_ascii}
 use Rattle.std.specs.Int.{is_in_range}
 use Rattle.std.specs.List.{slice_index, list_all}
@@ -8,7 +8,7 @@ use Rattle.std.proofs.lemmas.Bool.Decides.{nat_tests}
 use Rattle.std.proofs.lemmas.List.Elements.{All-weaker}
 use Rattle.std.proofs.lemmas.List.Sums.{AllPass-from_list_all}
 use Rattle.std.proofs.lemmas.Option.{none-some, same_Some}
-use Rattle.std.proofs.lemmas.Str.{encodes-IsAscii}
+use Rattle.std.proofs.lemmas.Str.{chars-IsAscii, encodes-IsAscii}
 use Rattle.std.proofs.lemmas.Str.Ascii.{IsAscii-from_all}
 use Rattle.idna.specs.declared.deny_list.TheConstants.AsciiDenyList.{STD3, EMPTY}
 use Rattle.idna.specs.declared.options.DnsLength.TheVariants.{Ignore}
@@ -108,6 +108,10 @@ IsAscii-form text form is =
   where
     small : (c : ℕ) → is_form_code_point c ≡ true → c < 128
     small c h = grind (arith, nat_tests)
+
+-- so the number rule may be asked of the form's bytes
+pub ends_in_number-form : (text form : List ℕ) → IsForm text form → ends_in_number (chars form) ≡ ends_in_number form
+ends_in_number-form text form is = ap ends_in_number (chars-IsAscii form (IsAscii-form text form is))
 
 -- ---- what has none
 

@@ -1,0 +1,104 @@
+//! Domains of special URLs (URL Standard, sections 3.3 to 3.5; UTS #46, section 4).
+ghost use Rattle.std.specs.Cow.{cow_str_bytes};
+ghost use Rattle.std.specs.Prelude.{chars, encode_utf8_all, false, IfOk, IsTrue, MatchOption, option_map, true, ◌↔◌, ◌≡◌};
+ghost use Rattle.idna.specs.Uts46.{to_ascii};
+ghost use Rattle.uv_host.specs.Domains.{IsAnswer};
+ghost use Rattle.uv_model.specs.Domain as spec;
+
+use idna::uts46::{DnsLength, Hyphens, Uts46, verify_dns_length};
+use idna::{AsciiDenyList, Errors};
+use std::alloc::{AllocError, Global};
+use std::borrow::CowStr;
+use uv_model::ends_in_number;
+
+/// What a text is as the domain of a special URL.
+#[derive(Debug, Drop)]
+pub enum DomainAnswer {
+    /// A valid domain, with its ASCII form.
+    Ascii(String),
+    /// Not a valid domain, and only since its form ends in a number.
+    Number,
+    /// Not a valid domain, for another cause.
+    Not,
+}
+
+/// Whether the text is a valid domain, and its ASCII form (URL Standard, section 3.3): ToASCII with the strict settings
+/// of UTS #46 and ToASCII with those of the URL parser give the same form, its labels have 1 to 63 code points and the
+/// whole 1 to 253, and it doesn't end in a number. A text with an ASCII code point other than a letter, a digit, `-`
+/// and `.` is none, and that takes no memory. The error is want of memory.
+pub fn domain(alloc: Global, text: &str) -> Result<DomainAnswer, AllocError>
+    ensures answer { IfOk result (IsAnswer (chars text.now)) }
+    ensures refused { spec.has_permitted (chars text.now) ≡ false → result ≡ Ok DomainAnswer.Not }
+{
+    if !has_permitted(text) {
+        return Ok(DomainAnswer::Not);
+    }
+    let Some(form) = form_of(alloc, text)? else {
+        return Ok(DomainAnswer::Not);
+    };
+    if ends_in_number(form.as_str()) {
+        Ok(DomainAnswer::Number)
+    } else {
+        Ok(DomainAnswer::Ascii(form.into_owned(alloc)?))
+    }
+}
+
+/// Whether all ASCII code points of the text are letters, digits, `-` and `.`.
+#[tactic(auto, unfolding(uv_model::specs::Domain::has_permitted))]
+fn has_permitted(text: &str) -> bool
+    ensures { result ≡ spec.has_permitted (chars text.now) }
+{
+    text.chars().all(is_permitted)
+}
+
+/// A code point beyond ASCII, a letter, a digit, `-` or `.`.
+fn is_permitted(c: char) -> bool
+    ensures { result ≡ spec.is_permitted c }
+{
+    !c.is_ascii() || c.is_ascii_alphanumeric() || c == '-' || c == '.'
+}
+
+/// The form of a permitted text, if it has one.
+fn form_of(alloc: Global, text: &str) -> Result<Option<CowStr<'_>>, AllocError>
+    requires { spec.has_permitted (chars text.now) ≡ true }
+    ensures { IfOk result (λ answer. MatchOption answer (spec.HasNoForm (chars text.now))
+        (λ form. spec.IsForm (chars text.now) (cow_str_bytes form))) }
+{
+    let Some(form) = ascii_form(alloc, text, AsciiDenyList::STD3, Hyphens::Check)? else {
+        return Ok(None);
+    };
+    if !verify_dns_length(form.as_str(), true) {
+        return Ok(None);
+    }
+    let Some(parsed) = ascii_form(alloc, text, AsciiDenyList::EMPTY, Hyphens::Allow)? else {
+        return Ok(None);
+    };
+    if is_same(form.as_str(), parsed.as_str()) {
+        Ok(Some(form))
+    } else {
+        Ok(None)
+    }
+}
+
+/// ToASCII (UTS #46, section 4.2), nontransitional, with CheckBidi and CheckJoiners, and no check of the lengths.
+fn ascii_form<'a>(
+    alloc: Global,
+    text: &'a str,
+    deny: AsciiDenyList,
+    hyphens: Hyphens,
+) -> Result<Option<CowStr<'a>>, AllocError>
+    ensures { IfOk result (λ form. option_map cow_str_bytes form
+        ≡ to_ascii deny hyphens DnsLength.Ignore (encode_utf8_all (chars text.now))) }
+{
+    match Uts46::new().to_ascii(alloc, text.as_bytes(), deny, hyphens, DnsLength::Ignore) {
+        Ok(form) => Ok(Some(form)),
+        Err(Errors::Invalid) => Ok(None),
+        Err(Errors::OutOfMemory) => Err(AllocError),
+    }
+}
+
+fn is_same(a: &str, b: &str) -> bool
+    ensures { IsTrue result ↔ (a.now ≡ b.now) }
+{
+    a == b
+}
