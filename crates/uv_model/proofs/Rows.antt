@@ -1,4 +1,5 @@
 -- The rows of specs/Rows hold, each by computation.
+pub mod Denotation
 pub mod File
 pub mod Hosts
 pub mod Machine

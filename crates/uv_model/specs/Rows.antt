@@ -8,6 +8,7 @@ use Rattle.uv_model.specs.declared.path.UrlPath.TheVariants.{Opaque, Segments}
 use Rattle.uv_model.specs.Run.{Outcome, Done, Stopped, Going, run, step_bound}
 use Rattle.uv_model.specs.Serialize.{serial}
 use Rattle.uv_model.specs.Url.{Url}
+pub mod Denotation
 pub mod File
 pub mod Hosts
 pub mod Machine
@@ -34,7 +35,14 @@ listed scheme host port segments =
 -- a URL with an opaque path, without query and fragment
 abbrev pub opaque : Literal → Literal → Url
 opaque scheme path =
-    record { scheme = codes scheme; host = None; port = None; path = Opaque (codes path); query = None; fragment = None }
+    record {
+      scheme = codes scheme;
+      host = None;
+      port = None;
+      path = Opaque (codes path);
+      query = None;
+      fragment = None;
+    }
 
 -- the URL with this query
 abbrev pub with_query : Literal → Url → Url

@@ -7,6 +7,7 @@ ghost use Rattle.uv_model.specs.HostText.{AddressesAreReadBack};
 ghost use Rattle.uv_model.specs.Ipv4Parser.{Ipv4TextsAreParsed};
 ghost use Rattle.uv_model.specs.Ipv6Parser.{Ipv6TextsAreParsed};
 ghost use Rattle.uv_model.specs.Laws.{UnitsAreFaultless};
+ghost use Rattle.uv_model.specs.Rows.Denotation.{DenotationRows};
 ghost use Rattle.uv_model.specs.Rows.File.{FileRows};
 ghost use Rattle.uv_model.specs.Rows.Hosts.{HostRows};
 ghost use Rattle.uv_model.specs.Rows.Machine.{MachineRows};
@@ -103,7 +104,7 @@ pub fn host_rows()
     ensures { HostRows }
 {}
 
-/// What the parser machine does on texts with a scheme that isn't special and a `/` behind it (URL Standard, section 4.4).
+/// What the parser machine does on texts with a scheme that isn't special, followed by `/` (URL Standard, section 4.4).
 pub fn other_rows()
     ensures { OtherRows }
 {}
@@ -127,4 +128,10 @@ pub fn silent_refusal_rows()
 /// Standard, sections 3.4 and 3.6).
 pub fn addresses_are_read_back()
     ensures { AddressesAreReadBack }
+{}
+
+/// What the parts of some texts denote, which is what the parser machine is done with, and what some paths become when
+/// they are shortened or walked (URL Standard, sections 4.1 and 4.4).
+pub fn denotation_rows()
+    ensures { DenotationRows }
 {}

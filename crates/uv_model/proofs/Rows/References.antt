@@ -37,4 +37,5 @@ other_rows_hold = all_hold other_rows refl
 
 -- each table
 pub reference_rows_hold : ReferenceRows
-reference_rows_hold = (http_rows_hold, root_rows_hold, drive_rows_hold, file_host_rows_hold, opaque_rows_hold, other_rows_hold)
+reference_rows_hold =
+    (http_rows_hold, root_rows_hold, drive_rows_hold, file_host_rows_hold, opaque_rows_hold, other_rows_hold)

@@ -37,4 +37,5 @@ drive_rows_hold = all_hold drive_rows refl
 
 -- each table
 pub silent_refusal_rows_hold : SilentRefusalRows
-silent_refusal_rows_hold = (file_rows_hold, host_rows_hold, domain_rows_hold, number_rows_hold, segment_rows_hold, drive_rows_hold)
+silent_refusal_rows_hold =
+    (file_rows_hold, host_rows_hold, domain_rows_hold, number_rows_hold, segment_rows_hold, drive_rows_hold)

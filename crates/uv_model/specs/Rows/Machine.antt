@@ -1,9 +1,9 @@
--- Runs of the URL parser, one for each way in which it stops or is done: the test before its first step, each part of a text.
--- They keep it from being one that never stops, or one that always does.
+-- Runs of the URL parser (URL Standard, section 4.4), one for each way in which it stops or is done. They keep the machine
+-- from being one that never stops, or one that always does.
 use Rattle.std.specs.Prelude.{List, [], ◌∷◌, None}
 use Rattle.uv_model.specs.Rows.{Row, AllHold, done, stops, within, unfinished, listed, opaque, domain}
 
--- Without a base. A code point that the standard removes stops the parser before any step; the last four rows count steps.
+-- without a base; a removed code point stops the run before any step, and the last four rows count steps
 abbrev pub machine_rows : List Row
 machine_rows =
     within 0 (stops " http://h/" 0)

@@ -1,4 +1,4 @@
--- Runs on texts with a scheme that isn't special and a `/` behind it (URL Standard, sections 4.3 and 4.4), without a base.
+-- Runs on texts with a scheme that isn't special and a `/` behind it, without a base (URL Standard, sections 4.3, 4.4).
 use Rattle.std.specs.Prelude.{List, [], ◌∷◌, Some, None}
 use Rattle.uv_model.specs.Rows.{Row, AllHold, done, stops, listed, with_query, with_fragment, ipv6, opaque_host, empty_host}
 

@@ -27,6 +27,10 @@ drive_base = listed "file" empty_host None ("C:" ∷ "d" ∷ "f" ∷ [])
 abbrev pub file_host_base : Url
 file_host_base = listed "file" (domain "h") None ("a" ∷ [])
 
+-- `urn:a`
+abbrev pub urn_base : Url
+urn_base = opaque "urn" "a"
+
 -- `urn:a?q`
 abbrev pub opaque_base : Url
 opaque_base = with_query "q" (opaque "urn" "a")
@@ -64,7 +68,8 @@ http_rows =
     ∷ against port_base (done "//g" (listed "http" (domain "g") None ("" ∷ [])) "http://g/")
     ∷ against port_base (done "//G:81/x" (listed "http" (domain "g") (Some 81) ("x" ∷ [])) "http://g:81/x")
     ∷ against https_base (done "//g" (listed "https" (domain "g") None ("" ∷ [])) "https://g/")
-    ∷ against http_base (done "//h" (listed "http" (domain "h") None ("" ∷ [])) "http://h/")
+    ∷ against (listed "http" (domain "x") None ("a" ∷ []))
+    (done "//h" (listed "http" (domain "h") None ("" ∷ [])) "http://h/")
     ∷ []
 
 -- against `http://h/`
@@ -130,16 +135,19 @@ file_host_rows =
     ∷ against file_host_base (stops "file:/C:/x" 4)
     ∷ []
 
--- against `urn:a?q`, and without a base
+-- against `urn:a` and `urn:a?q`, and without a base
 abbrev pub opaque_rows : List Row
 opaque_rows =
-    against opaque_base (done "#t" (with_query "q" (with_fragment "t" (opaque "urn" "a"))) "urn:a?q#t")
+    against urn_base (done "#t" (with_fragment "t" (opaque "urn" "a")) "urn:a#t")
+    ∷ against urn_base (stops "x" 0)
+    ∷ against urn_base (stops "" 0)
+    ∷ against urn_base (stops "//h%4/x" 0)
+    ∷ against opaque_base (done "#t" (with_query "q" (with_fragment "t" (opaque "urn" "a"))) "urn:a?q#t")
     ∷ against opaque_base (done "#" (with_query "q" (with_fragment "" (opaque "urn" "a"))) "urn:a?q#")
     ∷ against opaque_base (done "http://h/" (listed "http" (domain "h") None ("" ∷ [])) "http://h/")
     ∷ against opaque_base (stops "x" 0)
     ∷ against opaque_base (stops "" 0)
     ∷ against opaque_base (stops "?x" 0)
-    ∷ against opaque_base (stops "//h%4/x" 0)
     ∷ against opaque_base (stops "#a b" 2)
     ∷ stops "//h^/a b" 0
     ∷ stops "#t" 0

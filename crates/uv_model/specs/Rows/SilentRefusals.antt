@@ -1,5 +1,5 @@
--- Texts on which the URL parser reports nothing, although the checker's standard profile, which is narrower than the parser,
--- refuses them. Each row is a run that is done.
+-- Texts on which the URL parser (URL Standard, section 4.4) reports nothing, although the standard profile, which is
+-- narrower than the parser, refuses them. Each row is a run that is done.
 use Rattle.std.specs.Prelude.{List, [], ◌∷◌, None}
 use Rattle.uv_model.specs.Rows.{Row, AllHold, done, against, listed, with_query, domain, ipv4, opaque_host, empty_host}
 use Rattle.uv_model.specs.Rows.References.{drive_base, file_host_base, root_base}
