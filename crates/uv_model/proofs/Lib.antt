@@ -7,6 +7,7 @@ pub mod Computing
 pub mod CutLemmas
 pub mod DenotedRecords
 pub mod DomainLemmas
+pub mod DotSegmentLemmas
 pub mod EncodingLemmas
 pub mod HostParserLemmas
 pub mod HostTextLemmas

@@ -3,29 +3,14 @@ use Rattle.std.proofs.Common.{◌≡◌, ℕ, suc, Bool, true, false, List, [], 
 use Rattle.std.specs.List.{list_all}
 use Rattle.std.specs.Char.{is_ascii_alphabetic, to_ascii_lowercase}
 use Rattle.std.proofs.lemmas.Bool.{false≢true, and_parts}
-use Rattle.std.proofs.lemmas.Str.Ascii.{lowercase-lowercase}
 use Rattle.uv_model.specs.Ascii.{colon}
 use Rattle.uv_model.specs.Scheme.{is_scheme, is_scheme_code_point, lowercase, scheme_class, default_port}
 use Rattle.uv_model.specs.Url.{Url}
 use Rattle.uv_model.specs.Valid.{FitsScheme}
 use Rattle.uv_model.specs.Machine.{Held, turn, onward, SchemeStartState, SchemeState, put, with_more, with_scheme, empty_held, after_scheme}
+use Rattle.uv_model.proofs.SchemeLemmas.{scheme_class-lowercase}
 use Rattle.uv_model.proofs.Steps.{Reaches, reaches_none, onward_then}
 use Rattle.uv_model.proofs.Looping.{scheme_law}
-
--- a text in lower case stays in lower case
-pub lowercase_again : (text : List ℕ) → lowercase (lowercase text) ≡ lowercase text
-lowercase_again [] = refl
-lowercase_again (c ∷ rest) = rw (lowercase-lowercase c, lowercase_again rest) refl
-
--- the class of a scheme is that of the scheme in lower case
-pub scheme_class-lowercase : (scheme : List ℕ) → scheme_class (lowercase scheme) ≡ scheme_class scheme
-unfolding scheme_class default_port
-scheme_class-lowercase scheme = rw (lowercase_again scheme) refl
-
--- the default port of a scheme is that of the scheme in lower case
-pub default_port-lowercase : (scheme : List ℕ) → default_port (lowercase scheme) ≡ default_port scheme
-unfolding default_port
-default_port-lowercase scheme = rw (lowercase_again scheme) refl
 
 -- where a form has a scheme the parts have one
 pub scheme_there : (scheme : Option (List ℕ)) → FitsScheme true scheme

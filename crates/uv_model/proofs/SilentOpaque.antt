@@ -19,18 +19,19 @@ use Rattle.uv_model.specs.Machine.{State, Held, turn, onward, begins, SchemeStar
 use Rattle.uv_model.specs.Run.{Outcome, Done, first_outcome, first_removed, run, run_from, step_bound}
 use Rattle.uv_model.proofs.Steps.{Ends, ends_step, ends_after, ends_within}
 use Rattle.uv_model.proofs.Looping.{opaque_path_law}
-use Rattle.uv_model.proofs.SchemeStretch.{scheme_held, scheme_stretch, colon_row, scheme_there, scheme_class-lowercase}
+use Rattle.uv_model.proofs.SchemeStretch.{scheme_held, scheme_stretch, colon_row, scheme_there}
+use Rattle.uv_model.proofs.SchemeLemmas.{scheme_class-lowercase}
 use Rattle.uv_model.proofs.Tails.{tail, query_given, with_tail, TurnsToTail, tail_ends}
 use Rattle.uv_model.proofs.JoinedSegments.{faultless_path, without_path}
-use Rattle.uv_model.proofs.Unremoved.{is_kept, first_removed-kept, kept_faultless, kept_scheme, kept_append, kept_tail}
+use Rattle.uv_model.proofs.Unremoved.{is_unremoved, first_removed-none, unremoved_faultless, unremoved_scheme, unremoved_append, unremoved_tail}
 
 -- a run from the first place that ends within the bound, on a text without a code point that is removed
-pub run_from_ends : (base : Option Url) (text : List ℕ) (k : ℕ) (url : Url) → list_all is_kept text ≡ true
+pub run_from_ends : (base : Option Url) (text : List ℕ) (k : ℕ) (url : Url) → list_all is_unremoved text ≡ true
     → k ≤ step_bound text → Ends base SchemeStartState empty_held text k url
     → run base text (step_bound text) ≡ Done url
 unfolding run
-run_from_ends base text k url kept within ends =
-    rw (first_removed-kept text kept) ((ends_within base within ends).goes text 0 refl)
+run_from_ends base text k url above within ends =
+    rw (first_removed-none text above) ((ends_within base within ends).goes text 0 refl)
 
 -- what is held behind the path
 abbrev path_held : List ℕ → List ℕ → Held
@@ -104,9 +105,10 @@ opaque_silent base text parts valid form =
     = valid.whole ∙ written_without_authority parts there.0 there.1 fits.0.host_text in
     let ends = opaque_ends base there.0 parts.path_text parts.query parts.fragment there.2 other fits.2.1.start units
     (without_path fits.2.0 parts.path_text fits.2.1) valid.query valid.fragment in
-    let kept =
-    kept_append there.0 (colon ∷ (parts.path_text ++ tail parts.query parts.fragment)) (kept_scheme there.0 there.2)
-    (kept_append parts.path_text (tail parts.query parts.fragment) (kept_faultless parts.path_text units)
-    (kept_tail parts.query parts.fragment valid.query valid.fragment)) in
+    let above =
+    unremoved_append there.0 (colon ∷ (parts.path_text ++ tail parts.query parts.fragment))
+    (unremoved_scheme there.0 there.2)
+    (unremoved_append parts.path_text (tail parts.query parts.fragment) (unremoved_faultless parts.path_text units)
+    (unremoved_tail parts.query parts.fragment valid.query valid.fragment)) in
     rw (whole, ← denoted_opaque base parts there.0 form there.1 other)
-    (run_from_ends base _ _ _ kept (omega (arith, length-append {A = ℕ})) ends)
+    (run_from_ends base _ _ _ above (omega (arith, length-append {A = ℕ})) ends)

@@ -16,82 +16,82 @@ use Rattle.uv_model.specs.Run.{is_removed, removed_behind, first_removed}
 use Rattle.uv_model.proofs.UnitsLemmas.{is_faultless-units}
 
 -- a code point above U+0020, which is never removed
-abbrev pub is_kept : ℕ → Bool
-is_kept c = nat_lt 0x20 c
+abbrev pub is_unremoved : ℕ → Bool
+is_unremoved c = nat_lt 0x20 c
 
 -- wherever it stands, such a code point stays
-is_removed-kept : (at_border : Bool) (c : ℕ) → is_kept c ≡ true → is_removed at_border c ≡ false
-is_removed-kept true c kept = grind (arith, nat_tests)
-is_removed-kept false c kept = grind (arith, nat_tests)
+is_removed-above : (at_border : Bool) (c : ℕ) → is_unremoved c ≡ true → is_removed at_border c ≡ false
+is_removed-above true c above = grind (arith, nat_tests)
+is_removed-above false c above = grind (arith, nat_tests)
 
-removed_behind-kept : (p : ℕ) (text : List ℕ) → list_all is_kept text ≡ true → removed_behind p text ≡ None
-removed_behind-kept p [] kept = refl
-removed_behind-kept p (c ∷ []) kept = rw (is_removed-kept true c (and_parts (is_kept c) true kept).0) refl
-removed_behind-kept p (c ∷ d ∷ rest) kept =
-    let parts = and_parts (is_kept c) (list_all is_kept (d ∷ rest)) kept in
-    rw (is_removed-kept false c parts.0) (removed_behind-kept (p + 1) (d ∷ rest) parts.1)
+removed_behind-none : (p : ℕ) (text : List ℕ) → list_all is_unremoved text ≡ true → removed_behind p text ≡ None
+removed_behind-none p [] above = refl
+removed_behind-none p (c ∷ []) above = rw (is_removed-above true c (and_parts (is_unremoved c) true above).0) refl
+removed_behind-none p (c ∷ d ∷ rest) above =
+    let parts = and_parts (is_unremoved c) (list_all is_unremoved (d ∷ rest)) above in
+    rw (is_removed-above false c parts.0) (removed_behind-none (p + 1) (d ∷ rest) parts.1)
 
 -- a text of such code points passes the test
-pub first_removed-kept : (text : List ℕ) → list_all is_kept text ≡ true → first_removed text ≡ None
+pub first_removed-none : (text : List ℕ) → list_all is_unremoved text ≡ true → first_removed text ≡ None
 unfolding first_removed
-first_removed-kept [] kept = refl
-first_removed-kept (c ∷ rest) kept =
-    let parts = and_parts (is_kept c) (list_all is_kept rest) kept in
-    rw (is_removed-kept true c parts.0) (removed_behind-kept 1 rest parts.1)
+first_removed-none [] above = refl
+first_removed-none (c ∷ rest) above =
+    let parts = and_parts (is_unremoved c) (list_all is_unremoved rest) above in
+    rw (is_removed-above true c parts.0) (removed_behind-none 1 rest parts.1)
 
 -- ---- the parts of a valid text
 
-kept_url : (c : ℕ) → is_url_code_point c ≡ true → is_kept c ≡ true
+unremoved_url : (c : ℕ) → is_url_code_point c ≡ true → is_unremoved c ≡ true
 unfolding is_url_code_point
-kept_url c url = grind (arith, nat_tests)
+unremoved_url c url = grind (arith, nat_tests)
 
-kept_unit_at : (c : ℕ) (rest : List ℕ) → is_unit_at c rest ≡ true → is_kept c ≡ true
+unremoved_unit_at : (c : ℕ) (rest : List ℕ) → is_unit_at c rest ≡ true → is_unremoved c ≡ true
 unfolding is_unit_at
-kept_unit_at c rest ok =
+unremoved_unit_at c rest ok =
     elim (cases_Bool (c == percent_sign)) [
       | inl same ↦ rw (eqb-true c percent_sign same) refl
-      | inr other ↦ kept_url c (rw other at ok)
+      | inr other ↦ unremoved_url c (rw other at ok)
     ]
 
 -- a text without a fault of units
-pub kept_faultless : (text : List ℕ) → is_faultless text ≡ true → list_all is_kept text ≡ true
-kept_faultless [] none = refl
-kept_faultless (c ∷ rest) none =
+pub unremoved_faultless : (text : List ℕ) → is_faultless text ≡ true → list_all is_unremoved text ≡ true
+unremoved_faultless [] none = refl
+unremoved_faultless (c ∷ rest) none =
     let parts = and_parts (is_unit_at c rest) (is_faultless rest) none in
-    and_from _ _ (kept_unit_at c rest parts.0) (kept_faultless rest parts.1)
+    and_from _ _ (unremoved_unit_at c rest parts.0) (unremoved_faultless rest parts.1)
 
-kept_scheme_code_point : (c : ℕ) → is_scheme_code_point c ≡ true → is_kept c ≡ true
-kept_scheme_code_point c ok = grind (arith, nat_tests)
+unremoved_scheme_code_point : (c : ℕ) → is_scheme_code_point c ≡ true → is_unremoved c ≡ true
+unremoved_scheme_code_point c ok = grind (arith, nat_tests)
 
-kept_scheme_rest : (text : List ℕ) → list_all is_scheme_code_point text ≡ true → list_all is_kept text ≡ true
-kept_scheme_rest [] ok = refl
-kept_scheme_rest (c ∷ rest) ok =
+unremoved_scheme_rest : (text : List ℕ) → list_all is_scheme_code_point text ≡ true → list_all is_unremoved text ≡ true
+unremoved_scheme_rest [] ok = refl
+unremoved_scheme_rest (c ∷ rest) ok =
     let parts = and_parts (is_scheme_code_point c) (list_all is_scheme_code_point rest) ok in
-    and_from _ _ (kept_scheme_code_point c parts.0) (kept_scheme_rest rest parts.1)
+    and_from _ _ (unremoved_scheme_code_point c parts.0) (unremoved_scheme_rest rest parts.1)
 
-kept_letter : (c : ℕ) → is_ascii_alphabetic c ≡ true → is_kept c ≡ true
-kept_letter c ok = grind (arith, nat_tests)
+unremoved_letter : (c : ℕ) → is_ascii_alphabetic c ≡ true → is_unremoved c ≡ true
+unremoved_letter c ok = grind (arith, nat_tests)
 
 -- a scheme
-pub kept_scheme : (text : List ℕ) → is_scheme text ≡ true → list_all is_kept text ≡ true
-kept_scheme [] ok = refl
-kept_scheme (c ∷ rest) ok =
+pub unremoved_scheme : (text : List ℕ) → is_scheme text ≡ true → list_all is_unremoved text ≡ true
+unremoved_scheme [] ok = refl
+unremoved_scheme (c ∷ rest) ok =
     let parts = and_parts (is_ascii_alphabetic c) (list_all is_scheme_code_point rest) ok in
-    and_from _ _ (kept_letter c parts.0) (kept_scheme_rest rest parts.1)
+    and_from _ _ (unremoved_letter c parts.0) (unremoved_scheme_rest rest parts.1)
 
 -- one text behind another
-pub kept_append : (xs ys : List ℕ) → list_all is_kept xs ≡ true → list_all is_kept ys ≡ true
-    → list_all is_kept (xs ++ ys) ≡ true
-kept_append xs ys first second = list_all-append is_kept xs ys ∙ and_from _ _ first second
+pub unremoved_append : (xs ys : List ℕ) → list_all is_unremoved xs ≡ true → list_all is_unremoved ys ≡ true
+    → list_all is_unremoved (xs ++ ys) ≡ true
+unremoved_append xs ys first second = list_all-append is_unremoved xs ys ∙ and_from _ _ first second
 
 -- a query and a fragment, each behind its mark
-pub kept_tail : (query fragment : Option (List ℕ)) → MayBeUnits query → MayBeUnits fragment
-    → list_all is_kept (written_behind question_mark query ++ written_behind number_sign fragment) ≡ true
-kept_tail None None query_units fragment_units = refl
-kept_tail None (Some fragment) query_units fragment_units =
-    kept_faultless fragment (is_faultless-units fragment fragment_units)
-kept_tail (Some query) None query_units fragment_units =
-    kept_append query [] (kept_faultless query (is_faultless-units query query_units)) refl
-kept_tail (Some query) (Some fragment) query_units fragment_units =
-    kept_append query (number_sign ∷ fragment) (kept_faultless query (is_faultless-units query query_units))
-    (kept_faultless fragment (is_faultless-units fragment fragment_units))
+pub unremoved_tail : (query fragment : Option (List ℕ)) → MayBeUnits query → MayBeUnits fragment
+    → list_all is_unremoved (written_behind question_mark query ++ written_behind number_sign fragment) ≡ true
+unremoved_tail None None query_units fragment_units = refl
+unremoved_tail None (Some fragment) query_units fragment_units =
+    unremoved_faultless fragment (is_faultless-units fragment fragment_units)
+unremoved_tail (Some query) None query_units fragment_units =
+    unremoved_append query [] (unremoved_faultless query (is_faultless-units query query_units)) refl
+unremoved_tail (Some query) (Some fragment) query_units fragment_units =
+    unremoved_append query (number_sign ∷ fragment) (unremoved_faultless query (is_faultless-units query query_units))
+    (unremoved_faultless fragment (is_faultless-units fragment fragment_units))
