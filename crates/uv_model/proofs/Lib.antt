@@ -3,6 +3,7 @@ pub mod AddressRows
 pub mod AddressUniqueness
 pub mod AsciiLemmas
 pub mod AuthorityCutLemmas
+pub mod CodePointLemmas
 pub mod Computing
 pub mod CutLemmas
 pub mod DenotedRecords

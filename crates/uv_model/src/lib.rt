@@ -3,6 +3,7 @@
 
 mod adapters;
 mod ascii_units;
+mod code_points;
 mod device;
 mod domain;
 mod host;
@@ -20,6 +21,7 @@ mod url_paths;
 mod well_formedness;
 
 pub use adapters::ToWriter;
+pub use code_points::{first_code_point, starts_with_two_hex};
 pub use device::{DeviceFault, Sink, write_whole};
 pub use domain::ends_in_number;
 pub use host::Host;
