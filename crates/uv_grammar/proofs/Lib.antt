@@ -1,2 +1,3 @@
+pub mod AuthorityLemmas
 pub mod SliceLemmas
 pub mod TestLemmas

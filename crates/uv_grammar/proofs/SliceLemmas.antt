@@ -1,16 +1,19 @@
 -- Lemmas on the code points of the two sides of an ASCII mark.
-use Rattle.std.proofs.Common.{◌≡◌, ℕ, ◌+◌, ◌<◌, ◌≤◌, List, [], ◌∷◌, ◌++◌, Bool, true, false, cond, length, take, drop, refl, sym, ap, ◌∙◌, subst, arith, get_or, Some, lit<}
-use Rattle.std.specs.Prelude.{◌==◌, if◌then◌else◌}
+use Rattle.std.proofs.Common.{◌≡◌, ℕ, ◌+◌, ◌<◌, ◌≤◌, List, [], ◌∷◌, ◌++◌, Bool, true, false, cond, length, take, drop, refl, sym, ap, ◌∙◌, subst, arith, get_or, Some, lit<, ◌≢◌, ne_eqb, append-nil, add-one, suc}
+use Rattle.std.specs.Prelude.{◌==◌, if◌then◌else◌, Option, None, MatchOption, slice_range}
 use Rattle.std.specs.Str.{chars, IsUtf8, NoCharPasses, NonePass}
-use Rattle.std.proofs.lemmas.Str.{chars-append, chars_past_char, chars_from_encodes, chars-IsAscii, IsUtf8-from_ascii, IsUtf8-take, IsUtf8-drop, IsCharBoundary-before_ascii, IsCharBoundary-after_ascii}
+use Rattle.std.proofs.lemmas.Str.{chars-nil, chars-append, chars_past_char, chars_from_encodes, chars-IsAscii, IsUtf8-from_ascii, IsUtf8-take, IsUtf8-drop, IsCharBoundary-before_ascii, IsCharBoundary-after_ascii}
 use Rattle.std.specs.Borrow.{Bor}
 use Rattle.std.proofs.lemmas.Str.Pattern.{IsSplitOnceResult}
 use Rattle.std.proofs.lemmas.Str.Ascii.{IsAscii-cons}
-use Rattle.std.proofs.lemmas.List.{length-append}
-use Rattle.std.proofs.Math.Seq.{take-append_seam, drop-append-add}
+use Rattle.std.proofs.lemmas.List.{length-append, take-append-drop}
+use Rattle.std.proofs.Math.Seq.{drop-cons, take-append_seam, drop-append-add, drop-length}
 use Rattle.std.proofs.lemmas.Grind.{common_steps}
 use Rattle.std.proofs.Math.Utf8.{encodes}
-use Rattle.uv_model.specs.Path.{is_without}
+use Rattle.uv_model.specs.Ascii.{slash}
+use Rattle.uv_model.specs.Path.{is_without, starts_with_slash}
+use Rattle.uv_grammar.specs.Sides.{SplitsAtSlash}
+use Rattle.uv_grammar.proofs.TestLemmas.{starts_with_slash-chars}
 
 -- the byte behind a front
 pub byte_behind : (xs ys : List ℕ) (c : ℕ) → get_or (xs ++ (c ∷ ys)) (length xs) 0 ≡ c
@@ -58,3 +61,59 @@ pub split_once_is_without : (mark : ℕ) (bs : List ℕ) (front rest : Bor (List
 split_once_is_without mark bs front rest h u =
     let P : List ℕ → Type 0 = λ s. NoCharPasses (λ d. d == mark) s in
     front_is_without mark front.now u (subst P (sym h.3) h.2.0)
+
+-- ---- the first `/`
+
+-- what begins with a mark is text
+pub behind_utf8 : (c : ℕ) (ys : List ℕ) → IsUtf8 (c ∷ ys) → c < 128 → IsUtf8 ys
+behind_utf8 c ys u small = (sides_utf8 [] ys c u small).1
+
+-- without `/` at the start of the bytes, none is at the start of the text
+pub no_slash_first : (bytes : List ℕ) → IsUtf8 bytes → ((rest : List ℕ) → bytes ≢ slash ∷ rest)
+    → starts_with_slash (chars bytes) ≡ false
+no_slash_first bytes utf8 none = starts_with_slash-chars bytes utf8 ∙ first bytes none
+  where
+    first : (text : List ℕ) → ((rest : List ℕ) → text ≢ slash ∷ rest) → starts_with_slash text ≡ false
+    first [] none = refl
+    first (c ∷ rest) none = ne_eqb c slash (λ e. none rest (ap (λ k. k ∷ rest) e))
+
+-- the front of a text as a range
+pub range-start : (bytes : List ℕ) (end : ℕ) → slice_range bytes 0 end ≡ take end bytes
+range-start bytes end = grind (arith, common_steps)
+
+-- what begins with the byte at an index
+pub drop_at : (bytes : List ℕ) (at mark : ℕ) → at < length bytes → get_or bytes at 0 ≡ mark
+    → drop at bytes ≡ mark ∷ drop (at + 1) bytes
+drop_at bytes at mark inside here = rw add-one (drop-cons bytes at 0 inside ∙ ap (λ b. b ∷ drop (suc at) bytes) here)
+
+-- the two sides of the first `/`
+pub splits_at_slash : (bytes front behind : List ℕ) (end : ℕ) → IsUtf8 bytes → front ≡ slice_range bytes 0 end → behind ≡ drop end bytes
+    → end < length bytes → get_or bytes end 0 ≡ slash → NoCharPasses (λ d. d == slash) (take end bytes)
+    → SplitsAtSlash (chars bytes) (chars front) (chars behind)
+splits_at_slash bytes front behind end utf8 is_front is_behind inside here none =
+    let before : IsUtf8 (take end bytes) = IsUtf8-take bytes end utf8 (IsCharBoundary-before_ascii bytes end inside (rw here (lit< tt))) in
+    let first : chars (drop end bytes) ≡ slash ∷ chars (drop (end + 1) bytes)
+    = ap chars (drop_at bytes end slash inside here) ∙ chars-ascii_first slash (drop (end + 1) bytes) (lit< tt) in
+    rw (is_front, is_behind, range-start) (record {
+      joined = ap chars (sym (take-append-drop end bytes)) ∙ chars-append (take end bytes) (drop end bytes) before;
+      no_slash = front_is_without slash (take end bytes) before none;
+      path = λ some. subst (λ (s : List ℕ). starts_with_slash s ≡ true) (sym first) refl;
+    })
+
+-- a text without `/` is a front alone
+pub splits_at_end : (bytes rest : List ℕ) → IsUtf8 bytes → rest ≡ drop (length bytes) bytes → NoCharPasses (λ d. d == slash) bytes
+    → SplitsAtSlash (chars bytes) (chars bytes) (chars rest)
+splits_at_end bytes rest utf8 empty none =
+    let nothing : chars rest ≡ [] = ap chars (empty ∙ drop-length bytes) ∙ chars-nil in
+    record {
+      joined = sym (ap (λ s. chars bytes ++ s) nothing ∙ append-nil (chars bytes));
+      no_slash = front_is_without slash bytes utf8 none;
+      path = λ some. absurd (some nothing);
+    }
+
+-- what follows a `/` at the text's start
+pub behind_first_slash : (bytes : List ℕ) (rest : Option (Bor (List ℕ))) → IsUtf8 bytes
+    → MatchOption rest ((other : List ℕ) → bytes ≢ slash ∷ other) (λ r. bytes ≡ slash ∷ r.now)
+    → MatchOption rest (starts_with_slash (chars bytes) ≡ false) (λ r. chars bytes ≡ slash ∷ chars r.now)
+behind_first_slash bytes None utf8 none = no_slash_first bytes utf8 none
+behind_first_slash bytes (Some rest) utf8 is = ap chars is ∙ chars-ascii_first slash rest.now (lit< tt)

@@ -1,2 +1,3 @@
 pub mod Form
 pub mod Seen
+pub mod Sides

@@ -1,6 +1,7 @@
 //! The checker of valid URL strings, and the parts of those that it takes (URL Standard, section 4.3).
 #![tactic(auto)]
 
+mod cut;
 mod form;
 mod marks;
 mod parts;

@@ -1,9 +1,11 @@
 //! Texts cut at ASCII marks.
-ghost use Rattle.std.specs.Prelude.{◌≡◌, ◌<◌, ◌++◌, true};
+ghost use Rattle.std.specs.Prelude.{◌≡◌, ◌<◌, ◌++◌, ◌∷◌, MatchOption, false, true};
 ghost use Rattle.std.specs.Str.{chars};
-ghost use Rattle.uv_model.specs.Path.{is_without};
+ghost use Rattle.uv_model.specs.Ascii.{slash};
+ghost use Rattle.uv_model.specs.Path.{is_without, starts_with_slash};
 ghost use Rattle.uv_model.specs.Parts.{written_behind};
 ghost use Rattle.uv_grammar.specs.Seen.{seen, seen_option};
+ghost use Rattle.uv_grammar.specs.Sides.{SplitsAtSlash};
 
 /// What stands before the first such mark, and what follows it where there is one.
 pub(crate) fn split_at_mark<'t>(text: &'t str, mark: char) -> (&'t str, Option<&'t str>)
@@ -15,4 +17,21 @@ pub(crate) fn split_at_mark<'t>(text: &'t str, mark: char) -> (&'t str, Option<&
         Some((front, rest)) => (front, Some(rest)),
         None => (text, None),
     }
+}
+
+/// What stands before the first `/`, and what begins with it.
+pub(crate) fn split_at_slash<'t>(text: &'t str) -> (&'t str, &'t str)
+    ensures { SplitsAtSlash (chars text.now) (seen result.0) (seen result.1) }
+{
+    match text.find('/') {
+        Some(end) => (&text[..end], &text[end..]),
+        None => (text, &text[text.len()..]),
+    }
+}
+
+/// What follows a `/` at the text's start.
+pub(crate) fn behind_slash<'t>(text: &'t str) -> Option<&'t str>
+    ensures { MatchOption result (starts_with_slash (chars text.now) ≡ false) (λ r. chars text.now ≡ slash ∷ seen r) }
+{
+    text.strip_prefix('/')
 }

@@ -135,13 +135,13 @@ port_cut-written Other host_text port_text is =
     port_behind-written false host_text port_text (ends_from_start host_text port_text is)
 
 -- the computed host and port are a cut
-host_cut-is : (kind : Class) (authority : List ℕ) → IsHostCut kind (host_cut kind authority) (port_cut kind authority)
+pub host_cut-is : (kind : Class) (authority : List ℕ) → IsHostCut kind (host_cut kind authority) (port_cut kind authority)
 host_cut-is File authority = refl
 host_cut-is Special authority = ends_at_port _ _ (host_before-ends false authority)
 host_cut-is Other authority = ends_at_port _ _ (host_before-ends false authority)
 
 -- and the authority is written with them
-written_host_cut : (kind : Class) (authority : List ℕ)
+pub written_host_cut : (kind : Class) (authority : List ℕ)
     → authority ≡ host_cut kind authority ++ written_behind colon (port_cut kind authority)
 written_host_cut File authority = sym (append-nil authority)
 written_host_cut Special authority = written_host false authority

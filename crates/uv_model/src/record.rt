@@ -1,5 +1,6 @@
 //! Records: the URLs that valid texts denote, each well formed.
 ghost use Rattle.std.specs.Prelude.{◌≡◌, IfOk, Option, Some, None, option_copied, option_map, string_bytes};
+ghost use Rattle.std.specs.Str.{IsAscii};
 ghost use Rattle.uv_model.specs.Url.{Url, is_opaque};
 ghost use Rattle.uv_model.specs.WellFormed.{MayBeAscii, WellFormed};
 
@@ -87,7 +88,8 @@ impl Record {
 
     /// The scheme, in lower case.
     pub fn scheme(&self) -> &str
-        ensures { result.now ≡ self.now.scheme }
+        ensures text { result.now ≡ self.now.scheme }
+        ensures ascii { IsAscii self.now.scheme }
     {
         self.scheme.as_str()
     }

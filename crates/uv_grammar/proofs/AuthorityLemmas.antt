@@ -1,0 +1,191 @@
+-- Lemmas on the `:` of a port in the bytes of an authority and in its code points.
+use Rattle.std.proofs.Common.{◌≡◌, ◌≢◌, ℕ, suc, ◌+◌, ◌<◌, ◌≤◌, List, [], ◌∷◌, ◌++◌, Bool, true, false, cond, not, length, take, drop, refl, sym, ap, ◌∙◌, inl, inr, arith, get_or, Option, Some, None, lit<, le-ltb, lt-ltb, ne_eqb, append-nil, subst}
+use Rattle.std.specs.Prelude.{◌==◌, ◌&&◌, ◌⊎◌, if◌then◌else◌, option_map, slice_range, IsSome}
+use Rattle.std.specs.Char.{encode_utf8}
+use Rattle.std.specs.Str.{chars, IsUtf8, IsCharBoundary}
+use Rattle.std.proofs.lemmas.Bool.{cases_lt, cases_Bool, false≢true}
+use Rattle.std.proofs.lemmas.Bool.Decides.{nat_tests}
+use Rattle.std.proofs.lemmas.Str.{encode_ascii, encodes-chars, encodes_same, IsCharBoundary-after_ascii}
+use Rattle.std.proofs.Math.Utf8.{encodes, encode}
+use Rattle.uv_grammar.specs.Sides.{IsPortMark, SplitsHost, SplitsScheme}
+use Rattle.uv_grammar.proofs.SliceLemmas.{range-start}
+use Rattle.uv_model.specs.declared.scheme.Class.{Class}
+use Rattle.uv_model.specs.declared.scheme.Class.TheVariants.{Special, Other}
+use Rattle.uv_model.specs.Parts.{written_behind}
+use Rattle.uv_model.specs.Path.{is_without}
+use Rattle.uv_model.specs.Scheme.{is_scheme}
+use Rattle.uv_model.specs.Valid.{starts_with_scheme}
+use Rattle.uv_model.proofs.MarkLemmas.{has_mark, text_before-mark}
+use Rattle.uv_model.proofs.SchemeCutLemmas.{scheme_without_colon, splits_at_scheme}
+use Rattle.uv_model.proofs.AuthorityCutLemmas.{host_cut-is, written_host_cut}
+use Rattle.uv_model.specs.Ascii.{colon, left_bracket, right_bracket}
+use Rattle.uv_model.specs.Cut.{host_before, host_cut, port_cut, text_before, is_port_mark, is_within, port_behind}
+
+-- each is beyond ASCII
+abbrev AreBeyond : List ℕ → Type 0
+AreBeyond [] = Unit {0}
+AreBeyond (b ∷ bs) = (128 ≤ b) × AreBeyond bs
+
+-- the bytes of a code point beyond ASCII are beyond ASCII
+AreBeyond-encode : (c : ℕ) → 128 ≤ c → AreBeyond (encode_utf8 c)
+unfolding encode_utf8
+AreBeyond-encode c high =
+    elim (cases_lt c 2048) [
+      | inl two ↦ rw (le-ltb c 128 high, lt-ltb c 2048 two) (omega arith, (omega arith, tt))
+      | inr more ↦ elim (cases_lt c 65536) [
+        | inl three ↦ rw (le-ltb c 128 high, le-ltb c 2048 more, lt-ltb c 65536 three) (omega arith, (omega arith, (omega arith, tt)))
+        | inr four ↦ rw (le-ltb c 128 high, le-ltb c 2048 more, le-ltb c 65536 four) (omega arith, (omega arith, (omega arith, (omega arith, tt))))
+      ]
+    ]
+
+-- a byte beyond ASCII is no `:`
+no_mark : (within : Bool) (b : ℕ) → 128 ≤ b → is_port_mark within b ≡ false
+no_mark within b high = let other : b ≢ colon = omega arith in rw (ne_eqb b colon other) refl
+
+-- a byte beyond ASCII is no bracket
+no_bracket : (within : Bool) (b : ℕ) → 128 ≤ b → is_within within b ≡ within
+no_bracket within b high =
+    let left : b ≢ left_bracket = omega arith in
+    let right : b ≢ right_bracket = omega arith in
+    rw (ne_eqb b left_bracket left, ne_eqb b right_bracket right) refl
+
+host_before-beyond : (within : Bool) (bs rest : List ℕ) → AreBeyond bs
+    → host_before within (bs ++ rest) ≡ bs ++ host_before within rest
+host_before-beyond within [] rest high = refl
+host_before-beyond within (b ∷ bs) rest high =
+    rw (no_mark within b high.0, no_bracket within b high.0) (ap (λ s. b ∷ s) (host_before-beyond within bs rest high.1))
+
+port_behind-beyond : (within : Bool) (bs rest : List ℕ) → AreBeyond bs
+    → port_behind within (bs ++ rest) ≡ port_behind within rest
+port_behind-beyond within [] rest high = refl
+port_behind-beyond within (b ∷ bs) rest high =
+    rw (no_mark within b high.0, no_bracket within b high.0) (port_behind-beyond within bs rest high.1)
+
+host_before-encodes : (within : Bool) (cs : List ℕ) → host_before within (encodes cs) ≡ encodes (host_before within cs)
+host_before-encodes within [] = refl
+host_before-encodes within (c ∷ cs) =
+    elim (cases_lt c 128) [
+      | inl small ↦ rw (encode_ascii c small) (host_step (is_port_mark within c) c small _ (host_before-encodes (is_within within c) cs))
+      | inr high ↦ rw (host_before-beyond within (encode c) (encodes cs) (AreBeyond-encode c high), no_mark within c high, no_bracket within c high)
+          (ap (λ s. encode c ++ s) (host_before-encodes within cs))
+    ]
+  where
+    host_step : (mark : Bool) (c : ℕ) → c < 128 → {xs : List ℕ} (ys : List ℕ) → xs ≡ encodes ys
+        → (if mark then [] else c ∷ xs) ≡ encodes (if mark then [] else c ∷ ys)
+    host_step true c small ys e = refl
+    host_step false c small ys e = rw (encode_ascii c small) (ap (λ s. c ∷ s) e)
+
+port_behind-encodes : (within : Bool) (cs : List ℕ) → port_behind within (encodes cs) ≡ option_map encodes (port_behind within cs)
+port_behind-encodes within [] = refl
+port_behind-encodes within (c ∷ cs) =
+    elim (cases_lt c 128) [
+      | inl small ↦ rw (encode_ascii c small) (port_step (is_port_mark within c) cs _ (port_behind-encodes (is_within within c) cs))
+      | inr high ↦ rw (port_behind-beyond within (encode c) (encodes cs) (AreBeyond-encode c high), no_mark within c high, no_bracket within c high)
+          (port_behind-encodes within cs)
+    ]
+  where
+    port_step : (mark : Bool) (cs : List ℕ) → {xs : Option (List ℕ)} (ys : Option (List ℕ)) → xs ≡ option_map encodes ys
+        → (if mark then Some (encodes cs) else xs) ≡ option_map encodes (if mark then Some cs else ys)
+    port_step true cs ys e = refl
+    port_step false cs ys e = e
+
+-- the host of the code points is that of the bytes
+pub host_before-chars : (bytes : List ℕ) → IsUtf8 bytes → host_before false bytes ≡ encodes (host_before false (chars bytes))
+host_before-chars bytes utf8 =
+    ap (λ s. host_before false s) (sym (encodes-chars bytes utf8)) ∙ host_before-encodes false (chars bytes)
+
+-- the port of the code points is that of the bytes
+pub port_behind-chars : (bytes : List ℕ) → IsUtf8 bytes
+    → port_behind false bytes ≡ option_map encodes (port_behind false (chars bytes))
+port_behind-chars bytes utf8 =
+    ap (λ s. port_behind false s) (sym (encodes-chars bytes utf8)) ∙ port_behind-encodes false (chars bytes)
+
+-- ---- the host and the port as slices
+
+-- a text that is absent or of these bytes
+option_none : (o : Option (List ℕ)) → None ≡ option_map encodes o → None ≡ o
+option_none None same = refl
+option_none (Some text) same = absurd cc
+
+option_some : (o : Option (List ℕ)) (bytes : List ℕ) → IsUtf8 bytes → Some bytes ≡ option_map encodes o → Some (chars bytes) ≡ o
+option_some None bytes utf8 same = absurd cc
+option_some (Some text) bytes utf8 same =
+    let spelled : encodes (chars bytes) ≡ encodes text = encodes-chars bytes utf8 ∙ cc in
+    ap (λ s. Some s) (encodes_same (chars bytes) text spelled)
+
+-- the sides of the `:` of a port
+pub host_sides : (bytes front behind : List ℕ) (end : ℕ) → IsUtf8 bytes → IsUtf8 front → IsUtf8 behind
+    → IsPortMark bytes (Some end) → front ≡ slice_range bytes 0 end → behind ≡ drop (end + 1) bytes
+    → (chars front ≡ host_before false (chars bytes)) × (Some (chars behind) ≡ port_behind false (chars bytes))
+host_sides bytes front behind end utf8 front_utf8 behind_utf8 mark is_front is_behind =
+    let host : front ≡ encodes (host_before false (chars bytes))
+    = is_front ∙ (range-start bytes end ∙ (sym mark.2 ∙ host_before-chars bytes utf8)) in
+    let port : Some behind ≡ option_map encodes (port_behind false (chars bytes))
+    = ap (λ s. Some s) is_behind ∙ (sym mark.3 ∙ port_behind-chars bytes utf8) in (
+      encodes_same (chars front) (host_before false (chars bytes)) (encodes-chars front front_utf8 ∙ host),
+      option_some (port_behind false (chars bytes)) behind behind_utf8 port,
+    )
+
+-- the whole authority, where no `:` of a port is there
+pub host_alone : (bytes : List ℕ) → IsUtf8 bytes → IsPortMark bytes None
+    → (chars bytes ≡ host_before false (chars bytes)) × (None ≡ port_behind false (chars bytes))
+host_alone bytes utf8 mark =
+    let host : bytes ≡ encodes (host_before false (chars bytes)) = sym mark.0 ∙ host_before-chars bytes utf8 in (
+      encodes_same (chars bytes) (host_before false (chars bytes)) (encodes-chars bytes utf8 ∙ host),
+      option_none (port_behind false (chars bytes)) (sym mark.1 ∙ port_behind-chars bytes utf8),
+    )
+
+-- behind the `:` of a port the authority may be cut
+pub mark_boundary : (bytes : List ℕ) (end : ℕ) → IsUtf8 bytes → IsPortMark bytes (Some end) → IsCharBoundary bytes (end + 1)
+mark_boundary bytes end utf8 mark =
+    IsCharBoundary-after_ascii bytes end utf8 mark.0 (rw mark.1 (lit< tt))
+
+-- ---- texts without a scheme
+
+-- what stands before the first `:` isn't a scheme
+pub no_scheme_front : (front rest : List ℕ) → is_without colon front ≡ true → is_scheme front ≡ false
+    → starts_with_scheme (front ++ colon ∷ rest) ≡ false
+no_scheme_front front rest none other =
+    elim (cases_Bool (starts_with_scheme (front ++ colon ∷ rest))) [
+      | inl starts ↦
+          let s = splits_at_scheme (front ++ colon ∷ rest) starts in
+          let first : front ≡ s.scheme
+          = sym (text_before-mark colon front rest none) ∙ (ap (λ t. text_before colon t) s.joined
+          ∙ text_before-mark colon s.scheme s.rest (scheme_without_colon s.scheme s.is)) in
+          absurd (false≢true (sym other ∙ (ap is_scheme first ∙ s.is)))
+      | inr not ↦ not
+    ]
+
+-- a text without `:` has no scheme
+pub no_scheme_alone : (text : List ℕ) → is_without colon text ≡ true → starts_with_scheme text ≡ false
+no_scheme_alone text none =
+    elim (cases_Bool (starts_with_scheme text)) [
+      | inl starts ↦
+          let s = splits_at_scheme text starts in
+          absurd (false≢true (sym (has_mark colon s.scheme s.rest) ∙ (ap (λ t. is_without colon t) (sym s.joined) ∙ none)))
+      | inr other ↦ other
+    ]
+
+-- a host and a port that are those of the class
+pub splits_host : (kind : Class) (authority host : List ℕ) (port : Option (List ℕ)) → host ≡ host_cut kind authority
+    → port ≡ port_cut kind authority → SplitsHost kind authority host port
+splits_host kind authority host port is_host is_port =
+    rw (is_host, is_port) (record { joined = written_host_cut kind authority; host = host_cut-is kind authority })
+
+-- the class isn't File
+pub splits_before_port : (kind : Class) (authority host : List ℕ) (port : Option (List ℕ))
+    → ((kind ≡ Special) ⊎ (kind ≡ Other)) → host ≡ host_before false authority
+    → port ≡ port_behind false authority → SplitsHost kind authority host port
+splits_before_port kind authority host port (inl same) is_host is_port =
+    rw same (splits_host Special authority host port is_host is_port)
+splits_before_port kind authority host port (inr same) is_host is_port =
+    rw same (splits_host Other authority host port is_host is_port)
+
+-- a text whose front before the first `:` is no scheme is a rest alone
+pub splits_no_scheme : (text front : List ℕ) (rest : Option (List ℕ)) → text ≡ front ++ written_behind colon rest
+    → is_without colon front ≡ true → (IsSome rest → is_scheme front ≡ false) → SplitsScheme text None text
+splits_no_scheme text front None joined none other =
+    let whole : text ≡ front = joined ∙ append-nil front in
+    record { joined = refl; scheme = rw whole (no_scheme_alone front none) }
+splits_no_scheme text front (Some rest) joined none other =
+    record { joined = refl; scheme = rw joined (no_scheme_front front rest none (other refl)) }

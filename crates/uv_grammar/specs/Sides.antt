@@ -1,0 +1,36 @@
+-- What the cuts of a text at its marks leave on both sides, after the order of URL Standard, section 4.3.
+use Rattle.std.specs.Prelude.{◌≡◌, ◌≢◌, ℕ, ◌+◌, ◌<◌, true, false, List, [], ◌∷◌, ◌++◌, length, take, drop, slice_index, Option, Some, None}
+use Rattle.uv_model.specs.declared.scheme.Class.{Class}
+use Rattle.uv_model.specs.Ascii.{slash, colon}
+use Rattle.uv_model.specs.Cut.{IsSchemeCut, IsHostCut, host_before, port_behind}
+use Rattle.uv_model.specs.Parts.{written_behind, written_scheme}
+use Rattle.uv_model.specs.Path.{is_without, starts_with_slash}
+
+-- the text is a scheme and `:`, where it begins with such, and the rest
+pub record SplitsScheme (text : List ℕ) (name : Option (List ℕ)) (rest : List ℕ) : Type 0 where
+  pub joined : text ≡ written_scheme name ++ rest
+  pub scheme : IsSchemeCut name rest
+
+-- the text is a front without `/`, and a rest that is empty or begins with `/`
+pub record SplitsAtSlash (text front behind : List ℕ) : Type 0 where
+  pub joined : text ≡ front ++ behind
+  pub no_slash : is_without slash front ≡ true
+  pub path : behind ≢ [] → starts_with_slash behind ≡ true
+
+-- the text is `//`, an authority without `/`, and a path that is empty or begins with `/`
+pub record SplitsAuthority (text authority behind : List ℕ) : Type 0 where
+  pub rest : List ℕ
+  pub slashes : text ≡ slash ∷ slash ∷ rest
+  pub split : SplitsAtSlash rest authority behind
+
+-- the authority is a host, and `:` and a port where the host doesn't reach to its end
+pub record SplitsHost (kind : Class) (authority host_text : List ℕ) (port_text : Option (List ℕ)) : Type 0 where
+  pub joined : authority ≡ host_text ++ written_behind colon port_text
+  pub host : IsHostCut kind host_text port_text
+
+-- the place of the `:` of a port, which stands behind the host of an authority
+abbrev pub IsPortMark : List ℕ → Option ℕ → Type 0
+IsPortMark text None = (host_before false text ≡ text) × (port_behind false text ≡ None)
+IsPortMark text (Some place) =
+    (place < length text) × (slice_index text place ≡ colon) × (host_before false text ≡ take place text)
+    × (port_behind false text ≡ Some (drop (place + 1) text))
