@@ -165,10 +165,12 @@ pub IsUnits-cut : (mark : ℕ) (xs ys : List ℕ) → is_ascii_hexdigit mark ≡
     → IsUnits xs × IsUnits ys
 IsUnits-cut mark xs ys other units =
     let none = is_faultless-units (xs ++ mark ∷ ys) units in
-    let parts = and_parts (is_faultless xs) (is_faultless (mark ∷ ys)) (sym (is_faultless-mark mark xs ys other) ∙ none) in
+    let both = sym (is_faultless-mark mark xs ys other) ∙ none in
+    let parts = and_parts (is_faultless xs) (is_faultless (mark ∷ ys)) both in
     (IsUnits-faultless xs parts.0, IsUnits-faultless ys (and_parts _ _ parts.1).1)
 
 -- units before and behind a URL code point are units with it
 pub IsUnits-joined : (mark : ℕ) (xs ys : List ℕ) → is_url_code_point mark ≡ true → IsUnits xs → IsUnits ys
     → IsUnits (xs ++ mark ∷ ys)
-IsUnits-joined mark xs ys url first second = IsUnits-append xs (mark ∷ ys) first (IsUnits-unit (mark ∷ []) ys url second)
+IsUnits-joined mark xs ys url first second =
+    IsUnits-append xs (mark ∷ ys) first (IsUnits-unit (mark ∷ []) ys url second)
