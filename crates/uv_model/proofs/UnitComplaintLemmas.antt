@@ -96,7 +96,8 @@ faultless_uncomplained : (text : List ℕ) → ((place : ℕ) (rule : Rule) → 
     → is_faultless text ≡ true
 faultless_uncomplained [] none = refl
 faultless_uncomplained (c ∷ rest) none =
-    and_from _ _ (true_from_ne_false (is_unit_at c rest) (λ fault. none 0 (unit_rule c) (UnitComplaint-here c rest fault)))
+    and_from _ _
+    (true_from_ne_false (is_unit_at c rest) (λ fault. none 0 (unit_rule c) (UnitComplaint-here c rest fault)))
     (faultless_uncomplained rest (λ place rule h. none (suc place) rule (UnitComplaint-later c rest place rule h)))
 
 -- a text with no fault at any place is units

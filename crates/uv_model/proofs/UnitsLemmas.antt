@@ -1,12 +1,14 @@
 -- URL units: a concatenation of units is a text without a fault, and what each of its code points is.
-use Rattle.std.proofs.Common.{◌≡◌, ◌≢◌, ℕ, ◌<◌, ◌≤◌, Bool, true, false, not, ◌&&◌, ◌||◌, ◌==◌, List, [], ◌∷◌, ◌++◌, refl, sym, ap, ◌∙◌, subst, inl, inr, arith, lt-ltb, append-nil}
+use Rattle.std.proofs.Common.{chars, encode_utf8_all, le-ltb, ◌≡◌, ◌≢◌, ℕ, ◌<◌, ◌≤◌, Bool, true, false, not, ◌&&◌, ◌||◌, ◌==◌, List, [], ◌∷◌, ◌++◌, refl, sym, ap, ◌∙◌, subst, inl, inr, arith, lt-ltb, append-nil}
 use Rattle.std.specs.Prelude.{if◌then◌else◌}
 use Rattle.std.specs.List.{concat, list_all}
-use Rattle.std.specs.Char.{is_ascii_hexdigit}
-use Rattle.std.proofs.lemmas.Bool.{false≢true, cases_Bool, and_parts, and_from, and_right, cases_eq, cases_lt, ne_eqb, eqb-true, agree_below_at}
+use Rattle.std.specs.Char.{encode_utf8, is_ascii_hexdigit}
+use Rattle.std.specs.Str.{IsUtf8}
+use Rattle.std.proofs.lemmas.Bool.{false≢true, cases_Bool, and_parts, and_from, and_left, and_right, cases_eq, cases_lt, ne_eqb, eqb-true, agree_below_at}
 use Rattle.std.proofs.lemmas.Bool.Decides.{nat_tests}
 use Rattle.std.proofs.Math.Bool.{and_assoc}
 use Rattle.std.proofs.lemmas.List.Folds.{list_all-append, concat-append}
+use Rattle.std.proofs.lemmas.Str.{encode_ascii, encodes-chars}
 use Rattle.uv_model.specs.Ascii.{percent_sign}
 use Rattle.uv_model.specs.Units.{is_url_code_point, starts_with_two_hex, is_unit, IsUnits, is_unit_at, is_faultless}
 
@@ -174,3 +176,60 @@ pub IsUnits-joined : (mark : ℕ) (xs ys : List ℕ) → is_url_code_point mark 
     → IsUnits (xs ++ mark ∷ ys)
 IsUnits-joined mark xs ys url first second =
     IsUnits-append xs (mark ∷ ys) first (IsUnits-unit (mark ∷ []) ys url second)
+
+-- ---- hex digits in the bytes of a text
+
+-- what holds of each list that begins with a byte above 127 holds of a code point beyond ASCII in UTF-8
+encode_beyond : (P : List ℕ → Type 0) → ((b : ℕ) (bs : List ℕ) → 128 ≤ b → P (b ∷ bs)) → (c : ℕ) → 128 ≤ c
+    → P (encode_utf8 c)
+unfolding encode_utf8
+encode_beyond P high c beyond =
+    elim (cases_lt c 2048) [
+      | inl two ↦ rw (le-ltb c 128 beyond, lt-ltb c 2048 two) (high _ _ (omega arith))
+      | inr more ↦ elim (cases_lt c 65536) [
+        | inl three ↦ rw (le-ltb c 128 beyond, le-ltb c 2048 more, lt-ltb c 65536 three) (high _ _ (omega arith))
+        | inr four ↦ rw (le-ltb c 128 beyond, le-ltb c 2048 more, le-ltb c 65536 four) (high _ _ (omega arith))
+      ]
+    ]
+
+beyond_no_hex : (b : ℕ) → 128 ≤ b → is_ascii_hexdigit b ≡ false
+beyond_no_hex b beyond = grind (arith, nat_tests)
+
+-- no two hex digits stand where the first is beyond ASCII
+no_hex_first : (b : ℕ) (rest : List ℕ) → 128 ≤ b → starts_with_two_hex (b ∷ rest) ≡ false
+no_hex_first b [] beyond = refl
+no_hex_first b (next ∷ rest) beyond = and_left _ _ (beyond_no_hex b beyond)
+
+-- the bytes of a text begin with two hex digits exactly where the text does
+starts_with_two_hex-encodes : (text : List ℕ)
+    → starts_with_two_hex (encode_utf8_all text) ≡ starts_with_two_hex text
+starts_with_two_hex-encodes [] = refl
+starts_with_two_hex-encodes (c ∷ []) =
+    elim (cases_lt c 128) [
+      | inl small ↦ rw (encode_ascii c small)
+      | inr large ↦
+          encode_beyond (λ bs. starts_with_two_hex (bs ++ []) ≡ false) (λ b bs high. no_hex_first b (bs ++ []) high)
+          c large
+    ]
+starts_with_two_hex-encodes (c ∷ next ∷ rest) =
+    elim (cases_lt c 128) [
+      | inl small ↦ elim (cases_lt next 128) [
+        | inl both ↦ rw (encode_ascii c small, encode_ascii next both)
+        | inr large ↦
+            let behind : starts_with_two_hex (c ∷ (encode_utf8 next ++ encode_utf8_all rest)) ≡ false =
+            encode_beyond (λ bs. starts_with_two_hex (c ∷ (bs ++ encode_utf8_all rest)) ≡ false)
+            (λ b bs high. and_right _ _ (beyond_no_hex b high)) next large in
+            rw (encode_ascii c small) (behind ∙ sym (and_right _ _ (beyond_no_hex next large)))
+      ]
+      | inr large ↦
+          let first : starts_with_two_hex (encode_utf8 c ++ (encode_utf8 next ++ encode_utf8_all rest)) ≡ false =
+          encode_beyond (λ bs. starts_with_two_hex (bs ++ (encode_utf8 next ++ encode_utf8_all rest)) ≡ false)
+          (λ b bs high. no_hex_first b (bs ++ (encode_utf8 next ++ encode_utf8_all rest)) high) c large in
+          first ∙ sym (and_left _ _ (beyond_no_hex c large))
+    ]
+
+-- the bytes begin with two hex digits exactly where their code points do
+pub starts_with_two_hex-chars : (bytes : List ℕ) → IsUtf8 bytes
+    → starts_with_two_hex bytes ≡ starts_with_two_hex (chars bytes)
+starts_with_two_hex-chars bytes utf8 =
+    ap starts_with_two_hex (sym (encodes-chars bytes utf8)) ∙ starts_with_two_hex-encodes (chars bytes)

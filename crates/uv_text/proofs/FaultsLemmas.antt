@@ -1,0 +1,116 @@
+-- The first fault that is found from code point to code point is the least complaint of units.
+use Rattle.std.proofs.Common.{◌≡◌, ◌≢◌, ℕ, zero, suc, ◌+◌, ◌<◌, ◌≤◌, Bool, true, false, List, [], ◌∷◌, Option, Some, None, refl, sym, ap, ◌∙◌, subst, inl, inr, arith, add-one}
+use Rattle.std.specs.Prelude.{IsNone, ◌↔◌}
+use Rattle.std.proofs.lemmas.Bool.{cases_Bool, false≢true}
+use Rattle.std.proofs.lemmas.Option.{none-some}
+use Rattle.uv_model.specs.declared.rule.Rule.{Rule}
+use Rattle.uv_model.specs.declared.rule.Refusal.{Refusal}
+use Rattle.uv_model.specs.Complaint.{Behind}
+use Rattle.uv_model.specs.Refusal.{IsLeast}
+use Rattle.uv_model.specs.Rule.{rule_number}
+use Rattle.uv_model.specs.UnitComplaint.{UnitComplaint, unit_rule}
+use Rattle.uv_model.specs.Units.{IsUnits, is_unit_at}
+use Rattle.uv_model.proofs.RefusalLemmas.{IsLeast-like}
+use Rattle.uv_model.proofs.UnitComplaintLemmas.{UnitComplaint-earlier, UnitComplaint-here, UnitComplaint-later, UnitComplaint-nil, UnitComplaint-said, no_complaint-units, units_uncomplained}
+use Rattle.uv_text.specs.Faults.{fault_from, violated}
+
+-- the faults of a text whose first code point stands at the place
+abbrev From : ℕ → List ℕ → ℕ → Rule → Type 0
+From start text place rule = Behind start (UnitComplaint text) place rule
+
+-- the first code point is the least fault where it is one
+least_here : (start c : ℕ) (rest : List ℕ) → is_unit_at c rest ≡ false
+    → IsLeast (From start (c ∷ rest)) (Some (record { place = start; rule = unit_rule c }))
+least_here start c rest fault =
+    record {
+      stands = record { inner = 0; moved = omega arith; holds = UnitComplaint-here c rest fault };
+      first = λ place rule h. let moved = h.moved in omega arith;
+      lowest = λ rule h. one_rule rule h;
+    }
+  where
+    one_rule : (rule : Rule) → From start (c ∷ rest) start rule → rule_number (unit_rule c) ≤ rule_number rule
+    one_rule rule h =
+        let moved = h.moved in
+        let here : h.inner ≡ 0 = omega arith in
+        let complaint = subst (λ n. UnitComplaint (c ∷ rest) n rule) here h.holds in
+        rw (UnitComplaint-said c rest rule complaint).1 (omega arith)
+
+-- a fault behind a first code point that is none
+to_whole : (start c : ℕ) (rest : List ℕ) (place : ℕ) (rule : Rule) → From (suc start) rest place rule
+    → From start (c ∷ rest) place rule
+to_whole start c rest place rule h =
+    let moved = h.moved in
+    record { inner = suc h.inner; moved = omega arith; holds = UnitComplaint-later c rest h.inner rule h.holds }
+
+-- and back
+to_rest : (start c : ℕ) (rest : List ℕ) → is_unit_at c rest ≡ true → (place : ℕ) (rule : Rule)
+    → From start (c ∷ rest) place rule → From (suc start) rest place rule
+to_rest start c rest unit place rule h = at_inner h.inner h.moved h.holds
+  where
+    at_inner : (inner : ℕ) → place ≡ start + inner → UnitComplaint (c ∷ rest) inner rule
+        → From (suc start) rest place rule
+    at_inner zero moved holds = absurd (false≢true (sym (UnitComplaint-said c rest rule holds).0 ∙ unit))
+    at_inner (suc inner) moved holds =
+        record { inner = inner; moved = omega arith; holds = UnitComplaint-earlier c rest inner rule holds }
+
+-- the fault that is found is the least
+pub least_from : (start : ℕ) (text : List ℕ) → IsLeast (From start text) (fault_from start text)
+least_from start [] = λ place rule h. UnitComplaint-nil h.inner rule h.holds
+least_from start (c ∷ rest) =
+    elim (cases_Bool (is_unit_at c rest)) [
+      | inl unit ↦
+          rw unit
+          (IsLeast-like (From (suc start) rest) (From start (c ∷ rest)) (to_whole start c rest)
+          (to_rest start c rest unit) (fault_from (suc start) rest) (least_from (suc start) rest))
+      | inr fault ↦ rw fault (least_here start c rest fault)
+    ]
+
+-- the first fault of a text is the least of its complaints
+pub least_fault : (text : List ℕ) → IsLeast (UnitComplaint text) (fault_from 0 text)
+least_fault text =
+    IsLeast-like (From 0 text) (UnitComplaint text) to_text from_text (fault_from 0 text) (least_from 0 text)
+  where
+    to_text : (place : ℕ) (rule : Rule) → From 0 text place rule → UnitComplaint text place rule
+    to_text place rule h =
+        let moved = h.moved in
+        let same : h.inner ≡ place = omega arith in
+        subst (λ n. UnitComplaint text n rule) same h.holds
+
+    from_text : (place : ℕ) (rule : Rule) → UnitComplaint text place rule → From 0 text place rule
+    from_text place rule h = record { inner = place; moved = omega arith; holds = h }
+
+-- none is found exactly in units
+pub none_in_units : (text : List ℕ) → (least : Option Refusal) → IsLeast (UnitComplaint text) least
+    → IsNone least ↔ IsUnits text
+none_in_units text None none = (λ same. units_uncomplained text none, λ units. refl)
+none_in_units text (Some refusal) is = (
+  λ same. absurd (false≢true (sym same)),
+  λ units. absurd (no_complaint-units text units refusal.place refusal.rule is.stands),
+)
+
+-- ---- one turn of the scan
+
+-- a code point that violates a rule is the first fault
+pub fault_from-found : (start c : ℕ) (rest : List ℕ) (rule : Rule) → violated c rest ≡ Some rule
+    → fault_from start (c ∷ rest) ≡ Some (record { place = start; rule = rule })
+fault_from-found start c rest rule is =
+    elim (cases_Bool (is_unit_at c rest)) [
+      | inl unit ↦
+          let none : violated c rest ≡ None = rw unit in
+          absurd (none-some rule (sym none ∙ is))
+      | inr fault ↦
+          let some : violated c rest ≡ Some (unit_rule c) = rw fault in
+          let same : unit_rule c ≡ rule = cc (some, is) in
+          rw fault (ap (λ r. Some (record { place = start; rule = r })) same)
+    ]
+
+-- behind a code point that violates none the scan goes on
+pub fault_from-passed : (start c : ℕ) (rest : List ℕ) → violated c rest ≡ None
+    → fault_from start (c ∷ rest) ≡ fault_from (start + 1) rest
+fault_from-passed start c rest is =
+    elim (cases_Bool (is_unit_at c rest)) [
+      | inl unit ↦ rw (unit, add-one) refl
+      | inr fault ↦
+          let some : violated c rest ≡ Some (unit_rule c) = rw fault in
+          absurd (none-some (unit_rule c) (sym is ∙ some))
+    ]

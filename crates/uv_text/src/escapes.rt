@@ -1,0 +1,25 @@
+//! Percent-encoding of texts of URL units.
+ghost use Rattle.std.specs.Prelude.{◌≡◌, IfOk, string_bytes};
+ghost use Rattle.std.specs.Str.{IsAscii, chars};
+ghost use Rattle.uv_model.specs.Encoding.{encoded};
+
+use percent_encoding::{AsciiSet, ascii_set, utf8_percent_encode};
+use std::alloc::{AllocError, Global};
+
+// The code points beyond ASCII alone, which every percent-encode set holds.
+const BEYOND_ASCII: AsciiSet = ascii_set!(AsciiSet::EMPTY);
+
+// The same and `'`, which the special-query percent-encode set changes in a text of units.
+const SPECIAL_QUERY: AsciiSet = ascii_set!(AsciiSet::EMPTY.add(b'\''));
+
+/// The text with each code point beyond ASCII as the escapes of its UTF-8 bytes, and with `quote` also `'` as `%27`
+/// (URL Standard, section 1.3). All else stays, escapes too. An error is want of memory.
+pub fn encode(alloc: Global, text: &str, quote: bool) -> Result<String, AllocError>
+    ensures text { IfOk result (λ out. string_bytes out ≡ encoded quote (chars text.now)) }
+    ensures ascii { IfOk result (λ out. IsAscii (string_bytes out)) }
+{
+    let set = if quote { SPECIAL_QUERY } else { BEYOND_ASCII };
+    let mut out = String::new(alloc);
+    utf8_percent_encode(text, set).append_to(&mut out)?;
+    Ok(out)
+}
