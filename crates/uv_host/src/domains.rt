@@ -102,3 +102,6 @@ fn is_same(a: &str, b: &str) -> bool
 {
     a == b
 }
+
+#[cfg(test)]
+mod tests;
