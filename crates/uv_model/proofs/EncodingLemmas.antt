@@ -246,3 +246,16 @@ starts_with_slash-encoded quote (c ∷ rest) start =
       | inr beyond ↦ let parts = encoded-beyond quote c beyond in
           rw (parts.3) refl
     ]
+
+-- the encoding of a text that isn't empty isn't empty
+pub encoded-some : (c : ℕ) (rest : List ℕ)
+    → (first : ℕ) × (others : List ℕ) × (encoded false (c ∷ rest) ≡ first ∷ others)
+unfolding encoded percent_encode_byte
+encoded-some c rest =
+    elim (cases_Bool (is_ascii c)) [
+      | inl ascii ↦ (c, encoded false rest, rw (encoded_code_point-kept false c (and_from _ _ ascii refl)) refl)
+      | inr beyond ↦ let parts = encoded-beyond false c beyond in
+          let second : List ℕ = percent_encode_byte (128 + parts.1 % 64) ++ parts.2 in
+          let digits : List ℕ = digit_glyph true (parts.0 / 16 % 16) ∷ digit_glyph true (parts.0 % 16) ∷ second in
+          (percent_sign, digits ++ encoded false rest, rw parts.3 refl)
+    ]

@@ -35,4 +35,5 @@ pub mod UnitComplaintLemmas
 pub mod UnitsAhead
 pub mod UnitsLemmas
 pub mod Unremoved
+pub mod WalkLemmas
 pub mod WellFormedLemmas

@@ -1,18 +1,24 @@
 -- Well-formed records: what the encoded parts of a valid text are.
-use Rattle.std.proofs.Common.{◌≡◌, ℕ, ◌<◌, Bool, true, false, cond, List, [], ◌∷◌, ◌++◌, Option, Some, None, refl, sym, ap, ◌∙◌, inl, inr, ◌==◌}
+use Rattle.std.proofs.Common.{◌≡◌, ℕ, ◌<◌, Bool, true, false, not, List, [], ◌∷◌, ◌++◌, Option, Some, None, refl, sym, ap, ◌∙◌, inl, inr, ◌==◌}
 use Rattle.std.specs.Prelude.{if◌then◌else◌, flat_map, option_map}
 use Rattle.std.specs.Fmt.{digit_glyph}
-use Rattle.std.proofs.lemmas.Bool.{cases_Bool, agree_below_at}
+use Rattle.std.proofs.lemmas.Bool.{agree_below_at, false≢true}
+use Rattle.std.proofs.lemmas.List.Sums.{list_all-from_AllPass}
 use Rattle.uv_model.specs.declared.scheme.Class.{Class}
 use Rattle.uv_model.specs.declared.scheme.Class.TheVariants.{Special, File, Other}
 use Rattle.uv_model.specs.Ascii.{question_mark, slash}
 use Rattle.uv_model.specs.Denote.{quotes}
 use Rattle.uv_model.specs.Encoding.{encoded, encoded_code_point}
-use Rattle.uv_model.specs.Path.{is_without, starts_with_slash}
+use Rattle.uv_model.specs.Path.{IsSegment, is_double_dot, is_single_dot, is_without, starts_with_slash}
 use Rattle.uv_model.specs.Units.{IsUnits}
 use Rattle.uv_model.specs.Valid.{IsOpaquePath, MayBeUnits}
-use Rattle.uv_model.specs.WellFormed.{IsAsciiUnits, IsUrlFragment, IsUrlOpaquePath, IsUrlQuery}
-use Rattle.uv_model.proofs.EncodingLemmas.{IsUnits-encoded, is_ascii-encoded, no_apostrophe-encoded, passes-encoded_whole, starts_with_slash-encoded}
+use Rattle.uv_model.specs.WellFormed.{IsAsciiUnits, IsUrlDomain, IsUrlFragment, IsUrlOpaqueHost, IsUrlOpaquePath, IsUrlQuery, IsUrlSegment}
+use Rattle.uv_model.specs.Domain.{IsDomain, is_form_code_point, has_lengths}
+use Rattle.uv_model.specs.OpaqueHost.{IsOpaqueHost, is_forbidden_host}
+use Rattle.uv_model.proofs.DotSegmentLemmas.{is_double_dot-encoded, is_single_dot-encoded}
+use Rattle.uv_model.proofs.UnitsLemmas.{IsUnits-nil}
+use Rattle.std.specs.List.{list_all}
+use Rattle.uv_model.proofs.EncodingLemmas.{IsUnits-encoded, encoded-some, is_ascii-encoded, no_apostrophe-encoded, passes-encoded_whole, starts_with_slash-encoded}
 use Rattle.uv_model.proofs.PathLemmas.{IsUnits-join, no_question_mark-join}
 
 -- units encoded are ASCII units
@@ -31,13 +37,33 @@ pub IsUrlFragment-encoded : (fragment : Option (List ℕ)) → MayBeUnits fragme
 IsUrlFragment-encoded None units = tt
 IsUrlFragment-encoded (Some fragment) units = IsAsciiUnits-encoded false fragment units
 
--- what stands neither in the text nor in an escape doesn't stand in the encoded text
+-- the code point isn't the mark
+abbrev is_other : ℕ → ℕ → Bool
+is_other mark c = if c == mark then false else true
+
+-- `?` stands in no encoding of a text without it
 no_question_mark-encoded : (quote : Bool) (text : List ℕ) → is_without question_mark text ≡ true
     → is_without question_mark (encoded quote text) ≡ true
-no_question_mark-encoded quote text = passes-encoded_whole (λ c. if c == question_mark then false else true) (refl, digit) quote text
+no_question_mark-encoded quote text = passes-encoded_whole (is_other question_mark) (refl, digit) quote text
   where
-    digit : (d : ℕ) → d < 16 → (if digit_glyph true d == question_mark then false else true) ≡ true
-    digit d small = agree_below_at (λ e. if digit_glyph true e == question_mark then false else true) (λ e. true) 16 d refl small
+    digit : (d : ℕ) → d < 16 → is_other question_mark (digit_glyph true d) ≡ true
+    digit d small = agree_below_at (λ e. is_other question_mark (digit_glyph true e)) (λ e. true) 16 d refl small
+
+-- nor does `/`
+no_slash-encoded : (quote : Bool) (text : List ℕ) → is_without slash text ≡ true
+    → is_without slash (encoded quote text) ≡ true
+no_slash-encoded quote text = passes-encoded_whole (is_other slash) (refl, digit) quote text
+  where
+    digit : (d : ℕ) → d < 16 → is_other slash (digit_glyph true d) ≡ true
+    digit d small = agree_below_at (λ e. is_other slash (digit_glyph true e)) (λ e. true) 16 d refl small
+
+-- nor does a forbidden host code point
+permitted-encoded : (quote : Bool) (text : List ℕ) → list_all (λ c. not (is_forbidden_host c)) text ≡ true
+    → list_all (λ c. not (is_forbidden_host c)) (encoded quote text) ≡ true
+permitted-encoded quote text = passes-encoded_whole (λ c. not (is_forbidden_host c)) (refl, digit) quote text
+  where
+    digit : (d : ℕ) → d < 16 → not (is_forbidden_host (digit_glyph true d)) ≡ true
+    digit d small = agree_below_at (λ e. not (is_forbidden_host (digit_glyph true e))) (λ e. true) 16 d refl small
 
 -- the opaque path of a valid text, encoded
 pub IsUrlOpaquePath-encoded : (text : List ℕ) → IsOpaquePath text → IsUrlOpaquePath (encoded false text)
@@ -47,4 +73,66 @@ IsUrlOpaquePath-encoded text (segments, path) =
       no_question_mark =
           no_question_mark-encoded false text (rw path.joins.joined (no_question_mark-join segments path.joins.each));
       start = starts_with_slash-encoded false text path.start;
+    }
+
+-- ---- segments
+
+-- the empty segment
+pub IsUrlSegment-nil : IsUrlSegment []
+unfolding is_single_dot is_double_dot
+IsUrlSegment-nil =
+    record {
+      units = record { units = IsUnits-nil; no_slash = refl; no_question_mark = refl };
+      ascii = refl;
+      no_single_dot = refl;
+      no_double_dot = refl;
+    }
+
+-- a segment of a text that is no dot segment, encoded
+pub IsUrlSegment-encoded : (segment : List ℕ) → IsSegment segment → is_single_dot segment ≡ false
+    → is_double_dot segment ≡ false → IsUrlSegment (encoded false segment)
+IsUrlSegment-encoded segment is single double =
+    record {
+      units = record {
+        units = IsUnits-encoded false segment is.units;
+        no_slash = no_slash-encoded false segment is.no_slash;
+        no_question_mark = no_question_mark-encoded false segment is.no_question_mark;
+      };
+      ascii = is_ascii-encoded false segment;
+      no_single_dot = is_single_dot-encoded segment ∙ single;
+      no_double_dot = is_double_dot-encoded segment ∙ double;
+    }
+
+-- ---- hosts
+
+-- a form has a code point
+first_of_form : (form : List ℕ) → has_lengths form ≡ true → (first : ℕ) × (rest : List ℕ) × (form ≡ first ∷ rest)
+first_of_form [] lengths = absurd (false≢true lengths)
+first_of_form (c ∷ rest) lengths = (c, rest, refl)
+
+-- the form of a domain
+pub IsUrlDomain-form : (text form : List ℕ) → IsDomain text form → IsUrlDomain form
+IsUrlDomain-form text form is =
+    let parts = first_of_form form is.0.lengths in
+    record {
+      first = parts.0;
+      rest = parts.1;
+      some = parts.2;
+      letters = list_all-from_AllPass is_form_code_point form is.0.letters;
+      name = is.1;
+    }
+
+-- an opaque host of a text, encoded
+pub IsUrlOpaqueHost-encoded : (text : List ℕ) → IsOpaqueHost text → IsUrlOpaqueHost (encoded false text)
+IsUrlOpaqueHost-encoded text is =
+    let parts = encoded-some is.first is.rest in
+    record {
+      host = record {
+        first = parts.0;
+        rest = parts.1;
+        some = ap (λ t. encoded false t) is.some ∙ parts.2;
+        units = IsUnits-encoded false text is.units;
+        permitted = permitted-encoded false text is.permitted;
+      };
+      ascii = is_ascii-encoded false text;
     }
