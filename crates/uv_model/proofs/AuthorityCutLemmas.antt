@@ -67,7 +67,7 @@ written_host within (c ∷ rest) = elim (cases_Bool (is_port_mark within c)) [
 ]
 
 -- nothing stands round a code point in the empty text
-nil_holds_none : (front rest : List ℕ) → [] ≡ front ++ colon ∷ rest → ⊥
+pub nil_holds_none : (front rest : List ℕ) → [] ≡ front ++ colon ∷ rest → ⊥
 nil_holds_none [] rest same = cc
 nil_holds_none (c ∷ front) rest same = cc
 

@@ -10,6 +10,7 @@ pub mod DenotedRecords
 pub mod DomainLemmas
 pub mod DotSegmentLemmas
 pub mod EncodingLemmas
+pub mod HostCutLemmas
 pub mod HostParserLemmas
 pub mod HostTextLemmas
 pub mod Ipv4ParserLemmas
@@ -36,4 +37,5 @@ pub mod UnitsAhead
 pub mod UnitsLemmas
 pub mod Unremoved
 pub mod WalkLemmas
+pub mod ValidCutLemmas
 pub mod WellFormedLemmas

@@ -133,13 +133,15 @@ abbrev pub FitsDrive : Option Url → List ℕ → Type 0
 FitsDrive None path = Unit {0}
 FitsDrive (Some base) path = scheme_class base.scheme ≡ File → base.host ≢ Some Empty → starts_with_drive path ≡ false
 
+-- a host text with which what follows `//` fits the class
+abbrev pub FitsHostText : Option Url → Parts → Option (List ℕ) → Type 0
+FitsHostText base parts None = ⊥
+FitsHostText base parts (Some host_text) =
+    FitsAuthority (scheme_class (scheme_in base parts)) (scheme_in base parts) host_text parts
+
 -- an authority has a host text, and what follows `//` fits the class
 abbrev pub HasAuthority : Option Url → Parts → Type 0
-HasAuthority base parts = fits parts.host_text
-  where
-    fits : Option (List ℕ) → Type 0
-    fits None = ⊥
-    fits (Some host_text) = FitsAuthority (scheme_class (scheme_in base parts)) (scheme_in base parts) host_text parts
+HasAuthority base parts = FitsHostText base parts parts.host_text
 
 -- there is neither a host nor a port
 pub record HasNoAuthority (parts : Parts) : Type 0 where

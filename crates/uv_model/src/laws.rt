@@ -1,7 +1,7 @@
 //! Laws over the definitions, each as the clause of a function that does nothing.
 ghost use Rattle.uv_model.specs.Address.{AreLibraryTexts};
 ghost use Rattle.uv_model.specs.AddressRows.{AddressParserRows};
-ghost use Rattle.uv_model.specs.CutLaws.{EveryTextHasOneCut};
+ghost use Rattle.uv_model.specs.CutLaws.{EveryTextHasOneCut, ValidTextsAreCutIntoTheirParts};
 ghost use Rattle.uv_model.specs.HostParser.{DomainsAreParsed, EmptyHostIsParsed, Ipv4HostsAreParsed, Ipv6HostsAreParsed, OpaqueHostsAreParsed};
 ghost use Rattle.uv_model.specs.HostText.{AddressesAreReadBack};
 ghost use Rattle.uv_model.specs.Ipv4Parser.{Ipv4TextsAreParsed};
@@ -32,6 +32,11 @@ pub fn opaque_texts_run_silently()
 /// Every text has, against every base, exactly one cut into the texts of its parts.
 pub fn every_text_has_one_cut()
     ensures { EveryTextHasOneCut }
+{}
+
+/// The cut of a valid text has the texts of its parts.
+pub fn valid_texts_are_cut_into_their_parts()
+    ensures { ValidTextsAreCutIntoTheirParts }
 {}
 
 /// The texts of IPv4 and IPv6 addresses are those of the standard library's grammar, with the same values (URL Standard,
