@@ -21,6 +21,9 @@ domain_rows =
     ∷ stops "http://a|b" 10
     ∷ stops "http://a%/" 9
     ∷ stops "http://a%3Ab/" 12
+    ∷ stops "http://a%25b/" 12
+    ∷ stops "http://a%01/" 11
+    ∷ stops "http://a%7F/" 11
     ∷ stops "http://%FF/" 10
     ∷ []
 

@@ -10,21 +10,46 @@ opaque_rows =
     ∷ done "foo:?" (with_query "" (opaque "foo" "")) "foo:?"
     ∷ done "foo:#" (with_fragment "" (opaque "foo" "")) "foo:#"
     ∷ done "foo:?#" (with_query "" (with_fragment "" (opaque "foo" ""))) "foo:?#"
+    ∷ done "urn:'" (opaque "urn" "'") "urn:'"
     ∷ done "urn:é?x'y#'" (with_query "x'y" (with_fragment "'" (opaque "urn" "%C3%A9"))) "urn:%C3%A9?x'y#'"
-    ∷ done "urn:\u{10fffd}" (opaque "urn" "%F4%8F%BF%BD") "urn:%F4%8F%BF%BD"
-    ∷ done "urn:%e9" (opaque "urn" "%e9") "urn:%e9"
     ∷ done "urn:a/b//../c" (opaque "urn" "a/b//../c") "urn:a/b//../c"
     ∷ done "blob:https://h/x" (opaque "blob" "https://h/x") "blob:https://h/x"
     ∷ done "UrN+a-1.B:X" (opaque "urn+a-1.b" "X") "urn+a-1.b:X"
     ∷ done "a:?b?/c#d?/é" (with_query "b?/c" (with_fragment "d?/%C3%A9" (opaque "a" ""))) "a:?b?/c#d?/%C3%A9"
     ∷ stops "urn:a b" 5
-    ∷ stops "urn:%4" 4
-    ∷ stops "urn:\u{fffe}" 4
-    ∷ stops "urn:\u{10fffe}" 4
-    ∷ stops "urn:a\\" 5
     ∷ stops "urn:a?b c" 7
     ∷ stops "urn:a#b\u{7f}" 7
     ∷ stops "urn:a#b#c" 7
+    ∷ []
+
+-- URL code points, and those that are none
+abbrev pub unit_rows : List Row
+unit_rows =
+    done "urn:!$&'()*+,-./09:;=@AZ_az~" (opaque "urn" "!$&'()*+,-./09:;=@AZ_az~") "urn:!$&'()*+,-./09:;=@AZ_az~"
+    ∷ done "urn:\u{a0}" (opaque "urn" "%C2%A0") "urn:%C2%A0"
+    ∷ done "urn:﷏\u{fdf0}" (opaque "urn" "%EF%B7%8F%EF%B7%B0") "urn:%EF%B7%8F%EF%B7%B0"
+    ∷ done "urn:\u{10fffd}" (opaque "urn" "%F4%8F%BF%BD") "urn:%F4%8F%BF%BD"
+    ∷ done "urn:%e9%4F" (opaque "urn" "%e9%4F") "urn:%e9%4F"
+    ∷ stops "urn:a\"" 5
+    ∷ stops "urn:a<" 5
+    ∷ stops "urn:a>" 5
+    ∷ stops "urn:a[" 5
+    ∷ stops "urn:a\\" 5
+    ∷ stops "urn:a]" 5
+    ∷ stops "urn:a^" 5
+    ∷ stops "urn:a`" 5
+    ∷ stops "urn:a{" 5
+    ∷ stops "urn:a|" 5
+    ∷ stops "urn:a}" 5
+    ∷ stops "urn:\u{7f}" 4
+    ∷ stops "urn:\u{9f}" 4
+    ∷ stops "urn:\u{fdd0}" 4
+    ∷ stops "urn:\u{fdef}" 4
+    ∷ stops "urn:\u{fffe}" 4
+    ∷ stops "urn:\u{10fffe}" 4
+    ∷ stops "urn:%" 4
+    ∷ stops "urn:%4" 4
+    ∷ stops "urn:%4g" 4
     ∷ []
 
 -- Before the first step: a C0 control or a space at either end, and a tab, LF or CR wherever it stands.
@@ -46,4 +71,4 @@ removed_rows =
 
 -- what the parser does on these texts
 abbrev pub OpaquePathRows : Type 0
-OpaquePathRows = AllHold opaque_rows × AllHold removed_rows
+OpaquePathRows = AllHold opaque_rows × AllHold unit_rows × AllHold removed_rows
