@@ -3,6 +3,7 @@ pub mod AddressRows
 pub mod AddressUniqueness
 pub mod AsciiLemmas
 pub mod AuthorityCutLemmas
+pub mod AuthorityLemmas
 pub mod CodePointLemmas
 pub mod Computing
 pub mod CutLemmas
@@ -36,6 +37,6 @@ pub mod UnitComplaintLemmas
 pub mod UnitsAhead
 pub mod UnitsLemmas
 pub mod Unremoved
-pub mod WalkLemmas
 pub mod ValidCutLemmas
+pub mod WalkLemmas
 pub mod WellFormedLemmas

@@ -139,3 +139,8 @@ pub record WellFormed (url : Url) : Type 0 where
   pub path : IsUrlPath (scheme_class url.scheme) url.host url.path
   pub query : IsUrlQuery (scheme_class url.scheme) url.query
   pub fragment : IsUrlFragment url.fragment
+
+-- an absent record, or a well-formed one, as a base is
+abbrev pub MayBeWellFormed : Option Url → Type 0
+MayBeWellFormed None = Unit {0}
+MayBeWellFormed (Some url) = WellFormed url

@@ -6,7 +6,7 @@ ghost use Rattle.uv_model.specs.HostParser.{DomainsAreParsed, EmptyHostIsParsed,
 ghost use Rattle.uv_model.specs.HostText.{AddressesAreReadBack};
 ghost use Rattle.uv_model.specs.Ipv4Parser.{Ipv4TextsAreParsed};
 ghost use Rattle.uv_model.specs.Ipv6Parser.{Ipv6TextsAreParsed};
-ghost use Rattle.uv_model.specs.Laws.{UnitsAreFaultless};
+ghost use Rattle.uv_model.specs.Laws.{DenotedRecordsAreWellFormed, UnitsAreFaultless};
 ghost use Rattle.uv_model.specs.Rows.Denotation.{DenotationRows};
 ghost use Rattle.uv_model.specs.Rows.File.{FileRows};
 ghost use Rattle.uv_model.specs.Rows.Hosts.{HostRows};
@@ -139,4 +139,10 @@ pub fn addresses_are_read_back()
 /// they are shortened or walked (URL Standard, sections 4.1 and 4.4).
 pub fn denotation_rows()
     ensures { DenotationRows }
+{}
+
+/// The record that a valid text denotes, alone or against a well-formed base, is well formed (URL Standard, sections
+/// 4.1 and 4.3).
+pub fn denoted_records_are_well_formed()
+    ensures { DenotedRecordsAreWellFormed }
 {}
