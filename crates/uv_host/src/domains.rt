@@ -1,6 +1,7 @@
 //! Domains of special URLs (URL Standard, sections 3.3 to 3.5; UTS #46, section 4).
 ghost use Rattle.std.specs.Cow.{cow_str_bytes};
 ghost use Rattle.std.specs.Prelude.{chars, encode_utf8_all, false, IfOk, IsTrue, MatchOption, option_map, true, ◌↔◌, ◌≡◌};
+ghost use Rattle.std.specs.Str.{IsAscii};
 ghost use Rattle.idna.specs.Uts46.{to_ascii};
 ghost use Rattle.uv_host.specs.Domains.{IsAnswer};
 ghost use Rattle.uv_model.specs.Domain as spec;
@@ -36,7 +37,7 @@ pub fn domain(alloc: Global, text: &str) -> Result<DomainAnswer, AllocError>
     let Some(form) = form_of(alloc, text)? else {
         return Ok(DomainAnswer::Not);
     };
-    if ends_in_number(form.as_str()) {
+    if is_number(form.as_str()) {
         Ok(DomainAnswer::Number)
     } else {
         Ok(DomainAnswer::Ascii(form.into_owned(alloc)?))
@@ -67,7 +68,7 @@ fn form_of(alloc: Global, text: &str) -> Result<Option<CowStr<'_>>, AllocError>
     let Some(form) = ascii_form(alloc, text, AsciiDenyList::STD3, Hyphens::Check)? else {
         return Ok(None);
     };
-    if !verify_dns_length(form.as_str(), true) {
+    if !has_lengths(form.as_str()) {
         return Ok(None);
     }
     let Some(parsed) = ascii_form(alloc, text, AsciiDenyList::EMPTY, Hyphens::Allow)? else {
@@ -95,6 +96,21 @@ fn ascii_form<'a>(
         Err(Errors::Invalid) => Ok(None),
         Err(Errors::OutOfMemory) => Err(AllocError),
     }
+}
+
+/// Whether each label of a form has 1 to 63 code points and the whole 1 to 253, a full stop at its end not counted.
+fn has_lengths(form: &str) -> bool
+    ensures { result ≡ spec.has_lengths form.now }
+{
+    verify_dns_length(form, true)
+}
+
+/// Whether a form ends in a number.
+fn is_number(form: &str) -> bool
+    requires { IsAscii form.now }
+    ensures { result ≡ spec.ends_in_number form.now }
+{
+    ends_in_number(form)
 }
 
 fn is_same(a: &str, b: &str) -> bool

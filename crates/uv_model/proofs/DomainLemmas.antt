@@ -1,5 +1,5 @@
 -- Valid domains: what a form is, that it is one, and which texts have none.
-use Rattle.std.proofs.Common.{◌≡◌, ◌≢◌, ℕ, suc, ◌<◌, ◌-◌, true, false, not, ◌&&◌, nat_le, List, [], ◌∷◌, length, chars, encode_utf8_all, IsAscii, Option, Some, None, IsSome, refl, sym, ap, ◌∙◌, inl, inr, arith}
+use Rattle.std.proofs.Common.{◌≡◌, ◌≢◌, ℕ, suc, ◌<◌, ◌-◌, true, false, not, ◌&&◌, nat_le, List, [], ◌∷◌, length, encode_utf8_all, IsAscii, Option, Some, None, IsSome, refl, sym, ap, ◌∙◌, inl, inr, arith}
 use Rattle.std.specs.Char.{is_ascii}
 use Rattle.std.specs.Int.{is_in_range}
 use Rattle.std.specs.List.{slice_index, list_all}
@@ -8,7 +8,7 @@ use Rattle.std.proofs.lemmas.Bool.Decides.{nat_tests}
 use Rattle.std.proofs.lemmas.List.Elements.{All-weaker}
 use Rattle.std.proofs.lemmas.List.Sums.{AllPass-from_list_all}
 use Rattle.std.proofs.lemmas.Option.{none-some, same_Some}
-use Rattle.std.proofs.lemmas.Str.{chars-IsAscii, encodes-IsAscii}
+use Rattle.std.proofs.lemmas.Str.{encodes-IsAscii}
 use Rattle.std.proofs.lemmas.Str.Ascii.{IsAscii-from_all}
 use Rattle.idna.specs.declared.deny_list.TheConstants.AsciiDenyList.{STD3, EMPTY}
 use Rattle.idna.specs.declared.options.DnsLength.TheVariants.{Ignore}
@@ -89,14 +89,14 @@ shown_form text form e =
 
 -- the form that both ToASCII give is that of the text, where its code points and the lengths are permitted
 pub IsForm-from : (text form : List ℕ) → has_permitted text ≡ true → strict_form text ≡ Some form →
-    verify_dns_length form true ≡ true → domain_to_ascii EMPTY (encode_utf8_all text) ≡ Some form → IsForm text form
+    has_lengths form ≡ true → domain_to_ascii EMPTY (encode_utf8_all text) ≡ Some form → IsForm text form
 IsForm-from text form permitted strict lengths parsed =
     let bytes = All-to_ascii STD3 Check Ignore (encode_utf8_all text) form strict in
     record {
       permitted = permitted;
       strict = strict;
       letters = All-weaker (IsOutputByte STD3) (λ c. is_form_code_point c ≡ true) form_code_point form bytes;
-      lengths = has_lengths-is form ∙ lengths;
+      lengths = lengths;
       parsed = parser_form-is text ∙ parsed;
       shown = shown_form text form strict;
     }
@@ -109,10 +109,6 @@ IsAscii-form text form is =
     small : (c : ℕ) → is_form_code_point c ≡ true → c < 128
     small c h = grind (arith, nat_tests)
 
--- so the number rule may be asked of the form's bytes
-pub ends_in_number-form : (text form : List ℕ) → IsForm text form → ends_in_number (chars form) ≡ ends_in_number form
-ends_in_number-form text form is = ap ends_in_number (chars-IsAscii form (IsAscii-form text form is))
-
 -- ---- what has none
 
 -- a text with an ASCII code point that isn't permitted has no form
@@ -124,11 +120,10 @@ pub not_strict : (text : List ℕ) → strict_form text ≡ None → HasNoForm t
 not_strict text e form h = none-some form (sym e ∙ h.strict)
 
 -- a text whose strict form has wrong lengths has no form
-pub no_lengths : (text form : List ℕ) → strict_form text ≡ Some form → verify_dns_length form true ≡ false →
-    HasNoForm text
+pub no_lengths : (text form : List ℕ) → strict_form text ≡ Some form → has_lengths form ≡ false → HasNoForm text
 no_lengths text form e wrong other h =
     let same = same_Some form other (sym e ∙ h.strict) in
-    false≢true (sym wrong ∙ ap (λ f. verify_dns_length f true) same ∙ sym (has_lengths-is other) ∙ h.lengths)
+    false≢true (sym wrong ∙ ap has_lengths same ∙ h.lengths)
 
 -- a text that the parser's ToASCII refuses has no form
 pub not_parsed : (text : List ℕ) → domain_to_ascii EMPTY (encode_utf8_all text) ≡ None → HasNoForm text

@@ -3,22 +3,22 @@ use Rattle.std.proofs.Common.{chars, encode_utf8_all, ◌≡◌, ◌≢◌, true
 use Rattle.std.specs.Cow.{cow_str_bytes}
 use Rattle.std.proofs.lemmas.Bool.{false≢true}
 use Rattle.idna.specs.declared.deny_list.TheConstants.AsciiDenyList.{EMPTY}
-use Rattle.idna.specs.Uts46.{verify_dns_length, domain_to_ascii}
-use Rattle.uv_model.specs.Domain.{strict_form}
+use Rattle.idna.specs.Uts46.{domain_to_ascii}
+use Rattle.uv_model.specs.Domain.{has_lengths, strict_form}
 use Rattle.uv_model.proofs.DomainLemmas.{IsForm-from, not_strict, no_lengths, not_parsed, other_parsed}
 use Rattle.uv_host.proofs.domains.form_of.Goals as goal
 
 pub returns-in_default : goal.returns-in_default
 returns-in_default c = not_strict _ (sym c.in_ok-form.ensures ∙ ap (option_map cow_str_bytes) c.in_default.is)
 
-pub returns-then-not-verify_dns_length : goal.returns-then-not-verify_dns_length
-returns-then-not-verify_dns_length c =
+pub returns-then-not-has_lengths : goal.returns-then-not-has_lengths
+returns-then-not-has_lengths c =
     let text = chars c.args.text.now in
     let form = cow_str_bytes c.in-Some.form in
     let strict : strict_form text ≡ Some form =
     sym c.in_ok-form.ensures ∙ ap (option_map cow_str_bytes) c.in-Some.is in
-    let wrong : verify_dns_length form true ≡ false =
-    rw (← c.as_str.ensures.value) (sym c.verify_dns_length.ensures ∙ c.if-not-verify_dns_length.true) in
+    let wrong : has_lengths form ≡ false =
+    rw (← c.as_str.ensures.value) (sym c.has_lengths.ensures ∙ c.if-not-has_lengths.true) in
     no_lengths text form strict wrong
 
 pub returns-in_default-2 : goal.returns-in_default-2
@@ -30,8 +30,8 @@ returns-then-is_same c =
     let form = cow_str_bytes c.in-Some.form in
     let strict : strict_form text ≡ Some form =
     sym c.in_ok-form.ensures ∙ ap (option_map cow_str_bytes) c.in-Some.is in
-    let lengths : verify_dns_length form true ≡ true =
-    rw (← c.as_str.ensures.value) (sym c.verify_dns_length.ensures ∙ c.if-not-verify_dns_length.false) in
+    let lengths : has_lengths form ≡ true =
+    rw (← c.as_str.ensures.value) (sym c.has_lengths.ensures ∙ c.if-not-has_lengths.false) in
     let parsed : domain_to_ascii EMPTY (encode_utf8_all text) ≡ Some (cow_str_bytes c.in-Some-2.parsed) =
     sym c.in_ok-parsed.ensures ∙ ap (option_map cow_str_bytes) c.in-Some-2.is in
     let same : cow_str_bytes c.in-Some-2.parsed ≡ form =
