@@ -113,3 +113,52 @@ pub struct Refusal {
     /// The rule that is violated there.
     pub rule: Rule,
 }
+
+#[cfg(test)]
+mod tests {
+    use super::*;
+
+    #[test]
+    fn finds_each_rule_by_its_name(rt: HostRuntime) {
+        let names = [
+            "no-scheme",
+            "opaque-base",
+            "two-slashes",
+            "host-missing",
+            "host-domain",
+            "host-number",
+            "host-ipv6",
+            "host-code-point",
+            "port-digit",
+            "port-range",
+            "first-segment-empty",
+            "drive-after-host",
+            "code-point",
+            "percent",
+        ];
+        for (at, name) in names.iter().enumerate() {
+            match Rule::of_name(name) {
+                Some(rule) => {
+                    assert_eq!(rt; usize::from(rule.number()), at + 1);
+                    assert_eq!(rt; rule.name(), *name);
+                }
+                None => panic!(rt; "no rule {name}"),
+            }
+        }
+    }
+
+    #[test]
+    fn finds_no_rule_by_another_text(rt: HostRuntime) {
+        for text in [
+            "",
+            "none",
+            "percen",
+            "percents",
+            "Percent",
+            "code_point",
+            " percent",
+        ] {
+            assert_eq!(rt; Rule::of_name(text), None);
+        }
+    }
+}

@@ -124,3 +124,50 @@ pub fn unit_run(bytes: &[u8], class: &ByteClass) -> usize
     }
     run
 }
+
+#[cfg(test)]
+mod tests {
+    use super::*;
+
+    #[test]
+    fn refuses_thirteen_ranges_and_wide_bounds(rt: HostRuntime) {
+        assert!(rt; ByteClass::of(&[(b'a', b'b'); 12]).is_some());
+        assert!(rt; ByteClass::of(&[(b'a', b'b'); 13]).is_none());
+        assert!(rt; ByteClass::of(&[(0, 127)]).is_some());
+        assert!(rt; ByteClass::of(&[(0, 128)]).is_none());
+        assert!(rt; ByteClass::of(&[(b'a', b'b'), (128, 0)]).is_none());
+    }
+
+    #[test]
+    fn holds_both_ends_of_a_range(rt: HostRuntime) {
+        let Some(class) = ByteClass::of(&[(b'b', b'd'), (b'z', b'y')]) else {
+            panic!(rt; "no class");
+        };
+        for (byte, held) in [
+            (b'a', false),
+            (b'b', true),
+            (b'c', true),
+            (b'd', true),
+            (b'e', false),
+        ] {
+            assert_eq!(rt; class.has(byte), held);
+        }
+        for byte in [b'y', b'z', 0xE2] {
+            assert!(rt; !class.has(byte));
+        }
+    }
+
+    #[test]
+    fn counts_the_front_in_the_class(rt: HostRuntime) {
+        let url = ByteClass::url();
+        assert_eq!(rt; unit_run(b"", &url), 0);
+        assert_eq!(rt; unit_run(b"a/b?c:d@e f", &url), 9);
+        assert_eq!(rt; unit_run(b"~!x", &url), 3);
+        assert_eq!(rt; unit_run("a\u{E9}".as_bytes(), &url), 1);
+        let host = ByteClass::opaque_host();
+        assert_eq!(rt; unit_run(b"a.b;c=d_e~f:80", &host), 11);
+        for mark in [b'/', b':', b'?', b'@', b'[', b'%', b'^', b'|'] {
+            assert_eq!(rt; unit_run(&[b'h', mark, b'h'], &host), 1);
+        }
+    }
+}

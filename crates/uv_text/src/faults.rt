@@ -30,15 +30,9 @@ fn unit_fault(c: char, rest: &str) -> Option<Rule>
     ensures { result ≡ violated c (chars rest.now) }
 {
     if c == '%' {
-        if starts_with_two_hex(rest.as_bytes()) {
-            None
-        } else {
-            Some(Rule::Percent)
-        }
-    } else if is_url_code_point(c) {
-        None
+        (!starts_with_two_hex(rest.as_bytes())).then_some(Rule::Percent)
     } else {
-        Some(Rule::CodePoint)
+        (!is_url_code_point(c)).then_some(Rule::CodePoint)
     }
 }
 
@@ -49,5 +43,58 @@ fn starts_with_two_hex(bytes: &[u8]) -> bool
     match bytes {
         [high, low, ..] => high.is_ascii_hexdigit() && low.is_ascii_hexdigit(),
         _ => false,
+    }
+}
+
+#[cfg(test)]
+mod tests {
+    use super::*;
+    use std::test::Fail;
+
+    // The fault at a place by a rule.
+    fn at(place: usize, rule: Rule) -> Option<Refusal> {
+        Some(Refusal { place, rule })
+    }
+
+    #[test]
+    fn names_the_rule_of_a_fault(rt: HostRuntime) {
+        assert_eq!(rt; first_fault("a b"), at(1, Rule::CodePoint));
+        assert_eq!(rt; first_fault("%4"), at(0, Rule::Percent));
+        assert_eq!(rt; first_fault("%4g"), at(0, Rule::Percent));
+        assert_eq!(rt; first_fault("%"), at(0, Rule::Percent));
+        assert_eq!(rt; first_fault("%4\u{E9}"), at(0, Rule::Percent));
+        assert_eq!(rt; first_fault("%e9%E9"), None);
+        assert_eq!(rt; first_fault(""), None);
+        assert_eq!(rt; first_fault("isbn:0451450523"), None);
+    }
+
+    #[test]
+    fn names_the_first_fault(rt: HostRuntime) {
+        assert_eq!(rt; first_fault("a^b c%4"), at(1, Rule::CodePoint));
+        assert_eq!(rt; first_fault("a%4 b^c"), at(1, Rule::Percent));
+        assert_eq!(rt; first_fault("%41%zz^"), at(3, Rule::Percent));
+    }
+
+    #[test]
+    fn counts_code_points(rt: HostRuntime) -> Result<(), Fail> {
+        for front in ["a", "\u{E9}", "\u{20AC}", "\u{1F600}"] {
+            for (fault, rule) in [(" ", Rule::CodePoint), ("%4", Rule::Percent)] {
+                let text = format!(in rt.alloc(); "{front}{front}{fault}")?;
+                assert_eq!(rt; first_fault(text.as_str()), at(2, rule));
+            }
+        }
+        assert_eq!(rt;
+            first_fault("a\u{E9}\u{20AC}\u{1F600}^"),
+            at(4, Rule::CodePoint)
+        );
+    }
+
+    #[test]
+    fn stops_beyond_the_url_code_points(rt: HostRuntime) {
+        assert_eq!(rt; first_fault("\u{FFFE}"), at(0, Rule::CodePoint));
+        assert_eq!(rt; first_fault("\u{10FFFE}"), at(0, Rule::CodePoint));
+        assert_eq!(rt; first_fault("\u{10FFFD}"), None);
+        assert_eq!(rt; first_fault("\u{9F}"), at(0, Rule::CodePoint));
+        assert_eq!(rt; first_fault("\u{A0}"), None);
     }
 }

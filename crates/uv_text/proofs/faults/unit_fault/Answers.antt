@@ -1,37 +1,38 @@
 -- The tests that the code makes on bytes and code points are those of a unit.
-use Rattle.std.proofs.Common.{◌≡◌, ℕ, Bool, List, sym, ap, ◌∙◌, ne_eqb}
-use Rattle.std.specs.Str.{IsUtf8, chars}
+use Rattle.std.proofs.Common.{◌≡◌, ℕ, Bool, true, false, not, List, Some, None, refl, sym, ap, ◌∙◌, ne_eqb}
+use Rattle.std.specs.Prelude.{if◌then◌else◌}
+use Rattle.std.specs.Bool.{then_some}
+use Rattle.std.specs.Str.{chars}
+use Rattle.uv_model.specs.declared.rule.Rule.{Rule}
+use Rattle.uv_model.specs.declared.rule.Rule.TheVariants.{CodePoint, Percent}
 use Rattle.uv_model.specs.Ascii.{percent_sign}
-use Rattle.uv_model.specs.Units.{is_unit_at, starts_with_two_hex}
+use Rattle.uv_model.specs.Units.{is_unit_at, is_url_code_point, starts_with_two_hex}
 use Rattle.uv_model.proofs.UnitsLemmas.{starts_with_two_hex-chars}
+use Rattle.uv_text.specs.Faults.{violated}
 use Rattle.uv_text.proofs.faults.unit_fault.Goals as goal
 
--- the test on the bytes, told of the code points
-on_chars : (rest bytes : List ℕ) (test answer : Bool) → IsUtf8 rest → bytes ≡ rest
-    → test ≡ starts_with_two_hex bytes → test ≡ answer → starts_with_two_hex (chars rest) ≡ answer
-on_chars rest bytes test answer utf8 same is said =
-    sym (starts_with_two_hex-chars rest utf8) ∙ ap starts_with_two_hex (sym same) ∙ sym is ∙ said
+-- a rule where the test fails
+then_some_is : (test : Bool) (rule : Rule) → then_some (not test) rule ≡ (if test then None else Some rule)
+then_some_is true rule = refl
+then_some_is false rule = refl
 
-pub returns-then-starts_with_two_hex : goal.returns-then-starts_with_two_hex
+at_percent : (c : ℕ) (rest : List ℕ) → c ≡ percent_sign
+    → then_some (not (starts_with_two_hex rest)) Percent ≡ violated c rest
 unfolding is_unit_at
-returns-then-starts_with_two_hex c =
-    let two = on_chars c.args.rest.now _ _ _ c.utf8.rest c.as_bytes.ensures.value c.starts_with_two_hex.ensures
-    c.if-starts_with_two_hex.true in
-    rw (c.if-c-eq37.true, two)
+at_percent c rest same = rw same (then_some_is (starts_with_two_hex rest) Percent)
 
-pub returns-else-starts_with_two_hex : goal.returns-else-starts_with_two_hex
+elsewhere : (c : ℕ) (rest : List ℕ) → (c ≡ percent_sign → ⊥)
+    → then_some (not (is_url_code_point c)) CodePoint ≡ violated c rest
 unfolding is_unit_at
-returns-else-starts_with_two_hex c =
-    let two = on_chars c.args.rest.now _ _ _ c.utf8.rest c.as_bytes.ensures.value c.starts_with_two_hex.ensures
-    c.if-starts_with_two_hex.false in
-    rw (c.if-c-eq37.true, two)
+elsewhere c rest other = rw (ne_eqb c percent_sign other) (then_some_is (is_url_code_point c) CodePoint)
 
-pub returns-then-is_url_code_point : goal.returns-then-is_url_code_point
-unfolding is_unit_at
-returns-then-is_url_code_point c =
-    rw (ne_eqb c.args.c percent_sign c.if-c-eq37.false, sym c.is_url_code_point.ensures ∙ c.if-is_url_code_point.true)
+pub returns-then-c-eq37 : goal.returns-then-c-eq37
+returns-then-c-eq37 c =
+    let bytes = c.starts_with_two_hex.ensures ∙ ap starts_with_two_hex c.as_bytes.ensures.value in
+    let two = bytes ∙ starts_with_two_hex-chars c.args.rest.now c.utf8.rest in
+    c.then_some.ensures ∙ rw two (at_percent c.args.c (chars c.args.rest.now) c.if-c-eq37.true)
 
-pub returns-else-is_url_code_point : goal.returns-else-is_url_code_point
-unfolding is_unit_at
-returns-else-is_url_code_point c =
-    rw (ne_eqb c.args.c percent_sign c.if-c-eq37.false, sym c.is_url_code_point.ensures ∙ c.if-is_url_code_point.false)
+pub returns-else-c-eq37 : goal.returns-else-c-eq37
+returns-else-c-eq37 c =
+    c.then_some-else-c-eq37.ensures
+    ∙ rw c.is_url_code_point.ensures (elsewhere c.args.c (chars c.args.rest.now) c.if-c-eq37.false)
