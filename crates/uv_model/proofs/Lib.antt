@@ -30,6 +30,7 @@ pub mod RowsLemmas
 pub mod SchemeCutLemmas
 pub mod SchemeLemmas
 pub mod SchemeStretch
+pub mod Shown
 pub mod SilentOpaque
 pub mod Steps
 pub mod Tails

@@ -1,5 +1,5 @@
--- Runs of the URL parser (URL Standard, section 4.4), one for each way in which it stops or is done. They keep the machine
--- from being one that never stops, or one that always does.
+-- Runs of the URL parser (URL Standard, section 4.4), one for each way in which it stops or is done. They keep the
+-- machine from being one that never stops, or one that always does.
 use Rattle.std.specs.Prelude.{List, [], ◌∷◌, None}
 use Rattle.uv_model.specs.Rows.{Row, AllHold, done, stops, within, unfinished, listed, opaque, domain}
 

@@ -1,6 +1,6 @@
 -- Runs against a base (URL Standard, section 4.4): texts without a scheme, and texts with the base's own.
 use Rattle.std.specs.Prelude.{List, [], ◌∷◌, Some, None}
-use Rattle.uv_model.specs.Rows.{Row, AllHold, done, stops, against, listed, opaque, with_query, with_fragment, domain, opaque_host, empty_host}
+use Rattle.uv_model.specs.Rows.{Row, AllHold, done, stops, within, against, listed, opaque, with_query, with_fragment, domain, opaque_host, empty_host}
 use Rattle.uv_model.specs.Url.{Url}
 
 -- `http://h/a/b?q`
@@ -26,6 +26,10 @@ drive_base = listed "file" empty_host None ("C:" ∷ "d" ∷ "f" ∷ [])
 -- `file://h/a`
 abbrev pub file_host_base : Url
 file_host_base = listed "file" (domain "h") None ("a" ∷ [])
+
+-- `file:///d/f?q`
+abbrev pub file_query_base : Url
+file_query_base = with_query "q" (listed "file" empty_host None ("d" ∷ "f" ∷ []))
 
 -- `urn:a`
 abbrev pub urn_base : Url
@@ -82,7 +86,7 @@ root_rows =
     ∷ against root_base (done "HTTP://g" (listed "http" (domain "g") None ("" ∷ [])) "http://g/")
     ∷ against root_base (done "https://g" (listed "https" (domain "g") None ("" ∷ [])) "https://g/")
     ∷ against root_base (stops "//" 2)
-    ∷ against root_base (stops "///x" 2)
+    ∷ against root_base (within 5 (stops "///x" 2))
     ∷ against root_base (stops "http:x" 5)
     ∷ against root_base (stops "http:" 5)
     ∷ against root_base (stops "http:/x" 5)
@@ -100,6 +104,7 @@ abbrev pub drive_rows : List Row
 drive_rows =
     against drive_base (done "/x" (listed "file" empty_host None ("C:" ∷ "x" ∷ [])) "file:///C:/x")
     ∷ against drive_base (done "/D:?q" (with_query "q" (listed "file" empty_host None ("D:" ∷ []))) "file:///D:?q")
+    ∷ against drive_base (done "/D:#f" (with_fragment "f" (listed "file" empty_host None ("D:" ∷ []))) "file:///D:#f")
     ∷ against drive_base (done "/.." (listed "file" empty_host None ("C:" ∷ "" ∷ [])) "file:///C:/")
     ∷ against drive_base (done "/" (listed "file" empty_host None ("C:" ∷ "" ∷ [])) "file:///C:/")
     ∷ against drive_base (done "/D:x" (listed "file" empty_host None ("C:" ∷ "D:x" ∷ [])) "file:///C:/D:x")
@@ -118,13 +123,16 @@ drive_rows =
     ∷ against drive_base (done "file:///y" (listed "file" empty_host None ("y" ∷ [])) "file:///y")
     ∷ against drive_base (stops "C|/x" 0)
     ∷ against drive_base (stops "C|" 0)
+    ∷ against drive_base (stops "C|\\x" 0)
+    ∷ against drive_base (stops "C|?x" 0)
+    ∷ against drive_base (stops "C|#x" 0)
     ∷ against drive_base (stops "C|x" 1)
     ∷ against drive_base (stops "/D|/x" 2)
     ∷ against drive_base (stops "//C:/x" 4)
     ∷ against drive_base (stops "file:x" 4)
     ∷ []
 
--- against `file://h/a`
+-- against `file://h/a` and `file:///d/f?q`
 abbrev pub file_host_rows : List Row
 file_host_rows =
     against file_host_base (done "/b" (listed "file" (domain "h") None ("b" ∷ [])) "file://h/b")
@@ -133,6 +141,14 @@ file_host_rows =
     ∷ against file_host_base (done "?q" (with_query "q" (listed "file" (domain "h") None ("a" ∷ []))) "file://h/a?q")
     ∷ against file_host_base (done "///x" (listed "file" empty_host None ("x" ∷ [])) "file:///x")
     ∷ against file_host_base (stops "file:/C:/x" 4)
+    ∷ against file_query_base (done ""
+    (with_query "q" (listed "file" empty_host None ("d" ∷ "f" ∷ []))) "file:///d/f?q")
+    ∷ against file_query_base (done "?x"
+    (with_query "x" (listed "file" empty_host None ("d" ∷ "f" ∷ []))) "file:///d/f?x")
+    ∷ against file_query_base (done "#t"
+    (with_query "q" (with_fragment "t" (listed "file" empty_host None ("d" ∷ "f" ∷ [])))) "file:///d/f?q#t")
+    ∷ against file_query_base (done "x" (listed "file" empty_host None ("d" ∷ "x" ∷ [])) "file:///d/x")
+    ∷ against file_query_base (done "/x" (listed "file" empty_host None ("x" ∷ [])) "file:///x")
     ∷ []
 
 -- against `urn:a` and `urn:a?q`, and without a base
