@@ -198,3 +198,6 @@ fn as_text(text: &Option<Text>) -> Option<&str>
         None => None,
     }
 }
+
+#[cfg(test)]
+mod tests;
