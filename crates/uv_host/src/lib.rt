@@ -3,6 +3,8 @@
 
 mod addresses;
 mod domains;
+mod opaque_hosts;
 
-pub use addresses::{ipv4, ipv6};
+pub use addresses::{bracketed_ipv6, ipv4, ipv6};
 pub use domains::{DomainAnswer, domain};
+pub use opaque_hosts::opaque_fault;

@@ -1,0 +1,29 @@
+-- The text of an opaque host, judged code point by code point (URL Standard, sections 3.1, 3.4 and 4.3).
+use Rattle.std.specs.Prelude.{◌≡◌, ℕ, ◌+◌, ◌⊎◌, Bool, true, false, not, ◌||◌, ◌==◌, List, [], ◌∷◌, Option, Some, None, if◌then◌else◌}
+use Rattle.uv_model.specs.declared.rule.Rule.{Rule}
+use Rattle.uv_model.specs.declared.rule.Rule.TheVariants.{HostCodePoint, Percent}
+use Rattle.uv_model.specs.declared.rule.Refusal.{Refusal}
+use Rattle.uv_model.specs.Address.{IsBracketedIpv6}
+use Rattle.uv_model.specs.Ascii.{percent_sign}
+use Rattle.uv_model.specs.OpaqueHost.{is_forbidden_host, IsOpaqueHost}
+use Rattle.uv_model.specs.Units.{is_url_code_point, starts_with_two_hex}
+
+-- the rule that a code point violates, by what follows it
+abbrev pub host_fault : ℕ → List ℕ → Option Rule
+host_fault c rest =
+    if c == percent_sign then (if starts_with_two_hex rest then None else Some Percent)
+    else (if is_forbidden_host c || not (is_url_code_point c) then Some HostCodePoint else None)
+
+-- the fault at this place, or what is found later
+abbrev pub fault_or : ℕ → Option Rule → Option Refusal → Option Refusal
+fault_or place None later = later
+fault_or place (Some rule) later = Some (record { place = place; rule = rule })
+
+-- the first fault of the text, where so many code points stand before it
+abbrev pub first_host_fault : ℕ → List ℕ → Option Refusal
+first_host_fault place [] = None
+first_host_fault place (c ∷ rest) = fault_or place (host_fault c rest) (first_host_fault (place + 1) rest)
+
+-- the text is empty, an IPv6 text in brackets, or an opaque host without brackets
+abbrev pub IsOpaqueHostOrEmpty : List ℕ → Type 0
+IsOpaqueHostOrEmpty text = (text ≡ []) ⊎ (((pieces : List ℕ) × IsBracketedIpv6 text pieces) ⊎ IsOpaqueHost text)
