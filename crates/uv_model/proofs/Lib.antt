@@ -4,7 +4,6 @@ pub mod AddressUniqueness
 pub mod AsciiLemmas
 pub mod AuthorityCutLemmas
 pub mod AuthorityLemmas
-pub mod CodePointLemmas
 pub mod Computing
 pub mod CutLemmas
 pub mod DenotedRecords
