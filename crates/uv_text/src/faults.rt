@@ -87,6 +87,7 @@ mod tests {
             first_fault("a\u{E9}\u{20AC}\u{1F600}^"),
             at(4, Rule::CodePoint)
         );
+        Ok(())
     }
 
     #[test]
