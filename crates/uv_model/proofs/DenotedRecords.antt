@@ -47,7 +47,7 @@ IsUrlQuery-own base kind NoPath None units kept = kept refl refl
 IsUrlQuery-own base kind _ None units kept = tt
 
 -- the URL that the parts denote, read as of this form
-abbrev denote_as : Option Url → Form → Parts → Url
+abbrev pub denote_as : Option Url → Form → Parts → Url
 denote_as base form parts =
     let kind = scheme_class (scheme_in base parts) in
     record {

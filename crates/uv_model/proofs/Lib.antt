@@ -23,6 +23,8 @@ pub mod LastLabelLemmas
 pub mod Looping
 pub mod MarkLemmas
 pub mod PathLemmas
+pub mod PathLoops
+pub mod PathStarts
 pub mod RefusalLemmas
 pub mod Rows
 pub mod RowsLemmas
@@ -31,6 +33,8 @@ pub mod SchemeLemmas
 pub mod SchemeStretch
 pub mod Shown
 pub mod SilentOpaque
+pub mod SilentPath
+pub mod SilentSchemes
 pub mod Steps
 pub mod Tails
 pub mod UnitComplaintLemmas

@@ -1,13 +1,14 @@
 -- How a run of the parser machine ends behind a path: at the end of the text, or through a query, a fragment, or both.
 use Rattle.std.proofs.Common.{◌≡◌, ℕ, suc, ◌+◌, Bool, true, false, List, [], ◌∷◌, ◌++◌, length, Option, Some, None, refl, sym, ap, subst, ◌∙◌, append-nil, append_assoc, length-append, arith}
 use Rattle.std.specs.Prelude.{option_map}
-use Rattle.uv_model.specs.Ascii.{question_mark, number_sign}
+use Rattle.uv_model.specs.Ascii.{slash, question_mark, number_sign}
 use Rattle.uv_model.specs.Encoding.{encoded}
 use Rattle.uv_model.specs.Parts.{written_behind}
+use Rattle.uv_model.specs.Path.{starts_with_slash}
 use Rattle.uv_model.specs.Units.{IsUnits}
 use Rattle.uv_model.specs.Url.{Url}
 use Rattle.uv_model.specs.Valid.{MayBeUnits}
-use Rattle.uv_model.specs.Machine.{State, Held, turn, onward, to_query, to_fragment, QueryState, FragmentState, emptied, with_query, with_fragment, with_more, query_ended, is_special}
+use Rattle.uv_model.specs.Machine.{State, Held, turn, onward, to_query, to_fragment, QueryState, FragmentState, emptied, with_query, with_fragment, with_more, query_ended, is_special, begins}
 use Rattle.uv_model.proofs.Steps.{Reaches, Ends, reaches_none, onward_then, ends_onward, ends_step, ends_after, ends_within}
 use Rattle.uv_model.proofs.UnitsLemmas.{is_faultless-units}
 use Rattle.uv_model.proofs.Looping.{query_law, fragment_law}
@@ -72,3 +73,11 @@ module _ (base : Option Url) where
       ends_within base (omega arith)
       (ends_step base (λ p. turns.at_query p (query ++ written_behind number_sign fragment))
       (query_ends query fragment h₁ query_units fragment_units))
+
+-- a tail doesn't begin with `/`, and so neither does a path that doesn't, with a tail behind it
+pub no_slash_before_tail : (path : List ℕ) (query fragment : Option (List ℕ)) → starts_with_slash path ≡ false
+    → begins slash (path ++ tail query fragment) ≡ false
+no_slash_before_tail (c ∷ rest) query fragment start = start
+no_slash_before_tail [] (Some text) fragment start = refl
+no_slash_before_tail [] None (Some text) start = refl
+no_slash_before_tail [] None None start = refl
