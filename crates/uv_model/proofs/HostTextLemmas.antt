@@ -8,7 +8,7 @@ use Rattle.uv_model.specs.declared.host.Host.{Host}
 use Rattle.uv_model.specs.declared.host.Host.TheVariants.{V4, V6}
 use Rattle.uv_model.specs.Address.{IsIpv4, IsBracketedIpv6, address_of}
 use Rattle.uv_model.specs.HostText.{IsAddress, DenotesAddress, AddressesAreReadBack}
-use Rattle.uv_model.specs.Serialize.{serial_ipv4, serial_host}
+use Rattle.uv_model.specs.Serialize.{serial_ipv4, serial_ipv6, serial_host}
 use Rattle.uv_model.proofs.AddressLemmas.{ipv6_from_colon_hex}
 use Rattle.uv_model.proofs.AddressUniqueness.{ipv4_unique, bracketed_unique, ipv4_no_bracket, bracketed_bracket}
 

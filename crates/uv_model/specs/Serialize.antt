@@ -12,14 +12,18 @@ use Rattle.std.specs.Net.Text.{hex_groups_text}
 -- an IPv4 address: its four numbers, the highest first, with `.` between each two
 abbrev pub serial_ipv4 : ℕ → List ℕ
 serial_ipv4 value =
-    decimal (value / 16777216 % 256) ++ codes "." ++ decimal (value / 65536 % 256) ++ codes "." ++ decimal (value / 256 % 256)
-    ++ codes "." ++ decimal (value % 256)
+    decimal (value / 16777216 % 256) ++ codes "." ++ decimal (value / 65536 % 256) ++ codes "."
+    ++ decimal (value / 256 % 256) ++ codes "." ++ decimal (value % 256)
 
--- a host; the pieces of an IPv6 address in brackets, where `::` stands for the first longest run of two zero pieces or more
+-- the pieces of an IPv6 address in brackets, where `::` stands for the first longest run of two zero pieces or more
+abbrev pub serial_ipv6 : List ℕ → List ℕ
+serial_ipv6 pieces = codes "[" ++ hex_groups_text pieces ++ codes "]"
+
+-- a host
 unfoldable pub serial_host : Host → List ℕ
 serial_host (host.Domain form) = form
 serial_host (host.V4 value) = serial_ipv4 value
-serial_host (host.V6 pieces) = codes "[" ++ hex_groups_text pieces ++ codes "]"
+serial_host (host.V6 pieces) = serial_ipv6 pieces
 serial_host (host.Opaque text) = text
 serial_host host.Empty = []
 

@@ -1,6 +1,6 @@
 //! Hosts, and the host serializer.
 ghost use Rattle.std.specs.Prelude.{◌≡◌, IfOk, string_bytes};
-ghost use Rattle.uv_model.specs.Serialize.{serial_host, serial_ipv4};
+ghost use Rattle.uv_model.specs.Serialize.{serial_host, serial_ipv4, serial_ipv6};
 
 use crate::text::Text;
 use std::alloc::{AllocError, Global};
@@ -43,10 +43,7 @@ impl Host {
         match self {
             Host::Domain(form) => String::from_str(alloc, form.as_str()),
             Host::V4(value) => ipv4_text(alloc, *value),
-            Host::V6(pieces) => format!(in alloc;
-                "[{}]",
-                Ipv6Addr::from_segments(*pieces).hex_groups()
-            ),
+            Host::V6(pieces) => ipv6_text(alloc, *pieces),
             Host::Opaque(text) => String::from_str(alloc, text.as_str()),
             Host::Empty => Ok(String::new(alloc)),
         }
@@ -59,6 +56,14 @@ fn ipv4_text(alloc: Global, value: u32) -> Result<String, AllocError>
     ensures { IfOk result (λ text. string_bytes text ≡ serial_ipv4 value) }
 {
     format!(in alloc; "{}", Ipv4Addr::from_bits(value))
+}
+
+/// The pieces of an IPv6 address in brackets, where `::` stands for the first longest run of two zero pieces or more.
+fn ipv6_text(alloc: Global, pieces: [u16; 8]) -> Result<String, AllocError>
+    ensures { IfOk result (λ text. string_bytes text ≡ serial_ipv6 pieces) }
+{
+    let groups = Ipv6Addr::from_segments(pieces).hex_groups();
+    format!(in alloc; "[{groups}]")
 }
 
 #[cfg(test)]
