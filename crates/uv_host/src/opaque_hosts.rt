@@ -1,4 +1,4 @@
-//! Opaque hosts (URL Standard, sections 3.1 and 3.4).
+//! Opaque hosts (URL Standard, sections 3.2 and 3.4).
 ghost use Rattle.std.specs.Prelude.{◌≡◌, ◌↔◌, true, None, chars, length};
 ghost use Rattle.uv_model.specs.OpaqueHost as spec;
 ghost use Rattle.uv_model.specs.OpaqueHostComplaint.{OpaqueHostComplaint};

@@ -93,7 +93,7 @@ abbrev pub is_drive_end : List ℕ → Bool
 is_drive_end [] = true
 is_drive_end (c ∷ rest) = (c == slash) || ((c == backslash) || ((c == question_mark) || (c == number_sign)))
 
--- the rest starts with a Windows drive letter (section 4.1)
+-- the rest starts with a Windows drive letter (section 4.2)
 abbrev pub begins_drive : List ℕ → Bool
 begins_drive (c ∷ mark ∷ rest) = is_drive_letter (c ∷ mark ∷ []) && is_drive_end rest
 begins_drive _ = false

@@ -1,4 +1,4 @@
--- Opaque hosts, after the URL Standard, sections 3.1 and 3.4.
+-- Opaque hosts, after the URL Standard, sections 3.2 and 3.4.
 use Rattle.std.specs.Prelude.{◌≡◌, ℕ, Bool, true, false, not, ◌==◌, List, [], ◌∷◌, codes}
 use Rattle.std.specs.List.{list_all, list_any}
 use Rattle.uv_model.specs.Ascii.{left_bracket}

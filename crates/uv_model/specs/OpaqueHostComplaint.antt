@@ -1,4 +1,4 @@
--- The faults of an opaque host, after the URL Standard, sections 3.1 and 3.4.
+-- The faults of an opaque host, after the URL Standard, sections 3.2 and 3.4.
 use Rattle.std.specs.Prelude.{◌≡◌, ◌≢◌, ℕ, ◌⊎◌, true, false, List, ◌∷◌, drop}
 use Rattle.uv_model.specs.declared.rule.Rule.{Rule}
 use Rattle.uv_model.specs.declared.rule.Rule.TheVariants.{HostIpv6, HostCodePoint, Percent}

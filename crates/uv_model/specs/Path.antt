@@ -1,4 +1,4 @@
--- Paths and their segments, after the URL Standard, sections 4.1, 4.3 and 4.4.
+-- Paths and their segments, after the URL Standard, sections 4.1 to 4.4.
 use Rattle.std.specs.Prelude.{◌≡◌, ℕ, Bool, true, false, ◌&&◌, ◌||◌, ◌==◌, List, [], ◌∷◌, ◌++◌, codes, Option, Some, None, is_none, if◌then◌else◌}
 use Rattle.std.specs.List.{list_all, join_with_byte}
 use Rattle.std.specs.Str.{bytes_eq}
@@ -45,7 +45,7 @@ abbrev pub is_lone_drive : List (List ℕ) → Bool
 is_lone_drive (segment ∷ []) = is_normalized_drive_letter segment
 is_lone_drive _ = false
 
--- shorten a URL's path (section 4.1)
+-- shorten a URL's path (section 4.2)
 abbrev pub shorten : Class → List (List ℕ) → List (List ℕ)
 shorten File path = if is_lone_drive path then path else without_last path
 shorten _ path = without_last path

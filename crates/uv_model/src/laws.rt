@@ -136,7 +136,7 @@ pub fn addresses_are_read_back()
 {}
 
 /// What the parts of some texts denote, which is what the parser machine is done with, and what some paths become when
-/// they are shortened or walked (URL Standard, sections 4.1 and 4.4).
+/// they are shortened or walked (URL Standard, sections 4.2 and 4.4).
 pub fn denotation_rows()
     ensures { DenotationRows }
 {}

@@ -32,7 +32,7 @@ pub fn is_single_dot(segment: &str) -> bool
     is_name(segment, "%2e")
 }
 
-/// Whether the text is an ASCII letter and `:` (URL Standard, section 4.1).
+/// Whether the text is an ASCII letter and `:` (URL Standard, section 4.2).
 pub fn is_normalized_drive_letter(text: &[u8]) -> bool
     ensures { result ≡ spec.is_normalized_drive_letter text.now }
 {
@@ -42,7 +42,7 @@ pub fn is_normalized_drive_letter(text: &[u8]) -> bool
     }
 }
 
-/// Whether the text is an ASCII letter, and `:` or `|` (URL Standard, section 4.1).
+/// Whether the text is an ASCII letter, and `:` or `|` (URL Standard, section 4.2).
 pub fn is_drive_letter(text: &[u8]) -> bool
     ensures { result ≡ spec.is_drive_letter text.now }
 {

@@ -102,7 +102,7 @@ fn has_form_bytes(text: &[u8]) -> bool
         || *byte == b'.')
 }
 
-// No forbidden host code point (URL Standard, section 3.1).
+// No forbidden host code point (URL Standard, section 3.2).
 fn has_permitted_bytes(text: &[u8]) -> bool
     ensures { result ≡ list_all (λ c. not (is_forbidden_host c)) text.now }
 {

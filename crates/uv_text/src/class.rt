@@ -70,7 +70,7 @@ impl ByteClass {
         ByteClass::holding(&URL_RANGES)
     }
 
-    /// The ASCII URL code points that an opaque host may hold (URL Standard, sections 3.1 and 3.4).
+    /// The ASCII URL code points that an opaque host may hold (URL Standard, sections 3.2 and 3.4).
     pub fn opaque_host() -> ByteClass
         ensures { HoldsOpaqueHostBytes result }
     {

@@ -1,4 +1,4 @@
--- Runs on texts with the scheme file (URL Standard, sections 4.1, 4.3 and 4.4), without a base.
+-- Runs on texts with the scheme file (URL Standard, sections 4.2 to 4.4), without a base.
 use Rattle.std.specs.Prelude.{List, [], ◌∷◌, None}
 use Rattle.uv_model.specs.Rows.{Row, AllHold, done, stops, listed, with_query, with_fragment, domain, ipv4, ipv6, empty_host}
 
