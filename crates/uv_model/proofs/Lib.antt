@@ -12,6 +12,7 @@ pub mod DotSegmentLemmas
 pub mod EncodingLemmas
 pub mod HostCutLemmas
 pub mod HostParserLemmas
+pub mod HostRows
 pub mod HostTextLemmas
 pub mod Ipv4ParserLemmas
 pub mod Ipv6LoopLemmas

@@ -9,6 +9,7 @@ pub mod Device
 pub mod Domain
 pub mod Encoding
 pub mod HostParser
+pub mod HostRows
 pub mod HostText
 pub mod Ipv4Parser
 pub mod Ipv6Parser

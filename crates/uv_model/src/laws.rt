@@ -4,6 +4,7 @@ ghost use Rattle.uv_model.specs.AddressRows.{AddressParserRows};
 ghost use Rattle.uv_model.specs.CutLaws.{EveryTextHasOneCut, ValidTextsAreCutIntoTheirParts};
 ghost use Rattle.uv_model.specs.HostParser.{DomainsAreParsed, EmptyHostIsParsed, Ipv4HostsAreParsed, Ipv6HostsAreParsed, OpaqueHostsAreParsed};
 ghost use Rattle.uv_model.specs.HostText.{AddressesAreReadBack};
+ghost use Rattle.uv_model.specs.HostRows.{HostParserRows};
 ghost use Rattle.uv_model.specs.Ipv4Parser.{Ipv4TextsAreParsed};
 ghost use Rattle.uv_model.specs.Ipv6Parser.{Ipv6TextsAreParsed};
 ghost use Rattle.uv_model.specs.Laws.{DenotedRecordsAreWellFormed, UnitsAreFaultless};
@@ -145,4 +146,9 @@ pub fn denotation_rows()
 /// 4.1 and 4.3).
 pub fn denoted_records_are_well_formed()
     ensures { DenotedRecordsAreWellFormed }
+{}
+
+/// What the host parser makes of texts that are written out, such as `example%2Ecom` (URL Standard, section 3.5).
+pub fn host_parser_rows()
+    ensures { HostParserRows }
 {}
