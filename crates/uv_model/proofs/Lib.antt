@@ -4,6 +4,7 @@ pub mod AddressUniqueness
 pub mod AsciiLemmas
 pub mod AuthorityCutLemmas
 pub mod AuthorityLemmas
+pub mod ComplaintLemmas
 pub mod Computing
 pub mod CutLemmas
 pub mod DenotedRecords
@@ -21,12 +22,14 @@ pub mod Ipv6ParserLemmas
 pub mod Ipv6ReadersLemmas
 pub mod JoinedSegments
 pub mod LastLabelLemmas
+pub mod LeastLemmas
 pub mod Looping
 pub mod MarkLemmas
 pub mod PathLemmas
 pub mod PathLoops
 pub mod PathStarts
 pub mod RefusalLemmas
+pub mod RefusedLemmas
 pub mod Rows
 pub mod RowsLemmas
 pub mod SchemeCutLemmas

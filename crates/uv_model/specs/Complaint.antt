@@ -7,6 +7,7 @@ use Rattle.std.specs.Str.Parse.{digits_value}
 use Rattle.uv_model.specs.declared.scheme.Class.{Class}
 use Rattle.uv_model.specs.declared.scheme.Class.TheVariants.{Special, File, Other}
 use Rattle.uv_model.specs.declared.host.Host.TheVariants.{Empty}
+use Rattle.uv_model.specs.declared.rule.Refusal.{Refusal}
 use Rattle.uv_model.specs.declared.rule.Rule.{Rule}
 use Rattle.uv_model.specs.declared.rule.Rule.TheVariants.{NoScheme, OpaqueBase, TwoSlashes, HostMissing, HostDomain, HostNumber, HostIpv6, PortDigit, PortRange, FirstSegmentEmpty, DriveAfterHost}
 use Rattle.uv_model.specs.Address.{IsIpv4}
@@ -123,6 +124,20 @@ pub record Behind (start : ℕ) (complaint : ℕ → Rule → Type 0) (place : �
   pub inner : ℕ
   pub moved : place ≡ start + inner
   pub holds : complaint inner rule
+
+-- the refusal of a part that begins behind so many code points
+abbrev pub refusal_behind : ℕ → Refusal → Refusal
+refusal_behind start refusal = record { place = start + refusal.place; rule = refusal.rule }
+
+-- the fault of such a part, if there is one
+abbrev pub fault_behind : ℕ → Option Refusal → Option Refusal
+fault_behind start None = None
+fault_behind start (Some refusal) = Some (refusal_behind start refusal)
+
+-- the first fault, or else the second
+abbrev pub fault_or : Option Refusal → Option Refusal → Option Refusal
+fault_or None second = second
+fault_or (Some refusal) second = Some refusal
 
 -- the complaints of the host, where there is an authority
 abbrev pub HostPartComplaint : Option Url → Cut → ℕ → Rule → Type 0
