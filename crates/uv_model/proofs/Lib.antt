@@ -5,6 +5,7 @@ pub mod AsciiLemmas
 pub mod AuthorityCutLemmas
 pub mod AuthorityLemmas
 pub mod ComplaintLemmas
+pub mod AuthorityLoops
 pub mod Computing
 pub mod CutLemmas
 pub mod DenotedRecords
