@@ -22,12 +22,12 @@ use Rattle.uv_model.specs.Ascii.{colon, left_bracket, right_bracket}
 use Rattle.uv_model.specs.Cut.{host_before, host_cut, port_cut, text_before, is_port_mark, is_within, port_behind}
 
 -- each is beyond ASCII
-abbrev AreBeyond : List ℕ → Type 0
+abbrev pub AreBeyond : List ℕ → Type 0
 AreBeyond [] = Unit {0}
 AreBeyond (b ∷ bs) = (128 ≤ b) × AreBeyond bs
 
 -- the bytes of a code point beyond ASCII are beyond ASCII
-AreBeyond-encode : (c : ℕ) → 128 ≤ c → AreBeyond (encode_utf8 c)
+pub AreBeyond-encode : (c : ℕ) → 128 ≤ c → AreBeyond (encode_utf8 c)
 unfolding encode_utf8
 AreBeyond-encode c high =
     elim (cases_lt c 2048) [

@@ -1,3 +1,6 @@
+pub mod Built
 pub mod Form
+pub mod HostAnswer
+pub mod PortAnswer
 pub mod Seen
 pub mod Sides

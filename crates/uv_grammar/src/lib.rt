@@ -1,10 +1,13 @@
 //! The checker of valid URL strings, and the parts of those that it takes (URL Standard, section 4.3).
 #![tactic(auto)]
 
+mod built;
 mod cut;
 mod form;
+mod host;
 mod marks;
 mod parts;
+mod port;
 mod starts;
 
 pub use form::Form;
