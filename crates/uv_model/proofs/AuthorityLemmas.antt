@@ -47,8 +47,10 @@ IsUrlPath-some kind host [] has are = absurd cc
 IsUrlPath-some kind host (segment ∷ rest) has are = are
 
 -- the path that a walk over a segment or more leaves
-pub IsUrlPath-walk : (kind : Class) (host : Option Host) (start : List (List ℕ)) (segment : List ℕ) (rest : List (List ℕ))
-    → AreUrlSegments start → AreSegments (segment ∷ rest) → IsUrlPath kind host (Segments (walk kind start (segment ∷ rest)))
+pub IsUrlPath-walk : (kind : Class) (host : Option Host) (start : List (List ℕ)) (segment : List ℕ)
+    → (rest : List (List ℕ))
+    → AreUrlSegments start → AreSegments (segment ∷ rest)
+    → IsUrlPath kind host (Segments (walk kind start (segment ∷ rest)))
 IsUrlPath-walk kind host start segment rest are each =
     IsUrlPath-some kind host (walk kind start (segment ∷ rest)) (HasSegment-walk kind start segment rest)
     (AreUrlSegments-walk kind start (segment ∷ rest) are each)
@@ -60,7 +62,8 @@ IsUrlPath-joined kind host start [] text are joins = absurd (nothing joins.first
   where
     nothing : (first : List ℕ) (others : List (List ℕ)) → [] ≡ first ∷ others → ⊥
     nothing first others e = cc
-IsUrlPath-joined kind host start (segment ∷ rest) text are joins = IsUrlPath-walk kind host start segment rest are joins.each
+IsUrlPath-joined kind host start (segment ∷ rest) text are joins =
+    IsUrlPath-walk kind host start segment rest are joins.each
 
 -- the path behind a host
 pub IsUrlPath-authority : (kind : Class) (host : Host) (segments : List (List ℕ)) → AreSegments segments
@@ -73,7 +76,8 @@ IsUrlPath-authority File host (segment ∷ rest) each = IsUrlPath-walk File (Som
 IsUrlPath-authority Other host (segment ∷ rest) each = IsUrlPath-walk Other (Some host) [] segment rest tt each
 
 -- the segments of a path-absolute string, where there is one
-pub AreSegments-maybe : (segments : List (List ℕ)) (text : List ℕ) → MayBePathAbsolute segments text → AreSegments segments
+pub AreSegments-maybe : (segments : List (List ℕ)) (text : List ℕ) → MayBePathAbsolute segments text
+    → AreSegments segments
 AreSegments-maybe segments text (inl none) = rw none.1 tt
 AreSegments-maybe segments text (inr path) = path.relative.joins.each
 
@@ -126,7 +130,9 @@ authority_host-opaque parts text e spelled = rw (e, spelled) refl
 IsAuthority-special : (scheme text : List ℕ) (parts : Parts) → scheme_class scheme ≡ Special
     → FitsAuthority Special scheme text parts → IsAuthority Special scheme parts
 IsAuthority-special scheme text parts kind fits =
-    let takes : takes_port (scheme_class scheme) (Some fits.value) ≡ true = rw kind (takes_port-special text fits.value fits.host) in
+    let takes : takes_port (scheme_class scheme) (Some fits.value) ≡ true
+    = rw kind (takes_port-special text fits.value fits.host)
+    in
     record {
       value = fits.value;
       valued = authority_host-valued parts fits.value fits.valued;
@@ -163,7 +169,8 @@ record IsOtherValue (parts : Parts) : Type 0 where
   host : IsUrlHost Other (Some value)
   takes : takes_port Other (Some value) ≡ true
 
-IsOtherValue-text : (text : List ℕ) (parts : Parts) (host : Option Host) → parts.host ≡ host → parts.host_text ≡ Some text
+IsOtherValue-text : (text : List ℕ) (parts : Parts) (host : Option Host) → parts.host ≡ host
+    → parts.host_text ≡ Some text
     → IsOpaqueHostText text host → IsOtherValue parts
 IsOtherValue-text text parts (Some (V6 pieces)) e spelled is =
     record { value = V6 pieces; valued = authority_host-valued parts (V6 pieces) e; host = tt; takes = refl }

@@ -34,7 +34,8 @@ class-denoted (Some url) parts None e = rw e refl
 class-denoted None parts None e = rw e refl
 
 -- the scheme of a form that has one
-IsUrlScheme-own : (base : Option Url) (scheme : Option (List ℕ)) → FitsScheme true scheme → IsUrlScheme (denoted_scheme base scheme)
+IsUrlScheme-own : (base : Option Url) (scheme : Option (List ℕ)) → FitsScheme true scheme
+    → IsUrlScheme (denoted_scheme base scheme)
 IsUrlScheme-own base (Some scheme) fits = IsUrlScheme-lowercase scheme fits
 IsUrlScheme-own base None fits = absurd fits
 
@@ -73,18 +74,21 @@ WellFormed-denoted : (base : Option Url) (form : Form) (parts : Parts) → MayBe
 WellFormed-denoted base form parts units are =
     let kind = scheme_class (scheme_in base parts) in
     let same = class-denoted base parts parts.scheme refl in
+    let host : Option Host = denoted_host base form parts in
+    let path : UrlPath = denoted_path base kind form parts in
     record {
       scheme = are.scheme;
-      host = subst (λ (k : Class). IsUrlHost k (denoted_host base form parts)) same are.host;
+      host = subst (λ (k : Class). IsUrlHost k host) same are.host;
       port = are.port;
-      path = subst (λ (k : Class). IsUrlPath k (denoted_host base form parts) (denoted_path base kind form parts)) same are.path;
+      path = subst (λ (k : Class). IsUrlPath k host path) same are.path;
       query = subst (λ (k : Class). IsUrlQuery k (denoted_query base kind form parts.query)) same are.query;
       fragment = IsUrlFragment-encoded parts.fragment units;
     }
 
 -- ---- an opaque path
 
-AreDenoted-opaque : (base : Option Url) (parts : Parts) → FitsScheme true parts.scheme → FitsForm base SchemeOpaque parts
+AreDenoted-opaque : (base : Option Url) (parts : Parts) → FitsScheme true parts.scheme
+    → FitsForm base SchemeOpaque parts
     → MayBeUnits parts.query → AreDenoted base (scheme_class (scheme_in base parts)) SchemeOpaque parts
 AreDenoted-opaque base parts scheme fits query =
     record {
@@ -102,7 +106,8 @@ unfolding denote
 opaque_well_formed base text parts valid form =
     subst (λ (f : Form). WellFormed (denote_as base f parts)) (sym form)
     (WellFormed-denoted base SchemeOpaque parts valid.fragment
-    (AreDenoted-opaque base parts (subst (λ (f : Form). FitsScheme (has_scheme f) parts.scheme) form valid.scheme) (subst (λ (f : Form). FitsForm base f parts) form valid.form) valid.query))
+    (AreDenoted-opaque base parts (subst (λ (f : Form). FitsScheme (has_scheme f) parts.scheme) form valid.scheme)
+    (subst (λ (f : Form). FitsForm base f parts) form valid.form) valid.query))
 
 -- ---- an authority
 
@@ -114,18 +119,20 @@ default_port-denoted (Some url) parts None e = rw e refl
 default_port-denoted None parts None e = rw e refl
 
 -- schemes of one class and one default port have the same ports
-IsUrlPort-same : (scheme other : List ℕ) (host : Option Host) (port : Option ℕ) → scheme_class scheme ≡ scheme_class other
+IsUrlPort-same : (scheme other : List ℕ) (host : Option Host) (port : Option ℕ)
+    → scheme_class scheme ≡ scheme_class other
     → default_port scheme ≡ default_port other → IsUrlPort other host port → IsUrlPort scheme host port
 IsUrlPort-same scheme other host None class default is = tt
 IsUrlPort-same scheme other host (Some port) class default is = (rw class is.0, rw default is.1)
 
 -- what stands behind `//`, by the host text
-IsAuthority-has : (base : Option Url) (parts : Parts) (text : Option (List ℕ)) → HasAuthority base (record parts { host_text = text })
+IsAuthority-has : (base : Option Url) (parts : Parts) (text : Option (List ℕ))
+    → HasAuthority base (record parts { host_text = text })
     → IsAuthority (scheme_class (scheme_in base parts)) (scheme_in base parts) (record parts { host_text = text })
 IsAuthority-has base parts None fits = absurd fits
 IsAuthority-has base parts (Some text) fits =
-    IsAuthority-fits (scheme_class (scheme_in base parts)) (scheme_in base parts) text (record parts { host_text = Some text })
-    refl refl fits
+    IsAuthority-fits (scheme_class (scheme_in base parts)) (scheme_in base parts) text
+    (record parts { host_text = Some text }) refl refl fits
 
 -- the host, the port and the path of a form with an authority
 record AreOfAuthority (base : Option Url) (kind : Class) (parts : Parts) : Type 0 where
@@ -140,17 +147,21 @@ AreOfAuthority-has base parts has =
     let is : IsAuthority kind (scheme_in base parts) parts = IsAuthority-has base parts parts.host_text has in
     let class = sym (class-denoted base parts parts.scheme refl) in
     let default = default_port-denoted base parts parts.scheme refl in
-    let port : IsUrlPort (denoted_scheme base parts.scheme) (Some is.value) parts.port
-    = IsUrlPort-same (denoted_scheme base parts.scheme) (scheme_in base parts) (Some is.value) parts.port class default is.port
+    let scheme : List ℕ = denoted_scheme base parts.scheme in
+    let port : IsUrlPort scheme (Some is.value) parts.port
+    = IsUrlPort-same scheme (scheme_in base parts) (Some is.value) parts.port class default is.port
     in
     record {
       host = subst (λ (h : Option Host). IsUrlHost kind h) (sym is.valued) is.host;
-      port = subst (λ (h : Option Host). IsUrlPort (denoted_scheme base parts.scheme) h parts.port) (sym is.valued) port;
-      path = subst (λ (h : Option Host). IsUrlPath kind h (Segments (authority_path kind parts.segments))) (sym is.valued)
+      port =
+          subst (λ (h : Option Host). IsUrlPort (denoted_scheme base parts.scheme) h parts.port) (sym is.valued) port;
+      path =
+          subst (λ (h : Option Host). IsUrlPath kind h (Segments (authority_path kind parts.segments))) (sym is.valued)
           (IsUrlPath-authority kind is.value parts.segments is.each);
     }
 
-AreDenoted-scheme_authority : (base : Option Url) (parts : Parts) → FitsScheme true parts.scheme → HasAuthority base parts
+AreDenoted-scheme_authority : (base : Option Url) (parts : Parts) → FitsScheme true parts.scheme
+    → HasAuthority base parts
     → MayBeUnits parts.query → AreDenoted base (scheme_class (scheme_in base parts)) SchemeAuthority parts
 AreDenoted-scheme_authority base parts scheme fits query =
     let are = AreOfAuthority-has base parts fits in
@@ -180,11 +191,13 @@ AreDenoted-path base parts scheme fits query =
 -- ---- references
 
 -- a reference has the base's scheme
-scheme-reference : (url : Url) (parts : Parts) → parts.scheme ≡ None → denoted_scheme (Some url) parts.scheme ≡ url.scheme
+scheme-reference : (url : Url) (parts : Parts) → parts.scheme ≡ None
+    → denoted_scheme (Some url) parts.scheme ≡ url.scheme
 scheme-reference url parts e = rw e refl
 
 -- and is read by its class
-class-reference : (url : Url) (parts : Parts) → parts.scheme ≡ None → scheme_class (scheme_in (Some url) parts) ≡ scheme_class url.scheme
+class-reference : (url : Url) (parts : Parts) → parts.scheme ≡ None
+    → scheme_class (scheme_in (Some url) parts) ≡ scheme_class url.scheme
 class-reference url parts e = rw e refl
 
 -- what a reference with an authority denotes, but for the class
@@ -199,7 +212,8 @@ AreDenoted-reference_authority url parts base none fits query =
       port = are.port;
       path = are.path;
       query =
-          IsUrlQuery-own (Some url) (scheme_class (scheme_in (Some url) parts)) Authority parts.query query (λ e. absurd cc);
+          IsUrlQuery-own (Some url) (scheme_class (scheme_in (Some url) parts)) Authority parts.query query
+          (λ e. absurd cc);
     }
 
 -- the segments of a base's path
@@ -239,18 +253,21 @@ AreDenoted-reference url form parts base none host port path query =
 
 -- the path of a path-absolute reference
 IsUrlPath-absolute : (url : Url) (parts : Parts) → WellFormed url → IsPathAbsolute parts.segments parts.path_text
-    → IsUrlPath (scheme_class url.scheme) url.host (denoted_path (Some url) (scheme_class url.scheme) PathAbsolute parts)
+    → IsUrlPath (scheme_class url.scheme) url.host
+    (denoted_path (Some url) (scheme_class url.scheme) PathAbsolute parts)
 IsUrlPath-absolute url parts base path =
     let kind : Class = scheme_class url.scheme in
     let segments : List (List ℕ) = segments_in url.path in
     let start : AreUrlSegments (kept_drive kind segments parts.segments)
     = AreUrlSegments-kept_drive kind segments parts.segments (AreUrlSegments-base kind url.host url.path base.path)
     in
-    IsUrlPath-joined kind url.host (kept_drive kind segments parts.segments) parts.segments path.behind start path.relative.joins
+    IsUrlPath-joined kind url.host (kept_drive kind segments parts.segments) parts.segments path.behind start
+    path.relative.joins
 
 -- the path of a path-relative reference
 IsUrlPath-relative : (url : Url) (parts : Parts) → WellFormed url → IsPathRelative parts.segments parts.path_text
-    → IsUrlPath (scheme_class url.scheme) url.host (denoted_path (Some url) (scheme_class url.scheme) PathRelative parts)
+    → IsUrlPath (scheme_class url.scheme) url.host
+    (denoted_path (Some url) (scheme_class url.scheme) PathRelative parts)
 IsUrlPath-relative url parts base path =
     let kind : Class = scheme_class url.scheme in
     let segments : List (List ℕ) = segments_in url.path in
@@ -262,7 +279,8 @@ IsUrlPath-relative url parts base path =
 -- ---- all forms
 
 -- the forms without a scheme, against a base
-AreDenoted-against : (url : Url) (form : Form) (parts : Parts) → WellFormed url → has_scheme form ≡ false → parts.scheme ≡ None
+AreDenoted-against : (url : Url) (form : Form) (parts : Parts) → WellFormed url → has_scheme form ≡ false
+    → parts.scheme ≡ None
     → FitsForm (Some url) form parts → MayBeUnits parts.query
     → AreDenoted (Some url) (scheme_class (scheme_in (Some url) parts)) form parts
 AreDenoted-against url SchemeAuthority parts base other none fits query = cc
@@ -278,7 +296,8 @@ AreDenoted-against url NoPath parts base other none fits query =
     AreDenoted-reference url NoPath parts base none refl refl base.path query
 
 -- a text without a scheme has a base
-AreDenoted-reference_form : (base : Option Url) (form : Form) (parts : Parts) → MayBeWellFormed base → has_scheme form ≡ false
+AreDenoted-reference_form : (base : Option Url) (form : Form) (parts : Parts) → MayBeWellFormed base
+    → has_scheme form ≡ false
     → parts.scheme ≡ None → FitsBase base parts → FitsForm base form parts → MayBeUnits parts.query
     → AreDenoted base (scheme_class (scheme_in base parts)) form parts
 AreDenoted-reference_form None form parts base other none against fits query = absurd (false≢true (rw none at against))
@@ -287,7 +306,8 @@ AreDenoted-reference_form (Some url) form parts base other none against fits que
 
 -- each form
 AreDenoted-form : (base : Option Url) (form : Form) (parts : Parts) → MayBeWellFormed base
-    → FitsScheme (has_scheme form) parts.scheme → FitsBase base parts → FitsForm base form parts → MayBeUnits parts.query
+    → FitsScheme (has_scheme form) parts.scheme → FitsBase base parts → FitsForm base form parts
+    → MayBeUnits parts.query
     → AreDenoted base (scheme_class (scheme_in base parts)) form parts
 AreDenoted-form base SchemeAuthority parts may scheme against fits query =
     AreDenoted-scheme_authority base parts scheme fits query

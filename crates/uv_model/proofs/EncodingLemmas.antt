@@ -34,7 +34,8 @@ passes-escape test escapes byte =
     (and_from _ _ (escapes.1 (byte % 16) (below_sixteen byte)) refl))
 
 -- and so do escapes
-passes-escapes : (test : ℕ → Bool) → PassesEscapes test → (bytes : List ℕ) → list_all test (flat_map percent_encode_byte bytes) ≡ true
+passes-escapes : (test : ℕ → Bool) → PassesEscapes test → (bytes : List ℕ)
+    → list_all test (flat_map percent_encode_byte bytes) ≡ true
 passes-escapes test escapes [] = refl
 passes-escapes test escapes (byte ∷ rest) =
     list_all-append test (percent_encode_byte byte) (flat_map percent_encode_byte rest)
@@ -53,7 +54,8 @@ is_unit-escape byte =
 IsUnits-escapes : (bytes : List ℕ) → IsUnits (flat_map percent_encode_byte bytes)
 IsUnits-escapes [] = IsUnits-nil
 IsUnits-escapes (byte ∷ rest) =
-    IsUnits-unit (percent_encode_byte byte) (flat_map percent_encode_byte rest) (is_unit-escape byte) (IsUnits-escapes rest)
+    IsUnits-unit (percent_encode_byte byte) (flat_map percent_encode_byte rest) (is_unit-escape byte)
+    (IsUnits-escapes rest)
 
 -- ---- texts
 
@@ -97,7 +99,9 @@ pub passes-encoded : (test : ℕ → Bool) → PassesEscapes test → (quote : B
 unfolding encoded
 passes-encoded test escapes quote [] passes = refl
 passes-encoded test escapes quote (c ∷ rest) passes =
-    let parts = and_parts (not (is_kept quote c) || test c) (list_all (λ d. not (is_kept quote d) || test d) rest) passes in
+    let parts =
+    and_parts (not (is_kept quote c) || test c) (list_all (λ d. not (is_kept quote d) || test d) rest) passes
+    in
     list_all-append test (encoded_code_point quote c) (flat_map (encoded_code_point quote) rest)
     ∙ and_from _ _ (passes-code_point test escapes quote c parts.0) (passes-encoded test escapes quote rest parts.1)
 
@@ -131,7 +135,8 @@ is_ascii-encoded quote text = passes-encoded is_ascii (refl, ascii_digit) quote 
     each (c ∷ rest) = and_from _ _ (one c) (each rest)
 
 -- with `quote` no `'` stands in an encoded text
-pub no_apostrophe-encoded : (text : List ℕ) → list_all (λ c. if c == apostrophe then false else true) (encoded true text) ≡ true
+pub no_apostrophe-encoded : (text : List ℕ)
+    → list_all (λ c. if c == apostrophe then false else true) (encoded true text) ≡ true
 no_apostrophe-encoded text =
     passes-encoded (λ c. if c == apostrophe then false else true) (refl, other_digit) true text (each text)
   where
@@ -142,11 +147,15 @@ no_apostrophe-encoded text =
     one : (c : ℕ) → (not (is_kept true c) || (if c == apostrophe then false else true)) ≡ true
     one c =
         elim (cases_Bool (c == apostrophe)) [
-          | inl same ↦ elim (cases_Bool (is_ascii c)) [ inl ascii ↦ rw (ascii, same) refl | inr beyond ↦ rw beyond refl ]
+          | inl same ↦ elim (cases_Bool (is_ascii c)) [
+            | inl ascii ↦ rw (ascii, same) refl
+            | inr beyond ↦ rw beyond refl
+          ]
           | inr other ↦ or_right (not (is_kept true c)) (if c == apostrophe then false else true) (rw other refl)
         ]
 
-    each : (text : List ℕ) → list_all (λ c. not (is_kept true c) || (if c == apostrophe then false else true)) text ≡ true
+    each : (text : List ℕ)
+        → list_all (λ c. not (is_kept true c) || (if c == apostrophe then false else true)) text ≡ true
     each [] = refl
     each (c ∷ rest) = and_from _ _ (one c) (each rest)
 
@@ -182,8 +191,12 @@ IsUnits-unit_encoded quote (c ∷ high ∷ low ∷ []) is =
     let parts = and_parts (c == percent_sign) (is_ascii_hexdigit high && is_ascii_hexdigit low) is in
     let hex = and_parts (is_ascii_hexdigit high) (is_ascii_hexdigit low) parts.1 in
     let first : encoded_code_point quote c ≡ c ∷ [] = encoded_code_point-kept quote c (percent_kept quote c parts.0) in
-    let second : encoded_code_point quote high ≡ high ∷ [] = encoded_code_point-kept quote high (hex_kept quote high hex.0) in
-    let third : encoded_code_point quote low ≡ low ∷ [] = encoded_code_point-kept quote low (hex_kept quote low hex.1) in
+    let second : encoded_code_point quote high ≡ high ∷ []
+    = encoded_code_point-kept quote high (hex_kept quote high hex.0)
+    in
+    let third : encoded_code_point quote low ≡ low ∷ []
+    = encoded_code_point-kept quote low (hex_kept quote low hex.1)
+    in
     rw (first, second, third) (IsUnits-unit (c ∷ high ∷ low ∷ []) [] is IsUnits-nil)
 IsUnits-unit_encoded quote (c ∷ high ∷ low ∷ more ∷ rest) is = absurd (false≢true is)
 
@@ -196,7 +209,8 @@ IsUnits-encoded quote text is = rw is.joined (each is.units is.each)
     each (unit ∷ units) all =
         let parts = and_parts (is_unit unit) (list_all is_unit units) all in
         rw (encoded-append quote unit (concat units))
-        (IsUnits-append (encoded quote unit) (encoded quote (concat units)) (IsUnits-unit_encoded quote unit parts.0) (each units parts.1))
+        (IsUnits-append (encoded quote unit) (encoded quote (concat units)) (IsUnits-unit_encoded quote unit parts.0)
+        (each units parts.1))
 
 -- ---- the front of an encoded text
 

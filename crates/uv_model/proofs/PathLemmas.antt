@@ -18,7 +18,8 @@ pub IsUnits-join : (segments : List (List ℕ)) → AreSegments segments → IsU
 IsUnits-join [] each = IsUnits-nil
 IsUnits-join (segment ∷ []) each = each.0.units
 IsUnits-join (segment ∷ next ∷ rest) each =
-    IsUnits-joined slash segment (join_with_byte slash (next ∷ rest)) slash_is_url each.0.units (IsUnits-join (next ∷ rest) each.1)
+    IsUnits-joined slash segment (join_with_byte slash (next ∷ rest)) slash_is_url each.0.units
+    (IsUnits-join (next ∷ rest) each.1)
 
 -- no `?` stands in segments with `/` between each two
 pub no_question_mark-join : (segments : List (List ℕ)) → AreSegments segments
@@ -26,5 +27,6 @@ pub no_question_mark-join : (segments : List (List ℕ)) → AreSegments segment
 no_question_mark-join [] each = refl
 no_question_mark-join (segment ∷ []) each = each.0.no_question_mark
 no_question_mark-join (segment ∷ next ∷ rest) each =
-    list_all-append (λ c. if c == question_mark then false else true) segment (slash ∷ join_with_byte slash (next ∷ rest))
+    list_all-append (λ c. if c == question_mark then false else true) segment
+    (slash ∷ join_with_byte slash (next ∷ rest))
     ∙ and_from _ _ each.0.no_question_mark (no_question_mark-join (next ∷ rest) each.1)

@@ -44,7 +44,8 @@ IsAscii-from_name (c ∷ rest) (d ∷ others) small e =
 pub same_by_bytes : (text name : List ℕ) (r : Bool) → IsUtf8 text → is_lowercase_ascii name ≡ true
     → ((r ≡ true) ↔ (lowercase text ≡ lowercase name)) → r ≡ bytes_eq (lowercase (chars text)) name
 same_by_bytes text name r utf8 small says =
-    same_from_decides r (bytes_eq (lowercase (chars text)) name) (forth, back) (bytes_eq-Decides (lowercase (chars text)) name)
+    same_from_decides r (bytes_eq (lowercase (chars text)) name) (forth, back)
+    (bytes_eq-Decides (lowercase (chars text)) name)
   where
     forth : r ≡ true → lowercase (chars text) ≡ name
     forth e =
@@ -79,7 +80,8 @@ alphabetic-lowercase : (c : ℕ) → is_ascii_alphabetic c ≡ true → is_ascii
 alphabetic-lowercase c letter = grind (arith, nat_tests)
 
 -- a code point of a scheme in lower case is one
-scheme_code_point-lowercase : (c : ℕ) → is_scheme_code_point c ≡ true → is_scheme_code_point (to_ascii_lowercase c) ≡ true
+scheme_code_point-lowercase : (c : ℕ) → is_scheme_code_point c ≡ true
+    → is_scheme_code_point (to_ascii_lowercase c) ≡ true
 scheme_code_point-lowercase c passes = grind (arith, nat_tests)
 
 scheme_rest-lowercase : (rest : List ℕ) → list_all is_scheme_code_point rest ≡ true

@@ -23,7 +23,8 @@ AreUrlSegments-without_last (segment ∷ []) are = tt
 AreUrlSegments-without_last (segment ∷ next ∷ rest) are = (are.0, AreUrlSegments-without_last (next ∷ rest) are.1)
 
 -- a shortened path
-pub AreUrlSegments-shorten : (kind : Class) (path : List (List ℕ)) → AreUrlSegments path → AreUrlSegments (shorten kind path)
+pub AreUrlSegments-shorten : (kind : Class) (path : List (List ℕ)) → AreUrlSegments path
+    → AreUrlSegments (shorten kind path)
 AreUrlSegments-shorten Special path are = AreUrlSegments-without_last path are
 AreUrlSegments-shorten Other path are = AreUrlSegments-without_last path are
 AreUrlSegments-shorten File path are =
@@ -48,7 +49,8 @@ AreUrlSegments-walk_one kind last path segment are is =
       | inr other ↦ elim (cases_Bool (is_single_dot segment)) [
         | inl single ↦ rw (other, single) (AreUrlSegments-dots last path are)
         | inr plain ↦ rw (other, plain)
-            (AreUrlSegments-append path (encoded false segment ∷ []) are (IsUrlSegment-encoded segment is plain other, tt))
+            (AreUrlSegments-append path (encoded false segment ∷ []) are
+            (IsUrlSegment-encoded segment is plain other, tt))
       ]
     ]
 
@@ -76,7 +78,8 @@ HasSegment-append [] segment = record { first = segment; others = []; some = ref
 HasSegment-append (first ∷ others) segment = record { first = first; others = others ++ (segment ∷ []); some = refl }
 
 -- the last segment of a walk leaves one
-HasSegment-walk_one : (kind : Class) (path : List (List ℕ)) (segment : List ℕ) → HasSegment (walk_one kind true path segment)
+HasSegment-walk_one : (kind : Class) (path : List (List ℕ)) (segment : List ℕ)
+    → HasSegment (walk_one kind true path segment)
 HasSegment-walk_one kind path segment =
     elim (cases_Bool (is_double_dot segment)) [
       | inl double ↦ rw double (HasSegment-append (shorten kind path) [])

@@ -27,13 +27,15 @@ IsAsciiUnits-encoded quote text units =
     record { units = IsUnits-encoded quote text units; ascii = is_ascii-encoded quote text }
 
 -- the query of a valid text, encoded by the class
-pub IsUrlQuery-encoded : (kind : Class) (query : List ℕ) → IsUnits query → IsUrlQuery kind (Some (encoded (quotes kind) query))
+pub IsUrlQuery-encoded : (kind : Class) (query : List ℕ) → IsUnits query
+    → IsUrlQuery kind (Some (encoded (quotes kind) query))
 IsUrlQuery-encoded Special query units = (IsAsciiUnits-encoded true query units, no_apostrophe-encoded query)
 IsUrlQuery-encoded File query units = (IsAsciiUnits-encoded true query units, no_apostrophe-encoded query)
 IsUrlQuery-encoded Other query units = IsAsciiUnits-encoded false query units
 
 -- the fragment of a valid text, encoded
-pub IsUrlFragment-encoded : (fragment : Option (List ℕ)) → MayBeUnits fragment → IsUrlFragment (option_map (encoded false) fragment)
+pub IsUrlFragment-encoded : (fragment : Option (List ℕ)) → MayBeUnits fragment
+    → IsUrlFragment (option_map (encoded false) fragment)
 IsUrlFragment-encoded None units = tt
 IsUrlFragment-encoded (Some fragment) units = IsAsciiUnits-encoded false fragment units
 

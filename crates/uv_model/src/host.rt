@@ -35,7 +35,8 @@ impl Host {
         }
     }
 
-    /// The host serialized, an IPv6 address in brackets (URL Standard, section 3.6). An error means that memory ran out.
+    /// The host serialized, an IPv6 address in brackets (URL Standard, section 3.6). An error means that memory ran
+    /// out.
     #[tactic(auto, unfolding(crate::specs::Serialize::serial_host))]
     pub fn text(&self, alloc: Global) -> Result<String, AllocError>
         ensures { IfOk result (λ text. string_bytes text ≡ serial_host self.now) }

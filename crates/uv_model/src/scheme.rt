@@ -28,7 +28,7 @@ pub fn class_of(scheme: &str) -> Class
     }
 }
 
-/// The default port of a scheme in any case, which only the special schemes but `file` have (URL Standard, section 4.2).
+/// The default port of a scheme in any case, which the special schemes but `file` have (URL Standard, section 4.2).
 #[tactic(auto, unfolding(crate::specs::Scheme::default_port))]
 pub fn default_port(scheme: &str) -> Option<u16>
     ensures { result ≡ default_port (chars scheme.now) }

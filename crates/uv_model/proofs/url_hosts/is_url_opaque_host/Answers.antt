@@ -9,9 +9,8 @@ returns c =
     let text = c.args.text.now in
     let some : (length text == 0) ≡ false = cc in
     let parts = first_of text some in
-    let plain : IsAsciiUnits text =
-    rw (c.as_bytes-bytes.ensures.value, c.as_str.ensures.text) at (c.is_ascii_units.ensures.0 c.if-not-is_ascii_units.false)
-    in (
+    let are = c.is_ascii_units.ensures.0 c.if-not-is_ascii_units.false in
+    let plain : IsAsciiUnits text = rw (c.as_bytes-bytes.ensures.value, c.as_str.ensures.text) at are in (
       λ e. record {
         host = record { first = parts.0; rest = parts.1; some = parts.2; units = plain.units; permitted = cc };
         ascii = plain.ascii;
