@@ -1,5 +1,5 @@
 -- Texts of ASCII code points, whose bytes are their code points.
-use Rattle.std.proofs.Common.{◌≡◌, ℕ, ◌<◌, Bool, true, false, ◌==◌, length, List, [], ◌∷◌, ◌∙◌, refl, sym, arith}
+use Rattle.std.proofs.Common.{◌≡◌, ℕ, true, false, ◌==◌, length, List, [], ◌∷◌, ◌∙◌, refl, sym}
 use Rattle.std.specs.List.{list_all}
 use Rattle.std.specs.Char.{is_ascii}
 use Rattle.std.specs.Str.{IsAscii, IsUtf8, chars}

@@ -1,6 +1,5 @@
 -- Authorities: the host, the port and the path that stand behind `//` in a valid text make a well-formed record.
-use Rattle.std.proofs.Common.{◌≡◌, ℕ, Bool, true, false, List, [], ◌∷◌, ◌++◌, Option, Some, None, refl, sym, ap, ◌∙◌, subst, inl, inr, ◌⊎◌}
-use Rattle.std.specs.Prelude.{if◌then◌else◌, codes}
+use Rattle.std.proofs.Common.{◌≡◌, ℕ, true, false, List, [], ◌∷◌, Option, Some, None, refl, sym, subst, inl, inr}
 use Rattle.std.specs.Str.Parse.{digits_value}
 use Rattle.std.proofs.lemmas.Bool.{cases_Bool}
 use Rattle.uv_model.specs.declared.scheme.Class.{Class}
@@ -11,7 +10,7 @@ use Rattle.uv_model.specs.declared.path.UrlPath.TheVariants.{Segments}
 use Rattle.uv_model.specs.Denote.{authority_host, authority_path}
 use Rattle.uv_model.specs.Encoding.{encoded}
 use Rattle.uv_model.specs.Parts.{Parts}
-use Rattle.uv_model.specs.Path.{AreSegments, IsPathAbsolute, JoinsTo, walk}
+use Rattle.uv_model.specs.Path.{AreSegments, JoinsTo, walk}
 use Rattle.uv_model.specs.Scheme.{default_port, scheme_class}
 use Rattle.uv_model.specs.Valid.{FitsAuthority, IsFileHostText, IsHostText, IsOpaqueHostText, MayBePathAbsolute, is_default_port, port_given}
 use Rattle.uv_model.specs.WellFormed.{AreUrlSegments, IsUrlHost, IsUrlPath, IsUrlPort, takes_port}

@@ -1,6 +1,6 @@
 -- What a valid text denotes is well formed, form by form.
-use Rattle.std.proofs.Common.{◌≡◌, ℕ, Bool, true, false, not, ◌&&◌, List, [], ◌∷◌, Option, Some, None, refl, sym, ap, ◌∙◌, subst, inl, inr}
-use Rattle.std.specs.Prelude.{if◌then◌else◌, option_map}
+use Rattle.std.proofs.Common.{◌≡◌, ℕ, true, false, not, ◌&&◌, List, [], ◌∷◌, Option, Some, None, refl, sym, subst, inl, inr}
+use Rattle.std.specs.Prelude.{option_map}
 use Rattle.std.proofs.lemmas.Bool.{cases_Bool, false≢true}
 use Rattle.uv_model.specs.declared.scheme.Class.{Class}
 use Rattle.uv_model.specs.declared.scheme.Class.TheVariants.{Special, File, Other}
@@ -13,7 +13,7 @@ use Rattle.uv_model.specs.Parts.{Form, Parts, SchemeAuthority, SchemePath, Schem
 use Rattle.uv_model.specs.Scheme.{default_port, is_scheme, lowercase, scheme_class}
 use Rattle.uv_model.specs.Url.{Url}
 use Rattle.uv_model.specs.Valid.{FitsBase, FitsForm, FitsScheme, HasAuthority, MayBeUnits, Valid, scheme_in}
-use Rattle.uv_model.specs.WellFormed.{AreUrlSegments, IsUrlFragment, IsUrlHost, IsUrlPath, IsUrlPort, IsUrlQuery, IsUrlScheme, MayBeWellFormed, WellFormed}
+use Rattle.uv_model.specs.WellFormed.{AreUrlSegments, IsUrlHost, IsUrlPath, IsUrlPort, IsUrlQuery, IsUrlScheme, MayBeWellFormed, WellFormed}
 use Rattle.uv_model.specs.Laws.{DenotedRecordsAreWellFormed}
 use Rattle.uv_model.specs.Path.{IsPathAbsolute, IsPathRelative, is_drive_letter, is_normalized_drive_letter, shorten}
 use Rattle.uv_model.proofs.AuthorityLemmas.{IsAuthority, IsAuthority-fits, IsUrlPath-authority, IsUrlPath-joined}

@@ -4,8 +4,8 @@ pub mod AddressUniqueness
 pub mod AsciiLemmas
 pub mod AuthorityCutLemmas
 pub mod AuthorityLemmas
-pub mod ComplaintLemmas
 pub mod AuthorityLoops
+pub mod ComplaintLemmas
 pub mod Computing
 pub mod CutLemmas
 pub mod DenotedRecords

@@ -1,11 +1,11 @@
 -- Paths: the text of joined segments.
-use Rattle.std.proofs.Common.{◌≡◌, ℕ, Bool, true, false, List, [], ◌∷◌, ◌++◌, refl, sym, ap, ◌∙◌, subst, inl, inr, arith, ◌==◌}
+use Rattle.std.proofs.Common.{◌≡◌, ℕ, true, false, List, [], ◌∷◌, refl, ◌∙◌, ◌==◌}
 use Rattle.std.specs.Prelude.{if◌then◌else◌}
-use Rattle.std.specs.List.{list_all, join_with_byte}
-use Rattle.std.proofs.lemmas.Bool.{and_from, and_parts}
+use Rattle.std.specs.List.{join_with_byte}
+use Rattle.std.proofs.lemmas.Bool.{and_from}
 use Rattle.std.proofs.lemmas.List.Folds.{list_all-append}
 use Rattle.uv_model.specs.Ascii.{slash, question_mark}
-use Rattle.uv_model.specs.Path.{AreSegments, IsSegment, is_without}
+use Rattle.uv_model.specs.Path.{AreSegments, is_without}
 use Rattle.uv_model.specs.Units.{IsUnits, is_url_code_point}
 use Rattle.uv_model.proofs.UnitsLemmas.{IsUnits-joined, IsUnits-nil}
 

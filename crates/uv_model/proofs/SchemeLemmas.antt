@@ -1,5 +1,5 @@
 -- Schemes: what lower case keeps, and that names compare by bytes as by code points.
-use Rattle.std.proofs.Common.{◌≡◌, ℕ, ◌<◌, Bool, true, false, List, [], ◌∷◌, ◌∙◌, map, not, ◌&&◌, ◌↔◌, refl, sym, ap, arith}
+use Rattle.std.proofs.Common.{◌≡◌, ℕ, ◌<◌, Bool, true, false, List, [], ◌∷◌, ◌∙◌, not, ◌&&◌, ◌↔◌, refl, sym, ap, arith}
 use Rattle.std.specs.List.{list_all}
 use Rattle.std.specs.Char.{is_ascii, is_ascii_alphabetic, is_ascii_uppercase, to_ascii_lowercase}
 use Rattle.std.specs.Str.{IsAscii, IsUtf8, bytes_eq, chars}

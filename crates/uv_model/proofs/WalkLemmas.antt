@@ -1,12 +1,12 @@
 -- Walks: from segments of records over the segments of a text to segments of records.
-use Rattle.std.proofs.Common.{◌≡◌, ℕ, Bool, true, false, List, [], ◌∷◌, ◌++◌, refl, sym, ap, ◌∙◌, inl, inr}
+use Rattle.std.proofs.Common.{◌≡◌, ℕ, Bool, true, false, List, [], ◌∷◌, ◌++◌, refl, inl, inr}
 use Rattle.std.specs.Prelude.{if◌then◌else◌}
 use Rattle.std.proofs.lemmas.Bool.{cases_Bool}
 use Rattle.uv_model.specs.declared.scheme.Class.{Class}
 use Rattle.uv_model.specs.declared.scheme.Class.TheVariants.{Special, File, Other}
 use Rattle.uv_model.specs.Encoding.{encoded}
 use Rattle.uv_model.specs.Path.{AreSegments, IsSegment, is_double_dot, is_lone_drive, is_single_dot, shorten, walk, walk_one, without_last}
-use Rattle.uv_model.specs.WellFormed.{AreUrlSegments, IsUrlSegment}
+use Rattle.uv_model.specs.WellFormed.{AreUrlSegments}
 use Rattle.uv_model.proofs.WellFormedLemmas.{IsUrlSegment-encoded, IsUrlSegment-nil}
 
 -- ---- lists of segments of records

@@ -1,6 +1,6 @@
 -- Well-formed records: what the encoded parts of a valid text are.
-use Rattle.std.proofs.Common.{◌≡◌, ℕ, ◌<◌, Bool, true, false, not, List, [], ◌∷◌, ◌++◌, Option, Some, None, refl, sym, ap, ◌∙◌, inl, inr, ◌==◌}
-use Rattle.std.specs.Prelude.{if◌then◌else◌, flat_map, option_map}
+use Rattle.std.proofs.Common.{◌≡◌, ℕ, ◌<◌, Bool, true, false, not, List, [], ◌∷◌, Option, Some, None, refl, ap, ◌∙◌, ◌==◌}
+use Rattle.std.specs.Prelude.{if◌then◌else◌, option_map}
 use Rattle.std.specs.Fmt.{digit_glyph}
 use Rattle.std.proofs.lemmas.Bool.{agree_below_at, false≢true}
 use Rattle.std.proofs.lemmas.List.Sums.{list_all-from_AllPass}
@@ -8,8 +8,8 @@ use Rattle.uv_model.specs.declared.scheme.Class.{Class}
 use Rattle.uv_model.specs.declared.scheme.Class.TheVariants.{Special, File, Other}
 use Rattle.uv_model.specs.Ascii.{question_mark, slash}
 use Rattle.uv_model.specs.Denote.{quotes}
-use Rattle.uv_model.specs.Encoding.{encoded, encoded_code_point}
-use Rattle.uv_model.specs.Path.{IsSegment, is_double_dot, is_single_dot, is_without, starts_with_slash}
+use Rattle.uv_model.specs.Encoding.{encoded}
+use Rattle.uv_model.specs.Path.{IsSegment, is_double_dot, is_single_dot, is_without}
 use Rattle.uv_model.specs.Units.{IsUnits}
 use Rattle.uv_model.specs.Valid.{IsOpaquePath, MayBeUnits}
 use Rattle.uv_model.specs.WellFormed.{IsAsciiUnits, IsUrlDomain, IsUrlFragment, IsUrlOpaqueHost, IsUrlOpaquePath, IsUrlQuery, IsUrlSegment}

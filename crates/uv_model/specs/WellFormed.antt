@@ -1,5 +1,5 @@
 -- Well-formed records: what the URL Standard, section 4.1, asks of a URL, and what the texts of this product give.
-use Rattle.std.specs.Prelude.{◌≡◌, ◌≢◌, ℕ, ◌≤◌, ◌<◌, ◌^◌, ◌⊎◌, Bool, true, false, not, ◌&&◌, ◌||◌, ◌==◌, List, [], ◌∷◌, length, codes, Option, Some, None}
+use Rattle.std.specs.Prelude.{◌≡◌, ◌≢◌, ℕ, Bool, true, false, not, List, [], ◌∷◌, codes, Option, Some, None}
 use Rattle.std.specs.List.{list_all}
 use Rattle.std.specs.Char.{is_ascii, is_ascii_uppercase}
 use Rattle.uv_model.specs.declared.scheme.Class.{Class}
@@ -8,9 +8,9 @@ use Rattle.uv_model.specs.declared.host.Host.{Host}
 use Rattle.uv_model.specs.declared.host.Host.TheVariants as host
 use Rattle.uv_model.specs.declared.path.UrlPath.{UrlPath}
 use Rattle.uv_model.specs.declared.path.UrlPath.TheVariants.{Opaque, Segments}
-use Rattle.uv_model.specs.Ascii.{slash, question_mark, apostrophe}
+use Rattle.uv_model.specs.Ascii.{question_mark, apostrophe}
 use Rattle.uv_model.specs.Domain.{ends_in_number, is_form_code_point}
-use Rattle.uv_model.specs.OpaqueHost.{IsOpaqueHost, starts_with_bracket}
+use Rattle.uv_model.specs.OpaqueHost.{IsOpaqueHost}
 use Rattle.uv_model.specs.Path.{IsSegment, is_without, starts_with_slash, is_single_dot, is_double_dot}
 use Rattle.uv_model.specs.Scheme.{is_scheme, scheme_class}
 use Rattle.uv_model.specs.Units.{IsUnits}

@@ -1,5 +1,5 @@
 -- A segment that is ASCII and no dot segment.
-use Rattle.std.proofs.Common.{◌≡◌, true, sym, ◌∙◌}
+use Rattle.std.proofs.Common.{◌≡◌, true}
 use Rattle.std.proofs.lemmas.Bool.{false≢true, not-true, not_from_false}
 use Rattle.uv_model.specs.Path.{IsSegment}
 use Rattle.uv_model.specs.WellFormed.{is_ascii_text}
