@@ -14,6 +14,7 @@ use Rattle.uv_model.proofs.AsciiLemmas.{chars-from_IsAscii}
 abbrev pub enclosed : List ℕ → List ℕ
 enclosed inner = left_bracket ∷ (inner ++ right_bracket ∷ [])
 
+-- ASCII in brackets is ASCII
 enclosed_ascii : (inner : List ℕ) → IsAscii inner → IsAscii (enclosed inner)
 enclosed_ascii inner ascii =
     IsAscii-cons left_bracket _ (lit< tt)

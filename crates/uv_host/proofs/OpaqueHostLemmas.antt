@@ -1,6 +1,5 @@
 -- The complaints of an opaque host, from code point to code point, and the least of them.
-use Rattle.std.proofs.Common.{◌≡◌, ◌≢◌, ℕ, zero, suc, ◌+◌, ◌<◌, ◌≤◌, Bool, true, false, not, ◌&&◌, ◌||◌, ◌==◌, List, [], ◌∷◌, drop, Option, Some, None, refl, sym, ap, ◌∙◌, subst, inl, inr, ◌⊎◌, ◌↔◌, arith, le_refl}
-use Rattle.std.specs.Prelude.{if◌then◌else◌}
+use Rattle.std.proofs.Common.{◌≡◌, ◌≢◌, ℕ, zero, suc, ◌+◌, ◌≤◌, Bool, true, false, not, ◌==◌, List, [], ◌∷◌, drop, Option, Some, None, refl, sym, ap, ◌∙◌, inl, inr, ◌⊎◌, ◌↔◌, arith, le_refl}
 use Rattle.std.specs.List.{list_all}
 use Rattle.std.proofs.lemmas.Bool.{false≢true, cases_Bool, cases_eq, ne_eqb, and_from, and_parts, not-true}
 use Rattle.uv_model.specs.declared.rule.Rule.{Rule}
@@ -67,10 +66,11 @@ empty_silent place HostCodePoint h = nothing place _ _ h.here
 empty_silent place Percent h = nothing place _ _ h.here
 empty_silent place _ h = h
 
--- the code points and the rests of two equal texts
+-- the first code points of two equal texts are one
 head_same : (c d : ℕ) (rest behind : List ℕ) → c ∷ rest ≡ d ∷ behind → d ≡ c
 head_same c d rest behind e = cc
 
+-- and so is what follows them
 tail_same : (c d : ℕ) (rest behind : List ℕ) → c ∷ rest ≡ d ∷ behind → behind ≡ rest
 tail_same c d rest behind e = cc
 
@@ -78,6 +78,7 @@ tail_same c d rest behind e = cc
 forbidden_no_percent : (c : ℕ) → is_forbidden_host c ≡ true → c ≢ percent_sign
 forbidden_no_percent c forbidden e = false≢true (ap is_forbidden_host (sym e) ∙ forbidden)
 
+-- a code point that no opaque host holds is a fault
 foreign_fault : (c : ℕ) (rest : List ℕ)
     → (is_forbidden_host c ≡ true) ⊎ ((is_url_code_point c ≡ false) × (c ≢ percent_sign))
     → host_fault c rest ≡ Some HostCodePoint
@@ -108,19 +109,22 @@ stands c rest rule fault =
           elim (cases_Bool (starts_with_two_hex rest)) [
             | inl hex ↦ absurd (let none = rw (same, hex) at fault in cc)
             | inr bare ↦
-                let is : Percent ≡ rule = (let found = rw (same, bare) at fault in cc) in
+                let found = rw (same, bare) at fault in
+                let is : Percent ≡ rule = cc in
                 rw (← is, same) (record { rest = rest; here = refl; bare = bare })
           ]
       | inr other ↦
           elim (cases_Bool (is_forbidden_host c)) [
             | inl forbidden ↦
-                let is : HostCodePoint ≡ rule = (let found = rw (ne_eqb c percent_sign other, forbidden) at fault in cc) in
+                let found = rw (ne_eqb c percent_sign other, forbidden) at fault in
+                let is : HostCodePoint ≡ rule = cc in
                 rw (← is) (record { code_point = c; rest = rest; here = refl; foreign = inl forbidden })
             | inr allowed ↦
                 elim (cases_Bool (is_url_code_point c)) [
                   | inl url ↦ absurd (let none = rw (ne_eqb c percent_sign other, allowed, url) at fault in cc)
                   | inr foreign ↦
-                      let is : HostCodePoint ≡ rule = (let found = rw (ne_eqb c percent_sign other, allowed, foreign) at fault in cc) in
+                      let found = rw (ne_eqb c percent_sign other, allowed, foreign) at fault in
+                      let is : HostCodePoint ≡ rule = cc in
                       rw (← is) (record { code_point = c; rest = rest; here = refl; foreign = inr (foreign, other) })
                 ]
           ]

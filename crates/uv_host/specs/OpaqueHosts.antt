@@ -1,5 +1,5 @@
 -- The text of an opaque host, judged code point by code point (URL Standard, sections 3.2, 3.4 and 4.3).
-use Rattle.std.specs.Prelude.{◌≡◌, ℕ, ◌+◌, ◌⊎◌, Bool, true, false, not, ◌||◌, ◌==◌, List, [], ◌∷◌, Option, Some, None, if◌then◌else◌}
+use Rattle.std.specs.Prelude.{◌≡◌, ℕ, ◌+◌, ◌⊎◌, not, ◌||◌, ◌==◌, List, [], ◌∷◌, Option, Some, None, if◌then◌else◌}
 use Rattle.uv_model.specs.declared.rule.Rule.{Rule}
 use Rattle.uv_model.specs.declared.rule.Rule.TheVariants.{HostCodePoint, Percent}
 use Rattle.uv_model.specs.declared.rule.Refusal.{Refusal}

@@ -4,7 +4,8 @@ ghost use Rattle.uv_model.specs.Address.{Reads, IsIpv4, IsIpv6, IsBracketedIpv6}
 
 use std::net::{Ipv4Addr, Ipv6Addr};
 
-/// The value of an IPv4 text, the highest number first; none where the text is no IPv4 text (URL Standard, section 3.4).
+/// The value of an IPv4 text, or `None` where the text is no IPv4 text (URL Standard, section 3.4). The first number
+/// is the highest byte.
 pub fn ipv4(text: &str) -> Option<u32>
     ensures { Reads IsIpv4 (chars text.now) result }
 {
@@ -14,7 +15,8 @@ pub fn ipv4(text: &str) -> Option<u32>
     }
 }
 
-/// The eight pieces of an IPv6 text without brackets; none where the text is no IPv6 text (URL Standard, section 3.4).
+/// The eight pieces of an IPv6 text, or `None` where the text is no IPv6 text (URL Standard, section 3.4). It stands
+/// without brackets.
 pub fn ipv6(text: &str) -> Option<[u16; 8]>
     ensures { Reads IsIpv6 (chars text.now) result }
 {
@@ -24,7 +26,7 @@ pub fn ipv6(text: &str) -> Option<[u16; 8]>
     }
 }
 
-/// The eight pieces of an IPv6 text in brackets; none where the text is none (URL Standard, sections 3.4 and 3.5).
+/// The eight pieces of an IPv6 text in brackets, or `None` where the text is none (URL Standard, sections 3.4 and 3.5).
 pub fn bracketed_ipv6(text: &str) -> Option<[u16; 8]>
     ensures { Reads IsBracketedIpv6 (chars text.now) result }
 {

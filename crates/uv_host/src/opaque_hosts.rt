@@ -11,7 +11,7 @@ use uv_model::{
 };
 
 /// What is wrong with the text of an opaque host: the least place, in code points from the text's start, and there the
-/// least rule. None for an empty text, an IPv6 text in brackets and an opaque host (URL Standard, section 3.4).
+/// least rule. `None` for an empty text, an IPv6 text in brackets and an opaque host (URL Standard, section 3.4).
 pub fn opaque_fault(text: &str) -> Option<Refusal>
     ensures least { IsLeast (OpaqueHostComplaint (chars text.now)) result }
     ensures silent { result ≡ None ↔ IsOpaqueHostOrEmpty (chars text.now) }

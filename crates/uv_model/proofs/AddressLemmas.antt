@@ -1,5 +1,5 @@
 -- The texts of addresses and the grammar of addresses of the standard library are one.
-use Rattle.std.proofs.Common.{◌≡◌, ◌↔◌, ℕ, ◌+◌, ◌*◌, ◌<◌, ◌≤◌, Bool, true, false, ◌&&◌, List, [], ◌∷◌, ◌++◌, length, codes, decimal, lit<, refl, sym, ap, ◌∙◌, inl, inr, ◌⊎◌, arith, append_assoc, append-nil}
+use Rattle.std.proofs.Common.{◌≡◌, ℕ, ◌+◌, ◌*◌, ◌<◌, Bool, true, false, List, [], ◌∷◌, ◌++◌, length, codes, decimal, lit<, refl, sym, ap, ◌∙◌, inl, inr, arith, append_assoc, append-nil}
 use Rattle.std.specs.List.{list_all}
 use Rattle.std.specs.Char.{is_ascii, is_ascii_hexdigit, digit_value}
 use Rattle.std.specs.Str.{IsAscii}
@@ -14,7 +14,7 @@ use Rattle.std.proofs.lemmas.Str.Ascii.{IsAscii-nil, IsAscii-cons}
 use Rattle.uv_model.proofs.AsciiLemmas.{IsAscii-from_test}
 use Rattle.std.proofs.lemmas.Bool.Decides.{nat_tests}
 use Rattle.uv_model.specs.Ascii.{colon}
-use Rattle.uv_model.specs.Address.{IsFourNumbers, IsGroup, IsTwoPieces, IsGroupList, IsSide, IsCompressed, IsIpv4, IsIpv6, AreLibraryTexts}
+use Rattle.uv_model.specs.Address.{IsFourNumbers, IsGroup, IsGroupList, IsSide, IsCompressed, IsIpv4, IsIpv6, AreLibraryTexts}
 
 -- ---- IPv4
 
@@ -120,6 +120,7 @@ side_from dotted text (p ∷ rest) groups = let (inner, same, list) =
 
 -- ---- the whole text
 
+-- a text around `::` is one of the library
 compressed_to : (text pieces : List ℕ) → IsCompressed text pieces → IsElided text pieces
 compressed_to text pieces is = record {
   head_text = is.left_text;
@@ -133,6 +134,7 @@ compressed_to text pieces is = record {
   value = is.value;
 }
 
+-- and back
 compressed_from : (text pieces : List ℕ) → IsElided text pieces → IsCompressed text pieces
 compressed_from text pieces is = record {
   left_text = is.head_text;
@@ -167,31 +169,34 @@ library_texts = record {
 
 -- ---- their code points are ASCII
 
+-- a number of an IPv4 text is ASCII
 ascii_decimal : (n : ℕ) → n < 256 → IsAscii (decimal n)
 ascii_decimal n small = IsAscii-decimal n (omega arith)
 
+-- so is the full stop
 dot : IsAscii (codes ".")
 dot = IsAscii-from_test (codes ".") refl
 
 -- four numbers and full stops are ASCII
 pub numbers_ascii : (a b c d : ℕ) (text : List ℕ) → IsFourNumbers a b c d text → IsAscii text
 numbers_ascii a b c d text is =
-    rw is.spelled
-    (IsAscii-append _ _
-    (IsAscii-append _ _ (IsAscii-append _ _ (IsAscii-append _ _ (IsAscii-append _ _ (IsAscii-append _ _ (ascii_decimal a is.fit.0) dot) (ascii_decimal b is.fit.1)) dot)
-    (ascii_decimal c is.fit.2)) dot)
-    (ascii_decimal d is.fit.3))
+    let one = ascii_decimal a is.fit.0 in
+    let two = IsAscii-append _ _ (IsAscii-append _ _ one dot) (ascii_decimal b is.fit.1) in
+    let three = IsAscii-append _ _ (IsAscii-append _ _ two dot) (ascii_decimal c is.fit.2) in
+    rw is.spelled (IsAscii-append _ _ (IsAscii-append _ _ three dot) (ascii_decimal d is.fit.3))
 
 -- a hex digit is ASCII
 hex_ascii : (c : ℕ) → is_ascii_hexdigit c ≡ true → is_ascii c ≡ true
 hex_ascii c h = grind (arith, nat_tests)
 
+-- hex digits are ASCII
 digits_ascii : (text : List ℕ) → list_all is_ascii_hexdigit text ≡ true → IsAscii text
 digits_ascii [] h = IsAscii-nil
 digits_ascii (c ∷ text) h =
     let both = and_parts (is_ascii_hexdigit c) (list_all is_ascii_hexdigit text) h in
     IsAscii-cons c text (ltb-true c 128 (hex_ascii c both.0)) (digits_ascii text both.1)
 
+-- a list of groups is ASCII
 groups_ascii : (dotted : Bool) (text pieces : List ℕ) → IsGroupList dotted text pieces → IsAscii text
 groups_ascii dotted text [] h = absurd h
 groups_ascii dotted text (p ∷ []) h = digits_ascii text h.digits
@@ -202,6 +207,7 @@ groups_ascii dotted text (p ∷ q ∷ rest) (inl (group, others, split, is, more
 groups_ascii dotted text (p ∷ q ∷ rest) (inr (allowed, none, (a, b, c, d, is, first, second))) =
     numbers_ascii a b c d text is
 
+-- so is a side of `::`
 side_ascii : (dotted : Bool) (text pieces : List ℕ) → IsSide dotted text pieces → IsAscii text
 side_ascii dotted text pieces (inl (nothing, none)) = rw nothing IsAscii-nil
 side_ascii dotted text pieces (inr list) = groups_ascii dotted text pieces list

@@ -1,12 +1,12 @@
 -- A text denotes one address at most.
-use Rattle.std.proofs.Common.{◌≡◌, ℕ, ◌+◌, ◌*◌, ◌<◌, Bool, true, false, ◌==◌, List, [], ◌∷◌, ◌++◌, length, codes, decimal, refl, sym, ap, ◌∙◌, arith, append_assoc}
+use Rattle.std.proofs.Common.{◌≡◌, ℕ, ◌<◌, true, false, ◌==◌, List, [], ◌∷◌, ◌++◌, length, codes, decimal, refl, ◌∙◌, arith, append_assoc}
 use Rattle.std.specs.Char.{digit_value}
 use Rattle.std.specs.Str.Parse.{AllDigits}
 use Rattle.std.proofs.lemmas.Bool.Decides.{nat_tests}
 use Rattle.std.proofs.lemmas.Fmt.{decimal_is_IsNumeral}
 use Rattle.std.proofs.lemmas.List.{append_cancel_right}
 use Rattle.uv_model.specs.Ascii.{left_bracket, right_bracket}
-use Rattle.uv_model.specs.Address.{IsIpv4, IsIpv6, IsBracketedIpv6, address_of}
+use Rattle.uv_model.specs.Address.{IsIpv4, IsIpv6, IsBracketedIpv6}
 use Rattle.uv_model.specs.OpaqueHost.{starts_with_bracket}
 use Rattle.uv_model.proofs.Ipv4ParserLemmas.{ipv4_parsed}
 use Rattle.uv_model.proofs.Ipv6ParserLemmas.{ipv6_parsed}

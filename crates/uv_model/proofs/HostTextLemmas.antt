@@ -1,14 +1,14 @@
 -- The texts that addresses are serialized as are read as those addresses.
-use Rattle.std.proofs.Common.{◌≡◌, ℕ, ◌+◌, ◌*◌, ◌/◌, ◌%◌, ◌<◌, ◌^◌, true, false, List, [], ◌∷◌, ◌++◌, refl, sym, ap, ◌∙◌, arith, true≢false}
+use Rattle.std.proofs.Common.{◌≡◌, ℕ, ◌/◌, ◌%◌, ◌<◌, ◌^◌, List, refl, sym, ap, ◌∙◌, arith, true≢false}
 use Rattle.std.specs.declared.net.ipv4_addr.Ipv4Addr.{Ipv4Addr}
 use Rattle.std.specs.Net.Addr.{ipv4_octets, IsIpv4OfBits}
 use Rattle.std.specs.Net.Text.{ipv4_text, hex_groups_text}
 use Rattle.std.proofs.NetLemmas.Texts.{IsColonHex-hex_groups_text}
 use Rattle.uv_model.specs.declared.host.Host.{Host}
 use Rattle.uv_model.specs.declared.host.Host.TheVariants.{V4, V6}
-use Rattle.uv_model.specs.Address.{IsIpv4, IsBracketedIpv6, address_of}
+use Rattle.uv_model.specs.Address.{IsIpv4, IsBracketedIpv6}
 use Rattle.uv_model.specs.HostText.{IsAddress, DenotesAddress, AddressesAreReadBack}
-use Rattle.uv_model.specs.Serialize.{serial_ipv4, serial_ipv6, serial_host}
+use Rattle.uv_model.specs.Serialize.{serial_ipv4, serial_host}
 use Rattle.uv_model.proofs.AddressLemmas.{ipv6_from_colon_hex}
 use Rattle.uv_model.proofs.AddressUniqueness.{ipv4_unique, bracketed_unique, ipv4_no_bracket, bracketed_bracket}
 

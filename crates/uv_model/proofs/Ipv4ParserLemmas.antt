@@ -1,20 +1,23 @@
 -- The IPv4 parser on an IPv4 text gives its value.
-use Rattle.std.proofs.Common.{◌≡◌, ℕ, zero, suc, ◌+◌, ◌*◌, List, [], ◌∷◌, ◌++◌, Option, Some, None, decimal, codes, refl, sym, ap, ◌∙◌, arith, lit≤, append_assoc, append-nil}
-use Rattle.uv_model.specs.Address.{IsFourNumbers, IsIpv4, address_of}
+use Rattle.std.proofs.Common.{◌≡◌, ℕ, suc, ◌+◌, ◌*◌, List, [], ◌∷◌, ◌++◌, Some, None, decimal, refl, sym, ap, ◌∙◌, lit≤, append_assoc, append-nil}
+use Rattle.uv_model.specs.Address.{IsIpv4}
 use Rattle.uv_model.specs.Ipv4Parser.{read_rest, parse_ipv4}
 use Rattle.uv_model.specs.Ipv6Parser.{read_digits}
 use Rattle.uv_model.proofs.Ipv6ReadersLemmas.{read_number}
 use Rattle.uv_model.specs.Ascii.{full_stop}
 
+-- one more number behind a full stop
 next : (left value : ℕ) (text rest : List ℕ) (n : ℕ) → read_digits None text ≡ Some (n, rest)
     → read_rest (suc left) value (full_stop ∷ text) ≡ read_rest left (value * 256 + n) rest
 unfolding read_rest
 next left value text rest n e = rw e
 
+-- the text ends after the last number
 all_read : (value : ℕ) → read_rest 0 value [] ≡ Some value
 unfolding read_rest
 all_read value = refl
 
+-- an IPv4 text makes the parser give exactly its value
 pub ipv4_parsed : (text : List ℕ) (value : ℕ) → IsIpv4 text value → parse_ipv4 text ≡ Some value
 unfolding parse_ipv4
 ipv4_parsed text value (a, b, c, d, is, e) =

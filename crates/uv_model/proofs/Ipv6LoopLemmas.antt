@@ -1,15 +1,12 @@
 -- The parser's main loop over groups.
-use Rattle.std.proofs.Common.{◌≡◌, ◌≢◌, ℕ, zero, suc, ◌+◌, ◌-◌, ◌*◌, ◌<◌, ◌≤◌, Bool, true, false, not, ◌&&◌, ◌||◌, ◌==◌, List, [], ◌∷◌, ◌++◌, length, get_or, drop, Option, Some, None, decimal, codes, refl, sym, ap, subst, ◌∙◌, inl, inr, arith, lt-ltb, le-ltb, le-leb, ne_eqb, eq-eqb, lit≤, append_assoc, append-nil, length-append}
-use Rattle.std.specs.Prelude.{replicate, slice_index, slice_set, if◌then◌else◌}
-use Rattle.std.specs.Char.{digit_value, is_digit}
-use Rattle.std.specs.Str.Parse.{AllDigits, IsNumeral, digits_value, digits_value_after}
+use Rattle.std.proofs.Common.{◌≡◌, ◌≢◌, ℕ, suc, ◌+◌, ◌*◌, ◌<◌, ◌≤◌, false, ◌||◌, ◌==◌, List, [], ◌∷◌, ◌++◌, length, Option, Some, None, decimal, refl, ap, ◌∙◌, arith, le-ltb, ne_eqb, lit≤, append_assoc, append-nil, length-append}
+use Rattle.std.specs.Prelude.{slice_index, slice_set, if◌then◌else◌}
+use Rattle.std.specs.Str.Parse.{AllDigits}
 use Rattle.std.specs.Net.Addr.{segments_of}
-use Rattle.std.specs.Net.Text.{dotted_text}
-use Rattle.std.specs.Net.Grammar.{IsDotted, IsNumber, IsGroup, IsGroupsAfter, IsGroups}
-use Rattle.std.proofs.lemmas.Bool.Decides.{nat_tests}
-use Rattle.uv_model.specs.Ipv6Parser.{read_hex, read_digits, read_dotted, main_loop}
+use Rattle.std.specs.Net.Grammar.{IsDotted, IsGroup}
+use Rattle.uv_model.specs.Ipv6Parser.{read_digits, read_dotted, main_loop}
 use Rattle.std.proofs.lemmas.Fmt.{decimal_is_IsNumeral, length-decimal-le}
-use Rattle.uv_model.proofs.Ipv6ReadersLemmas.{hexadecimal, pad, set_pad, get_pad, set_again, get_again, NoDigit, read_hex_group, not_colon, read_number, read_hex_number}
+use Rattle.uv_model.proofs.Ipv6ReadersLemmas.{hexadecimal, pad, set_pad, get_pad, set_again, get_again, read_hex_group, not_colon, read_number}
 use Rattle.uv_model.specs.Ascii.{colon, full_stop}
 
 -- a group at the end
@@ -46,6 +43,7 @@ turn_more turns pieces i compress (c ∷ group) rest s h room some =
 
 -- ---- an IPv4 address
 
+-- the first number has no full stop before it
 first_number : (turns : ℕ) (pieces : List ℕ) (i : ℕ) (text rest : List ℕ) (n : ℕ) → 0 < length text
     → read_digits None text ≡ Some (n, rest)
     → read_dotted (suc turns) 0 pieces i text
@@ -54,6 +52,7 @@ unfolding read_dotted
 first_number turns pieces i [] rest n some read = absurd (omega arith)
 first_number turns pieces i (c ∷ text) rest n some read = rw read
 
+-- each other number has one
 next_number : (turns seen : ℕ) (pieces : List ℕ) (i : ℕ) (front rest : List ℕ) (n : ℕ) → (seen == 0) ≡ false
     → read_digits None front ≡ Some (n, rest)
     → read_dotted (suc turns) seen pieces i (full_stop ∷ front)
@@ -62,6 +61,7 @@ next_number : (turns seen : ℕ) (pieces : List ℕ) (i : ℕ) (front rest : Lis
 unfolding read_dotted
 next_number turns seen pieces i front rest n later read = rw (later, read)
 
+-- a number into a fresh piece
 high_byte : (done : List ℕ) (i v : ℕ) → i ≡ length done → i < 8
     → slice_set (pad 8 done) i (slice_index (pad 8 done) i * 256 + v) ≡ pad 8 (done ++ v ∷ [])
 high_byte done i v at room =
@@ -69,6 +69,7 @@ high_byte done i v at room =
     let e : 0 * 256 + v ≡ v = omega arith in
     rw (at, get_pad 8 done small, e) (set_pad 8 done v small)
 
+-- and the next into the low byte of that piece
 low_byte : (done : List ℕ) (i u v : ℕ) → i ≡ length done → i < 8
     → slice_set (pad 8 (done ++ u ∷ [])) i (slice_index (pad 8 (done ++ u ∷ [])) i * 256 + v)
     ≡ pad 8 (done ++ (u * 256 + v) ∷ [])
@@ -76,13 +77,16 @@ low_byte done i u v at room =
     let small : length done < 8 = omega arith in
     rw (at, get_again 8 done u small) (set_again 8 done u (u * 256 + v) small)
 
+-- the last three numbers, each behind a full stop
 abbrev dotted_rest : ℕ → ℕ → ℕ → List ℕ
 dotted_rest b c d = full_stop ∷ (decimal b ++ (full_stop ∷ (decimal c ++ (full_stop ∷ decimal d))))
 
+-- after four numbers the text ends
 four_read : (pieces : List ℕ) (i : ℕ) → read_dotted 0 4 pieces i [] ≡ Some (pieces, i)
 unfolding read_dotted
 four_read pieces i = refl
 
+-- four numbers fill two pieces
 read_four : (done : List ℕ) (i a b c d : ℕ) → i ≡ length done → i ≤ 6 → (a < 256) × (b < 256) × (c < 256) × (d < 256)
     → 0 < length (decimal a)
     → read_dotted 4 0 (pad 8 done) i (decimal a ++ dotted_rest b c d)
@@ -132,6 +136,7 @@ at_dot turns pieces i compress (c ∷ digits) rest r all some few room read =
       read,
     ) refl
 
+-- an IPv4 address ends the loop
 pub turn_dotted : (turns : ℕ) (done : List ℕ) (i : ℕ) (compress : Option ℕ) (text octets : List ℕ)
     → IsDotted text octets → i ≡ length done → i ≤ 6
     → main_loop (suc turns) (pad 8 done) i compress text ≡ Some (pad 8 (done ++ segments_of octets), i + 2, compress)

@@ -1,21 +1,20 @@
 -- The parser on lists of groups, and on a whole IPv6 text.
-use Rattle.std.proofs.Common.{◌≡◌, ◌≢◌, ℕ, zero, suc, ◌+◌, ◌-◌, ◌*◌, ◌<◌, ◌≤◌, Bool, true, false, not, ◌&&◌, ◌||◌, ◌==◌, List, [], ◌∷◌, ◌++◌, length, get_or, drop, Option, Some, None, decimal, codes, refl, sym, ap, subst, ◌∙◌, inl, inr, ◌⊎◌, arith, lt-ltb, le-ltb, le-leb, ne_eqb, eq-eqb, lit≤, append_assoc, append-nil, length-append, true≢false}
-use Rattle.std.specs.Prelude.{replicate, slice_index, slice_set, if◌then◌else◌}
-use Rattle.std.specs.Char.{digit_value, is_digit}
+use Rattle.std.proofs.Common.{◌≡◌, ◌≢◌, ℕ, zero, suc, ◌+◌, ◌-◌, ◌<◌, ◌≤◌, Bool, true, false, ◌==◌, List, [], ◌∷◌, ◌++◌, length, Option, Some, None, decimal, codes, refl, ap, ◌∙◌, inl, inr, arith, ne_eqb, append_assoc, append-nil, length-append}
+use Rattle.std.specs.Prelude.{replicate, slice_index, slice_set}
 use Rattle.std.specs.Str.Parse.{AllDigits}
 use Rattle.std.specs.Net.Addr.{segments_of}
-use Rattle.std.specs.Net.Text.{dotted_text}
-use Rattle.std.specs.Net.Grammar.{IsDotted, IsNumber, IsGroup, IsGroupsAfter, IsGroups, IsElided, IsColonHex}
+use Rattle.std.specs.Net.Grammar.{IsDotted, IsGroupsAfter, IsGroups, IsColonHex}
 use Rattle.std.proofs.lemmas.Bool.{false≢true}
 use Rattle.std.proofs.lemmas.Fmt.{decimal_is_IsNumeral}
 use Rattle.uv_model.specs.Address.{IsIpv6}
-use Rattle.uv_model.specs.Ipv6Parser.{Parsed, main_loop, move, finish, parse_ipv6}
+use Rattle.uv_model.specs.Ipv6Parser.{Parsed, main_loop, finish, parse_ipv6}
 use Rattle.uv_model.proofs.AddressLemmas.{colon_hex_from_ipv6}
 use Rattle.uv_model.proofs.Ipv6MovesLemmas.{moved}
 use Rattle.uv_model.proofs.Ipv6ReadersLemmas.{hexadecimal, pad, set_pad, pad_full, pad_append, pad_zero, not_colon}
 use Rattle.uv_model.proofs.Ipv6LoopLemmas.{turn_end, turn_more, turn_dotted}
 use Rattle.uv_model.specs.Ascii.{colon, full_stop}
 
+-- an IPv4 address has a code point
 nonempty_dotted : (text octets : List ℕ) → IsDotted text octets → 0 < length text
 nonempty_dotted text octets h =
     let (numeral, value) = decimal_is_IsNumeral h.a (omega (arith, h.fit.0)) in
@@ -30,6 +29,7 @@ nonempty_dotted text octets h =
           (full_stop ∷ (decimal h.b ++ (full_stop ∷ (decimal h.c ++ (full_stop ∷ decimal h.d))))),
     )
 
+-- so have groups
 nonempty_groups : (ipv4 : Bool) (text : List ℕ) (x : ℕ) (xs : List ℕ) → IsGroups ipv4 text (x ∷ xs) → 0 < length text
 nonempty_groups ipv4 text x xs (inl (group, rest, split, is, more)) =
     omega (arith, is.0.0.0, ap length split, length-append group rest)
@@ -120,10 +120,12 @@ groups_then (y ∷ ys) x text done i compress d tail result (suc turns)
 
 -- ---- the whole text
 
+-- digits don't begin with a colon
 digits_first : (ds rest : List ℕ) → AllDigits 16 ds → 0 < length ds → (slice_index (ds ++ rest) 0 == colon) ≡ false
 digits_first [] rest all some = absurd (omega arith)
 digits_first (d ∷ ds) rest all some = not_colon d all.0
 
+-- nor do groups
 no_colon_first : (ipv4 : Bool) (text : List ℕ) (x : ℕ) (xs : List ℕ) (after : List ℕ) → IsGroups ipv4 text (x ∷ xs)
     → (slice_index (text ++ after) 0 == colon) ≡ false
 no_colon_first ipv4 text x xs after (inl (group, rest, split, is, more)) =
@@ -137,6 +139,7 @@ no_colon_first ipv4 text x xs after (inr (last, octets, allowed, split, is, valu
     ∙ append_assoc (decimal is.a) others after in
     rw shown (digits_first (decimal is.a) (others ++ after) (hexadecimal _ numeral.1) numeral.0)
 
+-- the loop ends at the end of the text
 at_end : (turns : ℕ) (pieces : List ℕ) (i : ℕ) (compress : Option ℕ)
     → main_loop turns pieces i compress [] ≡ Some (pieces, i, compress)
 unfolding main_loop
@@ -149,6 +152,7 @@ mark : (turns : ℕ) (pieces : List ℕ) (i : ℕ) (text : List ℕ) → i < 8
 unfolding main_loop
 mark turns pieces i text room = let small : i ≢ 8 = omega arith in rw (ne_eqb i 8 small)
 
+-- what follows `::`, up to the end
 after_mark : (turns : ℕ) (head tail text : List ℕ) → IsGroups true text tail → length head + length tail < 8
     → length text ≤ turns
     → main_loop turns (pad 8 (head ++ 0 ∷ [])) (length head + 1) (Some (length head + 1)) text
@@ -162,11 +166,13 @@ after_mark turns head (y ∷ ys) text groups room fits =
     ∙ ap (λ p. Some (pad 8 p, length head + 1 + length (y ∷ ys), Some (length head + 1)))
     (append_assoc head (0 ∷ []) (y ∷ ys))
 
+-- eight pieces without `::` are the result
 finish_eight : (xs : List ℕ) → length xs ≡ 8 → finish (pad 8 xs, 0 + length xs, None) ≡ Some xs
 finish_eight xs eight =
     let sum : 0 + length xs ≡ 8 = omega arith in
     rw (sum, pad_full 8 xs eight)
 
+-- the swaps put the zeros of `::` in their place
 finish_moved : (head tail : List ℕ) → length head + length tail < 8
     → finish (pad 8 (head ++ 0 ∷ tail), length head + 1 + length tail, Some (length head + 1))
     ≡ Some (head ++ replicate (8 - length head - length tail) 0 ++ tail)
@@ -179,6 +185,7 @@ finish_moved head tail room =
     ∙ ap (λ n. head ++ (0 ∷ tail) ++ replicate n 0) zeros in
     rw (swaps, padded, moved head tail room)
 
+-- the parser on two sides of `::`
 parsed_elided : (head tail head_text tail_text : List ℕ) → IsGroups false head_text head
     → IsGroups true tail_text tail → length head + length tail < 8
     → parse_ipv6 (head_text ++ (colon ∷ colon ∷ tail_text))
@@ -210,6 +217,7 @@ parsed_elided (x ∷ xs) tail head_text tail_text head_groups tail_groups room =
         (mark t (pad 8 ((x ∷ xs) ++ 0 ∷ [])) (length (x ∷ xs)) tail_text (omega arith)
         ∙ after_mark t (x ∷ xs) tail tail_text tail_groups room (omega arith))
 
+-- the parser on eight pieces
 parsed_whole : (x : ℕ) (xs text : List ℕ) → IsGroups true text (x ∷ xs) → length (x ∷ xs) ≡ 8
     → parse_ipv6 text ≡ Some (x ∷ xs)
 unfolding parse_ipv6
@@ -218,6 +226,7 @@ parsed_whole x xs text groups eight =
     let looped = groups_end true xs x text [] 0 None (length text) groups refl (omega arith) (omega arith) in
     rw (first, looped) (finish_eight (x ∷ xs) eight)
 
+-- the parser on a text of the library's grammar
 colon_hex_parsed : (text pieces : List ℕ) → IsColonHex text pieces → parse_ipv6 text ≡ Some pieces
 colon_hex_parsed text [] (inl (groups, eight)) = absurd (omega arith)
 colon_hex_parsed text (x ∷ xs) (inl (groups, eight)) = parsed_whole x xs text groups eight

@@ -1,51 +1,57 @@
 -- What the parser's readers make of a group, and of an IPv4 address.
-use Rattle.std.proofs.Common.{◌≡◌, ◌≢◌, ℕ, zero, suc, ◌+◌, ◌-◌, ◌*◌, ◌<◌, ◌≤◌, Bool, true, false, ◌&&◌, ◌||◌, ◌==◌, List, [], ◌∷◌, ◌++◌, length, get_or, Option, Some, None, decimal, refl, sym, ap, ◌∙◌, inl, inr, arith, lt-ltb, le-ltb, le-leb, ne_eqb, eq-eqb, lit≤, zero-add, le_refl, le_trans}
-use Rattle.std.specs.Prelude.{replicate, slice_index, slice_set, if◌then◌else◌}
-use Rattle.std.specs.Char.{digit_value, is_digit}
+use Rattle.std.proofs.Common.{◌≡◌, ◌≢◌, ℕ, zero, suc, ◌+◌, ◌-◌, ◌*◌, ◌<◌, ◌≤◌, false, ◌==◌, List, [], ◌∷◌, ◌++◌, length, get_or, Some, None, decimal, refl, sym, ap, ◌∙◌, inl, inr, arith, lt-ltb, le-ltb, le-leb, ne_eqb, zero-add, le_refl, le_trans}
+use Rattle.std.specs.Prelude.{replicate, slice_index, slice_set}
+use Rattle.std.specs.Char.{digit_value}
 use Rattle.std.specs.Str.Parse.{AllDigits, IsNumeral, digits_value, digits_value_after}
-use Rattle.std.proofs.Math.Nat.{mul-le-mul_left}
 use Rattle.std.proofs.lemmas.Bool.{cases_lt}
 use Rattle.std.proofs.lemmas.Bool.Decides.{nat_tests}
 use Rattle.std.proofs.lemmas.Fmt.{decimal_is_IsNumeral, decimal_digit, first_decimal, length-decimal-le}
-use Rattle.uv_model.specs.Ipv6Parser.{read_hex, read_digits, read_dotted}
+use Rattle.uv_model.specs.Ipv6Parser.{read_hex, read_digits}
 use Rattle.uv_model.specs.Ascii.{colon}
 
 -- ---- pieces, with zeros after those that are written
 
+-- so many pieces: those that are written, then zeros
 abbrev pub pad : ℕ → List ℕ → List ℕ
 pad n [] = replicate n 0
 pad zero (x ∷ xs) = []
 pad (suc n) (x ∷ xs) = x ∷ pad n xs
 
+-- writing the next piece
 pub set_pad : (n : ℕ) (done : List ℕ) (v : ℕ) → length done < n
     → slice_set (pad n done) (length done) v ≡ pad n (done ++ v ∷ [])
 set_pad zero done v h = absurd (omega arith)
 set_pad (suc n) [] v h = refl
 set_pad (suc n) (x ∷ done) v h = ap (λ xs. x ∷ xs) (set_pad n done v (omega arith))
 
+-- the next piece is zero
 pub get_pad : (n : ℕ) (done : List ℕ) → length done < n → slice_index (pad n done) (length done) ≡ 0
 get_pad zero done h = absurd (omega arith)
 get_pad (suc n) [] h = refl
 get_pad (suc n) (x ∷ done) h = get_pad n done (omega arith)
 
+-- writing the last piece again
 pub set_again : (n : ℕ) (done : List ℕ) (v w : ℕ) → length done < n
     → slice_set (pad n (done ++ v ∷ [])) (length done) w ≡ pad n (done ++ w ∷ [])
 set_again zero done v w h = absurd (omega arith)
 set_again (suc n) [] v w h = refl
 set_again (suc n) (x ∷ done) v w h = ap (λ xs. x ∷ xs) (set_again n done v w (omega arith))
 
+-- the last piece
 pub get_again : (n : ℕ) (done : List ℕ) (v : ℕ) → length done < n
     → slice_index (pad n (done ++ v ∷ [])) (length done) ≡ v
 get_again zero done v h = absurd (omega arith)
 get_again (suc n) [] v h = refl
 get_again (suc n) (x ∷ done) v h = get_again n done v (omega arith)
 
+-- pieces that are all written
 pub pad_full : (n : ℕ) (xs : List ℕ) → length xs ≡ n → pad n xs ≡ xs
 pad_full zero [] e = refl
 pad_full zero (x ∷ xs) e = absurd (omega arith)
 pad_full (suc n) [] e = absurd (omega arith)
 pad_full (suc n) (x ∷ xs) e = ap (λ ys. x ∷ ys) (pad_full n xs (omega arith))
 
+-- the zeros stand behind the written pieces
 pub pad_append : (n : ℕ) (xs : List ℕ) → length xs ≤ n → pad n xs ≡ xs ++ replicate (n - length xs) 0
 pad_append zero [] h = refl
 pad_append zero (x ∷ xs) h = absurd (omega arith)
@@ -62,9 +68,11 @@ pad_zero (suc n) (x ∷ done) h = ap (λ ys. x ∷ ys) (pad_zero n done (omega a
 
 -- ---- a group
 
+-- the text doesn't begin with a digit of this radix
 abbrev pub NoDigit : ℕ → List ℕ → Type 0
 NoDigit radix text = radix ≤ digit_value (get_or text 0 0)
 
+-- the reader of hex digits on a group
 pub read_hex_group : (most value count : ℕ) (group rest : List ℕ) → AllDigits 16 group → length group ≤ most
     → NoDigit 16 rest
     → read_hex most value count (group ++ rest) ≡ (digits_value_after 16 value group, count + length group, rest)
@@ -85,12 +93,14 @@ not_colon c h = grind (arith, nat_tests)
 
 -- ---- a number of an IPv4 address
 
+-- more digits make no smaller number
 most_after : (n : ℕ) (ds : List ℕ) → n ≤ digits_value_after 10 n ds
 most_after n [] = le_refl n
 most_after n (d ∷ ds) =
     let step : n ≤ n * 10 + digit_value d = omega arith in
     le_trans step (most_after (n * 10 + digit_value d) ds)
 
+-- the reader of decimal digits after a first digit
 read_more : (m : ℕ) (ds rest : List ℕ) → AllDigits 10 ds → digits_value_after 10 m ds ≤ 255 → (0 < length ds → 0 < m)
     → NoDigit 10 rest → read_digits (Some m) (ds ++ rest) ≡ Some (digits_value_after 10 m ds, rest)
 unfolding read_digits
@@ -104,9 +114,11 @@ read_more m (d ∷ ds) rest all fits some stop =
     rw (lt-ltb (digit_value d) 10 all.0, ne_eqb m 0 differ, le-leb next 255 small)
     (read_more next ds rest all.1 fits (λ _. omega arith) stop)
 
+-- a digit other than `0` isn't 0
 leading : (d : ℕ) → digit_value d < 10 → 48 < d → 0 < digit_value d
 leading d h more = grind (arith, nat_tests)
 
+-- the reader of decimal digits on a whole number without a leading zero
 read_whole : (n : ℕ) (ds rest : List ℕ) → IsNumeral 10 ds → digits_value 10 ds ≡ n → n ≤ 255
     → (1 < length ds → 48 < get_or ds 0 0) → NoDigit 10 rest → read_digits None (ds ++ rest) ≡ Some (n, rest)
 unfolding read_digits
@@ -119,6 +131,7 @@ read_whole n (d ∷ ds) rest numeral value fits alone stop =
     (read_more (digit_value d) ds rest numeral.1.1 small (λ more. leading d numeral.1.0 (alone (omega arith))) stop
     ∙ ap (λ m. Some (m, rest)) one)
 
+-- the reader of decimal digits on the shortest decimal number
 pub read_number : (n : ℕ) (rest : List ℕ) → n < 256 → NoDigit 10 rest
     → read_digits None (decimal n ++ rest) ≡ Some (n, rest)
 read_number n rest fits stop =
@@ -130,6 +143,7 @@ read_number n rest fits stop =
     ] in
     read_whole n (decimal n) rest numeral value (omega arith) first stop
 
+-- decimal digits are hex digits
 pub hexadecimal : (ds : List ℕ) → AllDigits 10 ds → AllDigits 16 ds
 hexadecimal [] h = h
 hexadecimal (d ∷ ds) h = (omega (arith, h.0), hexadecimal ds h.1)

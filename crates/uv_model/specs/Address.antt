@@ -39,7 +39,8 @@ abbrev pub IsGroupList : Bool → List ℕ → List ℕ → Type 0
 IsGroupList dotted text [] = ⊥
 IsGroupList dotted text (p ∷ []) = IsGroup text p
 IsGroupList dotted text (p ∷ q ∷ rest) =
-    ((group others : List ℕ) × (text ≡ group ++ colon ∷ others) × IsGroup group p × IsGroupList dotted others (q ∷ rest))
+    ((group others : List ℕ) × (text ≡ group ++ colon ∷ others) × IsGroup group p
+    × IsGroupList dotted others (q ∷ rest))
     ⊎ ((dotted ≡ true) × (rest ≡ []) × IsTwoPieces text p q)
 
 -- a side of `::`: nothing, or a list of groups
@@ -64,7 +65,8 @@ IsIpv6 text pieces = (IsGroupList true text pieces × (length pieces ≡ 8)) ⊎
 
 -- an IPv6 text in brackets
 abbrev pub IsBracketedIpv6 : List ℕ → List ℕ → Type 0
-IsBracketedIpv6 text pieces = (inner : List ℕ) × (text ≡ left_bracket ∷ (inner ++ right_bracket ∷ [])) × IsIpv6 inner pieces
+IsBracketedIpv6 text pieces =
+    (inner : List ℕ) × (text ≡ left_bracket ∷ (inner ++ right_bracket ∷ [])) × IsIpv6 inner pieces
 
 -- ---- what a reader answers, and the library's grammar
 

@@ -1,5 +1,5 @@
 -- What the IPv4 and IPv6 parsers (URL Standard, section 3.5) make of texts that are written out.
-use Rattle.std.specs.Prelude.{◌≡◌, ℕ, List, [], ◌∷◌, codes, Option, Some, None}
+use Rattle.std.specs.Prelude.{◌≡◌, [], ◌∷◌, codes, Some, None}
 use Rattle.uv_model.specs.Ipv4Parser.{parse_ipv4}
 use Rattle.uv_model.specs.Ipv6Parser.{parse_ipv6}
 

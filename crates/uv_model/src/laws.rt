@@ -40,8 +40,8 @@ pub fn valid_texts_are_cut_into_their_parts()
     ensures { ValidTextsAreCutIntoTheirParts }
 {}
 
-/// The texts of IPv4 and IPv6 addresses are those of the standard library's grammar, with the same values (URL Standard,
-/// section 3.4; RFC 4291, section 2.2).
+/// The texts of IPv4 and IPv6 addresses are those of the standard library's grammar, with the same values (URL
+/// Standard, section 3.4; RFC 4291, section 2.2).
 pub fn addresses_are_library_texts()
     ensures { AreLibraryTexts }
 {}

@@ -1,8 +1,8 @@
 -- The brackets are taken off, and what is between is read.
-use Rattle.std.proofs.Common.{◌≡◌, ℕ, List, [], ◌∷◌, ◌++◌, Some, None, refl, sym, ap, ◌∙◌, lit<}
+use Rattle.std.proofs.Common.{[], ◌∷◌, ◌++◌, Some, None, sym, ap, ◌∙◌, lit<}
 use Rattle.std.proofs.lemmas.Str.Pattern.{strip_prefix_char, strip_suffix_char}
 use Rattle.uv_model.specs.Ascii.{left_bracket, right_bracket}
-use Rattle.uv_host.proofs.BracketLemmas.{enclosed, reads_enclosed, not_enclosed}
+use Rattle.uv_host.proofs.BracketLemmas.{reads_enclosed, not_enclosed}
 use Rattle.uv_host.proofs.addresses.bracketed_ipv6.Goals as goal
 
 pub returns-in-Some-strip_suffix : goal.returns-in-Some-strip_suffix

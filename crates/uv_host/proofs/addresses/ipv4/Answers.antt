@@ -1,9 +1,9 @@
 -- What the reader of the standard library answers is what an IPv4 text denotes, on code points.
-use Rattle.std.proofs.Common.{◌≡◌, ℕ, ◌+◌, ◌*◌, List, [], ◌∷◌, sym, ◌∙◌, refl, arith}
+use Rattle.std.proofs.Common.{◌≡◌, ℕ, [], ◌∷◌, ◌∙◌, arith}
 use Rattle.std.specs.declared.net.ipv4_addr.Ipv4Addr.{Ipv4Addr}
 use Rattle.std.specs.Net.Addr.{ipv4_octets, ipv4_bits}
 use Rattle.std.proofs.lemmas.Str.{chars-IsAscii}
-use Rattle.uv_model.specs.Address.{IsIpv4, address_of}
+use Rattle.uv_model.specs.Address.{address_of}
 use Rattle.uv_model.proofs.AddressLemmas.{dotted_from_numbers, numbers_from_dotted, numbers_ascii}
 use Rattle.uv_model.proofs.AsciiLemmas.{chars-from_IsAscii}
 use Rattle.uv_host.proofs.addresses.ipv4.Goals as goal

@@ -1,5 +1,5 @@
 -- A text that begins with `[` has a fault unless it is an IPv6 text in brackets.
-use Rattle.std.proofs.Common.{◌≡◌, chars}
+use Rattle.std.proofs.Common.{chars}
 use Rattle.uv_host.proofs.OpaqueHostLemmas.{bracketed_silent, bracket_only}
 use Rattle.uv_host.proofs.opaque_hosts.bracket_fault.Goals as goal
 

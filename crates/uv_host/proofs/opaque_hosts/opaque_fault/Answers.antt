@@ -1,5 +1,5 @@
 -- The fault of an opaque host is the least of its complaints.
-use Rattle.std.proofs.Common.{◌≡◌, chars, sym, ◌∙◌}
+use Rattle.std.proofs.Common.{chars, sym, ◌∙◌}
 use Rattle.uv_host.proofs.OpaqueHostLemmas.{unbracketed_least, unbracketed_silent}
 use Rattle.uv_host.proofs.opaque_hosts.opaque_fault.Goals as goal
 
