@@ -1,4 +1,4 @@
--- The rules that a text can violate, by their numbers and names.
+-- The rules of valid URL strings (URL Standard, sections 3.4 and 4.3), by their numbers and names.
 use Rattle.std.specs.Prelude.{◌≡◌, ◌≢◌, ℕ, List, [], ◌∷◌, codes, Option, find}
 use Rattle.std.specs.Str.{bytes_eq}
 use Rattle.uv_model.specs.declared.rule.Rule.{Rule}

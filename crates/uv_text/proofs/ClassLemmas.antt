@@ -1,8 +1,8 @@
 -- Classes of bytes: they hold ASCII bytes alone, and which bytes the two classes in use hold.
-use Rattle.std.proofs.Common.{◌≡◌, ℕ, ◌<◌, ◌≤◌, Bool, true, false, not, ◌&&◌, ◌||◌, List, [], ◌∷◌, refl, sym, ap, ◌∙◌, inl, inr, arith, le-ltb, lt-ltb}
+use Rattle.std.proofs.Common.{◌≡◌, ℕ, ◌<◌, Bool, true, false, not, ◌&&◌, List, [], ◌∷◌, refl, inl, inr, arith, le-ltb, lt-ltb}
 use Rattle.std.specs.Char.{is_ascii}
 use Rattle.std.specs.List.{list_any}
-use Rattle.std.proofs.lemmas.Bool.{agree_below_at, and_parts, cases_lt, false_from_ne_true, false≢true, or_cases, or_parts}
+use Rattle.std.proofs.lemmas.Bool.{agree_below_at, cases_lt, false_from_ne_true, false≢true, or_cases, or_parts}
 use Rattle.std.proofs.lemmas.Bool.Decides.{nat_tests}
 use Rattle.uv_model.specs.OpaqueHost.{is_forbidden_host}
 use Rattle.uv_model.specs.Units.{is_url_code_point}

@@ -1,7 +1,7 @@
 -- Each code point is judged by its unit, and the place counts code points.
-use Rattle.std.proofs.Common.{◌≡◌, ◌↔◌, ◌+◌, ◌∷◌, ◌≤◌, ℕ, List, [], Option, Some, None, length, arith, sym, ap, ◌∙◌, subst, add-one}
+use Rattle.std.proofs.Common.{◌≡◌, ◌↔◌, ◌∷◌, ◌≤◌, ℕ, List, [], Option, None, length, arith, sym, ap, ◌∙◌, subst}
 use Rattle.std.specs.Prelude.{IsNone}
-use Rattle.std.specs.Str.{IsUtf8, chars}
+use Rattle.std.specs.Str.{chars}
 use Rattle.std.proofs.lemmas.Str.{IsUtf8-past_char, chars-nil, chars_past_char, encodes-chars, length-le-encodes}
 use Rattle.uv_model.specs.declared.rule.Refusal.{Refusal}
 use Rattle.uv_model.specs.Refusal.{IsLeast}
