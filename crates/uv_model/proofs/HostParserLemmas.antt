@@ -24,7 +24,7 @@ use Rattle.idna.specs.Uts46.{process_utf8, domain_to_ascii}
 use Rattle.idna.specs.Validity.{has_ace_prefix}
 use Rattle.idna.proofs.Uts46Lemmas.{to_ascii-invalid, domain_to_ascii-alphanumeric}
 use Rattle.uv_model.specs.declared.host.Host.TheVariants.{Domain, V4, Opaque}
-use Rattle.uv_model.specs.Address.{IsFourNumbers, IsIpv4, IsIpv6}
+use Rattle.uv_model.specs.Address.{IsFourNumbers, IsIpv4}
 use Rattle.uv_model.specs.Ascii.{percent_sign, full_stop, left_bracket, right_bracket}
 use Rattle.uv_model.specs.Domain.{is_permitted, has_permitted, is_form_code_point, has_lengths, is_digits, strict_form, parser_form, ends_in_number, IsForm, IsDomain}
 use Rattle.uv_model.specs.Encoding.{encoded}
@@ -66,6 +66,7 @@ percent_decoded-plain text none utf8 =
 
 -- ---- domains
 
+-- processing refuses what isn't UTF-8
 not_utf8 : (bytes : List ℕ) → is_utf8 bytes ≡ false → process_utf8 STD3 Check bytes ≡ None
 not_utf8 bytes h = rw h
 
@@ -80,6 +81,7 @@ utf8-form text form e =
           absurd (none-some form (sym none ∙ e))
     ]
 
+-- a code point of a form is no forbidden domain code point
 allowed_code_point : (c : ℕ) → is_form_code_point c ≡ true → is_forbidden_domain c ≡ false
 allowed_code_point c h = grind (arith, nat_tests)
 
@@ -149,6 +151,7 @@ faultless-host (c ∷ rest) faultless permitted =
 not_bracket-allowed : (c : ℕ) → is_forbidden_host c ≡ false → (c == left_bracket) ≡ false
 not_bracket-allowed c h = grind (arith, nat_tests)
 
+-- a text with a first code point, and without a fault or a forbidden code point, is parsed as an opaque host
 opaque-at : (c : ℕ) (rest : List ℕ) → is_faultless (c ∷ rest) ≡ true →
     list_all (λ x. not (is_forbidden_host x)) (c ∷ rest) ≡ true →
     parse_host false (c ∷ rest) ≡ Some (Opaque (encoded false (c ∷ rest)))
@@ -182,18 +185,22 @@ ipv6_hosts_are_parsed special text pieces (inner, shown, is) =
 
 -- ---- IPv4
 
+-- a digit or a full stop stays as it is in ToASCII
 simple_byte : (b : ℕ) → IsDigitOrDot b → (is_ascii_lowercase b || is_ascii_digit b || is_full_stop b) ≡ true
 simple_byte b (inl digit) = let low = digit.0 in let high = digit.1 in grind (arith, nat_tests)
 simple_byte b (inr dot) = rw dot refl
 
+-- a digit or a full stop is a code point of a form
 form_byte : (b : ℕ) → IsDigitOrDot b → is_form_code_point b ≡ true
 form_byte b (inl digit) = let low = digit.0 in let high = digit.1 in grind (arith, nat_tests)
 form_byte b (inr dot) = rw dot refl
 
+-- a digit or a full stop isn't `%`
 no_percent : (b : ℕ) → IsDigitOrDot b → b ≢ percent_sign
 no_percent b (inl digit) e = omega arith
 no_percent b (inr dot) e = omega arith
 
+-- a digit or a full stop is ASCII
 ascii_byte : (b : ℕ) → IsDigitOrDot b → b < 128
 ascii_byte b (inl digit) = omega arith
 ascii_byte b (inr dot) = omega arith
@@ -209,16 +216,20 @@ all_simple a b c d text is = rw is.spelled (All-ipv4_text (a ∷ b ∷ c ∷ d �
     small (suc (suc (suc zero))) = omega (arith, is.fit.3)
     small (suc (suc (suc (suc k)))) = omega arith
 
+-- a code point with a value below ten is a digit
 digit_byte : (d : ℕ) → digit_value d < 10 → is_ascii_digit d ≡ true
 digit_byte d h = grind (arith, nat_tests)
 
+-- a code point with a value below ten is no full stop
 not_stop : (d : ℕ) → digit_value d < 10 → is_full_stop d ≡ false
 not_stop d h = grind (arith, nat_tests)
 
+-- a list of digits
 digits_list : (ds : List ℕ) → AllDigits 10 ds → list_all is_ascii_digit ds ≡ true
 digits_list [] h = refl
 digits_list (d ∷ ds) h = rw (digit_byte d h.0) (digits_list ds h.1)
 
+-- a list of digits has no full stop
 stops_list : (ds : List ℕ) → AllDigits 10 ds → HasNoStop ds
 stops_list [] h = All-nil (λ b. is_full_stop b ≡ false)
 stops_list (d ∷ ds) h = All-cons (λ b. is_full_stop b ≡ false) d ds (not_stop d h.0) (stops_list ds h.1)
@@ -302,13 +313,3 @@ unfolding parse_host
 ipv4_hosts_are_parsed [] value is = absurd (omega (arith, some-ipv4 [] value is))
 ipv4_hosts_are_parsed (c ∷ rest) value is =
     rw (not_bracket-ipv4 c rest value is) (parse_domain-ipv4 (c ∷ rest) value is)
-
--- ---- one value
-
--- an IPv4 text has one value
-pub ipv4_unique : (text : List ℕ) (a b : ℕ) → IsIpv4 text a → IsIpv4 text b → a ≡ b
-ipv4_unique text a b ha hb = same_Some a b (sym (ipv4_parsed text a ha) ∙ ipv4_parsed text b hb)
-
--- an IPv6 text has one list of pieces
-pub ipv6_unique : (text a b : List ℕ) → IsIpv6 text a → IsIpv6 text b → a ≡ b
-ipv6_unique text a b ha hb = same_Some a b (sym (ipv6_parsed text a ha) ∙ ipv6_parsed text b hb)

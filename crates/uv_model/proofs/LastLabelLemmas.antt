@@ -134,6 +134,7 @@ record IsHigh (bytes : List ℕ) : Type 0 where
 not_stop : (b : ℕ) → 128 ≤ b → is_full_stop b ≡ false
 not_stop b high = ne_eqb b full_stop (λ e. absurd (omega arith))
 
+-- two bytes beyond ASCII
 IsHigh-two : (a b : ℕ) → 128 ≤ a → 128 ≤ b → IsHigh (a ∷ b ∷ [])
 IsHigh-two a b ha hb = record {
   first = a;
@@ -161,6 +162,7 @@ IsHigh-more a bytes ha h = record {
   high = All-cons (λ x. 128 ≤ x) a bytes ha h.high;
 }
 
+-- the bytes of a code point beyond ASCII
 IsHigh-encode : (c : ℕ) → 128 ≤ c → IsHigh (encode_utf8 c)
 unfolding encode_utf8
 IsHigh-encode c high =
@@ -270,9 +272,11 @@ after_last-encoded text =
           ∙ ap encode_utf8_all (sym (after_last_stop front label none) ∙ ap (after_last is_full_stop) (sym shown))
     ]
 
+-- a code point beyond ASCII is no digit
 not_digit : (c : ℕ) → 128 ≤ c → is_ascii_digit c ≡ false
 not_digit c high = grind (arith, nat_tests)
 
+-- a code point beyond ASCII is no hex digit
 not_hexdigit : (c : ℕ) → 128 ≤ c → is_ascii_hexdigit c ≡ false
 not_hexdigit c high = grind (arith, nat_tests)
 
