@@ -44,6 +44,7 @@ pub data ShownHost : Type 0 where
   opaque_host : Literal → ShownHost
   empty_host : ShownHost
 
+-- the host with its texts as literals
 abbrev shown_host : Host → ShownHost
 shown_host (host.Domain form) = domain (literal form)
 shown_host (host.V4 value) = ipv4 value
@@ -56,6 +57,7 @@ pub data ShownPath : Type 0 where
   opaque : Literal → ShownPath
   segments : List Literal → ShownPath
 
+-- the path with its texts as literals
 abbrev shown_path : UrlPath → ShownPath
 shown_path (Opaque text) = opaque (literal text)
 shown_path (Segments list) = segments (map literal list)
@@ -76,6 +78,7 @@ pub data Shown : Type 0 where
   stopped : ℕ → Shown
   unfinished : Shown
 
+-- the end of a run with its texts as literals
 abbrev shown_outcome : Outcome → Shown
 shown_outcome (Done url) =
     done (record {

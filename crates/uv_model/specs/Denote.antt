@@ -72,7 +72,8 @@ denoted_path base kind SchemeOpaque parts = Opaque (encoded false parts.path_tex
 denoted_path base kind Authority parts = Segments (authority_path kind parts.segments)
 denoted_path base kind PathAbsolute parts =
     Segments (walk kind (kept_drive kind (segments_in (base_path base)) parts.segments) parts.segments)
-denoted_path base kind PathRelative parts = Segments (walk kind (shorten kind (segments_in (base_path base))) parts.segments)
+denoted_path base kind PathRelative parts =
+    Segments (walk kind (shorten kind (segments_in (base_path base))) parts.segments)
 denoted_path base kind NoPath parts = base_path base
 
 -- the host by the form

@@ -1,5 +1,5 @@
--- Valid domains and the number rule of their last label, after the URL Standard, sections 3.3 to 3.5, and UTS #46, section 4.
--- A text is a list of code points; the words of UTS #46 are over its UTF-8 bytes.
+-- Valid domains and the number rule of their last label, after the URL Standard, sections 3.3 to 3.5, and UTS #46,
+-- section 4. A text is a list of code points; the words of UTS #46 are over its UTF-8 bytes.
 use Rattle.std.specs.Prelude.{◌≡◌, ℕ, ◌-◌, ◌<◌, ◌≤◌, Bool, true, false, not, ◌&&◌, ◌||◌, ◌==◌, nat_eq, nat_le, nat_lt, List, [], ◌∷◌, length, take, drop, slice_index, codes, encode_utf8_all, All, Option, Some, None, IsSome, if◌then◌else◌}
 use Rattle.std.specs.Int.{is_in_range}
 use Rattle.std.specs.List.{list_all, list_any, starts_with, after_last}
@@ -61,7 +61,8 @@ strict_form text = to_ascii STD3 Check Ignore (encode_utf8_all text)
 
 -- ASCII, and no label begins with `xn--` in any case
 abbrev pub is_plain_ascii : List ℕ → Bool
-is_plain_ascii text = list_all is_ascii text && list_all (λ label. not (has_ace_prefix label)) (labels_of (lowercase text))
+is_plain_ascii text =
+    list_all is_ascii text && list_all (λ label. not (has_ace_prefix label)) (labels_of (lowercase text))
 
 -- ToASCII at the settings of the URL parser
 unfoldable pub parser_form : List ℕ → Option (List ℕ)

@@ -8,7 +8,8 @@ use Rattle.uv_model.specs.Ascii.{apostrophe}
 -- path and fragment percent-encode sets change the first kind alone, and the special-query set also the second.
 abbrev pub encoded_code_point : Bool → ℕ → List ℕ
 encoded_code_point quote c =
-    if is_ascii c then (if quote && (c == apostrophe) then codes "%27" else c ∷ []) else flat_map percent_encode_byte (encode_utf8 c)
+    if is_ascii c then (if quote && (c == apostrophe) then codes "%27" else c ∷ [])
+    else flat_map percent_encode_byte (encode_utf8 c)
 
 -- each code point encoded
 unfoldable pub encoded : Bool → List ℕ → List ℕ

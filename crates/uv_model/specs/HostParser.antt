@@ -31,7 +31,8 @@ parse_opaque_host (c ∷ rest) = if is_faultless_host (c ∷ rest) then Some (Op
 -- the code points of the percent-decoded text, where its bytes are UTF-8
 abbrev pub percent_decoded : List ℕ → Option (List ℕ)
 percent_decoded text =
-    if is_utf8 (percent_decode (encode_utf8_all text)) then Some (chars (percent_decode (encode_utf8_all text))) else None
+    let bytes = percent_decode (encode_utf8_all text) in
+    if is_utf8 bytes then Some (chars bytes) else None
 
 -- the host of the ASCII form: an address where it ends in a number, else a domain
 abbrev pub host_of_form : List ℕ → Option Host

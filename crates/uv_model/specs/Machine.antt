@@ -1,5 +1,6 @@
--- The basic URL parser, after the URL Standard, section 4.4, without state override, ended at its first validation error or
--- failure. Each of its twenty states has one row, which says what one step does with the code point at the pointer.
+-- The basic URL parser, after the URL Standard, section 4.4, without state override, ended at its first validation
+-- error or failure. Each of its twenty states has one row, which says what one step does with the code point at the
+-- pointer.
 use Rattle.std.specs.Prelude.{◌≡◌, ℕ, ◌+◌, ◌-◌, Bool, true, false, not, ◌&&◌, ◌||◌, ◌==◌, nat_lt, List, [], ◌∷◌, ◌++◌, length, codes, Option, Some, None, is_some, if◌then◌else◌}
 use Rattle.std.specs.Str.{bytes_eq}
 use Rattle.std.specs.Char.{is_ascii_alphabetic, is_ascii_digit, to_ascii_lowercase}
@@ -49,8 +50,8 @@ pub record Held : Type 0 where
   pub in_brackets : Bool
   pub url : Url
 
--- What a row says: the pointer moves by one, which at the end of the text ends the run; or the same place comes once more;
--- or the pointer goes to a place; or the machine stops.
+-- What a row says: the pointer moves by one, which at the end of the text ends the run; or the same place comes once
+-- more; or the pointer goes to a place; or the machine stops.
 pub data Turn : Type 0 where
   onward : State → Held → Turn
   again : State → Held → Turn
@@ -116,9 +117,11 @@ is_file scheme = is_file_class (scheme_class scheme)
 
 -- ---- changes of what is held
 
+-- a URL with nothing in it and the empty list as its path, with which a run begins
 abbrev pub empty_url : Url
 empty_url = record { scheme = []; host = None; port = None; path = Segments []; query = None; fragment = None }
 
+-- what the machine holds when a run begins
 abbrev pub empty_held : Held
 empty_held = record { buffer = []; in_brackets = false; url = empty_url }
 
@@ -134,24 +137,31 @@ with_more text h = record h { buffer = h.buffer ++ text }
 abbrev pub emptied : Held → Held
 emptied h = record h { buffer = [] }
 
+-- the flag for brackets set or cleared
 abbrev pub with_brackets : Bool → Held → Held
 with_brackets flag h = record h { in_brackets = flag }
 
+-- the URL's scheme written
 abbrev pub with_scheme : List ℕ → Held → Held
 with_scheme scheme h = record h { url = record (h.url) { scheme = scheme } }
 
+-- the URL's host written
 abbrev pub with_host : Option Host → Held → Held
 with_host value h = record h { url = record (h.url) { host = value } }
 
+-- the URL's port written
 abbrev pub with_port : Option ℕ → Held → Held
 with_port port h = record h { url = record (h.url) { port = port } }
 
+-- the URL's path written
 abbrev pub with_path : UrlPath → Held → Held
 with_path path h = record h { url = record (h.url) { path = path } }
 
+-- the URL's query written
 abbrev pub with_query : Option (List ℕ) → Held → Held
 with_query query h = record h { url = record (h.url) { query = query } }
 
+-- the URL's fragment written
 abbrev pub with_fragment : Option (List ℕ) → Held → Held
 with_fragment fragment h = record h { url = record (h.url) { fragment = fragment } }
 
@@ -174,15 +184,16 @@ with_segment segment h = with_path (Segments (list_in h.url.path ++ (segment ∷
 
 -- ---- turns that several rows share
 
--- the query or the fragment begins, empty
+-- the query begins, empty
 abbrev pub to_query : Held → Turn
 to_query h = onward QueryState (with_query (Some []) h)
 
+-- the fragment begins, empty
 abbrev pub to_fragment : Held → Turn
 to_fragment h = onward FragmentState (with_fragment (Some []) h)
 
--- the code point goes on to the same state, unless it is a fault of units: neither a URL code point nor `%`, or `%` without
--- two hex digits behind it
+-- the code point goes on to the same state, unless it is a fault of units: neither a URL code point nor `%`, or `%`
+-- without two hex digits behind it
 abbrev pub unless_fault : ℕ → List ℕ → Turn → Turn
 unless_fault c rest turn = if is_unit_at c rest then turn else stop
 
@@ -204,16 +215,19 @@ abbrev pub has_same_scheme : Option Url → List ℕ → Bool
 has_same_scheme None scheme = false
 has_same_scheme (Some base) scheme = bytes_eq base.scheme scheme
 
--- Behind the scheme's `:`. `file` needs `//`; a special scheme goes by whether the base has the same one; any other goes by a `/`.
+-- Behind the scheme's `:`. `file` needs `//`; a special scheme goes by whether the base has the same one; any other
+-- goes by a `/`.
 abbrev pub after_scheme : Option Url → Class → ℕ → Held → List ℕ → Turn
 after_scheme base File p h rest = if begins_two_slashes rest then onward FileState h else stop
 after_scheme base Special p h rest =
-    if has_same_scheme base h.url.scheme then onward SpecialRelativeOrAuthorityState h else onward SpecialAuthoritySlashesState h
+    if has_same_scheme base h.url.scheme then onward SpecialRelativeOrAuthorityState h
+    else onward SpecialAuthoritySlashesState h
 after_scheme base Other p h rest =
-    if begins slash rest then from_place (p + 2) PathOrAuthorityState h else onward OpaquePathState (with_path (Opaque []) h)
+    if begins slash rest then from_place (p + 2) PathOrAuthorityState h
+    else onward OpaquePathState (with_path (Opaque []) h)
 
--- A code point of a scheme goes into the buffer in lower case. `:` makes the buffer the scheme. Everything else: the buffer
--- emptied, no scheme state, from the first place.
+-- A code point of a scheme goes into the buffer in lower case. `:` makes the buffer the scheme. Everything else: the
+-- buffer emptied, no scheme state, from the first place.
 abbrev pub scheme_row : Option Url → ℕ → Held → List ℕ → Turn
 scheme_row base p h [] = from_place 0 NoSchemeState (emptied h)
 scheme_row base p h (c ∷ rest) =
@@ -233,10 +247,11 @@ no_scheme_row (Some base) h rest =
     if is_opaque base.path then (if begins number_sign rest then to_fragment (with_opaque_base base h) else stop)
     else (if is_file base.scheme then again FileState h else again RelativeState h)
 
--- `//` leads past both to the special authority ignore slashes state; everything else stops. The special authority slashes
--- state has the same row.
+-- `//` leads past both to the special authority ignore slashes state; everything else stops. The special authority
+-- slashes state has the same row.
 abbrev pub two_slashes_row : ℕ → Held → List ℕ → Turn
-two_slashes_row p h rest = if begins_two_slashes rest then from_place (p + 2) SpecialAuthorityIgnoreSlashesState h else stop
+two_slashes_row p h rest =
+    if begins_two_slashes rest then from_place (p + 2) SpecialAuthorityIgnoreSlashesState h else stop
 
 -- `/` leads to the authority state, everything else to the path state, again.
 abbrev pub path_or_authority_row : Held → List ℕ → Turn
@@ -246,7 +261,7 @@ path_or_authority_row h rest = if begins slash rest then onward AuthorityState h
 abbrev pub with_base : Url → Held → Held
 with_base base h = with_query base.query (with_path base.path (with_base_host base h))
 
--- The scheme is the base's. `/` leads to the relative slash state. Else host, port, path and query are the base's: `?` and
+-- `/` leads to the relative slash state. Else host, port, path and query are the base's: `?` and
 -- `#` begin anew from there, the end is done, and another code point drops the query and the path's last segment.
 abbrev pub relative_at : Url → Held → Sight → Turn
 relative_at base h slash_mark = onward RelativeSlashState h
@@ -255,11 +270,13 @@ relative_at base h fragment_mark = to_fragment (with_base base h)
 relative_at base h end = onward RelativeState (with_base base h)
 relative_at base h (another c) = again PathState (shortened (with_query None (with_base base h)))
 
+-- The scheme is the base's; without a base this state is never reached.
 abbrev pub relative_row : Option Url → Held → List ℕ → Turn
 relative_row None h rest = stop
 relative_row (Some base) h rest = relative_at base (with_scheme base.scheme h) (sight rest)
 
--- A second `/` leads to an authority, for a special URL past further slashes. Else host and port are the base's: path state, again.
+-- A second `/` leads to an authority, for a special URL past further slashes. Else host and port are the base's: path
+-- state, again.
 abbrev pub relative_slash_row : Option Url → Held → List ℕ → Turn
 relative_slash_row None h rest = stop
 relative_slash_row (Some base) h rest =
@@ -271,8 +288,8 @@ relative_slash_row (Some base) h rest =
 abbrev pub ignore_slashes_row : Held → List ℕ → Turn
 ignore_slashes_row h rest = if begins slash rest || begins backslash rest then stop else again AuthorityState h
 
--- `@` stops, and for a special URL `\`. A delimiter ends the authority: the host state reads it from its first place, which lies
--- as far back as the buffer is long. Any other code point goes into the buffer.
+-- `@` stops, and for a special URL `\`. A delimiter ends the authority: the host state reads it from its first place,
+-- which lies as far back as the buffer is long. Any other code point goes into the buffer.
 abbrev pub authority_at : ℕ → Held → Sight → Turn
 authority_at p h (another c) =
     if (c == at_sign) || ((c == backslash) && is_special h.url.scheme) then stop else onward AuthorityState (put c h)
@@ -285,10 +302,12 @@ host_ended h next =
 
 -- a bracket sets or clears the flag
 abbrev pub bracketed : ℕ → Held → Held
-bracketed c h = if c == left_bracket then with_brackets true h else (if c == right_bracket then with_brackets false h else h)
+bracketed c h =
+    if c == left_bracket then with_brackets true h
+    else (if c == right_bracket then with_brackets false h else h)
 
--- `:` outside brackets ends a host that isn't empty, to the port state. `\` stops for a special URL. A delimiter ends the
--- host, which for a special URL isn't empty: path start state, again. Any other code point goes into the buffer.
+-- `:` outside brackets ends a host that isn't empty, to the port state. `\` stops for a special URL. A delimiter ends
+-- the host, which for a special URL isn't empty: path start state, again. Any other code point goes into the buffer.
 abbrev pub host_at : Held → Sight → Turn
 host_at h (another c) =
     if (c == colon) && not h.in_brackets
@@ -306,7 +325,8 @@ port_in scheme (digit ∷ rest) = unless_default (default_port scheme) (digits_v
     unless_default None port = Some port
     unless_default (Some default) port = if port == default then None else Some port
 
--- A digit goes into the buffer. A delimiter ends the port, which is at most 65535: path start state, again. Everything else stops.
+-- A digit goes into the buffer. A delimiter ends the port, which is at most 65535: path start state, again. Everything
+-- else stops.
 abbrev pub port_at : Held → Sight → Turn
 port_at h (another c) = if is_ascii_digit c then onward PortState (put c h) else stop
 port_at h _ =
@@ -322,8 +342,8 @@ file_base (Some base) = if is_file base.scheme then Some base else None
 abbrev pub with_file_base : Url → Held → Held
 with_file_base base h = with_query base.query (with_path base.path (with_host base.host h))
 
--- With a file base its host, path and query are handed on, as in the relative state; a drive letter at the rest's start stops.
--- Without one: path state, again.
+-- With a file base its host, path and query are handed on, as in the relative state; a drive letter at the rest's
+-- start stops. Without one: path state, again.
 abbrev pub file_at : Option Url → Held → List ℕ → Sight → Turn
 file_at base h rest slash_mark = onward FileSlashState h
 file_at None h rest _ = again PathState h
@@ -344,7 +364,8 @@ with_kept_drive [] rest h = h
 with_kept_drive (drive ∷ others) rest h =
     if not (begins_drive rest) && is_normalized_drive_letter drive then with_segment drive h else h
 
--- A second `/` leads to the file host state. Else a file base hands on its host and its drive letter: path state, again.
+-- A second `/` leads to the file host state. Else a file base hands on its host and its drive letter: path state,
+-- again.
 abbrev pub file_slash_row : Option Url → Held → List ℕ → Turn
 file_slash_row base h rest = if begins slash rest then onward FileHostState h else without_host (file_base base)
   where
@@ -357,17 +378,18 @@ abbrev pub file_host : Host → Host
 file_host (host.Domain form) = if bytes_eq form (codes "localhost") then host.Empty else host.Domain form
 file_host value = value
 
--- `\` stops. A delimiter ends the host, which is no drive letter, and may be empty: path start state, again. Any other code
--- point goes into the buffer.
+-- `\` stops. A delimiter ends the host, which is no drive letter, and may be empty: path start state, again. Any other
+-- code point goes into the buffer.
 abbrev pub file_host_at : Held → Sight → Turn
 file_host_at h (another c) = if c == backslash then stop else onward FileHostState (put c h)
 file_host_at h _ =
     if is_drive_letter h.buffer then stop
     else (if length h.buffer == 0 then again PathStartState (with_host (Some host.Empty) h)
-    else with_parsed (parse_host true h.buffer) (λ value. again PathStartState (emptied (with_host (Some (file_host value)) h))))
+    else with_parsed (parse_host true h.buffer)
+    (λ value. again PathStartState (emptied (with_host (Some (file_host value)) h))))
 
--- A special URL goes to the path state, past a `/`. Any other goes there past a `/` or before another code point; `?` and `#`
--- begin query and fragment, and the end is done.
+-- A special URL goes to the path state, past a `/`. Any other goes there past a `/` or before another code point; `?`
+-- and `#` begin query and fragment, and the end is done.
 abbrev pub path_start_at : Bool → Held → Sight → Turn
 path_start_at special h slash_mark = onward PathState h
 path_start_at true h _ = again PathState h
@@ -376,8 +398,8 @@ path_start_at false h fragment_mark = to_fragment h
 path_start_at false h end = onward PathStartState h
 path_start_at false h (another c) = again PathState h
 
--- The buffer is a segment. A double-dot segment shortens the path, and a single-dot segment adds nothing; either leaves an empty
--- segment where no `/` follows. Any other is added.
+-- The buffer is a segment. A double-dot segment shortens the path, and a single-dot segment adds nothing; either
+-- leaves an empty segment where no `/` follows. Any other is added.
 abbrev pub segment_ended : Bool → Held → Held
 segment_ended slash_follows h =
     if is_double_dot h.buffer
@@ -386,8 +408,8 @@ segment_ended slash_follows h =
     then (if slash_follows then emptied h else emptied (with_segment [] h))
     else emptied (with_segment h.buffer h))
 
--- A delimiter ends a segment; then `?` and `#` begin query and fragment, and the end is done. Any other code point, encoded,
--- goes into the buffer.
+-- A delimiter ends a segment; then `?` and `#` begin query and fragment, and the end is done. Any other code point,
+-- encoded, goes into the buffer.
 abbrev pub path_at : Held → List ℕ → Sight → Turn
 path_at h rest slash_mark = onward PathState (segment_ended true h)
 path_at h rest query_mark = to_query (segment_ended false h)
@@ -433,7 +455,8 @@ more_fragment text (Some fragment) = Some (fragment ++ text)
 abbrev pub fragment_row : Held → List ℕ → Turn
 fragment_row h [] = onward FragmentState h
 fragment_row h (c ∷ rest) =
-    unless_fault c rest (onward FragmentState (with_fragment (more_fragment (encoded_code_point false c) h.url.fragment) h))
+    unless_fault c rest
+    (onward FragmentState (with_fragment (more_fragment (encoded_code_point false c) h.url.fragment) h))
 
 -- the row of a state, with the base, the pointer, what is held, and the rest of the text from the pointer on
 abbrev pub turn : Option Url → State → ℕ → Held → List ℕ → Turn

@@ -106,5 +106,6 @@ pub record IsPathAbsolute (segments : List (List ℕ)) (text : List ℕ) : Type 
 
 -- the text begins with `/`, a Windows drive letter, `/`
 abbrev pub starts_with_drive : List ℕ → Bool
-starts_with_drive (first ∷ c ∷ mark ∷ next ∷ rest) = (first == slash) && (is_drive_letter (c ∷ mark ∷ []) && (next == slash))
+starts_with_drive (first ∷ c ∷ mark ∷ next ∷ rest) =
+    (first == slash) && (is_drive_letter (c ∷ mark ∷ []) && (next == slash))
 starts_with_drive _ = false

@@ -52,19 +52,23 @@ with_query query url = record url { query = Some (codes query) }
 abbrev pub with_fragment : Literal → Url → Url
 with_fragment fragment url = record url { fragment = Some (codes fragment) }
 
--- a domain, an address, an opaque host, and the empty host, each as a host that is there
+-- a domain, as a host that is there
 abbrev pub domain : Literal → Option Host
 domain form = Some (host.Domain (codes form))
 
+-- the IPv4 address of this value, as a host that is there
 abbrev pub ipv4 : ℕ → Option Host
 ipv4 value = Some (host.V4 value)
 
+-- the IPv6 address of these eight pieces, as a host that is there
 abbrev pub ipv6 : List ℕ → Option Host
 ipv6 pieces = Some (host.V6 pieces)
 
+-- an opaque host that is there
 abbrev pub opaque_host : Literal → Option Host
 opaque_host text = Some (host.Opaque (codes text))
 
+-- the empty host, which is there
 abbrev pub empty_host : Option Host
 empty_host = Some host.Empty
 

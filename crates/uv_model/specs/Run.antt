@@ -40,7 +40,8 @@ run_from base text (Going m) (suc k) = run_from base text (step base text m) k
 abbrev pub is_tab_or_newline : ℕ → Bool
 is_tab_or_newline c = (c == 0x09) || ((c == 0x0A) || (c == 0x0D))
 
--- a code point that the standard removes: a tab or newline, or at the text's first or last place a C0 control or a space
+-- a code point that the standard removes: a tab or newline, or at the text's first or last place a C0 control or a
+-- space
 abbrev pub is_removed : Bool → ℕ → Bool
 is_removed at_border c = is_tab_or_newline c || (if at_border then nat_le c 0x20 else false)
 

@@ -26,7 +26,8 @@ is_scheme (c ∷ rest) = is_ascii_alphabetic c && list_all is_scheme_code_point 
 
 -- the special schemes but `file`, each with its default port (section 4.2)
 abbrev pub special_schemes : List (List ℕ × ℕ)
-special_schemes = (codes "ftp", 21) ∷ (codes "http", 80) ∷ (codes "https", 443) ∷ (codes "ws", 80) ∷ (codes "wss", 443) ∷ []
+special_schemes =
+    (codes "ftp", 21) ∷ (codes "http", 80) ∷ (codes "https", 443) ∷ (codes "ws", 80) ∷ (codes "wss", 443) ∷ []
 
 -- the port beside the name in a table of schemes
 abbrev pub port_beside : List ℕ → List (List ℕ × ℕ) → Option ℕ

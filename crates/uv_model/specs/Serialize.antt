@@ -37,7 +37,8 @@ abbrev pub serial_segments : List (List ℕ) → List ℕ
 serial_segments [] = []
 serial_segments (segment ∷ rest) = slash ∷ (segment ++ serial_segments rest)
 
--- what stands between the scheme's `:` and the path: `//` with host and port, or `/.` before a path that would begin with `//`
+-- what stands between the scheme's `:` and the path: `//` with host and port, or `/.` before a path that would begin
+-- with `//`
 abbrev pub serial_authority : Option Host → Option ℕ → UrlPath → List ℕ
 serial_authority (Some value) port path = codes "//" ++ serial_host value ++ serial_port port
 serial_authority None port (Segments ([] ∷ next ∷ rest)) = codes "/."

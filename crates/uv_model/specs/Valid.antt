@@ -160,7 +160,8 @@ FitsForm base SchemeAuthority parts = HasAuthority base parts
 FitsForm base SchemePath parts =
     HasNoAuthority parts × (scheme_class (scheme_in base parts) ≡ Other) × IsPathAbsolute parts.segments parts.path_text
 FitsForm base SchemeOpaque parts =
-    HasNoAuthority parts × (scheme_class (scheme_in base parts) ≡ Other) × IsOpaquePath parts.path_text × (parts.segments ≡ [])
+    HasNoAuthority parts × (scheme_class (scheme_in base parts) ≡ Other) × IsOpaquePath parts.path_text
+    × (parts.segments ≡ [])
 FitsForm base Authority parts = HasAuthority base parts
 FitsForm base PathAbsolute parts =
     HasNoAuthority parts × IsPathAbsolute parts.segments parts.path_text × FitsDrive base parts.path_text

@@ -188,17 +188,19 @@ walked_paths =
     ∷ (Other, "a" ∷ [], [], "a" ∷ [])
     ∷ []
 
--- a shortened list, as `shorten` gives it and as it is written
+-- the shortened list, as `shorten` gives it
 abbrev pub shortened_here : Class × List Literal × List Literal → List (List ℕ)
 shortened_here (kind, path, short) = shorten kind (map codes path)
 
+-- the shortened list, as the row says it
 abbrev pub shortened_there : Class × List Literal × List Literal → List (List ℕ)
 shortened_there (kind, path, short) = map codes short
 
--- the end of a walk, as `walk` gives it and as it is written
+-- the end of the walk, as `walk` gives it
 abbrev pub walked_here : Class × List Literal × List Literal × List Literal → List (List ℕ)
 walked_here (kind, start, segments, path) = walk kind (map codes start) (map codes segments)
 
+-- the end of the walk, as the row says it
 abbrev pub walked_there : Class × List Literal × List Literal × List Literal → List (List ℕ)
 walked_there (kind, start, segments, path) = map codes path
 
