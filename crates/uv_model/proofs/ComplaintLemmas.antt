@@ -35,7 +35,7 @@ unit_complaint_bounds text place Percent h = (within_text text place percent_sig
 unit_complaint_bounds text place _ h = absurd h
 
 -- a fault of an opaque host stands within its text
-opaque_complaint_within : (text : List ℕ) (place : ℕ) (rule : Rule) → OpaqueHostComplaint text place rule
+pub opaque_complaint_within : (text : List ℕ) (place : ℕ) (rule : Rule) → OpaqueHostComplaint text place rule
     → place < length text
 opaque_complaint_within [] place HostIpv6 h = absurd (false≢true h.0.bracket)
 opaque_complaint_within (c ∷ rest) place HostIpv6 h = (let at : place ≡ 0 = h.1 in omega arith)

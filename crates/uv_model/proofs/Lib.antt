@@ -12,6 +12,8 @@ pub mod DenotedRecords
 pub mod DomainLemmas
 pub mod DotSegmentLemmas
 pub mod EncodingLemmas
+pub mod FaultlessHosts
+pub mod FaultlessLemmas
 pub mod HostCutLemmas
 pub mod HostParserLemmas
 pub mod HostRows

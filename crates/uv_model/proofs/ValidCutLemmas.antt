@@ -81,7 +81,7 @@ word_of_absolute segments text is =
     rw is.slashed (word_of_slashed is.behind (word_of_relative segments is.behind is.relative))
 
 -- a path-absolute string doesn't begin with `//`
-absolute_without_two_slashes : (segments : List (List ℕ)) (text : List ℕ) → IsPathAbsolute segments text
+pub absolute_without_two_slashes : (segments : List (List ℕ)) (text : List ℕ) → IsPathAbsolute segments text
     → starts_with_two_slashes text ≡ false
 absolute_without_two_slashes segments text is =
     rw is.slashed (one_slash is.behind is.relative.start)
@@ -91,7 +91,7 @@ absolute_without_two_slashes segments text is =
     one_slash (c ∷ rest) none = none
 
 -- a text that doesn't begin with `/` doesn't begin with `//`
-without_slash_without_two : (text : List ℕ) → starts_with_slash text ≡ false → starts_with_two_slashes text ≡ false
+pub without_slash_without_two : (text : List ℕ) → starts_with_slash text ≡ false → starts_with_two_slashes text ≡ false
 without_slash_without_two [] none = refl
 without_slash_without_two (c ∷ []) none = refl
 without_slash_without_two (c ∷ d ∷ rest) none = rw none refl

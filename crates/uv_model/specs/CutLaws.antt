@@ -3,6 +3,8 @@ use Rattle.std.specs.Prelude.{◌≡◌, ℕ, List, Option}
 use Rattle.uv_model.specs.Url.{Url}
 use Rattle.uv_model.specs.Parts.{Parts}
 use Rattle.uv_model.specs.Valid.{Valid}
+use Rattle.uv_model.specs.declared.rule.Rule.{Rule}
+use Rattle.uv_model.specs.Complaint.{Complaint}
 use Rattle.uv_model.specs.Cut.{Cut, IsCut, texts_of}
 
 -- the text has a cut, and no other one
@@ -19,3 +21,9 @@ EveryTextHasOneCut = (base : Option Url) (text : List ℕ) → HasOneCut base te
 abbrev pub ValidTextsAreCutIntoTheirParts : Type 0
 ValidTextsAreCutIntoTheirParts =
     (base : Option Url) (text : List ℕ) (parts : Parts) → Valid base text parts → IsCut base text (texts_of parts)
+
+-- a text with a complaint has no valid parts
+abbrev pub TextsWithAComplaintHaveNoParts : Type 0
+TextsWithAComplaintHaveNoParts =
+    (base : Option Url) (text : List ℕ) (place : ℕ) (rule : Rule) → Complaint base text place rule
+    → (parts : Parts) → ¬ (Valid base text parts)

@@ -1,0 +1,6 @@
+-- A text with a complaint has no valid parts.
+use Rattle.uv_model.proofs.FaultlessLemmas.{faultless}
+use Rattle.uv_model.proofs.laws.texts_with_a_complaint_have_no_parts.Goals as goal
+
+pub returns : goal.returns
+returns c = faultless
