@@ -17,7 +17,7 @@ DenotesAddress text (V4 value) = IsIpv4 text value
 DenotesAddress text (V6 pieces) = IsBracketedIpv6 text pieces
 DenotesAddress text _ = ⊥
 
--- The law: what is written for an address denotes it, no text denotes two addresses, and no two addresses have one text.
+-- the law: what is written for an address denotes it, and no text denotes or is written for two addresses
 pub record AddressesAreReadBack : Type 0 where
   pub read_back : (address : Host) → IsAddress address → DenotesAddress (serial_host address) address
   pub one_address : (text : List ℕ) (address other : Host) → DenotesAddress text address → DenotesAddress text other

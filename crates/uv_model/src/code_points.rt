@@ -26,3 +26,25 @@ pub fn starts_with_two_hex(text: &str) -> bool
         None => false,
     }
 }
+
+#[cfg(test)]
+mod tests {
+    use super::*;
+
+    #[test]
+    fn takes_one_code_point(rt: HostRuntime) {
+        assert_eq!(rt; first_code_point(""), None);
+        assert_eq!(rt; first_code_point("a"), Some(('a', "")));
+        assert_eq!(rt; first_code_point("\u{10FFFD}b"), Some(('\u{10FFFD}', "b")));
+    }
+
+    #[test]
+    fn sees_two_hex_digits(rt: HostRuntime) {
+        for text in ["00", "aF", "3Ax"] {
+            assert!(rt; starts_with_two_hex(text), "of {text}");
+        }
+        for text in ["", "0", "g0", "0g", "\u{FF10}0"] {
+            assert!(rt; !starts_with_two_hex(text), "of {text}");
+        }
+    }
+}

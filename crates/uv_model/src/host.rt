@@ -1,5 +1,5 @@
 //! Hosts, and the host serializer.
-ghost use Rattle.std.specs.Prelude.{◌≡◌, IfOk, string_bytes};
+ghost use Rattle.std.specs.Prelude.{◌≡◌, IfOk, IsOk, string_bytes};
 ghost use Rattle.uv_model.specs.Serialize.{serial_host, serial_ipv4, serial_ipv6};
 
 use crate::text::Text;
@@ -39,7 +39,8 @@ impl Host {
     /// out.
     #[tactic(auto, unfolding(crate::specs::Serialize::serial_host))]
     pub fn text(&self, alloc: Global) -> Result<String, AllocError>
-        ensures { IfOk result (λ text. string_bytes text ≡ serial_host self.now) }
+        ensures text { IfOk result (λ text. string_bytes text ≡ serial_host self.now) }
+        ensures memory { self.now ≡ Host.Empty → IsOk result }
     {
         match self {
             Host::Domain(form) => String::from_str(alloc, form.as_str()),
