@@ -235,7 +235,7 @@ stops_list [] h = All-nil (λ b. is_full_stop b ≡ false)
 stops_list (d ∷ ds) h = All-cons (λ b. is_full_stop b ≡ false) d ds (not_stop d h.0) (stops_list ds h.1)
 
 -- a decimal number is a label of digits
-digits_alone : (n : ℕ) → n < 256 → is_digits (decimal n) ≡ true
+pub digits_alone : (n : ℕ) → n < 256 → is_digits (decimal n) ≡ true
 digits_alone n fits =
     let (numeral, value) = decimal_is_IsNumeral n (omega arith) in
     rw (lt-ltb 0 (length (decimal n)) numeral.0) (digits_list (decimal n) numeral.1)

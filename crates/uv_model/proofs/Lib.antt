@@ -3,6 +3,7 @@ pub mod AddressRows
 pub mod AddressUniqueness
 pub mod AsciiLemmas
 pub mod AuthorityCutLemmas
+pub mod AuthorityEnds
 pub mod AuthorityLemmas
 pub mod AuthorityLoops
 pub mod ComplaintLemmas
@@ -18,6 +19,8 @@ pub mod HostCutLemmas
 pub mod HostParserLemmas
 pub mod HostRows
 pub mod HostTextLemmas
+pub mod HostTextsRead
+pub mod HostsParsed
 pub mod Ipv4ParserLemmas
 pub mod Ipv6LoopLemmas
 pub mod Ipv6MovesLemmas

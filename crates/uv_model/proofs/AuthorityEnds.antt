@@ -1,0 +1,158 @@
+-- The parser machine from the start of an authority to the end of the text, where host and port are followed by a path,
+-- a query and a fragment.
+use Rattle.std.proofs.Common.{◌≡◌, ℕ, suc, ◌+◌, ◌*◌, ◌≤◌, Bool, true, false, ◌&&◌, ◌||◌, ◌==◌, ◌⊎◌, List, [], ◌∷◌, ◌++◌, length, Option, Some, None, refl, sym, ap, subst, ◌∙◌, inl, inr, ⊎_elim, append_assoc, append-nil, length-append, le-ltb, arith}
+use Rattle.std.specs.Prelude.{nat_lt}
+use Rattle.std.specs.List.{list_all}
+use Rattle.std.specs.Char.{is_ascii_digit}
+use Rattle.std.specs.Str.Parse.{digits_value}
+use Rattle.std.proofs.lemmas.Bool.{and_from, and_parts}
+use Rattle.std.proofs.lemmas.List.Folds.{list_all-append}
+use Rattle.uv_model.specs.declared.host.Host.{Host}
+use Rattle.uv_model.specs.Ascii.{slash, colon}
+use Rattle.uv_model.specs.Denote.{authority_path}
+use Rattle.uv_model.specs.HostParser.{parse_host}
+use Rattle.uv_model.specs.Parts.{written_behind}
+use Rattle.uv_model.specs.Scheme.{default_port, lowercase, scheme_class}
+use Rattle.uv_model.specs.Url.{Url}
+use Rattle.uv_model.specs.Valid.{MayBePathAbsolute, MayBePortText, MayBeUnits, port_given}
+use Rattle.uv_model.specs.Machine.{Held, Sight, again, sight, AuthorityState, HostState, PortState, PathStartState, with_host, with_more, with_port, port_in, is_special, emptied}
+use Rattle.uv_model.proofs.AuthorityLoops.{IsDelimiter, authority_law, digit_letter, host_law, host_row_end, host_row_port, is_authority_letter, port_law, port_row_end}
+use Rattle.uv_model.proofs.HostTextsRead.{IsRead}
+use Rattle.uv_model.proofs.PathLoops.{walking}
+use Rattle.uv_model.proofs.PathStarts.{path_start_ends}
+use Rattle.uv_model.proofs.SchemeLemmas.{default_port-lowercase}
+use Rattle.uv_model.proofs.SchemeStretch.{scheme_held}
+use Rattle.uv_model.proofs.Steps.{Ends, Reaches, ends_after, ends_again, ends_step, ends_within}
+use Rattle.uv_model.proofs.Tails.{tail, with_tail}
+
+-- what is held behind the authority
+abbrev pub hosted : List ℕ → Host → Option ℕ → Held
+hosted scheme value port = with_port port (with_host (Some value) (scheme_held scheme))
+
+-- a path behind an authority, or what follows where there is none, begins with a delimiter
+delimits : (segments : List (List ℕ)) (path : List ℕ) (query fragment : Option (List ℕ))
+    → MayBePathAbsolute segments path
+    → IsDelimiter (sight (path ++ tail query fragment))
+delimits segments path (Some query) fragment (inl none) = rw none.0 tt
+delimits segments path None (Some fragment) (inl none) = rw none.0 tt
+delimits segments path None None (inl none) = rw none.0 tt
+delimits segments path query fragment (inr absolute) = rw absolute.slashed tt
+
+-- an option is none or some
+option_cases : (o : Option ℕ) → (o ≡ None) ⊎ ((n : ℕ) × (o ≡ Some n))
+option_cases None = inl refl
+option_cases (Some n) = inr (n, refl)
+
+-- the port that the machine gives is the one that is denoted
+port_is_given : (scheme text : List ℕ) → port_in (lowercase scheme) text ≡ port_given scheme (Some text)
+port_is_given scheme [] = refl
+port_is_given scheme (digit ∷ rest) =
+    elim (option_cases (default_port scheme)) [
+      | inl none ↦ rw (default_port-lowercase scheme, none) refl
+      | inr (port, some) ↦ rw (default_port-lowercase scheme, some) refl
+    ]
+
+-- a host and a port are read as an authority
+pub authority_letters : (host : List ℕ) (port : Option (List ℕ)) → IsRead host → MayBePortText port
+    → list_all is_authority_letter (host ++ written_behind colon port) ≡ true
+authority_letters host None read fits = rw (append-nil host) read.letters
+authority_letters host (Some port) read fits =
+    list_all-append is_authority_letter host (colon ∷ port) ∙ and_from _ _ read.letters (digits port fits.digits)
+  where
+    digits : (text : List ℕ) → list_all is_ascii_digit text ≡ true → list_all is_authority_letter text ≡ true
+    digits [] is = refl
+    digits (c ∷ rest) is =
+        let parts = and_parts (is_ascii_digit c) (list_all is_ascii_digit rest) is in
+        and_from _ _ (digit_letter c parts.0) (digits rest parts.1)
+
+-- What is behind the authority: a path of segments or none, a query and a fragment.
+pub record Behind (segments : List (List ℕ)) (path_text : List ℕ)
+    (query_text fragment_text : Option (List ℕ)) : Type 0 where
+  pub path : MayBePathAbsolute segments path_text
+  pub query : MayBeUnits query_text
+  pub fragment : MayBeUnits fragment_text
+
+-- The host text is read and parsed as this value, and is empty only where the URL isn't special and no port follows.
+pub record IsParsed (scheme host : List ℕ) (port_text : Option (List ℕ)) (value : Host) : Type 0 where
+  pub read : IsRead host
+  pub parsed : parse_host (is_special (lowercase scheme)) host ≡ Some value
+  pub stands : ((length host == 0) && is_special (lowercase scheme)) ≡ false
+  pub some : (port_text ≡ None) ⊎ ((length host == 0) ≡ false)
+  pub port : MayBePortText port_text
+
+-- the URL at the end of a text with this authority and what is behind it
+abbrev pub authority_url : List ℕ → Host → Option ℕ → List (List ℕ) → Option (List ℕ) → Option (List ℕ) → Url
+authority_url scheme value port segments query fragment =
+    with_tail query fragment
+    (walking (authority_path (scheme_class (lowercase scheme)) segments) (hosted scheme value port))
+
+module _ (base : Option Url) (scheme : List ℕ) (value : Host) (segments : List (List ℕ)) (path : List ℕ)
+    (query fragment : Option (List ℕ)) (behind : Behind segments path query fragment) where
+  -- what follows the authority
+  rest : List ℕ
+  rest = path ++ tail query fragment
+
+  -- from behind the authority to the end
+  rest_ends : (port : Option ℕ)
+      → Ends base PathStartState (hosted scheme value port) rest (length path + (length (tail query fragment) + 2))
+      (authority_url scheme value port segments query fragment)
+  unfolding rest
+  rest_ends port =
+      path_start_ends base query fragment behind.query behind.fragment segments path
+      (hosted scheme value port) behind.path
+
+  -- from the port to the end
+  port_ends : (port : List ℕ) → MayBePortText (Some port)
+      → Ends base PortState (with_host (Some value) (scheme_held scheme)) (port ++ rest)
+      (length port + suc (length path + (length (tail query fragment) + 2)))
+      (authority_url scheme value (port_given scheme (Some port)) segments query fragment)
+  unfolding rest
+  port_ends port fits =
+      let small : nat_lt 65535 (digits_value 10 port) ≡ false = le-ltb 65535 (digits_value 10 port) fits.range in
+      let held = with_more port (with_host (Some value) (scheme_held scheme)) in
+      ends_after base (port_law base port rest (with_host (Some value) (scheme_held scheme)) fits.digits)
+      (ends_again base
+      (λ p. port_row_end held (sight rest) (delimits segments path query fragment behind.path) small
+      ∙ ap (λ o. again PathStartState (hosted scheme value o)) (port_is_given scheme port))
+      (rest_ends (port_given scheme (Some port))))
+
+  -- from the host to the end
+  host_ends : (host : List ℕ) (port : Option (List ℕ)) → IsParsed scheme host port value
+      → Ends base HostState (scheme_held scheme) (host ++ (written_behind colon port ++ rest))
+      (length (host ++ written_behind colon port) + (length path + (length (tail query fragment) + 3)))
+      (authority_url scheme value (port_given scheme port) segments query fragment)
+  unfolding rest
+  host_ends host None is =
+      let law : Reaches base HostState (scheme_held scheme) (host ++ rest) (length host)
+      HostState (with_more host (scheme_held scheme)) rest
+      = rw is.read.closed at (host_law base false host rest (scheme_held scheme) is.read.read) in
+      ends_within base (omega (arith, length-append host []))
+      (ends_after base law
+      (ends_again base
+      (λ p. host_row_end value (with_more host (scheme_held scheme)) (sight rest)
+      (delimits segments path query fragment behind.path) is.stands is.parsed)
+      (rest_ends None)))
+  host_ends host (Some port) is =
+      let law : Reaches base HostState (scheme_held scheme) (host ++ (colon ∷ (port ++ rest))) (length host)
+      HostState (with_more host (scheme_held scheme)) (colon ∷ (port ++ rest))
+      = rw is.read.closed at (host_law base false host (colon ∷ (port ++ rest)) (scheme_held scheme) is.read.read) in
+      let some : (length host == 0) ≡ false = ⊎_elim (λ e. absurd cc) (λ e. e) is.some in
+      ends_within base (omega (arith, length-append host (colon ∷ port)))
+      (ends_after base law
+      (ends_step base
+      (λ p. host_row_port base value (port ++ rest) (with_more host (scheme_held scheme)) p refl some is.parsed)
+      (port_ends port is.port)))
+
+  -- from the start of the authority to the end
+  pub authority_ends : (host : List ℕ) (port : Option (List ℕ)) → IsParsed scheme host port value
+      → Ends base AuthorityState (scheme_held scheme)
+      ((host ++ written_behind colon port) ++ (path ++ tail query fragment))
+      (length (host ++ written_behind colon port) + 1
+      + (length (host ++ written_behind colon port) + (length path + (length (tail query fragment) + 3))))
+      (authority_url scheme value (port_given scheme port) segments query fragment)
+  unfolding rest
+  authority_ends host port is =
+      ends_after base
+      (authority_law base (host ++ written_behind colon port) rest (scheme_held scheme)
+      (authority_letters host port is.read is.port) (delimits segments path query fragment behind.path))
+      (rw (append_assoc host (written_behind colon port) rest) (host_ends host port is))
