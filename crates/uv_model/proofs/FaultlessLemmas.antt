@@ -299,7 +299,7 @@ opaque_or_fragment (Some url) text parts valid (inr (inr (form, query, some))) n
     fragment_alone text parts valid.whole none alone.0 alone.1 query parts.fragment refl some
 
 -- with a scheme the base gives no class
-class_with_scheme : (base : Option Url) (scheme : Option (List ℕ)) → IsSome scheme
+pub class_with_scheme : (base : Option Url) (scheme : Option (List ℕ)) → IsSome scheme
     → class_in base scheme ≡ class_in None scheme
 class_with_scheme base None some = absurd (false≢true some)
 class_with_scheme base (Some scheme) some = refl

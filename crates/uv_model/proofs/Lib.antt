@@ -6,6 +6,7 @@ pub mod AuthorityCutLemmas
 pub mod AuthorityEnds
 pub mod AuthorityLemmas
 pub mod AuthorityLoops
+pub mod BaseLemmas
 pub mod ComplaintLemmas
 pub mod Computing
 pub mod CutLemmas

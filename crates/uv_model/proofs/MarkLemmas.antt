@@ -42,7 +42,8 @@ is_without-parts mark xs ys none =
 text_before-same : (mark c : ℕ) (rest : List ℕ) → (c == mark) ≡ true → text_before mark (c ∷ rest) ≡ []
 text_before-same mark c rest same = take_while-cons (λ x. not (x == mark)) c rest ∙ rw same refl
 
-text_before-other : (mark c : ℕ) (rest : List ℕ) → (c == mark) ≡ false
+-- another code point than the mark stands before it, with what follows
+pub text_before-other : (mark c : ℕ) (rest : List ℕ) → (c == mark) ≡ false
     → text_before mark (c ∷ rest) ≡ c ∷ text_before mark rest
 text_before-other mark c rest other = take_while-cons (λ x. not (x == mark)) c rest ∙ rw other refl
 

@@ -1,7 +1,7 @@
 //! Laws over the definitions, each as the clause of a function that does nothing.
 ghost use Rattle.uv_model.specs.Address.{AreLibraryTexts};
 ghost use Rattle.uv_model.specs.AddressRows.{AddressParserRows};
-ghost use Rattle.uv_model.specs.CutLaws.{EveryTextHasOneCut, TextsWithAComplaintHaveNoParts, ValidTextsAreCutIntoTheirParts};
+ghost use Rattle.uv_model.specs.CutLaws.{EveryTextHasOneCut, TextsWithAComplaintHaveNoParts, TextsWithASchemeIgnoreTheBase, ValidTextsAreCutIntoTheirParts};
 ghost use Rattle.uv_model.specs.HostParser.{DomainsAreParsed, EmptyHostIsParsed, Ipv4HostsAreParsed, Ipv6HostsAreParsed, OpaqueHostsAreParsed};
 ghost use Rattle.uv_model.specs.HostText.{AddressesAreReadBack};
 ghost use Rattle.uv_model.specs.HostRows.{HostParserRows};
@@ -38,6 +38,11 @@ pub fn every_text_has_one_cut()
 /// The cut of a valid text has the texts of its parts.
 pub fn valid_texts_are_cut_into_their_parts()
     ensures { ValidTextsAreCutIntoTheirParts }
+{}
+
+/// A text that begins with a scheme and `:` has against every base the same cut, valid parts and complaints.
+pub fn texts_with_a_scheme_ignore_the_base()
+    ensures { TextsWithASchemeIgnoreTheBase }
 {}
 
 /// A text with a complaint has no valid parts.
