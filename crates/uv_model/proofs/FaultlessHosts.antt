@@ -36,7 +36,7 @@ permitted_no_bracket : (c : ℕ) → is_permitted c ≡ true → (c == left_brac
 permitted_no_bracket c permitted = grind (arith, nat_tests)
 
 -- it doesn't begin with `[`
-form_no_bracket : (text form : List ℕ) → IsForm text form → starts_with_bracket text ≡ false
+pub form_no_bracket : (text form : List ℕ) → IsForm text form → starts_with_bracket text ≡ false
 unfolding has_permitted
 form_no_bracket [] form is = refl
 form_no_bracket (c ∷ rest) form is =
@@ -111,7 +111,7 @@ permitted_at (d ∷ text) rest (suc place) c each here =
     permitted_at text rest place c parts.1 here
 
 -- it doesn't begin with `[`
-opaque_no_bracket : (text : List ℕ) → IsOpaqueHost text → starts_with_bracket text ≡ false
+pub opaque_no_bracket : (text : List ℕ) → IsOpaqueHost text → starts_with_bracket text ≡ false
 opaque_no_bracket [] is = refl
 opaque_no_bracket (c ∷ rest) is = elim (cases_Bool (c == left_bracket)) [
   | inl same ↦

@@ -21,6 +21,7 @@ pub mod HostParserLemmas
 pub mod HostRows
 pub mod HostTextLemmas
 pub mod HostTextsRead
+pub mod HostUniqueness
 pub mod HostsParsed
 pub mod Ipv4ParserLemmas
 pub mod Ipv6LoopLemmas
@@ -32,6 +33,7 @@ pub mod LastLabelLemmas
 pub mod LeastLemmas
 pub mod Looping
 pub mod MarkLemmas
+pub mod PartsLemmas
 pub mod PathLemmas
 pub mod PathLoops
 pub mod PathStarts

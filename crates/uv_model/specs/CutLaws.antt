@@ -39,3 +39,8 @@ abbrev pub TextsWithAComplaintHaveNoParts : Type 0
 TextsWithAComplaintHaveNoParts =
     (base : Option Url) (text : List ℕ) (place : ℕ) (rule : Rule) → Complaint base text place rule
     → (parts : Parts) → ¬ (Valid base text parts)
+
+-- the parts of a valid text are unique
+abbrev pub PartsAreUnique : Type 0
+PartsAreUnique =
+    (base : Option Url) (text : List ℕ) (p q : Parts) → Valid base text p → Valid base text q → p ≡ q

@@ -1,7 +1,7 @@
 //! Laws over the definitions, each as the clause of a function that does nothing.
 ghost use Rattle.uv_model.specs.Address.{AreLibraryTexts};
 ghost use Rattle.uv_model.specs.AddressRows.{AddressParserRows};
-ghost use Rattle.uv_model.specs.CutLaws.{EveryTextHasOneCut, TextsWithAComplaintHaveNoParts, TextsWithASchemeIgnoreTheBase, ValidTextsAreCutIntoTheirParts};
+ghost use Rattle.uv_model.specs.CutLaws.{EveryTextHasOneCut, PartsAreUnique, TextsWithAComplaintHaveNoParts, TextsWithASchemeIgnoreTheBase, ValidTextsAreCutIntoTheirParts};
 ghost use Rattle.uv_model.specs.HostParser.{DomainsAreParsed, EmptyHostIsParsed, Ipv4HostsAreParsed, Ipv6HostsAreParsed, OpaqueHostsAreParsed};
 ghost use Rattle.uv_model.specs.HostText.{AddressesAreReadBack};
 ghost use Rattle.uv_model.specs.HostRows.{HostParserRows};
@@ -43,6 +43,11 @@ pub fn valid_texts_are_cut_into_their_parts()
 /// A text that begins with a scheme and `:` has against every base the same cut, valid parts and complaints.
 pub fn texts_with_a_scheme_ignore_the_base()
     ensures { TextsWithASchemeIgnoreTheBase }
+{}
+
+/// A valid text has, against every base and against none, only one form, and only one text and value of each part.
+pub fn parts_of_a_valid_text_are_unique()
+    ensures { PartsAreUnique }
 {}
 
 /// A text with a complaint has no valid parts.
