@@ -141,8 +141,8 @@ no_host : (kind : Class) (host_text : Option (List ℕ)) (host : Option Host) �
 no_host kind host_text host absent none = rw absent none
 
 -- what follows `//` by the class
-denoted_by_class : (kind : Class) (scheme host_text : List ℕ) (parts : Parts) → FitsAuthority kind scheme host_text parts
-    → AreDenoted kind scheme Authority (Some host_text) parts
+denoted_by_class : (kind : Class) (scheme host_text : List ℕ) (parts : Parts)
+    → FitsAuthority kind scheme host_text parts → AreDenoted kind scheme Authority (Some host_text) parts
 denoted_by_class Special scheme host_text parts is = record {
   host = (is.value, is.host, is.valued);
   port = is.port;
@@ -170,7 +170,8 @@ denoted_by_class Other scheme host_text parts (inr (nothing, valued, none), give
 }
 
 -- with a host text
-denoted_with_host : (base : Option Url) (parts : Parts) (host_text : Option (List ℕ)) → FitsHostText base parts host_text
+denoted_with_host : (base : Option Url) (parts : Parts) (host_text : Option (List ℕ))
+    → FitsHostText base parts host_text
     → AreDenoted (class_in base parts.scheme) (scheme_in base parts) Authority host_text parts
 denoted_with_host base parts None is = absurd is
 denoted_with_host base parts (Some host_text) is =
