@@ -60,7 +60,7 @@ empty_parsed scheme plain = record {
 -- ---- a special URL
 
 -- a text that is parsed isn't empty
-parsed_some : (text : List ℕ) (value : Host) → parse_host true text ≡ Some value → (length text == 0) ≡ false
+pub parsed_some : (text : List ℕ) (value : Host) → parse_host true text ≡ Some value → (length text == 0) ≡ false
 unfolding parse_host
 parsed_some [] value parsed = absurd cc
 parsed_some (c ∷ rest) value parsed = has_some (c ∷ rest) c rest refl

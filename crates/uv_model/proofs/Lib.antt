@@ -45,9 +45,11 @@ pub mod SchemeCutLemmas
 pub mod SchemeLemmas
 pub mod SchemeStretch
 pub mod Shown
+pub mod SilentAuthority
 pub mod SilentOpaque
 pub mod SilentPath
 pub mod SilentSchemes
+pub mod SilentTexts
 pub mod Steps
 pub mod Tails
 pub mod UnitComplaintLemmas

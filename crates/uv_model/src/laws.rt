@@ -17,7 +17,7 @@ ghost use Rattle.uv_model.specs.Rows.Other.{OtherRows};
 ghost use Rattle.uv_model.specs.Rows.References.{ReferenceRows};
 ghost use Rattle.uv_model.specs.Rows.SilentRefusals.{SilentRefusalRows};
 ghost use Rattle.uv_model.specs.Rows.Special.{SpecialRows};
-ghost use Rattle.uv_model.specs.Silent.{OpaqueTextsRunSilently};
+ghost use Rattle.uv_model.specs.Silent.{OpaqueTextsRunSilently, OtherTextsRunSilently, SpecialTextsRunSilently};
 
 /// A text is a concatenation of URL units exactly where no code point of it is a fault of units.
 pub fn units_are_faultless()
@@ -28,6 +28,18 @@ pub fn units_are_faultless()
 /// validation error and no failure, and gives exactly the URL that the text's parts denote (URL Standard, section 4.4).
 pub fn opaque_texts_run_silently()
     ensures { OpaqueTextsRunSilently }
+{}
+
+/// On every valid text with a scheme of class Other, against every base and none, the URL parser runs to its end with
+/// no
+/// validation error and no failure, and gives exactly the URL that the text's parts denote (URL Standard, section 4.4).
+pub fn other_texts_run_silently()
+    ensures { OtherTextsRunSilently }
+{}
+
+/// The same on every valid text with a scheme of class Special (URL Standard, section 4.4).
+pub fn special_texts_run_silently()
+    ensures { SpecialTextsRunSilently }
 {}
 
 /// Every text has, against every base, exactly one cut into the texts of its parts.
