@@ -187,7 +187,8 @@ same_path_start : (base other : Option Url) (cut : Cut) → IsSome cut.scheme �
     → PathStartComplaint base cut place rule → PathStartComplaint other cut place rule
 same_path_start base other cut some place FirstSegmentEmpty h = h
 same_path_start base other cut some place DriveAfterHost (kind, host, drive, at) =
-    (same_class other base cut.scheme some ∙ kind, same_has_host base other cut.scheme cut.host_text some host, drive, at)
+    let same = same_class other base cut.scheme some in
+    (same ∙ kind, same_has_host base other cut.scheme cut.host_text some host, drive, at)
 same_path_start base other cut some place _ h = absurd h
 
 same_judged : (base other : Option Url) (cut : Cut) → IsSome cut.scheme → (place : ℕ) (rule : Rule)

@@ -10,6 +10,7 @@ pub mod BaseLemmas
 pub mod ComplaintLemmas
 pub mod Computing
 pub mod CutLemmas
+pub mod CutRowsLemmas
 pub mod DenotedRecords
 pub mod DomainLemmas
 pub mod DotSegmentLemmas

@@ -4,6 +4,7 @@ pub mod Ascii
 pub mod Complaint
 pub mod Cut
 pub mod CutLaws
+pub mod CutRows
 pub mod Denote
 pub mod Device
 pub mod Domain

@@ -2,6 +2,7 @@
 ghost use Rattle.uv_model.specs.Address.{AreLibraryTexts};
 ghost use Rattle.uv_model.specs.AddressRows.{AddressParserRows};
 ghost use Rattle.uv_model.specs.CutLaws.{EveryTextHasOneCut, PartsAreUnique, TextsWithAComplaintHaveNoParts, TextsWithASchemeIgnoreTheBase, ValidTextsAreCutIntoTheirParts};
+ghost use Rattle.uv_model.specs.CutRows.{CutAndComplaintRows};
 ghost use Rattle.uv_model.specs.HostParser.{DomainsAreParsed, EmptyHostIsParsed, Ipv4HostsAreParsed, Ipv6HostsAreParsed, OpaqueHostsAreParsed};
 ghost use Rattle.uv_model.specs.HostText.{AddressesAreReadBack};
 ghost use Rattle.uv_model.specs.HostRows.{HostParserRows};
@@ -60,6 +61,11 @@ pub fn texts_with_a_scheme_ignore_the_base()
 /// A valid text has, against every base and against none, only one form, and only one text and value of each part.
 pub fn parts_of_a_valid_text_are_unique()
     ensures { PartsAreUnique }
+{}
+
+/// Cuts of texts that are written out, and complaints of texts that are refused, each at its place.
+pub fn cut_and_complaint_rows()
+    ensures { CutAndComplaintRows }
 {}
 
 /// A text with a complaint has no valid parts.
