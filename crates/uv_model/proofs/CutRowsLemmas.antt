@@ -112,7 +112,11 @@ port_digit_row =
     inr (inl (
       started None (codes "http://h:8a/") (cut_of None (codes "http://h:8a/")) refl refl,
       inr (inl
-          (record { inner = 1; moved = refl; holds = record { code_point = 97; rest = []; here = refl; foreign = refl } })),
+          (record {
+            inner = 1;
+            moved = refl;
+            holds = record { code_point = 97; rest = []; here = refl; foreign = refl };
+          })),
     ))
 
 port_password_row : Complaint None (codes "http://user:pw@h/") 12 PortDigit
@@ -121,7 +125,11 @@ port_password_row =
     inr (inl (
       started None (codes "http://user:pw@h/") (cut_of None (codes "http://user:pw@h/")) refl refl,
       inr (inl
-          (record { inner = 0; moved = refl; holds = record { code_point = 112; rest = codes "w@h"; here = refl; foreign = refl } })),
+          (record {
+            inner = 0;
+            moved = refl;
+            holds = record { code_point = 112; rest = codes "w@h"; here = refl; foreign = refl };
+          })),
     ))
 
 port_range_row : Complaint None (codes "http://h:65536/") 9 PortRange
