@@ -30,7 +30,7 @@ abbrev pub hosted : List ℕ → Host → Option ℕ → Held
 hosted scheme value port = with_port port (with_host (Some value) (scheme_held scheme))
 
 -- a path behind an authority, or what follows where there is none, begins with a delimiter
-delimits : (segments : List (List ℕ)) (path : List ℕ) (query fragment : Option (List ℕ))
+pub delimits : (segments : List (List ℕ)) (path : List ℕ) (query fragment : Option (List ℕ))
     → MayBePathAbsolute segments path
     → IsDelimiter (sight (path ++ tail query fragment))
 delimits segments path (Some query) fragment (inl none) = rw none.0 tt

@@ -23,14 +23,14 @@ is_authority_letter c =
     && (not (c == at_sign) && not (c == backslash)))))
 
 -- what such a code point is not
-record Letter (c : ℕ) : Type 0 where
-  no_slash : (c == slash) ≡ false
-  no_question_mark : (c == question_mark) ≡ false
-  no_number_sign : (c == number_sign) ≡ false
-  no_at_sign : (c == at_sign) ≡ false
-  no_backslash : (c == backslash) ≡ false
+pub record Letter (c : ℕ) : Type 0 where
+  pub no_slash : (c == slash) ≡ false
+  pub no_question_mark : (c == question_mark) ≡ false
+  pub no_number_sign : (c == number_sign) ≡ false
+  pub no_at_sign : (c == at_sign) ≡ false
+  pub no_backslash : (c == backslash) ≡ false
 
-letter : (c : ℕ) → is_authority_letter c ≡ true → Letter c
+pub letter : (c : ℕ) → is_authority_letter c ≡ true → Letter c
 letter c is =
     let behind_space = and_parts (nat_lt 0x20 c) _ is in
     let behind_slash = and_parts (not (c == slash)) _ behind_space.1 in

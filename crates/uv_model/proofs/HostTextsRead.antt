@@ -124,7 +124,7 @@ read_domain text form is = read_plain text (plain_domains text is.0.permitted)
 -- ---- addresses
 
 -- a code point of an IPv4 text
-abbrev is_dotted : ℕ → Bool
+abbrev pub is_dotted : ℕ → Bool
 is_dotted c = is_ascii_digit c || (c == full_stop)
 
 -- a code point of an IPv6 text
@@ -148,7 +148,7 @@ dotted_decimal n small =
     weaker is_ascii_digit is_dotted (λ c digit. or_left (is_ascii_digit c) (c == full_stop) digit) (decimal n)
     (and_parts (nat_lt 0 (length (decimal n))) (list_all is_ascii_digit (decimal n)) (digits_alone n small)).1
 
-dotted_numbers : (a b c d : ℕ) (text : List ℕ) → IsFourNumbers a b c d text → list_all is_dotted text ≡ true
+pub dotted_numbers : (a b c d : ℕ) (text : List ℕ) → IsFourNumbers a b c d text → list_all is_dotted text ≡ true
 dotted_numbers a b c d text is =
     let first : list_all is_dotted (decimal a) ≡ true = dotted_decimal a is.fit.0 in
     let second : list_all is_dotted (decimal b) ≡ true = dotted_decimal b is.fit.1 in

@@ -17,6 +17,7 @@ pub mod DotSegmentLemmas
 pub mod EncodingLemmas
 pub mod FaultlessHosts
 pub mod FaultlessLemmas
+pub mod FileHosts
 pub mod HostCutLemmas
 pub mod HostParserLemmas
 pub mod HostRows
@@ -47,6 +48,7 @@ pub mod SchemeLemmas
 pub mod SchemeStretch
 pub mod Shown
 pub mod SilentAuthority
+pub mod SilentFile
 pub mod SilentOpaque
 pub mod SilentPath
 pub mod SilentSchemes

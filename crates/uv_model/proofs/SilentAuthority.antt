@@ -30,21 +30,21 @@ use Rattle.uv_model.proofs.Tails.{tail, with_tail}
 use Rattle.uv_model.proofs.Unremoved.{is_unremoved, unremoved_append, unremoved_faultless}
 
 -- the code points of an authority are never removed
-unremoved_letters : (text : List ℕ) → list_all is_authority_letter text ≡ true → list_all is_unremoved text ≡ true
+pub unremoved_letters : (text : List ℕ) → list_all is_authority_letter text ≡ true → list_all is_unremoved text ≡ true
 unremoved_letters [] is = refl
 unremoved_letters (c ∷ rest) is =
     let parts = and_parts (is_authority_letter c) (list_all is_authority_letter rest) is in
     and_from _ _ (and_parts (is_unremoved c) _ parts.0).0 (unremoved_letters rest parts.1)
 
 -- nor those of a path behind it
-unremoved_path : (segments : List (List ℕ)) (text : List ℕ) → MayBePathAbsolute segments text
+pub unremoved_path : (segments : List (List ℕ)) (text : List ℕ) → MayBePathAbsolute segments text
     → list_all is_unremoved text ≡ true
 unremoved_path segments text (inl none) = rw none.0 refl
 unremoved_path segments text (inr path) =
     rw path.slashed (unremoved_faultless path.behind (faultless_path segments path.behind path.relative))
 
 -- the text of parts with an authority
-written_with_authority : (parts : Parts) (scheme host_text : List ℕ) → parts.scheme ≡ Some scheme
+pub written_with_authority : (parts : Parts) (scheme host_text : List ℕ) → parts.scheme ≡ Some scheme
     → parts.host_text ≡ Some host_text
     → written parts
     ≡ scheme ++ colon ∷ ((slash ∷ slash ∷ ((host_text ++ written_behind colon parts.port_text) ++ parts.path_text))
@@ -75,7 +75,7 @@ special_some : (scheme text : List ℕ) (value : Host) → is_special (lowercase
 special_some scheme text value special parsed = parsed_some text value (rw special at parsed)
 
 -- what a form with an authority says of its parts, with their scheme and host text named
-authority_named : (base : Option Url) (parts : Parts) (scheme host_text : List ℕ) → parts.scheme ≡ Some scheme
+pub authority_named : (base : Option Url) (parts : Parts) (scheme host_text : List ℕ) → parts.scheme ≡ Some scheme
     → parts.host_text ≡ Some host_text → HasAuthority base parts
     → FitsAuthority (scheme_class scheme) scheme host_text parts
 authority_named base parts scheme host_text named given has =
@@ -88,7 +88,7 @@ authority_named base parts scheme host_text named given has =
     subst (λ (s : List ℕ). FitsAuthority (scheme_class s) s host_text parts) (ap (scheme_or base) named) back
 
 -- an authority is there
-authority_there : (base : Option Url) (parts : Parts) (host_text : Option (List ℕ)) → parts.host_text ≡ host_text
+pub authority_there : (base : Option Url) (parts : Parts) (host_text : Option (List ℕ)) → parts.host_text ≡ host_text
     → HasAuthority base parts → (text : List ℕ) × (parts.host_text ≡ Some text)
 authority_there base parts (Some text) given has = (text, given)
 authority_there base parts None given has =
@@ -113,19 +113,8 @@ module _ (base : Option Url) (parts : Parts) (scheme host_text : List ℕ) (valu
   StartsAuthority : Type 0
   StartsAuthority =
       (k : ℕ) (url : Url)
-     
-     
-     
-     
-     
-     
-     
-     
-     
-     
-     
-     
-      → Ends base AuthorityState (scheme_held scheme) (authority ++ (parts.path_text ++ tail parts.query parts.fragment)) k url
+      → Ends base AuthorityState (scheme_held scheme)
+      (authority ++ (parts.path_text ++ tail parts.query parts.fragment)) k url
       → Ends base SchemeState (with_more (lowercase scheme) empty_held)
       (colon ∷ slash ∷ slash ∷ (authority ++ (parts.path_text ++ tail parts.query parts.fragment))) (k + 4) url
 
@@ -226,7 +215,7 @@ valued_opaque parts host_text (Some value) given e = rw e refl
 valued_opaque parts host_text None given e = rw (e, given) refl
 
 -- a host with a value of its own
-valued_some : (parts : Parts) (value : Host) → parts.host ≡ Some value → Some value ≡ authority_host parts
+pub valued_some : (parts : Parts) (value : Host) → parts.host ≡ Some value → Some value ≡ authority_host parts
 valued_some parts value e = rw e refl
 
 -- an authority of class Other is parsed as it is denoted
@@ -283,8 +272,8 @@ special_authority_silent base text parts valid form special =
     = subst (λ (k : Class). FitsAuthority k scheme host_text parts) kind
     (authority_named base parts scheme host_text named given has) in
     let parsed =
-        special_parsed scheme host_text parts.port_text fits.value
-        (is_special_scheme scheme kind) fits.host fits.port_text in
+    special_parsed scheme host_text parts.port_text fits.value
+    (is_special_scheme scheme kind) fits.host fits.port_text in
     let all : HasParsed parts scheme host_text fits.value
     = record
     { parsed = parsed; valued = valued_some parts fits.value fits.valued; port = fits.port; path = fits.path } in

@@ -1,6 +1,6 @@
 -- Runs of the URL parser (URL Standard, section 4.4) that end with no validation error and no failure.
 use Rattle.std.specs.Prelude.{◌≡◌, ℕ, true, List, Option}
-use Rattle.uv_model.specs.declared.scheme.Class.TheVariants.{Special, Other}
+use Rattle.uv_model.specs.declared.scheme.Class.TheVariants.{Special, File, Other}
 use Rattle.uv_model.specs.Scheme.{scheme_class}
 use Rattle.uv_model.specs.Url.{Url}
 use Rattle.uv_model.specs.Parts.{Parts, SchemeOpaque, has_scheme}
@@ -30,4 +30,11 @@ abbrev pub SpecialTextsRunSilently : Type 0
 SpecialTextsRunSilently =
     (base : Option Url) (text : List ℕ) (parts : Parts)
     → Valid base text parts → has_scheme parts.form ≡ true → scheme_class (scheme_in base parts) ≡ Special
+    → RunsSilently base text parts
+
+-- the same with a scheme of class File
+abbrev pub FileTextsRunSilently : Type 0
+FileTextsRunSilently =
+    (base : Option Url) (text : List ℕ) (parts : Parts)
+    → Valid base text parts → has_scheme parts.form ≡ true → scheme_class (scheme_in base parts) ≡ File
     → RunsSilently base text parts

@@ -18,7 +18,7 @@ ghost use Rattle.uv_model.specs.Rows.Other.{OtherRows};
 ghost use Rattle.uv_model.specs.Rows.References.{ReferenceRows};
 ghost use Rattle.uv_model.specs.Rows.SilentRefusals.{SilentRefusalRows};
 ghost use Rattle.uv_model.specs.Rows.Special.{SpecialRows};
-ghost use Rattle.uv_model.specs.Silent.{OpaqueTextsRunSilently, OtherTextsRunSilently, SpecialTextsRunSilently};
+ghost use Rattle.uv_model.specs.Silent.{FileTextsRunSilently, OpaqueTextsRunSilently, OtherTextsRunSilently, SpecialTextsRunSilently};
 
 /// A text is a concatenation of URL units exactly where no code point of it is a fault of units.
 pub fn units_are_faultless()
@@ -41,6 +41,11 @@ pub fn other_texts_run_silently()
 /// The same on every valid text with a scheme of class Special (URL Standard, section 4.4).
 pub fn special_texts_run_silently()
     ensures { SpecialTextsRunSilently }
+{}
+
+/// The same on every valid text with a scheme of class File (URL Standard, section 4.4).
+pub fn file_texts_run_silently()
+    ensures { FileTextsRunSilently }
 {}
 
 /// Every text has, against every base, exactly one cut into the texts of its parts.
