@@ -1,7 +1,7 @@
 -- Lemmas on the complaints and the values of hosts.
 use Rattle.std.proofs.Common.{◌≡◌, ◌≢◌, ℕ, ◌≤◌, List, [], ◌∷◌, Bool, true, false, drop, refl, sym, ap, ◌∙◌, subst, inl, inr, arith, Option, Some, None, Ok, Err, Result, zero, suc, eqb-true}
 use Rattle.std.proofs.Math.Nat.{le_refl}
-use Rattle.std.specs.Prelude.{codes, ◌==◌, ◌⊎◌, length}
+use Rattle.std.specs.Prelude.{codes, ◌==◌, ◌⊎◌, ◌↔◌, IsTrue, length, not}
 use Rattle.std.specs.Str.{bytes_eq, chars, IsUtf8}
 use Rattle.std.proofs.lemmas.Str.{chars-nil, encodes-chars}
 use Rattle.std.proofs.Math.Utf8.{encodes}
@@ -213,3 +213,9 @@ some_chars [] utf8 is none = false≢true (sym is)
 some_chars (b ∷ bytes) utf8 is none =
     let same : [] ≡ b ∷ bytes = ap encodes (sym none) ∙ encodes-chars (b ∷ bytes) utf8 in
     cc
+
+-- a slice has code points exactly where it isn't empty
+pub some_iff : (bytes : List ℕ) (is_empty : Bool) → IsUtf8 bytes → is_empty ≡ (length bytes == 0)
+    → IsTrue (not is_empty) ↔ (chars bytes ≢ [])
+some_iff bytes true utf8 is = (λ other. absurd (false≢true other), λ some. absurd (some (no_chars bytes (sym is))))
+some_iff bytes false utf8 is = (λ other. some_chars bytes utf8 (sym is), λ some. refl)

@@ -1,6 +1,5 @@
 pub mod AuthorityLemmas
 pub mod HostLemmas
-pub mod LeastLemmas
 pub mod PieceLemmas
 pub mod PortLemmas
 pub mod SliceLemmas

@@ -7,7 +7,9 @@ mod form;
 mod host;
 mod marks;
 mod parts;
+mod places;
 mod port;
+mod starting;
 mod starts;
 
 pub use form::Form;

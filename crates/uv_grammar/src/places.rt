@@ -1,0 +1,112 @@
+//! The places of the parts of a cut text, in code points from 0 at the text's start.
+ghost use Rattle.std.specs.Prelude.{◌≡◌, ◌+◌, ◌<◌, ◌^◌, IsSome, Some, length};
+ghost use Rattle.std.specs.Str.{chars};
+ghost use Rattle.uv_model.specs.Complaint.{refusal_behind, slashes_place};
+ghost use Rattle.uv_model.specs.Cut.{fragment_place, host_place, path_place, port_place, query_place, scheme_end};
+ghost use Rattle.uv_model.specs.Parts.{written_authority};
+ghost use Rattle.uv_grammar.specs.Later.{IsCountable};
+
+use crate::cut::Cut;
+use crate::starts::has_slash;
+use uv_model::Refusal;
+
+// How many code points the text has.
+fn count(text: &str) -> usize
+    ensures { result ≡ length (chars text.now) }
+{
+    text.chars().count()
+}
+
+/// The place behind a scheme and `:`.
+pub(crate) fn scheme_end(cut: &Cut) -> usize
+    requires { IsCountable cut.now }
+    ensures { result ≡ scheme_end cut.now }
+{
+    match cut.scheme {
+        Some(scheme) => count(scheme) + 1,
+        None => 0,
+    }
+}
+
+/// The first of the two code points behind a scheme and `:` that isn't `/`, or the text's end.
+pub(crate) fn slashes_place(cut: &Cut) -> usize
+    requires { IsCountable cut.now }
+    ensures { result ≡ slashes_place cut.now }
+{
+    if has_slash(cut.path_text) {
+        scheme_end(cut) + 1
+    } else {
+        scheme_end(cut)
+    }
+}
+
+/// The place of the host.
+pub(crate) fn host_place(cut: &Cut) -> usize
+    requires count { IsCountable cut.now }
+    requires host { IsSome cut.now.host_text }
+    ensures { result ≡ host_place cut.now }
+{
+    scheme_end(cut) + 2
+}
+
+/// The place of the port behind a host.
+pub(crate) fn port_place(cut: &Cut, host_text: &str) -> usize
+    requires count { IsCountable cut.now }
+    requires host { cut.now.host_text ≡ Some (chars host_text.now) }
+    requires port { IsSome cut.now.port_text }
+    ensures { result ≡ port_place (chars host_text.now) cut.now }
+{
+    host_place(cut) + (count(host_text) + 1)
+}
+
+/// The place of the path.
+pub(crate) fn path_place(cut: &Cut) -> usize
+    requires { IsCountable cut.now }
+    ensures { result ≡ path_place cut.now }
+{
+    scheme_end(cut) + authority_length(cut)
+}
+
+// How many code points `//`, the host, and `:` and the port have.
+fn authority_length(cut: &Cut) -> usize
+    requires { IsCountable cut.now }
+    ensures { result ≡ length (written_authority cut.now.host_text cut.now.port_text) }
+{
+    match (cut.host_text, cut.port_text) {
+        (Some(host_text), Some(port_text)) => 2 + count(host_text) + 1 + count(port_text),
+        (Some(host_text), None) => 2 + count(host_text),
+        (None, _) => 0,
+    }
+}
+
+/// The place of the query.
+pub(crate) fn query_place(cut: &Cut) -> usize
+    requires count { IsCountable cut.now }
+    requires query { IsSome cut.now.query }
+    ensures { result ≡ query_place cut.now }
+{
+    path_place(cut) + count(cut.path_text) + 1
+}
+
+/// The place of the fragment.
+pub(crate) fn fragment_place(cut: &Cut) -> usize
+    requires count { IsCountable cut.now }
+    requires fragment { IsSome cut.now.fragment }
+    ensures { result ≡ fragment_place cut.now }
+{
+    match cut.query {
+        Some(query) => query_place(cut) + count(query) + 1,
+        None => path_place(cut) + count(cut.path_text) + 1,
+    }
+}
+
+/// The refusal of a part, counted from the text's start.
+pub(crate) fn refusal_behind(start: usize, refusal: Refusal) -> Refusal
+    requires { start + refusal.place < 2 ^ 64 }
+    ensures { result ≡ refusal_behind start refusal }
+{
+    Refusal {
+        place: start + refusal.place,
+        rule: refusal.rule,
+    }
+}
