@@ -103,7 +103,7 @@ held_from kind text port_text path_text some place _ h = h
 pub held_answer : (kind : Class) (text : List ℕ) (port_text : Option (List ℕ)) (path_text : List ℕ) → text ≢ [] → (answer : HostAnswer)
     → IsHeldAnswer kind text answer → IsHostAnswer kind text port_text path_text answer
 held_answer kind text port_text path_text some (Valid host) is = (
-  inl is.0,
+  inl (some, is.0),
   IsLeast-like (HeldHostComplaint kind text) (HostComplaint kind text port_text path_text)
       (held_to kind text port_text path_text) (held_from kind text port_text path_text some) None is.1,
 )

@@ -1,6 +1,10 @@
 pub mod AuthorityLemmas
+pub mod BuiltLemmas
 pub mod HostLemmas
+pub mod PartLemmas
 pub mod PieceLemmas
 pub mod PortLemmas
+pub mod SegmentLemmas
 pub mod SliceLemmas
 pub mod TestLemmas
+pub mod VerdictLemmas

@@ -56,7 +56,7 @@ front_test test passes bytes utf8 =
 -- ---- the tests in use
 
 -- both of two tests are passed
-and_true : {a b : Bool} → a ≡ true → b ≡ true → (a && b) ≡ true
+pub and_true : {a b : Bool} → a ≡ true → b ≡ true → (a && b) ≡ true
 and_true first second = rw (first, second) refl
 
 -- each element passes the weaker test

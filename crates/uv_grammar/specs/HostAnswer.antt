@@ -43,7 +43,7 @@ MayBeEmpty Other port_text path_text = port_text ≡ None
 -- a valid host of the class, or an empty one
 abbrev pub FitsHost : Class → List ℕ → Option (List ℕ) → List ℕ → Option Host → Type 0
 FitsHost kind text port_text path_text host =
-    FitsHeld kind text host ⊎ ((text ≡ []) × (host ≡ Some Empty) × MayBeEmpty kind port_text path_text)
+    ((text ≢ []) × FitsHeld kind text host) ⊎ ((text ≡ []) × (host ≡ Some Empty) × MayBeEmpty kind port_text path_text)
 
 -- the answer on a host's text that isn't empty: its value, or its least complaint
 abbrev pub IsHeldAnswer : Class → List ℕ → HostAnswer → Type 0

@@ -2,7 +2,9 @@ pub mod Built
 pub mod Form
 pub mod HostAnswer
 pub mod Later
+pub mod PartAnswers
 pub mod PortAnswer
 pub mod Seen
 pub mod Sides
 pub mod Starting
+pub mod Verdict

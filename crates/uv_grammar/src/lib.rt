@@ -1,8 +1,11 @@
 //! The checker of valid URL strings, and the parts of those that it takes (URL Standard, section 4.3).
 #![tactic(auto)]
 
+mod authority;
 mod built;
+mod checker;
 mod cut;
+mod faults;
 mod form;
 mod host;
 mod marks;
@@ -12,5 +15,6 @@ mod port;
 mod starting;
 mod starts;
 
+pub use checker::{Verdict, check};
 pub use form::Form;
 pub use parts::{Parts, Segments};

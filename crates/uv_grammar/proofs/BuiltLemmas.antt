@@ -1,0 +1,339 @@
+-- The parts built from a cut without a complaint are valid.
+use Rattle.std.proofs.Common.{◌≡◌, ◌≢◌, ℕ, List, [], ◌∷◌, ◌++◌, Bool, true, false, Option, Some, None, refl, sym, ap, ◌∙◌, subst, inl, inr}
+use Rattle.std.specs.Prelude.{◌⊎◌, ◌==◌, ◌+◌, IsSome, is_some, if◌then◌else◌}
+use Rattle.std.proofs.lemmas.Bool.{cases_Bool, false≢true}
+use Rattle.uv_model.specs.declared.host.Host.{Host}
+use Rattle.uv_model.specs.declared.host.Host.TheVariants.{Empty}
+use Rattle.uv_model.specs.declared.rule.Rule.{Rule}
+use Rattle.uv_model.specs.declared.rule.Rule.TheVariants.{NoScheme, OpaqueBase, TwoSlashes, FirstSegmentEmpty, DriveAfterHost}
+use Rattle.uv_model.specs.declared.scheme.Class.{Class}
+use Rattle.uv_model.specs.declared.scheme.Class.TheVariants.{Special, File, Other}
+use Rattle.uv_model.specs.Ascii.{number_sign, question_mark}
+use Rattle.uv_model.specs.Complaint.{HasHost, MayBeUnitComplaint, IsStarted, PathStartComplaint, StartComplaint, starts_with_number_sign}
+use Rattle.uv_model.specs.Cut.{Cut, IsCut, IsHostCut, IsSchemeCut, class_in, path_place, query_place, fragment_place, starts_with_two_slashes, texts_of, written_cut, written_front, written_middle, written_start}
+use Rattle.uv_model.specs.Parts.{Form, NoPath, Parts, PathAbsolute, PathRelative, SchemeOpaque, SchemePath, has_scheme, written, written_authority, written_behind, written_scheme}
+use Rattle.uv_model.specs.Path.{IsPathAbsolute, IsPathRelative, is_without, starts_with_drive, starts_with_slash}
+use Rattle.uv_model.specs.Refusal.{IsLeast}
+use Rattle.uv_model.specs.Scheme.{is_scheme, scheme_class}
+use Rattle.uv_model.specs.UnitComplaint.{UnitComplaint}
+use Rattle.uv_model.specs.Units.{IsUnits}
+use Rattle.uv_model.specs.Url.{Url, is_opaque}
+use Rattle.uv_model.specs.Valid.{FitsAuthority, FitsBase, FitsDrive, FitsForm, HasAuthority, HasNoAuthority, IsOpaqueHostText, IsOpaquePath, FitsScheme, MayBePathAbsolute, MayBePortText, MayBeUnits, Valid, port_given, scheme_in, scheme_or, starts_with_scheme}
+use Rattle.uv_model.proofs.ComplaintLemmas.{cut_with}
+use Rattle.uv_model.proofs.MarkLemmas.{is_without-cons, is_without-parts}
+use Rattle.uv_model.proofs.UnitComplaintLemmas.{units_uncomplained}
+use Rattle.uv_model.proofs.ValidCutLemmas.{written_as_cut}
+use Rattle.uv_grammar.specs.Built.{built, form_of, form_with, pieces, segments_in, segments_of}
+use Rattle.uv_grammar.specs.HostAnswer.{FitsHeld, FitsHost, MayBeEmpty}
+use Rattle.uv_grammar.specs.Later.{FromPathStart}
+use Rattle.uv_grammar.specs.PartAnswers.{FitsHostPart, FitsPortPart}
+use Rattle.uv_grammar.proofs.SegmentLemmas.{path_absolute, path_relative, relative_path}
+
+-- ---- what the absence of complaints says
+
+-- the path's start, the path, the query and the fragment have no complaint
+record IsQuiet (base : Option Url) (cut : Cut) : Type 0 where
+  one_slash : starts_with_two_slashes cut.path_text ≡ false
+  drive : class_in base cut.scheme ≡ File → HasHost base cut.scheme cut.host_text → starts_with_drive cut.path_text ≡ false
+  path : IsUnits cut.path_text
+  query : MayBeUnits cut.query
+  fragment : MayBeUnits cut.fragment
+
+no_complaint_units : (start : ℕ) (text : Option (List ℕ))
+    → ((place : ℕ) (rule : Rule) → MayBeUnitComplaint start text place rule → ⊥) → MayBeUnits text
+no_complaint_units start None none = tt
+no_complaint_units start (Some text) none =
+    units_uncomplained text (λ place rule h. none (start + place) rule (record { inner = place; moved = refl; holds = h }))
+
+-- from no complaint to what it says
+quiet : (base : Option Url) (cut : Cut) → IsLeast (FromPathStart base cut) None → IsQuiet base cut
+quiet base cut none = record {
+  one_slash = elim (cases_Bool (starts_with_two_slashes cut.path_text)) [
+    | inl two ↦ absurd (none (path_place cut + 1) FirstSegmentEmpty (inl (record { inner = 1; moved = refl; holds = (two, refl) })))
+    | inr other ↦ other
+  ];
+  drive = λ file host. elim (cases_Bool (starts_with_drive cut.path_text)) [
+    | inl drive ↦ absurd (none (path_place cut + 0) DriveAfterHost (inl (record { inner = 0; moved = refl; holds = (file, host, drive, refl) })))
+    | inr other ↦ other
+  ];
+  path = units_uncomplained cut.path_text
+      (λ place rule h. none (path_place cut + place) rule (inr (inl (record { inner = place; moved = refl; holds = h }))));
+  query = no_complaint_units (query_place cut) cut.query (λ place rule h. none place rule (inr (inr (inl h))));
+  fragment = no_complaint_units (fragment_place cut) cut.fragment (λ place rule h. none place rule (inr (inr (inr h))));
+}
+
+-- the path of a cut text holds no `?`
+path_without : (base : Option Url) (text : List ℕ) (cut : Cut) → IsCut base text cut → is_without question_mark cut.path_text ≡ true
+path_without base text cut is =
+    let middle = (is_without-parts question_mark (written_scheme cut.scheme) (written_middle cut) is.start).1 in
+    (is_without-parts question_mark (written_authority cut.host_text cut.port_text) cut.path_text middle).1
+
+-- ---- paths
+
+-- behind an authority the path is empty or absolute
+path_behind : (path : List ℕ) → (path ≢ [] → starts_with_slash path ≡ true) → starts_with_two_slashes path ≡ false → IsUnits path
+    → is_without question_mark path ≡ true → MayBePathAbsolute (segments_of path) path
+path_behind [] start one units none = inl (refl, refl)
+path_behind (c ∷ rest) start one units none = inr (path_absolute (c ∷ rest) units none (start (λ e. cc)) one)
+
+-- a path that begins with `/` isn't empty
+absolute_path : (segments : List (List ℕ)) (path : List ℕ) → MayBePathAbsolute segments path → starts_with_slash path ≡ true
+    → IsPathAbsolute segments path
+absolute_path segments path (inl (empty, none)) start = absurd (false≢true (rw empty at start))
+absolute_path segments path (inr is) start = is
+
+-- ---- authorities
+
+-- a valid authority of the class
+authority_fits : (kind : Class) (scheme host_text : List ℕ) (parts : Parts) (host : Option Host) → parts.host ≡ host
+    → FitsHost kind host_text parts.port_text parts.path_text host → IsHostCut kind host_text parts.port_text
+    → MayBePortText parts.port_text → parts.port ≡ port_given scheme parts.port_text
+    → MayBePathAbsolute parts.segments parts.path_text
+    → (kind ≡ File → host_text ≢ [] → starts_with_drive parts.path_text ≡ false)
+    → FitsAuthority kind scheme host_text parts
+authority_fits Special scheme host_text parts None same (inl (some, fits)) cut port_text port path drive = absurd fits
+authority_fits Special scheme host_text parts (Some value) same (inl (some, fits)) cut port_text port path drive = record {
+  value = value;
+  host = fits;
+  valued = same;
+  port_text = port_text;
+  port = port;
+  path = path;
+}
+authority_fits Special scheme host_text parts host same (inr (empty, is, may)) cut port_text port path drive = absurd may
+authority_fits File scheme host_text parts None same (inl (some, fits)) cut port_text port path drive = absurd fits
+authority_fits File scheme host_text parts (Some value) same (inl (some, fits)) cut port_text port path drive =
+    (cut, port ∙ ap (port_given scheme) cut, inl (value, fits, same, path, drive refl some))
+authority_fits File scheme host_text parts host same (inr (empty, is, may)) cut port_text port path drive = (
+  cut,
+  port ∙ ap (port_given scheme) cut,
+  inr (empty, same ∙ is, absolute_path parts.segments parts.path_text path may),
+)
+authority_fits Other scheme host_text parts host same (inl (some, fits)) cut port_text port path drive =
+    (inl (subst (λ (h : Option Host). IsOpaqueHostText host_text h) (sym same) fits, port_text), port, path)
+authority_fits Other scheme host_text parts host same (inr (empty, is, may)) cut port_text port path drive =
+    (inr (empty, same ∙ is, may), port, path)
+
+-- a valid port behind a host, or none
+record IsPort (scheme : List ℕ) (port_text : Option (List ℕ)) (port : Option ℕ) : Type 0 where
+  may : MayBePortText port_text
+  given : port ≡ port_given scheme port_text
+
+port_facts : (base : Option Url) (scheme : Option (List ℕ)) (host_text : List ℕ) (port_text : Option (List ℕ)) (path : List ℕ)
+    (query fragment : Option (List ℕ)) (port : Option ℕ)
+    → FitsPortPart base (cut_with scheme (Some host_text) port_text path query fragment) port
+    → IsPort (scheme_or base scheme) port_text port
+port_facts base scheme host_text None path query fragment port fits = record { may = tt; given = fits }
+port_facts base scheme host_text (Some port_text) path query fragment port fits = record { may = fits.0; given = fits.1 }
+
+-- an authority fits the form of the text
+has_authority : (base : Option Url) (text : List ℕ) (scheme : Option (List ℕ)) (host_text : List ℕ) (port_text : Option (List ℕ))
+    (path : List ℕ) (query fragment : Option (List ℕ)) (host : Option Host) (port : Option ℕ)
+    → IsCut base text (cut_with scheme (Some host_text) port_text path query fragment)
+    → FitsHostPart base (cut_with scheme (Some host_text) port_text path query fragment) host
+    → FitsPortPart base (cut_with scheme (Some host_text) port_text path query fragment) port
+    → IsQuiet base (cut_with scheme (Some host_text) port_text path query fragment)
+    → is_without question_mark path ≡ true
+    → (built (cut_with scheme (Some host_text) port_text path query fragment) host port).segments ≡ segments_of path
+    → HasAuthority base (built (cut_with scheme (Some host_text) port_text path query fragment) host port)
+has_authority base text scheme host_text port_text path query fragment host port is fits_host fits_port q none segments =
+    let p = port_facts base scheme host_text port_text path query fragment port fits_port in
+    authority_fits (class_in base scheme) (scheme_or base scheme) host_text
+    (built (cut_with scheme (Some host_text) port_text path query fragment) host port) host refl fits_host is.authority.2
+    p.may p.given
+    (subst (λ (s : List (List ℕ)). MayBePathAbsolute s path) (sym segments) (path_behind path is.authority.1 q.one_slash q.path none))
+    (λ file some. q.drive file some)
+
+-- ---- texts without an authority
+
+-- neither a host nor a port
+no_authority : (base : Option Url) (text : List ℕ) (scheme port_text : Option (List ℕ)) (path : List ℕ)
+    (query fragment : Option (List ℕ)) (host : Option Host) (port : Option ℕ)
+    → IsCut base text (cut_with scheme None port_text path query fragment) → host ≡ None → port ≡ None
+    → HasNoAuthority (built (cut_with scheme None port_text path query fragment) host port)
+no_authority base text scheme port_text path query fragment host port is no_host no_port =
+    record { host_text = refl; host = no_host; port_text = is.authority.0; port = no_port }
+
+-- a class is Other or isn't
+class_cases : (kind : Class) → (kind ≡ Other) ⊎ (kind ≢ Other)
+class_cases Other = inl refl
+class_cases Special = inr (λ same. cc)
+class_cases File = inr (λ same. cc)
+
+-- a scheme without an authority is of class Other
+other_scheme : (base : Option Url) (text scheme : List ℕ) (port_text : Option (List ℕ)) (path : List ℕ)
+    (query fragment : Option (List ℕ)) → IsStarted base text (cut_with (Some scheme) None port_text path query fragment)
+    → scheme_class scheme ≡ Other
+other_scheme base text scheme port_text path query fragment started = elim (class_cases (scheme_class scheme)) [
+  | inl other ↦ other
+  | inr kind ↦ absurd (started _ TwoSlashes ((refl, kind, refl), refl))
+]
+
+-- no drive letter behind a base's host
+fits_drive : (base : Option Url) (path : List ℕ)
+    → (class_in base None ≡ File → HasHost base None None → starts_with_drive path ≡ false) → FitsDrive base path
+fits_drive None path drive = tt
+fits_drive (Some url) path drive = drive
+
+-- ---- forms that a test of the path decides
+
+absolute_form : (base : Option Url) (parts : Parts) → parts.form ≡ PathAbsolute → HasNoAuthority parts
+    → IsPathAbsolute parts.segments parts.path_text → FitsDrive base parts.path_text → FitsForm base parts.form parts
+absolute_form base parts form a b d = subst (λ (f : Form). FitsForm base f parts) (sym form) (a, b, d)
+
+relative_form : (base : Option Url) (parts : Parts) → parts.form ≡ PathRelative → HasNoAuthority parts
+    → IsPathRelative parts.segments parts.path_text → parts.path_text ≢ [] → starts_with_scheme parts.path_text ≡ false
+    → FitsForm base parts.form parts
+relative_form base parts form a b d e = subst (λ (f : Form). FitsForm base f parts) (sym form) (a, b, d, e)
+
+path_form : (base : Option Url) (parts : Parts) → parts.form ≡ SchemePath → HasNoAuthority parts
+    → scheme_class (scheme_in base parts) ≡ Other → IsPathAbsolute parts.segments parts.path_text → FitsForm base parts.form parts
+path_form base parts form a b d = subst (λ (f : Form). FitsForm base f parts) (sym form) (a, b, d)
+
+opaque_form : (base : Option Url) (parts : Parts) → parts.form ≡ SchemeOpaque → HasNoAuthority parts
+    → scheme_class (scheme_in base parts) ≡ Other → IsOpaquePath parts.path_text → parts.segments ≡ [] → FitsForm base parts.form parts
+opaque_form base parts form a b d e = subst (λ (f : Form). FitsForm base f parts) (sym form) (a, b, d, e)
+
+-- the segments of a known form
+known_segments : (form other : Form) (path : List ℕ) (P : List (List ℕ) → Type 0) → form ≡ other → P (segments_in other path)
+    → P (segments_in form path)
+known_segments form other path P same holds = subst (λ (f : Form). P (segments_in f path)) (sym same) holds
+
+-- ---- the parts of the theorem
+
+form_fits : (base : Option Url) (text : List ℕ) (scheme host_text port_text : Option (List ℕ)) (path : List ℕ)
+    (query fragment : Option (List ℕ)) (host : Option Host) (port : Option ℕ)
+    → IsCut base text (cut_with scheme host_text port_text path query fragment)
+    → IsStarted base text (cut_with scheme host_text port_text path query fragment)
+    → FitsHostPart base (cut_with scheme host_text port_text path query fragment) host
+    → FitsPortPart base (cut_with scheme host_text port_text path query fragment) port
+    → IsQuiet base (cut_with scheme host_text port_text path query fragment)
+    → is_without question_mark path ≡ true
+    → FitsForm base (form_with (is_some scheme) (is_some host_text) path)
+    (built (cut_with scheme host_text port_text path query fragment) host port)
+form_fits base text (Some scheme) (Some host_text) port_text path query fragment host port is started fits_host fits_port q none =
+    has_authority base text (Some scheme) host_text port_text path query fragment host port is fits_host fits_port q none refl
+form_fits base text None (Some host_text) port_text path query fragment host port is started fits_host fits_port q none =
+    has_authority base text None host_text port_text path query fragment host port is fits_host fits_port q none refl
+form_fits base text (Some scheme) None port_text path query fragment host port is started fits_host fits_port q none =
+    let a = no_authority base text (Some scheme) port_text path query fragment host port is fits_host fits_port in
+    let other = other_scheme base text scheme port_text path query fragment started in
+    elim (cases_Bool (starts_with_slash path)) [
+      | inl start ↦
+          let form : form_with true false path ≡ SchemePath = rw start refl in
+          path_form base _ form a other
+          (known_segments (form_with true false path) SchemePath path (λ s. IsPathAbsolute s path) form
+          (path_absolute path q.path none start q.one_slash))
+      | inr start ↦
+          let form : form_with true false path ≡ SchemeOpaque = rw start refl in
+          opaque_form base _ form a other (pieces path, path_relative path q.path none start)
+          (ap (λ f. segments_in f path) form)
+    ]
+form_fits base text None None port_text [] query fragment host port is started fits_host fits_port q none =
+    (no_authority base text None port_text [] query fragment host port is fits_host fits_port, refl, refl)
+form_fits base text None None port_text (c ∷ rest) query fragment host port is started fits_host fits_port q none =
+    let a = no_authority base text None port_text (c ∷ rest) query fragment host port is fits_host fits_port in
+    let some : (c ∷ rest) ≢ [] = λ same. cc in
+    elim (cases_Bool (starts_with_slash (c ∷ rest))) [
+      | inl start ↦
+          let form : form_with false false (c ∷ rest) ≡ PathAbsolute = rw start refl in
+          absolute_form base _ form a
+          (known_segments (form_with false false (c ∷ rest)) PathAbsolute (c ∷ rest) (λ s. IsPathAbsolute s (c ∷ rest)) form
+          (path_absolute (c ∷ rest) q.path none start q.one_slash))
+          (fits_drive base (c ∷ rest) q.drive)
+      | inr start ↦
+          let form : form_with false false (c ∷ rest) ≡ PathRelative = rw start refl in
+          relative_form base _ form a
+          (known_segments (form_with false false (c ∷ rest)) PathRelative (c ∷ rest) (λ s. IsPathRelative s (c ∷ rest)) form
+          (relative_path (c ∷ rest) some q.path none start))
+          some is.scheme
+    ]
+
+-- a form with a scheme has one
+scheme_fits : (scheme host_text : Option (List ℕ)) (path middle : List ℕ) → IsSchemeCut scheme middle
+    → FitsScheme (has_scheme (form_with (is_some scheme) (is_some host_text) path)) scheme
+scheme_fits (Some scheme) (Some host_text) path middle is = is
+scheme_fits None (Some host_text) path middle is = refl
+scheme_fits (Some scheme) None path middle is = elim (cases_Bool (starts_with_slash path)) [
+  | inl start ↦ rw start is
+  | inr start ↦ rw start is
+]
+scheme_fits None None [] middle is = refl
+scheme_fits None None (c ∷ rest) middle is = elim (cases_Bool (starts_with_slash (c ∷ rest))) [
+  | inl start ↦ rw start refl
+  | inr start ↦ rw start refl
+]
+
+-- ---- the base
+
+-- a text that begins with `#` is a fragment alone
+number_sign_first : (front : List ℕ) (fragment : Option (List ℕ)) → is_without number_sign front ≡ true
+    → starts_with_number_sign (front ++ written_behind number_sign fragment) ≡ true → (front ≡ []) × IsSome fragment
+number_sign_first [] None none start = absurd (false≢true start)
+number_sign_first [] (Some fragment) none start = (refl, refl)
+number_sign_first (c ∷ front) fragment none start =
+    absurd (false≢true (sym (is_without-cons number_sign c front none).0 ∙ start))
+
+no_front : (xs ys : List ℕ) → xs ++ ys ≡ [] → (xs ≡ []) × (ys ≡ [])
+no_front [] ys same = (refl, same)
+no_front (x ∷ xs) ys same = absurd cc
+
+nothing_behind : (mark : ℕ) (text : Option (List ℕ)) → written_behind mark text ≡ [] → text ≡ None
+nothing_behind mark None same = refl
+nothing_behind mark (Some text) same = absurd cc
+
+no_authority_text : (host_text port_text : Option (List ℕ)) → written_authority host_text port_text ≡ [] → host_text ≡ None
+no_authority_text None port_text same = refl
+no_authority_text (Some host_text) port_text same = absurd cc
+
+-- nothing stands before the fragment
+empty_front : (cut : Cut) → cut.scheme ≡ None → written_front cut ≡ []
+    → (form_of cut ≡ NoPath) × (cut.query ≡ None)
+empty_front cut scheme same =
+    let front = no_front (written_start cut) (written_behind question_mark cut.query) same in
+    let start = no_front (written_scheme cut.scheme) (written_middle cut) front.0 in
+    let middle = no_front (written_authority cut.host_text cut.port_text) cut.path_text start.1 in
+    let host = no_authority_text cut.host_text cut.port_text middle.0 in
+    (rw (scheme, host, middle.1) refl, nothing_behind question_mark cut.query front.1)
+
+scheme_there : (scheme : Option (List ℕ)) → (scheme ≡ None → ⊥) → IsSome scheme
+scheme_there None some = absurd (some refl)
+scheme_there (Some scheme) some = refl
+
+scheme_or_none : (scheme : Option (List ℕ)) → IsSome scheme ⊎ (scheme ≡ None)
+scheme_or_none None = inr refl
+scheme_or_none (Some scheme) = inl refl
+
+-- a text without a scheme fits its base
+base_fits : (base : Option Url) (text : List ℕ) (cut : Cut) (host : Option Host) (port : Option ℕ) → IsCut base text cut
+    → IsStarted base text cut → FitsBase base (built cut host port)
+base_fits None text cut host port is started = scheme_there cut.scheme (λ none. started 0 NoScheme (none, refl, refl))
+base_fits (Some url) text cut host port is started = elim (scheme_or_none cut.scheme) [
+  | inl some ↦ inl some
+  | inr none ↦ elim (cases_Bool (is_opaque url.path)) [
+    | inr other ↦ inr (inl other)
+    | inl opaque ↦ elim (cases_Bool (starts_with_number_sign text)) [
+      | inr other ↦ absurd (started 0 OpaqueBase (none, opaque, other, refl))
+      | inl start ↦
+          let f = number_sign_first (written_front cut) cut.fragment is.front
+          (subst (λ (t : List ℕ). starts_with_number_sign t ≡ true) is.whole start) in
+          let e = empty_front cut none f.0 in
+          inr (inr (e.0, e.1, f.1))
+    ]
+  ]
+]
+
+pub valid_built : (base : Option Url) (text : List ℕ) (cut : Cut) (host : Option Host) (port : Option ℕ)
+    → IsCut base text cut → IsStarted base text cut → FitsHostPart base cut host → FitsPortPart base cut port
+    → IsLeast (FromPathStart base cut) None → Valid base text (built cut host port)
+valid_built base text cut host port is started fits_host fits_port silent =
+    let q = quiet base cut silent in
+    record {
+      whole = is.whole ∙ sym (written_as_cut (built cut host port));
+      scheme = scheme_fits cut.scheme cut.host_text cut.path_text (written_middle cut) is.scheme;
+      against = base_fits base text cut host port is started;
+      form = form_fits base text cut.scheme cut.host_text cut.port_text cut.path_text cut.query cut.fragment host port
+          is started fits_host fits_port q (path_without base text cut is);
+      query = q.query;
+      fragment = q.fragment;
+    }

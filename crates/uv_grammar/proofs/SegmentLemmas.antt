@@ -1,0 +1,119 @@
+-- The segments of a path are URL-path-segment strings, and joined by `/` they are the path.
+use Rattle.std.proofs.Common.{◌≡◌, ◌≢◌, ℕ, List, [], ◌∷◌, ◌++◌, Bool, true, false, refl, sym, ap, ◌∙◌, inl, inr, eqb-true, subst}
+use Rattle.std.specs.Prelude.{◌==◌, ◌⊎◌, ◌&&◌, if◌then◌else◌}
+use Rattle.std.specs.List.{join_with_byte, onto_first}
+use Rattle.std.proofs.lemmas.Bool.{and_parts, cases_Bool, false≢true}
+use Rattle.std.proofs.lemmas.List.Splits.{join_with_byte-slice_split}
+use Rattle.uv_model.specs.Ascii.{question_mark, slash}
+use Rattle.uv_model.specs.Cut.{starts_with_two_slashes}
+use Rattle.uv_model.specs.Path.{AreSegments, IsPathAbsolute, IsPathRelative, IsSegment, is_without, starts_with_slash}
+use Rattle.uv_model.specs.Units.{IsUnits, is_faultless, is_unit_at}
+use Rattle.uv_model.proofs.MarkLemmas.{is_without-cons, is_without-more}
+use Rattle.uv_model.proofs.UnitsLemmas.{IsUnits-faultless, IsUnits-nil, is_faultless-units, is_unit_at-mark}
+use Rattle.uv_grammar.specs.Built.{pieces, segments_of}
+use Rattle.uv_grammar.proofs.PieceLemmas.{relative_segments}
+use Rattle.uv_grammar.proofs.TestLemmas.{and_true}
+
+-- the first text between slashes: the whole text, or what stands before the first slash
+record SplitsFirst (text : List ℕ) : Type 0 where
+  first : List ℕ
+  others : List (List ℕ)
+  is : pieces text ≡ first ∷ others
+  whole : (text ≡ first) ⊎ ((tail : List ℕ) × (text ≡ first ++ slash ∷ tail))
+
+splits_first : (text : List ℕ) → SplitsFirst text
+splits_first [] = record { first = []; others = []; is = refl; whole = inl refl }
+splits_first (c ∷ rest) = elim (cases_Bool (c == slash)) [
+  | inl same ↦ record {
+    first = [];
+    others = pieces rest;
+    is = rw same refl;
+    whole = inr (rest, ap (λ x. x ∷ rest) (eqb-true c slash same));
+  }
+  | inr other ↦
+      let s = splits_first rest in
+      record { first = c ∷ s.first; others = s.others; is = rw (other, s.is) refl; whole = more c rest s.first s.whole }
+]
+  where
+    more : (c : ℕ) (rest first : List ℕ) → (rest ≡ first) ⊎ ((tail : List ℕ) × (rest ≡ first ++ slash ∷ tail))
+        → (c ∷ rest ≡ c ∷ first) ⊎ ((tail : List ℕ) × (c ∷ rest ≡ (c ∷ first) ++ slash ∷ tail))
+    more c rest first (inl same) = inl (ap (λ s. c ∷ s) same)
+    more c rest first (inr (tail, same)) = inr (tail, ap (λ s. c ∷ s) same)
+
+-- a code point that is no fault before the whole text is none before its first part
+unit_before : (c : ℕ) (rest first : List ℕ) → (rest ≡ first) ⊎ ((tail : List ℕ) × (rest ≡ first ++ slash ∷ tail))
+    → is_unit_at c rest ≡ true → is_unit_at c first ≡ true
+unit_before c rest first (inl same) unit = rw (← same) unit
+unit_before c rest first (inr (tail, same)) unit =
+    sym (is_unit_at-mark slash c first tail refl) ∙ (ap (is_unit_at c) (sym same) ∙ unit)
+
+-- the segment that a code point other than `/` begins
+segment_more : (c : ℕ) (rest : List ℕ) (s : SplitsFirst rest) → (c == slash) ≡ false → (c == question_mark) ≡ false
+    → is_unit_at c rest ≡ true → AreSegments (pieces rest) → AreSegments (onto_first c (pieces rest))
+segment_more c rest s other no_question unit each =
+    let parts = rw s.is at each in
+    let here : is_unit_at c s.first ≡ true = unit_before c rest s.first s.whole unit in
+    rw s.is (
+      record {
+        units = IsUnits-faultless (c ∷ s.first) (and_true here (is_faultless-units s.first parts.0.units));
+        no_slash = is_without-more slash c s.first other parts.0.no_slash;
+        no_question_mark = is_without-more question_mark c s.first no_question parts.0.no_question_mark;
+      },
+      parts.1,
+    )
+
+empty_segment : IsSegment []
+empty_segment = record { units = IsUnits-nil; no_slash = refl; no_question_mark = refl }
+
+-- the texts between the slashes of units without `?` are segments
+pieces_segments : (text : List ℕ) → is_faultless text ≡ true → is_without question_mark text ≡ true → AreSegments (pieces text)
+pieces_segments [] units none = (empty_segment, tt)
+pieces_segments (c ∷ rest) units none =
+    let parts = and_parts (is_unit_at c rest) (is_faultless rest) units in
+    let without = is_without-cons question_mark c rest none in
+    let later = pieces_segments rest parts.1 without.1 in
+    elim (cases_Bool (c == slash)) [
+      | inl same ↦ rw same (empty_segment, later)
+      | inr other ↦ rw other (segment_more c rest (splits_first rest) other without.0 parts.0 later)
+    ]
+
+-- a path that doesn't begin with `/`
+pub path_relative : (text : List ℕ) → IsUnits text → is_without question_mark text ≡ true → starts_with_slash text ≡ false
+    → IsPathRelative (pieces text) text
+path_relative text units none start =
+    let s = splits_first text in
+    record {
+      joins = record {
+        first = s.first;
+        others = s.others;
+        some = s.is;
+        each = pieces_segments text (is_faultless-units text units) none;
+        joined = sym (join_with_byte-slice_split slash text);
+      };
+      start = start;
+    }
+
+-- what follows one `/` doesn't begin with another
+one_slash : (c : ℕ) (rest : List ℕ) → c ≡ slash → starts_with_two_slashes (c ∷ rest) ≡ false → starts_with_slash rest ≡ false
+one_slash c [] first two = refl
+one_slash c (d ∷ rest) first two = rw first at two
+
+-- a path that begins with one `/`
+pub path_absolute : (text : List ℕ) → IsUnits text → is_without question_mark text ≡ true → starts_with_slash text ≡ true
+    → starts_with_two_slashes text ≡ false → IsPathAbsolute (segments_of text) text
+path_absolute [] units none start two = absurd (false≢true start)
+path_absolute (c ∷ rest) units none start two =
+    let first : c ≡ slash = eqb-true c slash start in
+    let behind : IsUnits rest
+    = IsUnits-faultless rest (and_parts (is_unit_at c rest) (is_faultless rest) (is_faultless-units (c ∷ rest) units)).1 in
+    rw start (record {
+      behind = rest;
+      slashed = ap (λ x. x ∷ rest) first;
+      relative = path_relative rest behind (is_without-cons question_mark c rest none).1 (one_slash c rest first two);
+    })
+
+-- the segments of a path that isn't empty and doesn't begin with `/`
+pub relative_path : (text : List ℕ) → text ≢ [] → IsUnits text → is_without question_mark text ≡ true → starts_with_slash text ≡ false
+    → IsPathRelative (segments_of text) text
+relative_path text some units none start =
+    subst (λ (s : List (List ℕ)). IsPathRelative s text) (relative_segments text some start) (path_relative text units none start)

@@ -1,0 +1,21 @@
+-- The least refusal of the path, or of what follows it.
+use Rattle.std.proofs.Common.{◌≡◌, ℕ, List, Some, None, ap, subst}
+use Rattle.uv_model.specs.Complaint.{Behind}
+use Rattle.uv_model.specs.Cut.{Cut, path_place}
+use Rattle.uv_model.specs.Refusal.{IsLeast}
+use Rattle.uv_model.specs.UnitComplaint.{UnitComplaint}
+use Rattle.uv_model.proofs.RefusedLemmas.{path_passes, path_refuses}
+use Rattle.uv_grammar.proofs.faults.fault_from_path.Goals as goal
+
+pub returns-in-Some : goal.returns-in-Some
+returns-in-Some c =
+    path_refuses c.args.cut.now c.in-Some.refusal
+    (subst (λ (text : List ℕ). IsLeast (Behind (path_place c.args.cut.now) (UnitComplaint text)) (Some c.in-Some.refusal))
+    (ap (λ (cut : Cut). cut.path_text) c.cut.view_is) (rw c.path_place.ensures at c.in-Some.ensures))
+
+pub returns-in-None : goal.returns-in-None
+returns-in-None c =
+    path_passes c.args.cut.now c.fault_from_query.result
+    (subst (λ (text : List ℕ). IsLeast (Behind (path_place c.args.cut.now) (UnitComplaint text)) None)
+    (ap (λ (cut : Cut). cut.path_text) c.cut.view_is) (rw c.path_place.ensures at c.in-None.ensures))
+    c.fault_from_query.ensures

@@ -1,0 +1,43 @@
+-- The verdict on a text against a base, after the URL Standard, section 4.3.
+use Rattle.std.specs.Prelude.{◌≡◌, ℕ, List, Option, Some, None}
+use Rattle.uv_grammar.specs.declared.checker.Verdict.{Verdict}
+use Rattle.uv_grammar.specs.declared.checker.Verdict.TheVariants.{Yes, No}
+use Rattle.uv_grammar.specs.Built.{built}
+use Rattle.uv_grammar.specs.Later.{FromHost, FromPathStart, FromPort}
+use Rattle.uv_grammar.specs.PartAnswers.{FitsHostPart, FitsPortPart}
+use Rattle.uv_model.specs.declared.host.Host.{Host}
+use Rattle.uv_model.specs.declared.rule.Refusal.{Refusal}
+use Rattle.uv_model.specs.declared.rule.Rule.{Rule}
+use Rattle.uv_model.specs.Complaint.{Complaint}
+use Rattle.uv_model.specs.Cut.{Cut}
+use Rattle.uv_model.specs.Parts.{Parts}
+use Rattle.uv_model.specs.Refusal.{IsLeast}
+use Rattle.uv_model.specs.Url.{Url}
+use Rattle.uv_model.specs.Valid.{Valid}
+
+-- the text is valid with these parts and no complaint of it holds
+pub record IsAccepted (base : Option Url) (text : List ℕ) (parts : Parts) : Type 0 where
+  pub valid : Valid base text parts
+  pub silent : IsLeast (Complaint base text) None
+
+-- the verdict: the parts of a valid text, or the least complaint of one that isn't
+abbrev pub IsVerdict : Option Url → List ℕ → Verdict → Type 0
+IsVerdict base text (Yes parts) = IsAccepted base text parts
+IsVerdict base text (No refusal) = IsLeast (Complaint base text) (Some refusal)
+
+-- ---- verdicts on a cut text
+
+-- the parts are built from the cut, a valid host and a valid port, and none of its complaints holds
+pub record IsBuilt (base : Option Url) (cut : Cut) (parts : Parts) : Type 0 where
+  pub host : Option Host
+  pub port : Option ℕ
+  pub built : parts ≡ built cut host port
+  pub fits_host : FitsHostPart base cut host
+  pub fits_port : FitsPortPart base cut port
+  pub silent : IsLeast (FromPathStart base cut) None
+  pub silent_whole : IsLeast (FromHost base cut) None
+
+-- the verdict on a cut text that begins well
+abbrev pub IsCutVerdict : Option Url → Cut → Verdict → Type 0
+IsCutVerdict base cut (Yes parts) = IsBuilt base cut parts
+IsCutVerdict base cut (No refusal) = IsLeast (FromHost base cut) (Some refusal)
