@@ -135,7 +135,8 @@ port_cut-written Other host_text port_text is =
     port_behind-written false host_text port_text (ends_from_start host_text port_text is)
 
 -- the computed host and port are a cut
-pub host_cut-is : (kind : Class) (authority : List ℕ) → IsHostCut kind (host_cut kind authority) (port_cut kind authority)
+pub host_cut-is : (kind : Class) (authority : List ℕ)
+    → IsHostCut kind (host_cut kind authority) (port_cut kind authority)
 host_cut-is File authority = refl
 host_cut-is Special authority = ends_at_port _ _ (host_before-ends false authority)
 host_cut-is Other authority = ends_at_port _ _ (host_before-ends false authority)

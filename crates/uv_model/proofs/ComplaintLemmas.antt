@@ -208,6 +208,7 @@ port_part_ends cut = go cut.scheme cut.host_text cut.port_text cut.path_text cut
           inl (omega (arith, h.moved)));
     }
 
+-- and they begin behind the host, by rule 9 or 10
 pub port_part_begins : (cut : Cut) → Begins (PortPartComplaint cut) (host_end cut) 9
 port_part_begins cut = go cut.scheme cut.host_text cut.port_text cut.path_text cut.query cut.fragment
   where
@@ -230,6 +231,7 @@ path_start_ends base cut = record {
       (let bounds = path_start_bounds base cut h.inner rule h.holds in inr (omega (arith, h.moved), bounds.2));
 }
 
+-- and they begin with the path, by rule 11 or 12
 pub path_start_begins : (base : Option Url) (cut : Cut)
     → Begins (Behind (path_place cut) (PathStartComplaint base cut)) (path_place cut) 11
 path_start_begins base cut = record {
@@ -244,6 +246,7 @@ held_ends start text = record {
       (let bounds = unit_complaint_bounds text h.inner rule h.holds in inl (omega (arith, h.moved)));
 }
 
+-- and they begin at that place, by rule 13 or 14
 pub held_begins : (start : ℕ) (text : List ℕ) → Begins (Behind start (UnitComplaint text)) start 13
 held_begins start text = record {
   from = λ place rule h.
