@@ -52,19 +52,8 @@ module _ (base : Option Url) (segments : List (List ℕ)) (path : List ℕ) (que
   -- from the scheme's `:` to the host
   file_starts : (scheme rest : List ℕ) (k : ℕ) (url : Url) → scheme_class scheme ≡ File
       → Ends base FileHostState (file_held host.Empty) rest k url
-     
-     
-     
-     
-     
-     
-     
-     
-     
-     
-     
-     
-      → Ends base SchemeState (with_more (lowercase scheme) empty_held) (colon ∷ slash ∷ slash ∷ rest) (suc (suc (suc k))) url
+      → Ends base SchemeState (with_more (lowercase scheme) empty_held) (colon ∷ slash ∷ slash ∷ rest)
+      (suc (suc (suc k))) url
   file_starts scheme rest k url kind ends =
       ends_step base {s₁ = FileState} {h₁ = scheme_held scheme}
       (λ p. colon_row base scheme (slash ∷ slash ∷ rest) p ∙ rw kind refl)
@@ -73,19 +62,8 @@ module _ (base : Option Url) (segments : List (List ℕ)) (path : List ℕ) (que
 
   -- from behind the host to the end
   file_path_ends : (value : Host)
-     
-     
-     
-     
-     
-     
-     
-     
-     
-     
-     
-     
-      → Ends base PathStartState (file_held value) (path ++ tail query fragment) (length path + (length (tail query fragment) + 2))
+      → Ends base PathStartState (file_held value) (path ++ tail query fragment)
+      (length path + (length (tail query fragment) + 2))
       (file_url value segments query fragment)
   file_path_ends value =
       path_start_ends base query fragment query_units fragment_units segments path (file_held value) segmented
@@ -135,7 +113,8 @@ file_host_there base parts text query fragment (no_text, none, inl (value, is, v
         path = path;
         letters = parsed.read.letters;
         ends =
-            file_host_ends base parts.segments parts.path_text parts.query parts.fragment path query fragment text value parsed;
+            file_host_ends base parts.segments parts.path_text parts.query parts.fragment path query
+            fragment text value parsed;
       },
     )
 file_host_there base parts text query fragment (no_text, none, inr (empty, valued, path)) = (
@@ -191,7 +170,8 @@ file_runs base text parts scheme host_text value valid form is named given kind 
       url = file_url value parts.segments parts.query parts.fragment;
       named = is;
       ends = rw whole
-          (file_starts base parts.segments parts.path_text parts.query parts.fragment has.path valid.query valid.fragment
+          (file_starts base parts.segments parts.path_text parts.query parts.fragment has.path valid.query
+          valid.fragment
           scheme _ _ _ kind has.ends);
       few =
           omega (arith, length-append rest (tail parts.query parts.fragment), length-append host_text parts.path_text);
