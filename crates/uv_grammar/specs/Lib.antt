@@ -2,6 +2,7 @@ pub mod Built
 pub mod Form
 pub mod HostAnswer
 pub mod Later
+pub mod Laws
 pub mod PartAnswers
 pub mod PortAnswer
 pub mod Seen

@@ -15,19 +15,25 @@ use Rattle.uv_model.specs.Refusal.{IsLeast}
 use Rattle.uv_model.specs.Url.{Url}
 use Rattle.uv_model.specs.Valid.{Valid}
 
--- the text is valid with these parts and no complaint of it holds
+-- the text is valid with these parts and with no others, and no complaint of it holds
 pub record IsAccepted (base : Option Url) (text : List ℕ) (parts : Parts) : Type 0 where
   pub valid : Valid base text parts
-  pub silent : IsLeast (Complaint base text) None
+  pub only : (other : Parts) → Valid base text other → other ≡ parts
+  pub silent : (place : ℕ) (rule : Rule) → ¬ (Complaint base text place rule)
+
+-- the refusal is the least complaint of the text, which is valid with no parts
+pub record IsRefused (base : Option Url) (text : List ℕ) (refusal : Refusal) : Type 0 where
+  pub least : IsLeast (Complaint base text) (Some refusal)
+  pub none : (parts : Parts) → ¬ (Valid base text parts)
 
 -- the verdict: the parts of a valid text, or the least complaint of one that isn't
 abbrev pub IsVerdict : Option Url → List ℕ → Verdict → Type 0
 IsVerdict base text (Yes parts) = IsAccepted base text parts
-IsVerdict base text (No refusal) = IsLeast (Complaint base text) (Some refusal)
+IsVerdict base text (No refusal) = IsRefused base text refusal
 
 -- ---- verdicts on a cut text
 
--- the parts are built from the cut, a valid host and a valid port, and none of its complaints holds
+-- the parts are built from the cut, a valid host and a valid port, and no complaint of what follows them holds
 pub record IsBuilt (base : Option Url) (cut : Cut) (parts : Parts) : Type 0 where
   pub host : Option Host
   pub port : Option ℕ
@@ -35,7 +41,6 @@ pub record IsBuilt (base : Option Url) (cut : Cut) (parts : Parts) : Type 0 wher
   pub fits_host : FitsHostPart base cut host
   pub fits_port : FitsPortPart base cut port
   pub silent : IsLeast (FromPathStart base cut) None
-  pub silent_whole : IsLeast (FromHost base cut) None
 
 -- the verdict on a cut text that begins well
 abbrev pub IsCutVerdict : Option Url → Cut → Verdict → Type 0

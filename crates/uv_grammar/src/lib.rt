@@ -8,6 +8,7 @@ mod cut;
 mod faults;
 mod form;
 mod host;
+pub mod laws;
 mod marks;
 mod parts;
 mod places;

@@ -5,7 +5,7 @@ use Rattle.std.specs.Str.{chars}
 use Rattle.std.proofs.lemmas.Result.{IfOk-weaker}
 use Rattle.uv_model.proofs.RefusedLemmas.{refused_at_start}
 use Rattle.uv_grammar.specs.Verdict.{IsCutVerdict, IsVerdict}
-use Rattle.uv_grammar.proofs.VerdictLemmas.{countable, verdict_of_cut}
+use Rattle.uv_grammar.proofs.VerdictLemmas.{countable, refused, verdict_of_cut}
 use Rattle.uv_grammar.proofs.checker.check.Goals as goal
 
 pub start_fault-requires : goal.start_fault-requires
@@ -16,7 +16,9 @@ judge-requires c = countable c.args.text.now c.cut_text-cut.result c.utf8.text (
 
 pub returns-in-Some : goal.returns-in-Some
 returns-in-Some c =
-    refused_at_start (option_copied c.args.base) (chars c.args.text.now) c.cut_text-cut.result c.in-Some.refusal c.cut_text-cut.ensures c.in-Some.ensures
+    refused (option_copied c.args.base) (chars c.args.text.now) c.in-Some.refusal
+    (refused_at_start (option_copied c.args.base) (chars c.args.text.now) c.cut_text-cut.result c.in-Some.refusal
+    c.cut_text-cut.ensures c.in-Some.ensures)
 
 pub returns-in-None : goal.returns-in-None
 returns-in-None c =

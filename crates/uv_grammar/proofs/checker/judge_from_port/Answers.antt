@@ -1,5 +1,5 @@
 -- The verdict behind a valid host.
-use Rattle.std.proofs.Common.{None, Some}
+use Rattle.std.proofs.Common.{Some}
 use Rattle.std.specs.Prelude.{option_copied}
 use Rattle.uv_model.proofs.RefusedLemmas.{host_passes, port_passes, port_refuses}
 use Rattle.uv_grammar.proofs.checker.judge_from_port.Goals as goal
@@ -22,6 +22,4 @@ returns-in_ok-build-in-None c = record {
   fits_host = c.requires.host;
   fits_port = c.in-Valid.ensures.0;
   silent = c.in-None.ensures;
-  silent_whole = host_passes (option_copied c.args.base) c.args.cut None c.requires.silent
-      (port_passes (option_copied c.args.base) c.args.cut None c.in-Valid.ensures.1 c.in-None.ensures);
 }
