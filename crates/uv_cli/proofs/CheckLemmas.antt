@@ -1,0 +1,35 @@
+-- What a check says: the parser's silence by the class of the scheme, and the base by its text.
+use Rattle.std.proofs.Common.{◌≡◌, ℕ, true, refl, List, Option, Some, None}
+use Rattle.std.specs.Borrow.{Bor}
+use Rattle.uv_model.specs.declared.scheme.Class.{Class}
+use Rattle.uv_model.specs.declared.scheme.Class.TheVariants.{Special, File, Other}
+use Rattle.uv_model.specs.Parts.{Parts, has_scheme}
+use Rattle.uv_model.specs.Scheme.{scheme_class}
+use Rattle.uv_model.specs.Silent.{RunsSilently}
+use Rattle.uv_model.specs.Url.{Url}
+use Rattle.uv_model.specs.Valid.{scheme_in}
+use Rattle.uv_model.specs.Valid as valid
+use Rattle.uv_model.proofs.SilentFile.{file_silent}
+use Rattle.uv_model.proofs.SilentTexts.{other_silent, special_silent}
+use Rattle.uv_cli.specs.declared.check.CheckEnd.{CheckEnd}
+use Rattle.uv_cli.specs.declared.check.CheckEnd.TheVariants.{Valid, Refused, BaseRefused}
+use Rattle.uv_cli.specs.Check.{HasWritten, IsBase, WritesWhole}
+
+-- the whole that was written against the URL of the base
+pub written_against : (base : Option (Bor (List ℕ))) (url : Option Url) (text : List ℕ) (old new : Option (List ℕ))
+    (end : CheckEnd)
+    → IsBase base url → WritesWhole url text end old new → HasWritten base text end old new
+written_against base url text old new Valid is written = (url, is, written)
+written_against base url text old new Refused is written = (url, is, written)
+written_against base url text old new (BaseRefused refusal) is written = absurd written.says
+
+silent_by : (kind : Class) (base : Option Url) (text : List ℕ) (parts : Parts) → valid.Valid base text parts
+    → has_scheme parts.form ≡ true → scheme_class (scheme_in base parts) ≡ kind → RunsSilently base text parts
+silent_by Special base text parts valid has is = special_silent base text parts valid has is
+silent_by File base text parts valid has is = file_silent base text parts valid has is
+silent_by Other base text parts valid has is = other_silent base text parts valid has is
+
+-- the parser is silent on each valid text with a scheme
+pub scheme_silent : (base : Option Url) (text : List ℕ) (parts : Parts) → valid.Valid base text parts
+    → has_scheme parts.form ≡ true → RunsSilently base text parts
+scheme_silent base text parts valid has = silent_by (scheme_class (scheme_in base parts)) base text parts valid has refl

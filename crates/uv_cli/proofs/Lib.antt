@@ -1,0 +1,4 @@
+mod CheckLemmas
+mod ReportLemmas
+mod ResolverLemmas
+mod WalkLemmas

@@ -1,0 +1,13 @@
+-- The segments so far have been walked, each as if it weren't the last.
+use Rattle.std.proofs.Common.{◌≡◌, ℕ, List, map, take}
+use Rattle.std.specs.Str.{chars}
+use Rattle.std.specs.Borrow.{Bor}
+use Rattle.uv_cli.proofs.WalkLemmas.{steps, ends_in_dots}
+use Rattle.uv_cli.proofs.walker.walk.Given as goal
+
+abbrev pub invariant-loop-segment : goal.invariant-loop-segment
+invariant-loop-segment l = record {
+  walked : l.path.items
+      ≡ steps l.fn.kind l.initial.path.items (map (λ s. chars s.now) (take l.segment-index l.segments));
+  dots : l.ends_in_dots ≡ ends_in_dots (map (λ s. chars s.now) (take l.segment-index l.segments));
+}

@@ -1,0 +1,4 @@
+pub mod Check
+pub mod CheckText
+pub mod Statuses
+pub mod Walk

@@ -1,0 +1,105 @@
+//! The check of one text, alone or against a base.
+ghost use Rattle.std.specs.Prelude.{◌≡◌, ◌+◌, ◌-◌, ◌^◌, ◌<◌, ℕ, List, Option, Some, None, IfOk, OnOk, OnErr, chars, option_copied, string_bytes, take};
+ghost use Rattle.std.specs.Io.KnownBytes.{Appends};
+ghost use Rattle.uv_model.specs.WellFormed.{MayBeWellFormed};
+ghost use Rattle.uv_cli.specs.Check.{HasWritten, HasWrittenFront, IsAnswer, Says, WritesFront, WritesWhole};
+
+use crate::fault::CliFault;
+use crate::report::{check_lines, refused_line};
+use crate::resolver::denoted;
+use std::alloc::{AllocError, Global};
+use uv_grammar::{Verdict, check};
+use uv_model::{DeviceFault, Record, Refusal, Sink, write_whole};
+
+/// How a check ends.
+#[derive(Clone, Copy, Debug, PartialEq, Eq)]
+pub enum CheckEnd {
+    /// The text is valid, and the lines of its record were written.
+    Valid,
+    /// The text is refused, and the line of its refusal was written.
+    Refused,
+    /// The base's text is refused alone, for this reason. Nothing was written.
+    BaseRefused(Refusal),
+}
+
+/// Checks a text, alone or against a base, and writes what it says of it.
+///
+/// The base is resolved alone, before the text is looked at. A fault of memory leaves the output as it was; a fault
+/// of a write leaves a beginning of what was to be written.
+pub fn run_check<S: Sink>(
+    alloc: Global,
+    text: &str,
+    base: Option<&str>,
+    out: &mut S,
+) -> Result<CheckEnd, CliFault>
+    requires { S.failed out.old < 2 ^ 64 - 1 }
+    ensures written { IfOk result (λ end. HasWritten base.entry (chars text.now) end
+        (S.contents out.old) (S.contents out.new)) }
+    ensures base_refused { (refusal : Refusal) → result ≡ Ok (CheckEnd.BaseRefused refusal)
+        → out.new ≡ out.old }
+    ensures memory { result ≡ Err CliFault.Memory → out.new ≡ out.old }
+    ensures front { result ≡ Err CliFault.Write → HasWrittenFront base.entry (chars text.now)
+        (S.contents out.old) (S.contents out.new) }
+    ensures failed { result ≡ Err CliFault.Write → S.failed out.new ≡ S.failed out.old + 1 }
+{
+    let Some(base) = base else {
+        return check_against(alloc, text, None, out);
+    };
+    match answer_of(alloc, base, None)? {
+        Answer::Url(base) => check_against(alloc, text, Some(&base), out),
+        Answer::No(refusal) => Ok(CheckEnd::BaseRefused(refusal)),
+    }
+}
+
+// Checks a text against a record as base, and writes what it says of it.
+fn check_against<S: Sink>(
+    alloc: Global,
+    text: &str,
+    base: Option<&Record>,
+    out: &mut S,
+) -> Result<CheckEnd, CliFault>
+    requires can_fail { S.failed out.old < 2 ^ 64 - 1 }
+    requires base { MayBeWellFormed (option_copied base) }
+    ensures written { IfOk result (λ end. WritesWhole (option_copied base.entry) (chars text.now) end
+        (S.contents out.old) (S.contents out.new)) }
+    ensures memory { result ≡ Err CliFault.Memory → out.new ≡ out.old }
+    ensures front { result ≡ Err CliFault.Write → WritesFront (option_copied base.entry) (chars text.now)
+        (S.contents out.old) (S.contents out.new) }
+    ensures failed { result ≡ Err CliFault.Write → S.failed out.new ≡ S.failed out.old + 1 }
+{
+    let (end, whole) = said(alloc, text, base)?;
+    match write_whole(out, whole.as_bytes()) {
+        Ok(()) => Ok(end),
+        Err(DeviceFault) => Err(CliFault::Write),
+    }
+}
+
+// What a check says of a text against a record as base, and how it ends.
+fn said(alloc: Global, text: &str, base: Option<&Record>) -> Result<(CheckEnd, String), AllocError>
+    requires { MayBeWellFormed (option_copied base) }
+    ensures { IfOk result (λ r.
+        Says (option_copied base.entry) (chars text.now) r.0 (string_bytes r.1)) }
+{
+    match answer_of(alloc, text, base)? {
+        Answer::Url(url) => Ok((CheckEnd::Valid, check_lines(alloc, &url)?)),
+        Answer::No(refusal) => Ok((CheckEnd::Refused, refused_line(alloc, refusal)?)),
+    }
+}
+
+/// What a text denotes against a base, or why it is refused.
+#[derive(Drop)]
+enum Answer {
+    Url(Record),
+    No(Refusal),
+}
+
+// The record that a text denotes against a base, or its refusal.
+fn answer_of(alloc: Global, text: &str, base: Option<&Record>) -> Result<Answer, AllocError>
+    requires { MayBeWellFormed (option_copied base) }
+    ensures { IfOk result (IsAnswer (option_copied base.entry) (chars text.now)) }
+{
+    match check(alloc, text, base)? {
+        Verdict::Yes(parts) => Ok(Answer::Url(denoted(alloc, &parts, base)?)),
+        Verdict::No(refusal) => Ok(Answer::No(refusal)),
+    }
+}

@@ -1,0 +1,16 @@
+//! The commands of the program `urlcheck`, over any output.
+#![tactic(auto)]
+
+mod check;
+mod fault;
+pub mod program;
+mod report;
+mod resolver;
+mod walker;
+mod words;
+
+pub use check::{CheckEnd, run_check};
+pub use fault::CliFault;
+
+#[cfg(test)]
+mod tests;
