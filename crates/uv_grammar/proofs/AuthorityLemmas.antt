@@ -1,10 +1,9 @@
 -- Lemmas on the `:` of a port in the bytes of an authority and in its code points.
-use Rattle.std.proofs.Common.{◌≡◌, ◌≢◌, ℕ, suc, ◌+◌, ◌<◌, ◌≤◌, List, [], ◌∷◌, ◌++◌, Bool, true, false, cond, not, length, take, drop, refl, sym, ap, ◌∙◌, inl, inr, arith, get_or, Option, Some, None, lit<, le-ltb, lt-ltb, ne_eqb, append-nil, subst}
-use Rattle.std.specs.Prelude.{◌==◌, ◌&&◌, ◌⊎◌, if◌then◌else◌, option_map, slice_range, IsSome}
+use Rattle.std.proofs.Common.{◌≡◌, ◌≢◌, ℕ, ◌+◌, ◌<◌, ◌≤◌, List, [], ◌∷◌, ◌++◌, Bool, true, false, not, drop, refl, sym, ap, ◌∙◌, inl, inr, arith, Option, Some, None, lit<, le-ltb, lt-ltb, ne_eqb, append-nil}
+use Rattle.std.specs.Prelude.{◌⊎◌, if◌then◌else◌, option_map, slice_range, IsSome}
 use Rattle.std.specs.Char.{encode_utf8}
 use Rattle.std.specs.Str.{chars, IsUtf8, IsCharBoundary}
 use Rattle.std.proofs.lemmas.Bool.{cases_lt, cases_Bool, false≢true}
-use Rattle.std.proofs.lemmas.Bool.Decides.{nat_tests}
 use Rattle.std.proofs.lemmas.Str.{encode_ascii, encodes-chars, encodes_same, IsCharBoundary-after_ascii}
 use Rattle.std.proofs.Math.Utf8.{encodes, encode}
 use Rattle.uv_grammar.specs.Sides.{IsPortMark, SplitsHost, SplitsScheme}

@@ -1,21 +1,19 @@
 -- The parts built from a cut without a complaint are valid.
-use Rattle.std.proofs.Common.{◌≡◌, ◌≢◌, ℕ, List, [], ◌∷◌, ◌++◌, Bool, true, false, Option, Some, None, refl, sym, ap, ◌∙◌, subst, inl, inr}
-use Rattle.std.specs.Prelude.{◌⊎◌, ◌==◌, ◌+◌, IsSome, is_some, if◌then◌else◌}
+use Rattle.std.proofs.Common.{◌≡◌, ◌≢◌, ℕ, List, [], ◌∷◌, ◌++◌, true, false, Option, Some, None, refl, sym, ap, ◌∙◌, subst, inl, inr}
+use Rattle.std.specs.Prelude.{◌⊎◌, ◌+◌, IsSome, is_some}
 use Rattle.std.proofs.lemmas.Bool.{cases_Bool, false≢true}
 use Rattle.uv_model.specs.declared.host.Host.{Host}
-use Rattle.uv_model.specs.declared.host.Host.TheVariants.{Empty}
 use Rattle.uv_model.specs.declared.rule.Rule.{Rule}
 use Rattle.uv_model.specs.declared.rule.Rule.TheVariants.{NoScheme, OpaqueBase, TwoSlashes, FirstSegmentEmpty, DriveAfterHost}
 use Rattle.uv_model.specs.declared.scheme.Class.{Class}
 use Rattle.uv_model.specs.declared.scheme.Class.TheVariants.{Special, File, Other}
 use Rattle.uv_model.specs.Ascii.{number_sign, question_mark}
-use Rattle.uv_model.specs.Complaint.{HasHost, MayBeUnitComplaint, IsStarted, PathStartComplaint, StartComplaint, starts_with_number_sign}
-use Rattle.uv_model.specs.Cut.{Cut, IsCut, IsHostCut, IsSchemeCut, class_in, path_place, query_place, fragment_place, starts_with_two_slashes, texts_of, written_cut, written_front, written_middle, written_start}
-use Rattle.uv_model.specs.Parts.{Form, NoPath, Parts, PathAbsolute, PathRelative, SchemeOpaque, SchemePath, has_scheme, written, written_authority, written_behind, written_scheme}
+use Rattle.uv_model.specs.Complaint.{HasHost, MayBeUnitComplaint, IsStarted, starts_with_number_sign}
+use Rattle.uv_model.specs.Cut.{Cut, IsCut, IsHostCut, IsSchemeCut, class_in, path_place, query_place, fragment_place, starts_with_two_slashes, written_front, written_middle, written_start}
+use Rattle.uv_model.specs.Parts.{Form, NoPath, Parts, PathAbsolute, PathRelative, SchemeOpaque, SchemePath, has_scheme, written_authority, written_behind, written_scheme}
 use Rattle.uv_model.specs.Path.{IsPathAbsolute, IsPathRelative, is_without, starts_with_drive, starts_with_slash}
 use Rattle.uv_model.specs.Refusal.{IsLeast}
-use Rattle.uv_model.specs.Scheme.{is_scheme, scheme_class}
-use Rattle.uv_model.specs.UnitComplaint.{UnitComplaint}
+use Rattle.uv_model.specs.Scheme.{scheme_class}
 use Rattle.uv_model.specs.Units.{IsUnits}
 use Rattle.uv_model.specs.Url.{Url, is_opaque}
 use Rattle.uv_model.specs.Valid.{FitsAuthority, FitsBase, FitsDrive, FitsForm, HasAuthority, HasNoAuthority, IsOpaqueHostText, IsOpaquePath, FitsScheme, MayBePathAbsolute, MayBePortText, MayBeUnits, Valid, port_given, scheme_in, scheme_or, starts_with_scheme}
@@ -24,7 +22,7 @@ use Rattle.uv_model.proofs.MarkLemmas.{is_without-cons, is_without-parts}
 use Rattle.uv_model.proofs.UnitComplaintLemmas.{units_uncomplained}
 use Rattle.uv_model.proofs.ValidCutLemmas.{written_as_cut}
 use Rattle.uv_grammar.specs.Built.{built, form_of, form_with, pieces, segments_in, segments_of}
-use Rattle.uv_grammar.specs.HostAnswer.{FitsHeld, FitsHost, MayBeEmpty}
+use Rattle.uv_grammar.specs.HostAnswer.{FitsHost}
 use Rattle.uv_grammar.specs.Later.{FromPathStart}
 use Rattle.uv_grammar.specs.PartAnswers.{FitsHostPart, FitsPortPart}
 use Rattle.uv_grammar.proofs.SegmentLemmas.{path_absolute, path_relative, relative_path}

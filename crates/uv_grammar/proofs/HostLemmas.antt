@@ -1,7 +1,7 @@
 -- Lemmas on the complaints and the values of hosts.
-use Rattle.std.proofs.Common.{◌≡◌, ◌≢◌, ℕ, ◌≤◌, List, [], ◌∷◌, Bool, true, false, drop, refl, sym, ap, ◌∙◌, subst, inl, inr, arith, Option, Some, None, Ok, Err, Result, zero, suc, eqb-true}
+use Rattle.std.proofs.Common.{◌≡◌, ◌≢◌, ℕ, List, [], ◌∷◌, Bool, true, false, drop, refl, sym, ap, ◌∙◌, subst, inl, inr, arith, Option, Some, None, zero, suc, eqb-true}
 use Rattle.std.proofs.Math.Nat.{le_refl}
-use Rattle.std.specs.Prelude.{codes, ◌==◌, ◌⊎◌, ◌↔◌, IsTrue, length, not}
+use Rattle.std.specs.Prelude.{codes, ◌==◌, ◌↔◌, IsTrue, length, not}
 use Rattle.std.specs.Str.{bytes_eq, chars, IsUtf8}
 use Rattle.std.proofs.lemmas.Str.{chars-nil, encodes-chars}
 use Rattle.std.proofs.Math.Utf8.{encodes}
@@ -12,26 +12,24 @@ use Rattle.std.proofs.lemmas.Slice.Eq.{bytes_eq-Decides}
 use Rattle.uv_model.specs.declared.host.Host.{Host}
 use Rattle.uv_model.specs.declared.host.Host.TheVariants.{Domain, V4, V6, Opaque, Empty}
 use Rattle.uv_model.specs.declared.rule.Rule.{Rule}
-use Rattle.uv_model.specs.declared.rule.Rule.TheVariants.{NoScheme, OpaqueBase, TwoSlashes, HostMissing, HostDomain, HostNumber, HostIpv6, HostCodePoint, PortDigit, PortRange, FirstSegmentEmpty, DriveAfterHost, CodePoint, Percent}
-use Rattle.uv_model.specs.declared.rule.Refusal.{Refusal}
+use Rattle.uv_model.specs.declared.rule.Rule.TheVariants.{HostMissing, HostDomain, HostNumber, HostIpv6, HostCodePoint, Percent}
 use Rattle.uv_model.specs.declared.scheme.Class.{Class}
 use Rattle.uv_model.specs.declared.scheme.Class.TheVariants.{Special, File, Other}
 use Rattle.uv_host.specs.OpaqueHosts.{IsOpaqueHostOrEmpty}
 use Rattle.uv_model.specs.Address.{IsBracketedIpv6}
-use Rattle.uv_model.specs.Complaint.{HeldHostComplaint, HostComplaint, HostTextComplaint, LacksHost, ShouldBeDomain}
+use Rattle.uv_model.specs.Complaint.{HeldHostComplaint, HostComplaint, HostTextComplaint, LacksHost}
 use Rattle.uv_model.specs.Domain.{IsDomain, has_permitted, is_permitted}
 use Rattle.uv_model.specs.Ascii.{left_bracket, percent_sign}
 use Rattle.uv_model.specs.OpaqueHost.{IsOpaqueHost, starts_with_bracket}
-use Rattle.uv_model.specs.Path.{starts_with_slash}
 use Rattle.uv_model.specs.Refusal.{IsLeast}
 use Rattle.uv_model.specs.Rule.{rule_number}
-use Rattle.uv_model.specs.Valid.{IsFileHostText, IsHostText, IsOpaqueHostText}
+use Rattle.uv_model.specs.Valid.{IsFileHostText, IsHostText}
 use Rattle.uv_model.proofs.AddressUniqueness.{ipv4_no_bracket, bracketed_bracket}
-use Rattle.uv_model.proofs.DomainLemmas.{domain_no_number, form_unique}
+use Rattle.uv_model.proofs.DomainLemmas.{domain_no_number}
 use Rattle.uv_model.proofs.RefusalLemmas.{IsLeast-like}
 use Rattle.uv_grammar.specs.declared.host.HostAnswer.{HostAnswer}
 use Rattle.uv_grammar.specs.declared.host.HostAnswer.TheVariants.{Valid, Refused}
-use Rattle.uv_grammar.specs.HostAnswer.{FitsHeld, IsHeldAnswer, IsHostAnswer, MayBeEmpty, file_host}
+use Rattle.uv_grammar.specs.HostAnswer.{IsHeldAnswer, IsHostAnswer, file_host}
 
 -- ---- the empty host
 

@@ -1,15 +1,14 @@
 -- Lemmas on the code points of the two sides of an ASCII mark.
-use Rattle.std.proofs.Common.{◌≡◌, ℕ, ◌+◌, ◌<◌, ◌≤◌, List, [], ◌∷◌, ◌++◌, Bool, true, false, cond, length, take, drop, refl, sym, ap, ◌∙◌, subst, arith, get_or, Some, lit<, ◌≢◌, ne_eqb, append-nil, add-one, suc}
-use Rattle.std.specs.Prelude.{◌==◌, if◌then◌else◌, Option, None, MatchOption, slice_range}
+use Rattle.std.proofs.Common.{◌≡◌, ℕ, ◌+◌, ◌<◌, List, [], ◌∷◌, ◌++◌, true, false, length, take, drop, refl, sym, ap, ◌∙◌, subst, arith, get_or, Some, lit<, ◌≢◌, ne_eqb, append-nil, add-one, suc}
+use Rattle.std.specs.Prelude.{◌==◌, Option, None, MatchOption, slice_range}
 use Rattle.std.specs.Str.{chars, IsUtf8, NoCharPasses, NonePass}
-use Rattle.std.proofs.lemmas.Str.{chars-nil, chars-append, chars_past_char, chars_from_encodes, chars-IsAscii, IsUtf8-from_ascii, IsUtf8-take, IsUtf8-drop, IsCharBoundary-before_ascii, IsCharBoundary-after_ascii}
+use Rattle.std.proofs.lemmas.Str.{chars-nil, chars-append, chars_from_encodes, chars-IsAscii, IsUtf8-from_ascii, IsUtf8-take, IsUtf8-drop, IsCharBoundary-before_ascii, IsCharBoundary-after_ascii}
 use Rattle.std.specs.Borrow.{Bor}
 use Rattle.std.proofs.lemmas.Str.Pattern.{IsSplitOnceResult}
 use Rattle.std.proofs.lemmas.Str.Ascii.{IsAscii-cons}
 use Rattle.std.proofs.lemmas.List.{length-append, take-append-drop}
 use Rattle.std.proofs.Math.Seq.{drop-cons, take-append_seam, drop-append-add, drop-length}
 use Rattle.std.proofs.lemmas.Grind.{common_steps}
-use Rattle.std.proofs.Math.Utf8.{encodes}
 use Rattle.uv_model.specs.Ascii.{slash}
 use Rattle.uv_model.specs.Path.{is_without, starts_with_slash}
 use Rattle.uv_grammar.specs.Sides.{SplitsAtSlash}

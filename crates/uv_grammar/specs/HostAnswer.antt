@@ -6,9 +6,7 @@ use Rattle.uv_grammar.specs.declared.host.HostAnswer.TheVariants as answer
 use Rattle.uv_grammar.specs.declared.host.TextAnswer.{TextAnswer}
 use Rattle.uv_grammar.specs.declared.host.TextAnswer.TheVariants.{Value, Fault}
 use Rattle.uv_model.specs.declared.host.Host.{Host}
-use Rattle.uv_model.specs.declared.host.Host.TheVariants.{Domain, V4, V6, Opaque, Empty}
-use Rattle.uv_model.specs.declared.rule.Rule.{Rule}
-use Rattle.uv_model.specs.declared.rule.Refusal.{Refusal}
+use Rattle.uv_model.specs.declared.host.Host.TheVariants.{Domain, Empty}
 use Rattle.uv_model.specs.declared.scheme.Class.{Class}
 use Rattle.uv_model.specs.declared.scheme.Class.TheVariants.{Special, File, Other}
 use Rattle.uv_model.specs.Complaint.{HeldHostComplaint, HostComplaint, HostTextComplaint}

@@ -3,7 +3,7 @@ use Rattle.std.specs.Prelude.{◌≡◌, ℕ, List, Option, Some, None}
 use Rattle.uv_grammar.specs.declared.checker.Verdict.{Verdict}
 use Rattle.uv_grammar.specs.declared.checker.Verdict.TheVariants.{Yes, No}
 use Rattle.uv_grammar.specs.Built.{built}
-use Rattle.uv_grammar.specs.Later.{FromHost, FromPathStart, FromPort}
+use Rattle.uv_grammar.specs.Later.{FromHost, FromPathStart}
 use Rattle.uv_grammar.specs.PartAnswers.{FitsHostPart, FitsPortPart}
 use Rattle.uv_model.specs.declared.host.Host.{Host}
 use Rattle.uv_model.specs.declared.rule.Refusal.{Refusal}

@@ -75,3 +75,6 @@ fn judge_from_port<'t>(
         None => Ok(Verdict::Yes(build(alloc, cut, host, port)?)),
     }
 }
+
+#[cfg(test)]
+mod tests;

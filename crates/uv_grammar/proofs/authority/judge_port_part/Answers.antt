@@ -1,5 +1,5 @@
 -- The answer on a valid port.
-use Rattle.std.proofs.Common.{◌≡◌, ◌∙◌, Option, ℕ, None, Some, ap, sym}
+use Rattle.std.proofs.Common.{◌∙◌, ap, sym}
 use Rattle.std.specs.Prelude.{option_copied}
 use Rattle.std.specs.Str.{chars}
 use Rattle.uv_model.specs.Cut.{Cut}

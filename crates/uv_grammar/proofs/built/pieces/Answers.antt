@@ -1,5 +1,5 @@
 -- The slices between the slashes are the texts between the slashes.
-use Rattle.std.proofs.Common.{◌≡◌, List, ℕ, map, lit<}
+use Rattle.std.proofs.Common.{◌≡◌, map, lit<}
 use Rattle.std.specs.Prelude.{◌==◌}
 use Rattle.std.specs.List.{slice_split}
 use Rattle.std.specs.Str.{chars}

@@ -1,5 +1,5 @@
 -- The class of a base's scheme, and of none.
-use Rattle.std.proofs.Common.{◌∙◌, ap, sym, refl}
+use Rattle.std.proofs.Common.{◌∙◌, ap, refl}
 use Rattle.std.proofs.lemmas.Str.{chars-IsAscii}
 use Rattle.uv_model.specs.Scheme.{default_port, scheme_class}
 use Rattle.uv_grammar.proofs.cut.class_against.Goals as goal

@@ -1,5 +1,5 @@
 -- The least refusal of the path, or of what follows it.
-use Rattle.std.proofs.Common.{◌≡◌, ℕ, List, Some, None, ap, subst}
+use Rattle.std.proofs.Common.{ℕ, List, Some, None, ap, subst}
 use Rattle.uv_model.specs.Complaint.{Behind}
 use Rattle.uv_model.specs.Cut.{Cut, path_place}
 use Rattle.uv_model.specs.Refusal.{IsLeast}

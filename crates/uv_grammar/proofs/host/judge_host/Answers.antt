@@ -1,5 +1,5 @@
 -- The answer on a host by the class.
-use Rattle.std.proofs.Common.{◌∙◌, Some, None, sym}
+use Rattle.std.proofs.Common.{◌∙◌, sym}
 use Rattle.std.specs.Str.{chars}
 use Rattle.std.proofs.lemmas.Result.{IfOk-weaker}
 use Rattle.uv_model.specs.declared.scheme.Class.TheVariants.{Special, File, Other}
