@@ -32,8 +32,12 @@ AreBeyond-encode c high =
     elim (cases_lt c 2048) [
       | inl two ↦ rw (le-ltb c 128 high, lt-ltb c 2048 two) (omega arith, (omega arith, tt))
       | inr more ↦ elim (cases_lt c 65536) [
-        | inl three ↦ rw (le-ltb c 128 high, le-ltb c 2048 more, lt-ltb c 65536 three) (omega arith, (omega arith, (omega arith, tt)))
-        | inr four ↦ rw (le-ltb c 128 high, le-ltb c 2048 more, le-ltb c 65536 four) (omega arith, (omega arith, (omega arith, (omega arith, tt))))
+        | inl three ↦
+            rw (le-ltb c 128 high, le-ltb c 2048 more, lt-ltb c 65536 three)
+            (omega arith, (omega arith, (omega arith, tt)))
+        | inr four ↦
+            rw (le-ltb c 128 high, le-ltb c 2048 more, le-ltb c 65536 four)
+            (omega arith, (omega arith, (omega arith, (omega arith, tt))))
       ]
     ]
 
@@ -52,7 +56,8 @@ host_before-beyond : (within : Bool) (bs rest : List ℕ) → AreBeyond bs
     → host_before within (bs ++ rest) ≡ bs ++ host_before within rest
 host_before-beyond within [] rest high = refl
 host_before-beyond within (b ∷ bs) rest high =
-    rw (no_mark within b high.0, no_bracket within b high.0) (ap (λ s. b ∷ s) (host_before-beyond within bs rest high.1))
+    rw (no_mark within b high.0, no_bracket within b high.0)
+    (ap (λ s. b ∷ s) (host_before-beyond within bs rest high.1))
 
 port_behind-beyond : (within : Bool) (bs rest : List ℕ) → AreBeyond bs
     → port_behind within (bs ++ rest) ≡ port_behind within rest
@@ -64,8 +69,16 @@ host_before-encodes : (within : Bool) (cs : List ℕ) → host_before within (en
 host_before-encodes within [] = refl
 host_before-encodes within (c ∷ cs) =
     elim (cases_lt c 128) [
-      | inl small ↦ rw (encode_ascii c small) (host_step (is_port_mark within c) c small _ (host_before-encodes (is_within within c) cs))
-      | inr high ↦ rw (host_before-beyond within (encode c) (encodes cs) (AreBeyond-encode c high), no_mark within c high, no_bracket within c high)
+      | inl small ↦
+          rw (encode_ascii c small)
+          (host_step (is_port_mark within c) c small _ (host_before-encodes (is_within within c) cs))
+      | inr high ↦
+          rw (
+            host_before-beyond within (encode c) (encodes cs)
+                (AreBeyond-encode c high),
+            no_mark within c high,
+            no_bracket within c high,
+          )
           (ap (λ s. encode c ++ s) (host_before-encodes within cs))
     ]
   where
@@ -74,12 +87,21 @@ host_before-encodes within (c ∷ cs) =
     host_step true c small ys e = refl
     host_step false c small ys e = rw (encode_ascii c small) (ap (λ s. c ∷ s) e)
 
-port_behind-encodes : (within : Bool) (cs : List ℕ) → port_behind within (encodes cs) ≡ option_map encodes (port_behind within cs)
+port_behind-encodes : (within : Bool) (cs : List ℕ)
+    → port_behind within (encodes cs) ≡ option_map encodes (port_behind within cs)
 port_behind-encodes within [] = refl
 port_behind-encodes within (c ∷ cs) =
     elim (cases_lt c 128) [
-      | inl small ↦ rw (encode_ascii c small) (port_step (is_port_mark within c) cs _ (port_behind-encodes (is_within within c) cs))
-      | inr high ↦ rw (port_behind-beyond within (encode c) (encodes cs) (AreBeyond-encode c high), no_mark within c high, no_bracket within c high)
+      | inl small ↦
+          rw (encode_ascii c small)
+          (port_step (is_port_mark within c) cs _ (port_behind-encodes (is_within within c) cs))
+      | inr high ↦
+          rw (
+            port_behind-beyond within (encode c) (encodes cs)
+                (AreBeyond-encode c high),
+            no_mark within c high,
+            no_bracket within c high,
+          )
           (port_behind-encodes within cs)
     ]
   where
@@ -89,7 +111,8 @@ port_behind-encodes within (c ∷ cs) =
     port_step false cs ys e = e
 
 -- the host of the code points is that of the bytes
-pub host_before-chars : (bytes : List ℕ) → IsUtf8 bytes → host_before false bytes ≡ encodes (host_before false (chars bytes))
+pub host_before-chars : (bytes : List ℕ) → IsUtf8 bytes
+    → host_before false bytes ≡ encodes (host_before false (chars bytes))
 host_before-chars bytes utf8 =
     ap (λ s. host_before false s) (sym (encodes-chars bytes utf8)) ∙ host_before-encodes false (chars bytes)
 
@@ -106,7 +129,8 @@ option_none : (o : Option (List ℕ)) → None ≡ option_map encodes o → None
 option_none None same = refl
 option_none (Some text) same = absurd cc
 
-option_some : (o : Option (List ℕ)) (bytes : List ℕ) → IsUtf8 bytes → Some bytes ≡ option_map encodes o → Some (chars bytes) ≡ o
+option_some : (o : Option (List ℕ)) (bytes : List ℕ) → IsUtf8 bytes → Some bytes ≡ option_map encodes o
+    → Some (chars bytes) ≡ o
 option_some None bytes utf8 same = absurd cc
 option_some (Some text) bytes utf8 same =
     let spelled : encodes (chars bytes) ≡ encodes text = encodes-chars bytes utf8 ∙ cc in
@@ -135,7 +159,8 @@ host_alone bytes utf8 mark =
     )
 
 -- behind the `:` of a port the authority may be cut
-pub mark_boundary : (bytes : List ℕ) (end : ℕ) → IsUtf8 bytes → IsPortMark bytes (Some end) → IsCharBoundary bytes (end + 1)
+pub mark_boundary : (bytes : List ℕ) (end : ℕ) → IsUtf8 bytes → IsPortMark bytes (Some end)
+    → IsCharBoundary bytes (end + 1)
 mark_boundary bytes end utf8 mark =
     IsCharBoundary-after_ascii bytes end utf8 mark.0 (rw mark.1 (lit< tt))
 
@@ -161,7 +186,8 @@ no_scheme_alone text none =
     elim (cases_Bool (starts_with_scheme text)) [
       | inl starts ↦
           let s = splits_at_scheme text starts in
-          absurd (false≢true (sym (has_mark colon s.scheme s.rest) ∙ (ap (λ t. is_without colon t) (sym s.joined) ∙ none)))
+          absurd (false≢true (sym (has_mark colon s.scheme s.rest)
+          ∙ (ap (λ t. is_without colon t) (sym s.joined) ∙ none)))
       | inr other ↦ other
     ]
 

@@ -32,7 +32,8 @@ use Rattle.uv_grammar.proofs.SegmentLemmas.{path_absolute, path_relative, relati
 -- the path's start, the path, the query and the fragment have no complaint
 record IsQuiet (base : Option Url) (cut : Cut) : Type 0 where
   one_slash : starts_with_two_slashes cut.path_text ≡ false
-  drive : class_in base cut.scheme ≡ File → HasHost base cut.scheme cut.host_text → starts_with_drive cut.path_text ≡ false
+  drive : class_in base cut.scheme ≡ File → HasHost base cut.scheme cut.host_text
+      → starts_with_drive cut.path_text ≡ false
   path : IsUnits cut.path_text
   query : MayBeUnits cut.query
   fragment : MayBeUnits cut.fragment
@@ -41,27 +42,34 @@ no_complaint_units : (start : ℕ) (text : Option (List ℕ))
     → ((place : ℕ) (rule : Rule) → MayBeUnitComplaint start text place rule → ⊥) → MayBeUnits text
 no_complaint_units start None none = tt
 no_complaint_units start (Some text) none =
-    units_uncomplained text (λ place rule h. none (start + place) rule (record { inner = place; moved = refl; holds = h }))
+    units_uncomplained text
+    (λ place rule h. none (start + place) rule (record { inner = place; moved = refl; holds = h }))
 
 -- from no complaint to what it says
 quiet : (base : Option Url) (cut : Cut) → IsLeast (FromPathStart base cut) None → IsQuiet base cut
 quiet base cut none = record {
   one_slash = elim (cases_Bool (starts_with_two_slashes cut.path_text)) [
-    | inl two ↦ absurd (none (path_place cut + 1) FirstSegmentEmpty (inl (record { inner = 1; moved = refl; holds = (two, refl) })))
+    | inl two ↦
+        absurd (none (path_place cut + 1) FirstSegmentEmpty
+        (inl (record { inner = 1; moved = refl; holds = (two, refl) })))
     | inr other ↦ other
   ];
   drive = λ file host. elim (cases_Bool (starts_with_drive cut.path_text)) [
-    | inl drive ↦ absurd (none (path_place cut + 0) DriveAfterHost (inl (record { inner = 0; moved = refl; holds = (file, host, drive, refl) })))
+    | inl drive ↦
+        absurd (none (path_place cut + 0) DriveAfterHost
+        (inl (record { inner = 0; moved = refl; holds = (file, host, drive, refl) })))
     | inr other ↦ other
   ];
   path = units_uncomplained cut.path_text
-      (λ place rule h. none (path_place cut + place) rule (inr (inl (record { inner = place; moved = refl; holds = h }))));
+      (λ place rule h. none (path_place cut + place) rule
+      (inr (inl (record { inner = place; moved = refl; holds = h }))));
   query = no_complaint_units (query_place cut) cut.query (λ place rule h. none place rule (inr (inr (inl h))));
   fragment = no_complaint_units (fragment_place cut) cut.fragment (λ place rule h. none place rule (inr (inr (inr h))));
 }
 
 -- the path of a cut text holds no `?`
-path_without : (base : Option Url) (text : List ℕ) (cut : Cut) → IsCut base text cut → is_without question_mark cut.path_text ≡ true
+path_without : (base : Option Url) (text : List ℕ) (cut : Cut) → IsCut base text cut
+    → is_without question_mark cut.path_text ≡ true
 path_without base text cut is =
     let middle = (is_without-parts question_mark (written_scheme cut.scheme) (written_middle cut) is.start).1 in
     (is_without-parts question_mark (written_authority cut.host_text cut.port_text) cut.path_text middle).1
@@ -69,13 +77,15 @@ path_without base text cut is =
 -- ---- paths
 
 -- behind an authority the path is empty or absolute
-path_behind : (path : List ℕ) → (path ≢ [] → starts_with_slash path ≡ true) → starts_with_two_slashes path ≡ false → IsUnits path
+path_behind : (path : List ℕ) → (path ≢ [] → starts_with_slash path ≡ true) → starts_with_two_slashes path ≡ false
+    → IsUnits path
     → is_without question_mark path ≡ true → MayBePathAbsolute (segments_of path) path
 path_behind [] start one units none = inl (refl, refl)
 path_behind (c ∷ rest) start one units none = inr (path_absolute (c ∷ rest) units none (start (λ e. cc)) one)
 
 -- a path that begins with `/` isn't empty
-absolute_path : (segments : List (List ℕ)) (path : List ℕ) → MayBePathAbsolute segments path → starts_with_slash path ≡ true
+absolute_path : (segments : List (List ℕ)) (path : List ℕ) → MayBePathAbsolute segments path
+    → starts_with_slash path ≡ true
     → IsPathAbsolute segments path
 absolute_path segments path (inl (empty, none)) start = absurd (false≢true (rw empty at start))
 absolute_path segments path (inr is) start = is
@@ -90,15 +100,17 @@ authority_fits : (kind : Class) (scheme host_text : List ℕ) (parts : Parts) (h
     → (kind ≡ File → host_text ≢ [] → starts_with_drive parts.path_text ≡ false)
     → FitsAuthority kind scheme host_text parts
 authority_fits Special scheme host_text parts None same (inl (some, fits)) cut port_text port path drive = absurd fits
-authority_fits Special scheme host_text parts (Some value) same (inl (some, fits)) cut port_text port path drive = record {
-  value = value;
-  host = fits;
-  valued = same;
-  port_text = port_text;
-  port = port;
-  path = path;
-}
-authority_fits Special scheme host_text parts host same (inr (empty, is, may)) cut port_text port path drive = absurd may
+authority_fits Special scheme host_text parts (Some value) same (inl (some, fits)) cut port_text port path drive =
+    record {
+      value = value;
+      host = fits;
+      valued = same;
+      port_text = port_text;
+      port = port;
+      path = path;
+    }
+authority_fits Special scheme host_text parts host same (inr (empty, is, may)) cut port_text port path drive =
+    absurd may
 authority_fits File scheme host_text parts None same (inl (some, fits)) cut port_text port path drive = absurd fits
 authority_fits File scheme host_text parts (Some value) same (inl (some, fits)) cut port_text port path drive =
     (cut, port ∙ ap (port_given scheme) cut, inl (value, fits, same, path, drive refl some))
@@ -117,15 +129,18 @@ record IsPort (scheme : List ℕ) (port_text : Option (List ℕ)) (port : Option
   may : MayBePortText port_text
   given : port ≡ port_given scheme port_text
 
-port_facts : (base : Option Url) (scheme : Option (List ℕ)) (host_text : List ℕ) (port_text : Option (List ℕ)) (path : List ℕ)
+port_facts : (base : Option Url) (scheme : Option (List ℕ)) (host_text : List ℕ) (port_text : Option (List ℕ))
+    (path : List ℕ)
     (query fragment : Option (List ℕ)) (port : Option ℕ)
     → FitsPortPart base (cut_with scheme (Some host_text) port_text path query fragment) port
     → IsPort (scheme_or base scheme) port_text port
 port_facts base scheme host_text None path query fragment port fits = record { may = tt; given = fits }
-port_facts base scheme host_text (Some port_text) path query fragment port fits = record { may = fits.0; given = fits.1 }
+port_facts base scheme host_text (Some port_text) path query fragment port fits =
+    record { may = fits.0; given = fits.1 }
 
 -- an authority fits the form of the text
-has_authority : (base : Option Url) (text : List ℕ) (scheme : Option (List ℕ)) (host_text : List ℕ) (port_text : Option (List ℕ))
+has_authority : (base : Option Url) (text : List ℕ) (scheme : Option (List ℕ)) (host_text : List ℕ)
+    (port_text : Option (List ℕ))
     (path : List ℕ) (query fragment : Option (List ℕ)) (host : Option Host) (port : Option ℕ)
     → IsCut base text (cut_with scheme (Some host_text) port_text path query fragment)
     → FitsHostPart base (cut_with scheme (Some host_text) port_text path query fragment) host
@@ -134,12 +149,15 @@ has_authority : (base : Option Url) (text : List ℕ) (scheme : Option (List ℕ
     → is_without question_mark path ≡ true
     → (built (cut_with scheme (Some host_text) port_text path query fragment) host port).segments ≡ segments_of path
     → HasAuthority base (built (cut_with scheme (Some host_text) port_text path query fragment) host port)
-has_authority base text scheme host_text port_text path query fragment host port is fits_host fits_port q none segments =
+has_authority base text scheme host_text port_text path query fragment host port is fits_host fits_port q none
+    segments =
     let p = port_facts base scheme host_text port_text path query fragment port fits_port in
     authority_fits (class_in base scheme) (scheme_or base scheme) host_text
-    (built (cut_with scheme (Some host_text) port_text path query fragment) host port) host refl fits_host is.authority.2
+    (built (cut_with scheme
+    (Some host_text) port_text path query fragment) host port) host refl fits_host is.authority.2
     p.may p.given
-    (subst (λ (s : List (List ℕ)). MayBePathAbsolute s path) (sym segments) (path_behind path is.authority.1 q.one_slash q.path none))
+    (subst (λ (s : List (List ℕ)). MayBePathAbsolute s path) (sym segments)
+    (path_behind path is.authority.1 q.one_slash q.path none))
     (λ file some. q.drive file some)
 
 -- ---- texts without an authority
@@ -185,15 +203,18 @@ relative_form : (base : Option Url) (parts : Parts) → parts.form ≡ PathRelat
 relative_form base parts form a b d e = subst (λ (f : Form). FitsForm base f parts) (sym form) (a, b, d, e)
 
 path_form : (base : Option Url) (parts : Parts) → parts.form ≡ SchemePath → HasNoAuthority parts
-    → scheme_class (scheme_in base parts) ≡ Other → IsPathAbsolute parts.segments parts.path_text → FitsForm base parts.form parts
+    → scheme_class (scheme_in base parts) ≡ Other → IsPathAbsolute parts.segments parts.path_text
+    → FitsForm base parts.form parts
 path_form base parts form a b d = subst (λ (f : Form). FitsForm base f parts) (sym form) (a, b, d)
 
 opaque_form : (base : Option Url) (parts : Parts) → parts.form ≡ SchemeOpaque → HasNoAuthority parts
-    → scheme_class (scheme_in base parts) ≡ Other → IsOpaquePath parts.path_text → parts.segments ≡ [] → FitsForm base parts.form parts
+    → scheme_class (scheme_in base parts) ≡ Other → IsOpaquePath parts.path_text → parts.segments ≡ []
+    → FitsForm base parts.form parts
 opaque_form base parts form a b d e = subst (λ (f : Form). FitsForm base f parts) (sym form) (a, b, d, e)
 
 -- the segments of a known form
-known_segments : (form other : Form) (path : List ℕ) (P : List (List ℕ) → Type 0) → form ≡ other → P (segments_in other path)
+known_segments : (form other : Form) (path : List ℕ) (P : List (List ℕ) → Type 0) → form ≡ other
+    → P (segments_in other path)
     → P (segments_in form path)
 known_segments form other path P same holds = subst (λ (f : Form). P (segments_in f path)) (sym same) holds
 
@@ -209,9 +230,12 @@ form_fits : (base : Option Url) (text : List ℕ) (scheme host_text port_text : 
     → is_without question_mark path ≡ true
     → FitsForm base (form_with (is_some scheme) (is_some host_text) path)
     (built (cut_with scheme host_text port_text path query fragment) host port)
-form_fits base text (Some scheme) (Some host_text) port_text path query fragment host port is started fits_host fits_port q none =
-    has_authority base text (Some scheme) host_text port_text path query fragment host port is fits_host fits_port q none refl
-form_fits base text None (Some host_text) port_text path query fragment host port is started fits_host fits_port q none =
+form_fits base text (Some scheme)
+    (Some host_text) port_text path query fragment host port is started fits_host fits_port q none =
+    has_authority base text
+    (Some scheme) host_text port_text path query fragment host port is fits_host fits_port q none refl
+form_fits base text None
+    (Some host_text) port_text path query fragment host port is started fits_host fits_port q none =
     has_authority base text None host_text port_text path query fragment host port is fits_host fits_port q none refl
 form_fits base text (Some scheme) None port_text path query fragment host port is started fits_host fits_port q none =
     let a = no_authority base text (Some scheme) port_text path query fragment host port is fits_host fits_port in
@@ -236,13 +260,15 @@ form_fits base text None None port_text (c ∷ rest) query fragment host port is
       | inl start ↦
           let form : form_with false false (c ∷ rest) ≡ PathAbsolute = rw start refl in
           absolute_form base _ form a
-          (known_segments (form_with false false (c ∷ rest)) PathAbsolute (c ∷ rest) (λ s. IsPathAbsolute s (c ∷ rest)) form
+          (known_segments (form_with false false (c ∷ rest)) PathAbsolute (c ∷ rest)
+          (λ s. IsPathAbsolute s (c ∷ rest)) form
           (path_absolute (c ∷ rest) q.path none start q.one_slash))
           (fits_drive base (c ∷ rest) q.drive)
       | inr start ↦
           let form : form_with false false (c ∷ rest) ≡ PathRelative = rw start refl in
           relative_form base _ form a
-          (known_segments (form_with false false (c ∷ rest)) PathRelative (c ∷ rest) (λ s. IsPathRelative s (c ∷ rest)) form
+          (known_segments (form_with false false (c ∷ rest)) PathRelative (c ∷ rest)
+          (λ s. IsPathRelative s (c ∷ rest)) form
           (relative_path (c ∷ rest) some q.path none start))
           some is.scheme
     ]
@@ -280,7 +306,8 @@ nothing_behind : (mark : ℕ) (text : Option (List ℕ)) → written_behind mark
 nothing_behind mark None same = refl
 nothing_behind mark (Some text) same = absurd cc
 
-no_authority_text : (host_text port_text : Option (List ℕ)) → written_authority host_text port_text ≡ [] → host_text ≡ None
+no_authority_text : (host_text port_text : Option (List ℕ)) → written_authority host_text port_text ≡ []
+    → host_text ≡ None
 no_authority_text None port_text same = refl
 no_authority_text (Some host_text) port_text same = absurd cc
 

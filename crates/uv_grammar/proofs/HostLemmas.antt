@@ -55,12 +55,14 @@ nothing_held Other place _ h = absurd h
 
 -- the rules of an empty host are that of a missing one
 pub empty_rule : (kind : Class) (port_text : Option (List ℕ)) (path_text : List ℕ) (place : ℕ) (rule : Rule)
-    → HostComplaint kind [] port_text path_text place rule → (rule ≡ HostMissing) × LacksHost kind [] port_text path_text × (place ≡ 0)
+    → HostComplaint kind [] port_text path_text place rule
+    → (rule ≡ HostMissing) × LacksHost kind [] port_text path_text × (place ≡ 0)
 empty_rule kind port_text path_text place HostMissing h = (refl, h.0, h.1)
 empty_rule kind port_text path_text place rule h = absurd (nothing_held kind place rule h)
 
 -- a missing host
-pub missing_host : (kind : Class) (port_text : Option (List ℕ)) (path_text : List ℕ) → LacksHost kind [] port_text path_text
+pub missing_host : (kind : Class) (port_text : Option (List ℕ)) (path_text : List ℕ)
+    → LacksHost kind [] port_text path_text
     → IsLeast (HostComplaint kind [] port_text path_text) (Some (record { place = 0; rule = HostMissing }))
 missing_host kind port_text path_text lacks = record {
   stands = (lacks, refl);
@@ -69,7 +71,8 @@ missing_host kind port_text path_text lacks = record {
 }
 
 -- an empty host that may be so
-pub empty_silent : (kind : Class) (port_text : Option (List ℕ)) (path_text : List ℕ) → ¬ (LacksHost kind [] port_text path_text)
+pub empty_silent : (kind : Class) (port_text : Option (List ℕ)) (path_text : List ℕ)
+    → ¬ (LacksHost kind [] port_text path_text)
     → IsLeast (HostComplaint kind [] port_text path_text) None
 empty_silent kind port_text path_text not place rule h = not (empty_rule kind port_text path_text place rule h).1
 
@@ -92,13 +95,16 @@ held_to : (kind : Class) (text : List ℕ) (port_text : Option (List ℕ)) (path
 held_to kind text port_text path_text place HostMissing h = absurd (held_not_missing kind text place h)
 held_to kind text port_text path_text place _ h = h
 
-held_from : (kind : Class) (text : List ℕ) (port_text : Option (List ℕ)) (path_text : List ℕ) → text ≢ [] → (place : ℕ) (rule : Rule)
+held_from : (kind : Class) (text : List ℕ) (port_text : Option (List ℕ)) (path_text : List ℕ) → text ≢ []
+    → (place : ℕ) (rule : Rule)
     → HostComplaint kind text port_text path_text place rule → HeldHostComplaint kind text place rule
-held_from kind text port_text path_text some place HostMissing h = absurd (lacks_nothing kind text port_text path_text some h.0)
+held_from kind text port_text path_text some place HostMissing h =
+    absurd (lacks_nothing kind text port_text path_text some h.0)
 held_from kind text port_text path_text some place _ h = h
 
 -- the answer on what a host holds is the answer on the host
-pub held_answer : (kind : Class) (text : List ℕ) (port_text : Option (List ℕ)) (path_text : List ℕ) → text ≢ [] → (answer : HostAnswer)
+pub held_answer : (kind : Class) (text : List ℕ) (port_text : Option (List ℕ)) (path_text : List ℕ) → text ≢ []
+    → (answer : HostAnswer)
     → IsHeldAnswer kind text answer → IsHostAnswer kind text port_text path_text answer
 held_answer kind text port_text path_text some (Valid host) is = (
   inl (some, is.0),
@@ -112,7 +118,8 @@ held_answer kind text port_text path_text some (Refused refusal) is =
 -- ---- the host strings of special and file URLs
 
 -- a text that should be a domain has one fault
-pub one_rule : (text : List ℕ) (rule other : Rule) → HostTextComplaint text rule → HostTextComplaint text other → rule ≡ other
+pub one_rule : (text : List ℕ) (rule other : Rule) → HostTextComplaint text rule → HostTextComplaint text other
+    → rule ≡ other
 one_rule text HostDomain HostDomain h k = refl
 one_rule text HostNumber HostNumber h k = refl
 one_rule text HostIpv6 HostIpv6 h k = refl
@@ -137,7 +144,8 @@ domain_no_bracket (c ∷ rest) form permitted bracket =
     false≢true (rw first at passes)
 
 -- a valid host string violates no rule
-pub valid_text_silent : (text : List ℕ) (host : Host) (rule : Rule) → IsHostText text host → HostTextComplaint text rule → ⊥
+pub valid_text_silent : (text : List ℕ) (host : Host) (rule : Rule) → IsHostText text host
+    → HostTextComplaint text rule → ⊥
 valid_text_silent text (Domain form) HostDomain is h = h.1 form is.0
 valid_text_silent text (Domain form) HostNumber is h = domain_no_number text form is h.1
 valid_text_silent text (Domain form) HostIpv6 is h = domain_no_bracket text form is.0.permitted h.bracket
@@ -164,7 +172,12 @@ fault_least text rule h = record {
 pub file_host_fits : (text : List ℕ) (host : Host) → IsHostText text host → IsFileHostText text (file_host host)
 file_host_fits text (Domain form) is = elim (cases_Bool (bytes_eq form (codes "localhost"))) [
   | inl same ↦ rw same (subst (λ (f : List ℕ). IsDomain text f) ((bytes_eq-Decides form (codes "localhost")).0 same) is)
-  | inr other ↦ rw other (is, not_from_Decides (bytes_eq form (codes "localhost")) (bytes_eq-Decides form (codes "localhost")) other)
+  | inr other ↦
+      rw other (
+        is,
+        not_from_Decides (bytes_eq form (codes "localhost"))
+            (bytes_eq-Decides form (codes "localhost")) other,
+      )
 ]
 file_host_fits text (V4 value) is = is
 file_host_fits text (V6 pieces) is = is
@@ -174,15 +187,18 @@ file_host_fits text Empty is = absurd is
 -- ---- answers on host strings
 
 -- the answer of a special URL
-pub special_answer : (text : List ℕ) (host : Host) → IsHostText text host → IsHeldAnswer Special text (Valid (Some host))
+pub special_answer : (text : List ℕ) (host : Host) → IsHostText text host
+    → IsHeldAnswer Special text (Valid (Some host))
 special_answer text host is = (is, λ place rule h. valid_text_silent text host rule is h.0)
 
 -- the answer of a file URL
-pub file_answer : (text : List ℕ) (host : Host) → IsHostText text host → IsHeldAnswer File text (Valid (Some (file_host host)))
+pub file_answer : (text : List ℕ) (host : Host) → IsHostText text host
+    → IsHeldAnswer File text (Valid (Some (file_host host)))
 file_answer text host is = (file_host_fits text host is, λ place rule h. valid_text_silent text host rule is h.0)
 
 -- the answer of any other URL on an IPv6 text in brackets
-pub bracketed_answer : (text pieces : List ℕ) → IsBracketedIpv6 text pieces → IsHeldAnswer Other text (Valid (Some (V6 pieces)))
+pub bracketed_answer : (text pieces : List ℕ) → IsBracketedIpv6 text pieces
+    → IsHeldAnswer Other text (Valid (Some (V6 pieces)))
 bracketed_answer text pieces is = (is, silent)
   where
     silent : (place : ℕ) (rule : Rule) → HeldHostComplaint Other text place rule → ⊥
@@ -192,7 +208,8 @@ bracketed_answer text pieces is = (is, silent)
     silent place _ h = absurd h
 
 -- a host that is neither empty nor in brackets
-pub opaque_answer : (text : List ℕ) → text ≢ [] → IsOpaqueHostOrEmpty text → ((pieces : List ℕ) → ¬ (IsBracketedIpv6 text pieces))
+pub opaque_answer : (text : List ℕ) → text ≢ [] → IsOpaqueHostOrEmpty text
+    → ((pieces : List ℕ) → ¬ (IsBracketedIpv6 text pieces))
     → IsOpaqueHost text
 opaque_answer text some (inl empty) none = absurd (some empty)
 opaque_answer text some (inr (inl (pieces, is))) none = absurd (none pieces is)

@@ -12,13 +12,15 @@ use Rattle.uv_grammar.specs.PortAnswer.{port_number}
 use Rattle.uv_grammar.proofs.PortLemmas.{port_silent}
 
 -- the port that a text gives is its number, unless that is the default
-given_number : (scheme text : List ℕ) → without_default (default_port scheme) (port_number text) ≡ port_given scheme (Some text)
+given_number : (scheme text : List ℕ)
+    → without_default (default_port scheme) (port_number text) ≡ port_given scheme (Some text)
 given_number scheme [] = refl
 given_number scheme (digit ∷ rest) = refl
 
 -- a valid port is the part of the text
 pub valid_port : (base : Option Url) (cut : Cut) (host_text port_text : List ℕ) (number value : Option ℕ)
-    → cut.host_text ≡ Some host_text → cut.port_text ≡ Some port_text → IsPortText port_text → number ≡ port_number port_text
+    → cut.host_text ≡ Some host_text → cut.port_text ≡ Some port_text → IsPortText port_text
+    → number ≡ port_number port_text
     → value ≡ without_default (default_port (scheme_or base cut.scheme)) number
     → FitsPortPart base cut value × IsLeast (PortPartComplaint cut) None
 valid_port base cut host_text port_text number value host port is numbered given = (

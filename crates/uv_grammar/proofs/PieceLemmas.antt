@@ -40,7 +40,8 @@ pieces_first : (text : List ℕ) → HasFirst (pieces text)
 pieces_first [] = record { first = []; others = []; is = refl }
 pieces_first (c ∷ rest) = elim (cases_Bool (c == slash)) [
   | inl same ↦ record { first = []; others = pieces rest; is = rw same refl }
-  | inr other ↦ let h = pieces_first rest in record { first = c ∷ h.first; others = h.others; is = rw (other, h.is) refl }
+  | inr other ↦ let h =
+      pieces_first rest in record { first = c ∷ h.first; others = h.others; is = rw (other, h.is) refl }
 ]
 
 encode_first : (c : ℕ) (first : List ℕ) (others : List (List ℕ))
@@ -109,7 +110,8 @@ pieces_seen bytes items utf8 same =
 -- ---- forms and segments
 
 -- a path that isn't empty and doesn't begin with `/`
-pub relative_form : (text : List ℕ) → text ≢ [] → starts_with_slash text ≡ false → PathRelative ≡ form_with false false text
+pub relative_form : (text : List ℕ) → text ≢ [] → starts_with_slash text ≡ false
+    → PathRelative ≡ form_with false false text
 relative_form [] some start = absurd (some refl)
 relative_form (c ∷ rest) some start = rw start refl
 

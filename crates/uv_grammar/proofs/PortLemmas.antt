@@ -23,7 +23,8 @@ one_more : (n : ℕ) → suc n ≡ 1 + n
 one_more n = omega arith
 
 -- the first code point that isn't a digit
-foreign_here : (text : List ℕ) → list_all is_ascii_digit text ≡ false → HasForeignDigit text (prefix_len is_ascii_digit text)
+foreign_here : (text : List ℕ) → list_all is_ascii_digit text ≡ false
+    → HasForeignDigit text (prefix_len is_ascii_digit text)
 foreign_here [] other = absurd (false≢true (sym other))
 foreign_here (c ∷ rest) some = elim (cases_Bool (is_ascii_digit c)) [
   | inl digit ↦
@@ -42,7 +43,10 @@ foreign_first (c ∷ rest) zero h =
     rw other (le_refl 0)
 foreign_first (c ∷ rest) (suc place) h = elim (cases_Bool (is_ascii_digit c)) [
   | inl digit ↦
-      let later = foreign_first rest place (record { code_point = h.code_point; rest = h.rest; here = h.here; foreign = h.foreign }) in
+      let later
+      =
+      foreign_first rest place
+      (record { code_point = h.code_point; rest = h.rest; here = h.here; foreign = h.foreign }) in
       rw digit (omega arith)
   | inr other ↦ rw other (omega arith)
 ]
@@ -74,7 +78,8 @@ foreign_least text other = record { stands = foreign_here text other; first = fi
     lowest _ h = absurd h
 
 -- the least complaint of digits that denote too much
-pub large_least : (text : List ℕ) → IsTooLarge text → IsLeast (PortComplaint text) (Some (record { place = 0; rule = PortRange }))
+pub large_least : (text : List ℕ) → IsTooLarge text
+    → IsLeast (PortComplaint text) (Some (record { place = 0; rule = PortRange }))
 large_least text large = record { stands = (large, refl); first = λ place rule h. omega arith; lowest = lowest }
   where
     lowest : (rule : Rule) → PortComplaint text 0 rule → 10 ≤ rule_number rule
@@ -96,7 +101,8 @@ is_digit_ascii c is = grind (arith, nat_tests)
 -- digits are their bytes
 digit_bytes : (bytes : List ℕ) → IsUtf8 bytes → list_all is_ascii_digit (chars bytes) ≡ true → chars bytes ≡ bytes
 digit_bytes bytes utf8 digits =
-    chars-from_IsAscii bytes utf8 (IsAscii-from_test (chars bytes) (list_all_weaker is_ascii_digit is_ascii is_digit_ascii (chars bytes) digits))
+    chars-from_IsAscii bytes utf8
+    (IsAscii-from_test (chars bytes) (list_all_weaker is_ascii_digit is_ascii is_digit_ascii (chars bytes) digits))
 
 tells_digits : IsDigitsTest (λ ds. list_all is_ascii_digit ds ≡ true)
 tells_digits = search rules
@@ -110,9 +116,11 @@ empty_port text none = rw none (record { digits = refl; range = omega arith }, r
 
 -- digits that are read as a number of 16 bits
 read_port : (bytes : List ℕ) (number : ℕ) → list_all is_ascii_digit bytes ≡ true → (length bytes == 0) ≡ false
-    → digits_value 10 bytes < 2 ^ 16 → number ≡ digits_value 10 bytes → IsPortText bytes × (Some number ≡ port_number bytes)
+    → digits_value 10 bytes < 2 ^ 16 → number ≡ digits_value 10 bytes
+    → IsPortText bytes × (Some number ≡ port_number bytes)
 read_port [] number digits some small same = absurd (false≢true (sym some))
-read_port (d ∷ rest) number digits some small same = (record { digits = digits; range = omega arith }, ap (λ n. Some n) same)
+read_port (d ∷ rest) number digits some small same =
+    (record { digits = digits; range = omega arith }, ap (λ n. Some n) same)
 
 pub parsed_port : (bytes : List ℕ) (number : ℕ) → IsUtf8 bytes → list_all is_ascii_digit (chars bytes) ≡ true
     → (length bytes == 0) ≡ false → ParsesUnsigned {E = ℕ} 16 10 bytes (Ok number)

@@ -66,7 +66,8 @@ empty_segment : IsSegment []
 empty_segment = record { units = IsUnits-nil; no_slash = refl; no_question_mark = refl }
 
 -- the texts between the slashes of units without `?` are segments
-pieces_segments : (text : List ℕ) → is_faultless text ≡ true → is_without question_mark text ≡ true → AreSegments (pieces text)
+pieces_segments : (text : List ℕ) → is_faultless text ≡ true → is_without question_mark text ≡ true
+    → AreSegments (pieces text)
 pieces_segments [] units none = (empty_segment, tt)
 pieces_segments (c ∷ rest) units none =
     let parts = and_parts (is_unit_at c rest) (is_faultless rest) units in
@@ -78,7 +79,8 @@ pieces_segments (c ∷ rest) units none =
     ]
 
 -- a path that doesn't begin with `/`
-pub path_relative : (text : List ℕ) → IsUnits text → is_without question_mark text ≡ true → starts_with_slash text ≡ false
+pub path_relative : (text : List ℕ) → IsUnits text → is_without question_mark text ≡ true
+    → starts_with_slash text ≡ false
     → IsPathRelative (pieces text) text
 path_relative text units none start =
     let s = splits_first text in
@@ -94,18 +96,22 @@ path_relative text units none start =
     }
 
 -- what follows one `/` doesn't begin with another
-one_slash : (c : ℕ) (rest : List ℕ) → c ≡ slash → starts_with_two_slashes (c ∷ rest) ≡ false → starts_with_slash rest ≡ false
+one_slash : (c : ℕ) (rest : List ℕ) → c ≡ slash → starts_with_two_slashes (c ∷ rest) ≡ false
+    → starts_with_slash rest ≡ false
 one_slash c [] first two = refl
 one_slash c (d ∷ rest) first two = rw first at two
 
 -- a path that begins with one `/`
-pub path_absolute : (text : List ℕ) → IsUnits text → is_without question_mark text ≡ true → starts_with_slash text ≡ true
+pub path_absolute : (text : List ℕ) → IsUnits text → is_without question_mark text ≡ true
+    → starts_with_slash text ≡ true
     → starts_with_two_slashes text ≡ false → IsPathAbsolute (segments_of text) text
 path_absolute [] units none start two = absurd (false≢true start)
 path_absolute (c ∷ rest) units none start two =
     let first : c ≡ slash = eqb-true c slash start in
     let behind : IsUnits rest
-    = IsUnits-faultless rest (and_parts (is_unit_at c rest) (is_faultless rest) (is_faultless-units (c ∷ rest) units)).1 in
+    =
+    IsUnits-faultless rest
+    (and_parts (is_unit_at c rest) (is_faultless rest) (is_faultless-units (c ∷ rest) units)).1 in
     rw start (record {
       behind = rest;
       slashed = ap (λ x. x ∷ rest) first;
@@ -113,7 +119,9 @@ path_absolute (c ∷ rest) units none start two =
     })
 
 -- the segments of a path that isn't empty and doesn't begin with `/`
-pub relative_path : (text : List ℕ) → text ≢ [] → IsUnits text → is_without question_mark text ≡ true → starts_with_slash text ≡ false
+pub relative_path : (text : List ℕ) → text ≢ [] → IsUnits text → is_without question_mark text ≡ true
+    → starts_with_slash text ≡ false
     → IsPathRelative (segments_of text) text
 relative_path text some units none start =
-    subst (λ (s : List (List ℕ)). IsPathRelative s text) (relative_segments text some start) (path_relative text units none start)
+    subst (λ (s : List (List ℕ)). IsPathRelative s text) (relative_segments text some start)
+    (path_relative text units none start)

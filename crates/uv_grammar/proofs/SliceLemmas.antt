@@ -50,7 +50,8 @@ none_is_without mark [] h = refl
 none_is_without mark (c ∷ cs) h = rw (h.0, none_is_without mark cs h.1) refl
 
 -- the front that holds no such character, as code points
-pub front_is_without : (mark : ℕ) (bs : List ℕ) → IsUtf8 bs → NoCharPasses (λ d. d == mark) bs → is_without mark (chars bs) ≡ true
+pub front_is_without : (mark : ℕ) (bs : List ℕ) → IsUtf8 bs → NoCharPasses (λ d. d == mark) bs
+    → is_without mark (chars bs) ≡ true
 front_is_without mark bs u (cs, spelled, none) =
     subst (λ (s : List ℕ). is_without mark s ≡ true) (chars_from_encodes cs bs u spelled) (none_is_without mark cs none)
 
@@ -86,11 +87,13 @@ pub drop_at : (bytes : List ℕ) (at mark : ℕ) → at < length bytes → get_o
 drop_at bytes at mark inside here = rw add-one (drop-cons bytes at 0 inside ∙ ap (λ b. b ∷ drop (suc at) bytes) here)
 
 -- the two sides of the first `/`
-pub splits_at_slash : (bytes front behind : List ℕ) (end : ℕ) → IsUtf8 bytes → front ≡ slice_range bytes 0 end → behind ≡ drop end bytes
+pub splits_at_slash : (bytes front behind : List ℕ) (end : ℕ) → IsUtf8 bytes → front ≡ slice_range bytes 0 end
+    → behind ≡ drop end bytes
     → end < length bytes → get_or bytes end 0 ≡ slash → NoCharPasses (λ d. d == slash) (take end bytes)
     → SplitsAtSlash (chars bytes) (chars front) (chars behind)
 splits_at_slash bytes front behind end utf8 is_front is_behind inside here none =
-    let before : IsUtf8 (take end bytes) = IsUtf8-take bytes end utf8 (IsCharBoundary-before_ascii bytes end inside (rw here (lit< tt))) in
+    let before : IsUtf8 (take end bytes)
+    = IsUtf8-take bytes end utf8 (IsCharBoundary-before_ascii bytes end inside (rw here (lit< tt))) in
     let first : chars (drop end bytes) ≡ slash ∷ chars (drop (end + 1) bytes)
     = ap chars (drop_at bytes end slash inside here) ∙ chars-ascii_first slash (drop (end + 1) bytes) (lit< tt) in
     rw (is_front, is_behind, range-start) (record {
@@ -100,7 +103,8 @@ splits_at_slash bytes front behind end utf8 is_front is_behind inside here none 
     })
 
 -- a text without `/` is a front alone
-pub splits_at_end : (bytes rest : List ℕ) → IsUtf8 bytes → rest ≡ drop (length bytes) bytes → NoCharPasses (λ d. d == slash) bytes
+pub splits_at_end : (bytes rest : List ℕ) → IsUtf8 bytes → rest ≡ drop (length bytes) bytes
+    → NoCharPasses (λ d. d == slash) bytes
     → SplitsAtSlash (chars bytes) (chars bytes) (chars rest)
 splits_at_end bytes rest utf8 empty none =
     let nothing : chars rest ≡ [] = ap chars (empty ∙ drop-length bytes) ∙ chars-nil in

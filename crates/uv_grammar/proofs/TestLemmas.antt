@@ -26,7 +26,8 @@ pub ascii_test : (test : List ℕ → Bool) → ((text : List ℕ) → test text
     → (bytes : List ℕ) → IsUtf8 bytes → test (chars bytes) ≡ test bytes
 ascii_test test ascii bytes utf8 =
     same_tests (test (chars bytes)) (test bytes)
-    (λ passed. subst (λ (s : List ℕ). test s ≡ true) (chars-from_IsAscii bytes utf8 (ascii (chars bytes) passed)) passed)
+    (λ passed. subst (λ (s : List ℕ). test s ≡ true)
+    (chars-from_IsAscii bytes utf8 (ascii (chars bytes) passed)) passed)
     (λ passed. subst (λ (s : List ℕ). test s ≡ true) (sym (chars-IsAscii bytes (ascii bytes passed))) passed)
 
 -- the text passes the test by an ASCII front
@@ -68,7 +69,8 @@ list_all_weaker p q weaker (x ∷ xs) passed =
     and_true (weaker x parts.0) (list_all_weaker p q weaker xs parts.1)
 
 -- the first code point makes `/` first
-pub starts_with_slash-chars : (bytes : List ℕ) → IsUtf8 bytes → starts_with_slash (chars bytes) ≡ starts_with_slash bytes
+pub starts_with_slash-chars : (bytes : List ℕ) → IsUtf8 bytes
+    → starts_with_slash (chars bytes) ≡ starts_with_slash bytes
 starts_with_slash-chars bytes utf8 = front_test starts_with_slash passes bytes utf8
   where
     passes : (text : List ℕ) → starts_with_slash text ≡ true → PassesByFront starts_with_slash text
@@ -95,7 +97,8 @@ starts_with_number_sign-chars bytes utf8 = front_test starts_with_number_sign pa
       any = λ other. passed;
     }
 
-pub starts_with_bracket-chars : (bytes : List ℕ) → IsUtf8 bytes → starts_with_bracket (chars bytes) ≡ starts_with_bracket bytes
+pub starts_with_bracket-chars : (bytes : List ℕ) → IsUtf8 bytes
+    → starts_with_bracket (chars bytes) ≡ starts_with_bracket bytes
 starts_with_bracket-chars bytes utf8 = front_test starts_with_bracket passes bytes utf8
   where
     passes : (text : List ℕ) → starts_with_bracket text ≡ true → PassesByFront starts_with_bracket text
@@ -123,7 +126,8 @@ starts_with_two_slashes-chars bytes utf8 = front_test starts_with_two_slashes pa
       any = λ other. passed;
     }
 
-pub starts_with_drive-chars : (bytes : List ℕ) → IsUtf8 bytes → starts_with_drive (chars bytes) ≡ starts_with_drive bytes
+pub starts_with_drive-chars : (bytes : List ℕ) → IsUtf8 bytes
+    → starts_with_drive (chars bytes) ≡ starts_with_drive bytes
 starts_with_drive-chars bytes utf8 = front_test starts_with_drive passes bytes utf8
   where
     passes : (text : List ℕ) → starts_with_drive text ≡ true → PassesByFront starts_with_drive text
@@ -155,7 +159,8 @@ is_scheme-chars bytes utf8 = ascii_test is_scheme ascii bytes utf8
         IsAscii-from_test (c ∷ rest)
         (and_true (first c parts.0) (list_all_weaker is_scheme_code_point is_ascii one rest parts.1))
 
-pub digits-chars : (bytes : List ℕ) → IsUtf8 bytes → list_all is_ascii_digit (chars bytes) ≡ list_all is_ascii_digit bytes
+pub digits-chars : (bytes : List ℕ) → IsUtf8 bytes
+    → list_all is_ascii_digit (chars bytes) ≡ list_all is_ascii_digit bytes
 digits-chars bytes utf8 = ascii_test (λ text. list_all is_ascii_digit text) ascii bytes utf8
   where
     one : (c : ℕ) → is_ascii_digit c ≡ true → is_ascii c ≡ true

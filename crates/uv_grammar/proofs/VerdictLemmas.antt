@@ -20,7 +20,8 @@ use Rattle.uv_grammar.specs.Verdict.{IsCutVerdict, IsRefused, IsVerdict}
 use Rattle.uv_grammar.proofs.BuiltLemmas.{valid_built}
 
 -- a text that a slice holds is countable
-pub countable : (bytes : List ℕ) (cut : Cut) → IsUtf8 bytes → length bytes < 2 ^ 64 → chars bytes ≡ written_cut cut → IsCountable cut
+pub countable : (bytes : List ℕ) (cut : Cut) → IsUtf8 bytes → length bytes < 2 ^ 64 → chars bytes ≡ written_cut cut
+    → IsCountable cut
 countable bytes cut utf8 small same =
     let shorter = length-le-encodes (chars bytes) in
     let spelled = ap length (encodes-chars bytes utf8) in

@@ -20,7 +20,8 @@ FromPath cut place rule = Behind (path_place cut) (UnitComplaint cut.path_text) 
 
 -- those of the path's start and of what follows
 abbrev pub FromPathStart : Option Url → Cut → ℕ → Rule → Type 0
-FromPathStart base cut place rule = Behind (path_place cut) (PathStartComplaint base cut) place rule ⊎ FromPath cut place rule
+FromPathStart base cut place rule =
+    Behind (path_place cut) (PathStartComplaint base cut) place rule ⊎ FromPath cut place rule
 
 -- those of the port and of what follows it
 abbrev pub FromPort : Option Url → Cut → ℕ → Rule → Type 0

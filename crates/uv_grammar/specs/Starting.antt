@@ -9,4 +9,5 @@ use Rattle.uv_model.specs.Url.{Url, is_opaque}
 abbrev pub base_fault : Option Url → List ℕ → Option Refusal
 base_fault None text = Some (record { place = 0; rule = NoScheme })
 base_fault (Some base) text =
-    if is_opaque base.path && not (starts_with_number_sign text) then Some (record { place = 0; rule = OpaqueBase }) else None
+    if is_opaque base.path && not (starts_with_number_sign text) then Some
+    (record { place = 0; rule = OpaqueBase }) else None

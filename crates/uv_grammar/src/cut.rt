@@ -27,7 +27,14 @@ impl<'t> Model for Cut<'t> {
 
     ghost Value = { Cut };
 
-    ghost view = { λ c. record { scheme = seen_option c.scheme; host_text = seen_option c.host_text; port_text = seen_option c.port_text; path_text = seen c.path_text; query = seen_option c.query; fragment = seen_option c.fragment } };
+    ghost view = { λ c. record {
+      scheme = seen_option c.scheme;
+      host_text = seen_option c.host_text;
+      port_text = seen_option c.port_text;
+      path_text = seen c.path_text;
+      query = seen_option c.query;
+      fragment = seen_option c.fragment;
+    } };
 }
 
 /// The cut of a text against a base.
@@ -89,7 +96,8 @@ fn split_scheme<'t>(text: &'t str) -> (Option<&'t str>, &'t str)
 
 // The authority and the path, where the text begins with `//`.
 fn split_authority<'t>(text: &'t str) -> Option<(&'t str, &'t str)>
-    ensures { MatchOption result (starts_with_two_slashes (chars text.now) ≡ false) (λ r. SplitsAuthority (chars text.now) (seen r.0) (seen r.1)) }
+    ensures { MatchOption result (starts_with_two_slashes (chars text.now) ≡ false)
+        (λ r. SplitsAuthority (chars text.now) (seen r.0) (seen r.1)) }
 {
     match behind_slash(text) {
         Some(rest) => match behind_slash(rest) {

@@ -36,7 +36,8 @@ pub(crate) fn judge_host(
     port_text: Option<&str>,
     path_text: &str,
 ) -> Result<HostAnswer, AllocError>
-    ensures { IfOk result (IsHostAnswer kind (chars host_text.now) (seen_option port_text.entry) (chars path_text.now)) }
+    ensures { IfOk result
+        (IsHostAnswer kind (chars host_text.now) (seen_option port_text.entry) (chars path_text.now)) }
 {
     if host_text.is_empty() {
         return Ok(empty_host(kind, port_text, path_text));

@@ -31,7 +31,8 @@ pub(crate) fn split_at_slash<'t>(text: &'t str) -> (&'t str, &'t str)
 
 /// What follows a `/` at the text's start.
 pub(crate) fn behind_slash<'t>(text: &'t str) -> Option<&'t str>
-    ensures { MatchOption result (starts_with_slash (chars text.now) ≡ false) (λ r. chars text.now ≡ slash ∷ seen r) }
+    ensures { MatchOption result (starts_with_slash (chars text.now) ≡ false)
+        (λ r. chars text.now ≡ slash ∷ seen r) }
 {
     text.strip_prefix('/')
 }

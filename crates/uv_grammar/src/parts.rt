@@ -31,7 +31,18 @@ impl<'t> Model for Parts<'t> {
 
     ghost Value = { Parts };
 
-    ghost view = { λ p. record { form = seen_form p.form; scheme = seen_option p.scheme; host_text = seen_option p.host_text; host = p.host; port_text = seen_option p.port_text; port = p.port; path_text = seen p.path_text; segments = seen_each p.segments.items; query = seen_option p.query; fragment = seen_option p.fragment } };
+    ghost view = { λ p. record {
+      form = seen_form p.form;
+      scheme = seen_option p.scheme;
+      host_text = seen_option p.host_text;
+      host = p.host;
+      port_text = seen_option p.port_text;
+      port = p.port;
+      path_text = seen p.path_text;
+      segments = seen_each p.segments.items;
+      query = seen_option p.query;
+      fragment = seen_option p.fragment;
+    } };
 }
 
 impl<'t> Parts<'t> {

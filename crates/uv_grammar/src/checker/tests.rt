@@ -1,5 +1,5 @@
-//! Verdicts on texts, by the rules of the URL Standard, sections 3.4 and 4.3, and the grammar of hosts beside them. Each
-//! expected line is worked out by hand from those rules, never from a run of this code.
+//! Verdicts on texts, by the rules of the URL Standard, sections 3.4 and 4.3, and the grammar of hosts beside them.
+//! Each expected line is worked out by hand from those rules, never from a run of this code.
 
 use super::*;
 use crate::form::Form;

@@ -12,7 +12,8 @@ use Rattle.uv_grammar.proofs.authority.judge_port_part.Goals as goal
 
 pub returns-in-Valid : goal.returns-in-Valid
 returns-in-Valid c =
-    valid_port (option_copied c.args.base) c.args.cut.now (chars c.in-Some-Some.host_text.now) (chars c.in-Some-Some.port_text.now)
+    valid_port (option_copied c.args.base) c.args.cut.now (chars c.in-Some-Some.host_text.now)
+    (chars c.in-Some-Some.port_text.now)
     c.in-Valid.number c.without_default.result
     (ap (λ (cut : Cut). cut.host_text) (sym c.cut.view_is) ∙ ap seen_option c.in-Some-Some.is-0)
     (ap (λ (cut : Cut). cut.port_text) (sym c.cut.view_is) ∙ ap seen_option c.in-Some-Some.is-1)

@@ -9,10 +9,12 @@ use Rattle.uv_grammar.proofs.VerdictLemmas.{countable, refused, verdict_of_cut}
 use Rattle.uv_grammar.proofs.checker.check.Goals as goal
 
 pub start_fault-requires : goal.start_fault-requires
-start_fault-requires c = countable c.args.text.now c.cut_text-cut.result c.utf8.text (omega arith) c.cut_text-cut.ensures.whole
+start_fault-requires c =
+    countable c.args.text.now c.cut_text-cut.result c.utf8.text (omega arith) c.cut_text-cut.ensures.whole
 
 pub judge-requires : goal.judge-requires
-judge-requires c = countable c.args.text.now c.cut_text-cut.result c.utf8.text (omega arith) c.cut_text-cut.ensures.whole
+judge-requires c =
+    countable c.args.text.now c.cut_text-cut.result c.utf8.text (omega arith) c.cut_text-cut.ensures.whole
 
 pub returns-in-Some : goal.returns-in-Some
 returns-in-Some c =
@@ -24,5 +26,6 @@ pub returns-in-None : goal.returns-in-None
 returns-in-None c =
     IfOk-weaker c.judge.result (IsCutVerdict (option_copied c.args.base) c.cut_text-cut.result)
     (IsVerdict (option_copied c.args.base) (chars c.args.text.now))
-    (verdict_of_cut (option_copied c.args.base) (chars c.args.text.now) c.cut_text-cut.result c.cut_text-cut.ensures c.in-None.ensures)
+    (verdict_of_cut (option_copied c.args.base)
+    (chars c.args.text.now) c.cut_text-cut.result c.cut_text-cut.ensures c.in-None.ensures)
     c.judge.ensures

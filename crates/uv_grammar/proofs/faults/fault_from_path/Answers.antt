@@ -10,7 +10,8 @@ use Rattle.uv_grammar.proofs.faults.fault_from_path.Goals as goal
 pub returns-in-Some : goal.returns-in-Some
 returns-in-Some c =
     path_refuses c.args.cut.now c.in-Some.refusal
-    (subst (λ (text : List ℕ). IsLeast (Behind (path_place c.args.cut.now) (UnitComplaint text)) (Some c.in-Some.refusal))
+    (subst (λ (text : List ℕ). IsLeast (Behind (path_place c.args.cut.now) (UnitComplaint text))
+    (Some c.in-Some.refusal))
     (ap (λ (cut : Cut). cut.path_text) c.cut.view_is) (rw c.path_place.ensures at c.in-Some.ensures))
 
 pub returns-in-None : goal.returns-in-None

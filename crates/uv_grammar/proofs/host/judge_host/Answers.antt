@@ -13,7 +13,8 @@ returns-then-is_empty c =
     rw (no_chars c.args.host_text.now (sym c.is_empty.ensures ∙ c.if-is_empty.true)) c.empty_host.ensures
 
 pub special_host-requires : goal.special_host-requires
-special_host-requires c = some_chars c.args.host_text.now c.utf8.host_text (sym c.is_empty.ensures ∙ c.if-is_empty.false)
+special_host-requires c =
+    some_chars c.args.host_text.now c.utf8.host_text (sym c.is_empty.ensures ∙ c.if-is_empty.false)
 
 pub file_host-requires : goal.file_host-requires
 file_host-requires c = some_chars c.args.host_text.now c.utf8.host_text (sym c.is_empty.ensures ∙ c.if-is_empty.false)

@@ -5,5 +5,8 @@ use Rattle.uv_grammar.proofs.HostLemmas.{opaque_answer}
 use Rattle.uv_grammar.proofs.host.other_host.Goals as goal
 
 pub returns-in-None : goal.returns-in-None
-returns-in-None c =
-    (opaque_answer (chars c.args.text.now) c.requires (c.in_default.ensures.silent.0 refl) c.in-None.ensures, c.in_default.ensures.least)
+returns-in-None c = (
+  opaque_answer (chars c.args.text.now) c.requires
+      (c.in_default.ensures.silent.0 refl) c.in-None.ensures,
+  c.in_default.ensures.least,
+)

@@ -7,13 +7,21 @@ use Rattle.uv_grammar.proofs.marks.split_at_mark.Goals as goal
 
 pub returns-in-Some-clause-joined : goal.returns-in-Some-clause-joined
 returns-in-Some-clause-joined c =
-    let parts = split_parts c.args.mark c.args.text.now (Some (c.in-Some.front, c.in-Some.rest)) c.in-Some.ensures.cases c.requires in
-    ap chars parts.0 ∙ chars_at_mark c.in-Some.front.now c.in-Some.rest.now c.args.mark (subst IsUtf8 parts.0 c.utf8.text) c.requires
+    let parts
+    =
+    split_parts c.args.mark c.args.text.now
+    (Some (c.in-Some.front, c.in-Some.rest)) c.in-Some.ensures.cases c.requires in
+    ap chars parts.0
+    ∙ chars_at_mark c.in-Some.front.now c.in-Some.rest.now c.args.mark (subst IsUtf8 parts.0 c.utf8.text) c.requires
 
 pub returns-in-Some-clause-first : goal.returns-in-Some-clause-first
 returns-in-Some-clause-first c =
-    let parts = split_parts c.args.mark c.args.text.now (Some (c.in-Some.front, c.in-Some.rest)) c.in-Some.ensures.cases c.requires in
-    let both = sides_utf8 c.in-Some.front.now c.in-Some.rest.now c.args.mark (subst IsUtf8 parts.0 c.utf8.text) c.requires in
+    let parts
+    =
+    split_parts c.args.mark c.args.text.now
+    (Some (c.in-Some.front, c.in-Some.rest)) c.in-Some.ensures.cases c.requires in
+    let both
+    = sides_utf8 c.in-Some.front.now c.in-Some.rest.now c.args.mark (subst IsUtf8 parts.0 c.utf8.text) c.requires in
     split_once_is_without c.args.mark c.args.text.now c.in-Some.front c.in-Some.rest c.in-Some.ensures.cases both.0
 
 pub returns-in-None-clause-first : goal.returns-in-None-clause-first

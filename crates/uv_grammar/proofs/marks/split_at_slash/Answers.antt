@@ -13,4 +13,5 @@ returns-in-Some c =
 
 pub returns-in-None : goal.returns-in-None
 returns-in-None c =
-    splits_at_end c.args.text.now c.range_from-in-None.result.now c.utf8.text c.range_from-in-None.ensures.value c.in-None.ensures.cases
+    splits_at_end c.args.text.now c.range_from-in-None.result.now c.utf8.text c.range_from-in-None.ensures.value
+    c.in-None.ensures.cases

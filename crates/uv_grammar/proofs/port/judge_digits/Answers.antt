@@ -6,13 +6,16 @@ use Rattle.uv_grammar.proofs.PortLemmas.{empty_port, large_least, parsed_port, u
 use Rattle.uv_grammar.proofs.port.judge_digits.Goals as goal
 
 pub returns-then-is_empty : goal.returns-then-is_empty
-returns-then-is_empty c = empty_port (chars c.args.text.now) (no_chars c.args.text.now (sym c.is_empty.ensures ∙ c.if-is_empty.true))
+returns-then-is_empty c =
+    empty_port (chars c.args.text.now) (no_chars c.args.text.now (sym c.is_empty.ensures ∙ c.if-is_empty.true))
 
 pub returns-in-Ok : goal.returns-in-Ok
 returns-in-Ok c =
-    parsed_port c.args.text.now c.in-Ok.number c.utf8.text c.requires (sym c.is_empty.ensures ∙ c.if-is_empty.false) (c.in-Ok.ensures.value.0)
+    parsed_port c.args.text.now c.in-Ok.number c.utf8.text c.requires (sym c.is_empty.ensures
+    ∙ c.if-is_empty.false) (c.in-Ok.ensures.value.0)
 
 pub returns-in-Err : goal.returns-in-Err
 returns-in-Err c =
     large_least (chars c.args.text.now)
-    (unparsed_port c.args.text.now c.utf8.text c.requires (sym c.is_empty.ensures ∙ c.if-is_empty.false) (c.in-Err.ensures.value.0))
+    (unparsed_port c.args.text.now c.utf8.text c.requires (sym c.is_empty.ensures
+    ∙ c.if-is_empty.false) (c.in-Err.ensures.value.0))
