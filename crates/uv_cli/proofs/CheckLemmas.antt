@@ -1,5 +1,5 @@
 -- What a check says: the parser's silence by the class of the scheme, and the base by its text.
-use Rattle.std.proofs.Common.{◌≡◌, ℕ, true, refl, List, Option, Some, None}
+use Rattle.std.proofs.Common.{◌≡◌, ℕ, true, refl, List, Option}
 use Rattle.std.specs.Borrow.{Bor}
 use Rattle.uv_model.specs.declared.scheme.Class.{Class}
 use Rattle.uv_model.specs.declared.scheme.Class.TheVariants.{Special, File, Other}

@@ -1,5 +1,5 @@
 -- The record of the fields that are denoted is the denoted URL.
-use Rattle.std.proofs.Common.{◌≡◌, ℕ, Bool, true, false, List, Option, Some, None, refl, sym, ap, ◌∙◌}
+use Rattle.std.proofs.Common.{◌≡◌, ℕ, Bool, true, false, List, Option, Some, refl}
 use Rattle.std.specs.Prelude.{option_map}
 use Rattle.std.specs.Str.{IsAscii}
 use Rattle.uv_model.specs.declared.scheme.Class.{Class}

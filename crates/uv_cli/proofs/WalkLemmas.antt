@@ -1,9 +1,9 @@
 -- A walk is a step for each segment, and an empty segment where the last one is a dot segment.
-use Rattle.std.proofs.Common.{◌≡◌, ℕ, Bool, true, false, ◌||◌, List, [], ◌∷◌, ◌++◌, ◌+◌, ◌-◌, suc, ◌<◌, ◌≤◌, take_all, length, take, get_or, map, arith, refl, sym, ap, ◌∙◌, inl, inr, if◌then◌else◌, append-nil}
+use Rattle.std.proofs.Common.{◌≡◌, ℕ, Bool, true, false, List, [], ◌∷◌, ◌++◌, ◌+◌, ◌-◌, suc, ◌<◌, ◌≤◌, take_all, length, take, get_or, map, arith, refl, ap, ◌∙◌, inl, inr}
 use Rattle.std.proofs.lemmas.Bool.{cases_Bool}
 use Rattle.std.proofs.lemmas.List.{map_more}
 use Rattle.uv_model.specs.declared.scheme.Class.{Class}
-use Rattle.uv_model.specs.Path.{is_single_dot, is_double_dot, shorten, walk_one, walk, without_last}
+use Rattle.uv_model.specs.Path.{is_single_dot, is_double_dot, walk_one, walk, without_last}
 use Rattle.uv_cli.specs.Walk.{is_dots}
 
 -- each segment as if it weren't the last

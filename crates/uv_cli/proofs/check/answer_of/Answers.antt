@@ -1,6 +1,4 @@
 -- What a valid text denotes is well formed.
-use Rattle.std.proofs.Common.{◌≡◌}
-use Rattle.uv_grammar.specs.Verdict.{IsAccepted}
 use Rattle.uv_model.proofs.DenotedRecords.{denoted_records_are_well_formed}
 use Rattle.uv_cli.proofs.check.answer_of.Goals as goal
 

@@ -1,5 +1,5 @@
 -- The base is the URL that its text denotes.
-use Rattle.std.proofs.Common.{◌≡◌, Some, None, chars, ap}
+use Rattle.std.proofs.Common.{Some, chars, ap}
 use Rattle.std.proofs.lemmas.Result.{IfOk-weaker}
 use Rattle.uv_cli.specs.Check.{IsBase, WritesWhole}
 use Rattle.uv_cli.proofs.CheckLemmas.{written_against}

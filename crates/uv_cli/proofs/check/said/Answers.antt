@@ -1,5 +1,5 @@
 -- On a text with a scheme the parser is silent.
-use Rattle.std.proofs.Common.{◌≡◌, ap, ◌∙◌}
+use Rattle.std.proofs.Common.{ap, ◌∙◌}
 use Rattle.uv_cli.specs.CheckText.{check_text}
 use Rattle.uv_cli.proofs.CheckLemmas.{scheme_silent}
 use Rattle.uv_cli.proofs.check.said.Goals as goal

@@ -1,5 +1,5 @@
 -- The class of the base's scheme, by its code points.
-use Rattle.std.proofs.Common.{◌≡◌, List, [], Option, Some, None, sym, ap, ◌∙◌, refl}
+use Rattle.std.proofs.Common.{◌≡◌, [], Option, None, sym, ap, ◌∙◌, refl}
 use Rattle.std.specs.Borrow.{Bor}
 use Rattle.std.specs.Option.{option_copied}
 use Rattle.std.specs.Str.{chars}

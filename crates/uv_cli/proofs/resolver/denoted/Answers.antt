@@ -1,5 +1,5 @@
 -- The fields are those of the denoted URL.
-use Rattle.std.proofs.Common.{◌≡◌, false, sym, ap, ◌∙◌, subst}
+use Rattle.std.proofs.Common.{false, sym, ap, ◌∙◌, subst}
 use Rattle.std.specs.Prelude.{option_map}
 use Rattle.uv_model.specs.Encoding.{encoded}
 use Rattle.uv_model.specs.WellFormed.{WellFormed}

@@ -1,5 +1,5 @@
 -- What `pop` leaves is the list without its last segment.
-use Rattle.std.proofs.Common.{◌≡◌, ◌-◌, List, ℕ, length, take, sym, ap, ◌∙◌}
+use Rattle.std.proofs.Common.{◌≡◌, ◌-◌, length, take, sym, ap, ◌∙◌}
 use Rattle.std.specs.Vec.{vec_len}
 use Rattle.uv_cli.proofs.WalkLemmas.{without_last-take}
 use Rattle.uv_cli.proofs.walker.drop_last.Goals as goal

@@ -1,7 +1,7 @@
 -- A segment more is a step more.
-use Rattle.std.proofs.Common.{◌≡◌, sym, ap, ◌∙◌, map, take, ◌++◌, ◌∷◌, []}
+use Rattle.std.proofs.Common.{ap, ◌∙◌, ◌++◌, ◌∷◌, []}
 use Rattle.std.specs.Str.{chars}
-use Rattle.uv_cli.proofs.WalkLemmas.{walk-steps, steps-more, ends_in_dots-more, walk-all}
+use Rattle.uv_cli.proofs.WalkLemmas.{steps-more, ends_in_dots-more, walk-all}
 use Rattle.uv_cli.proofs.walker.walk.Goals as goal
 use Rattle.uv_cli.proofs.walker.walk.Goals.{then-ends_in_dots+in_ok-push, else-ends_in_dots}
 

@@ -1,7 +1,6 @@
 -- The segments so far have been walked, each as if it weren't the last.
-use Rattle.std.proofs.Common.{◌≡◌, ℕ, List, map, take}
+use Rattle.std.proofs.Common.{◌≡◌, map, take}
 use Rattle.std.specs.Str.{chars}
-use Rattle.std.specs.Borrow.{Bor}
 use Rattle.uv_cli.proofs.WalkLemmas.{steps, ends_in_dots}
 use Rattle.uv_cli.proofs.walker.walk.Given as goal
 
