@@ -18,6 +18,7 @@ pub(crate) fn walk(
         path.items ≡ spec.walk kind start.items (map (λ s. chars s.now) segments.now)) }
 {
     let mut path = start;
+    path.reserve(segments.len())?;
     let mut ends_in_dots = false;
     for segment in segments {
         ends_in_dots = step(alloc, kind, &mut path, segment)?;

@@ -1,6 +1,6 @@
 -- The parser machine from the start of an authority to the end of the text, where host and port are followed by a path,
 -- a query and a fragment.
-use Rattle.std.proofs.Common.{◌≡◌, ℕ, suc, ◌+◌, ◌*◌, ◌≤◌, Bool, true, false, ◌&&◌, ◌||◌, ◌==◌, ◌⊎◌, List, [], ◌∷◌, ◌++◌, length, Option, Some, None, refl, sym, ap, subst, ◌∙◌, inl, inr, ⊎_elim, append_assoc, append-nil, length-append, le-ltb, arith}
+use Rattle.std.proofs.Common.{◌≡◌, ℕ, suc, ◌+◌, true, false, ◌&&◌, ◌==◌, ◌⊎◌, List, [], ◌∷◌, ◌++◌, length, Option, Some, None, refl, ap, ◌∙◌, inl, inr, ⊎_elim, append_assoc, append-nil, length-append, le-ltb, arith}
 use Rattle.std.specs.Prelude.{nat_lt}
 use Rattle.std.specs.List.{list_all}
 use Rattle.std.specs.Char.{is_ascii_digit}
@@ -8,14 +8,14 @@ use Rattle.std.specs.Str.Parse.{digits_value}
 use Rattle.std.proofs.lemmas.Bool.{and_from, and_parts}
 use Rattle.std.proofs.lemmas.List.Folds.{list_all-append}
 use Rattle.uv_model.specs.declared.host.Host.{Host}
-use Rattle.uv_model.specs.Ascii.{slash, colon}
+use Rattle.uv_model.specs.Ascii.{colon}
 use Rattle.uv_model.specs.Denote.{authority_path}
 use Rattle.uv_model.specs.HostParser.{parse_host}
 use Rattle.uv_model.specs.Parts.{written_behind}
 use Rattle.uv_model.specs.Scheme.{default_port, lowercase, scheme_class}
 use Rattle.uv_model.specs.Url.{Url}
 use Rattle.uv_model.specs.Valid.{MayBePathAbsolute, MayBePortText, MayBeUnits, port_given}
-use Rattle.uv_model.specs.Machine.{Held, Sight, again, sight, AuthorityState, HostState, PortState, PathStartState, with_host, with_more, with_port, port_in, is_special, emptied}
+use Rattle.uv_model.specs.Machine.{Held, again, sight, AuthorityState, HostState, PortState, PathStartState, with_host, with_more, with_port, port_in, is_special}
 use Rattle.uv_model.proofs.AuthorityLoops.{IsDelimiter, authority_law, digit_letter, host_law, host_row_end, host_row_port, is_authority_letter, port_law, port_row_end}
 use Rattle.uv_model.proofs.HostTextsRead.{IsRead}
 use Rattle.uv_model.proofs.PathLoops.{walking}

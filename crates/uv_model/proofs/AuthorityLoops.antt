@@ -1,6 +1,6 @@
 -- Laws of the parser machine's loops over an authority, a host and a port, and the rows that end each of them.
-use Rattle.std.proofs.Common.{◌≡◌, ℕ, suc, ◌+◌, ◌-◌, ◌≤◌, Bool, true, false, not, ◌&&◌, ◌||◌, ◌==◌, List, [], ◌∷◌, ◌++◌, length, drop, Option, Some, None, refl, sym, ap, subst, ◌∙◌, inl, inr, append_assoc, append-nil, eqb-true, drop-drop, add-zero, arith}
-use Rattle.std.specs.Prelude.{nat_lt, if◌then◌else◌}
+use Rattle.std.proofs.Common.{◌≡◌, ℕ, suc, ◌+◌, ◌-◌, Bool, true, false, not, ◌&&◌, ◌==◌, List, [], ◌∷◌, ◌++◌, length, drop, Option, Some, refl, sym, ap, ◌∙◌, inl, inr, append_assoc, append-nil, drop-drop, add-zero, arith}
+use Rattle.std.specs.Prelude.{nat_lt}
 use Rattle.std.specs.List.{list_all}
 use Rattle.std.specs.Char.{is_ascii_digit}
 use Rattle.std.specs.Str.Parse.{digits_value}
@@ -12,8 +12,8 @@ use Rattle.uv_model.specs.Ascii.{slash, colon, question_mark, number_sign, at_si
 use Rattle.uv_model.specs.Cut.{is_within, is_within_at_end, is_port_mark}
 use Rattle.uv_model.specs.HostParser.{parse_host}
 use Rattle.uv_model.specs.Url.{Url}
-use Rattle.uv_model.specs.Machine.{State, Held, Sight, end, slash_mark, query_mark, fragment_mark, another, sight, Turn, turn, onward, again, from_place, authority_at, host_at, port_at, port_in, AuthorityState, HostState, PortState, PathStartState, bracketed, put, with_more, emptied, with_brackets, with_host, with_port, is_special}
-use Rattle.uv_model.specs.Run.{Outcome, Machine, step, settle}
+use Rattle.uv_model.specs.Machine.{Held, Sight, end, slash_mark, query_mark, fragment_mark, another, sight, turn, onward, again, from_place, authority_at, host_at, port_at, port_in, AuthorityState, HostState, PortState, PathStartState, bracketed, put, with_more, emptied, with_brackets, with_host, with_port, is_special}
+use Rattle.uv_model.specs.Run.{step, settle}
 use Rattle.uv_model.proofs.Steps.{at, drop_one, step_at, Leads, leads_none, leads_step, leads_then, Reaches, reaches_none, onward_then}
 
 -- a code point that neither ends an authority nor stops at it: above U+0020, and none of `/ ? # @ \`

@@ -1,5 +1,5 @@
 -- The parser machine over the host of a file URL, and what the host parser makes of each valid one.
-use Rattle.std.proofs.Common.{◌≡◌, ◌≢◌, ℕ, suc, ◌+◌, Bool, true, false, ◌&&◌, ◌||◌, ◌==◌, ◌⊎◌, List, [], ◌∷◌, ◌++◌, length, codes, Option, Some, None, refl, sym, ap, subst, ◌∙◌, inl, inr, append_assoc, append-nil, ne_eqb, arith}
+use Rattle.std.proofs.Common.{◌≡◌, ℕ, true, false, ◌||◌, ◌==◌, List, [], ◌∷◌, ◌++◌, length, codes, Option, Some, refl, inl, inr, append_assoc, append-nil, arith}
 use Rattle.std.specs.Prelude.{is_some}
 use Rattle.std.specs.List.{list_all}
 use Rattle.std.specs.Char.{is_ascii_alphabetic}
@@ -9,12 +9,11 @@ use Rattle.std.proofs.lemmas.Bool.Decides.{nat_tests}
 use Rattle.std.proofs.lemmas.Slice.Eq.{bytes_eq-Decides}
 use Rattle.uv_model.specs.declared.host.Host.{Host}
 use Rattle.uv_model.specs.declared.host.Host.TheVariants as host
-use Rattle.uv_model.specs.declared.scheme.Class.TheVariants.{Special, File, Other}
-use Rattle.uv_model.specs.Address.{IsBracketedIpv6}
-use Rattle.uv_model.specs.Ascii.{slash, question_mark, number_sign, backslash, colon, vertical_bar, left_bracket, right_bracket}
-use Rattle.uv_model.specs.Domain.{is_permitted, has_permitted, IsDomain}
+use Rattle.uv_model.specs.declared.scheme.Class.TheVariants.{File}
+use Rattle.uv_model.specs.Ascii.{colon, vertical_bar, left_bracket, right_bracket}
+use Rattle.uv_model.specs.Domain.{is_permitted, has_permitted}
 use Rattle.uv_model.specs.HostParser.{parse_host}
-use Rattle.uv_model.specs.Machine.{Held, Sight, end, slash_mark, query_mark, fragment_mark, another, turn, onward, again, FileHostState, PathStartState, file_host, file_host_at, put, with_more, with_host, emptied}
+use Rattle.uv_model.specs.Machine.{Held, Sight, end, slash_mark, query_mark, fragment_mark, another, again, FileHostState, PathStartState, file_host, file_host_at, put, with_more, with_host, emptied}
 use Rattle.uv_model.specs.Path.{is_drive_letter}
 use Rattle.uv_model.specs.Scheme.{default_port, lowercase, scheme_class}
 use Rattle.uv_model.specs.Url.{Url}
@@ -22,7 +21,6 @@ use Rattle.uv_model.specs.Valid.{IsFileHostText}
 use Rattle.uv_model.proofs.AuthorityLoops.{IsDelimiter, is_authority_letter, letter}
 use Rattle.uv_model.proofs.HostParserLemmas.{domains_are_parsed, ipv4_hosts_are_parsed, ipv6_hosts_are_parsed}
 use Rattle.uv_model.proofs.HostTextsRead.{IsRead, dotted_numbers, is_dotted, read_domain, read_ipv4, read_ipv6}
-use Rattle.uv_model.proofs.HostsParsed.{parsed_some}
 use Rattle.uv_model.proofs.Steps.{Reaches, reaches_none, onward_then}
 
 -- ---- the loop

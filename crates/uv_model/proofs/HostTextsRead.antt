@@ -1,9 +1,9 @@
 -- What the parser machine's authority and host states read of a valid host text: all of it.
-use Rattle.std.proofs.Common.{◌≡◌, ℕ, ◌+◌, ◌<◌, ◌≤◌, Bool, true, false, not, ◌&&◌, ◌||◌, ◌==◌, List, [], ◌∷◌, ◌++◌, length, codes, decimal, refl, sym, ap, subst, lt-ltb, ne_eqb, ◌∙◌, inl, inr, append_assoc, arith}
+use Rattle.std.proofs.Common.{◌≡◌, ℕ, ◌<◌, ◌≤◌, Bool, true, false, not, ◌&&◌, ◌||◌, ◌==◌, List, [], ◌∷◌, ◌++◌, length, codes, decimal, refl, ap, lt-ltb, ne_eqb, ◌∙◌, inl, inr, arith}
 use Rattle.std.specs.Prelude.{nat_lt}
 use Rattle.std.specs.List.{list_all}
-use Rattle.std.specs.Char.{is_ascii, is_ascii_digit, is_ascii_hexdigit}
-use Rattle.std.proofs.lemmas.Bool.{false≢true, and_parts, and_from, and_right, or_left, cases_Bool, cases_lt, agree_below_at, not_from_false}
+use Rattle.std.specs.Char.{is_ascii_digit, is_ascii_hexdigit}
+use Rattle.std.proofs.lemmas.Bool.{false≢true, and_parts, and_from, and_right, or_left, cases_lt, agree_below_at}
 use Rattle.std.proofs.lemmas.Bool.Decides.{nat_tests}
 use Rattle.std.proofs.lemmas.List.Folds.{list_all-append}
 use Rattle.uv_model.specs.Address.{IsFourNumbers, IsIpv4, IsGroupList, IsSide, IsIpv6, IsBracketedIpv6}

@@ -1,6 +1,6 @@
 -- The parser machine's host state on a valid host text: it reads the whole text, and the host parser gives the host's
 -- value.
-use Rattle.std.proofs.Common.{◌≡◌, ℕ, suc, Bool, true, false, ◌&&◌, ◌==◌, ◌⊎◌, List, [], ◌∷◌, length, Option, Some, None, refl, sym, ap, ◌∙◌, inl, inr, ne_eqb, arith}
+use Rattle.std.proofs.Common.{◌≡◌, ℕ, suc, true, false, ◌==◌, List, [], ◌∷◌, length, Option, Some, None, refl, inl, inr, ne_eqb, arith}
 use Rattle.std.proofs.lemmas.Bool.{and_left, and_right}
 use Rattle.uv_model.specs.declared.host.Host.{Host}
 use Rattle.uv_model.specs.declared.host.Host.TheVariants as host

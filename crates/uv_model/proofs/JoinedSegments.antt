@@ -1,7 +1,6 @@
 -- A path-relative string is units, and has no `?`.
 use Rattle.std.proofs.Common.{◌≡◌, ℕ, true, List}
-use Rattle.std.specs.List.{join_with_byte}
-use Rattle.uv_model.specs.Ascii.{slash, question_mark}
+use Rattle.uv_model.specs.Ascii.{question_mark}
 use Rattle.uv_model.specs.Path.{IsPathRelative, is_without}
 use Rattle.uv_model.specs.Units.{is_faultless}
 use Rattle.uv_model.proofs.PathLemmas.{IsUnits-join, no_question_mark-join}

@@ -1,6 +1,6 @@
 -- Laws of the parser machine's loops over a scheme, an opaque path, a query and a fragment: so many steps lead behind
 -- what the state reads, whatever is held before it and whatever text follows it.
-use Rattle.std.proofs.Common.{◌≡◌, ℕ, suc, ◌+◌, Bool, true, false, ◌&&◌, ◌==◌, List, [], ◌∷◌, ◌++◌, length, Option, Some, None, refl, sym, ap, subst, ◌∙◌, append_assoc, append-nil, eqb-true, inl, inr}
+use Rattle.std.proofs.Common.{◌≡◌, ℕ, true, false, ◌==◌, List, [], ◌∷◌, ◌++◌, length, Option, Some, refl, append_assoc, append-nil, eqb-true, inl, inr}
 use Rattle.std.specs.List.{list_all}
 use Rattle.std.specs.Char.{to_ascii_lowercase}
 use Rattle.std.proofs.lemmas.Bool.{and_parts, cases_Bool}
@@ -12,7 +12,7 @@ use Rattle.uv_model.specs.Path.{is_without}
 use Rattle.uv_model.specs.Scheme.{is_scheme_code_point, lowercase}
 use Rattle.uv_model.specs.Units.{is_unit_at, is_faultless}
 use Rattle.uv_model.specs.Url.{Url}
-use Rattle.uv_model.specs.Machine.{Held, turn, onward, sight, SchemeState, OpaquePathState, QueryState, FragmentState, put, with_more, with_path, with_opaque, with_fragment}
+use Rattle.uv_model.specs.Machine.{Held, turn, onward, SchemeState, OpaquePathState, QueryState, FragmentState, put, with_more, with_path, with_opaque, with_fragment}
 use Rattle.uv_model.proofs.Steps.{Reaches, reaches_none, onward_then}
 
 module _ (base : Option Url) where

@@ -1,7 +1,7 @@
 -- Laws of the parser machine over a path of segments: each segment is walked as the denotation walks it, and behind the
 -- path a run ends through the query and the fragment.
-use Rattle.std.proofs.Common.{◌≡◌, ℕ, suc, ◌+◌, Bool, true, false, not, ◌&&◌, ◌==◌, List, [], ◌∷◌, ◌++◌, length, Option, Some, None, refl, sym, ap, subst, ◌∙◌, inl, inr, append_assoc, append-nil, eqb-true, length-append, arith}
-use Rattle.std.specs.List.{list_all, join_with_byte}
+use Rattle.std.proofs.Common.{◌≡◌, ℕ, ◌+◌, Bool, true, false, not, ◌==◌, List, [], ◌∷◌, ◌++◌, length, Option, refl, ap, inl, inr, append_assoc, append-nil, length-append, arith}
+use Rattle.std.specs.List.{join_with_byte}
 use Rattle.std.proofs.lemmas.Bool.{and_parts, cases_Bool}
 use Rattle.uv_model.specs.declared.path.UrlPath.TheVariants.{Segments}
 use Rattle.uv_model.specs.Ascii.{slash, question_mark, number_sign}

@@ -1,20 +1,20 @@
 -- The parser machine from the end of an authority on: the path, by the class of the scheme, the query and the fragment.
-use Rattle.std.proofs.Common.{◌≡◌, ℕ, suc, ◌+◌, Bool, true, false, List, [], ◌∷◌, ◌++◌, length, Option, Some, None, refl, sym, ap, subst, ◌∙◌, inl, inr, length-append, arith}
+use Rattle.std.proofs.Common.{◌≡◌, ℕ, ◌+◌, true, List, [], ◌∷◌, ◌++◌, length, Option, Some, None, refl, ap, ◌∙◌, inl, inr, arith}
 use Rattle.std.specs.List.{join_with_byte}
 use Rattle.uv_model.specs.declared.scheme.Class.{Class}
 use Rattle.uv_model.specs.declared.scheme.Class.TheVariants.{Special, File, Other}
-use Rattle.uv_model.specs.Ascii.{slash, question_mark, number_sign}
+use Rattle.uv_model.specs.Ascii.{slash}
 use Rattle.uv_model.specs.Denote.{authority_path}
 use Rattle.uv_model.specs.Encoding.{encoded}
 use Rattle.uv_model.specs.Path.{AreSegments, IsPathAbsolute, IsPathRelative, is_single_dot, is_double_dot, walk}
 use Rattle.uv_model.specs.Scheme.{scheme_class}
 use Rattle.uv_model.specs.Url.{Url}
 use Rattle.uv_model.specs.Valid.{MayBeUnits, MayBePathAbsolute}
-use Rattle.uv_model.specs.Machine.{Held, turn, again, onward, sight, path_start_at, PathStartState, PathState}
+use Rattle.uv_model.specs.Machine.{Held, turn, again, sight, path_start_at, PathStartState, PathState}
 use Rattle.uv_model.proofs.Steps.{Ends, ends_step, ends_again, ends_within}
 use Rattle.uv_model.proofs.PathLoops.{walking, path_ends}
 use Rattle.uv_model.proofs.UnitsLemmas.{IsUnits-nil}
-use Rattle.uv_model.proofs.Tails.{tail, with_tail, TurnsToTail, tail_ends}
+use Rattle.uv_model.proofs.Tails.{tail, with_tail, tail_ends}
 
 -- a tail doesn't begin with `/`, so that a special URL's path begins there without one
 special_row : (query fragment : Option (List ℕ)) (h : Held)

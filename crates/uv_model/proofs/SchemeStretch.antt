@@ -1,15 +1,15 @@
 -- The parser machine over a text's scheme: it leads to the scheme's `:` with the scheme in lower case in the buffer.
-use Rattle.std.proofs.Common.{◌≡◌, ℕ, suc, Bool, true, false, List, [], ◌∷◌, ◌++◌, length, map, Option, Some, None, refl, sym, ap, ◌∙◌}
+use Rattle.std.proofs.Common.{◌≡◌, ℕ, true, List, [], ◌∷◌, ◌++◌, length, Option, Some, None, refl, ap}
 use Rattle.std.specs.List.{list_all}
 use Rattle.std.specs.Char.{is_ascii_alphabetic, to_ascii_lowercase}
 use Rattle.std.proofs.lemmas.Bool.{false≢true, and_parts}
 use Rattle.uv_model.specs.Ascii.{colon}
-use Rattle.uv_model.specs.Scheme.{is_scheme, is_scheme_code_point, lowercase, scheme_class, default_port}
+use Rattle.uv_model.specs.Scheme.{is_scheme, is_scheme_code_point, lowercase, scheme_class}
 use Rattle.uv_model.specs.Url.{Url}
 use Rattle.uv_model.specs.Valid.{FitsScheme}
-use Rattle.uv_model.specs.Machine.{Held, turn, onward, SchemeStartState, SchemeState, put, with_more, with_scheme, empty_held, after_scheme}
+use Rattle.uv_model.specs.Machine.{Held, turn, SchemeStartState, SchemeState, put, with_more, with_scheme, empty_held, after_scheme}
 use Rattle.uv_model.proofs.SchemeLemmas.{scheme_class-lowercase}
-use Rattle.uv_model.proofs.Steps.{Reaches, reaches_none, onward_then}
+use Rattle.uv_model.proofs.Steps.{Reaches, onward_then}
 use Rattle.uv_model.proofs.Looping.{scheme_law}
 
 -- where a form has a scheme the parts have one

@@ -1,5 +1,5 @@
 -- The parser machine is silent on each valid text with a scheme and an authority, of class Other and of class Special.
-use Rattle.std.proofs.Common.{◌≡◌, ℕ, suc, ◌+◌, ◌*◌, ◌≤◌, Bool, true, false, ◌&&◌, ◌||◌, ◌==◌, ◌⊎◌, List, [], ◌∷◌, ◌++◌, length, Option, Some, None, refl, sym, ap, subst, ◌∙◌, inl, inr, append_assoc, length-append, arith}
+use Rattle.std.proofs.Common.{◌≡◌, ℕ, suc, ◌+◌, true, false, ◌||◌, ◌==◌, List, [], ◌∷◌, ◌++◌, length, Option, Some, None, refl, sym, ap, subst, ◌∙◌, inl, inr, append_assoc, length-append, arith}
 use Rattle.std.specs.List.{list_all}
 use Rattle.std.proofs.lemmas.Bool.Decides.{nat_tests}
 use Rattle.uv_model.specs.HostParser.{parse_host}
@@ -7,10 +7,10 @@ use Rattle.std.proofs.lemmas.Bool.{true≢false, and_parts, and_from, cases_Bool
 use Rattle.uv_model.specs.declared.host.Host.{Host}
 use Rattle.uv_model.specs.declared.host.Host.TheVariants as host
 use Rattle.uv_model.specs.declared.scheme.Class.{Class}
-use Rattle.uv_model.specs.declared.scheme.Class.TheVariants.{Special, File, Other}
+use Rattle.uv_model.specs.declared.scheme.Class.TheVariants.{Special, Other}
 use Rattle.uv_model.specs.declared.path.UrlPath.TheVariants.{Segments}
 use Rattle.uv_model.specs.Ascii.{slash, backslash, colon}
-use Rattle.uv_model.specs.Denote.{authority_host, authority_path, denote}
+use Rattle.uv_model.specs.Denote.{authority_host, authority_path}
 use Rattle.uv_model.specs.Machine.{begins, has_same_scheme, SpecialAuthorityIgnoreSlashesState, SpecialAuthoritySlashesState, SpecialRelativeOrAuthorityState, AuthorityState, PathOrAuthorityState, SchemeState, empty_held, is_special, with_more}
 use Rattle.uv_model.specs.Parts.{Form, Parts, SchemeAuthority, has_scheme, written, written_behind}
 use Rattle.uv_model.specs.Scheme.{is_scheme, lowercase, scheme_class}
@@ -26,7 +26,7 @@ use Rattle.uv_model.proofs.SchemeLemmas.{scheme_class-lowercase}
 use Rattle.uv_model.proofs.SchemeStretch.{scheme_held, colon_row, scheme_there}
 use Rattle.uv_model.proofs.SilentSchemes.{EndsBehindScheme, HoldsDenoted, denoted_from_held, runs_silently}
 use Rattle.uv_model.proofs.Steps.{Ends, ends_again, ends_past_two, ends_step, ends_within}
-use Rattle.uv_model.proofs.Tails.{tail, with_tail}
+use Rattle.uv_model.proofs.Tails.{tail}
 use Rattle.uv_model.proofs.Unremoved.{is_unremoved, unremoved_append, unremoved_faultless}
 
 -- the code points of an authority are never removed

@@ -1,5 +1,5 @@
 -- The parser machine is silent on each valid text with a scheme of class File.
-use Rattle.std.proofs.Common.{◌≡◌, ℕ, suc, ◌+◌, ◌*◌, ◌≤◌, Bool, true, false, ◌==◌, ◌⊎◌, List, [], ◌∷◌, ◌++◌, length, codes, Option, Some, None, refl, sym, ap, subst, ◌∙◌, inl, inr, append_assoc, append-nil, length-append, arith}
+use Rattle.std.proofs.Common.{◌≡◌, ℕ, suc, ◌+◌, true, List, ◌∷◌, ◌++◌, length, codes, Option, Some, None, refl, sym, ap, subst, ◌∙◌, inl, inr, append_assoc, append-nil, length-append, arith}
 use Rattle.std.specs.List.{list_all}
 use Rattle.std.proofs.lemmas.Bool.{false≢true}
 use Rattle.uv_model.specs.declared.host.Host.{Host}
@@ -8,8 +8,8 @@ use Rattle.uv_model.specs.declared.scheme.Class.{Class}
 use Rattle.uv_model.specs.declared.scheme.Class.TheVariants.{File, Other}
 use Rattle.uv_model.specs.declared.path.UrlPath.TheVariants.{Segments}
 use Rattle.uv_model.specs.Ascii.{slash, colon}
-use Rattle.uv_model.specs.Denote.{authority_path, denote}
-use Rattle.uv_model.specs.Machine.{Held, Sight, end, slash_mark, query_mark, fragment_mark, another, sight, again, FileHostState, FileSlashState, FileState, PathStartState, SchemeState, file_host, file_host_at, empty_held, with_host, with_more, with_scheme}
+use Rattle.uv_model.specs.Denote.{authority_path}
+use Rattle.uv_model.specs.Machine.{Held, Sight, end, slash_mark, query_mark, fragment_mark, another, sight, again, FileHostState, FileSlashState, FileState, PathStartState, SchemeState, file_host_at, empty_held, with_host, with_more, with_scheme}
 use Rattle.uv_model.specs.Parts.{Form, Parts, SchemeAuthority, SchemePath, SchemeOpaque, Authority, PathAbsolute, PathRelative, NoPath, has_scheme, written, written_behind}
 use Rattle.uv_model.specs.Scheme.{is_scheme, lowercase, scheme_class}
 use Rattle.uv_model.specs.Silent.{RunsSilently, FileTextsRunSilently}

@@ -1,18 +1,16 @@
 -- The parser machine is silent on each valid text with an opaque path.
-use Rattle.std.proofs.Common.{◌≡◌, ℕ, suc, ◌+◌, ◌*◌, ◌≤◌, Bool, true, false, List, [], ◌∷◌, ◌++◌, length, Option, Some, None, refl, sym, ap, subst, ◌∙◌, append_assoc, length-append, arith}
-use Rattle.uv_model.specs.declared.scheme.Class.{Class}
+use Rattle.std.proofs.Common.{◌≡◌, ℕ, suc, ◌+◌, false, List, [], ◌∷◌, ◌++◌, length, Option, refl, subst, ◌∙◌, length-append, arith}
 use Rattle.uv_model.specs.declared.scheme.Class.TheVariants.{Other}
 use Rattle.uv_model.specs.declared.path.UrlPath.TheVariants.{Opaque}
-use Rattle.uv_model.specs.Ascii.{slash, colon}
-use Rattle.uv_model.specs.Denote.{denote, denoted_path}
+use Rattle.uv_model.specs.Ascii.{colon}
 use Rattle.uv_model.specs.Encoding.{encoded}
-use Rattle.uv_model.specs.Machine.{Held, begins, OpaquePathState, SchemeState, with_more, with_path, empty_held}
-use Rattle.uv_model.specs.Parts.{Form, Parts, SchemeOpaque, has_scheme, written}
-use Rattle.uv_model.specs.Path.{IsPathRelative, starts_with_slash}
+use Rattle.uv_model.specs.Machine.{Held, OpaquePathState, SchemeState, with_more, with_path, empty_held}
+use Rattle.uv_model.specs.Parts.{Form, Parts, SchemeOpaque, has_scheme}
+use Rattle.uv_model.specs.Path.{IsPathRelative}
 use Rattle.uv_model.specs.Scheme.{lowercase, scheme_class}
 use Rattle.uv_model.specs.Silent.{OpaqueTextsRunSilently}
 use Rattle.uv_model.specs.Url.{Url}
-use Rattle.uv_model.specs.Valid.{FitsForm, FitsScheme, MayBeUnits, Valid}
+use Rattle.uv_model.specs.Valid.{FitsForm, FitsScheme, MayBeUnits}
 use Rattle.uv_model.proofs.JoinedSegments.{faultless_path, without_path}
 use Rattle.uv_model.proofs.Looping.{opaque_path_law}
 use Rattle.uv_model.proofs.SchemeStretch.{scheme_held, colon_row, scheme_there}

@@ -1,13 +1,11 @@
 -- The parser machine is silent on each valid text with a scheme and a path of segments, without an authority.
-use Rattle.std.proofs.Common.{◌≡◌, ℕ, suc, ◌+◌, ◌*◌, ◌≤◌, Bool, true, false, List, [], ◌∷◌, ◌++◌, length, Option, Some, None, refl, sym, ap, subst, ◌∙◌, length-append, arith}
-use Rattle.uv_model.specs.declared.scheme.Class.{Class}
+use Rattle.std.proofs.Common.{◌≡◌, ℕ, suc, ◌+◌, List, [], ◌∷◌, ◌++◌, length, Option, refl, ap, subst, ◌∙◌, length-append, arith}
 use Rattle.uv_model.specs.declared.scheme.Class.TheVariants.{Other}
 use Rattle.uv_model.specs.declared.path.UrlPath.TheVariants.{Segments}
 use Rattle.uv_model.specs.Ascii.{slash, colon}
-use Rattle.uv_model.specs.Denote.{denote, denoted_path}
-use Rattle.uv_model.specs.Machine.{Held, begins, PathOrAuthorityState, SchemeState, with_more, empty_held}
+use Rattle.uv_model.specs.Machine.{Held, PathOrAuthorityState, SchemeState, with_more, empty_held}
 use Rattle.uv_model.specs.Parts.{Form, Parts, SchemePath, has_scheme}
-use Rattle.uv_model.specs.Path.{IsPathAbsolute, IsPathRelative, walk}
+use Rattle.uv_model.specs.Path.{IsPathRelative, walk}
 use Rattle.uv_model.specs.Scheme.{lowercase, scheme_class}
 use Rattle.uv_model.specs.Silent.{RunsSilently}
 use Rattle.uv_model.specs.Url.{Url}

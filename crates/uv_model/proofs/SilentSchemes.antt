@@ -1,5 +1,5 @@
 -- From the end of a run to the URL that is denoted, for each text with a scheme.
-use Rattle.std.proofs.Common.{◌≡◌, ℕ, ◌+◌, ◌*◌, ◌≤◌, Bool, true, false, List, [], ◌∷◌, ◌++◌, length, Option, Some, None, refl, sym, ap, subst, ◌∙◌, append_assoc, length-append, arith}
+use Rattle.std.proofs.Common.{◌≡◌, ℕ, ◌+◌, ◌*◌, ◌≤◌, true, false, List, [], ◌∷◌, ◌++◌, length, Option, Some, None, refl, sym, ap, subst, ◌∙◌, append_assoc, length-append, arith}
 use Rattle.std.specs.Prelude.{option_map}
 use Rattle.std.specs.List.{list_all}
 use Rattle.std.proofs.lemmas.Bool.{false≢true}
@@ -10,7 +10,7 @@ use Rattle.uv_model.specs.Denote.{denote, denoted_host, denoted_path, denoted_po
 use Rattle.uv_model.specs.Encoding.{encoded}
 use Rattle.uv_model.specs.Machine.{Held, is_special, SchemeStartState, SchemeState, with_more, empty_held}
 use Rattle.uv_model.specs.Parts.{Form, Parts, SchemeAuthority, SchemePath, SchemeOpaque, Authority, PathAbsolute, PathRelative, NoPath, has_scheme, written}
-use Rattle.uv_model.specs.Run.{Outcome, Done, first_removed, run, step_bound}
+use Rattle.uv_model.specs.Run.{Done, run, step_bound}
 use Rattle.uv_model.specs.Scheme.{is_scheme, lowercase, scheme_class}
 use Rattle.uv_model.specs.Silent.{RunsSilently}
 use Rattle.uv_model.specs.Url.{Url}

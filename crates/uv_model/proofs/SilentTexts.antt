@@ -1,5 +1,5 @@
 -- The parser machine is silent on each valid text with a scheme of class Other or Special, whatever its form.
-use Rattle.std.proofs.Common.{◌≡◌, ℕ, true, List, Option, refl, sym, subst, ◌∙◌}
+use Rattle.std.proofs.Common.{◌≡◌, ℕ, true, List, Option, refl, subst}
 use Rattle.std.proofs.lemmas.Bool.{false≢true}
 use Rattle.uv_model.specs.declared.scheme.Class.{Class}
 use Rattle.uv_model.specs.declared.scheme.Class.TheVariants.{Special, Other}

@@ -2,7 +2,7 @@
 -- steps to a bound on them. Each holds of every state, over any base and any text.
 use Rattle.std.proofs.Common.{◌≡◌, ℕ, zero, suc, ◌+◌, ◌-◌, ◌≤◌, List, [], ◌∷◌, Option, drop, refl, sym, ap, subst, ◌∙◌, drop-drop, zero-add, arith}
 use Rattle.uv_model.specs.Url.{Url}
-use Rattle.uv_model.specs.Machine.{State, Held, Turn, onward, again, from_place, stop, turn}
+use Rattle.uv_model.specs.Machine.{State, Held, onward, again, from_place, turn}
 use Rattle.uv_model.specs.Run.{Machine, Outcome, Done, Stopped, Going, settle, step, run_from}
 
 -- the machine goes on in this state, at this place, with this held

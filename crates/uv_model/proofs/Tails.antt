@@ -1,5 +1,5 @@
 -- How a run of the parser machine ends behind a path: at the end of the text, or through a query, a fragment, or both.
-use Rattle.std.proofs.Common.{◌≡◌, ℕ, suc, ◌+◌, Bool, true, false, List, [], ◌∷◌, ◌++◌, length, Option, Some, None, refl, sym, ap, subst, ◌∙◌, append-nil, append_assoc, length-append, arith}
+use Rattle.std.proofs.Common.{◌≡◌, ℕ, ◌+◌, false, List, [], ◌∷◌, ◌++◌, length, Option, Some, None, refl, append-nil, length-append, arith}
 use Rattle.std.specs.Prelude.{option_map}
 use Rattle.uv_model.specs.Ascii.{slash, question_mark, number_sign}
 use Rattle.uv_model.specs.Encoding.{encoded}
@@ -9,7 +9,7 @@ use Rattle.uv_model.specs.Units.{IsUnits}
 use Rattle.uv_model.specs.Url.{Url}
 use Rattle.uv_model.specs.Valid.{MayBeUnits}
 use Rattle.uv_model.specs.Machine.{State, Held, turn, onward, to_query, to_fragment, QueryState, FragmentState, emptied, with_query, with_fragment, with_more, query_ended, is_special, begins}
-use Rattle.uv_model.proofs.Steps.{Reaches, Ends, reaches_none, onward_then, ends_onward, ends_step, ends_after, ends_within}
+use Rattle.uv_model.proofs.Steps.{Ends, ends_onward, ends_step, ends_after, ends_within}
 use Rattle.uv_model.proofs.UnitsLemmas.{is_faultless-units}
 use Rattle.uv_model.proofs.Looping.{query_law, fragment_law}
 

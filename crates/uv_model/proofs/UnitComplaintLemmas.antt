@@ -1,12 +1,10 @@
 -- The faults of a text of units, from code point to code point.
-use Rattle.std.proofs.Common.{◌≡◌, ◌≢◌, ℕ, zero, suc, ◌+◌, ◌<◌, ◌≤◌, Bool, true, false, not, ◌&&◌, ◌==◌, List, [], ◌∷◌, ◌++◌, drop, Option, Some, None, refl, sym, ap, ◌∙◌, subst, inl, inr, arith}
-use Rattle.std.specs.Prelude.{if◌then◌else◌}
+use Rattle.std.proofs.Common.{◌≡◌, ◌≢◌, ℕ, zero, suc, true, false, List, [], ◌∷◌, drop, refl, sym, ap, ◌∙◌, inl, inr}
 use Rattle.std.proofs.lemmas.Bool.{false≢true, cases_eq, and_parts, and_from, ne_eqb, true_from_ne_false}
 use Rattle.uv_model.specs.declared.rule.Rule.{Rule}
 use Rattle.uv_model.specs.declared.rule.Rule.TheVariants.{CodePoint, Percent}
 use Rattle.uv_model.specs.Ascii.{percent_sign}
-use Rattle.uv_model.specs.Refusal.{IsLeast}
-use Rattle.uv_model.specs.UnitComplaint.{HasBarePercent, HasForeignCodePoint, UnitComplaint, unit_rule}
+use Rattle.uv_model.specs.UnitComplaint.{UnitComplaint, unit_rule}
 use Rattle.uv_model.specs.Units.{is_url_code_point, starts_with_two_hex, is_unit_at, is_faultless, IsUnits}
 use Rattle.uv_model.proofs.UnitsLemmas.{is_faultless-units, IsUnits-faultless}
 

@@ -1,11 +1,9 @@
 -- Units where more text follows them, as the parser machine's states look ahead: what is no fault in a text is none
 -- with more behind it, and `#` is a fault wherever it stands.
-use Rattle.std.proofs.Common.{◌≡◌, ℕ, Bool, true, false, inl, inr, ◌&&◌, ◌==◌, List, [], ◌∷◌, ◌++◌, refl, ap, ◌∙◌, subst, arith}
+use Rattle.std.proofs.Common.{◌≡◌, ℕ, true, false, inl, inr, ◌==◌, List, [], ◌∷◌, ◌++◌}
 use Rattle.std.specs.Prelude.{if◌then◌else◌}
-use Rattle.std.specs.Char.{is_ascii_hexdigit}
 use Rattle.std.proofs.lemmas.Bool.{false≢true, cases_Bool, and_parts, eqb-true}
-use Rattle.std.proofs.lemmas.Bool.Decides.{nat_tests}
-use Rattle.uv_model.specs.Ascii.{slash, question_mark, number_sign, percent_sign}
+use Rattle.uv_model.specs.Ascii.{number_sign, percent_sign}
 use Rattle.uv_model.specs.Path.{is_without}
 use Rattle.uv_model.specs.Units.{is_url_code_point, starts_with_two_hex, is_unit_at}
 

@@ -1,5 +1,5 @@
 -- Percent-encoding of a text of URL units, after the URL Standard, section 1.3.
-use Rattle.std.specs.Prelude.{ℕ, Bool, true, false, ◌&&◌, ◌==◌, List, [], ◌∷◌, flat_map, codes, if◌then◌else◌}
+use Rattle.std.specs.Prelude.{ℕ, Bool, ◌&&◌, ◌==◌, List, [], ◌∷◌, flat_map, codes, if◌then◌else◌}
 use Rattle.std.specs.Char.{encode_utf8, is_ascii}
 use Rattle.percent_encoding.specs.Percent.{percent_encode_byte}
 use Rattle.uv_model.specs.Ascii.{apostrophe}

@@ -1,5 +1,5 @@
 -- The rules of valid URL strings (URL Standard, sections 3.4 and 4.3), by their numbers and names.
-use Rattle.std.specs.Prelude.{◌≡◌, ◌≢◌, ℕ, List, [], ◌∷◌, codes, Option, find}
+use Rattle.std.specs.Prelude.{◌≢◌, ℕ, List, [], ◌∷◌, codes, Option, find}
 use Rattle.std.specs.Str.{bytes_eq}
 use Rattle.uv_model.specs.declared.rule.Rule.{Rule}
 use Rattle.uv_model.specs.declared.rule.Rule.TheVariants.{NoScheme, OpaqueBase, TwoSlashes, HostMissing, HostDomain, HostNumber, HostIpv6, HostCodePoint, PortDigit, PortRange, FirstSegmentEmpty, DriveAfterHost, CodePoint, Percent}

@@ -1,5 +1,5 @@
 -- Runs of the machine, after the URL Standard, section 4.4: the test before the first step, one step, and many.
-use Rattle.std.specs.Prelude.{◌≡◌, ℕ, zero, suc, ◌+◌, ◌*◌, Bool, true, false, ◌||◌, ◌==◌, nat_le, List, [], ◌∷◌, length, drop, Option, Some, None, if◌then◌else◌}
+use Rattle.std.specs.Prelude.{ℕ, zero, suc, ◌+◌, ◌*◌, Bool, true, false, ◌||◌, ◌==◌, nat_le, List, [], ◌∷◌, length, drop, Option, Some, None, if◌then◌else◌}
 use Rattle.uv_model.specs.Url.{Url}
 use Rattle.uv_model.specs.Machine.{State, SchemeStartState, Held, Turn, onward, again, from_place, stop, turn, empty_held}
 

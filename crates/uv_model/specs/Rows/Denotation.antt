@@ -1,6 +1,6 @@
 -- What the parts of a text denote (URL Standard, sections 4.2 and 4.4), on texts written out: the parts give the text
 -- back, the URL is the one that they denote, and the parser's run on the text is done with it.
-use Rattle.std.specs.Prelude.{◌≡◌, ℕ, List, [], ◌∷◌, map, codes, Option, Some, None}
+use Rattle.std.specs.Prelude.{ℕ, List, [], ◌∷◌, map, codes, Option, Some, None}
 use Prim.Native.String.{String as Literal}
 use Rattle.uv_model.specs.declared.host.Host.{Host}
 use Rattle.uv_model.specs.declared.scheme.Class.{Class}

@@ -7,6 +7,6 @@ use Rattle.uv_cli.proofs.walker.walk.Given as goal
 abbrev pub invariant-loop-segment : goal.invariant-loop-segment
 invariant-loop-segment l = record {
   walked : l.path.items
-      ≡ steps l.fn.kind l.initial.path.items (map (λ s. chars s.now) (take l.segment-index l.segments));
+      ≡ steps l.fn.kind l.fn.start.items (map (λ s. chars s.now) (take l.segment-index l.segments));
   dots : l.ends_in_dots ≡ ends_in_dots (map (λ s. chars s.now) (take l.segment-index l.segments));
 }
