@@ -220,58 +220,79 @@ known_segments form other path P same holds = subst (λ (f : Form). P (segments_
 
 -- ---- the parts of the theorem
 
-form_fits : (base : Option Url) (text : List ℕ) (scheme host_text port_text : Option (List ℕ)) (path : List ℕ)
+-- what is known of a cut whose parts are built
+record IsSound (base : Option Url) (text : List ℕ) (cut : Cut) (host : Option Host) (port : Option ℕ) : Type 0 where
+  is : IsCut base text cut
+  started : IsStarted base text cut
+  fits_host : FitsHostPart base cut host
+  fits_port : FitsPortPart base cut port
+  quiet : IsQuiet base cut
+  none : is_without question_mark cut.path_text ≡ true
+
+-- a scheme and a path
+scheme_path_fits : (base : Option Url) (text scheme : List ℕ) (port_text : Option (List ℕ)) (path : List ℕ)
     (query fragment : Option (List ℕ)) (host : Option Host) (port : Option ℕ)
-    → IsCut base text (cut_with scheme host_text port_text path query fragment)
-    → IsStarted base text (cut_with scheme host_text port_text path query fragment)
-    → FitsHostPart base (cut_with scheme host_text port_text path query fragment) host
-    → FitsPortPart base (cut_with scheme host_text port_text path query fragment) port
-    → IsQuiet base (cut_with scheme host_text port_text path query fragment)
-    → is_without question_mark path ≡ true
-    → FitsForm base (form_with (is_some scheme) (is_some host_text) path)
-    (built (cut_with scheme host_text port_text path query fragment) host port)
-form_fits base text (Some scheme)
-    (Some host_text) port_text path query fragment host port is started fits_host fits_port q none =
-    has_authority base text
-    (Some scheme) host_text port_text path query fragment host port is fits_host fits_port q none refl
-form_fits base text None
-    (Some host_text) port_text path query fragment host port is started fits_host fits_port q none =
-    has_authority base text None host_text port_text path query fragment host port is fits_host fits_port q none refl
-form_fits base text (Some scheme) None port_text path query fragment host port is started fits_host fits_port q none =
-    let a = no_authority base text (Some scheme) port_text path query fragment host port is fits_host fits_port in
-    let other = other_scheme base text scheme port_text path query fragment started in
+    → IsSound base text (cut_with (Some scheme) None port_text path query fragment) host port
+    → FitsForm base (form_with true false path)
+    (built (cut_with (Some scheme) None port_text path query fragment) host port)
+scheme_path_fits base text scheme port_text path query fragment host port s =
+    let a = no_authority base text (Some scheme) port_text path query fragment host port s.is s.fits_host s.fits_port in
+    let other = other_scheme base text scheme port_text path query fragment s.started in
     elim (cases_Bool (starts_with_slash path)) [
       | inl start ↦
           let form : form_with true false path ≡ SchemePath = rw start refl in
           path_form base _ form a other
-          (known_segments (form_with true false path) SchemePath path (λ s. IsPathAbsolute s path) form
-          (path_absolute path q.path none start q.one_slash))
+          (known_segments (form_with true false path) SchemePath path (λ l. IsPathAbsolute l path) form
+          (path_absolute path s.quiet.path s.none start s.quiet.one_slash))
       | inr start ↦
           let form : form_with true false path ≡ SchemeOpaque = rw start refl in
-          opaque_form base _ form a other (pieces path, path_relative path q.path none start)
+          opaque_form base _ form a other (pieces path, path_relative path s.quiet.path s.none start)
           (ap (λ f. segments_in f path) form)
     ]
-form_fits base text None None port_text [] query fragment host port is started fits_host fits_port q none =
-    (no_authority base text None port_text [] query fragment host port is fits_host fits_port, refl, refl)
-form_fits base text None None port_text (c ∷ rest) query fragment host port is started fits_host fits_port q none =
-    let a = no_authority base text None port_text (c ∷ rest) query fragment host port is fits_host fits_port in
-    let some : (c ∷ rest) ≢ [] = λ same. cc in
-    elim (cases_Bool (starts_with_slash (c ∷ rest))) [
+
+-- a path alone
+reference_fits : (base : Option Url) (text : List ℕ) (port_text : Option (List ℕ)) (c : ℕ) (rest : List ℕ)
+    (query fragment : Option (List ℕ)) (host : Option Host) (port : Option ℕ)
+    → IsSound base text (cut_with None None port_text (c ∷ rest) query fragment) host port
+    → FitsForm base (form_with false false (c ∷ rest))
+    (built (cut_with None None port_text (c ∷ rest) query fragment) host port)
+reference_fits base text port_text c rest query fragment host port s =
+    let path : List ℕ = c ∷ rest in
+    let a = no_authority base text None port_text path query fragment host port s.is s.fits_host s.fits_port in
+    let some : path ≢ [] = λ same. cc in
+    elim (cases_Bool (starts_with_slash path)) [
       | inl start ↦
-          let form : form_with false false (c ∷ rest) ≡ PathAbsolute = rw start refl in
+          let form : form_with false false path ≡ PathAbsolute = rw start refl in
           absolute_form base _ form a
-          (known_segments (form_with false false (c ∷ rest)) PathAbsolute (c ∷ rest)
-          (λ s. IsPathAbsolute s (c ∷ rest)) form
-          (path_absolute (c ∷ rest) q.path none start q.one_slash))
-          (fits_drive base (c ∷ rest) q.drive)
+          (known_segments (form_with false false path) PathAbsolute path (λ l. IsPathAbsolute l path) form
+          (path_absolute path s.quiet.path s.none start s.quiet.one_slash))
+          (fits_drive base path s.quiet.drive)
       | inr start ↦
-          let form : form_with false false (c ∷ rest) ≡ PathRelative = rw start refl in
+          let form : form_with false false path ≡ PathRelative = rw start refl in
           relative_form base _ form a
-          (known_segments (form_with false false (c ∷ rest)) PathRelative (c ∷ rest)
-          (λ s. IsPathRelative s (c ∷ rest)) form
-          (relative_path (c ∷ rest) some q.path none start))
-          some is.scheme
+          (known_segments (form_with false false path) PathRelative path (λ l. IsPathRelative l path) form
+          (relative_path path some s.quiet.path s.none start))
+          some s.is.scheme
     ]
+
+-- the parts fit the form
+form_fits : (base : Option Url) (text : List ℕ) (scheme host_text port_text : Option (List ℕ)) (path : List ℕ)
+    (query fragment : Option (List ℕ)) (host : Option Host) (port : Option ℕ)
+    → IsSound base text (cut_with scheme host_text port_text path query fragment) host port
+    → FitsForm base (form_with (is_some scheme) (is_some host_text) path)
+    (built (cut_with scheme host_text port_text path query fragment) host port)
+form_fits base text (Some scheme) (Some host_text) port_text path query fragment host port s =
+    has_authority base text (Some scheme) host_text port_text path query fragment host port
+    s.is s.fits_host s.fits_port s.quiet s.none refl
+form_fits base text None (Some host_text) port_text path query fragment host port s =
+    has_authority base text None host_text port_text path query fragment host port
+    s.is s.fits_host s.fits_port s.quiet s.none refl
+form_fits base text (Some scheme) None port_text path query fragment host port s =
+    scheme_path_fits base text scheme port_text path query fragment host port s
+form_fits base text None None port_text [] query fragment host port s =
+    (no_authority base text None port_text [] query fragment host port s.is s.fits_host s.fits_port, refl, refl)
+form_fits base text None None port_text (c ∷ rest) query fragment host port s =
+    reference_fits base text port_text c rest query fragment host port s
 
 -- a form with a scheme has one
 scheme_fits : (scheme host_text : Option (List ℕ)) (path middle : List ℕ) → IsSchemeCut scheme middle
@@ -348,6 +369,8 @@ base_fits (Some url) text cut host port is started = elim (scheme_or_none cut.sc
   ]
 ]
 
+-- The parts built from a cut are valid where its start, its host and its port are, and nothing behind them has a
+-- complaint.
 pub valid_built : (base : Option Url) (text : List ℕ) (cut : Cut) (host : Option Host) (port : Option ℕ)
     → IsCut base text cut → IsStarted base text cut → FitsHostPart base cut host → FitsPortPart base cut port
     → IsLeast (FromPathStart base cut) None → Valid base text (built cut host port)
@@ -358,7 +381,14 @@ valid_built base text cut host port is started fits_host fits_port silent =
       scheme = scheme_fits cut.scheme cut.host_text cut.path_text (written_middle cut) is.scheme;
       against = base_fits base text cut host port is started;
       form = form_fits base text cut.scheme cut.host_text cut.port_text cut.path_text cut.query cut.fragment host port
-          is started fits_host fits_port q (path_without base text cut is);
+          (record {
+            is = is;
+            started = started;
+            fits_host = fits_host;
+            fits_port = fits_port;
+            quiet = q;
+            none = path_without base text cut is;
+          });
       query = q.query;
       fragment = q.fragment;
     }

@@ -114,7 +114,7 @@ own = numerals_by_value (λ ds. list_all is_ascii_digit ds ≡ true) tells_digit
 pub empty_port : (text : List ℕ) → text ≡ [] → IsPortText text × (None ≡ port_number text)
 empty_port text none = rw none (record { digits = refl; range = omega arith }, refl)
 
--- digits that are read as a number of 16 bits
+-- digits that denote a number of 16 bits
 read_port : (bytes : List ℕ) (number : ℕ) → list_all is_ascii_digit bytes ≡ true → (length bytes == 0) ≡ false
     → digits_value 10 bytes < 2 ^ 16 → number ≡ digits_value 10 bytes
     → IsPortText bytes × (Some number ≡ port_number bytes)
@@ -122,6 +122,7 @@ read_port [] number digits some small same = absurd (false≢true (sym some))
 read_port (d ∷ rest) number digits some small same =
     (record { digits = digits; range = omega arith }, ap (λ n. Some n) same)
 
+-- digits that are read as a number of 16 bits are a valid port
 pub parsed_port : (bytes : List ℕ) (number : ℕ) → IsUtf8 bytes → list_all is_ascii_digit (chars bytes) ≡ true
     → (length bytes == 0) ≡ false → ParsesUnsigned {E = ℕ} 16 10 bytes (Ok number)
     → IsPortText (chars bytes) × (Some number ≡ port_number (chars bytes))

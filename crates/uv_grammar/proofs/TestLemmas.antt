@@ -68,7 +68,7 @@ list_all_weaker p q weaker (x ∷ xs) passed =
     let parts = and_parts (p x) (list_all p xs) passed in
     and_true (weaker x parts.0) (list_all_weaker p q weaker xs parts.1)
 
--- the first code point makes `/` first
+-- `/` is the first code point where it is the first byte
 pub starts_with_slash-chars : (bytes : List ℕ) → IsUtf8 bytes
     → starts_with_slash (chars bytes) ≡ starts_with_slash bytes
 starts_with_slash-chars bytes utf8 = front_test starts_with_slash passes bytes utf8
@@ -83,6 +83,7 @@ starts_with_slash-chars bytes utf8 = front_test starts_with_slash passes bytes u
       any = λ other. passed;
     }
 
+-- `#` is the first code point where it is the first byte
 pub starts_with_number_sign-chars : (bytes : List ℕ) → IsUtf8 bytes
     → starts_with_number_sign (chars bytes) ≡ starts_with_number_sign bytes
 starts_with_number_sign-chars bytes utf8 = front_test starts_with_number_sign passes bytes utf8
@@ -97,6 +98,7 @@ starts_with_number_sign-chars bytes utf8 = front_test starts_with_number_sign pa
       any = λ other. passed;
     }
 
+-- `[` is the first code point where it is the first byte
 pub starts_with_bracket-chars : (bytes : List ℕ) → IsUtf8 bytes
     → starts_with_bracket (chars bytes) ≡ starts_with_bracket bytes
 starts_with_bracket-chars bytes utf8 = front_test starts_with_bracket passes bytes utf8
@@ -111,6 +113,7 @@ starts_with_bracket-chars bytes utf8 = front_test starts_with_bracket passes byt
       any = λ other. passed;
     }
 
+-- `//` begins the code points where it begins the bytes
 pub starts_with_two_slashes-chars : (bytes : List ℕ) → IsUtf8 bytes
     → starts_with_two_slashes (chars bytes) ≡ starts_with_two_slashes bytes
 starts_with_two_slashes-chars bytes utf8 = front_test starts_with_two_slashes passes bytes utf8
@@ -126,6 +129,7 @@ starts_with_two_slashes-chars bytes utf8 = front_test starts_with_two_slashes pa
       any = λ other. passed;
     }
 
+-- a drive letter between slashes begins the code points where it begins the bytes
 pub starts_with_drive-chars : (bytes : List ℕ) → IsUtf8 bytes
     → starts_with_drive (chars bytes) ≡ starts_with_drive bytes
 starts_with_drive-chars bytes utf8 = front_test starts_with_drive passes bytes utf8
@@ -143,6 +147,7 @@ starts_with_drive-chars bytes utf8 = front_test starts_with_drive passes bytes u
       any = λ other. passed;
     }
 
+-- the code points are a URL-scheme string where the bytes are
 pub is_scheme-chars : (bytes : List ℕ) → IsUtf8 bytes → is_scheme (chars bytes) ≡ is_scheme bytes
 is_scheme-chars bytes utf8 = ascii_test is_scheme ascii bytes utf8
   where
@@ -159,6 +164,7 @@ is_scheme-chars bytes utf8 = ascii_test is_scheme ascii bytes utf8
         IsAscii-from_test (c ∷ rest)
         (and_true (first c parts.0) (list_all_weaker is_scheme_code_point is_ascii one rest parts.1))
 
+-- the code points are digits where the bytes are
 pub digits-chars : (bytes : List ℕ) → IsUtf8 bytes
     → list_all is_ascii_digit (chars bytes) ≡ list_all is_ascii_digit bytes
 digits-chars bytes utf8 = ascii_test (λ text. list_all is_ascii_digit text) ascii bytes utf8
