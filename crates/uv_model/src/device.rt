@@ -23,7 +23,8 @@ pub trait Sink {
         ensures bytes { WriteAppends (contents self.old) (contents self.new) result from.now }
         ensures count { failed self.new ≡ failed self.old + write_failures result from.now };
 
-    /// How many writes have failed: those that answered an error, and those that took nothing of a piece that had bytes.
+    /// How many writes have failed: those that answered an error, and those that took nothing of a piece that had
+    /// bytes.
     fn failures(&self) -> u64
         ensures { result ≡ failed self.now };
 }

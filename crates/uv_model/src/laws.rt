@@ -32,8 +32,8 @@ pub fn opaque_texts_run_silently()
 {}
 
 /// On every valid text with a scheme of class Other, against every base and none, the URL parser runs to its end with
-/// no
-/// validation error and no failure, and gives exactly the URL that the text's parts denote (URL Standard, section 4.4).
+/// no validation error and no failure, and gives exactly the URL that the text's parts denote (URL Standard, section
+/// 4.4).
 pub fn other_texts_run_silently()
     ensures { OtherTextsRunSilently }
 {}

@@ -30,6 +30,8 @@ fn gives_forms(rt: HostRuntime) -> Result<(), Fail> {
         ("1.a", "1.a"),
         ("a.0xg", "a.0xg"),
         ("a--b", "a--b"),
+        // RFC 3492, section 6: the first label by Punycode, the second as it is
+        ("b\u{FC}cher.example", "xn--bcher-kva.example"),
         // UTS #46 test file: Buecher.de with its umlaut, in both cases
         ("b\u{FC}cher.de", "xn--bcher-kva.de"),
         ("B\u{DC}CHER.de", "xn--bcher-kva.de"),

@@ -79,3 +79,63 @@ fn keeps_each_field(rt: HostRuntime) -> Result<(), Fail> {
     }
     Ok(())
 }
+
+// The record of `https://EXAMPLE.com:443/a/../b?x='y'#é`: scheme, domain, segment, query and fragment as they are denoted.
+fn worked(alloc: Global) -> Result<Option<Record>, Fail> {
+    let scheme = String::from_str(alloc, "https")?;
+    let host = Host::Domain(ascii(alloc, "example.com")?);
+    let mut items = Vec::new(alloc);
+    items.push(ascii(alloc, "b")?)?;
+    let path = UrlPath::Segments(TextList::of(items));
+    let query = String::from_str(alloc, "x=%27y%27")?;
+    let fragment = String::from_str(alloc, "%C3%A9")?;
+    let (some_query, some_fragment) = (Some(query.as_str()), Some(fragment.as_str()));
+    if !well_formed(
+        scheme.as_str(),
+        Some(&host),
+        None,
+        &path,
+        some_query,
+        some_fragment,
+    ) {
+        return Ok(None);
+    }
+    Ok(Some(Record::make(
+        scheme,
+        Some(host),
+        None,
+        path,
+        Some(query),
+        Some(fragment),
+    )))
+}
+
+// Whether each field is that of the worked record.
+fn is_worked(record: &Record) -> bool {
+    let host = match record.host() {
+        Some(Host::Domain(form)) => form.as_str() == "example.com",
+        _ => false,
+    };
+    let path = match record.path() {
+        UrlPath::Segments(list) => match list.as_slice() {
+            [only] => only.as_str() == "b",
+            _ => false,
+        },
+        UrlPath::Opaque(_) => false,
+    };
+    let ends = record.query() == Some("x=%27y%27") && record.fragment() == Some("%C3%A9");
+    record.scheme() == "https" && host && record.port() == None && path && ends
+}
+
+#[test]
+fn copies_a_worked_record(rt: HostRuntime) -> Result<(), Fail> {
+    match worked(rt.alloc())? {
+        Some(record) => {
+            let copy = record.copy(rt.alloc())?;
+            assert!(rt; is_worked(&copy), "the copy");
+            assert!(rt; is_worked(&record), "the record, which stays");
+        }
+        None => assert!(rt; false, "not well formed"),
+    }
+    Ok(())
+}
