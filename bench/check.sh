@@ -1,6 +1,6 @@
 #!/usr/bin/env bash
 # Shows that the cost of a check grows linearly with the text: instructions by callgrind for five shapes of 1, 10 and 30
-# thousand code points, the program's start taken off. Ten times the length costs at most eleven times, or the script fails.
+# thousand code points, the program's start taken off. Ten times the length costs at most eleven times, or it fails.
 # The start, with the reading of the same words, is a run that refuses them: a text and one word too many.
 # It needs valgrind. Usage: bench/check.sh [PROGRAM]
 set -euo pipefail

@@ -1,5 +1,5 @@
 #!/usr/bin/env bash
-# Runs the program given as the first argument on the cases of this folder, and compares status, output and standard error.
+# Runs the program given as the first argument on the cases of this folder: its status, output and standard error.
 set -uo pipefail
 program=$(realpath "$1")
 here=$(dirname "$(realpath "$0")")
