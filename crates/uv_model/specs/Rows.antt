@@ -14,6 +14,7 @@ pub mod Hosts
 pub mod Machine
 pub mod OpaquePaths
 pub mod Other
+pub mod ReferenceMatrix
 pub mod References
 pub mod SilentRefusals
 pub mod Special

@@ -15,6 +15,7 @@ ghost use Rattle.uv_model.specs.Rows.Hosts.{HostRows};
 ghost use Rattle.uv_model.specs.Rows.Machine.{MachineRows};
 ghost use Rattle.uv_model.specs.Rows.OpaquePaths.{OpaquePathRows};
 ghost use Rattle.uv_model.specs.Rows.Other.{OtherRows};
+ghost use Rattle.uv_model.specs.Rows.ReferenceMatrix.{ReferenceMatrixRows};
 ghost use Rattle.uv_model.specs.Rows.References.{ReferenceRows};
 ghost use Rattle.uv_model.specs.Rows.SilentRefusals.{SilentRefusalRows};
 ghost use Rattle.uv_model.specs.Rows.Special.{SpecialRows};
@@ -161,6 +162,12 @@ pub fn file_rows()
 /// What the parser machine does on texts against a base (URL Standard, section 4.4).
 pub fn reference_rows()
     ensures { ReferenceRows }
+{}
+
+/// What the parser machine does on fifteen texts without a scheme against each of nine bases (URL Standard, section
+/// 4.4), and the complaints of those that are refused.
+pub fn reference_matrix_rows()
+    ensures { ReferenceMatrixRows }
 {}
 
 /// On these texts the parser machine is done, although the standard profile refuses them.
