@@ -100,14 +100,7 @@ fn worked(alloc: Global) -> Result<Option<Record>, Fail> {
     ) {
         return Ok(None);
     }
-    Ok(Some(Record::make(
-        scheme,
-        Some(host),
-        None,
-        path,
-        Some(query),
-        Some(fragment),
-    )))
+    Ok(Some(Record::make(scheme, Some(host), None, path, Some(query), Some(fragment))))
 }
 
 // Whether each field is that of the worked record.
