@@ -14,7 +14,7 @@ use Rattle.uv_model.specs.Parts.{written_behind}
 use Rattle.uv_model.specs.Path.{is_without}
 use Rattle.uv_model.specs.Scheme.{is_scheme}
 use Rattle.uv_model.specs.Valid.{starts_with_scheme}
-use Rattle.uv_model.proofs.MarkLemmas.{has_mark, text_before-mark}
+use Rattle.uv_model.proofs.MarkLemmas.{has_mark, is_without-cons, text_before-mark}
 use Rattle.uv_model.proofs.SchemeCutLemmas.{scheme_without_colon, splits_at_scheme}
 use Rattle.uv_model.proofs.AuthorityCutLemmas.{host_cut-is, written_host_cut}
 use Rattle.uv_model.specs.Ascii.{colon, left_bracket, right_bracket}
@@ -214,3 +214,19 @@ splits_no_scheme text front None joined none other =
     record { joined = refl; scheme = rw whole (no_scheme_alone front none) }
 splits_no_scheme text front (Some rest) joined none other =
     record { joined = refl; scheme = rw joined (no_scheme_front front rest none (other refl)) }
+
+-- without a `:` there is no port
+pub no_port : (bytes : List ℕ) → is_without colon bytes ≡ true → IsPortMark bytes None
+no_port bytes none = (whole false bytes none, nothing false bytes none)
+  where
+    whole : (within : Bool) (text : List ℕ) → is_without colon text ≡ true → host_before within text ≡ text
+    whole within [] none = refl
+    whole within (c ∷ rest) none =
+        let parts = is_without-cons colon c rest none in
+        rw parts.0 (ap (λ r. c ∷ r) (whole (is_within within c) rest parts.1))
+
+    nothing : (within : Bool) (text : List ℕ) → is_without colon text ≡ true → port_behind within text ≡ None
+    nothing within [] none = refl
+    nothing within (c ∷ rest) none =
+        let parts = is_without-cons colon c rest none in
+        rw parts.0 (nothing (is_within within c) rest parts.1)

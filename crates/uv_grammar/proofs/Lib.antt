@@ -3,6 +3,7 @@ pub mod BuiltLemmas
 pub mod HostLemmas
 pub mod PartLemmas
 pub mod PieceLemmas
+pub mod PlainLinkLemmas
 pub mod PortLemmas
 pub mod SegmentLemmas
 pub mod SliceLemmas

@@ -1,5 +1,5 @@
 -- Lemmas on the texts between the slashes of a path, of its bytes and of its code points.
-use Rattle.std.proofs.Common.{◌≡◌, ◌≢◌, ℕ, List, [], ◌∷◌, ◌++◌, true, false, map, refl, sym, ap, ◌∙◌, arith, inl, inr, ne_eqb}
+use Rattle.std.proofs.Common.{◌≡◌, ◌≢◌, ℕ, Option, Some, None, List, [], ◌∷◌, ◌++◌, true, false, map, refl, sym, ap, ◌∙◌, arith, inl, inr, ne_eqb}
 use Rattle.std.specs.Prelude.{◌==◌}
 use Rattle.std.specs.List.{slice_split, onto_first}
 use Rattle.std.specs.Borrow.{Bor}
@@ -9,9 +9,10 @@ use Rattle.std.proofs.lemmas.Bool.{and_parts, cases_Bool, cases_lt}
 use Rattle.std.proofs.lemmas.Str.{encode_ascii, encodes-chars, chars-encodes, scalars-chars}
 use Rattle.std.proofs.Math.Utf8.{encodes, encode, scalars, scalar}
 use Rattle.uv_model.specs.Ascii.{slash}
-use Rattle.uv_model.specs.Path.{starts_with_slash}
-use Rattle.uv_model.specs.Parts.{PathRelative}
-use Rattle.uv_grammar.specs.Built.{form_with, pieces, segments_of}
+use Rattle.uv_model.specs.Path.{is_without, starts_with_slash}
+use Rattle.uv_model.proofs.MarkLemmas.{is_without-cons}
+use Rattle.uv_model.specs.Parts.{PathRelative, written_behind}
+use Rattle.uv_grammar.specs.Built.{form_with, left_segments, pieces, segments_of}
 use Rattle.uv_grammar.proofs.AuthorityLemmas.{AreBeyond, AreBeyond-encode}
 
 -- the bytes before the first part
@@ -119,3 +120,20 @@ relative_form (c ∷ rest) some start = rw start refl
 pub relative_segments : (text : List ℕ) → text ≢ [] → starts_with_slash text ≡ false → pieces text ≡ segments_of text
 relative_segments [] some start = absurd (some refl)
 relative_segments (c ∷ rest) some start = rw start refl
+
+-- what stands before the first slash is the first part, and the parts of what follows it are the others
+pub pieces_split : (text first : List ℕ) (rest : Option (List ℕ)) → text ≡ first ++ written_behind slash rest
+    → is_without slash first ≡ true
+    → pieces text ≡ first ∷ left_segments rest
+pieces_split text first rest joined none = ap pieces joined ∙ split first none
+  where
+    ended : (rest : Option (List ℕ)) → pieces (written_behind slash rest) ≡ [] ∷ left_segments rest
+    ended None = refl
+    ended (Some tail) = refl
+
+    split : (first : List ℕ) → is_without slash first ≡ true
+        → pieces (first ++ written_behind slash rest) ≡ first ∷ left_segments rest
+    split [] none = ended rest
+    split (c ∷ more) none =
+        let parts = is_without-cons slash c more none in
+        rw (parts.0, split more parts.1) refl

@@ -1,5 +1,5 @@
 -- The parts of a text by its cut, after the URL Standard, section 4.3.
-use Rattle.std.specs.Prelude.{ℕ, Bool, true, false, ◌==◌, List, [], ◌∷◌, Option, is_some, if◌then◌else◌}
+use Rattle.std.specs.Prelude.{ℕ, Bool, true, false, ◌==◌, List, [], ◌∷◌, Option, Some, None, is_some, if◌then◌else◌}
 use Rattle.std.specs.List.{slice_split}
 use Rattle.uv_model.specs.declared.host.Host.{Host}
 use Rattle.uv_model.specs.Ascii.{slash}
@@ -32,6 +32,11 @@ segments_of (c ∷ rest) = if c == slash then pieces rest else pieces (c ∷ res
 abbrev pub segments_in : Form → List ℕ → List (List ℕ)
 segments_in SchemeOpaque path_text = []
 segments_in _ path_text = segments_of path_text
+
+-- the segments that a text between slashes still holds, where there is one
+abbrev pub left_segments : Option (List ℕ) → List (List ℕ)
+left_segments None = []
+left_segments (Some text) = pieces text
 
 -- the parts of a cut text, with the values of its host and its port
 abbrev pub built : Cut → Option Host → Option ℕ → Parts

@@ -1,9 +1,11 @@
 pub mod Built
 pub mod Form
+pub mod HeldHost
 pub mod HostAnswer
 pub mod Later
 pub mod Laws
 pub mod PartAnswers
+pub mod PlainLinks
 pub mod PortAnswer
 pub mod Seen
 pub mod Sides

@@ -3,6 +3,7 @@ use Rattle.std.specs.Prelude.{◌≡◌, ◌≢◌, ℕ, ◌+◌, ◌<◌, true,
 use Rattle.uv_model.specs.declared.scheme.Class.{Class}
 use Rattle.uv_model.specs.Ascii.{slash, colon}
 use Rattle.uv_model.specs.Cut.{IsSchemeCut, IsHostCut, host_before, port_behind}
+use Rattle.uv_model.specs.Scheme.{scheme_class}
 use Rattle.uv_model.specs.Parts.{written_behind, written_scheme}
 use Rattle.uv_model.specs.Path.{is_without, starts_with_slash}
 
@@ -34,3 +35,8 @@ IsPortMark text None = (host_before false text ≡ text) × (port_behind false t
 IsPortMark text (Some place) =
     (place < length text) × (slice_index text place ≡ colon) × (host_before false text ≡ take place text)
     × (port_behind false text ≡ Some (drop (place + 1) text))
+
+-- the class of the scheme, where there is one
+abbrev pub IsKind : Class → Option (List ℕ) → Type 0
+IsKind kind None = Unit {0}
+IsKind kind (Some scheme) = kind ≡ scheme_class scheme

@@ -6,7 +6,7 @@ ghost use Rattle.uv_grammar.specs.Later.{IsCountable};
 ghost use Rattle.uv_grammar.specs.PartAnswers.{IsHostPart, IsPortPart, without_default};
 ghost use Rattle.uv_grammar.specs.Seen.{seen_option};
 
-use crate::cut::{Cut, class_against};
+use crate::cut::{Cut, kind_of};
 use crate::host::{HostAnswer, judge_host};
 use crate::places::{host_place, port_place, refusal_behind};
 use crate::port::{PortAnswer, judge_port};
@@ -25,7 +25,7 @@ pub(crate) fn judge_host_part(
     let Some(host_text) = cut.host_text else {
         return Ok(HostAnswer::Valid(None));
     };
-    let kind = class_against(base, cut.scheme);
+    let kind = kind_of(cut, base);
     match judge_host(alloc, kind, host_text, cut.port_text, cut.path_text)? {
         HostAnswer::Valid(host) => Ok(HostAnswer::Valid(host)),
         HostAnswer::Refused(refusal) => {

@@ -1,41 +1,33 @@
 //! The parts of a text, built from its cut and the values of its host and its port.
-ghost use Rattle.std.specs.Prelude.{◌≡◌, IfOk, false, true};
+ghost use Rattle.std.specs.Prelude.{◌≡◌, false, option_map, true};
 ghost use Rattle.std.specs.Str.{chars};
-ghost use Rattle.uv_grammar.specs.Built.{built, form_of, form_with, pieces, segments_in, segments_of};
+ghost use Rattle.uv_grammar.specs.Built.{built, form_of, form_with};
 ghost use Rattle.uv_grammar.specs.Form.{seen_form};
-ghost use Rattle.uv_grammar.specs.Seen.{seen_each};
+ghost use Rattle.uv_grammar.specs.HeldHost.{held};
 
 use crate::cut::Cut;
 use crate::form::Form;
-use crate::marks::behind_slash;
+use crate::held_host::HeldHost;
 use crate::parts::Parts;
 use crate::starts::has_slash;
-use std::alloc::{AllocError, Global};
 use uv_model::Host;
 
-/// The parts of a cut text. The error is want of memory.
-pub(crate) fn build<'t>(
-    alloc: Global,
-    cut: Cut<'t>,
-    host: Option<Host>,
-    port: Option<u16>,
-) -> Result<Parts<'t>, AllocError>
-    ensures { IfOk result (λ p. p ≡ built cut.entry host port) }
+/// The parts of a cut text.
+pub(crate) fn build<'t>(cut: Cut<'t>, host: Option<Host>, port: Option<u16>) -> Parts<'t>
+    ensures { result ≡ built cut.entry host port }
 {
     let form = form_of(&cut);
-    let segments = segments_in(alloc, form, cut.path_text)?;
-    Ok(Parts {
+    Parts {
         form,
         scheme: cut.scheme,
         host_text: cut.host_text,
-        host,
+        host: held(host),
         port_text: cut.port_text,
         port,
         path_text: cut.path_text,
-        segments,
         query: cut.query,
         fragment: cut.fragment,
-    })
+    }
 }
 
 // The form of a cut text.
@@ -74,36 +66,12 @@ fn reference_form(path_text: &str) -> Form
     }
 }
 
-// The segments of a path by the form.
-fn segments_in<'t>(
-    alloc: Global,
-    form: Form,
-    path_text: &'t str,
-) -> Result<Vec<&'t str>, AllocError>
-    ensures { IfOk result (λ v. seen_each v.items ≡ segments_in (seen_form form) (chars path_text.now)) }
+// A host with a value of its own, where there is one.
+fn held<'t>(host: Option<Host>) -> Option<HeldHost<'t>>
+    ensures { option_map held result ≡ host }
 {
-    match form {
-        Form::SchemeOpaque => Ok(Vec::new(alloc)),
-        _ => segments_of(alloc, path_text),
+    match host {
+        Some(host) => Some(HeldHost::Made(host)),
+        None => None,
     }
-}
-
-// The segments of a path that isn't opaque.
-fn segments_of<'t>(alloc: Global, path_text: &'t str) -> Result<Vec<&'t str>, AllocError>
-    ensures { IfOk result (λ v. seen_each v.items ≡ segments_of (chars path_text.now)) }
-{
-    if path_text.is_empty() {
-        return Ok(Vec::new(alloc));
-    }
-    match behind_slash(path_text) {
-        Some(rest) => pieces(alloc, rest),
-        None => pieces(alloc, path_text),
-    }
-}
-
-// The texts between the slashes of a text.
-fn pieces<'t>(alloc: Global, text: &'t str) -> Result<Vec<&'t str>, AllocError>
-    ensures { IfOk result (λ v. seen_each v.items ≡ pieces (chars text.now)) }
-{
-    text.split('/').collect(alloc)
 }

@@ -13,6 +13,7 @@ use crate::cut::{Cut, cut_text};
 use crate::faults::fault_from_path_start;
 use crate::host::HostAnswer;
 use crate::parts::Parts;
+use crate::plain_links::plain_link;
 use crate::port::PortAnswer;
 use crate::starting::start_fault;
 use std::alloc::{AllocError, Global};
@@ -30,6 +31,20 @@ pub enum Verdict<'t> {
 /// Whether a text is a valid URL string, alone or against a base (URL Standard, section 4.3), with its parts or its
 /// least refusal. The error is want of memory.
 pub fn check<'t>(
+    alloc: Global,
+    text: &'t str,
+    base: Option<&Record>,
+) -> Result<Verdict<'t>, AllocError>
+    ensures { IfOk result (IsVerdict (option_copied base.entry) (chars text.now)) }
+{
+    match plain_link(text) {
+        Some(parts) => Ok(Verdict::Yes(parts)),
+        None => check_by_parts(alloc, text, base),
+    }
+}
+
+// The same of any text, part by part.
+fn check_by_parts<'t>(
     alloc: Global,
     text: &'t str,
     base: Option<&Record>,
@@ -72,7 +87,7 @@ fn judge_from_port<'t>(
     };
     match fault_from_path_start(&cut, base) {
         Some(refusal) => Ok(Verdict::No(refusal)),
-        None => Ok(Verdict::Yes(build(alloc, cut, host, port)?)),
+        None => Ok(Verdict::Yes(build(cut, host, port))),
     }
 }
 

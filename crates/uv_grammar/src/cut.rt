@@ -9,10 +9,12 @@ use crate::marks::{behind_slash, split_at_mark, split_at_slash};
 use crate::starts::is_scheme_text;
 use std::marker::Model;
 use uv_model::{Class, Record, class_of};
+use uv_text::lacks_byte;
 
 /// The texts of the parts of a text.
 #[derive(Drop)]
 pub(crate) struct Cut<'t> {
+    pub(crate) kind: Class,
     pub(crate) scheme: Option<&'t str>,
     pub(crate) host_text: Option<&'t str>,
     pub(crate) port_text: Option<&'t str>,
@@ -24,6 +26,7 @@ pub(crate) struct Cut<'t> {
 impl<'t> Model for Cut<'t> {
     ghost use Rattle.uv_model.specs.Cut.{Cut};
     ghost use Rattle.uv_grammar.specs.Seen.{seen, seen_option};
+    ghost use Rattle.uv_grammar.specs.Sides.{IsKind};
 
     ghost Value = { Cut };
 
@@ -35,6 +38,8 @@ impl<'t> Model for Cut<'t> {
       query = seen_option c.query;
       fragment = seen_option c.fragment;
     } };
+
+    ghost invariant = { λ c. IsKind c.kind (seen_option c.scheme) };
 }
 
 /// The cut of a text against a base.
@@ -44,10 +49,12 @@ pub(crate) fn cut_text<'t>(text: &'t str, base: Option<&Record>) -> Cut<'t>
     let (front, fragment) = split_at_mark(text, '#');
     let (start, query) = split_at_mark(front, '?');
     let (scheme, middle) = split_scheme(start);
+    let kind = class_against(base, scheme);
     match split_authority(middle) {
         Some((authority, path_text)) => {
-            let (host_text, port_text) = split_host(authority, class_against(base, scheme));
+            let (host_text, port_text) = split_host(authority, kind);
             Cut {
+                kind,
                 scheme,
                 host_text: Some(host_text),
                 port_text,
@@ -57,6 +64,7 @@ pub(crate) fn cut_text<'t>(text: &'t str, base: Option<&Record>) -> Cut<'t>
             }
         }
         None => Cut {
+            kind,
             scheme,
             host_text: None,
             port_text: None,
@@ -75,6 +83,16 @@ pub(crate) fn class_against(base: Option<&Record>, scheme: Option<&str>) -> Clas
         (Some(scheme), _) => class_of(scheme),
         (None, Some(base)) => class_of(base.scheme()),
         (None, None) => Class::Other,
+    }
+}
+
+/// The class of a cut text's scheme, else of the base's scheme, else `Other`.
+pub(crate) fn kind_of(cut: &Cut, base: Option<&Record>) -> Class
+    ensures { result ≡ class_in (option_copied base.entry) cut.now.scheme }
+{
+    match cut.scheme {
+        Some(_) => cut.kind,
+        None => class_against(base, None),
     }
 }
 
@@ -133,6 +151,9 @@ fn split_port<'t>(authority: &'t str) -> (&'t str, Option<&'t str>)
 fn port_mark(bytes: &[u8]) -> Option<usize>
     ensures { IsPortMark bytes.now result }
 {
+    if lacks_byte(bytes, b':') {
+        return None;
+    }
     let mut within = false;
     for (i, b) in bytes.iter().enumerate() {
         if *b == b':' && !within {

@@ -1,5 +1,5 @@
 //! The faults of the path, the query and the fragment of a cut text.
-ghost use Rattle.std.specs.Prelude.{◌+◌, ◌<◌, ◌^◌, length, option_copied};
+ghost use Rattle.std.specs.Prelude.{◌+◌, ◌<◌, ◌^◌, Some, length, option_copied};
 ghost use Rattle.std.specs.Str.{chars};
 ghost use Rattle.uv_model.specs.Complaint.{Behind};
 ghost use Rattle.uv_model.specs.Refusal.{IsLeast};
@@ -28,8 +28,8 @@ fn fault_from_path(cut: &Cut) -> Option<Refusal>
     requires { IsCountable cut.now }
     ensures { IsLeast (FromPath cut.now) result }
 {
-    match unit_fault(path_place(cut), cut.path_text) {
-        Some(refusal) => Some(refusal),
+    match first_fault(cut.path_text) {
+        Some(refusal) => Some(moved(path_place(cut), cut.path_text, refusal)),
         None => fault_from_query(cut),
     }
 }
@@ -40,8 +40,8 @@ fn fault_from_query(cut: &Cut) -> Option<Refusal>
     ensures { IsLeast (FromQuery cut.now) result }
 {
     match cut.query {
-        Some(query) => match unit_fault(query_place(cut), query) {
-            Some(refusal) => Some(refusal),
+        Some(query) => match first_fault(query) {
+            Some(refusal) => Some(moved(query_place(cut), query, refusal)),
             None => fragment_fault(cut),
         },
         None => fragment_fault(cut),
@@ -54,18 +54,19 @@ fn fragment_fault(cut: &Cut) -> Option<Refusal>
     ensures { IsLeast (FromFragment cut.now) result }
 {
     match cut.fragment {
-        Some(fragment) => unit_fault(fragment_place(cut), fragment),
+        Some(fragment) => match first_fault(fragment) {
+            Some(refusal) => Some(moved(fragment_place(cut), fragment, refusal)),
+            None => None,
+        },
         None => None,
     }
 }
 
 // The first fault of a text that should be units, counted from the text's start, where it stands at a place.
-fn unit_fault(place: usize, text: &str) -> Option<Refusal>
-    requires { place + length (chars text.now) < 2 ^ 64 }
-    ensures { IsLeast (Behind place (UnitComplaint (chars text.now))) result }
+fn moved(place: usize, text: &str, refusal: Refusal) -> Refusal
+    requires fits { place + length (chars text.now) < 2 ^ 64 }
+    requires least { IsLeast (UnitComplaint (chars text.now)) (Some refusal) }
+    ensures { IsLeast (Behind place (UnitComplaint (chars text.now))) (Some result) }
 {
-    match first_fault(text) {
-        Some(refusal) => Some(refusal_behind(place, refusal)),
-        None => None,
-    }
+    refusal_behind(place, refusal)
 }

@@ -7,15 +7,18 @@ mod checker;
 mod cut;
 mod faults;
 mod form;
+mod held_host;
 mod host;
 pub mod laws;
 mod marks;
 mod parts;
 mod places;
+mod plain_links;
 mod port;
 mod starting;
 mod starts;
 
 pub use checker::{Verdict, check};
 pub use form::Form;
+pub use held_host::{AsciiText, HostRef};
 pub use parts::{Parts, Segments};

@@ -7,12 +7,17 @@ ghost use Rattle.uv_model.specs.Parts.{written_behind};
 ghost use Rattle.uv_grammar.specs.Seen.{seen, seen_option};
 ghost use Rattle.uv_grammar.specs.Sides.{SplitsAtSlash};
 
+use uv_text::lacks_mark;
+
 /// What stands before the first such mark, and what follows it where there is one.
 pub(crate) fn split_at_mark<'t>(text: &'t str, mark: char) -> (&'t str, Option<&'t str>)
     requires { mark < 128 }
     ensures joined { chars text.now ≡ seen result.0 ++ written_behind mark (seen_option result.1) }
     ensures first { is_without mark (seen result.0) ≡ true }
 {
+    if lacks_mark(text, mark as u8) {
+        return (text, None);
+    }
     match text.split_once(mark) {
         Some((front, rest)) => (front, Some(rest)),
         None => (text, None),

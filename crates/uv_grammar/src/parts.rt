@@ -1,13 +1,16 @@
 //! The parts of a valid URL string.
-ghost use Rattle.std.specs.Prelude.{◌≡◌, ℕ, List, option_copied};
+ghost use Rattle.std.specs.Prelude.{◌≡◌, ℕ, List, option_map};
 ghost use Rattle.std.specs.Str.{chars};
 ghost use Rattle.std.specs.Iterator.{YieldsFirstBy, item_count};
 ghost use Rattle.uv_grammar.specs.Form.{seen_form};
-ghost use Rattle.uv_grammar.specs.Seen.{seen, seen_option, seen_each};
+ghost use Rattle.uv_grammar.specs.HeldHost.{referred};
+ghost use Rattle.uv_grammar.specs.Seen.{seen, seen_option};
+ghost use Rattle.uv_grammar.specs.Built.{left_segments, segments_in, segments_of};
 
 use crate::form::Form;
-use std::marker::Model;
-use uv_model::Host;
+use crate::held_host::{HeldHost, HostRef};
+use crate::marks::{behind_slash, split_at_mark};
+use std::marker::{Model, PhantomData};
 
 /// The parts of a valid URL string, as slices of it, and the values of its host and port.
 #[derive(Drop)]
@@ -15,19 +18,21 @@ pub struct Parts<'t> {
     pub(crate) form: Form,
     pub(crate) scheme: Option<&'t str>,
     pub(crate) host_text: Option<&'t str>,
-    pub(crate) host: Option<Host>,
+    pub(crate) host: Option<HeldHost<'t>>,
     pub(crate) port_text: Option<&'t str>,
     pub(crate) port: Option<u16>,
     pub(crate) path_text: &'t str,
-    pub(crate) segments: Vec<&'t str>,
     pub(crate) query: Option<&'t str>,
     pub(crate) fragment: Option<&'t str>,
 }
 
 impl<'t> Model for Parts<'t> {
     ghost use Rattle.uv_model.specs.Parts.{Parts};
+    ghost use Rattle.std.specs.Prelude.{option_map};
     ghost use Rattle.uv_grammar.specs.Form.{seen_form};
-    ghost use Rattle.uv_grammar.specs.Seen.{seen, seen_option, seen_each};
+    ghost use Rattle.uv_grammar.specs.HeldHost.{held};
+    ghost use Rattle.uv_grammar.specs.Seen.{seen, seen_option};
+    ghost use Rattle.uv_grammar.specs.Built.{segments_in};
 
     ghost Value = { Parts };
 
@@ -35,11 +40,11 @@ impl<'t> Model for Parts<'t> {
       form = seen_form p.form;
       scheme = seen_option p.scheme;
       host_text = seen_option p.host_text;
-      host = p.host;
+      host = option_map held p.host;
       port_text = seen_option p.port_text;
       port = p.port;
       path_text = seen p.path_text;
-      segments = seen_each p.segments.items;
+      segments = segments_in (seen_form p.form) (seen p.path_text);
       query = seen_option p.query;
       fragment = seen_option p.fragment;
     } };
@@ -68,10 +73,13 @@ impl<'t> Parts<'t> {
     }
 
     /// The host, where its value isn't its text: not for an opaque host.
-    pub fn host(&self) -> Option<&Host>
-        ensures { option_copied result ≡ self.now.host }
+    pub fn host(&self) -> Option<HostRef<'_>>
+        ensures { option_map referred result ≡ self.now.host }
     {
-        self.host.as_ref()
+        match &self.host {
+            Some(host) => Some(host.lent()),
+            None => None,
+        }
     }
 
     /// The port's text, where there is a `:` of a port.
@@ -99,9 +107,7 @@ impl<'t> Parts<'t> {
     pub fn segments(&self) -> Segments<'_, 't>
         ensures { result ≡ self.now.segments }
     {
-        Segments {
-            left: self.segments.as_slice(),
-        }
+        Segments::of(self.form, self.path_text)
     }
 
     /// The query, without its `?`.
@@ -122,16 +128,53 @@ impl<'t> Parts<'t> {
 /// The segments of a path that are still to come.
 #[derive(Drop)]
 pub struct Segments<'p, 't> {
-    left: &'p [&'t str],
+    left: Option<&'t str>,
+    path: PhantomData<&'p str>,
 }
 
 impl<'p, 't> Model for Segments<'p, 't> {
     ghost use Rattle.std.specs.Prelude.{ℕ, List};
-    ghost use Rattle.uv_grammar.specs.Seen.{seen_each};
+    ghost use Rattle.uv_grammar.specs.Seen.{seen_option};
+    ghost use Rattle.uv_grammar.specs.Built.{left_segments};
 
     ghost Value = { List (List ℕ) };
 
-    ghost view = { λ s. seen_each s.left.now };
+    ghost view = { λ s. left_segments (seen_option s.left) };
+}
+
+impl<'p, 't> Segments<'p, 't> {
+    // The segments of a path by its form.
+    fn of(form: Form, path_text: &'t str) -> Segments<'p, 't>
+        ensures { result ≡ segments_in (seen_form form) (chars path_text.now) }
+    {
+        Segments {
+            left: segments_text(form, path_text),
+            path: PhantomData,
+        }
+    }
+}
+
+// The text of the segments of a path by its form: what stands behind a `/` at its start, where there are any.
+fn segments_text<'t>(form: Form, path_text: &'t str) -> Option<&'t str>
+    ensures { left_segments (seen_option result) ≡ segments_in (seen_form form) (chars path_text.now) }
+{
+    match form {
+        Form::SchemeOpaque => None,
+        _ => behind_first(path_text),
+    }
+}
+
+// What stands behind a `/` at the start of a path that isn't empty.
+fn behind_first<'t>(path_text: &'t str) -> Option<&'t str>
+    ensures { left_segments (seen_option result) ≡ segments_of (chars path_text.now) }
+{
+    if path_text.is_empty() {
+        return None;
+    }
+    match behind_slash(path_text) {
+        Some(rest) => Some(rest),
+        None => Some(path_text),
+    }
 }
 
 impl<'p, 't> Iterator for Segments<'p, 't> {
@@ -143,11 +186,12 @@ impl<'p, 't> Iterator for Segments<'p, 't> {
 
     fn next(&mut self) -> Option<&'t str> {
         match self.left {
-            [first, rest @ ..] => {
+            Some(text) => {
+                let (first, rest) = split_at_mark(text, '/');
                 self.left = rest;
-                Some(*first)
+                Some(first)
             }
-            [] => None,
+            None => None,
         }
     }
 }

@@ -1,5 +1,5 @@
 //! The rules of the start of a text and of the start of a path.
-ghost use Rattle.std.specs.Prelude.{◌≡◌, ◌≢◌, ◌↔◌, IsTrue, [], option_copied};
+ghost use Rattle.std.specs.Prelude.{◌≡◌, ◌≢◌, ◌↔◌, IsSome, IsTrue, None, [], option_copied};
 ghost use Rattle.std.specs.Str.{chars};
 ghost use Rattle.uv_model.specs.Complaint.{HasHost, PathStartComplaint, StartComplaint};
 ghost use Rattle.uv_model.specs.Cut.{class_in};
@@ -8,7 +8,7 @@ ghost use Rattle.uv_model.specs.Scheme.{scheme_class};
 ghost use Rattle.uv_grammar.specs.Later.{IsCountable};
 ghost use Rattle.uv_grammar.specs.Starting.{base_fault};
 
-use crate::cut::{Cut, class_against};
+use crate::cut::{Cut, kind_of};
 use crate::places::slashes_place;
 use crate::starts::{has_drive, has_number_sign, has_two_slashes};
 use uv_model::{Class, Host, Record, Refusal, Rule, class_of};
@@ -20,8 +20,8 @@ pub(crate) fn start_fault(text: &str, cut: &Cut, base: Option<&Record>) -> Optio
     ensures { IsLeast (StartComplaint (option_copied base.entry) (chars text.now) cut.now) result }
 {
     match cut.scheme {
-        Some(scheme) => {
-            if lacks_slashes(scheme, cut) {
+        Some(_) => {
+            if lacks_slashes(cut) {
                 Some(Refusal {
                     place: slashes_place(cut),
                     rule: Rule::TwoSlashes,
@@ -35,10 +35,11 @@ pub(crate) fn start_fault(text: &str, cut: &Cut, base: Option<&Record>) -> Optio
 }
 
 // A special scheme has no authority.
-fn lacks_slashes(scheme: &str, cut: &Cut) -> bool
-    ensures { IsTrue result ↔ ((scheme_class (chars scheme.now) ≢ Class.Other) × (cut.now.host_text ≡ None)) }
+fn lacks_slashes(cut: &Cut) -> bool
+    requires { IsSome cut.now.scheme }
+    ensures { IsTrue result ↔ ((class_in None cut.now.scheme ≢ Class.Other) × (cut.now.host_text ≡ None)) }
 {
-    match (class_of(scheme), cut.host_text) {
+    match (cut.kind, cut.host_text) {
         (Class::Other, _) => false,
         (_, None) => true,
         (_, Some(_)) => false,
@@ -92,7 +93,7 @@ fn keeps_drive_out(cut: &Cut, base: Option<&Record>) -> bool
     ensures { IsTrue result ↔ ((class_in (option_copied base.entry) cut.now.scheme ≡ Class.File)
         × HasHost (option_copied base.entry) cut.now.scheme cut.now.host_text) }
 {
-    match class_against(base, cut.scheme) {
+    match kind_of(cut, base) {
         Class::File => has_host(cut, base),
         Class::Special | Class::Other => false,
     }

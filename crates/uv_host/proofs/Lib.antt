@@ -1,2 +1,4 @@
 pub mod BracketLemmas
+pub mod ChainLemmas
 pub mod OpaqueHostLemmas
+pub mod PlainLemmas

@@ -1,2 +1,3 @@
 pub mod Domains
 pub mod OpaqueHosts
+pub mod PlainNames

@@ -1,9 +1,13 @@
 //! Domains of special URLs (URL Standard, sections 3.3 to 3.5; UTS #46, section 4).
 ghost use Rattle.std.specs.Cow.{cow_str_bytes};
-ghost use Rattle.std.specs.Prelude.{chars, encode_utf8_all, false, IfOk, IsTrue, MatchOption, option_map, true, ◌↔◌, ◌≡◌};
+ghost use Rattle.std.specs.Prelude.{chars, encode_utf8_all, false, IfOk, IsTrue, MatchOption, option_map, slice_index, true, ◌↔◌, ◌≡◌, ◌==◌};
 ghost use Rattle.std.specs.Str.{IsAscii};
 ghost use Rattle.idna.specs.Uts46.{to_ascii};
-ghost use Rattle.uv_host.specs.Domains.{IsAnswer};
+ghost use Rattle.std.specs.List.{list_all};
+ghost use Rattle.idna.specs.Display.{IsPlain};
+ghost use Rattle.idna.specs.Labels.{labels_of};
+ghost use Rattle.idna.specs.Validity.{passes_hyphens};
+ghost use Rattle.uv_host.specs.Domains.{IsAnswer, is_simple};
 ghost use Rattle.uv_model.specs.Domain as spec;
 
 use idna::uts46::{DnsLength, Hyphens, Uts46, verify_dns_length};
@@ -31,6 +35,9 @@ pub fn domain(alloc: Global, text: &str) -> Result<DomainAnswer, AllocError>
     ensures answer { IfOk result (IsAnswer (chars text.now)) }
     ensures refused { spec.has_permitted (chars text.now) ≡ false → result ≡ Ok DomainAnswer.Not }
 {
+    if is_plain(text.as_bytes()) {
+        return plain_domain(alloc, text);
+    }
     if !has_permitted(text) {
         return Ok(DomainAnswer::Not);
     }
@@ -42,6 +49,76 @@ pub fn domain(alloc: Global, text: &str) -> Result<DomainAnswer, AllocError>
     } else {
         Ok(DomainAnswer::Ascii(form.into_owned(alloc)?))
     }
+}
+
+/// Whether a name is its own form at both settings, but for its lengths: lower-case letters, digits, full stops, and
+/// hyphens where the strict settings take them.
+fn is_plain(name: &[u8]) -> bool
+    ensures { IsTrue result → IsPlain AsciiDenyList.STD3 Hyphens.Check name.now }
+{
+    is_simple(name) || (is_form(name) && has_placed_hyphens(name))
+}
+
+/// Lower-case letters, digits and full stops.
+fn is_simple(name: &[u8]) -> bool
+    ensures { result ≡ list_all is_simple name.now }
+{
+    name.iter().all(|b| is_simple_byte(*b))
+}
+
+fn is_simple_byte(b: u8) -> bool
+    ensures { result ≡ is_simple b }
+{
+    b.is_ascii_lowercase() || (b.is_ascii_digit() || b == b'.')
+}
+
+/// Lower-case letters, digits, hyphens and full stops.
+fn is_form(name: &[u8]) -> bool
+    ensures { result ≡ list_all spec.is_form_code_point name.now }
+{
+    name.iter().all(|b| is_form_byte(*b))
+}
+
+fn is_form_byte(b: u8) -> bool
+    ensures { result ≡ spec.is_form_code_point b }
+{
+    b.is_ascii_lowercase() || (b.is_ascii_digit() || (b == b'-' || b == b'.'))
+}
+
+/// Whether no label begins or ends with a hyphen, or has two as its third and fourth bytes.
+fn has_placed_hyphens(name: &[u8]) -> bool
+    ensures { result ≡ list_all (passes_hyphens Hyphens.Check) (labels_of name.now) }
+{
+    name.split(|b| *b == b'.').all(|label| has_placed(label))
+}
+
+#[tactic(auto, unfolding(idna::specs::Validity::passes_hyphens))]
+fn has_placed(label: &[u8]) -> bool
+    ensures { result ≡ passes_hyphens Hyphens.Check label.now }
+{
+    let third = is_hyphen_at(label, 2) && is_hyphen_at(label, 3);
+    let outer = is_hyphen_at(label, 0) || is_hyphen_at(label, label.len().saturating_sub(1));
+    !third & !outer
+}
+
+fn is_hyphen_at(label: &[u8], at: usize) -> bool
+    ensures { result ≡ (slice_index label.now at == 45) }
+{
+    at < label.len() && label[at] == b'-'
+}
+
+/// The answer on a plain name, which is its own form where it has the lengths.
+fn plain_domain(alloc: Global, name: &str) -> Result<DomainAnswer, AllocError>
+    requires { IsPlain AsciiDenyList.STD3 Hyphens.Check name.now }
+    ensures { IfOk result (IsAnswer (chars name.now)) }
+{
+    if !has_lengths(name) {
+        return Ok(DomainAnswer::Not);
+    }
+    if is_number(name) {
+        return Ok(DomainAnswer::Number);
+    }
+    Ok(DomainAnswer::Ascii(String::from_str(alloc, name)?))
 }
 
 /// Whether all ASCII code points of the text are letters, digits, `-` and `.`.
@@ -106,7 +183,7 @@ fn has_lengths(form: &str) -> bool
 }
 
 /// Whether a form ends in a number.
-fn is_number(form: &str) -> bool
+pub(crate) fn is_number(form: &str) -> bool
     requires { IsAscii form.now }
     ensures { result ≡ spec.ends_in_number form.now }
 {

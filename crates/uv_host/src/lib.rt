@@ -4,7 +4,9 @@
 mod addresses;
 mod domains;
 mod opaque_hosts;
+mod plain_names;
 
 pub use addresses::{bracketed_ipv6, ipv4, ipv6};
 pub use domains::{DomainAnswer, domain};
 pub use opaque_hosts::opaque_fault;
+pub use plain_names::{is_plain_domain, name_front};

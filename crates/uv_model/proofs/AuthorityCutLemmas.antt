@@ -16,12 +16,12 @@ use Rattle.uv_model.proofs.MarkLemmas.{is_without-before, text_before-none, text
 
 -- Each `:` of the host text stands within brackets, and a port's `:` doesn't; `within` says whether the text's start
 -- stands within brackets.
-record EndsFrom (within : Bool) (host_text : List ℕ) (port_text : Option (List ℕ)) : Type 0 where
-  none_before : (front rest : List ℕ) → host_text ≡ front ++ colon ∷ rest → is_within_at_end within front ≡ true
-  ends : IsSome port_text → is_within_at_end within host_text ≡ false
+pub record EndsFrom (within : Bool) (host_text : List ℕ) (port_text : Option (List ℕ)) : Type 0 where
+  pub none_before : (front rest : List ℕ) → host_text ≡ front ++ colon ∷ rest → is_within_at_end within front ≡ true
+  pub ends : IsSome port_text → is_within_at_end within host_text ≡ false
 
 -- the first code point of such a host text is no `:` of a port
-first_is_no_mark : (within : Bool) (c : ℕ) (rest : List ℕ) (port_text : Option (List ℕ))
+pub first_is_no_mark : (within : Bool) (c : ℕ) (rest : List ℕ) (port_text : Option (List ℕ))
     → EndsFrom within (c ∷ rest) port_text
     → is_port_mark within c ≡ false
 first_is_no_mark within c rest port_text e = elim (cases_Bool (c == colon)) [
@@ -30,7 +30,7 @@ first_is_no_mark within c rest port_text e = elim (cases_Bool (c == colon)) [
 ]
 
 -- and its rest is such a text from the next place on
-rest_ends : (within : Bool) (c : ℕ) (rest : List ℕ) (port_text : Option (List ℕ)) → EndsFrom within (c ∷ rest) port_text
+pub rest_ends : (within : Bool) (c : ℕ) (rest : List ℕ) (port_text : Option (List ℕ)) → EndsFrom within (c ∷ rest) port_text
     → EndsFrom (is_within within c) rest port_text
 rest_ends within c rest port_text e = record {
   none_before = λ front later same. e.none_before (c ∷ front) later (ap (λ xs. c ∷ xs) same);
@@ -106,7 +106,7 @@ host_before-ends within (c ∷ rest) = elim (cases_Bool (is_port_mark within c))
 ]
 
 -- the two ways to say where a host ends
-ends_from_start : (host_text : List ℕ) (port_text : Option (List ℕ)) → EndsAtPort host_text port_text
+pub ends_from_start : (host_text : List ℕ) (port_text : Option (List ℕ)) → EndsAtPort host_text port_text
     → EndsFrom false host_text port_text
 ends_from_start host_text port_text e = record { none_before = e.none_before; ends = e.ends }
 

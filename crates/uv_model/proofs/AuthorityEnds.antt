@@ -1,6 +1,6 @@
 -- The parser machine from the start of an authority to the end of the text, where host and port are followed by a path,
 -- a query and a fragment.
-use Rattle.std.proofs.Common.{◌≡◌, ℕ, suc, ◌+◌, true, false, ◌&&◌, ◌==◌, ◌⊎◌, List, [], ◌∷◌, ◌++◌, length, Option, Some, None, refl, ap, ◌∙◌, inl, inr, ⊎_elim, append_assoc, append-nil, length-append, le-ltb, arith}
+use Rattle.std.proofs.Common.{◌≡◌, ℕ, Bool, suc, ◌+◌, true, false, ◌&&◌, ◌==◌, ◌⊎◌, List, [], ◌∷◌, ◌++◌, length, Option, Some, None, refl, ap, subst, ◌∙◌, inl, inr, ⊎_elim, append_assoc, append-nil, length-append, le-ltb, arith}
 use Rattle.std.specs.Prelude.{nat_lt}
 use Rattle.std.specs.List.{list_all}
 use Rattle.std.specs.Char.{is_ascii_digit}
@@ -14,8 +14,10 @@ use Rattle.uv_model.specs.HostParser.{parse_host}
 use Rattle.uv_model.specs.Parts.{written_behind}
 use Rattle.uv_model.specs.Scheme.{default_port, lowercase, scheme_class}
 use Rattle.uv_model.specs.Url.{Url}
-use Rattle.uv_model.specs.Valid.{MayBePathAbsolute, MayBePortText, MayBeUnits, port_given}
-use Rattle.uv_model.specs.Machine.{Held, again, sight, AuthorityState, HostState, PortState, PathStartState, with_host, with_more, with_port, port_in, is_special}
+use Rattle.uv_model.specs.Cut.{is_within_at_end}
+use Rattle.uv_model.specs.ParserProfile.{MayBePathSlashed}
+use Rattle.uv_model.specs.Valid.{MayBePortText, MayBeUnits, port_given}
+use Rattle.uv_model.specs.Machine.{Held, again, sight, with_brackets, AuthorityState, HostState, PortState, PathStartState, with_host, with_more, with_port, port_in, is_special}
 use Rattle.uv_model.proofs.AuthorityLoops.{IsDelimiter, authority_law, digit_letter, host_law, host_row_end, host_row_port, is_authority_letter, port_law, port_row_end}
 use Rattle.uv_model.proofs.HostTextsRead.{IsRead}
 use Rattle.uv_model.proofs.PathLoops.{walking}
@@ -31,12 +33,12 @@ hosted scheme value port = with_port port (with_host (Some value) (scheme_held s
 
 -- a path behind an authority, or what follows where there is none, begins with a delimiter
 pub delimits : (segments : List (List ℕ)) (path : List ℕ) (query fragment : Option (List ℕ))
-    → MayBePathAbsolute segments path
+    → MayBePathSlashed segments path
     → IsDelimiter (sight (path ++ tail query fragment))
 delimits segments path (Some query) fragment (inl none) = rw none.0 tt
 delimits segments path None (Some fragment) (inl none) = rw none.0 tt
 delimits segments path None None (inl none) = rw none.0 tt
-delimits segments path query fragment (inr absolute) = rw absolute.slashed tt
+delimits segments path query fragment (inr behind) = rw behind.slashed tt
 
 -- an option is none or some
 option_cases : (o : Option ℕ) → (o ≡ None) ⊎ ((n : ℕ) × (o ≡ Some n))
@@ -53,31 +55,33 @@ port_is_given scheme (digit ∷ rest) =
     ]
 
 -- a host and a port are read as an authority
-pub authority_letters : (host : List ℕ) (port : Option (List ℕ)) → IsRead host → MayBePortText port
-    → list_all is_authority_letter (host ++ written_behind colon port) ≡ true
-authority_letters host None read fits = rw (append-nil host) read.letters
-authority_letters host (Some port) read fits =
-    list_all-append is_authority_letter host (colon ∷ port) ∙ and_from _ _ read.letters (digits port fits.digits)
+pub authority_letters : (special : Bool) (host : List ℕ) (port : Option (List ℕ)) → IsRead special host
+    → MayBePortText port
+    → list_all (is_authority_letter special) (host ++ written_behind colon port) ≡ true
+authority_letters special host None read fits = rw (append-nil host) read.letters
+authority_letters special host (Some port) read fits =
+    list_all-append (is_authority_letter special) host (colon ∷ port) ∙ and_from _ _ read.letters (digits port fits.digits)
   where
-    digits : (text : List ℕ) → list_all is_ascii_digit text ≡ true → list_all is_authority_letter text ≡ true
+    digits : (text : List ℕ) → list_all is_ascii_digit text ≡ true → list_all (is_authority_letter special) text ≡ true
     digits [] is = refl
     digits (c ∷ rest) is =
         let parts = and_parts (is_ascii_digit c) (list_all is_ascii_digit rest) is in
-        and_from _ _ (digit_letter c parts.0) (digits rest parts.1)
+        and_from _ _ (digit_letter special c parts.0) (digits rest parts.1)
 
 -- What is behind the authority: a path of segments or none, a query and a fragment.
 pub record Behind (segments : List (List ℕ)) (path_text : List ℕ)
     (query_text fragment_text : Option (List ℕ)) : Type 0 where
-  pub path : MayBePathAbsolute segments path_text
+  pub path : MayBePathSlashed segments path_text
   pub query : MayBeUnits query_text
   pub fragment : MayBeUnits fragment_text
 
 -- The host text is read and parsed as this value, and is empty only where the URL isn't special and no port follows.
+-- Before a port it ends outside brackets.
 pub record IsParsed (scheme host : List ℕ) (port_text : Option (List ℕ)) (value : Host) : Type 0 where
-  pub read : IsRead host
+  pub read : IsRead (is_special (lowercase scheme)) host
   pub parsed : parse_host (is_special (lowercase scheme)) host ≡ Some value
   pub stands : ((length host == 0) && is_special (lowercase scheme)) ≡ false
-  pub some : (port_text ≡ None) ⊎ ((length host == 0) ≡ false)
+  pub some : (port_text ≡ None) ⊎ (((length host == 0) ≡ false) × (is_within_at_end false host ≡ false))
   pub port : MayBePortText port_text
 
 -- the URL at the end of a text with this authority and what is behind it
@@ -86,6 +90,12 @@ authority_url scheme value port segments query fragment =
     with_tail query fragment
     (walking (authority_path (scheme_class (lowercase scheme)) segments) (hosted scheme value port))
 
+-- the URL at the end is the same with the flag for brackets set and cleared
+same_tail : (within : Bool) (query fragment : Option (List ℕ)) (h : Held)
+    → with_tail query fragment (with_brackets within h) ≡ with_tail query fragment h
+same_tail within None fragment h = refl
+same_tail within (Some text) fragment h = refl
+
 module _ (base : Option Url) (scheme : List ℕ) (value : Host) (segments : List (List ℕ)) (path : List ℕ)
     (query fragment : Option (List ℕ)) (behind : Behind segments path query fragment) where
   -- what follows the authority
@@ -93,13 +103,19 @@ module _ (base : Option Url) (scheme : List ℕ) (value : Host) (segments : List
   rest = path ++ tail query fragment
 
   -- from behind the authority to the end
-  rest_ends : (port : Option ℕ)
-      → Ends base PathStartState (hosted scheme value port) rest (length path + (length (tail query fragment) + 2))
+  rest_ends : (within : Bool) (port : Option ℕ)
+      → Ends base PathStartState (with_brackets within (hosted scheme value port)) rest
+      (length path + (length (tail query fragment) + 2))
       (authority_url scheme value port segments query fragment)
   unfolding rest
-  rest_ends port =
-      path_start_ends base query fragment behind.query behind.fragment segments path
-      (hosted scheme value port) behind.path
+  rest_ends within port =
+      subst
+      (λ (u : Url). Ends base PathStartState (with_brackets within (hosted scheme value port)) (path ++ tail query fragment)
+      (length path + (length (tail query fragment) + 2)) u)
+      (same_tail within query fragment
+      (walking (authority_path (scheme_class (lowercase scheme)) segments) (hosted scheme value port)))
+      (path_start_ends base query fragment behind.query behind.fragment segments path
+      (with_brackets within (hosted scheme value port)) behind.path)
 
   -- from the port to the end
   port_ends : (port : List ℕ) → MayBePortText (Some port)
@@ -114,7 +130,7 @@ module _ (base : Option Url) (scheme : List ℕ) (value : Host) (segments : List
       (ends_again base
       (λ p. port_row_end held (sight rest) (delimits segments path query fragment behind.path) small
       ∙ ap (λ o. again PathStartState (hosted scheme value o)) (port_is_given scheme port))
-      (rest_ends (port_given scheme (Some port))))
+      (rest_ends false (port_given scheme (Some port))))
 
   -- from the host to the end
   host_ends : (host : List ℕ) (port : Option (List ℕ)) → IsParsed scheme host port value
@@ -123,24 +139,24 @@ module _ (base : Option Url) (scheme : List ℕ) (value : Host) (segments : List
       (authority_url scheme value (port_given scheme port) segments query fragment)
   unfolding rest
   host_ends host None is =
-      let law : Reaches base HostState (scheme_held scheme) (host ++ rest) (length host)
-      HostState (with_more host (scheme_held scheme)) rest
-      = rw is.read.closed at (host_law base false host rest (scheme_held scheme) is.read.read) in
+      let within = is_within_at_end false host in
       ends_within base (omega (arith, length-append host []))
-      (ends_after base law
+      (ends_after base (host_law base (is_special (lowercase scheme)) false host rest (scheme_held scheme) refl is.read.read)
       (ends_again base
-      (λ p. host_row_end value (with_more host (scheme_held scheme)) (sight rest)
+      (λ p. host_row_end value (with_more host (with_brackets within (scheme_held scheme))) (sight rest)
       (delimits segments path query fragment behind.path) is.stands is.parsed)
-      (rest_ends None)))
+      (rest_ends within None)))
   host_ends host (Some port) is =
+      let some : ((length host == 0) ≡ false) × (is_within_at_end false host ≡ false)
+      = ⊎_elim (λ e. absurd cc) (λ e. e) is.some in
       let law : Reaches base HostState (scheme_held scheme) (host ++ (colon ∷ (port ++ rest))) (length host)
       HostState (with_more host (scheme_held scheme)) (colon ∷ (port ++ rest))
-      = rw is.read.closed at (host_law base false host (colon ∷ (port ++ rest)) (scheme_held scheme) is.read.read) in
-      let some : (length host == 0) ≡ false = ⊎_elim (λ e. absurd cc) (λ e. e) is.some in
+      = rw some.1 at (host_law base (is_special (lowercase scheme)) false host (colon ∷ (port ++ rest)) (scheme_held scheme) refl
+      is.read.read) in
       ends_within base (omega (arith, length-append host (colon ∷ port)))
       (ends_after base law
       (ends_step base
-      (λ p. host_row_port base value (port ++ rest) (with_more host (scheme_held scheme)) p refl some is.parsed)
+      (λ p. host_row_port base value (port ++ rest) (with_more host (scheme_held scheme)) p refl some.0 is.parsed)
       (port_ends port is.port)))
 
   -- from the start of the authority to the end
@@ -153,6 +169,6 @@ module _ (base : Option Url) (scheme : List ℕ) (value : Host) (segments : List
   unfolding rest
   authority_ends host port is =
       ends_after base
-      (authority_law base (host ++ written_behind colon port) rest (scheme_held scheme)
-      (authority_letters host port is.read is.port) (delimits segments path query fragment behind.path))
+      (authority_law base (is_special (lowercase scheme)) (host ++ written_behind colon port) rest (scheme_held scheme)
+      refl (authority_letters (is_special (lowercase scheme)) host port is.read is.port) (delimits segments path query fragment behind.path))
       (rw (append_assoc host (written_behind colon port) rest) (host_ends host port is))

@@ -16,27 +16,26 @@ use Rattle.uv_model.specs.Machine.{Held, Sight, end, slash_mark, query_mark, fra
 use Rattle.uv_model.specs.Run.{step, settle}
 use Rattle.uv_model.proofs.Steps.{at, drop_one, step_at, Leads, leads_none, leads_step, leads_then, Reaches, reaches_none, onward_then}
 
--- a code point that neither ends an authority nor stops at it: above U+0020, and none of `/ ? # @ \`
-abbrev pub is_authority_letter : ℕ → Bool
-is_authority_letter c =
-    nat_lt 0x20 c && (not (c == slash) && (not (c == question_mark) && (not (c == number_sign)
-    && (not (c == at_sign) && not (c == backslash)))))
+-- a code point that neither ends an authority nor stops at it: none of `/ ? # @`, and of a special URL no `\`
+abbrev pub is_authority_letter : Bool → ℕ → Bool
+is_authority_letter special c =
+    not (c == slash) && (not (c == question_mark) && (not (c == number_sign)
+    && (not (c == at_sign) && not ((c == backslash) && special))))
 
 -- what such a code point is not
-pub record Letter (c : ℕ) : Type 0 where
+pub record Letter (special : Bool) (c : ℕ) : Type 0 where
   pub no_slash : (c == slash) ≡ false
   pub no_question_mark : (c == question_mark) ≡ false
   pub no_number_sign : (c == number_sign) ≡ false
   pub no_at_sign : (c == at_sign) ≡ false
-  pub no_backslash : (c == backslash) ≡ false
+  pub no_backslash : ((c == backslash) && special) ≡ false
 
-pub letter : (c : ℕ) → is_authority_letter c ≡ true → Letter c
-letter c is =
-    let behind_space = and_parts (nat_lt 0x20 c) _ is in
-    let behind_slash = and_parts (not (c == slash)) _ behind_space.1 in
+pub letter : (special : Bool) (c : ℕ) → is_authority_letter special c ≡ true → Letter special c
+letter special c is =
+    let behind_slash = and_parts (not (c == slash)) _ is in
     let behind_mark = and_parts (not (c == question_mark)) _ behind_slash.1 in
     let behind_sign = and_parts (not (c == number_sign)) _ behind_mark.1 in
-    let behind_at = and_parts (not (c == at_sign)) (not (c == backslash)) behind_sign.1 in
+    let behind_at = and_parts (not (c == at_sign)) (not ((c == backslash) && special)) behind_sign.1 in
     record {
       no_slash = not-true _ behind_slash.0;
       no_question_mark = not-true _ behind_mark.0;
@@ -57,11 +56,12 @@ drop_many text p cs rest e =
 
 -- ---- the authority
 
-authority_row_on : (base : Option Url) (c : ℕ) (rest : List ℕ) (h : Held) (p : ℕ) → is_authority_letter c ≡ true
+pub authority_row_on : (base : Option Url) (special : Bool) (c : ℕ) (rest : List ℕ) (h : Held) (p : ℕ)
+    → is_special h.url.scheme ≡ special → is_authority_letter special c ≡ true
     → turn base AuthorityState p h (c ∷ rest) ≡ onward AuthorityState (put c h)
-authority_row_on base c rest h p is =
-    let l = letter c is in
-    simp (l.no_slash, l.no_question_mark, l.no_number_sign, l.no_at_sign, l.no_backslash) refl
+authority_row_on base special c rest h p kind is =
+    let l = letter special c is in
+    simp (kind, l.no_slash, l.no_question_mark, l.no_number_sign, l.no_at_sign, l.no_backslash) refl
 
 authority_row_end : (p : ℕ) (h : Held) (s : Sight) → IsDelimiter s
     → authority_at p h s ≡ from_place (p - length h.buffer) HostState (emptied h)
@@ -73,25 +73,26 @@ authority_row_end p h (another c) is = absurd is
 
 module _ (base : Option Url) (text : List ℕ) where
   -- code points of an authority go into the buffer
-  pub authority_steps : (cs rest : List ℕ) (p : ℕ) (h : Held) → drop p text ≡ cs ++ rest
-      → list_all is_authority_letter cs ≡ true
+  pub authority_steps : (special : Bool) (cs rest : List ℕ) (p : ℕ) (h : Held) → drop p text ≡ cs ++ rest
+      → is_special h.url.scheme ≡ special → list_all (is_authority_letter special) cs ≡ true
       → Leads base text (at AuthorityState p h) (length cs) (at AuthorityState (p + length cs) (with_more cs h))
-  authority_steps [] rest p h e is = rw (add-zero, append-nil h.buffer) (leads_none base text (at AuthorityState p h))
-  authority_steps (c ∷ cs) rest p h e is =
-      let parts = and_parts (is_authority_letter c) (list_all is_authority_letter cs) is in
-      let later = authority_steps cs rest (p + 1) (put c h) (drop_one text p c (cs ++ rest) e) parts.1 in
+  authority_steps special [] rest p h e kind is = rw (add-zero, append-nil h.buffer) (leads_none base text (at AuthorityState p h))
+  authority_steps special (c ∷ cs) rest p h e kind is =
+      let parts = and_parts (is_authority_letter special c) (list_all (is_authority_letter special) cs) is in
+      let later = authority_steps special cs rest (p + 1) (put c h) (drop_one text p c (cs ++ rest) e) kind parts.1 in
       let place : (p + 1) + length cs ≡ p + suc (length cs) = omega arith in
       let one : step base text (record { state = AuthorityState; pointer = p; held = h }) ≡ at AuthorityState (p + 1)
       (put c h)
       = step_at base text AuthorityState p h (c ∷ (cs ++ rest)) e
-      ∙ ap (settle p (c ∷ (cs ++ rest))) (authority_row_on base c (cs ++ rest) h p parts.0) in
+      ∙ ap (settle p (c ∷ (cs ++ rest))) (authority_row_on base special c (cs ++ rest) h p kind parts.0) in
       rw (← place, ← append_assoc h.buffer (c ∷ []) cs) (leads_step base text _ (length cs) _ _ one later)
 
 -- an authority before a delimiter leads to the host state at the authority's first place
-pub authority_law : (base : Option Url) (cs rest : List ℕ) (h : Held) → list_all is_authority_letter cs ≡ true
+pub authority_law : (base : Option Url) (special : Bool) (cs rest : List ℕ) (h : Held)
+    → is_special h.url.scheme ≡ special → list_all (is_authority_letter special) cs ≡ true
     → IsDelimiter (sight rest)
     → Reaches base AuthorityState (emptied h) (cs ++ rest) (length cs + 1) HostState (emptied h) (cs ++ rest)
-authority_law base cs rest h is ends = record {
+authority_law base special cs rest h kind is ends = record {
   goes = λ text p e.
       let held = with_more cs (emptied h) in
       let back : (p + length cs) - length cs ≡ p = omega arith in
@@ -102,7 +103,7 @@ authority_law base cs rest h is ends = record {
       ∙ ap (λ q. at HostState q (emptied h)) back) in (
         p,
         e,
-        leads_then base text _ _ _ (length cs) 1 (authority_steps base text cs rest p (emptied h) e is)
+        leads_then base text _ _ _ (length cs) 1 (authority_steps base text special cs rest p (emptied h) e kind is)
             (leads_step base text _ 0 _ _ one (leads_none base text _)),
       );
 }
@@ -111,13 +112,13 @@ authority_law base cs rest h is ends = record {
 
 -- the host state reads the whole text: it has no `:` outside brackets, where the flag says that its start is within
 -- them
-abbrev pub is_read_as_host : Bool → List ℕ → Bool
-is_read_as_host within [] = true
-is_read_as_host within (c ∷ rest) =
-    is_authority_letter c && (not (is_port_mark within c) && is_read_as_host (is_within within c) rest)
+abbrev pub is_read_as_host : Bool → Bool → List ℕ → Bool
+is_read_as_host special within [] = true
+is_read_as_host special within (c ∷ rest) =
+    is_authority_letter special c && (not (is_port_mark within c) && is_read_as_host special (is_within within c) rest)
 
 -- a bracket sets or clears the flag as it stands within brackets or not
-bracketed_is : (within : Bool) (c : ℕ) (h : Held)
+pub bracketed_is : (within : Bool) (c : ℕ) (h : Held)
     → bracketed c (with_brackets within h) ≡ with_brackets (is_within within c) h
 bracketed_is within c h =
     elim (cases_Bool (c == left_bracket)) [
@@ -129,27 +130,28 @@ bracketed_is within c h =
           ]
     ]
 
-host_row_on : (base : Option Url) (within : Bool) (c : ℕ) (rest : List ℕ) (h : Held) (p : ℕ)
-    → is_authority_letter c ≡ true
+host_row_on : (base : Option Url) (special within : Bool) (c : ℕ) (rest : List ℕ) (h : Held) (p : ℕ)
+    → is_special h.url.scheme ≡ special → is_authority_letter special c ≡ true
     → is_port_mark within c ≡ false
     → turn base HostState p (with_brackets within h) (c ∷ rest)
     ≡ onward HostState (put c (with_brackets (is_within within c) h))
-host_row_on base within c rest h p is mark =
-    let l = letter c is in
-    simp (l.no_slash, l.no_question_mark, l.no_number_sign, l.no_backslash, mark)
+host_row_on base special within c rest h p kind is mark =
+    let l = letter special c is in
+    simp (kind, l.no_slash, l.no_question_mark, l.no_number_sign, l.no_backslash, mark)
     (ap (λ g. onward HostState (put c g)) (bracketed_is within c h))
 
 -- a host text goes into the buffer
-pub host_law : (base : Option Url) (within : Bool) (cs rest : List ℕ) (h : Held) → is_read_as_host within cs ≡ true
+pub host_law : (base : Option Url) (special within : Bool) (cs rest : List ℕ) (h : Held)
+    → is_special h.url.scheme ≡ special → is_read_as_host special within cs ≡ true
     → Reaches base HostState (with_brackets within h) (cs ++ rest) (length cs)
     HostState (with_more cs (with_brackets (is_within_at_end within cs) h)) rest
-host_law base within [] rest h is = rw (append-nil h.buffer) (reaches_none base HostState (with_brackets within h) rest)
-host_law base within (c ∷ cs) rest h is =
-    let parts = and_parts (is_authority_letter c) _ is in
-    let later = and_parts (not (is_port_mark within c)) (is_read_as_host (is_within within c) cs) parts.1 in
+host_law base special within [] rest h kind is = rw (append-nil h.buffer) (reaches_none base HostState (with_brackets within h) rest)
+host_law base special within (c ∷ cs) rest h kind is =
+    let parts = and_parts (is_authority_letter special c) _ is in
+    let later = and_parts (not (is_port_mark within c)) (is_read_as_host special (is_within within c) cs) parts.1 in
     rw (← append_assoc h.buffer (c ∷ []) cs)
-    (onward_then base (λ p. host_row_on base within c (cs ++ rest) h p parts.0 (not-true _ later.0))
-    (host_law base (is_within within c) cs rest (put c h) later.1))
+    (onward_then base (λ p. host_row_on base special within c (cs ++ rest) h p kind parts.0 (not-true _ later.0))
+    (host_law base special (is_within within c) cs rest (put c h) kind later.1))
 
 -- a host that is parsed and isn't empty ends at the `:` of a port
 pub host_row_port : (base : Option Url) (value : Host) (rest : List ℕ) (h : Held) (p : ℕ) → h.in_brackets ≡ false
@@ -171,13 +173,14 @@ host_row_end value h (another c) is stands parsed = absurd is
 -- ---- the port
 
 -- a digit is a code point of an authority
-pub digit_letter : (c : ℕ) → is_ascii_digit c ≡ true → is_authority_letter c ≡ true
-digit_letter c is = grind (arith, nat_tests)
+pub digit_letter : (special : Bool) (c : ℕ) → is_ascii_digit c ≡ true → is_authority_letter special c ≡ true
+digit_letter true c is = grind (arith, nat_tests)
+digit_letter false c is = grind (arith, nat_tests)
 
-port_row_on : (base : Option Url) (c : ℕ) (rest : List ℕ) (h : Held) (p : ℕ) → is_ascii_digit c ≡ true
+pub port_row_on : (base : Option Url) (c : ℕ) (rest : List ℕ) (h : Held) (p : ℕ) → is_ascii_digit c ≡ true
     → turn base PortState p h (c ∷ rest) ≡ onward PortState (put c h)
 port_row_on base c rest h p is =
-    let l = letter c (digit_letter c is) in
+    let l = letter true c (digit_letter true c is) in
     simp (l.no_slash, l.no_question_mark, l.no_number_sign, is) refl
 
 -- digits go into the buffer

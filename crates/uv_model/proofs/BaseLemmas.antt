@@ -67,7 +67,7 @@ start_with_scheme text starts =
     (starts_before number_sign text refl refl refl starts)
 
 -- the cut of such a text has a scheme
-cut_with_scheme : (base : Option Url) (text : List ℕ) → starts_with_scheme text ≡ true
+pub cut_with_scheme : (base : Option Url) (text : List ℕ) → starts_with_scheme text ≡ true
     → IsSome (cut_of base text).scheme
 unfolding cut_of
 cut_with_scheme base text starts = rw (start_with_scheme text starts) refl

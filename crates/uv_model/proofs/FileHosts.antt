@@ -1,5 +1,5 @@
 -- The parser machine over the host of a file URL, and what the host parser makes of each valid one.
-use Rattle.std.proofs.Common.{◌≡◌, ℕ, true, false, ◌||◌, ◌==◌, List, [], ◌∷◌, ◌++◌, length, codes, Option, Some, refl, inl, inr, append_assoc, append-nil, arith}
+use Rattle.std.proofs.Common.{◌≡◌, ℕ, true, false, ◌||◌, ◌==◌, List, [], ◌∷◌, ◌++◌, length, codes, Option, Some, refl, sym, ◌∙◌, Bool, ◌&&◌, inl, inr, append_assoc, append-nil, arith}
 use Rattle.std.specs.Prelude.{is_some}
 use Rattle.std.specs.List.{list_all}
 use Rattle.std.specs.Char.{is_ascii_alphabetic}
@@ -10,31 +10,63 @@ use Rattle.std.proofs.lemmas.Slice.Eq.{bytes_eq-Decides}
 use Rattle.uv_model.specs.declared.host.Host.{Host}
 use Rattle.uv_model.specs.declared.host.Host.TheVariants as host
 use Rattle.uv_model.specs.declared.scheme.Class.TheVariants.{File}
-use Rattle.uv_model.specs.Ascii.{colon, vertical_bar, left_bracket, right_bracket}
+use Rattle.uv_model.specs.Ascii.{backslash, colon, left_bracket, number_sign, question_mark, right_bracket, slash, vertical_bar}
 use Rattle.uv_model.specs.Domain.{is_permitted, has_permitted}
 use Rattle.uv_model.specs.HostParser.{parse_host}
 use Rattle.uv_model.specs.Machine.{Held, Sight, end, slash_mark, query_mark, fragment_mark, another, again, FileHostState, PathStartState, file_host, file_host_at, put, with_more, with_host, emptied}
-use Rattle.uv_model.specs.Path.{is_drive_letter}
+use Rattle.uv_model.specs.Path.{is_drive_letter, is_without}
 use Rattle.uv_model.specs.Scheme.{default_port, lowercase, scheme_class}
 use Rattle.uv_model.specs.Url.{Url}
 use Rattle.uv_model.specs.Valid.{IsFileHostText}
 use Rattle.uv_model.proofs.AuthorityLoops.{IsDelimiter, is_authority_letter, letter}
 use Rattle.uv_model.proofs.HostParserLemmas.{domains_are_parsed, ipv4_hosts_are_parsed, ipv6_hosts_are_parsed}
-use Rattle.uv_model.proofs.HostTextsRead.{IsRead, dotted_numbers, is_dotted, read_domain, read_ipv4, read_ipv6}
+use Rattle.uv_model.proofs.MarkLemmas.{is_without-more}
+use Rattle.uv_model.proofs.UnitsAhead.{without_parts}
+use Rattle.uv_model.proofs.HostTextsRead.{IsReadWhole, dotted_numbers, is_dotted, read_domain, read_ipv4, read_ipv6}
 use Rattle.uv_model.proofs.Steps.{Reaches, reaches_none, onward_then}
 
 -- ---- the loop
 
+-- a text with neither `/ ? #`, which end a host, nor `\`, at which the host of a file URL stops
+pub record IsFileText (text : List ℕ) : Type 0 where
+  pub no_slash : is_without slash text ≡ true
+  pub no_question_mark : is_without question_mark text ≡ true
+  pub no_number_sign : is_without number_sign text ≡ true
+  pub no_backslash : is_without backslash text ≡ true
+
 -- a host text goes into the buffer
-pub file_host_law : (base : Option Url) (cs rest : List ℕ) (h : Held) → list_all is_authority_letter cs ≡ true
+pub file_host_law : (base : Option Url) (cs rest : List ℕ) (h : Held) → IsFileText cs
     → Reaches base FileHostState h (cs ++ rest) (length cs) FileHostState (with_more cs h) rest
 file_host_law base [] rest h is = rw (append-nil h.buffer) (reaches_none base FileHostState h rest)
 file_host_law base (c ∷ cs) rest h is =
-    let parts = and_parts (is_authority_letter c) (list_all is_authority_letter cs) is in
-    let l = letter c parts.0 in
+    let a = without_parts slash c cs is.no_slash in
+    let b = without_parts question_mark c cs is.no_question_mark in
+    let d = without_parts number_sign c cs is.no_number_sign in
+    let e = without_parts backslash c cs is.no_backslash in
+    let later : IsFileText cs
+    = record { no_slash = a.1; no_question_mark = b.1; no_number_sign = d.1; no_backslash = e.1 } in
     rw (← append_assoc h.buffer (c ∷ []) cs)
-    (onward_then base (λ p. simp (l.no_slash, l.no_question_mark, l.no_number_sign, l.no_backslash) refl)
-    (file_host_law base cs rest (put c h) parts.1))
+    (onward_then base (λ p. simp (a.0, b.0, d.0, e.0) refl)
+    (file_host_law base cs rest (put c h) later))
+
+-- a test beside one that holds
+pub and_true-right : (b : Bool) → (b && true) ≡ b
+and_true-right true = refl
+and_true-right false = refl
+
+-- the code points of an authority are such a text
+pub file_text : (cs : List ℕ) → list_all (is_authority_letter true) cs ≡ true → IsFileText cs
+file_text [] is = record { no_slash = refl; no_question_mark = refl; no_number_sign = refl; no_backslash = refl }
+file_text (c ∷ cs) is =
+    let parts = and_parts (is_authority_letter true c) (list_all (is_authority_letter true) cs) is in
+    let l = letter true c parts.0 in
+    let later = file_text cs parts.1 in
+    record {
+      no_slash = is_without-more slash c cs l.no_slash later.no_slash;
+      no_question_mark = is_without-more question_mark c cs l.no_question_mark later.no_question_mark;
+      no_number_sign = is_without-more number_sign c cs l.no_number_sign later.no_number_sign;
+      no_backslash = is_without-more backslash c cs (sym (and_true-right (c == backslash)) ∙ l.no_backslash) later.no_backslash;
+    }
 
 -- a host that is parsed ends at a delimiter
 pub file_host_row : (value : Host) (h : Held) (s : Sight) → IsDelimiter s → is_drive_letter h.buffer ≡ false
@@ -80,10 +112,27 @@ no_drive_brackets (c ∷ d ∷ rest) = refl
 -- The file host state reads the whole text, and makes this value of it.
 pub record IsFileParsed (text : List ℕ) (value : Host) : Type 0 where
   pub parsed_value : Host
-  pub read : IsRead text
+  pub read : IsReadWhole text
   pub parsed : parse_host true text ≡ Some parsed_value
   pub made : file_host parsed_value ≡ value
   pub drive : is_drive_letter text ≡ false
+
+-- The same of a host text of which the file host state reads each code point.
+pub record IsFileRead (text : List ℕ) (value : Host) : Type 0 where
+  pub parsed_value : Host
+  pub letters : IsFileText text
+  pub parsed : parse_host true text ≡ Some parsed_value
+  pub made : file_host parsed_value ≡ value
+  pub drive : is_drive_letter text ≡ false
+
+pub file_is_read : (text : List ℕ) (value : Host) → IsFileParsed text value → IsFileRead text value
+file_is_read text value is = record {
+  parsed_value = is.parsed_value;
+  letters = file_text text is.read.as_host.letters;
+  parsed = is.parsed;
+  made = is.made;
+  drive = is.drive;
+}
 
 -- a host with a text
 pub file_parsed : (text : List ℕ) (value : Host) → IsFileHostText text value → IsFileParsed text value

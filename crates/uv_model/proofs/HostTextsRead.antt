@@ -16,44 +16,57 @@ use Rattle.uv_model.proofs.HostParserLemmas.{digits_alone}
 use Rattle.uv_model.proofs.UnitsLemmas.{is_faultless-units}
 use Rattle.uv_model.proofs.Unremoved.{is_unremoved, unremoved_faultless}
 
--- the authority and host states read the whole text, and it ends outside brackets
-pub record IsRead (text : List ℕ) : Type 0 where
-  pub letters : list_all is_authority_letter text ≡ true
-  pub read : is_read_as_host false text ≡ true
+-- the authority and host states read the whole text
+pub record IsRead (special : Bool) (text : List ℕ) : Type 0 where
+  pub letters : list_all (is_authority_letter special) text ≡ true
+  pub read : is_read_as_host special false text ≡ true
+
+-- they do, it ends outside brackets, and none of its code points is ever removed
+pub record IsReadWhole (text : List ℕ) : Type 0 where
+  pub as_host : IsRead true text
   pub closed : is_within_at_end false text ≡ false
+  pub above : list_all is_unremoved text ≡ true
 
 -- ---- texts without brackets
 
 -- a code point of an authority that is neither `:` nor a bracket
 abbrev is_plain : ℕ → Bool
-is_plain c = is_authority_letter c && (not (c == colon) && (not (c == left_bracket) && not (c == right_bracket)))
+is_plain c =
+    is_unremoved c
+    && (is_authority_letter true c && (not (c == colon) && (not (c == left_bracket) && not (c == right_bracket))))
 
 record Plain (c : ℕ) : Type 0 where
-  letter : is_authority_letter c ≡ true
+  above : is_unremoved c ≡ true
+  letter : is_authority_letter true c ≡ true
   mark : is_port_mark false c ≡ false
   outside : is_within false c ≡ false
 
 plain : (c : ℕ) → is_plain c ≡ true → Plain c
 plain c is =
+    let parts = and_parts (is_unremoved c) _ is in
     record {
+      above = parts.0;
       letter =
-          (and_parts (is_authority_letter c) _ is).0;
+          (and_parts (is_authority_letter true c) _ parts.1).0;
       mark =
           grind (arith, nat_tests);
       outside = grind (arith, nat_tests);
     }
 
 -- a text of such code points is read
-pub read_plain : (text : List ℕ) → list_all is_plain text ≡ true → IsRead text
-read_plain [] is = record { letters = refl; read = refl; closed = refl }
+pub read_plain : (text : List ℕ) → list_all is_plain text ≡ true → IsReadWhole text
+read_plain [] is = record { as_host = record { letters = refl; read = refl }; closed = refl; above = refl }
 read_plain (c ∷ rest) is =
     let parts = and_parts (is_plain c) (list_all is_plain rest) is in
     let first = plain c parts.0 in
     let later = read_plain rest parts.1 in
     record {
-      letters = and_from _ _ first.letter later.letters;
-      read = rw (first.letter, first.mark, first.outside) later.read;
+      as_host = record {
+        letters = and_from _ _ first.letter later.as_host.letters;
+        read = rw (first.letter, first.mark, first.outside) later.as_host.read;
+      };
       closed = rw first.outside later.closed;
+      above = and_from _ _ first.above later.above;
     }
 
 -- every code point beyond ASCII is one
@@ -97,7 +110,7 @@ plain_texts (c ∷ rest) permitted above =
     and_from _ _ (plain_permitted c first.0 second.0) (plain_texts rest first.1 second.1)
 
 -- an opaque-host string is read
-pub read_opaque : (text : List ℕ) → IsOpaqueHost text → IsRead text
+pub read_opaque : (text : List ℕ) → IsOpaqueHost text → IsReadWhole text
 read_opaque text is =
     read_plain text (plain_texts text is.permitted (unremoved_faultless text (is_faultless-units text is.units)))
 
@@ -117,7 +130,7 @@ plain_domains (c ∷ rest) permitted =
     and_from _ _ (plain_domain c parts.0) (plain_domains rest parts.1)
 
 -- a domain is read
-pub read_domain : (text form : List ℕ) → IsDomain text form → IsRead text
+pub read_domain : (text form : List ℕ) → IsDomain text form → IsReadWhole text
 unfolding has_permitted
 read_domain text form is = read_plain text (plain_domains text is.0.permitted)
 
@@ -163,7 +176,7 @@ inner_dotted : (c : ℕ) → is_dotted c ≡ true → is_inner c ≡ true
 inner_dotted c is = grind (arith, nat_tests)
 
 -- an IPv4 text is read
-pub read_ipv4 : (text : List ℕ) (value : ℕ) → IsIpv4 text value → IsRead text
+pub read_ipv4 : (text : List ℕ) (value : ℕ) → IsIpv4 text value → IsReadWhole text
 read_ipv4 text value (a, b, c, d, is, e) =
     read_plain text (weaker is_dotted is_plain plain_dotted text (dotted_numbers a b c d text is))
 
@@ -195,12 +208,14 @@ inner_ipv6 text pieces (inr is) =
 
 -- what a code point within brackets is
 record Inner (c : ℕ) : Type 0 where
-  letter : is_authority_letter c ≡ true
+  above : is_unremoved c ≡ true
+  letter : is_authority_letter true c ≡ true
   mark : is_port_mark true c ≡ false
   inside : is_within true c ≡ true
 
 inner : (c : ℕ) → is_inner c ≡ true → Inner c
 inner c is = record {
+  above = grind (arith, nat_tests);
   letter = grind (arith, nat_tests);
   mark = and_right (c == colon) false refl;
   inside = grind (arith, nat_tests);
@@ -208,10 +223,11 @@ inner c is = record {
 
 -- within brackets up to the closing one
 read_within : (text : List ℕ) → list_all is_inner text ≡ true
-    → (list_all is_authority_letter (text ++ right_bracket ∷ []) ≡ true)
-    × (is_read_as_host true (text ++ right_bracket ∷ []) ≡ true)
+    → (list_all (is_authority_letter true) (text ++ right_bracket ∷ []) ≡ true)
+    × (is_read_as_host true true (text ++ right_bracket ∷ []) ≡ true)
     × (is_within_at_end true (text ++ right_bracket ∷ []) ≡ false)
-read_within [] is = (refl, refl, refl)
+    × (list_all is_unremoved (text ++ right_bracket ∷ []) ≡ true)
+read_within [] is = (refl, refl, refl, refl)
 read_within (c ∷ rest) is =
     let parts = and_parts (is_inner c) (list_all is_inner rest) is in
     let first = inner c parts.0 in
@@ -219,10 +235,37 @@ read_within (c ∷ rest) is =
       and_from _ _ first.letter later.0,
       rw (first.letter, first.mark, first.inside) later.1,
       ap (λ w. is_within_at_end w (rest ++ right_bracket ∷ [])) first.inside ∙ later.2,
+      and_from _ _ first.above later.3,
     )
 
 -- an IPv6 text in brackets is read
-pub read_ipv6 : (text pieces : List ℕ) → IsBracketedIpv6 text pieces → IsRead text
+pub read_ipv6 : (text pieces : List ℕ) → IsBracketedIpv6 text pieces → IsReadWhole text
 read_ipv6 text pieces (between, spelled, is) =
     let later = read_within between (inner_ipv6 between pieces is) in
-    rw spelled (record { letters = later.0; read = later.1; closed = later.2 })
+    rw spelled (record { as_host = record { letters = later.0; read = later.1 }; closed = later.2; above = later.3 })
+
+-- ---- a URL that isn't special
+
+letter_plain : (c : ℕ) → is_authority_letter true c ≡ true → is_authority_letter false c ≡ true
+letter_plain c is = grind (arith, nat_tests)
+
+-- what is read for a special URL is read for any other
+letters_plain : (text : List ℕ) → list_all (is_authority_letter true) text ≡ true
+    → list_all (is_authority_letter false) text ≡ true
+letters_plain [] is = refl
+letters_plain (c ∷ rest) is =
+    let parts = and_parts (is_authority_letter true c) (list_all (is_authority_letter true) rest) is in
+    and_from _ _ (letter_plain c parts.0) (letters_plain rest parts.1)
+
+host_plain : (within : Bool) (text : List ℕ) → is_read_as_host true within text ≡ true
+    → is_read_as_host false within text ≡ true
+host_plain within [] is = refl
+host_plain within (c ∷ rest) is =
+    let parts = and_parts (is_authority_letter true c) _ is in
+    let later = and_parts (not (is_port_mark within c)) (is_read_as_host true (is_within within c) rest) parts.1 in
+    and_from _ _ (letter_plain c parts.0) (and_from _ _ later.0 (host_plain (is_within within c) rest later.1))
+
+pub read_for : (special : Bool) (text : List ℕ) → IsRead true text → IsRead special text
+read_for true text is = is
+read_for false text is =
+    record { letters = letters_plain text is.letters; read = host_plain false text is.read }

@@ -51,7 +51,7 @@ segment_walked false path segment h =
 
 module _ (base : Option Url) where
   -- the row of a unit of a segment
-  path_row_on : (c : ℕ) (rest : List ℕ) (h : Held) (p : ℕ) → (c == slash) ≡ false → (c == question_mark) ≡ false
+  pub path_row_on : (c : ℕ) (rest : List ℕ) (h : Held) (p : ℕ) → (c == slash) ≡ false → (c == question_mark) ≡ false
       → is_unit_at c rest ≡ true
       → turn base PathState p h (c ∷ rest) ≡ onward PathState (with_more (encoded_code_point false c) h)
   path_row_on c rest h p not_slash other ok =

@@ -6,7 +6,8 @@ use Rattle.uv_model.specs.declared.scheme.Class.TheVariants.{Special, File, Othe
 use Rattle.uv_model.specs.Ascii.{slash}
 use Rattle.uv_model.specs.Denote.{authority_path}
 use Rattle.uv_model.specs.Encoding.{encoded}
-use Rattle.uv_model.specs.Path.{AreSegments, IsPathAbsolute, IsPathRelative, is_single_dot, is_double_dot, walk}
+use Rattle.uv_model.specs.ParserProfile.{IsPathSlashed, MayBePathSlashed}
+use Rattle.uv_model.specs.Path.{AreSegments, IsPathRelative, JoinsTo, is_single_dot, is_double_dot, walk}
 use Rattle.uv_model.specs.Scheme.{scheme_class}
 use Rattle.uv_model.specs.Url.{Url}
 use Rattle.uv_model.specs.Valid.{MayBeUnits, MayBePathAbsolute}
@@ -17,7 +18,7 @@ use Rattle.uv_model.proofs.UnitsLemmas.{IsUnits-nil}
 use Rattle.uv_model.proofs.Tails.{tail, with_tail, tail_ends}
 
 -- a tail doesn't begin with `/`, so that a special URL's path begins there without one
-special_row : (query fragment : Option (List ℕ)) (h : Held)
+pub special_row : (query fragment : Option (List ℕ)) (h : Held)
     → path_start_at true h (sight (tail query fragment)) ≡ again PathState h
 special_row (Some query) fragment h = refl
 special_row None (Some fragment) h = refl
@@ -31,6 +32,13 @@ empty_walk kind = refl
 empty_segment : AreSegments ([] ∷ [])
 empty_segment = (record { units = IsUnits-nil; no_slash = refl; no_question_mark = refl }, tt)
 
+-- a path-absolute string is `/` and segments
+pub slashed_absolute : (segments : List (List ℕ)) (text : List ℕ) → MayBePathAbsolute segments text
+    → MayBePathSlashed segments text
+slashed_absolute segments text (inl none) = inl none
+slashed_absolute segments text (inr path) =
+    inr (record { behind = path.behind; slashed = path.slashed; joins = path.relative.joins })
+
 -- with segments the path behind an authority is their walk
 some_walk : (kind : Class) (first : List ℕ) (others : List (List ℕ))
     → authority_path kind (first ∷ others) ≡ walk kind [] (first ∷ others)
@@ -40,31 +48,37 @@ some_walk Other first others = refl
 
 module _ (base : Option Url) (query fragment : Option (List ℕ)) (query_units : MayBeUnits query)
     (fragment_units : MayBeUnits fragment) where
-  -- a path-relative string in the path state
-  pub relative_ends : (segments : List (List ℕ)) (text : List ℕ) (h : Held) → IsPathRelative segments text
+  -- segments in the path state
+  pub joins_ends : (segments : List (List ℕ)) (text : List ℕ) (h : Held) → JoinsTo segments text
       → Ends base PathState (walking [] h) (text ++ tail query fragment)
       (length text + (length (tail query fragment) + 1))
       (with_tail query fragment (walking (walk (scheme_class h.url.scheme) [] segments) h))
-  relative_ends segments text h path =
-      let joins = path.joins in
+  joins_ends segments text h joins =
       let spelled : text ≡ join_with_byte slash (joins.first ∷ joins.others)
       = joins.joined ∙ ap (join_with_byte slash) joins.some in
       let each : AreSegments (joins.first ∷ joins.others) = rw joins.some at joins.each in
       rw (spelled, joins.some)
       (path_ends base joins.first joins.others [] query fragment h each query_units fragment_units)
 
-  -- a path-absolute string behind an authority
-  absolute_ends : (segments : List (List ℕ)) (text : List ℕ) (h : Held) → IsPathAbsolute segments text
+  -- a path-relative string in the path state
+  pub relative_ends : (segments : List (List ℕ)) (text : List ℕ) (h : Held) → IsPathRelative segments text
+      → Ends base PathState (walking [] h) (text ++ tail query fragment)
+      (length text + (length (tail query fragment) + 1))
+      (with_tail query fragment (walking (walk (scheme_class h.url.scheme) [] segments) h))
+  relative_ends segments text h path = joins_ends segments text h path.joins
+
+  -- `/` and segments behind an authority
+  slashed_ends : (segments : List (List ℕ)) (text : List ℕ) (h : Held) → IsPathSlashed segments text
       → Ends base PathStartState (walking [] h) (text ++ tail query fragment)
       (length text + (length (tail query fragment) + 2))
       (with_tail query fragment (walking (authority_path (scheme_class h.url.scheme) segments) h))
-  absolute_ends segments text h path =
-      let joins = path.relative.joins in
+  slashed_ends segments text h path =
+      let joins = path.joins in
       let same : authority_path (scheme_class h.url.scheme) segments ≡ walk (scheme_class h.url.scheme) [] segments
       = rw joins.some (some_walk (scheme_class h.url.scheme) joins.first joins.others) in
       rw (path.slashed, same)
       (ends_within base (omega arith)
-      (ends_step base (λ p. refl) (relative_ends segments path.behind h path.relative)))
+      (ends_step base (λ p. refl) (joins_ends segments path.behind h path.joins)))
 
   -- a special URL has one empty segment where no path is there
   empty_segment_ends : (h : Held)
@@ -95,12 +109,12 @@ module _ (base : Option Url) (query fragment : Option (List ℕ)) (query_units :
         at_fragment = λ p rest. rw of_kind refl;
       }) query_units fragment_units)
 
-  -- a path-absolute string or nothing behind an authority
-  pub path_start_ends : (segments : List (List ℕ)) (text : List ℕ) (h : Held) → MayBePathAbsolute segments text
+  -- `/` and segments or nothing behind an authority
+  pub path_start_ends : (segments : List (List ℕ)) (text : List ℕ) (h : Held) → MayBePathSlashed segments text
       → Ends base PathStartState (walking [] h) (text ++ tail query fragment)
       (length text + (length (tail query fragment) + 2))
       (with_tail query fragment (walking (authority_path (scheme_class h.url.scheme) segments) h))
   path_start_ends segments text h (inl none) =
       rw (none.0, none.1)
       (ends_within base (omega arith) (no_path_ends (scheme_class h.url.scheme) h refl))
-  path_start_ends segments text h (inr path) = absolute_ends segments text h path
+  path_start_ends segments text h (inr path) = slashed_ends segments text h path

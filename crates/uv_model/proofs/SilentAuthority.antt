@@ -1,6 +1,9 @@
 -- The parser machine is silent on each valid text with a scheme and an authority, of class Other and of class Special.
-use Rattle.std.proofs.Common.{◌≡◌, ℕ, suc, ◌+◌, true, false, ◌||◌, ◌==◌, List, [], ◌∷◌, ◌++◌, length, Option, Some, None, refl, sym, ap, subst, ◌∙◌, inl, inr, append_assoc, length-append, arith}
+use Rattle.std.proofs.Common.{◌≡◌, ℕ, suc, ◌+◌, true, false, ◌||◌, ◌==◌, ◌⊎◌, List, [], ◌∷◌, ◌++◌, length, Option, Some, None, refl, sym, ap, subst, ◌∙◌, inl, inr, append_assoc, length-append, arith}
 use Rattle.std.specs.List.{list_all}
+use Rattle.std.specs.Char.{is_ascii_digit}
+use Rattle.uv_model.specs.Valid.{MayBePortText}
+use Rattle.uv_model.proofs.PathStarts.{slashed_absolute}
 use Rattle.std.proofs.lemmas.Bool.Decides.{nat_tests}
 use Rattle.uv_model.specs.HostParser.{parse_host}
 use Rattle.std.proofs.lemmas.Bool.{true≢false, and_parts, and_from, cases_Bool}
@@ -13,28 +16,39 @@ use Rattle.uv_model.specs.Ascii.{slash, backslash, colon}
 use Rattle.uv_model.specs.Denote.{authority_host, authority_path}
 use Rattle.uv_model.specs.Machine.{begins, has_same_scheme, SpecialAuthorityIgnoreSlashesState, SpecialAuthoritySlashesState, SpecialRelativeOrAuthorityState, AuthorityState, PathOrAuthorityState, SchemeState, empty_held, is_special, with_more}
 use Rattle.uv_model.specs.Parts.{Form, Parts, SchemeAuthority, has_scheme, written, written_behind}
+use Rattle.uv_model.specs.ParserProfile.{MayBePathSlashed}
+use Rattle.uv_model.specs.Run.{first_removed}
 use Rattle.uv_model.specs.Scheme.{is_scheme, lowercase, scheme_class}
 use Rattle.uv_model.specs.Silent.{RunsSilently}
 use Rattle.uv_model.specs.Url.{Url}
-use Rattle.uv_model.specs.Valid.{FitsAuthority, FitsForm, FitsScheme, IsOtherAuthority, MayBePathAbsolute, HasAuthority, Valid, port_given, scheme_in, scheme_or}
-use Rattle.uv_model.proofs.AuthorityEnds.{Behind, IsParsed, authority_ends, authority_letters, authority_url, hosted}
+use Rattle.uv_model.specs.Valid.{FitsAuthority, FitsForm, FitsScheme, IsOpaqueHostText, MayBePathAbsolute, MayBeUnits, HasAuthority, Valid, port_given, scheme_in, scheme_or}
+use Rattle.uv_model.proofs.AuthorityEnds.{Behind, IsParsed, authority_ends, authority_url, hosted}
 use Rattle.uv_model.proofs.AuthorityLoops.{is_authority_letter}
-use Rattle.uv_model.proofs.HostsParsed.{empty_parsed, opaque_parsed, opaque_value, parsed_some, special_parsed}
+use Rattle.uv_model.proofs.HostsParsed.{empty_parsed, host_above, host_letters, opaque_above, opaque_parsed, opaque_value, parsed_some, special_parsed}
 use Rattle.uv_model.proofs.JoinedSegments.{faultless_path}
 use Rattle.uv_model.proofs.PathLoops.{walking}
 use Rattle.uv_model.proofs.SchemeLemmas.{scheme_class-lowercase}
 use Rattle.uv_model.proofs.SchemeStretch.{scheme_held, colon_row, scheme_there}
-use Rattle.uv_model.proofs.SilentSchemes.{EndsBehindScheme, HoldsDenoted, denoted_from_held, runs_silently}
+use Rattle.uv_model.proofs.SilentSchemes.{EndsBehindScheme, HoldsDenoted, denoted_from_held, kept_text, runs_kept}
 use Rattle.uv_model.proofs.Steps.{Ends, ends_again, ends_past_two, ends_step, ends_within}
 use Rattle.uv_model.proofs.Tails.{tail}
 use Rattle.uv_model.proofs.Unremoved.{is_unremoved, unremoved_append, unremoved_faultless}
 
 -- the code points of an authority are never removed
-pub unremoved_letters : (text : List ℕ) → list_all is_authority_letter text ≡ true → list_all is_unremoved text ≡ true
-unremoved_letters [] is = refl
-unremoved_letters (c ∷ rest) is =
-    let parts = and_parts (is_authority_letter c) (list_all is_authority_letter rest) is in
-    and_from _ _ (and_parts (is_unremoved c) _ parts.0).0 (unremoved_letters rest parts.1)
+unremoved_digits : (text : List ℕ) → list_all is_ascii_digit text ≡ true → list_all is_unremoved text ≡ true
+unremoved_digits [] is = refl
+unremoved_digits (c ∷ rest) is =
+    let parts = and_parts (is_ascii_digit c) (list_all is_ascii_digit rest) is in
+    and_from _ _ (unremoved_digit c parts.0) (unremoved_digits rest parts.1)
+  where
+    unremoved_digit : (c : ℕ) → is_ascii_digit c ≡ true → is_unremoved c ≡ true
+    unremoved_digit c is = grind (arith, nat_tests)
+
+unremoved_authority : (host : List ℕ) (port : Option (List ℕ)) → list_all is_unremoved host ≡ true
+    → MayBePortText port → list_all is_unremoved (host ++ written_behind colon port) ≡ true
+unremoved_authority host None above fits = unremoved_append host [] above refl
+unremoved_authority host (Some port) above fits =
+    unremoved_append host (colon ∷ port) above (unremoved_digits port fits.digits)
 
 -- nor those of a path behind it
 pub unremoved_path : (segments : List (List ℕ)) (text : List ℕ) → MayBePathAbsolute segments text
@@ -59,18 +73,18 @@ written_with_authority parts scheme host_text named given =
     (sym (append_assoc authority parts.path_text (tail parts.query parts.fragment))))
 
 -- a letter of an authority is neither `/` nor `\`
-letter_no_slash : (c : ℕ) → is_authority_letter c ≡ true → ((c == slash) || (c == backslash)) ≡ false
+letter_no_slash : (c : ℕ) → is_authority_letter true c ≡ true → ((c == slash) || (c == backslash)) ≡ false
 letter_no_slash c is = grind (arith, nat_tests)
 
 -- so a host that isn't empty begins with neither
-no_slash_before : (host port rest : List ℕ) → list_all is_authority_letter host ≡ true → (length host == 0) ≡ false
+pub no_slash_before : (host port rest : List ℕ) → list_all (is_authority_letter true) host ≡ true → (length host == 0) ≡ false
     → (begins slash ((host ++ port) ++ rest) || begins backslash ((host ++ port) ++ rest)) ≡ false
 no_slash_before [] port rest letters some = absurd (true≢false some)
 no_slash_before (c ∷ host) port rest letters some =
-    letter_no_slash c (and_parts (is_authority_letter c) (list_all is_authority_letter host) letters).0
+    letter_no_slash c (and_parts (is_authority_letter true c) (list_all (is_authority_letter true) host) letters).0
 
 -- the host of a special URL isn't empty
-special_some : (scheme text : List ℕ) (value : Host) → is_special (lowercase scheme) ≡ true
+pub special_some : (scheme text : List ℕ) (value : Host) → is_special (lowercase scheme) ≡ true
     → parse_host (is_special (lowercase scheme)) text ≡ Some value → (length text == 0) ≡ false
 special_some scheme text value special parsed = parsed_some text value (rw special at parsed)
 
@@ -98,11 +112,11 @@ authority_there base parts None given has =
     absurd moved
 
 -- The host, the port and the path of an authority, whose host text gives this value.
-record HasParsed (parts : Parts) (scheme host_text : List ℕ) (value : Host) : Type 0 where
-  parsed : IsParsed scheme host_text parts.port_text value
-  valued : Some value ≡ authority_host parts
-  port : parts.port ≡ port_given scheme parts.port_text
-  path : MayBePathAbsolute parts.segments parts.path_text
+pub record HasParsed (parts : Parts) (scheme host_text : List ℕ) (value : Host) : Type 0 where
+  pub parsed : IsParsed scheme host_text parts.port_text value
+  pub valued : Some value ≡ authority_host parts
+  pub port : parts.port ≡ port_given scheme parts.port_text
+  pub path : MayBePathSlashed parts.segments parts.path_text
 
 module _ (base : Option Url) (parts : Parts) (scheme host_text : List ℕ) (value : Host) where
   -- the text from the authority on
@@ -110,7 +124,7 @@ module _ (base : Option Url) (parts : Parts) (scheme host_text : List ℕ) (valu
   authority = host_text ++ written_behind colon parts.port_text
 
   -- the same steps lead from the scheme's `:` to the authority for each text behind `//`
-  StartsAuthority : Type 0
+  pub StartsAuthority : Type 0
   StartsAuthority =
       (k : ℕ) (url : Url)
       → Ends base AuthorityState (scheme_held scheme)
@@ -133,14 +147,14 @@ module _ (base : Option Url) (parts : Parts) (scheme host_text : List ℕ) (valu
       }
 
   -- the whole run of such a text
-  authority_runs : (text : List ℕ) → Valid base text parts → parts.form ≡ SchemeAuthority → is_scheme scheme ≡ true
+  pub authority_runs : (text : List ℕ) → text ≡ written parts → MayBeUnits parts.query → MayBeUnits parts.fragment
+      → first_removed text ≡ None → parts.form ≡ SchemeAuthority → is_scheme scheme ≡ true
       → parts.scheme ≡ Some scheme → parts.host_text ≡ Some host_text → HasParsed parts scheme host_text value
       → StartsAuthority → RunsSilently base text parts
   unfolding authority StartsAuthority
-  authority_runs text valid form is named given has start =
-      let letters = authority_letters host_text parts.port_text has.parsed.read has.parsed.port in
+  authority_runs text spelled query fragment kept form is named given has start =
       let behind : Behind parts.segments parts.path_text parts.query parts.fragment
-      = record { path = has.path; query = valid.query; fragment = valid.fragment } in
+      = record { path = has.path; query = query; fragment = fragment } in
       let whole = append_assoc authority parts.path_text (tail parts.query parts.fragment) in
       let after : EndsBehindScheme base parts scheme (slash ∷ slash ∷ (authority ++ parts.path_text))
       = record {
@@ -156,16 +170,25 @@ module _ (base : Option Url) (parts : Parts) (scheme host_text : List ℕ) (valu
           length-append (authority ++ parts.path_text) (tail parts.query parts.fragment),
           length-append authority parts.path_text,
         );
-        above = unremoved_append authority parts.path_text (unremoved_letters authority letters)
-            (unremoved_path parts.segments parts.path_text has.path);
         denoted = denoted_from_held base parts SchemeAuthority scheme _ refl form named (authority_denoted has);
       } in
-      runs_silently base text parts scheme
-      (slash ∷ slash ∷ (authority ++ parts.path_text)) after valid.query valid.fragment
+      runs_kept base text parts scheme
+      (slash ∷ slash ∷ (authority ++ parts.path_text)) after kept
+      (spelled ∙ written_with_authority parts scheme host_text named given)
+
+  -- no code point of such a text is removed where none of the host text is
+  authority_kept : (text : List ℕ) → Valid base text parts → is_scheme scheme ≡ true
+      → parts.scheme ≡ Some scheme → parts.host_text ≡ Some host_text → list_all is_unremoved host_text ≡ true
+      → MayBePortText parts.port_text → MayBePathAbsolute parts.segments parts.path_text → first_removed text ≡ None
+  unfolding authority
+  authority_kept text valid is named given above port path =
+      kept_text text scheme (slash ∷ slash ∷ (authority ++ parts.path_text)) parts.query parts.fragment is
+      (unremoved_append authority parts.path_text (unremoved_authority host_text parts.port_text above port)
+      (unremoved_path parts.segments parts.path_text path)) valid.query valid.fragment
       (valid.whole ∙ written_with_authority parts scheme host_text named given)
 
   -- class Other goes by `/` and `/`
-  other_starts : scheme_class scheme ≡ Other → StartsAuthority
+  pub other_starts : scheme_class scheme ≡ Other → StartsAuthority
   unfolding authority StartsAuthority
   other_starts other k url ends =
       ends_within base (omega arith)
@@ -176,7 +199,7 @@ module _ (base : Option Url) (parts : Parts) (scheme host_text : List ℕ) (valu
       (ends_step base (λ p. refl) ends))
 
   -- a special URL goes by `//`, whether the base has the same scheme or not, to a host that isn't empty
-  special_starts : scheme_class scheme ≡ Special → list_all is_authority_letter host_text ≡ true
+  pub special_starts : scheme_class scheme ≡ Special → list_all (is_authority_letter true) host_text ≡ true
       → (length host_text == 0) ≡ false → StartsAuthority
   unfolding authority StartsAuthority
   special_starts special letters some k url ends =
@@ -202,10 +225,10 @@ module _ (base : Option Url) (parts : Parts) (scheme host_text : List ℕ) (valu
 -- ---- class Other
 
 -- a scheme of class Other isn't special, and one of class Special is
-not_special : (scheme : List ℕ) → scheme_class scheme ≡ Other → is_special (lowercase scheme) ≡ false
+pub not_special : (scheme : List ℕ) → scheme_class scheme ≡ Other → is_special (lowercase scheme) ≡ false
 not_special scheme other = rw (scheme_class-lowercase scheme, other) refl
 
-is_special_scheme : (scheme : List ℕ) → scheme_class scheme ≡ Special → is_special (lowercase scheme) ≡ true
+pub is_special_scheme : (scheme : List ℕ) → scheme_class scheme ≡ Special → is_special (lowercase scheme) ≡ true
 is_special_scheme scheme special = rw (scheme_class-lowercase scheme, special) refl
 
 -- the value of a host, as it is denoted
@@ -219,10 +242,13 @@ pub valued_some : (parts : Parts) (value : Host) → parts.host ≡ Some value �
 valued_some parts value e = rw e refl
 
 -- an authority of class Other is parsed as it is denoted
-other_parsed : (parts : Parts) (scheme host_text : List ℕ) → scheme_class scheme ≡ Other
-    → parts.host_text ≡ Some host_text → IsOtherAuthority scheme host_text parts
-    → (value : Host) × HasParsed parts scheme host_text value
-other_parsed parts scheme host_text other given (inl (is, fits), port, path) = (
+pub other_parsed : (parts : Parts) (scheme host_text : List ℕ) → scheme_class scheme ≡ Other
+    → parts.host_text ≡ Some host_text
+    → (IsOpaqueHostText host_text parts.host × MayBePortText parts.port_text)
+    ⊎ ((host_text ≡ []) × (parts.host ≡ Some host.Empty) × (parts.port_text ≡ None))
+    → parts.port ≡ port_given scheme parts.port_text → MayBePathSlashed parts.segments parts.path_text
+    → (value : Host) × HasParsed parts scheme host_text value × (list_all is_unremoved host_text ≡ true)
+other_parsed parts scheme host_text other given (inl (is, fits)) port path = (
   opaque_value host_text parts.host,
   record {
     parsed = opaque_parsed scheme host_text parts.port_text parts.host (not_special scheme other) is fits;
@@ -230,8 +256,9 @@ other_parsed parts scheme host_text other given (inl (is, fits), port, path) = (
     port = port;
     path = path;
   },
+  opaque_above host_text parts.host is,
 )
-other_parsed parts scheme host_text other given (inr (none, value, no_port), port, path) = (
+other_parsed parts scheme host_text other given (inr (none, value, no_port)) port path = (
   host.Empty,
   record {
     parsed = rw (none, no_port) (empty_parsed scheme (not_special scheme other));
@@ -239,6 +266,7 @@ other_parsed parts scheme host_text other given (inr (none, value, no_port), por
     port = port;
     path = path;
   },
+  rw none refl,
 )
 
 -- the machine is silent on each valid text with an authority whose scheme is of class Other
@@ -253,8 +281,12 @@ other_authority_silent base text parts valid form other =
     let fits : FitsAuthority Other scheme host_text parts
     = subst (λ (k : Class). FitsAuthority k scheme host_text parts) kind
     (authority_named base parts scheme host_text named given has) in
-    let (value, parsed) = other_parsed parts scheme host_text kind given fits in
-    authority_runs base parts scheme host_text value text valid form is named given parsed
+    let slashed = slashed_absolute parts.segments parts.path_text fits.2 in
+    let (value, parsed, above) = other_parsed parts scheme host_text kind given fits.0 fits.1 slashed in
+    let kept = authority_kept base parts scheme host_text value text valid is named given above parsed.parsed.port
+    fits.2 in
+    authority_runs base parts scheme host_text value text valid.whole valid.query valid.fragment kept form is named
+    given parsed
     (other_starts base parts scheme host_text value kind)
 
 -- ---- class Special
@@ -276,7 +308,15 @@ special_authority_silent base text parts valid form special =
     (is_special_scheme scheme kind) fits.host fits.port_text in
     let all : HasParsed parts scheme host_text fits.value
     = record
-    { parsed = parsed; valued = valued_some parts fits.value fits.valued; port = fits.port; path = fits.path } in
-    authority_runs base parts scheme host_text fits.value text valid form is named given all
-    (special_starts base parts scheme host_text fits.value kind parsed.read.letters
+    {
+      parsed = parsed;
+      valued = valued_some parts fits.value fits.valued;
+      port = fits.port;
+      path = slashed_absolute parts.segments parts.path_text fits.path;
+    } in
+    let kept = authority_kept base parts scheme host_text fits.value text valid is named given
+    (host_above host_text fits.value fits.host) fits.port_text fits.path in
+    authority_runs base parts scheme host_text fits.value text valid.whole valid.query valid.fragment kept form is
+    named given all
+    (special_starts base parts scheme host_text fits.value kind (host_letters host_text fits.value fits.host)
     (special_some scheme host_text fits.value (is_special_scheme scheme kind) parsed.parsed))

@@ -11,25 +11,28 @@ use Rattle.uv_model.specs.Ascii.{slash, colon}
 use Rattle.uv_model.specs.Denote.{authority_path}
 use Rattle.uv_model.specs.Machine.{Held, Sight, end, slash_mark, query_mark, fragment_mark, another, sight, again, FileHostState, FileSlashState, FileState, PathStartState, SchemeState, file_host_at, empty_held, with_host, with_more, with_scheme}
 use Rattle.uv_model.specs.Parts.{Form, Parts, SchemeAuthority, SchemePath, SchemeOpaque, Authority, PathAbsolute, PathRelative, NoPath, has_scheme, written, written_behind}
+use Rattle.uv_model.specs.Run.{first_removed}
 use Rattle.uv_model.specs.Scheme.{is_scheme, lowercase, scheme_class}
 use Rattle.uv_model.specs.Silent.{RunsSilently, FileTextsRunSilently}
 use Rattle.uv_model.specs.Url.{Url}
 use Rattle.uv_model.specs.Valid.{FitsAuthority, FitsForm, FitsScheme, HasAuthority, IsFileAuthority, MayBePathAbsolute, MayBeUnits, Valid, scheme_in, scheme_or}
 use Rattle.uv_model.proofs.AuthorityEnds.{delimits}
-use Rattle.uv_model.proofs.AuthorityLoops.{IsDelimiter, is_authority_letter}
-use Rattle.uv_model.proofs.FileHosts.{IsFileParsed, file_class, file_host_law, file_host_row, file_parsed, file_scheme}
+use Rattle.uv_model.proofs.AuthorityLoops.{IsDelimiter}
+use Rattle.uv_model.proofs.FileHosts.{IsFileRead, file_class, file_is_read, file_host_law, file_host_row, file_parsed, file_scheme}
 use Rattle.uv_model.proofs.HostsParsed.{parsed_some}
 use Rattle.uv_model.proofs.PathLoops.{walking}
 use Rattle.uv_model.proofs.PathStarts.{path_start_ends}
 use Rattle.uv_model.proofs.SchemeStretch.{colon_row, scheme_held, scheme_there}
-use Rattle.uv_model.proofs.SilentAuthority.{authority_named, authority_there, unremoved_letters, unremoved_path, valued_some, written_with_authority}
-use Rattle.uv_model.proofs.SilentSchemes.{EndsBehindScheme, HoldsDenoted, denoted_from_held, runs_silently}
+use Rattle.uv_model.proofs.SilentAuthority.{authority_named, authority_there, unremoved_path, valued_some, written_with_authority}
+use Rattle.uv_model.proofs.SilentSchemes.{EndsBehindScheme, HoldsDenoted, denoted_from_held, kept_text, runs_kept}
 use Rattle.uv_model.proofs.Steps.{Ends, ends_after, ends_again, ends_step, ends_within}
 use Rattle.uv_model.proofs.Tails.{tail, with_tail}
-use Rattle.uv_model.proofs.Unremoved.{unremoved_append}
+use Rattle.uv_model.proofs.Unremoved.{is_unremoved, unremoved_append}
+use Rattle.uv_model.proofs.PathStarts.{slashed_absolute}
+use Rattle.uv_model.specs.ParserProfile.{MayBePathSlashed}
 
 -- what is held behind the host
-abbrev file_held : Host → Held
+abbrev pub file_held : Host → Held
 file_held value = with_host (Some value) (with_scheme (codes "file") empty_held)
 
 -- the URL at the end
@@ -47,7 +50,7 @@ empty_host_row fragment_mark is = refl
 empty_host_row (another c) is = absurd is
 
 module _ (base : Option Url) (segments : List (List ℕ)) (path : List ℕ) (query fragment : Option (List ℕ))
-    (segmented : MayBePathAbsolute segments path) (query_units : MayBeUnits query)
+    (segmented : MayBePathSlashed segments path) (query_units : MayBeUnits query)
     (fragment_units : MayBeUnits fragment) where
   -- from the scheme's `:` to the host
   file_starts : (scheme rest : List ℕ) (k : ℕ) (url : Url) → scheme_class scheme ≡ File
@@ -69,11 +72,11 @@ module _ (base : Option Url) (segments : List (List ℕ)) (path : List ℕ) (que
       path_start_ends base query fragment query_units fragment_units segments path (file_held value) segmented
 
   -- from a host with a text to the end
-  file_host_ends : (text : List ℕ) (value : Host) → IsFileParsed text value
+  pub file_host_ends : (text : List ℕ) (value : Host) → IsFileRead text value
       → Ends base FileHostState (file_held host.Empty) (text ++ (path ++ tail query fragment))
       (length text + suc (length path + (length (tail query fragment) + 2))) (file_url value segments query fragment)
   file_host_ends text value is =
-      ends_after base (file_host_law base text (path ++ tail query fragment) (file_held host.Empty) is.read.letters)
+      ends_after base (file_host_law base text (path ++ tail query fragment) (file_held host.Empty) is.letters)
       (ends_again base
       (λ p. file_host_row is.parsed_value (with_more text (file_held host.Empty)) (sight (path ++ tail query fragment))
       (delimits segments path query fragment segmented) is.drive (parsed_some text is.parsed_value is.parsed) is.parsed
@@ -81,7 +84,7 @@ module _ (base : Option Url) (segments : List (List ℕ)) (path : List ℕ) (que
       (file_path_ends value))
 
   -- from an empty host to the end
-  empty_host_ends :
+  pub empty_host_ends :
       Ends base FileHostState (file_held host.Empty) (path ++ tail query fragment)
       (suc (length path + (length (tail query fragment) + 2))) (file_url host.Empty segments query fragment)
   empty_host_ends =
@@ -90,19 +93,20 @@ module _ (base : Option Url) (segments : List (List ℕ)) (path : List ℕ) (que
       (file_path_ends host.Empty)
 
 -- The host text leads to the end, with this value.
-record HasFileHost (base : Option Url) (parts : Parts) (text : List ℕ) (value : Host) : Type 0 where
-  no_port_text : parts.port_text ≡ None
-  no_port : parts.port ≡ None
-  valued : parts.host ≡ Some value
-  path : MayBePathAbsolute parts.segments parts.path_text
-  letters : list_all is_authority_letter text ≡ true
-  ends : Ends base FileHostState (file_held host.Empty) (text ++ (parts.path_text ++ tail parts.query parts.fragment))
+pub record HasFileHost (base : Option Url) (parts : Parts) (text : List ℕ) (value : Host) : Type 0 where
+  pub no_port_text : parts.port_text ≡ None
+  pub no_port : parts.port ≡ None
+  pub valued : parts.host ≡ Some value
+  pub path : MayBePathSlashed parts.segments parts.path_text
+  pub ends : Ends base FileHostState (file_held host.Empty) (text ++ (parts.path_text ++ tail parts.query parts.fragment))
       (length text + suc (length parts.path_text + (length (tail parts.query parts.fragment) + 2)))
       (file_url value parts.segments parts.query parts.fragment)
 
 file_host_there : (base : Option Url) (parts : Parts) (text : List ℕ) → MayBeUnits parts.query
     → MayBeUnits parts.fragment
-    → IsFileAuthority text parts → (value : Host) × HasFileHost base parts text value
+    → IsFileAuthority text parts
+    → (value : Host) × HasFileHost base parts text value × (list_all is_unremoved text ≡ true)
+    × MayBePathAbsolute parts.segments parts.path_text
 file_host_there base parts text query fragment (no_text, none, inl (value, is, valued, path, drive)) =
     let parsed = file_parsed text value is in (
       value,
@@ -110,12 +114,14 @@ file_host_there base parts text query fragment (no_text, none, inl (value, is, v
         no_port_text = no_text;
         no_port = none;
         valued = valued;
-        path = path;
-        letters = parsed.read.letters;
+        path = slashed_absolute parts.segments parts.path_text path;
         ends =
-            file_host_ends base parts.segments parts.path_text parts.query parts.fragment path query
-            fragment text value parsed;
+            file_host_ends base parts.segments parts.path_text parts.query parts.fragment
+            (slashed_absolute parts.segments parts.path_text path) query
+            fragment text value (file_is_read text value parsed);
       },
+      parsed.read.above,
+      path,
     )
 file_host_there base parts text query fragment (no_text, none, inr (empty, valued, path)) = (
   host.Empty,
@@ -123,11 +129,13 @@ file_host_there base parts text query fragment (no_text, none, inr (empty, value
     no_port_text = no_text;
     no_port = none;
     valued = valued;
-    path = inr path;
-    letters = rw empty refl;
+    path = slashed_absolute parts.segments parts.path_text (inr path);
     ends = rw empty (ends_within base (omega arith)
-        (empty_host_ends base parts.segments parts.path_text parts.query parts.fragment (inr path) query fragment));
+        (empty_host_ends base parts.segments parts.path_text parts.query parts.fragment
+        (slashed_absolute parts.segments parts.path_text (inr path)) query fragment));
   },
+  rw empty refl,
+  inr path,
 )
 
 -- what is held behind the path is what is denoted
@@ -156,11 +164,12 @@ written_file parts scheme text named given none =
     (λ xs. scheme ++ colon ∷ ((slash ∷ slash ∷ (xs ++ parts.path_text)) ++ tail parts.query parts.fragment)) plain
 
 -- the whole run of such a text
-file_runs : (base : Option Url) (text : List ℕ) (parts : Parts) (scheme host_text : List ℕ) (value : Host)
-    → Valid base text parts → parts.form ≡ SchemeAuthority → is_scheme scheme ≡ true → parts.scheme ≡ Some scheme
+pub file_runs : (base : Option Url) (text : List ℕ) (parts : Parts) (scheme host_text : List ℕ) (value : Host)
+    → text ≡ written parts → MayBeUnits parts.query → MayBeUnits parts.fragment → first_removed text ≡ None
+    → parts.form ≡ SchemeAuthority → is_scheme scheme ≡ true → parts.scheme ≡ Some scheme
     → parts.host_text ≡ Some host_text → scheme_class scheme ≡ File → HasFileHost base parts host_text value
     → RunsSilently base text parts
-file_runs base text parts scheme host_text value valid form is named given kind has =
+file_runs base text parts scheme host_text value spelled query fragment kept form is named given kind has =
     let rest = host_text ++ parts.path_text in
     let whole = append_assoc host_text parts.path_text (tail parts.query parts.fragment) in
     let after : EndsBehindScheme base parts scheme (slash ∷ slash ∷ rest)
@@ -170,18 +179,15 @@ file_runs base text parts scheme host_text value valid form is named given kind 
       url = file_url value parts.segments parts.query parts.fragment;
       named = is;
       ends = rw whole
-          (file_starts base parts.segments parts.path_text parts.query parts.fragment has.path valid.query
-          valid.fragment
+          (file_starts base parts.segments parts.path_text parts.query parts.fragment has.path query fragment
           scheme _ _ _ kind has.ends);
       few =
           omega (arith, length-append rest (tail parts.query parts.fragment), length-append host_text parts.path_text);
-      above = unremoved_append host_text parts.path_text (unremoved_letters host_text has.letters)
-          (unremoved_path parts.segments parts.path_text has.path);
       denoted = denoted_from_held base parts SchemeAuthority scheme _ refl form named
           (file_denoted base parts scheme host_text value kind has);
     } in
-    runs_silently base text parts scheme (slash ∷ slash ∷ rest) after valid.query valid.fragment
-    (valid.whole ∙ written_file parts scheme host_text named given has.no_port_text)
+    runs_kept base text parts scheme (slash ∷ slash ∷ rest) after kept
+    (spelled ∙ written_file parts scheme host_text named given has.no_port_text)
 
 -- with an authority
 file_authority_silent : (base : Option Url) (text : List ℕ) (parts : Parts) → Valid base text parts
@@ -195,8 +201,13 @@ file_authority_silent base text parts valid form file =
     let fits : FitsAuthority File scheme host_text parts
     = subst (λ (k : Class). FitsAuthority k scheme host_text parts) kind
     (authority_named base parts scheme host_text named given has) in
-    let (value, there) = file_host_there base parts host_text valid.query valid.fragment fits in
-    file_runs base text parts scheme host_text value valid form is named given kind there
+    let (value, there, above, path) = file_host_there base parts host_text valid.query valid.fragment fits in
+    let kept = kept_text text scheme (slash ∷ slash ∷ (host_text ++ parts.path_text)) parts.query parts.fragment is
+    (unremoved_append host_text parts.path_text above (unremoved_path parts.segments parts.path_text path))
+    valid.query valid.fragment
+    (valid.whole ∙ written_file parts scheme host_text named given there.no_port_text) in
+    file_runs base text parts scheme host_text value valid.whole valid.query valid.fragment kept form is named given
+    kind there
 
 -- a class isn't two classes
 not_both : (kind : Class) → kind ≡ Other → kind ≡ File → ⊥

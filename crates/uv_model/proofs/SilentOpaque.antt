@@ -64,8 +64,8 @@ opaque_silent base text parts valid form =
           opaque_ends base scheme parts.path_text fits.2.0 parts.query parts.fragment other fits.2.1
           valid.query valid.fragment;
       few = omega (arith, length-append parts.path_text (tail parts.query parts.fragment));
-      above = unremoved_faultless parts.path_text (faultless_path fits.2.0 parts.path_text fits.2.1);
       denoted = denoted_from_held base parts SchemeOpaque scheme _ refl form named (opaque_denoted base scheme parts);
     } in
-    runs_silently base text parts scheme parts.path_text behind valid.query valid.fragment
+    runs_silently base text parts scheme parts.path_text behind
+    (unremoved_faultless parts.path_text (faultless_path fits.2.0 parts.path_text fits.2.1)) valid.query valid.fragment
     (valid.whole ∙ written_without_authority parts scheme named fits.0.host_text)

@@ -70,9 +70,9 @@ path_silent base text parts valid form =
           path_ends base scheme path.behind parts.segments parts.query parts.fragment other path.relative
           valid.query valid.fragment;
       few = omega (arith, length-append path.behind (tail parts.query parts.fragment));
-      above = unremoved_faultless path.behind (faultless_path parts.segments path.behind path.relative);
       denoted = denoted_from_held base parts SchemePath scheme _ refl form named (path_denoted base scheme parts);
     } in
-    runs_silently base text parts scheme (slash ∷ path.behind) behind valid.query valid.fragment
+    runs_silently base text parts scheme (slash ∷ path.behind) behind
+    (unremoved_faultless path.behind (faultless_path parts.segments path.behind path.relative)) valid.query valid.fragment
     (valid.whole ∙ (written_without_authority parts scheme named fits.0.host_text
     ∙ ap (λ xs. scheme ++ colon ∷ (xs ++ tail parts.query parts.fragment)) slashed))

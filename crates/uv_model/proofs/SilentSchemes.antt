@@ -10,7 +10,7 @@ use Rattle.uv_model.specs.Denote.{denote, denoted_host, denoted_path, denoted_po
 use Rattle.uv_model.specs.Encoding.{encoded}
 use Rattle.uv_model.specs.Machine.{Held, is_special, SchemeStartState, SchemeState, with_more, empty_held}
 use Rattle.uv_model.specs.Parts.{Form, Parts, SchemeAuthority, SchemePath, SchemeOpaque, Authority, PathAbsolute, PathRelative, NoPath, has_scheme, written}
-use Rattle.uv_model.specs.Run.{Done, run, step_bound}
+use Rattle.uv_model.specs.Run.{Done, first_removed, run, step_bound}
 use Rattle.uv_model.specs.Scheme.{is_scheme, lowercase, scheme_class}
 use Rattle.uv_model.specs.Silent.{RunsSilently}
 use Rattle.uv_model.specs.Url.{Url}
@@ -23,12 +23,12 @@ use Rattle.uv_model.proofs.Tails.{tail, query_given, with_tail}
 use Rattle.uv_model.proofs.Unremoved.{is_unremoved, first_removed-none, unremoved_scheme, unremoved_append, unremoved_tail}
 
 -- a run from the first place that ends within the bound, on a text without a code point that is removed
-pub run_from_ends : (base : Option Url) (text : List ℕ) (k : ℕ) (url : Url) → list_all is_unremoved text ≡ true
+pub run_from_ends : (base : Option Url) (text : List ℕ) (k : ℕ) (url : Url) → first_removed text ≡ None
     → k ≤ step_bound text → Ends base SchemeStartState empty_held text k url
     → run base text (step_bound text) ≡ Done url
 unfolding run
-run_from_ends base text k url above within ends =
-    rw (first_removed-none text above) ((ends_within base within ends).goes text 0 refl)
+run_from_ends base text k url kept within ends =
+    rw kept ((ends_within base within ends).goes text 0 refl)
 
 -- What stands behind the scheme's `:` ends the run with the denoted URL.
 pub record EndsBehindScheme (base : Option Url) (parts : Parts) (scheme middle : List ℕ) : Type 0 where
@@ -38,29 +38,45 @@ pub record EndsBehindScheme (base : Option Url) (parts : Parts) (scheme middle :
   pub ends : Ends base SchemeState (with_more (lowercase scheme) empty_held)
       (colon ∷ (middle ++ tail parts.query parts.fragment)) steps url
   pub few : steps ≤ 3 * length (middle ++ tail parts.query parts.fragment) + 16
-  pub above : list_all is_unremoved middle ≡ true
   pub denoted : url ≡ denote base parts
 
+-- a text of which the scheme, what is behind it, the query and the fragment hold no code point that is removed
+pub kept_text : (text scheme middle : List ℕ) (query fragment : Option (List ℕ)) → is_scheme scheme ≡ true
+    → list_all is_unremoved middle ≡ true → MayBeUnits query → MayBeUnits fragment
+    → text ≡ scheme ++ colon ∷ (middle ++ tail query fragment) → first_removed text ≡ None
+kept_text text scheme middle query fragment named above query_units fragment_units whole =
+    let rest = middle ++ tail query fragment in
+    let kept : list_all is_unremoved (scheme ++ colon ∷ rest) ≡ true
+    = unremoved_append scheme (colon ∷ rest) (unremoved_scheme scheme named)
+    (unremoved_append middle (tail query fragment) above
+    (unremoved_tail query fragment query_units fragment_units)) in
+    rw whole (first_removed-none (scheme ++ colon ∷ rest) kept)
+
 -- the whole run of such a text
-pub runs_silently : (base : Option Url) (text : List ℕ) (parts : Parts) (scheme middle : List ℕ)
-    → EndsBehindScheme base parts scheme middle → MayBeUnits parts.query → MayBeUnits parts.fragment
+pub runs_kept : (base : Option Url) (text : List ℕ) (parts : Parts) (scheme middle : List ℕ)
+    → EndsBehindScheme base parts scheme middle → first_removed text ≡ None
     → text ≡ scheme ++ colon ∷ (middle ++ tail parts.query parts.fragment) → RunsSilently base text parts
-runs_silently base text parts scheme middle behind query fragment whole =
+runs_kept base text parts scheme middle behind kept whole =
     let rest = middle ++ tail parts.query parts.fragment in
-    let above : list_all is_unremoved (scheme ++ colon ∷ rest) ≡ true
-    = unremoved_append scheme (colon ∷ rest) (unremoved_scheme scheme behind.named)
-    (unremoved_append middle (tail parts.query parts.fragment) behind.above
-    (unremoved_tail parts.query parts.fragment query fragment)) in
     let few : length scheme + behind.steps ≤ step_bound (scheme ++ colon ∷ rest)
     = omega (arith, behind.few, length-append scheme (colon ∷ rest)) in
     rw (whole, ← behind.denoted)
-    (run_from_ends base (scheme ++ colon ∷ rest) _ behind.url above few
+    (run_from_ends base (scheme ++ colon ∷ rest) _ behind.url (rw whole at kept) few
     (ends_after base (scheme_stretch base scheme (colon ∷ rest) behind.named) behind.ends))
+
+-- the same where each code point behind the scheme is above U+0020
+pub runs_silently : (base : Option Url) (text : List ℕ) (parts : Parts) (scheme middle : List ℕ)
+    → EndsBehindScheme base parts scheme middle → list_all is_unremoved middle ≡ true
+    → MayBeUnits parts.query → MayBeUnits parts.fragment
+    → text ≡ scheme ++ colon ∷ (middle ++ tail parts.query parts.fragment) → RunsSilently base text parts
+runs_silently base text parts scheme middle behind above query fragment whole =
+    runs_kept base text parts scheme middle behind
+    (kept_text text scheme middle parts.query parts.fragment behind.named above query fragment whole) whole
 
 -- ---- the URL
 
 -- a special scheme is one whose queries have `'` encoded
-special_of_class : (kind : Class) (scheme : List ℕ) → scheme_class scheme ≡ kind → is_special scheme ≡ quotes kind
+pub special_of_class : (kind : Class) (scheme : List ℕ) → scheme_class scheme ≡ kind → is_special scheme ≡ quotes kind
 special_of_class Special scheme e = rw e refl
 special_of_class File scheme e = rw e refl
 special_of_class Other scheme e = rw e refl

@@ -18,6 +18,7 @@ pub mod Laws
 pub mod Machine
 pub mod OpaqueHost
 pub mod OpaqueHostComplaint
+pub mod ParserProfile
 pub mod Parts
 pub mod Path
 pub mod Refusal

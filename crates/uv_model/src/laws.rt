@@ -19,6 +19,7 @@ ghost use Rattle.uv_model.specs.Rows.ReferenceMatrix.{ReferenceMatrixRows};
 ghost use Rattle.uv_model.specs.Rows.References.{ReferenceRows};
 ghost use Rattle.uv_model.specs.Rows.SilentRefusals.{SilentRefusalRows};
 ghost use Rattle.uv_model.specs.Rows.Special.{SpecialRows};
+ghost use Rattle.uv_model.specs.ParserProfile.{TextsAreDecided};
 ghost use Rattle.uv_model.specs.Silent.{FileTextsRunSilently, OpaqueTextsRunSilently, OtherTextsRunSilently, SpecialTextsRunSilently};
 
 /// A text is a concatenation of URL units exactly where no code point of it is a fault of units.
@@ -47,6 +48,12 @@ pub fn special_texts_run_silently()
 /// The same on every valid text with a scheme of class File (URL Standard, section 4.4).
 pub fn file_texts_run_silently()
     ensures { FileTextsRunSilently }
+{}
+
+/// The run of the parser machine on a text is done, with the URL that the parts denote, exactly where the parser's
+/// grammar takes the text with parts, and else it stops; within the bound on its steps.
+pub fn texts_are_decided()
+    ensures { TextsAreDecided }
 {}
 
 /// Every text has, against every base, exactly one cut into the texts of its parts.

@@ -1,2 +1,4 @@
 pub mod Class
 pub mod Faults
+pub mod Fronts
+pub mod Lanes

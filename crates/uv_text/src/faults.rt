@@ -1,12 +1,13 @@
 //! The first fault of a text that should be URL units.
-ghost use Rattle.std.specs.Prelude.{◌≡◌, ◌↔◌, IsNone};
+ghost use Rattle.std.specs.Prelude.{◌≡◌, ◌↔◌, IsNone, length};
 ghost use Rattle.std.specs.Str.{chars};
 ghost use Rattle.uv_model.specs.Refusal.{IsLeast};
 ghost use Rattle.uv_model.specs.UnitComplaint.{UnitComplaint};
 ghost use Rattle.uv_model.specs.Units.{IsUnits, starts_with_two_hex};
-ghost use Rattle.uv_text.specs.Faults.{violated};
+ghost use Rattle.uv_text.specs.Faults.{PassesFront, violated};
 
-use uv_model::{Refusal, Rule, is_url_code_point};
+use crate::lanes::url_run;
+use uv_model::{Refusal, Rule, first_code_point, is_url_code_point};
 
 /// The first code point that is no URL code point and begins no percent-encoded byte (URL Standard, section 4.3), with
 /// the rule that it violates: `CodePoint`, or at a `%` `Percent`. `None` where the text is URL units.
@@ -14,15 +15,41 @@ pub fn first_fault(text: &str) -> Option<Refusal>
     ensures least { IsLeast (UnitComplaint (chars text.now)) result }
     ensures none { IsNone result ↔ IsUnits (chars text.now) }
 {
-    let mut place = 0;
-    let mut rest = text.chars();
-    while let Some(c) = rest.next() {
-        if let Some(rule) = unit_fault(c, rest.as_str()) {
+    let mut left = behind_run(text);
+    while let Some((c, rest)) = first_code_point(left) {
+        if let Some(rule) = unit_fault(c, rest) {
+            let place = count_code_points(text) - count_code_points(left);
             return Some(Refusal { place, rule });
         }
-        place += 1;
+        left = behind_run(rest);
     }
     None
+}
+
+// What stands behind the longest front of ASCII URL code points.
+fn behind_run(text: &str) -> &str
+    ensures { PassesFront (chars text.now) (chars result.now) }
+{
+    if may_stop(text.as_bytes()) {
+        return text;
+    }
+    let run = url_run(text.as_bytes());
+    &text[run..]
+}
+
+// Whether the first byte is beyond ASCII or `%`, or there is none, so that a look at one code point is cheaper.
+fn may_stop(bytes: &[u8]) -> bool {
+    match bytes {
+        [first, ..] => *first >= 128 || *first == b'%',
+        [] => true,
+    }
+}
+
+// How many code points the text has.
+fn count_code_points(text: &str) -> usize
+    ensures { result ≡ length (chars text.now) }
+{
+    text.chars().count()
 }
 
 // The rule that a code point violates before the rest of the text.
@@ -37,7 +64,7 @@ fn unit_fault(c: char, rest: &str) -> Option<Rule>
 }
 
 // Whether the bytes begin with two hex digits.
-fn starts_with_two_hex(bytes: &[u8]) -> bool
+pub(crate) fn starts_with_two_hex(bytes: &[u8]) -> bool
     ensures { result ≡ starts_with_two_hex bytes.now }
 {
     match bytes {

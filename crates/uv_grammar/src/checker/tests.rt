@@ -3,6 +3,7 @@
 
 use super::*;
 use crate::form::Form;
+use crate::held_host::HostRef;
 use std::test::Fail;
 
 mod references;
@@ -21,22 +22,22 @@ fn form_name(form: Form) -> &'static str {
 }
 
 /// A kind of host and its value, an IPv6 address as its eight pieces in decimal.
-fn host_line(alloc: Global, host: Option<&Host>) -> Result<String, Fail> {
+fn host_line(alloc: Global, host: Option<HostRef<'_>>) -> Result<String, Fail> {
     Ok(match host {
         None => String::from_str(alloc, "-")?,
-        Some(Host::Domain(text)) => {
+        Some(HostRef::Domain(text)) => {
             let text = text.as_str();
             format!(in alloc; "domain {text}")?
         }
-        Some(Host::V4(value)) => format!(in alloc; "ipv4 {value}")?,
-        Some(Host::V6([a, b, c, d, e, f, g, h])) => {
+        Some(HostRef::V4(value)) => format!(in alloc; "ipv4 {value}")?,
+        Some(HostRef::V6([a, b, c, d, e, f, g, h])) => {
             format!(in alloc; "ipv6 {a} {b} {c} {d} {e} {f} {g} {h}")?
         }
-        Some(Host::Opaque(text)) => {
+        Some(HostRef::Opaque(text)) => {
             let text = text.as_str();
             format!(in alloc; "opaque {text}")?
         }
-        Some(Host::Empty) => String::from_str(alloc, "empty")?,
+        Some(HostRef::Empty) => String::from_str(alloc, "empty")?,
     })
 }
 

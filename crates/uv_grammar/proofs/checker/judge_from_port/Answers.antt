@@ -14,11 +14,11 @@ returns-in-Some c =
     host_passes (option_copied c.args.base) c.args.cut (Some c.in-Some.refusal) c.requires.silent
     (port_passes (option_copied c.args.base) c.args.cut (Some c.in-Some.refusal) c.in-Valid.ensures.1 c.in-Some.ensures)
 
-pub returns-in_ok-build-in-None : goal.returns-in_ok-build-in-None
-returns-in_ok-build-in-None c = record {
+pub returns-in-None : goal.returns-in-None
+returns-in-None c = record {
   host = c.args.host;
   port = c.in-Valid.port;
-  built = c.in_ok-build-in-None.ensures;
+  built = c.build.ensures;
   fits_host = c.requires.host;
   fits_port = c.in-Valid.ensures.0;
   silent = c.in-None.ensures;

@@ -9,14 +9,15 @@ use Rattle.uv_grammar.proofs.faults.fault_from_path.Goals as goal
 
 pub returns-in-Some : goal.returns-in-Some
 returns-in-Some c =
-    path_refuses c.args.cut.now c.in-Some.refusal
+    path_refuses c.args.cut.now c.moved.result
     (subst (λ (text : List ℕ). IsLeast (Behind (path_place c.args.cut.now) (UnitComplaint text))
-    (Some c.in-Some.refusal))
-    (ap (λ (cut : Cut). cut.path_text) c.cut.view_is) (rw c.path_place.ensures at c.in-Some.ensures))
+    (Some c.moved.result))
+    (ap (λ (cut : Cut). cut.path_text) c.cut.view_is) (rw c.path_place.ensures at c.moved.ensures))
 
 pub returns-in-None : goal.returns-in-None
 returns-in-None c =
     path_passes c.args.cut.now c.fault_from_query.result
     (subst (λ (text : List ℕ). IsLeast (Behind (path_place c.args.cut.now) (UnitComplaint text)) None)
-    (ap (λ (cut : Cut). cut.path_text) c.cut.view_is) (rw c.path_place.ensures at c.in-None.ensures))
+    (ap (λ (cut : Cut). cut.path_text) c.cut.view_is)
+    (λ place rule h. c.in-None.ensures.least h.inner rule h.holds))
     c.fault_from_query.ensures

@@ -1,8 +1,10 @@
 -- A form is ASCII.
-use Rattle.std.proofs.Common.{chars}
+use Rattle.std.proofs.Common.{chars, sym, ◌∙◌}
+use Rattle.std.proofs.lemmas.Bool.{false≢true}
 use Rattle.std.specs.Cow.{cow_str_bytes}
 use Rattle.uv_model.specs.Domain.{IsForm}
 use Rattle.uv_model.proofs.DomainLemmas.{IsAscii-form}
+use Rattle.uv_host.proofs.PlainLemmas.{permitted_plain}
 use Rattle.uv_host.proofs.domains.domain.Goals as goal
 
 pub is_number-requires : goal.is_number-requires
@@ -11,3 +13,7 @@ is_number-requires c =
     let form = cow_str_bytes c.in-Some.form in
     let is : IsForm text form = rw c.in-Some.is at c.in_ok-form.ensures in
     rw c.as_str.ensures.value (IsAscii-form text form is)
+
+pub returns-then-is_plain-clause-refused : goal.returns-then-is_plain-clause-refused
+returns-then-is_plain-clause-refused c =
+    λ wrong. absurd (false≢true (sym wrong ∙ permitted_plain c.args.text.now (rw c.as_bytes.ensures.value at (c.is_plain.ensures c.if-is_plain.true))))

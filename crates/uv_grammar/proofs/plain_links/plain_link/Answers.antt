@@ -1,0 +1,34 @@
+-- The parts of a plain link are those of its cut.
+use Rattle.std.proofs.Common.{ℕ, List, refl, subst, sym, ◌∙◌}
+use Rattle.std.specs.Str.{chars}
+use Rattle.uv_model.specs.Ascii.{number_sign}
+use Rattle.uv_model.proofs.DomainLemmas.{IsAscii-form}
+use Rattle.uv_grammar.specs.PlainLinks.{IsPartCut}
+use Rattle.uv_grammar.specs.Seen.{seen, seen_option}
+use Rattle.uv_grammar.proofs.HostLemmas.{no_chars}
+use Rattle.uv_grammar.proofs.PlainLinkLemmas.{plain_accepted}
+use Rattle.uv_grammar.proofs.plain_links.plain_link.Goals as goal
+
+pub of-requires : goal.of-requires
+of-requires c = IsAscii-form (seen c.in-Some-split_name.name) c.in-Some-split_name.name.now c.in-Some-split_name.ensures.domain.0
+
+pub returns : goal.returns
+returns c = λ base.
+    rw c.of.ensures
+    (plain_accepted base (chars c.args.text.now) (seen c.in-Some.scheme) (seen c.in-Some-split_name.name)
+    c.in-Some-split_name.name.now (seen c.in-Some-split_path.path_text) (seen_option c.split_part.result.0)
+    (seen_option c.split_part-2.result.0) refl
+    (record {
+      behind = seen c.in-Some.behind;
+      rest = seen c.in-Some-split_name.rest;
+      tail = seen c.in-Some-split_path.rest;
+      end = seen c.split_part.result.1;
+      special = c.in-Some.ensures;
+      named = c.in-Some-split_name.ensures;
+      path_cut = c.in-Some-split_path.ensures;
+      query_cut = c.split_part.ensures;
+      fragment_cut =
+          subst (λ (s : List ℕ). IsPartCut number_sign (seen c.split_part.result.1) (seen_option c.split_part-2.result.0) s)
+          (no_chars c.split_part-2.result.1.now (sym c.is_empty.ensures ∙ c.if-not-is_empty.false))
+          c.split_part-2.ensures;
+    }))

@@ -1,0 +1,60 @@
+-- The cuts of the links that people write, after the URL Standard, sections 3.4 and 4.3.
+use Rattle.std.specs.Prelude.{◌≡◌, ◌≢◌, ℕ, ◌≤◌, true, false, List, [], ◌∷◌, ◌++◌, length, take, drop, Option, Some, None}
+use Rattle.std.specs.Char.{is_ascii}
+use Rattle.std.specs.List.{list_all}
+use Rattle.std.specs.Str.{chars}
+use Rattle.uv_text.specs.Fronts.{AreAsciiUnits}
+use Rattle.uv_model.specs.declared.scheme.Class.TheVariants.{Special}
+use Rattle.uv_model.specs.Ascii.{slash, colon}
+use Rattle.uv_model.specs.Cut.{starts_with_two_slashes}
+use Rattle.uv_model.specs.Domain.{IsDomain}
+use Rattle.uv_model.specs.Parts.{written_behind}
+use Rattle.uv_model.specs.Path.{starts_with_slash}
+use Rattle.uv_model.specs.Scheme.{is_scheme, scheme_class}
+
+-- the front of so many bytes is ASCII
+abbrev pub HasAsciiFront : List ℕ → ℕ → Type 0
+HasAsciiFront bytes end = (end ≤ length bytes) × (list_all is_ascii (take end bytes) ≡ true)
+
+-- the bytes are cut behind an ASCII front
+pub record IsFrontCut (bytes : List ℕ) (end : ℕ) (front rest : List ℕ) : Type 0 where
+  pub is_front : front ≡ take end bytes
+  pub is_rest : rest ≡ drop end bytes
+  pub code_points : chars front ≡ take end bytes
+  pub joined : chars bytes ≡ take end bytes ++ chars rest
+
+-- so many bytes are a special scheme, behind which `://` stands
+pub record IsSpecialFront (bytes : List ℕ) (end : ℕ) : Type 0 where
+  pub inside : end ≤ length bytes
+  pub scheme : is_scheme (take end bytes) ≡ true
+  pub special : scheme_class (take end bytes) ≡ Special
+  pub behind : List ℕ
+  pub mark : drop end bytes ≡ colon ∷ slash ∷ slash ∷ behind
+
+-- the text is a special scheme, `://` and a rest
+pub record IsSpecialCut (text scheme rest : List ℕ) : Type 0 where
+  pub joined : text ≡ scheme ++ colon ∷ slash ∷ slash ∷ rest
+  pub named : is_scheme scheme ≡ true
+  pub special : scheme_class scheme ≡ Special
+
+-- the text is a domain of this form, and a rest
+pub record IsNameCut (text name form rest : List ℕ) : Type 0 where
+  pub joined : text ≡ name ++ rest
+  pub domain : IsDomain name form
+
+-- the text is a path of units, empty or behind `/`, and a rest
+pub record IsPathCut (text path rest : List ℕ) : Type 0 where
+  pub joined : text ≡ path ++ rest
+  pub units : AreAsciiUnits false path
+  pub slashed : path ≢ [] → starts_with_slash path ≡ true
+  pub single : starts_with_two_slashes path ≡ false
+
+-- units, where there are any
+abbrev pub MayBeUnits : Option (List ℕ) → Type 0
+MayBeUnits None = Unit {0}
+MayBeUnits (Some text) = AreAsciiUnits true text
+
+-- the text is units behind the mark, where it begins with it, and a rest
+pub record IsPartCut (mark : ℕ) (text : List ℕ) (part : Option (List ℕ)) (rest : List ℕ) : Type 0 where
+  pub joined : text ≡ written_behind mark part ++ rest
+  pub units : MayBeUnits part

@@ -1,0 +1,147 @@
+//! The links that people write, judged at one pass: a special scheme, a plain domain, and a path, a query and a
+//! fragment of ASCII.
+ghost use Rattle.std.specs.Prelude.{◌≡◌, ◌≢◌, ◌++◌, ◌<◌, [], false, true, Option, IfSome, IsTrue, drop, length};
+ghost use Rattle.std.specs.Str.{chars};
+ghost use Rattle.uv_model.specs.Cut.{starts_with_two_slashes};
+ghost use Rattle.uv_model.specs.Path.{starts_with_slash};
+ghost use Rattle.uv_model.specs.Url.{Url};
+ghost use Rattle.uv_grammar.specs.PlainLinks.{HasAsciiFront, IsFrontCut, IsNameCut, IsPartCut, IsPathCut, IsSpecialCut, IsSpecialFront};
+ghost use Rattle.uv_grammar.specs.Seen.{seen, seen_option};
+ghost use Rattle.uv_grammar.specs.Verdict.{IsAccepted};
+
+use crate::form::Form;
+use crate::held_host::{AsciiText, HeldHost};
+use crate::parts::Parts;
+use crate::starts::{has_slash, has_two_slashes};
+use uv_host::{is_plain_domain, name_front};
+use uv_text::unit_front;
+
+/// The parts of a link that is plain: a special scheme in lower case, `://`, a domain that is its own ASCII form, and
+/// a path, a query and a fragment of ASCII. Against any base it is valid with these parts. Where there are none, that
+/// says nothing.
+pub(crate) fn plain_link<'t>(text: &'t str) -> Option<Parts<'t>>
+    ensures { IfSome result (λ parts. (base : Option Url) → IsAccepted base (chars text.now) parts) }
+{
+    let Some((scheme, behind)) = split_special(text) else {
+        return None;
+    };
+    let Some((name, rest)) = split_name(behind) else {
+        return None;
+    };
+    let Some((path_text, rest)) = split_path(rest) else {
+        return None;
+    };
+    let (query, rest) = split_part(rest, b'?');
+    let (fragment, rest) = split_part(rest, b'#');
+    if !rest.is_empty() {
+        return None;
+    }
+    Some(Parts {
+        form: Form::SchemeAuthority,
+        scheme: Some(scheme),
+        host_text: Some(name),
+        host: Some(HeldHost::Plain(AsciiText::of(name))),
+        port_text: None,
+        port: None,
+        path_text,
+        query,
+        fragment,
+    })
+}
+
+// A special scheme but `file`, in lower case, and what stands behind its `://`.
+fn split_special<'t>(text: &'t str) -> Option<(&'t str, &'t str)>
+    ensures { IfSome result (λ r. IsSpecialCut (chars text.now) (seen r.0) (seen r.1)) }
+{
+    let Some(end) = special_end(text.as_bytes()) else {
+        return None;
+    };
+    let (scheme, behind) = split_front(text, end);
+    let (_, rest) = split_front(behind, 3);
+    Some((scheme, rest))
+}
+
+// How many bytes a special scheme has at the front.
+fn special_end(bytes: &[u8]) -> Option<usize>
+    ensures { IfSome result (IsSpecialFront bytes.now) }
+{
+    if has_front(bytes, b"https://") {
+        Some(5)
+    } else if has_front(bytes, b"http://") {
+        Some(4)
+    } else if has_front(bytes, b"ftp://") {
+        Some(3)
+    } else if has_front(bytes, b"wss://") {
+        Some(3)
+    } else if has_front(bytes, b"ws://") {
+        Some(2)
+    } else {
+        None
+    }
+}
+
+// Whether the bytes begin with these.
+fn has_front(bytes: &[u8], front: &[u8]) -> bool
+    ensures { IsTrue result → bytes.now ≡ front.now ++ drop (length front.now) bytes.now }
+{
+    bytes.starts_with(front)
+}
+
+// A plain domain, and what follows it.
+fn split_name<'t>(text: &'t str) -> Option<(&'t str, &'t str)>
+    ensures { IfSome result (λ r. IsNameCut (chars text.now) (seen r.0) r.0.now (seen r.1)) }
+{
+    let Some(end) = name_front(text.as_bytes()) else {
+        return None;
+    };
+    let (name, rest) = split_front(text, end);
+    if is_plain_domain(name) {
+        Some((name, rest))
+    } else {
+        None
+    }
+}
+
+// A path of units, and what follows it.
+fn split_path<'t>(text: &'t str) -> Option<(&'t str, &'t str)>
+    ensures { IfSome result (λ r. IsPathCut (chars text.now) (seen r.0) (seen r.1)) }
+{
+    let (path_text, rest) = split_front(text, unit_front(text.as_bytes(), false));
+    if begins_path(path_text) {
+        Some((path_text, rest))
+    } else {
+        None
+    }
+}
+
+// Whether a text may begin the path behind a host: it is empty, or begins with one `/`.
+fn begins_path(text: &str) -> bool
+    ensures slashed { IsTrue result → chars text.now ≢ [] → starts_with_slash (chars text.now) ≡ true }
+    ensures single { IsTrue result → starts_with_two_slashes (chars text.now) ≡ false }
+{
+    if has_two_slashes(text) {
+        return false;
+    }
+    text.is_empty() || has_slash(text)
+}
+
+// The units behind a mark, where the text begins with it, and what follows.
+fn split_part<'t>(text: &'t str, mark: u8) -> (Option<&'t str>, &'t str)
+    requires { mark < 128 }
+    ensures { IsPartCut mark (chars text.now) (seen_option result.0) (seen result.1) }
+{
+    if !has_front(text.as_bytes(), &[mark]) {
+        return (None, text);
+    }
+    let (_, behind) = split_front(text, 1);
+    let (part, rest) = split_front(behind, unit_front(behind.as_bytes(), true));
+    (Some(part), rest)
+}
+
+// The two sides of the end of an ASCII front.
+fn split_front<'t>(text: &'t str, end: usize) -> (&'t str, &'t str)
+    requires { HasAsciiFront text.now end }
+    ensures { IsFrontCut text.now end result.0.now result.1.now }
+{
+    (&text[..end], &text[end..])
+}

@@ -1,0 +1,197 @@
+-- Letters and digits with single marks between them are a plain name.
+use Rattle.std.proofs.Common.{◌≡◌, ℕ, suc, ◌+◌, ◌-◌, ◌<◌, ◌≤◌, Bool, true, false, ◌&&◌, ◌==◌, List, [], ◌∷◌, ◌++◌, length, take, get_or, IsUtf8, chars, refl, sym, ap, ◌∙◌, subst, inl, inr, arith, eqb-true, append-nil, append_assoc}
+use Rattle.std.specs.Prelude.{slice_index}
+use Rattle.std.specs.Str.{IsAscii}
+use Rattle.std.specs.Int.{is_in_range}
+use Rattle.std.specs.List.{list_all, onto_first}
+use Rattle.std.proofs.lemmas.Bool.{and_parts, and_from, cases_Bool, false≢true}
+use Rattle.std.proofs.lemmas.Bool.Decides.{nat_tests}
+use Rattle.std.proofs.Math.Seq.{take-suc}
+use Rattle.idna.specs.declared.deny_list.TheConstants.AsciiDenyList.{STD3}
+use Rattle.idna.specs.declared.options.Hyphens.TheVariants.{Check}
+use Rattle.idna.specs.Display.{IsPlain}
+use Rattle.idna.specs.Labels.{is_full_stop, labels_of}
+use Rattle.idna.specs.Validity.{passes_hyphens}
+use Rattle.uv_model.specs.Ascii.{full_stop, hyphen}
+use Rattle.uv_model.specs.Domain.{IsForm, has_lengths, is_form_code_point, without_root}
+use Rattle.uv_host.specs.PlainNames.{goes_on, is_chain, is_sign}
+use Rattle.uv_host.proofs.PlainLemmas.{plain_ascii, plain_from_form, plain_is_form}
+
+chain_parts : (signed : Bool) (c : ℕ) (rest : List ℕ) → is_chain signed (c ∷ rest) ≡ true
+    → (goes_on signed c ≡ true) × (is_chain (is_sign c) rest ≡ true)
+chain_parts signed c rest h = and_parts (goes_on signed c) (is_chain (is_sign c) rest) h
+
+form_byte : (signed : Bool) (c : ℕ) → goes_on signed c ≡ true → is_form_code_point c ≡ true
+form_byte true c h = grind (arith, nat_tests)
+form_byte false c h = grind (arith, nat_tests)
+
+pub chain_form : (signed : Bool) (text : List ℕ) → is_chain signed text ≡ true → list_all is_form_code_point text ≡ true
+chain_form signed [] h = refl
+chain_form signed (c ∷ rest) h =
+    let parts = chain_parts signed c rest h in
+    and_from _ _ (form_byte signed c parts.0) (chain_form (is_sign c) rest parts.1)
+
+-- ---- labels
+
+-- each is such a name of no more code points
+abbrev AreChains : ℕ → List (List ℕ) → Type 0
+AreChains n [] = Unit {0}
+AreChains n (label ∷ rest) = (is_chain false label ≡ true) × (length label ≤ n) × AreChains n rest
+
+-- and the first goes on from what stands before
+abbrev GoOn : Bool → ℕ → List (List ℕ) → Type 0
+GoOn signed n [] = ⊥
+GoOn signed n (label ∷ rest) = (is_chain signed label ≡ true) × (length label ≤ n) × AreChains n rest
+
+AreChains-more : (n : ℕ) (labels : List (List ℕ)) → AreChains n labels → AreChains (suc n) labels
+AreChains-more n [] h = tt
+AreChains-more n (label ∷ rest) h = let small = h.1 in (h.0, omega arith, AreChains-more n rest h.2)
+
+GoOn-first : (signed : Bool) (c n : ℕ) (labels : List (List ℕ)) → goes_on signed c ≡ true → GoOn (is_sign c) n labels
+    → GoOn signed (suc n) (onto_first c labels)
+GoOn-first signed c n [] goes h = absurd h
+GoOn-first signed c n (label ∷ rest) goes h =
+    let small = h.1 in (and_from _ _ goes h.0, omega arith, AreChains-more n rest h.2)
+
+GoOn-stop : (signed : Bool) (n : ℕ) (labels : List (List ℕ)) → goes_on signed full_stop ≡ true → GoOn false n labels
+    → GoOn signed (suc n) ([] ∷ labels)
+GoOn-stop true n [] goes h = absurd h
+GoOn-stop false n labels goes h = absurd (false≢true goes)
+GoOn-stop true n (label ∷ rest) goes h =
+    let small = h.1 in (refl, omega arith, (h.0, omega arith, AreChains-more n rest h.2))
+
+chain_labels : (signed : Bool) (text : List ℕ) → is_chain signed text ≡ true → GoOn signed (length text) (labels_of text)
+chain_labels signed [] h = (h, omega arith, tt)
+chain_labels signed (c ∷ rest) h =
+    let parts = chain_parts signed c rest h in
+    let more = chain_labels (is_sign c) rest parts.1 in
+    elim (cases_Bool (is_full_stop c)) [
+      | inl stop ↦
+          let same : c ≡ full_stop = eqb-true c full_stop stop in
+          rw stop
+          (GoOn-stop signed (length rest) (labels_of rest) (subst (λ k. goes_on signed k ≡ true) same parts.0)
+          (subst (λ k. GoOn (is_sign k) (length rest) (labels_of rest)) same more))
+      | inr other ↦ rw other (GoOn-first signed c (length rest) (labels_of rest) parts.0 more)
+    ]
+
+-- ---- a label
+
+apart : (c d : ℕ) → goes_on (is_sign c) d ≡ true → ((c == hyphen) && (d == hyphen)) ≡ false
+apart c d h = elim (cases_Bool (c == hyphen)) [
+  | inl same ↦
+      let is : c ≡ hyphen = eqb-true c hyphen same in
+      let sign : goes_on false d ≡ true = subst (λ k. goes_on (is_sign k) d ≡ true) is h in
+      let other : (d == hyphen) ≡ false = grind (arith, nat_tests) in
+      rw (same, other) refl
+  | inr no_hyphen ↦ rw no_hyphen refl
+]
+
+third : (signed : Bool) (label : List ℕ) → is_chain signed label ≡ true
+    → ((slice_index label 2 == hyphen) && (slice_index label 3 == hyphen)) ≡ false
+third signed [] h = refl
+third signed (a ∷ []) h = refl
+third signed (a ∷ b ∷ []) h = refl
+third signed (a ∷ b ∷ c ∷ []) h = elim (cases_Bool (c == hyphen)) [ inl same ↦ rw same refl | inr other ↦ rw other refl ]
+third signed (a ∷ b ∷ c ∷ d ∷ rest) h =
+    let one = chain_parts signed a (b ∷ c ∷ d ∷ rest) h in
+    let two = chain_parts (is_sign a) b (c ∷ d ∷ rest) one.1 in
+    let three = chain_parts (is_sign b) c (d ∷ rest) two.1 in
+    let four = chain_parts (is_sign c) d rest three.1 in
+    apart c d four.0
+
+sign_other : (mark c : ℕ) → is_sign mark ≡ false → is_sign c ≡ true → (c == mark) ≡ false
+sign_other mark c none sign = elim (cases_Bool (c == mark)) [
+  | inl same ↦ absurd (false≢true (sym none ∙ (ap is_sign (sym (eqb-true c mark same)) ∙ sign)))
+  | inr other ↦ other
+]
+
+-- the last code point is no mark
+last_other : (signed : Bool) (c : ℕ) (rest : List ℕ) (mark : ℕ) → is_sign mark ≡ false → is_chain signed (c ∷ rest) ≡ true
+    → (slice_index (c ∷ rest) (length rest) == mark) ≡ false
+last_other signed c [] mark none h = sign_other mark c none (chain_parts signed c [] h).1
+last_other signed c (d ∷ rest) mark none h = last_other (is_sign c) d rest mark none (chain_parts signed c (d ∷ rest) h).1
+
+end_other : (signed : Bool) (text : List ℕ) (mark : ℕ) → is_sign mark ≡ false → (mark == 0) ≡ false → is_chain signed text ≡ true
+    → (slice_index text (length text - 1) == mark) ≡ false
+end_other signed [] mark none some h = grind (arith, nat_tests)
+end_other signed (c ∷ rest) mark none some h =
+    let at : length (c ∷ rest) - 1 ≡ length rest = omega arith in
+    rw at (last_other signed c rest mark none h)
+
+first_sign : (c : ℕ) → goes_on false c ≡ true → (c == hyphen) ≡ false
+first_sign c h = grind (arith, nat_tests)
+
+chain_passes : (label : List ℕ) → is_chain false label ≡ true → passes_hyphens Check label ≡ true
+unfolding passes_hyphens
+chain_passes [] h = absurd (false≢true h)
+chain_passes (c ∷ rest) h =
+    rw (third false (c ∷ rest) h, first_sign c (chain_parts false c rest h).0, end_other false (c ∷ rest) hyphen refl refl h) refl
+
+-- a name has code points
+chain_some : (label : List ℕ) → is_chain false label ≡ true → 1 ≤ length label
+chain_some [] h = absurd (false≢true h)
+chain_some (c ∷ rest) h = omega arith
+
+all_pass : (n : ℕ) (labels : List (List ℕ)) → AreChains n labels → list_all (passes_hyphens Check) labels ≡ true
+all_pass n [] h = refl
+all_pass n (label ∷ rest) h = and_from _ _ (chain_passes label h.0) (all_pass n rest h.2)
+
+all_fit : (n : ℕ) (labels : List (List ℕ)) → n ≤ 63 → AreChains n labels
+    → list_all (λ label. is_in_range 1 63 (length label)) labels ≡ true
+all_fit n [] few h = refl
+all_fit n (label ∷ rest) few h =
+    let small = h.1 in
+    let some = chain_some label h.0 in
+    let fits : is_in_range 1 63 (length label) ≡ true = grind (arith, nat_tests) in
+    and_from _ _ fits (all_fit n rest few h.2)
+
+from_first : (n : ℕ) (labels : List (List ℕ)) → GoOn false n labels → AreChains n labels
+from_first n [] h = absurd h
+from_first n (label ∷ rest) h = h
+
+chain_root : (name : List ℕ) → is_chain false name ≡ true → without_root name ≡ name
+chain_root name h = rw (end_other false name full_stop refl refl h) refl
+
+chain_lengths : (name : List ℕ) → is_chain false name ≡ true → length name ≤ 63 → has_lengths name ≡ true
+chain_lengths name h few =
+    let some = chain_some name h in
+    let fits : is_in_range 1 253 (length name) ≡ true = grind (arith, nat_tests) in
+    rw (chain_root name h)
+    (and_from _ _ fits (all_fit (length name) (labels_of name) few (from_first (length name) (labels_of name) (chain_labels false name h))))
+
+pub chain_plain : (name : List ℕ) → is_chain false name ≡ true → IsPlain STD3 Check name
+chain_plain name h =
+    plain_from_form name (chain_form false name h)
+    (all_pass (length name) (labels_of name) (from_first (length name) (labels_of name) (chain_labels false name h)))
+
+-- a name of at most 63 code points is its own form
+pub chain_is_form : (name : List ℕ) → IsUtf8 name → is_chain false name ≡ true → length name ≤ 63 → IsForm (chars name) name
+chain_is_form name utf8 h few = plain_is_form name utf8 (chain_plain name h) (chain_lengths name h few)
+
+-- and ASCII
+pub chain_ascii : (name : List ℕ) → is_chain false name ≡ true → IsAscii name
+chain_ascii name h = plain_ascii name (chain_plain name h)
+
+-- ---- the walk
+
+-- what is left goes on from the bytes so far
+abbrev pub Walked : List ℕ → ℕ → Bool → Type 0
+Walked bytes at signed = (rest : List ℕ) → is_chain false (take at bytes ++ rest) ≡ is_chain signed rest
+
+pub walk_start : (bytes : List ℕ) → Walked bytes 0 false
+walk_start bytes = λ rest. refl
+
+pub walk_on : (bytes : List ℕ) (at : ℕ) (signed : Bool) → at < length bytes → goes_on signed (get_or bytes at 0) ≡ true
+    → Walked bytes at signed → Walked bytes (at + 1) (is_sign (get_or bytes at 0))
+walk_on bytes at signed inside goes held = λ rest.
+    let next : at + 1 ≡ suc at = omega arith in
+    let step : is_chain signed (get_or bytes at 0 ∷ rest) ≡ is_chain (is_sign (get_or bytes at 0)) rest = rw goes refl in
+    ap (λ k. is_chain false (take k bytes ++ rest)) next
+    ∙ ap (λ (s : List ℕ). is_chain false (s ++ rest)) (take-suc bytes at 0 inside)
+    ∙ ap (is_chain false) (append_assoc (take at bytes) (get_or bytes at 0 ∷ []) rest)
+    ∙ held (get_or bytes at 0 ∷ rest) ∙ step
+
+pub walk_end : (bytes : List ℕ) (at : ℕ) (signed : Bool) → signed ≡ true → Walked bytes at signed
+    → is_chain false (take at bytes) ≡ true
+walk_end bytes at signed sign held =
+    ap (is_chain false) (sym (append-nil (take at bytes))) ∙ held [] ∙ sign

@@ -1,0 +1,122 @@
+-- A plain name is its own form at both settings.
+use Rattle.std.proofs.Common.{◌≡◌, ℕ, ◌<◌, ◌≢◌, true, false, List, Some, chars, IsUtf8, get_or, length, inl, inr, refl, sym, ap, ◌∙◌, arith}
+use Rattle.std.specs.Prelude.{All}
+use Rattle.std.specs.Str.{IsAscii}
+use Rattle.std.specs.List.{list_all}
+use Rattle.std.specs.Char.{is_ascii_uppercase}
+use Rattle.std.proofs.lemmas.Bool.Decides.{nat_tests}
+use Rattle.std.proofs.lemmas.Bool.{cases_lt, not_from_false}
+use Rattle.std.proofs.lemmas.List.{get_or_past}
+use Rattle.std.proofs.lemmas.List.Sums.{AllPass-from_list_all, list_all-from_AllPass}
+use Rattle.std.proofs.lemmas.List.Elements.{All-weaker}
+use Rattle.std.proofs.lemmas.Str.{chars-IsAscii, encodes-chars}
+use Rattle.idna.specs.declared.deny_list.TheConstants.AsciiDenyList.{STD3, EMPTY}
+use Rattle.idna.specs.declared.options.Hyphens.TheVariants.{Allow, Check}
+use Rattle.idna.specs.declared.options.DnsLength.TheVariants.{Ignore}
+use Rattle.idna.specs.Uts46.{to_ascii}
+use Rattle.idna.specs.Display.{IsPlain}
+use Rattle.idna.specs.Labels.{labels_of}
+use Rattle.idna.specs.Validity.{hyphen, is_valid_char, passes_hyphens}
+use Rattle.idna.specs.AsciiDenyList.{may_be_denied}
+use Rattle.idna.proofs.Uts46Lemmas.{has_ace_prefix-passes, list_all-passes_hyphens, to_ascii-plain}
+use Rattle.idna.proofs.ValidityLemmas.{denies-EMPTY, denies-STD3, denies-may_be_denied, is_valid_char-ascii}
+use Rattle.uv_model.specs.Domain.{HasNoForm, IsForm, has_lengths, has_permitted, is_form_code_point, is_permitted, strict_form}
+use Rattle.uv_model.proofs.DomainLemmas.{IsForm-from, no_lengths}
+use Rattle.uv_host.specs.Domains.{is_simple}
+
+valid_byte : (b : ℕ) → is_form_code_point b ≡ true → (b < 128) × (is_valid_char STD3 b ≡ true)
+valid_byte b h =
+    let small : b < 128 = grind (arith, nat_tests) in
+    let lower : is_ascii_uppercase b ≡ false = grind (arith, nat_tests) in
+    let kept : may_be_denied b ≡ false = grind (arith, nat_tests) in
+    (small, rw (is_valid_char-ascii STD3 b small, lower, denies-may_be_denied STD3 b kept) refl)
+
+pub plain_from_simple : (name : List ℕ) → list_all is_simple name ≡ true → IsPlain STD3 Check name
+plain_from_simple name h =
+    let all = AllPass-from_list_all is_simple name h in
+    record {
+      valid =
+          All-weaker (λ b. is_simple b ≡ true) (λ b. (b < 128) × (is_valid_char STD3 b ≡ true))
+          (λ b e. valid_byte b (grind (arith, nat_tests))) name all;
+      placed =
+          list_all-passes_hyphens Check name
+          (All-weaker (λ b. is_simple b ≡ true) (λ b. b ≢ hyphen) (λ b e. grind (arith, nat_tests)) name all);
+    }
+
+pub plain_from_form : (name : List ℕ) → list_all is_form_code_point name ≡ true
+    → list_all (passes_hyphens Check) (labels_of name) ≡ true → IsPlain STD3 Check name
+plain_from_form name h placed = record {
+  valid =
+      All-weaker (λ b. is_form_code_point b ≡ true) (λ b. (b < 128) × (is_valid_char STD3 b ≡ true)) valid_byte name
+      (AllPass-from_list_all is_form_code_point name h);
+  placed = placed;
+}
+
+-- what passes the strict settings passes the parser's
+plain_byte : (b : ℕ) → (b < 128) × (is_valid_char STD3 b ≡ true) → (b < 128) × (is_valid_char EMPTY b ≡ true)
+plain_byte b h =
+    let strict = sym (is_valid_char-ascii STD3 b h.0) ∙ h.1 in
+    let lower : is_ascii_uppercase b ≡ false = grind (arith, nat_tests) in
+    (h.0, rw (is_valid_char-ascii EMPTY b h.0, lower, denies-EMPTY b) refl)
+
+plain_label : (label : List ℕ) → passes_hyphens Check label ≡ true → passes_hyphens Allow label ≡ true
+unfolding passes_hyphens
+plain_label label h = not_from_false _ (has_ace_prefix-passes Check label h)
+
+plain_parsed : (name : List ℕ) → IsPlain STD3 Check name → IsPlain EMPTY Allow name
+plain_parsed name p = record {
+  valid =
+      All-weaker (λ b. (b < 128) × (is_valid_char STD3 b ≡ true)) (λ b. (b < 128) × (is_valid_char EMPTY b ≡ true))
+      plain_byte name p.valid;
+  placed =
+      list_all-from_AllPass (passes_hyphens Allow) (labels_of name)
+      (All-weaker (λ label. passes_hyphens Check label ≡ true) (λ label. passes_hyphens Allow label ≡ true) plain_label
+      (labels_of name)
+      (AllPass-from_list_all (passes_hyphens Check) (labels_of name) p.placed));
+}
+
+plain_permitted_byte : (b : ℕ) → (b < 128) × (is_valid_char STD3 b ≡ true) → is_permitted b ≡ true
+plain_permitted_byte b h =
+    let strict = sym (is_valid_char-ascii STD3 b h.0) ∙ h.1 in
+    let denied = denies-STD3 b in
+    let small = h.0 in
+    grind (arith, nat_tests)
+
+pub plain_permitted : (name : List ℕ) → IsPlain STD3 Check name → has_permitted name ≡ true
+unfolding has_permitted
+plain_permitted name p =
+    list_all-from_AllPass is_permitted name
+    (All-weaker (λ b. (b < 128) × (is_valid_char STD3 b ≡ true)) (λ b. is_permitted b ≡ true) plain_permitted_byte name
+    p.valid)
+
+ascii_bytes : (name : List ℕ) → All (λ b. (b < 128) × (is_valid_char STD3 b ≡ true)) name → (i : ℕ) → get_or name i 0 < 128
+ascii_bytes name h i = elim (cases_lt i (length name)) [
+  | inl inside ↦ (h i 0 inside).0
+  | inr past ↦ omega (arith, get_or_past name i 0 past)
+]
+
+-- a plain name is ASCII
+pub plain_ascii : (name : List ℕ) → IsPlain STD3 Check name → IsAscii name
+plain_ascii name p = ascii_bytes name p.valid
+
+-- the bytes of a plain name are its code points
+pub plain_chars : (name : List ℕ) → IsPlain STD3 Check name → chars name ≡ name
+plain_chars name p = chars-IsAscii name (ascii_bytes name p.valid)
+
+plain_strict : (name : List ℕ) → IsUtf8 name → IsPlain STD3 Check name → strict_form (chars name) ≡ Some name
+plain_strict name utf8 p = ap (to_ascii STD3 Check Ignore) (encodes-chars name utf8) ∙ to_ascii-plain STD3 Check name p
+
+pub permitted_plain : (name : List ℕ) → IsPlain STD3 Check name → has_permitted (chars name) ≡ true
+permitted_plain name p = ap has_permitted (plain_chars name p) ∙ plain_permitted name p
+
+-- a plain name of the right lengths is its own form
+pub plain_is_form : (name : List ℕ) → IsUtf8 name → IsPlain STD3 Check name → has_lengths name ≡ true
+    → IsForm (chars name) name
+plain_is_form name utf8 p lengths =
+    IsForm-from (chars name) name (permitted_plain name p) (plain_strict name utf8 p) lengths
+    (ap (to_ascii EMPTY Allow Ignore) (encodes-chars name utf8) ∙ to_ascii-plain EMPTY Allow name (plain_parsed name p))
+
+-- and another has none
+pub plain_no_form : (name : List ℕ) → IsUtf8 name → IsPlain STD3 Check name → has_lengths name ≡ false
+    → HasNoForm (chars name)
+plain_no_form name utf8 p wrong = no_lengths (chars name) name (plain_strict name utf8 p) wrong

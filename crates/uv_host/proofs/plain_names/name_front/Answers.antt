@@ -1,0 +1,9 @@
+-- A walk that ends behind a letter or a digit has walked a name.
+use Rattle.uv_host.proofs.ChainLemmas.{walk_end}
+use Rattle.uv_host.proofs.plain_names.name_front.Goals as goal
+
+pub returns-then-signed : goal.returns-then-signed
+returns-then-signed c = (
+  c.loop-front.invariant.in_bounds,
+  walk_end c.args.bytes.now c.loop-front.front c.loop-front.signed c.if-signed.true c.loop-front.invariant.so_far,
+)

@@ -1,0 +1,13 @@
+-- What is left goes on from the bytes so far.
+use Rattle.std.proofs.Common.{◌-◌, ◌≤◌, length}
+use Rattle.uv_host.proofs.ChainLemmas.{Walked}
+use Rattle.uv_host.proofs.plain_names.name_front.Given as goal
+
+abbrev pub invariant-loop-front : goal.invariant-loop-front
+invariant-loop-front l = record {
+  in_bounds : l.front ≤ length l.bytes;
+  so_far : Walked l.bytes l.front l.signed;
+}
+
+abbrev pub decreases-loop-front : goal.decreases-loop-front
+decreases-loop-front l = length l.bytes - l.front
