@@ -5,12 +5,12 @@ use Rattle.uv_model.specs.declared.scheme.Class.{Class}
 use Rattle.uv_model.specs.declared.scheme.Class.TheVariants.{Special, File, Other}
 use Rattle.uv_model.specs.Parts.{Parts, has_scheme}
 use Rattle.uv_model.specs.Scheme.{scheme_class}
-use Rattle.uv_model.specs.Silent.{RunsSilently}
-use Rattle.uv_model.specs.Url.{Url}
+use Rattle.uv_parser.specs.Laws.Silence.{RunsSilently}
+use Rattle.uv_model.specs.Records.Url.{Url}
 use Rattle.uv_model.specs.Valid.{scheme_in}
 use Rattle.uv_model.specs.Valid as valid
-use Rattle.uv_model.proofs.SilentFile.{file_silent}
-use Rattle.uv_model.proofs.SilentTexts.{other_silent, special_silent}
+use Rattle.uv_parser.proofs.Silence.SilentFile.{file_silent}
+use Rattle.uv_parser.proofs.Silence.SilentTexts.{other_silent, special_silent}
 use Rattle.uv_cli.specs.declared.check.CheckEnd.{CheckEnd}
 use Rattle.uv_cli.specs.declared.check.CheckEnd.TheVariants.{Valid, Refused, BaseRefused}
 use Rattle.uv_cli.specs.Check.{HasWritten, IsBase, WritesWhole}

@@ -5,13 +5,13 @@ use Rattle.std.specs.Str.{IsAscii}
 use Rattle.uv_model.specs.declared.scheme.Class.{Class}
 use Rattle.uv_model.specs.declared.host.Host.{Host}
 use Rattle.uv_model.specs.declared.path.UrlPath.{UrlPath}
-use Rattle.uv_model.specs.Denote.{denote, denoted_scheme, denoted_host, denoted_port, denoted_path, denoted_query}
+use Rattle.uv_model.specs.Records.Denote.{denote, denoted_scheme, denoted_host, denoted_port, denoted_path, denoted_query}
 use Rattle.uv_model.specs.Encoding.{encoded}
 use Rattle.uv_model.specs.Parts.{Parts, has_scheme}
 use Rattle.uv_model.specs.Scheme.{is_scheme, scheme_class}
-use Rattle.uv_model.specs.Url.{Url}
+use Rattle.uv_model.specs.Records.Url.{Url}
 use Rattle.uv_model.specs.Valid.{FitsScheme, Valid, scheme_in}
-use Rattle.uv_model.proofs.AsciiLemmas.{IsAscii-from_test}
+use Rattle.uv_model.proofs.Texts.AsciiLemmas.{IsAscii-from_test}
 use Rattle.uv_model.proofs.SchemeLemmas.{is_ascii-scheme}
 
 -- a scheme that a form takes is a URL-scheme string

@@ -4,10 +4,10 @@ use Rattle.std.specs.Borrow.{Bor}
 use Rattle.std.specs.Io.KnownBytes.{Appends}
 use Rattle.std.specs.Str.{chars}
 use Rattle.uv_model.specs.declared.rule.Refusal.{Refusal}
-use Rattle.uv_model.specs.Denote.{denote}
+use Rattle.uv_model.specs.Records.Denote.{denote}
 use Rattle.uv_model.specs.Parts.{Parts, has_scheme}
-use Rattle.uv_model.specs.Silent.{RunsSilently}
-use Rattle.uv_model.specs.Url.{Url}
+use Rattle.uv_parser.specs.Laws.Silence.{RunsSilently}
+use Rattle.uv_model.specs.Records.Url.{Url}
 use Rattle.uv_model.specs.Valid.{Valid}
 use Rattle.uv_grammar.specs.Verdict.{IsRefused}
 use Rattle.uv_cli.specs.declared.check.CheckEnd.{CheckEnd}

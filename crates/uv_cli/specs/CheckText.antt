@@ -5,9 +5,9 @@ use Rattle.uv_model.specs.declared.host.Host.TheVariants.{Domain, V4, V6, Opaque
 use Rattle.uv_model.specs.declared.path.UrlPath.{UrlPath}
 use Rattle.uv_model.specs.declared.path.UrlPath.TheVariants as path
 use Rattle.uv_model.specs.declared.rule.Refusal.{Refusal}
-use Rattle.uv_model.specs.Rule.{rule_name}
-use Rattle.uv_model.specs.Serialize.{serial_host}
-use Rattle.uv_model.specs.Url.{Url}
+use Rattle.uv_model.specs.Complaints.Rule.{rule_name}
+use Rattle.uv_model.specs.Records.Serialize.{serial_host}
+use Rattle.uv_model.specs.Records.Url.{Url}
 
 -- a name, a text and a line feed
 abbrev pub line : List ℕ → List ℕ → List ℕ

@@ -1,7 +1,7 @@
 //! The check of one text, alone or against a base.
 ghost use Rattle.std.specs.Prelude.{◌≡◌, ◌+◌, ◌-◌, ◌^◌, ◌<◌, ℕ, List, Option, Some, None, IfOk, OnOk, OnErr, chars, option_copied, string_bytes, take};
 ghost use Rattle.std.specs.Io.KnownBytes.{Appends};
-ghost use Rattle.uv_model.specs.WellFormed.{MayBeWellFormed};
+ghost use Rattle.uv_model.specs.Records.WellFormed.{MayBeWellFormed};
 ghost use Rattle.uv_cli.specs.Check.{HasWritten, HasWrittenFront, IsAnswer, Says, WritesFront, WritesWhole};
 
 use crate::fault::CliFault;

@@ -1,7 +1,7 @@
 //! What a check prints: the lines of a valid text's record, or the line of a refusal.
 ghost use Rattle.std.specs.Prelude.{◌≡◌, ◌++◌, OnOk, IfOk, Option, Some, option_copied, string_bytes};
 ghost use Rattle.uv_cli.specs.CheckText.{check_text, host_line, line, line_of, path_lines, port_line, refused_text, segment_lines};
-ghost use Rattle.uv_model.specs.Serialize.{serial_host};
+ghost use Rattle.uv_model.specs.Records.Serialize.{serial_host};
 
 use std::alloc::{AllocError, Global};
 use uv_model::{Host, Record, Refusal, Text, UrlPath};
@@ -61,7 +61,7 @@ fn push_host(alloc: Global, text: &mut String, host: Option<&Host>) -> Result<()
 }
 
 // What stands before a host's text in its line.
-#[tactic(auto, unfolding(uv_model::specs::Serialize::serial_host))]
+#[tactic(auto, unfolding(uv_model::specs::Records::Serialize::serial_host))]
 fn host_name(host: &Host) -> &'static str
     ensures { host_line (Some host.now) ≡ line result.now (serial_host host.now) }
 {

@@ -1,12 +1,12 @@
 //! The record that the parts of a valid text denote, after the URL Standard, section 4.4.
 ghost use Rattle.std.specs.Prelude.{◌≡◌, ◌∷◌, [], ℕ, List, IfOk, IsTrue, true, false, Some, None, chars, map, option_copied, option_map, string_bytes};
 ghost use Rattle.std.specs.Str.{IsAscii};
-ghost use Rattle.uv_model.specs.Denote as spec;
+ghost use Rattle.uv_model.specs.Records.Denote as spec;
 ghost use Rattle.uv_model.specs.Encoding.{encoded};
 ghost use Rattle.uv_model.specs.Path as path_spec;
 ghost use Rattle.uv_model.specs.Scheme.{lowercase, scheme_class};
 ghost use Rattle.uv_model.specs.Valid.{scheme_in, Valid};
-ghost use Rattle.uv_model.specs.WellFormed.{WellFormed};
+ghost use Rattle.uv_model.specs.Records.WellFormed.{WellFormed};
 ghost use Rattle.uv_grammar.specs.Seen.{seen_option};
 
 use crate::walker::{shorten, walk};

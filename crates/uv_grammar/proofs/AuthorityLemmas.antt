@@ -14,9 +14,9 @@ use Rattle.uv_model.specs.Parts.{written_behind}
 use Rattle.uv_model.specs.Path.{is_without}
 use Rattle.uv_model.specs.Scheme.{is_scheme}
 use Rattle.uv_model.specs.Valid.{starts_with_scheme}
-use Rattle.uv_model.proofs.MarkLemmas.{has_mark, is_without-cons, text_before-mark}
-use Rattle.uv_model.proofs.SchemeCutLemmas.{scheme_without_colon, splits_at_scheme}
-use Rattle.uv_model.proofs.AuthorityCutLemmas.{host_cut-is, written_host_cut}
+use Rattle.uv_model.proofs.Texts.MarkLemmas.{has_mark, is_without-cons, text_before-mark}
+use Rattle.uv_model.proofs.Cuts.SchemeCutLemmas.{scheme_without_colon, splits_at_scheme}
+use Rattle.uv_model.proofs.Cuts.AuthorityCutLemmas.{host_cut-is, written_host_cut}
 use Rattle.uv_model.specs.Ascii.{colon, left_bracket, right_bracket}
 use Rattle.uv_model.specs.Cut.{host_before, host_cut, port_cut, text_before, is_port_mark, is_within, port_behind}
 

@@ -8,19 +8,19 @@ use Rattle.uv_model.specs.declared.rule.Rule.TheVariants.{NoScheme, OpaqueBase, 
 use Rattle.uv_model.specs.declared.scheme.Class.{Class}
 use Rattle.uv_model.specs.declared.scheme.Class.TheVariants.{Special, File, Other}
 use Rattle.uv_model.specs.Ascii.{number_sign, question_mark}
-use Rattle.uv_model.specs.Complaint.{HasHost, MayBeUnitComplaint, IsStarted, starts_with_number_sign}
+use Rattle.uv_model.specs.Complaints.Complaint.{HasHost, MayBeUnitComplaint, IsStarted, starts_with_number_sign}
 use Rattle.uv_model.specs.Cut.{Cut, IsCut, IsHostCut, IsSchemeCut, class_in, path_place, query_place, fragment_place, starts_with_two_slashes, written_front, written_middle, written_start}
 use Rattle.uv_model.specs.Parts.{Form, NoPath, Parts, PathAbsolute, PathRelative, SchemeOpaque, SchemePath, has_scheme, written_authority, written_behind, written_scheme}
 use Rattle.uv_model.specs.Path.{IsPathAbsolute, IsPathRelative, is_without, starts_with_drive, starts_with_slash}
-use Rattle.uv_model.specs.Refusal.{IsLeast}
+use Rattle.uv_model.specs.Complaints.Refusal.{IsLeast}
 use Rattle.uv_model.specs.Scheme.{scheme_class}
 use Rattle.uv_model.specs.Units.{IsUnits}
-use Rattle.uv_model.specs.Url.{Url, is_opaque}
+use Rattle.uv_model.specs.Records.Url.{Url, is_opaque}
 use Rattle.uv_model.specs.Valid.{FitsAuthority, FitsBase, FitsDrive, FitsForm, HasAuthority, HasNoAuthority, IsOpaqueHostText, IsOpaquePath, FitsScheme, MayBePathAbsolute, MayBePortText, MayBeUnits, Valid, port_given, scheme_in, scheme_or, starts_with_scheme}
-use Rattle.uv_model.proofs.ComplaintLemmas.{cut_with}
-use Rattle.uv_model.proofs.MarkLemmas.{is_without-cons, is_without-parts}
-use Rattle.uv_model.proofs.UnitComplaintLemmas.{units_uncomplained}
-use Rattle.uv_model.proofs.ValidCutLemmas.{written_as_cut}
+use Rattle.uv_model.proofs.Complaints.ComplaintLemmas.{cut_with}
+use Rattle.uv_model.proofs.Texts.MarkLemmas.{is_without-cons, is_without-parts}
+use Rattle.uv_model.proofs.Complaints.UnitComplaintLemmas.{units_uncomplained}
+use Rattle.uv_model.proofs.Cuts.ValidCutLemmas.{written_as_cut}
 use Rattle.uv_grammar.specs.Built.{built, form_of, form_with, pieces, segments_in, segments_of}
 use Rattle.uv_grammar.specs.HostAnswer.{FitsHost}
 use Rattle.uv_grammar.specs.Later.{FromPathStart}

@@ -16,17 +16,17 @@ use Rattle.uv_model.specs.declared.rule.Rule.TheVariants.{HostMissing, HostDomai
 use Rattle.uv_model.specs.declared.scheme.Class.{Class}
 use Rattle.uv_model.specs.declared.scheme.Class.TheVariants.{Special, File, Other}
 use Rattle.uv_host.specs.OpaqueHosts.{IsOpaqueHostOrEmpty}
-use Rattle.uv_model.specs.Address.{IsBracketedIpv6}
-use Rattle.uv_model.specs.Complaint.{HeldHostComplaint, HostComplaint, HostTextComplaint, LacksHost}
-use Rattle.uv_model.specs.Domain.{IsDomain, has_permitted, is_permitted}
+use Rattle.uv_model.specs.Hosts.Address.{IsBracketedIpv6}
+use Rattle.uv_model.specs.Complaints.Complaint.{HeldHostComplaint, HostComplaint, HostTextComplaint, LacksHost}
+use Rattle.uv_model.specs.Hosts.Domain.{IsDomain, has_permitted, is_permitted}
 use Rattle.uv_model.specs.Ascii.{left_bracket, percent_sign}
-use Rattle.uv_model.specs.OpaqueHost.{IsOpaqueHost, starts_with_bracket}
-use Rattle.uv_model.specs.Refusal.{IsLeast}
-use Rattle.uv_model.specs.Rule.{rule_number}
+use Rattle.uv_model.specs.Hosts.OpaqueHost.{IsOpaqueHost, starts_with_bracket}
+use Rattle.uv_model.specs.Complaints.Refusal.{IsLeast}
+use Rattle.uv_model.specs.Complaints.Rule.{rule_number}
 use Rattle.uv_model.specs.Valid.{IsFileHostText, IsHostText}
-use Rattle.uv_model.proofs.AddressUniqueness.{ipv4_no_bracket, bracketed_bracket}
-use Rattle.uv_model.proofs.DomainLemmas.{domain_no_number}
-use Rattle.uv_model.proofs.RefusalLemmas.{IsLeast-like}
+use Rattle.uv_model.proofs.Addresses.AddressUniqueness.{ipv4_no_bracket, bracketed_bracket}
+use Rattle.uv_model.proofs.Hosts.DomainLemmas.{domain_no_number}
+use Rattle.uv_model.proofs.Complaints.RefusalLemmas.{IsLeast-like}
 use Rattle.uv_grammar.specs.declared.host.HostAnswer.{HostAnswer}
 use Rattle.uv_grammar.specs.declared.host.HostAnswer.TheVariants.{Valid, Refused}
 use Rattle.uv_grammar.specs.HostAnswer.{IsHeldAnswer, IsHostAnswer, file_host}

@@ -1,12 +1,12 @@
 -- Lemmas on the host and the port of a cut text.
 use Rattle.std.proofs.Common.{◌≡◌, ℕ, List, [], ◌∷◌, Option, Some, None, refl, ap, ◌∙◌}
-use Rattle.uv_model.specs.Complaint.{PortPartComplaint}
+use Rattle.uv_model.specs.Complaints.Complaint.{PortPartComplaint}
 use Rattle.uv_model.specs.Cut.{Cut}
-use Rattle.uv_model.specs.Refusal.{IsLeast}
+use Rattle.uv_model.specs.Complaints.Refusal.{IsLeast}
 use Rattle.uv_model.specs.Scheme.{default_port}
-use Rattle.uv_model.specs.Url.{Url}
+use Rattle.uv_model.specs.Records.Url.{Url}
 use Rattle.uv_model.specs.Valid.{IsPortText, port_given, scheme_or}
-use Rattle.uv_model.proofs.RefusedLemmas.{least_of_port}
+use Rattle.uv_model.proofs.Complaints.RefusedLemmas.{least_of_port}
 use Rattle.uv_grammar.specs.PartAnswers.{FitsPortPart, without_default}
 use Rattle.uv_grammar.specs.PortAnswer.{port_number}
 use Rattle.uv_grammar.proofs.PortLemmas.{port_silent}

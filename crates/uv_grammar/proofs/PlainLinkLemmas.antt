@@ -16,18 +16,18 @@ use Rattle.uv_model.specs.declared.rule.Rule.{Rule}
 use Rattle.uv_model.specs.declared.rule.Rule.TheVariants.{NoScheme, OpaqueBase, TwoSlashes, FirstSegmentEmpty, DriveAfterHost}
 use Rattle.uv_model.specs.declared.scheme.Class.TheVariants.{Special}
 use Rattle.uv_model.specs.Ascii.{slash, colon, question_mark, number_sign}
-use Rattle.uv_model.specs.Complaint.{IsStarted, PathStartComplaint, MayBeUnitComplaint}
+use Rattle.uv_model.specs.Complaints.Complaint.{IsStarted, PathStartComplaint, MayBeUnitComplaint}
 use Rattle.uv_model.specs.Cut.{Cut, IsCut, EndsAtPort, IsHostCut, written_cut, written_start, starts_with_two_slashes}
-use Rattle.uv_model.specs.Domain.{IsDomain, is_form_code_point}
+use Rattle.uv_model.specs.Hosts.Domain.{IsDomain, is_form_code_point}
 use Rattle.uv_model.specs.Parts.{written_behind}
 use Rattle.uv_model.specs.Path.{is_without}
 use Rattle.uv_model.specs.Scheme.{default_port, is_scheme, is_scheme_code_point, scheme_class}
-use Rattle.uv_model.specs.Url.{Url}
-use Rattle.uv_model.proofs.AsciiLemmas.{IsAscii-from_test}
-use Rattle.uv_model.proofs.DomainLemmas.{IsAscii-form}
-use Rattle.uv_model.proofs.MarkLemmas.{is_without-append, is_without-more, has_mark}
+use Rattle.uv_model.specs.Records.Url.{Url}
+use Rattle.uv_model.proofs.Texts.AsciiLemmas.{IsAscii-from_test}
+use Rattle.uv_model.proofs.Hosts.DomainLemmas.{IsAscii-form}
+use Rattle.uv_model.proofs.Texts.MarkLemmas.{is_without-append, is_without-more, has_mark}
 use Rattle.uv_model.proofs.SchemeLemmas.{is_ascii-scheme}
-use Rattle.uv_model.proofs.UnitComplaintLemmas.{no_complaint-faultless}
+use Rattle.uv_model.proofs.Complaints.UnitComplaintLemmas.{no_complaint-faultless}
 use Rattle.uv_text.specs.Fronts.{AreAsciiUnits, HasUnitFront}
 use Rattle.uv_grammar.specs.declared.checker.Verdict.TheVariants.{Yes}
 use Rattle.uv_grammar.specs.Built.{built}

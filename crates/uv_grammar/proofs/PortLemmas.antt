@@ -11,11 +11,11 @@ use Rattle.std.proofs.lemmas.Str.Parse.{IsDigitsTest, IsNumeralModel, numerals_b
 use Rattle.std.proofs.Math.Nat.{le_refl}
 use Rattle.uv_model.specs.declared.rule.Rule.{Rule}
 use Rattle.uv_model.specs.declared.rule.Rule.TheVariants.{PortDigit, PortRange}
-use Rattle.uv_model.specs.Complaint.{HasForeignDigit, IsTooLarge, PortComplaint}
-use Rattle.uv_model.specs.Refusal.{IsLeast}
-use Rattle.uv_model.specs.Rule.{rule_number}
+use Rattle.uv_model.specs.Complaints.Complaint.{HasForeignDigit, IsTooLarge, PortComplaint}
+use Rattle.uv_model.specs.Complaints.Refusal.{IsLeast}
+use Rattle.uv_model.specs.Complaints.Rule.{rule_number}
 use Rattle.uv_model.specs.Valid.{IsPortText}
-use Rattle.uv_model.proofs.AsciiLemmas.{IsAscii-from_test, chars-from_IsAscii}
+use Rattle.uv_model.proofs.Texts.AsciiLemmas.{IsAscii-from_test, chars-from_IsAscii}
 use Rattle.uv_grammar.specs.PortAnswer.{port_number}
 use Rattle.uv_grammar.proofs.TestLemmas.{list_all_weaker}
 

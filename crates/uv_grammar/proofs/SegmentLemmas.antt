@@ -8,8 +8,8 @@ use Rattle.uv_model.specs.Ascii.{question_mark, slash}
 use Rattle.uv_model.specs.Cut.{starts_with_two_slashes}
 use Rattle.uv_model.specs.Path.{AreSegments, IsPathAbsolute, IsPathRelative, IsSegment, is_without, starts_with_slash}
 use Rattle.uv_model.specs.Units.{IsUnits, is_faultless, is_unit_at}
-use Rattle.uv_model.proofs.MarkLemmas.{is_without-cons, is_without-more}
-use Rattle.uv_model.proofs.UnitsLemmas.{IsUnits-faultless, IsUnits-nil, is_faultless-units, is_unit_at-mark}
+use Rattle.uv_model.proofs.Texts.MarkLemmas.{is_without-cons, is_without-more}
+use Rattle.uv_model.proofs.Texts.UnitsLemmas.{IsUnits-faultless, IsUnits-nil, is_faultless-units, is_unit_at-mark}
 use Rattle.uv_grammar.specs.Built.{pieces, segments_of}
 use Rattle.uv_grammar.proofs.PieceLemmas.{relative_segments}
 use Rattle.uv_grammar.proofs.TestLemmas.{and_true}

@@ -8,10 +8,10 @@ use Rattle.std.proofs.lemmas.Bool.Decides.{nat_tests}
 use Rattle.std.specs.List.{list_all}
 use Rattle.std.specs.Char.{is_ascii, is_ascii_alphabetic, is_ascii_digit}
 use Rattle.std.proofs.Math.Utf8.{encodes}
-use Rattle.uv_model.proofs.AsciiLemmas.{chars-from_IsAscii, IsAscii-from_test}
-use Rattle.uv_model.specs.Complaint.{starts_with_number_sign}
+use Rattle.uv_model.proofs.Texts.AsciiLemmas.{chars-from_IsAscii, IsAscii-from_test}
+use Rattle.uv_model.specs.Complaints.Complaint.{starts_with_number_sign}
 use Rattle.uv_model.specs.Cut.{starts_with_two_slashes}
-use Rattle.uv_model.specs.OpaqueHost.{starts_with_bracket}
+use Rattle.uv_model.specs.Hosts.OpaqueHost.{starts_with_bracket}
 use Rattle.uv_model.specs.Path.{starts_with_slash, starts_with_drive}
 use Rattle.uv_model.specs.Scheme.{is_scheme, is_scheme_code_point}
 

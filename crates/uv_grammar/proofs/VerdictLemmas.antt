@@ -3,15 +3,15 @@ use Rattle.std.proofs.Common.{◌≡◌, ℕ, ◌<◌, ◌^◌, List, length, Op
 use Rattle.std.specs.Str.{chars, IsUtf8}
 use Rattle.std.proofs.lemmas.Str.{encodes-chars, length-le-encodes}
 use Rattle.uv_model.specs.declared.rule.Refusal.{Refusal}
-use Rattle.uv_model.specs.Complaint.{Complaint, IsStarted}
+use Rattle.uv_model.specs.Complaints.Complaint.{Complaint, IsStarted}
 use Rattle.uv_model.specs.Cut.{Cut, IsCut, written_cut}
 use Rattle.uv_model.specs.Parts.{Parts, written}
-use Rattle.uv_model.specs.Refusal.{IsLeast}
-use Rattle.uv_model.specs.Url.{Url}
+use Rattle.uv_model.specs.Complaints.Refusal.{IsLeast}
+use Rattle.uv_model.specs.Records.Url.{Url}
 use Rattle.uv_model.specs.Valid.{Valid}
-use Rattle.uv_model.proofs.FaultlessLemmas.{faultless}
-use Rattle.uv_model.proofs.PartsLemmas.{parts_are_unique}
-use Rattle.uv_model.proofs.RefusedLemmas.{least_of_parts}
+use Rattle.uv_model.proofs.Complaints.ComplaintsExcludeParts.{faultless}
+use Rattle.uv_model.proofs.Cuts.UniqueParts.{parts_are_unique}
+use Rattle.uv_model.proofs.Complaints.RefusedLemmas.{least_of_parts}
 use Rattle.uv_grammar.specs.declared.checker.Verdict.{Verdict}
 use Rattle.uv_grammar.specs.declared.checker.Verdict.TheVariants.{Yes, No}
 use Rattle.uv_grammar.specs.Laws.{PartsAreTheText}

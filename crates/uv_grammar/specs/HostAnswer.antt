@@ -9,9 +9,9 @@ use Rattle.uv_model.specs.declared.host.Host.{Host}
 use Rattle.uv_model.specs.declared.host.Host.TheVariants.{Domain, Empty}
 use Rattle.uv_model.specs.declared.scheme.Class.{Class}
 use Rattle.uv_model.specs.declared.scheme.Class.TheVariants.{Special, File, Other}
-use Rattle.uv_model.specs.Complaint.{HeldHostComplaint, HostComplaint, HostTextComplaint}
+use Rattle.uv_model.specs.Complaints.Complaint.{HeldHostComplaint, HostComplaint, HostTextComplaint}
 use Rattle.uv_model.specs.Path.{starts_with_slash}
-use Rattle.uv_model.specs.Refusal.{IsLeast}
+use Rattle.uv_model.specs.Complaints.Refusal.{IsLeast}
 use Rattle.uv_model.specs.Valid.{IsFileHostText, IsHostText, IsOpaqueHostText}
 
 -- the answer on a host text that isn't empty, of class Special or File: its value, or the rule that it violates

@@ -1,10 +1,10 @@
 -- The complaints of a part and of all that follow it, after the order of URL Standard, section 4.3.
 use Rattle.std.specs.Prelude.{ℕ, ◌<◌, ◌^◌, ◌⊎◌, Option, length}
 use Rattle.uv_model.specs.declared.rule.Rule.{Rule}
-use Rattle.uv_model.specs.Complaint.{Behind, HostPartComplaint, MayBeUnitComplaint, PathStartComplaint, PortPartComplaint}
+use Rattle.uv_model.specs.Complaints.Complaint.{Behind, HostPartComplaint, MayBeUnitComplaint, PathStartComplaint, PortPartComplaint}
 use Rattle.uv_model.specs.Cut.{Cut, fragment_place, path_place, query_place, written_cut}
-use Rattle.uv_model.specs.UnitComplaint.{UnitComplaint}
-use Rattle.uv_model.specs.Url.{Url}
+use Rattle.uv_model.specs.Complaints.UnitComplaint.{UnitComplaint}
+use Rattle.uv_model.specs.Records.Url.{Url}
 
 -- those of the fragment
 abbrev pub FromFragment : Cut → ℕ → Rule → Type 0

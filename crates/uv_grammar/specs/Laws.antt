@@ -2,7 +2,7 @@
 use Rattle.std.specs.Prelude.{◌≡◌, ℕ, List, ◌++◌, Option}
 use Rattle.uv_model.specs.Ascii.{number_sign, question_mark}
 use Rattle.uv_model.specs.Parts.{Parts, written_authority, written_behind, written_scheme}
-use Rattle.uv_model.specs.Url.{Url}
+use Rattle.uv_model.specs.Records.Url.{Url}
 use Rattle.uv_model.specs.Valid.{Valid}
 
 -- A valid text is its scheme and `:`, then `//`, its host's text, `:` and its port's text, then its path's text,

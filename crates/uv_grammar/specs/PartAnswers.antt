@@ -6,10 +6,10 @@ use Rattle.uv_grammar.specs.declared.port.PortAnswer.{PortAnswer}
 use Rattle.uv_grammar.specs.declared.port.PortAnswer.TheVariants as port
 use Rattle.uv_grammar.specs.HostAnswer.{FitsHost}
 use Rattle.uv_model.specs.declared.host.Host.{Host}
-use Rattle.uv_model.specs.Complaint.{HostPartComplaint, PortPartComplaint}
+use Rattle.uv_model.specs.Complaints.Complaint.{HostPartComplaint, PortPartComplaint}
 use Rattle.uv_model.specs.Cut.{Cut, class_in}
-use Rattle.uv_model.specs.Refusal.{IsLeast}
-use Rattle.uv_model.specs.Url.{Url}
+use Rattle.uv_model.specs.Complaints.Refusal.{IsLeast}
+use Rattle.uv_model.specs.Records.Url.{Url}
 use Rattle.uv_model.specs.Valid.{IsPortText, port_given, scheme_or}
 
 -- the host of a cut text: valid where there is an authority

@@ -7,7 +7,7 @@ use Rattle.uv_text.specs.Fronts.{AreAsciiUnits}
 use Rattle.uv_model.specs.declared.scheme.Class.TheVariants.{Special}
 use Rattle.uv_model.specs.Ascii.{slash, colon}
 use Rattle.uv_model.specs.Cut.{starts_with_two_slashes}
-use Rattle.uv_model.specs.Domain.{IsDomain}
+use Rattle.uv_model.specs.Hosts.Domain.{IsDomain}
 use Rattle.uv_model.specs.Parts.{written_behind}
 use Rattle.uv_model.specs.Path.{starts_with_slash}
 use Rattle.uv_model.specs.Scheme.{is_scheme, scheme_class}

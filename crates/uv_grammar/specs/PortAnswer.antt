@@ -3,8 +3,8 @@ use Rattle.std.specs.Prelude.{◌≡◌, ℕ, List, [], ◌∷◌, Option, Some,
 use Rattle.std.specs.Str.Parse.{digits_value}
 use Rattle.uv_grammar.specs.declared.port.PortAnswer.{PortAnswer}
 use Rattle.uv_grammar.specs.declared.port.PortAnswer.TheVariants.{Valid, Refused}
-use Rattle.uv_model.specs.Complaint.{PortComplaint}
-use Rattle.uv_model.specs.Refusal.{IsLeast}
+use Rattle.uv_model.specs.Complaints.Complaint.{PortComplaint}
+use Rattle.uv_model.specs.Complaints.Refusal.{IsLeast}
 use Rattle.uv_model.specs.Valid.{IsPortText}
 
 -- the number of a port text, and none of an empty one

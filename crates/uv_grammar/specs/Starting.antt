@@ -2,8 +2,8 @@
 use Rattle.std.specs.Prelude.{ℕ, not, ◌&&◌, List, Option, Some, None, if◌then◌else◌}
 use Rattle.uv_model.specs.declared.rule.Refusal.{Refusal}
 use Rattle.uv_model.specs.declared.rule.Rule.TheVariants.{NoScheme, OpaqueBase}
-use Rattle.uv_model.specs.Complaint.{starts_with_number_sign}
-use Rattle.uv_model.specs.Url.{Url, is_opaque}
+use Rattle.uv_model.specs.Complaints.Complaint.{starts_with_number_sign}
+use Rattle.uv_model.specs.Records.Url.{Url, is_opaque}
 
 -- there is no base, or it has an opaque path and the text is more than a fragment
 abbrev pub base_fault : Option Url → List ℕ → Option Refusal

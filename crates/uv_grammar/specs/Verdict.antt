@@ -8,11 +8,11 @@ use Rattle.uv_grammar.specs.PartAnswers.{FitsHostPart, FitsPortPart}
 use Rattle.uv_model.specs.declared.host.Host.{Host}
 use Rattle.uv_model.specs.declared.rule.Refusal.{Refusal}
 use Rattle.uv_model.specs.declared.rule.Rule.{Rule}
-use Rattle.uv_model.specs.Complaint.{Complaint}
+use Rattle.uv_model.specs.Complaints.Complaint.{Complaint}
 use Rattle.uv_model.specs.Cut.{Cut}
 use Rattle.uv_model.specs.Parts.{Parts}
-use Rattle.uv_model.specs.Refusal.{IsLeast}
-use Rattle.uv_model.specs.Url.{Url}
+use Rattle.uv_model.specs.Complaints.Refusal.{IsLeast}
+use Rattle.uv_model.specs.Records.Url.{Url}
 use Rattle.uv_model.specs.Valid.{Valid}
 
 -- the text is valid with these parts and with no others, and no complaint of it holds

@@ -1,8 +1,8 @@
 //! The checker of valid URL strings.
 ghost use Rattle.std.specs.Prelude.{IfOk, None, option_copied};
 ghost use Rattle.std.specs.Str.{chars};
-ghost use Rattle.uv_model.specs.Complaint.{HostPartComplaint};
-ghost use Rattle.uv_model.specs.Refusal.{IsLeast};
+ghost use Rattle.uv_model.specs.Complaints.Complaint.{HostPartComplaint};
+ghost use Rattle.uv_model.specs.Complaints.Refusal.{IsLeast};
 ghost use Rattle.uv_grammar.specs.Later.{IsCountable};
 ghost use Rattle.uv_grammar.specs.PartAnswers.{FitsHostPart};
 ghost use Rattle.uv_grammar.specs.Verdict.{IsCutVerdict, IsVerdict};

@@ -1,9 +1,9 @@
 //! The faults of the path, the query and the fragment of a cut text.
 ghost use Rattle.std.specs.Prelude.{◌+◌, ◌<◌, ◌^◌, Some, length, option_copied};
 ghost use Rattle.std.specs.Str.{chars};
-ghost use Rattle.uv_model.specs.Complaint.{Behind};
-ghost use Rattle.uv_model.specs.Refusal.{IsLeast};
-ghost use Rattle.uv_model.specs.UnitComplaint.{UnitComplaint};
+ghost use Rattle.uv_model.specs.Complaints.Complaint.{Behind};
+ghost use Rattle.uv_model.specs.Complaints.Refusal.{IsLeast};
+ghost use Rattle.uv_model.specs.Complaints.UnitComplaint.{UnitComplaint};
 ghost use Rattle.uv_grammar.specs.Later.{FromFragment, FromPath, FromPathStart, FromQuery, IsCountable};
 
 use crate::cut::Cut;

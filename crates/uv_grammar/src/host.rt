@@ -2,7 +2,7 @@
 ghost use Rattle.std.specs.Prelude.{◌≡◌, ◌≢◌, IfOk, [], codes, true};
 ghost use Rattle.std.specs.Str.{bytes_eq, chars};
 ghost use Rattle.uv_grammar.specs.HostAnswer.{IsHeldAnswer, IsHostAnswer, IsTextAnswer, file_host};
-ghost use Rattle.uv_model.specs.OpaqueHost.{starts_with_bracket};
+ghost use Rattle.uv_model.specs.Hosts.OpaqueHost.{starts_with_bracket};
 ghost use Rattle.uv_grammar.specs.Seen.{seen_option};
 
 use crate::starts::{has_bracket, has_slash};

@@ -4,7 +4,7 @@ ghost use Rattle.std.specs.Prelude.{◌≡◌, ◌≢◌, ◌++◌, ◌<◌, [],
 ghost use Rattle.std.specs.Str.{chars};
 ghost use Rattle.uv_model.specs.Cut.{starts_with_two_slashes};
 ghost use Rattle.uv_model.specs.Path.{starts_with_slash};
-ghost use Rattle.uv_model.specs.Url.{Url};
+ghost use Rattle.uv_model.specs.Records.Url.{Url};
 ghost use Rattle.uv_grammar.specs.PlainLinks.{HasAsciiFront, IsFrontCut, IsNameCut, IsPartCut, IsPathCut, IsSpecialCut, IsSpecialFront};
 ghost use Rattle.uv_grammar.specs.Seen.{seen, seen_option};
 ghost use Rattle.uv_grammar.specs.Verdict.{IsAccepted};

@@ -1,9 +1,9 @@
 //! The rules of the start of a text and of the start of a path.
 ghost use Rattle.std.specs.Prelude.{◌≡◌, ◌≢◌, ◌↔◌, IsSome, IsTrue, None, [], option_copied};
 ghost use Rattle.std.specs.Str.{chars};
-ghost use Rattle.uv_model.specs.Complaint.{HasHost, PathStartComplaint, StartComplaint};
+ghost use Rattle.uv_model.specs.Complaints.Complaint.{HasHost, PathStartComplaint, StartComplaint};
 ghost use Rattle.uv_model.specs.Cut.{class_in};
-ghost use Rattle.uv_model.specs.Refusal.{IsLeast};
+ghost use Rattle.uv_model.specs.Complaints.Refusal.{IsLeast};
 ghost use Rattle.uv_model.specs.Scheme.{scheme_class};
 ghost use Rattle.uv_grammar.specs.Later.{IsCountable};
 ghost use Rattle.uv_grammar.specs.Starting.{base_fault};

@@ -6,9 +6,9 @@ use Rattle.std.proofs.lemmas.List.{append_cancel_right}
 use Rattle.std.proofs.lemmas.Str.{IsAscii-append, chars-IsAscii, IsUtf8-from_ascii, IsUtf8-past_char, IsUtf8-take, IsCharBoundary-at_seam}
 use Rattle.std.proofs.lemmas.Str.Ascii.{IsAscii-nil, IsAscii-cons}
 use Rattle.uv_model.specs.Ascii.{left_bracket, right_bracket}
-use Rattle.uv_model.specs.Address.{IsIpv6, IsBracketedIpv6, Reads}
-use Rattle.uv_model.proofs.AddressLemmas.{ipv6_ascii}
-use Rattle.uv_model.proofs.AsciiLemmas.{chars-from_IsAscii}
+use Rattle.uv_model.specs.Hosts.Address.{IsIpv6, IsBracketedIpv6, Reads}
+use Rattle.uv_model.proofs.Addresses.AddressLemmas.{ipv6_ascii}
+use Rattle.uv_model.proofs.Texts.AsciiLemmas.{chars-from_IsAscii}
 
 -- a text in brackets
 abbrev pub enclosed : List ℕ → List ℕ

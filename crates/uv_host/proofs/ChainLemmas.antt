@@ -13,7 +13,7 @@ use Rattle.idna.specs.Display.{IsPlain}
 use Rattle.idna.specs.Labels.{is_full_stop, labels_of}
 use Rattle.idna.specs.Validity.{passes_hyphens}
 use Rattle.uv_model.specs.Ascii.{full_stop, hyphen}
-use Rattle.uv_model.specs.Domain.{IsForm, has_lengths, is_form_code_point, without_root}
+use Rattle.uv_model.specs.Hosts.Domain.{IsForm, has_lengths, is_form_code_point, without_root}
 use Rattle.uv_host.specs.PlainNames.{goes_on, is_chain, is_sign}
 use Rattle.uv_host.proofs.PlainLemmas.{plain_ascii, plain_from_form, plain_is_form}
 

@@ -5,17 +5,17 @@ use Rattle.std.proofs.lemmas.Bool.{false≢true, cases_Bool, cases_eq, ne_eqb, a
 use Rattle.uv_model.specs.declared.rule.Rule.{Rule}
 use Rattle.uv_model.specs.declared.rule.Rule.TheVariants.{HostIpv6, HostCodePoint, Percent}
 use Rattle.uv_model.specs.declared.rule.Refusal.{Refusal}
-use Rattle.uv_model.specs.Address.{IsBracketedIpv6}
+use Rattle.uv_model.specs.Hosts.Address.{IsBracketedIpv6}
 use Rattle.uv_model.specs.Ascii.{percent_sign, left_bracket}
-use Rattle.uv_model.specs.OpaqueHost.{is_forbidden_host, IsOpaqueHost, starts_with_bracket}
-use Rattle.uv_model.specs.OpaqueHostComplaint.{HasForeignHostCodePoint, OpaqueHostComplaint}
-use Rattle.uv_model.specs.Refusal.{IsLeast}
-use Rattle.uv_model.specs.Rule.{rule_number}
-use Rattle.uv_model.specs.UnitComplaint.{HasBarePercent}
+use Rattle.uv_model.specs.Hosts.OpaqueHost.{is_forbidden_host, IsOpaqueHost, starts_with_bracket}
+use Rattle.uv_model.specs.Complaints.OpaqueHostComplaint.{HasForeignHostCodePoint, OpaqueHostComplaint}
+use Rattle.uv_model.specs.Complaints.Refusal.{IsLeast}
+use Rattle.uv_model.specs.Complaints.Rule.{rule_number}
+use Rattle.uv_model.specs.Complaints.UnitComplaint.{HasBarePercent}
 use Rattle.uv_model.specs.Units.{is_url_code_point, starts_with_two_hex, is_unit_at, is_faultless}
-use Rattle.uv_model.proofs.AddressUniqueness.{bracketed_bracket}
-use Rattle.uv_model.proofs.RefusalLemmas.{IsLeast-like}
-use Rattle.uv_model.proofs.UnitsLemmas.{is_faultless-units, IsUnits-faultless}
+use Rattle.uv_model.proofs.Addresses.AddressUniqueness.{bracketed_bracket}
+use Rattle.uv_model.proofs.Complaints.RefusalLemmas.{IsLeast-like}
+use Rattle.uv_model.proofs.Texts.UnitsLemmas.{is_faultless-units, IsUnits-faultless}
 use Rattle.uv_host.specs.OpaqueHosts.{host_fault, fault_or, first_host_fault, IsOpaqueHostOrEmpty}
 
 -- ---- a text that begins with `[`

@@ -20,8 +20,8 @@ use Rattle.idna.specs.Validity.{hyphen, is_valid_char, passes_hyphens}
 use Rattle.idna.specs.AsciiDenyList.{may_be_denied}
 use Rattle.idna.proofs.Uts46Lemmas.{has_ace_prefix-passes, list_all-passes_hyphens, to_ascii-plain}
 use Rattle.idna.proofs.ValidityLemmas.{denies-EMPTY, denies-STD3, denies-may_be_denied, is_valid_char-ascii}
-use Rattle.uv_model.specs.Domain.{HasNoForm, IsForm, has_lengths, has_permitted, is_form_code_point, is_permitted, strict_form}
-use Rattle.uv_model.proofs.DomainLemmas.{IsForm-from, no_lengths}
+use Rattle.uv_model.specs.Hosts.Domain.{HasNoForm, IsForm, has_lengths, has_permitted, is_form_code_point, is_permitted, strict_form}
+use Rattle.uv_model.proofs.Hosts.DomainLemmas.{IsForm-from, no_lengths}
 use Rattle.uv_host.specs.Domains.{is_simple}
 
 valid_byte : (b : ℕ) → is_form_code_point b ≡ true → (b < 128) × (is_valid_char STD3 b ≡ true)

@@ -4,7 +4,7 @@ use Rattle.std.specs.Char.{is_ascii_digit, is_ascii_lowercase}
 use Rattle.uv_model.specs.Ascii.{full_stop}
 use Rattle.uv_host.specs.declared.domains.DomainAnswer.{DomainAnswer}
 use Rattle.uv_host.specs.declared.domains.DomainAnswer.TheVariants.{Ascii, Number, Not}
-use Rattle.uv_model.specs.Domain.{HasNoForm, IsDomain, IsNumberText}
+use Rattle.uv_model.specs.Hosts.Domain.{HasNoForm, IsDomain, IsNumberText}
 
 -- the answer on a text: the form of a valid domain, a number, or neither
 abbrev pub IsAnswer : List ℕ → DomainAnswer → Type 0

@@ -3,9 +3,9 @@ use Rattle.std.specs.Prelude.{◌≡◌, ℕ, ◌+◌, ◌⊎◌, not, ◌||◌,
 use Rattle.uv_model.specs.declared.rule.Rule.{Rule}
 use Rattle.uv_model.specs.declared.rule.Rule.TheVariants.{HostCodePoint, Percent}
 use Rattle.uv_model.specs.declared.rule.Refusal.{Refusal}
-use Rattle.uv_model.specs.Address.{IsBracketedIpv6}
+use Rattle.uv_model.specs.Hosts.Address.{IsBracketedIpv6}
 use Rattle.uv_model.specs.Ascii.{percent_sign}
-use Rattle.uv_model.specs.OpaqueHost.{is_forbidden_host, IsOpaqueHost}
+use Rattle.uv_model.specs.Hosts.OpaqueHost.{is_forbidden_host, IsOpaqueHost}
 use Rattle.uv_model.specs.Units.{is_url_code_point, starts_with_two_hex}
 
 -- the rule that a code point violates, by what follows it

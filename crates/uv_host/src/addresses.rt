@@ -1,6 +1,6 @@
 //! IPv4 and IPv6 texts (URL Standard, section 3.4).
 ghost use Rattle.std.specs.Prelude.{chars};
-ghost use Rattle.uv_model.specs.Address.{Reads, IsIpv4, IsIpv6, IsBracketedIpv6};
+ghost use Rattle.uv_model.specs.Hosts.Address.{Reads, IsIpv4, IsIpv6, IsBracketedIpv6};
 
 use std::net::{Ipv4Addr, Ipv6Addr};
 

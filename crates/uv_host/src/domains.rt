@@ -8,7 +8,7 @@ ghost use Rattle.idna.specs.Display.{IsPlain};
 ghost use Rattle.idna.specs.Labels.{labels_of};
 ghost use Rattle.idna.specs.Validity.{passes_hyphens};
 ghost use Rattle.uv_host.specs.Domains.{IsAnswer, is_simple};
-ghost use Rattle.uv_model.specs.Domain as spec;
+ghost use Rattle.uv_model.specs.Hosts.Domain as spec;
 
 use idna::uts46::{DnsLength, Hyphens, Uts46, verify_dns_length};
 use idna::{AsciiDenyList, Errors};
@@ -122,7 +122,7 @@ fn plain_domain(alloc: Global, name: &str) -> Result<DomainAnswer, AllocError>
 }
 
 /// Whether all ASCII code points of the text are letters, digits, `-` and `.`.
-#[tactic(auto, unfolding(uv_model::specs::Domain::has_permitted))]
+#[tactic(auto, unfolding(uv_model::specs::Hosts::Domain::has_permitted))]
 fn has_permitted(text: &str) -> bool
     ensures { result ≡ spec.has_permitted (chars text.now) }
 {

@@ -1,8 +1,8 @@
 //! Opaque hosts (URL Standard, sections 3.2 and 3.4).
 ghost use Rattle.std.specs.Prelude.{◌≡◌, ◌↔◌, true, None, chars, length};
-ghost use Rattle.uv_model.specs.OpaqueHost as spec;
-ghost use Rattle.uv_model.specs.OpaqueHostComplaint.{OpaqueHostComplaint};
-ghost use Rattle.uv_model.specs.Refusal.{IsLeast};
+ghost use Rattle.uv_model.specs.Hosts.OpaqueHost as spec;
+ghost use Rattle.uv_model.specs.Complaints.OpaqueHostComplaint.{OpaqueHostComplaint};
+ghost use Rattle.uv_model.specs.Complaints.Refusal.{IsLeast};
 ghost use Rattle.uv_host.specs.OpaqueHosts.{host_fault, first_host_fault, IsOpaqueHostOrEmpty};
 
 use crate::addresses::bracketed_ipv6;

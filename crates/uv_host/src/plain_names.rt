@@ -1,7 +1,7 @@
 //! Plain names: letters and digits with single marks between them.
 ghost use Rattle.std.specs.Prelude.{◌≡◌, IfSome, IsTrue, chars, false, true};
 ghost use Rattle.uv_host.specs.PlainNames.{IsChainFront, goes_on, is_chain, is_sign};
-ghost use Rattle.uv_model.specs.Domain as spec;
+ghost use Rattle.uv_model.specs.Hosts.Domain as spec;
 
 use crate::domains::is_number;
 

@@ -6,7 +6,7 @@ use Rattle.uv_model.specs.declared.scheme.Class.TheVariants.{File}
 use Rattle.uv_model.specs.Ascii.{slash, colon, question_mark, number_sign, left_bracket, right_bracket}
 use Rattle.uv_model.specs.Path.{is_without, starts_with_slash}
 use Rattle.uv_model.specs.Scheme.{is_scheme, scheme_class}
-use Rattle.uv_model.specs.Url.{Url}
+use Rattle.uv_model.specs.Records.Url.{Url}
 use Rattle.uv_model.specs.Parts.{Parts, written_scheme, written_authority, written_behind}
 use Rattle.uv_model.specs.Valid.{scheme_or, starts_with_scheme}
 

@@ -7,15 +7,15 @@ use Rattle.uv_model.specs.declared.scheme.Class.{Class}
 use Rattle.uv_model.specs.declared.scheme.Class.TheVariants.{Special, File, Other}
 use Rattle.uv_model.specs.declared.host.Host.{Host}
 use Rattle.uv_model.specs.declared.host.Host.TheVariants.{Domain, V4, V6, Opaque, Empty}
-use Rattle.uv_model.specs.Address.{IsIpv4, IsBracketedIpv6}
-use Rattle.uv_model.specs.OpaqueHost.{IsOpaqueHost}
-use Rattle.uv_model.specs.Domain.{IsDomain}
+use Rattle.uv_model.specs.Hosts.Address.{IsIpv4, IsBracketedIpv6}
+use Rattle.uv_model.specs.Hosts.OpaqueHost.{IsOpaqueHost}
+use Rattle.uv_model.specs.Hosts.Domain.{IsDomain}
 use Rattle.uv_model.specs.Units.{IsUnits}
 use Rattle.uv_model.specs.Scheme.{is_scheme, is_scheme_code_point, scheme_class, default_port}
 use Rattle.uv_model.specs.Ascii.{colon}
 use Rattle.std.specs.Char.{is_ascii_alphabetic}
 use Rattle.uv_model.specs.Path.{IsPathAbsolute, IsPathRelative, starts_with_drive}
-use Rattle.uv_model.specs.Url.{Url, is_opaque}
+use Rattle.uv_model.specs.Records.Url.{Url, is_opaque}
 use Rattle.uv_model.specs.Parts.{Form, SchemeAuthority, SchemePath, SchemeOpaque, Authority, PathAbsolute, PathRelative, NoPath, Parts, has_scheme, written}
 
 -- ---- hosts (section 3.4)

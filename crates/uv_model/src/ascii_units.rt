@@ -4,7 +4,7 @@ ghost use Rattle.std.specs.List.{list_all};
 ghost use Rattle.std.specs.Prelude.{◌≡◌, ◌↔◌, IsTrue, not};
 ghost use Rattle.uv_model.specs.Path.{is_without};
 ghost use Rattle.uv_model.specs.Units as spec;
-ghost use Rattle.uv_model.specs.WellFormed.{IsAsciiUnits, is_ascii_text};
+ghost use Rattle.uv_model.specs.Records.WellFormed.{IsAsciiUnits, is_ascii_text};
 
 use crate::units::is_url_code_point;
 

@@ -2,7 +2,7 @@
 ghost use Rattle.std.specs.Char.{is_ascii_digit, is_ascii_hexdigit};
 ghost use Rattle.std.specs.List.{list_all};
 ghost use Rattle.std.specs.Prelude.{chars, ◌≡◌};
-ghost use Rattle.uv_model.specs.Domain as spec;
+ghost use Rattle.uv_model.specs.Hosts.Domain as spec;
 
 /// Whether the text ends in a number (URL Standard, section 3.5, the ends-in-a-number checker): its last label, where
 /// one empty label at the end is dropped, is digits alone, or `0x` and then nothing or hex digits.
@@ -13,7 +13,7 @@ pub fn ends_in_number(text: &str) -> bool
 }
 
 /// The number rule on bytes.
-#[tactic(auto, unfolding(crate::specs::Domain::ends_in_number))]
+#[tactic(auto, unfolding(crate::specs::Hosts::Domain::ends_in_number))]
 fn bytes_end_in_number(text: &[u8]) -> bool
     ensures { result ≡ spec.ends_in_number text.now }
 {

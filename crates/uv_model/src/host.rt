@@ -1,6 +1,6 @@
 //! Hosts, and the host serializer.
 ghost use Rattle.std.specs.Prelude.{◌≡◌, IfOk, IsOk, string_bytes};
-ghost use Rattle.uv_model.specs.Serialize.{serial_host, serial_ipv4, serial_ipv6};
+ghost use Rattle.uv_model.specs.Records.Serialize.{serial_host, serial_ipv4, serial_ipv6};
 
 use crate::text::Text;
 use std::alloc::{AllocError, Global};
@@ -37,7 +37,7 @@ impl Host {
 
     /// The host serialized, an IPv6 address in brackets (URL Standard, section 3.6). An error means that memory ran
     /// out.
-    #[tactic(auto, unfolding(crate::specs::Serialize::serial_host))]
+    #[tactic(auto, unfolding(crate::specs::Records::Serialize::serial_host))]
     pub fn text(&self, alloc: Global) -> Result<String, AllocError>
         ensures text { IfOk result (λ text. string_bytes text ≡ serial_host self.now) }
         ensures memory { self.now ≡ Host.Empty → IsOk result }
@@ -53,7 +53,7 @@ impl Host {
 }
 
 /// The four numbers of an IPv4 address, the highest first, with `.` between each two.
-#[tactic(auto, using(crate::proofs::HostTextLemmas::serial_ipv4_is))]
+#[tactic(auto, using(crate::proofs::Addresses::AddressesReadBack::serial_ipv4_is))]
 fn ipv4_text(alloc: Global, value: u32) -> Result<String, AllocError>
     ensures { IfOk result (λ text. string_bytes text ≡ serial_ipv4 value) }
 {

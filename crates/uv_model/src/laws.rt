@@ -1,59 +1,13 @@
 //! Laws over the definitions, each as the clause of a function that does nothing.
-ghost use Rattle.uv_model.specs.Address.{AreLibraryTexts};
-ghost use Rattle.uv_model.specs.AddressRows.{AddressParserRows};
-ghost use Rattle.uv_model.specs.CutLaws.{EveryTextHasOneCut, PartsAreUnique, TextsWithAComplaintHaveNoParts, TextsWithASchemeIgnoreTheBase, ValidTextsAreCutIntoTheirParts};
-ghost use Rattle.uv_model.specs.CutRows.{CutAndComplaintRows};
-ghost use Rattle.uv_model.specs.HostParser.{DomainsAreParsed, EmptyHostIsParsed, Ipv4HostsAreParsed, Ipv6HostsAreParsed, OpaqueHostsAreParsed};
-ghost use Rattle.uv_model.specs.HostText.{AddressesAreReadBack};
-ghost use Rattle.uv_model.specs.HostRows.{HostParserRows};
-ghost use Rattle.uv_model.specs.Ipv4Parser.{Ipv4TextsAreParsed};
-ghost use Rattle.uv_model.specs.Ipv6Parser.{Ipv6TextsAreParsed};
-ghost use Rattle.uv_model.specs.Laws.{DenotedRecordsAreWellFormed, UnitsAreFaultless};
-ghost use Rattle.uv_model.specs.Rows.Denotation.{DenotationRows};
-ghost use Rattle.uv_model.specs.Rows.File.{FileRows};
-ghost use Rattle.uv_model.specs.Rows.Hosts.{HostRows};
-ghost use Rattle.uv_model.specs.Rows.Machine.{MachineRows};
-ghost use Rattle.uv_model.specs.Rows.OpaquePaths.{OpaquePathRows};
-ghost use Rattle.uv_model.specs.Rows.Other.{OtherRows};
-ghost use Rattle.uv_model.specs.Rows.ReferenceMatrix.{ReferenceMatrixRows};
-ghost use Rattle.uv_model.specs.Rows.References.{ReferenceRows};
-ghost use Rattle.uv_model.specs.Rows.SilentRefusals.{SilentRefusalRows};
-ghost use Rattle.uv_model.specs.Rows.Special.{SpecialRows};
-ghost use Rattle.uv_model.specs.ParserProfile.{TextsAreDecided};
-ghost use Rattle.uv_model.specs.Silent.{FileTextsRunSilently, OpaqueTextsRunSilently, OtherTextsRunSilently, SpecialTextsRunSilently};
+ghost use Rattle.uv_model.specs.Hosts.Address.{AreLibraryTexts};
+ghost use Rattle.uv_model.specs.Laws.Addresses.{AddressesAreReadBack};
+ghost use Rattle.uv_model.specs.Laws.CutRows.{CutAndComplaintRows};
+ghost use Rattle.uv_model.specs.Laws.Cuts.{EveryTextHasOneCut, PartsAreUnique, TextsWithAComplaintHaveNoParts, TextsWithASchemeIgnoreTheBase, ValidTextsAreCutIntoTheirParts};
+ghost use Rattle.uv_model.specs.Laws.Wholes.{DenotedRecordsAreWellFormed, UnitsAreFaultless};
 
 /// A text is a concatenation of URL units exactly where no code point of it is a fault of units.
 pub fn units_are_faultless()
     ensures { UnitsAreFaultless }
-{}
-
-/// On every valid text with an opaque path, against every base and none, the URL parser runs to its end with no
-/// validation error and no failure, and gives exactly the URL that the text's parts denote (URL Standard, section 4.4).
-pub fn opaque_texts_run_silently()
-    ensures { OpaqueTextsRunSilently }
-{}
-
-/// On every valid text with a scheme of class Other, against every base and none, the URL parser runs to its end with
-/// no validation error and no failure, and gives exactly the URL that the text's parts denote (URL Standard, section
-/// 4.4).
-pub fn other_texts_run_silently()
-    ensures { OtherTextsRunSilently }
-{}
-
-/// The same on every valid text with a scheme of class Special (URL Standard, section 4.4).
-pub fn special_texts_run_silently()
-    ensures { SpecialTextsRunSilently }
-{}
-
-/// The same on every valid text with a scheme of class File (URL Standard, section 4.4).
-pub fn file_texts_run_silently()
-    ensures { FileTextsRunSilently }
-{}
-
-/// The run of the parser machine on a text is done, with the URL that the parts denote, exactly where the parser's
-/// grammar takes the text with parts, and else it stops; within the bound on its steps.
-pub fn texts_are_decided()
-    ensures { TextsAreDecided }
 {}
 
 /// Every text has, against every base, exactly one cut into the texts of its parts.
@@ -92,115 +46,14 @@ pub fn addresses_are_library_texts()
     ensures { AreLibraryTexts }
 {}
 
-/// On every IPv4 text the IPv4 parser gives exactly the text's value (URL Standard, section 3.5).
-pub fn ipv4_texts_are_parsed()
-    ensures { Ipv4TextsAreParsed }
-{}
-
-/// On every IPv6 text the IPv6 parser gives exactly the text's eight pieces (URL Standard, section 3.5).
-pub fn ipv6_texts_are_parsed()
-    ensures { Ipv6TextsAreParsed }
-{}
-
-/// What both parsers make of texts that are written out, such as the failure on `1::2::3` (URL Standard, section 3.5).
-pub fn address_parser_rows()
-    ensures { AddressParserRows }
-{}
-
-/// For a special URL the host parser makes of every valid domain the domain of exactly its form (URL Standard,
-/// section 3.5).
-pub fn domains_are_parsed()
-    ensures { DomainsAreParsed }
-{}
-
-/// For a special URL the host parser makes of every IPv4 text the address of exactly its value (URL Standard,
-/// section 3.5).
-pub fn ipv4_hosts_are_parsed()
-    ensures { Ipv4HostsAreParsed }
-{}
-
-/// For every URL the host parser makes of every IPv6 text in brackets the address of exactly its eight pieces (URL
-/// Standard, section 3.5).
-pub fn ipv6_hosts_are_parsed()
-    ensures { Ipv6HostsAreParsed }
-{}
-
-/// For a URL that isn't special the host parser makes of every opaque-host string without brackets the opaque host of
-/// exactly the encoded text (URL Standard, section 3.5).
-pub fn opaque_hosts_are_parsed()
-    ensures { OpaqueHostsAreParsed }
-{}
-
-/// For a URL that isn't special the host parser makes of the empty text the empty host (URL Standard, section 3.5).
-pub fn empty_host_is_parsed()
-    ensures { EmptyHostIsParsed }
-{}
-
-/// What the parser machine does on one text for each way in which it stops or is done (URL Standard, section 4.4).
-pub fn machine_rows()
-    ensures { MachineRows }
-{}
-
-/// What the parser machine does on texts with an opaque path, and before its first step (URL Standard, section 4.4).
-pub fn opaque_path_rows()
-    ensures { OpaquePathRows }
-{}
-
-/// What the parser machine does on texts with a special scheme other than file (URL Standard, section 4.4).
-pub fn special_rows()
-    ensures { SpecialRows }
-{}
-
-/// What the parser machine, with its host parser, does on texts with domains and addresses (URL Standard, section 3.5).
-pub fn host_rows()
-    ensures { HostRows }
-{}
-
-/// What the parser machine does on texts with a scheme that isn't special, followed by `/` (URL Standard, section 4.4).
-pub fn other_rows()
-    ensures { OtherRows }
-{}
-
-/// What the parser machine does on texts with the scheme file (URL Standard, section 4.4).
-pub fn file_rows()
-    ensures { FileRows }
-{}
-
-/// What the parser machine does on texts against a base (URL Standard, section 4.4).
-pub fn reference_rows()
-    ensures { ReferenceRows }
-{}
-
-/// What the parser machine does on fifteen texts without a scheme against each of nine bases (URL Standard, section
-/// 4.4), and the complaints of those that are refused.
-pub fn reference_matrix_rows()
-    ensures { ReferenceMatrixRows }
-{}
-
-/// On these texts the parser machine is done, although the standard profile refuses them.
-pub fn silent_refusal_rows()
-    ensures { SilentRefusalRows }
-{}
-
 /// What the host serializer writes for an address denotes that address, and no two addresses have one text (URL
 /// Standard, sections 3.4 and 3.6).
 pub fn addresses_are_read_back()
     ensures { AddressesAreReadBack }
 {}
 
-/// What the parts of some texts denote, which is what the parser machine is done with, and what some paths become when
-/// they are shortened or walked (URL Standard, sections 4.2 and 4.4).
-pub fn denotation_rows()
-    ensures { DenotationRows }
-{}
-
 /// The record that a valid text denotes, alone or against a well-formed base, is well formed (URL Standard, sections
 /// 4.1 and 4.3).
 pub fn denoted_records_are_well_formed()
     ensures { DenotedRecordsAreWellFormed }
-{}
-
-/// What the host parser makes of texts that are written out, such as `example%2Ecom` (URL Standard, section 3.5).
-pub fn host_parser_rows()
-    ensures { HostParserRows }
 {}

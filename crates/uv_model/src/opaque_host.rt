@@ -1,6 +1,6 @@
 //! Forbidden host code points.
 ghost use Rattle.std.specs.Prelude.{◌≡◌};
-ghost use Rattle.uv_model.specs.OpaqueHost as spec;
+ghost use Rattle.uv_model.specs.Hosts.OpaqueHost as spec;
 
 /// Whether a code point is a forbidden host code point (URL Standard, section 3.2).
 #[tactic(auto, using(std::proofs::lemmas::Bool::Decides::nat_tests))]

@@ -1,8 +1,8 @@
 //! Records: the URLs that valid texts denote, each well formed.
 ghost use Rattle.std.specs.Prelude.{◌≡◌, IfOk, Option, Some, None, option_copied, option_map, string_bytes};
 ghost use Rattle.std.specs.Str.{IsAscii};
-ghost use Rattle.uv_model.specs.Url.{Url, is_opaque};
-ghost use Rattle.uv_model.specs.WellFormed.{MayBeAscii, WellFormed};
+ghost use Rattle.uv_model.specs.Records.Url.{Url, is_opaque};
+ghost use Rattle.uv_model.specs.Records.WellFormed.{MayBeAscii, WellFormed};
 
 use crate::host::Host;
 use crate::path::UrlPath;
@@ -22,11 +22,11 @@ pub struct Record {
 }
 
 impl Model for Record {
-    ghost use Rattle.uv_model.specs.Url.{Url};
+    ghost use Rattle.uv_model.specs.Records.Url.{Url};
 
     ghost Value = { Url };
 
-    ghost use Rattle.uv_model.specs.WellFormed.{WellFormed};
+    ghost use Rattle.uv_model.specs.Records.WellFormed.{WellFormed};
 
     ghost view = { λ r. record {
       scheme = r.scheme;

@@ -1,6 +1,6 @@
 //! The rules that a text can violate, and refusals.
 ghost use Rattle.std.specs.Prelude.{◌≡◌, MatchOption};
-ghost use Rattle.uv_model.specs.Rule.{IsNoName, named_rule, rule_name, rule_number};
+ghost use Rattle.uv_model.specs.Complaints.Rule.{IsNoName, named_rule, rule_name, rule_number};
 
 /// A rule of valid URL strings (URL Standard, sections 3.4 and 4.3) that a text violates, by number.
 #[derive(Clone, Copy, Debug, PartialEq, Eq)]

@@ -1,9 +1,9 @@
 //! Whether a host may stand in a record, by the class of the scheme (URL Standard, section 4.1).
 ghost use Rattle.std.specs.List.{list_all};
 ghost use Rattle.std.specs.Prelude.{◌≡◌, ◌↔◌, IsTrue, not, option_copied};
-ghost use Rattle.uv_model.specs.Domain.{is_form_code_point};
-ghost use Rattle.uv_model.specs.OpaqueHost.{is_forbidden_host};
-ghost use Rattle.uv_model.specs.WellFormed.{IsFileHost, IsOtherHost, IsSpecialHost, IsUrlDomain, IsUrlHost, IsUrlOpaqueHost};
+ghost use Rattle.uv_model.specs.Hosts.Domain.{is_form_code_point};
+ghost use Rattle.uv_model.specs.Hosts.OpaqueHost.{is_forbidden_host};
+ghost use Rattle.uv_model.specs.Records.WellFormed.{IsFileHost, IsOtherHost, IsSpecialHost, IsUrlDomain, IsUrlHost, IsUrlOpaqueHost};
 
 use crate::ascii_units::is_ascii_units;
 use crate::domain::ends_in_number;

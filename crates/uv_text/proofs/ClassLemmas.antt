@@ -4,7 +4,7 @@ use Rattle.std.specs.Char.{is_ascii}
 use Rattle.std.specs.List.{list_any}
 use Rattle.std.proofs.lemmas.Bool.{agree_below_at, cases_lt, false_from_ne_true, false≢true, or_cases, or_parts}
 use Rattle.std.proofs.lemmas.Bool.Decides.{nat_tests}
-use Rattle.uv_model.specs.OpaqueHost.{is_forbidden_host}
+use Rattle.uv_model.specs.Hosts.OpaqueHost.{is_forbidden_host}
 use Rattle.uv_model.specs.Units.{is_url_code_point}
 use Rattle.uv_text.specs.Class.{HoldsOpaqueHostBytes, HoldsUrlBytes, in_class, is_wide, within}
 use Rattle.uv_text.specs.declared.class.TheConstants.{OPAQUE_HOST_RANGES, URL_RANGES}

@@ -5,13 +5,13 @@ use Rattle.std.proofs.lemmas.Bool.{cases_Bool, false≢true}
 use Rattle.std.proofs.lemmas.Option.{none-some}
 use Rattle.uv_model.specs.declared.rule.Rule.{Rule}
 use Rattle.uv_model.specs.declared.rule.Refusal.{Refusal}
-use Rattle.uv_model.specs.Complaint.{Behind}
-use Rattle.uv_model.specs.Refusal.{IsLeast}
-use Rattle.uv_model.specs.Rule.{rule_number}
-use Rattle.uv_model.specs.UnitComplaint.{UnitComplaint, unit_rule}
+use Rattle.uv_model.specs.Complaints.Complaint.{Behind}
+use Rattle.uv_model.specs.Complaints.Refusal.{IsLeast}
+use Rattle.uv_model.specs.Complaints.Rule.{rule_number}
+use Rattle.uv_model.specs.Complaints.UnitComplaint.{UnitComplaint, unit_rule}
 use Rattle.uv_model.specs.Units.{IsUnits, is_unit_at}
-use Rattle.uv_model.proofs.RefusalLemmas.{IsLeast-like}
-use Rattle.uv_model.proofs.UnitComplaintLemmas.{UnitComplaint-earlier, UnitComplaint-here, UnitComplaint-later, UnitComplaint-nil, UnitComplaint-said, no_complaint-units, units_uncomplained}
+use Rattle.uv_model.proofs.Complaints.RefusalLemmas.{IsLeast-like}
+use Rattle.uv_model.proofs.Complaints.UnitComplaintLemmas.{UnitComplaint-earlier, UnitComplaint-here, UnitComplaint-later, UnitComplaint-nil, UnitComplaint-said, no_complaint-units, units_uncomplained}
 use Rattle.uv_text.specs.Faults.{fault_from, violated}
 
 -- the faults of a text whose first code point stands at the place

@@ -10,8 +10,8 @@ use Rattle.std.proofs.lemmas.List.Folds.{list_all-append}
 use Rattle.std.proofs.lemmas.List.Sums.{prefix_len-le-length}
 use Rattle.uv_model.specs.Ascii.{number_sign, percent_sign, question_mark}
 use Rattle.uv_model.specs.Units.{is_unit_at, is_url_code_point, starts_with_two_hex}
-use Rattle.uv_model.proofs.MarkLemmas.{is_without-append}
-use Rattle.uv_model.proofs.UnitsLemmas.{IsUnits-nil, IsUnits-unit, is_faultless-append, is_faultless-units}
+use Rattle.uv_model.proofs.Texts.MarkLemmas.{is_without-append}
+use Rattle.uv_model.proofs.Texts.UnitsLemmas.{IsUnits-nil, IsUnits-unit, is_faultless-append, is_faultless-units}
 use Rattle.uv_text.specs.Fronts.{AreAsciiUnits, HasUnitFront}
 use Rattle.uv_text.specs.Lanes.{is_passed}
 use Rattle.uv_text.proofs.LackLemmas.{take-whole}

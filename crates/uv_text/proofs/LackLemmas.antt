@@ -9,7 +9,7 @@ use Rattle.std.proofs.lemmas.Str.{chars-encodes, encode_ascii}
 use Rattle.std.proofs.Math.Utf8.{encodes, encode}
 use lib.Lanes.{mask_l, top, zip2}
 use Rattle.uv_model.specs.Path.{is_without}
-use Rattle.uv_model.proofs.MarkLemmas.{is_without-cons}
+use Rattle.uv_model.proofs.Texts.MarkLemmas.{is_without-cons}
 
 module _ (mark : ℕ) where
   both : (c : ℕ) (rest : List ℕ) → (c == mark) ≡ false → is_without mark rest ≡ true → is_without mark (c ∷ rest) ≡ true

@@ -2,7 +2,7 @@
 use Rattle.std.specs.Prelude.{◌≡◌, ℕ, List, Bool, not, ◌&&◌, ◌||◌, length, nat_le, nat_lt}
 use Rattle.std.specs.Char.{is_ascii}
 use Rattle.std.specs.List.{list_any}
-use Rattle.uv_model.specs.OpaqueHost.{is_forbidden_host}
+use Rattle.uv_model.specs.Hosts.OpaqueHost.{is_forbidden_host}
 use Rattle.uv_model.specs.Units.{is_url_code_point}
 
 -- the byte is in the range, from its first byte to its last

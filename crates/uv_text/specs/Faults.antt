@@ -2,7 +2,7 @@
 use Rattle.std.specs.Prelude.{◌≡◌, ◌+◌, length, ℕ, suc, List, [], ◌∷◌, Option, Some, None, if◌then◌else◌}
 use Rattle.uv_model.specs.declared.rule.Rule.{Rule}
 use Rattle.uv_model.specs.declared.rule.Refusal.{Refusal}
-use Rattle.uv_model.specs.UnitComplaint.{unit_rule}
+use Rattle.uv_model.specs.Complaints.UnitComplaint.{unit_rule}
 use Rattle.uv_model.specs.Units.{is_unit_at}
 
 -- the rule that a code point violates before what follows it, or none

@@ -1,8 +1,8 @@
 //! The first fault of a text that should be URL units.
 ghost use Rattle.std.specs.Prelude.{◌≡◌, ◌↔◌, IsNone, length};
 ghost use Rattle.std.specs.Str.{chars};
-ghost use Rattle.uv_model.specs.Refusal.{IsLeast};
-ghost use Rattle.uv_model.specs.UnitComplaint.{UnitComplaint};
+ghost use Rattle.uv_model.specs.Complaints.Refusal.{IsLeast};
+ghost use Rattle.uv_model.specs.Complaints.UnitComplaint.{UnitComplaint};
 ghost use Rattle.uv_model.specs.Units.{IsUnits, starts_with_two_hex};
 ghost use Rattle.uv_text.specs.Faults.{PassesFront, violated};
 

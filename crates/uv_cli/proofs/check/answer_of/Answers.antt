@@ -1,5 +1,5 @@
 -- What a valid text denotes is well formed.
-use Rattle.uv_model.proofs.DenotedRecords.{denoted_records_are_well_formed}
+use Rattle.uv_model.proofs.Records.DenotedRecords.{denoted_records_are_well_formed}
 use Rattle.uv_cli.proofs.check.answer_of.Goals as goal
 
 pub denoted-requires-clause-well_formed : goal.denoted-requires-clause-well_formed

@@ -5,9 +5,9 @@ use Rattle.std.specs.Option.{option_copied}
 use Rattle.std.specs.Str.{chars}
 use Rattle.uv_model.specs.declared.scheme.Class.{Class}
 use Rattle.uv_model.specs.declared.scheme.Class.TheVariants.{Other}
-use Rattle.uv_model.specs.Denote.{denoted_scheme}
+use Rattle.uv_model.specs.Records.Denote.{denoted_scheme}
 use Rattle.uv_model.specs.Scheme.{scheme_class, default_port}
-use Rattle.uv_model.specs.Url.{Url}
+use Rattle.uv_model.specs.Records.Url.{Url}
 use Rattle.std.proofs.lemmas.Str.{chars-IsAscii}
 use Rattle.uv_cli.proofs.resolver.base_kind.Goals as goal
 

@@ -2,7 +2,7 @@
 use Rattle.std.proofs.Common.{false, sym, ap, ◌∙◌, subst}
 use Rattle.std.specs.Prelude.{option_map}
 use Rattle.uv_model.specs.Encoding.{encoded}
-use Rattle.uv_model.specs.WellFormed.{WellFormed}
+use Rattle.uv_model.specs.Records.WellFormed.{WellFormed}
 use Rattle.uv_cli.proofs.ResolverLemmas.{denote-fields}
 use Rattle.uv_cli.proofs.resolver.denoted.Goals as goal
 

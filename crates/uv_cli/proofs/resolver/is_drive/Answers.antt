@@ -3,7 +3,7 @@ use Rattle.std.proofs.Common.{◌≡◌, ℕ, List, [], ◌∷◌, true, sym, ap
 use Rattle.std.specs.Str.{IsAscii}
 use Rattle.std.proofs.lemmas.Bool.Decides.{nat_tests}
 use Rattle.uv_model.specs.Path.{is_drive_letter}
-use Rattle.uv_model.proofs.AsciiLemmas.{IsAscii-from_test}
+use Rattle.uv_model.proofs.Texts.AsciiLemmas.{IsAscii-from_test}
 use Rattle.uv_grammar.proofs.TestLemmas.{ascii_test}
 use Rattle.uv_cli.proofs.resolver.is_drive.Goals as goal
 

@@ -2,7 +2,7 @@
 use Rattle.std.proofs.Common.{◌≡◌, sym, ap, ◌∙◌, string_bytes}
 use Rattle.std.proofs.lemmas.Result.{IfOk-weaker}
 use Rattle.uv_model.specs.Scheme.{lowercase}
-use Rattle.uv_model.proofs.AsciiLemmas.{chars-from_IsAscii}
+use Rattle.uv_model.proofs.Texts.AsciiLemmas.{chars-from_IsAscii}
 use Rattle.uv_cli.proofs.resolver.lowered.Goals as goal
 
 pub returns : goal.returns

@@ -3,7 +3,7 @@ use Rattle.std.proofs.Common.{arith}
 use Rattle.std.specs.Prelude.{option_copied}
 use Rattle.std.specs.Str.{chars}
 use Rattle.std.proofs.lemmas.Result.{IfOk-weaker}
-use Rattle.uv_model.proofs.RefusedLemmas.{refused_at_start}
+use Rattle.uv_model.proofs.Complaints.RefusedLemmas.{refused_at_start}
 use Rattle.uv_grammar.specs.Verdict.{IsCutVerdict, IsVerdict}
 use Rattle.uv_grammar.proofs.VerdictLemmas.{countable, refused, verdict_of_cut}
 use Rattle.uv_grammar.proofs.checker.check_by_parts.Goals as goal

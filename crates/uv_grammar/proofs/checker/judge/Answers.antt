@@ -1,6 +1,6 @@
 -- A refused host refuses the text.
 use Rattle.std.specs.Prelude.{option_copied}
-use Rattle.uv_model.proofs.RefusedLemmas.{host_refuses}
+use Rattle.uv_model.proofs.Complaints.RefusedLemmas.{host_refuses}
 use Rattle.uv_grammar.proofs.checker.judge.Goals as goal
 
 pub returns-in-Refused : goal.returns-in-Refused

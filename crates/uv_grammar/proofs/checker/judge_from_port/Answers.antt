@@ -1,7 +1,7 @@
 -- The verdict behind a valid host.
 use Rattle.std.proofs.Common.{Some}
 use Rattle.std.specs.Prelude.{option_copied}
-use Rattle.uv_model.proofs.RefusedLemmas.{host_passes, port_passes, port_refuses}
+use Rattle.uv_model.proofs.Complaints.RefusedLemmas.{host_passes, port_passes, port_refuses}
 use Rattle.uv_grammar.proofs.checker.judge_from_port.Goals as goal
 
 pub returns-in-Refused : goal.returns-in-Refused

@@ -1,10 +1,10 @@
 -- The least refusal of the path, or of what follows it.
 use Rattle.std.proofs.Common.{ℕ, List, Some, None, ap, subst}
-use Rattle.uv_model.specs.Complaint.{Behind}
+use Rattle.uv_model.specs.Complaints.Complaint.{Behind}
 use Rattle.uv_model.specs.Cut.{Cut, path_place}
-use Rattle.uv_model.specs.Refusal.{IsLeast}
-use Rattle.uv_model.specs.UnitComplaint.{UnitComplaint}
-use Rattle.uv_model.proofs.RefusedLemmas.{path_passes, path_refuses}
+use Rattle.uv_model.specs.Complaints.Refusal.{IsLeast}
+use Rattle.uv_model.specs.Complaints.UnitComplaint.{UnitComplaint}
+use Rattle.uv_model.proofs.Complaints.RefusedLemmas.{path_passes, path_refuses}
 use Rattle.uv_grammar.proofs.faults.fault_from_path.Goals as goal
 
 pub returns-in-Some : goal.returns-in-Some

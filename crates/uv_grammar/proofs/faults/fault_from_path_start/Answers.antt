@@ -1,6 +1,6 @@
 -- The least refusal of the path's start, or of what follows it.
 use Rattle.std.proofs.Common.{None, Some}
-use Rattle.uv_model.proofs.RefusedLemmas.{least_of_path_start, path_start_passes, path_start_refuses}
+use Rattle.uv_model.proofs.Complaints.RefusedLemmas.{least_of_path_start, path_start_passes, path_start_refuses}
 use Rattle.std.specs.Prelude.{option_copied}
 use Rattle.uv_grammar.proofs.faults.fault_from_path_start.Goals as goal
 

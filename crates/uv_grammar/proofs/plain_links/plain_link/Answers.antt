@@ -2,7 +2,7 @@
 use Rattle.std.proofs.Common.{ℕ, List, refl, subst, sym, ◌∙◌}
 use Rattle.std.specs.Str.{chars}
 use Rattle.uv_model.specs.Ascii.{number_sign}
-use Rattle.uv_model.proofs.DomainLemmas.{IsAscii-form}
+use Rattle.uv_model.proofs.Hosts.DomainLemmas.{IsAscii-form}
 use Rattle.uv_grammar.specs.PlainLinks.{IsPartCut}
 use Rattle.uv_grammar.specs.Seen.{seen, seen_option}
 use Rattle.uv_grammar.proofs.HostLemmas.{no_chars}

@@ -3,9 +3,9 @@ use Rattle.std.proofs.Common.{◌≡◌, ℕ, [], ◌∷◌, ◌∙◌, arith}
 use Rattle.std.specs.declared.net.ipv4_addr.Ipv4Addr.{Ipv4Addr}
 use Rattle.std.specs.Net.Addr.{ipv4_octets, ipv4_bits}
 use Rattle.std.proofs.lemmas.Str.{chars-IsAscii}
-use Rattle.uv_model.specs.Address.{address_of}
-use Rattle.uv_model.proofs.AddressLemmas.{dotted_from_numbers, numbers_from_dotted, numbers_ascii}
-use Rattle.uv_model.proofs.AsciiLemmas.{chars-from_IsAscii}
+use Rattle.uv_model.specs.Hosts.Address.{address_of}
+use Rattle.uv_model.proofs.Addresses.AddressLemmas.{dotted_from_numbers, numbers_from_dotted, numbers_ascii}
+use Rattle.uv_model.proofs.Texts.AsciiLemmas.{chars-from_IsAscii}
 use Rattle.uv_host.proofs.addresses.ipv4.Goals as goal
 
 bits_of : (address : Ipv4Addr) (a b c d : ℕ) → ipv4_octets address ≡ a ∷ b ∷ c ∷ d ∷ []

@@ -1,7 +1,7 @@
 -- What the reader of the standard library answers is what an IPv6 text denotes, on code points.
 use Rattle.std.proofs.lemmas.Str.{chars-IsAscii}
-use Rattle.uv_model.proofs.AddressLemmas.{colon_hex_from_ipv6, ipv6_from_colon_hex, ipv6_ascii}
-use Rattle.uv_model.proofs.AsciiLemmas.{chars-from_IsAscii}
+use Rattle.uv_model.proofs.Addresses.AddressLemmas.{colon_hex_from_ipv6, ipv6_from_colon_hex, ipv6_ascii}
+use Rattle.uv_model.proofs.Texts.AsciiLemmas.{chars-from_IsAscii}
 use Rattle.uv_host.proofs.addresses.ipv6.Goals as goal
 
 pub returns-in-Ok : goal.returns-in-Ok

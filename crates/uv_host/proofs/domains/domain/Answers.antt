@@ -2,8 +2,8 @@
 use Rattle.std.proofs.Common.{chars, sym, ◌∙◌}
 use Rattle.std.proofs.lemmas.Bool.{false≢true}
 use Rattle.std.specs.Cow.{cow_str_bytes}
-use Rattle.uv_model.specs.Domain.{IsForm}
-use Rattle.uv_model.proofs.DomainLemmas.{IsAscii-form}
+use Rattle.uv_model.specs.Hosts.Domain.{IsForm}
+use Rattle.uv_model.proofs.Hosts.DomainLemmas.{IsAscii-form}
 use Rattle.uv_host.proofs.PlainLemmas.{permitted_plain}
 use Rattle.uv_host.proofs.domains.domain.Goals as goal
 

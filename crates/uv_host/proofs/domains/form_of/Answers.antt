@@ -4,8 +4,8 @@ use Rattle.std.specs.Cow.{cow_str_bytes}
 use Rattle.std.proofs.lemmas.Bool.{false≢true}
 use Rattle.idna.specs.declared.deny_list.TheConstants.AsciiDenyList.{EMPTY}
 use Rattle.idna.specs.Uts46.{domain_to_ascii}
-use Rattle.uv_model.specs.Domain.{has_lengths, strict_form}
-use Rattle.uv_model.proofs.DomainLemmas.{IsForm-from, not_strict, no_lengths, not_parsed, other_parsed}
+use Rattle.uv_model.specs.Hosts.Domain.{has_lengths, strict_form}
+use Rattle.uv_model.proofs.Hosts.DomainLemmas.{IsForm-from, not_strict, no_lengths, not_parsed, other_parsed}
 use Rattle.uv_host.proofs.domains.form_of.Goals as goal
 
 pub returns-in_default : goal.returns-in_default

@@ -1,7 +1,7 @@
 -- The number rule of an ASCII text, whose bytes are its code points.
 use Rattle.std.proofs.Common.{ap, ◌∙◌}
 use Rattle.std.proofs.lemmas.Str.{chars-IsAscii}
-use Rattle.uv_model.specs.Domain.{ends_in_number}
+use Rattle.uv_model.specs.Hosts.Domain.{ends_in_number}
 use Rattle.uv_host.proofs.domains.is_number.Goals as goal
 
 pub returns : goal.returns

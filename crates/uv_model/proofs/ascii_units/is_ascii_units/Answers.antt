@@ -1,6 +1,6 @@
 -- An ASCII text without a fault is ASCII URL units, and the other way round.
 use Rattle.std.proofs.Common.{sym, ◌∙◌}
-use Rattle.uv_model.proofs.UnitsLemmas.{IsUnits-faultless, is_faultless-units}
+use Rattle.uv_model.proofs.Texts.UnitsLemmas.{IsUnits-faultless, is_faultless-units}
 use Rattle.uv_model.proofs.ascii_units.is_ascii_units.Goals as goal
 
 pub returns : goal.returns

@@ -1,8 +1,8 @@
 -- The number rule of a text by its bytes.
 use Rattle.std.proofs.Common.{chars, ap, sym, ◌∙◌}
 use Rattle.std.proofs.lemmas.Str.{encodes-chars}
-use Rattle.uv_model.specs.Domain.{ends_in_number}
-use Rattle.uv_model.proofs.LastLabelLemmas.{ends_in_number-encoded}
+use Rattle.uv_model.specs.Hosts.Domain.{ends_in_number}
+use Rattle.uv_model.proofs.Hosts.LastLabelLemmas.{ends_in_number-encoded}
 use Rattle.uv_model.proofs.domain.ends_in_number.Goals as goal
 
 pub returns : goal.returns

@@ -1,5 +1,5 @@
 -- The law form by form.
-use Rattle.uv_model.proofs.DenotedRecords as forms
+use Rattle.uv_model.proofs.Records.DenotedRecords as forms
 use Rattle.uv_model.proofs.laws.denoted_records_are_well_formed.Goals as goal
 
 pub returns : goal.returns

@@ -1,7 +1,7 @@
 -- A domain isn't empty and doesn't end in a number.
 use Rattle.std.proofs.Common.{◌≡◌, ◌==◌, false, length}
 use Rattle.std.proofs.lemmas.Bool.{false≢true}
-use Rattle.uv_model.proofs.AsciiLemmas.{first_of}
+use Rattle.uv_model.proofs.Texts.AsciiLemmas.{first_of}
 use Rattle.uv_model.proofs.url_hosts.is_url_domain.Goals as goal
 
 pub returns-then-ends_in_number : goal.returns-then-ends_in_number

@@ -1,7 +1,7 @@
 -- An opaque host isn't empty.
 use Rattle.std.proofs.Common.{◌≡◌, ◌==◌, false, length}
-use Rattle.uv_model.specs.WellFormed.{IsAsciiUnits}
-use Rattle.uv_model.proofs.AsciiLemmas.{first_of}
+use Rattle.uv_model.specs.Records.WellFormed.{IsAsciiUnits}
+use Rattle.uv_model.proofs.Texts.AsciiLemmas.{first_of}
 use Rattle.uv_model.proofs.url_hosts.is_url_opaque_host.Goals as goal
 
 pub returns : goal.returns

@@ -1,6 +1,6 @@
 -- What is left of the list is segments exactly where the list is.
 use Rattle.std.proofs.Common.{length}
-use Rattle.uv_model.specs.WellFormed.{AreUrlSegments}
+use Rattle.uv_model.specs.Records.WellFormed.{AreUrlSegments}
 use Rattle.uv_model.proofs.url_paths.are_url_segments.Given as goal
 
 abbrev pub invariant-loop-left : goal.invariant-loop-left

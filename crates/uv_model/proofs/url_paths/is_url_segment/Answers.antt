@@ -2,7 +2,7 @@
 use Rattle.std.proofs.Common.{◌≡◌, true}
 use Rattle.std.proofs.lemmas.Bool.{false≢true, not-true, not_from_false}
 use Rattle.uv_model.specs.Path.{IsSegment}
-use Rattle.uv_model.specs.WellFormed.{is_ascii_text}
+use Rattle.uv_model.specs.Records.WellFormed.{is_ascii_text}
 use Rattle.uv_model.proofs.url_paths.is_url_segment.Goals as goal
 
 pub returns-then-is_single_dot : goal.returns-then-is_single_dot

@@ -3,8 +3,8 @@ use Rattle.std.proofs.Common.{◌≡◌, ◌↔◌, ◌∷◌, ◌+◌, ◌-◌,
 use Rattle.std.specs.Prelude.{IsNone}
 use Rattle.std.specs.Str.{chars}
 use Rattle.uv_model.specs.declared.rule.Refusal.{Refusal}
-use Rattle.uv_model.specs.Refusal.{IsLeast}
-use Rattle.uv_model.specs.UnitComplaint.{UnitComplaint}
+use Rattle.uv_model.specs.Complaints.Refusal.{IsLeast}
+use Rattle.uv_model.specs.Complaints.UnitComplaint.{UnitComplaint}
 use Rattle.uv_model.specs.Units.{IsUnits}
 use Rattle.uv_text.specs.Faults.{PassesFront, fault_from, violated}
 use Rattle.uv_text.proofs.FaultsLemmas.{fault_from-found, fault_from-passed, least_fault, none_in_units}

@@ -7,7 +7,7 @@ use Rattle.uv_model.specs.declared.rule.Rule.{Rule}
 use Rattle.uv_model.specs.declared.rule.Rule.TheVariants.{CodePoint, Percent}
 use Rattle.uv_model.specs.Ascii.{percent_sign}
 use Rattle.uv_model.specs.Units.{is_unit_at, is_url_code_point, starts_with_two_hex}
-use Rattle.uv_model.proofs.UnitsLemmas.{starts_with_two_hex-chars}
+use Rattle.uv_model.proofs.Texts.UnitsLemmas.{starts_with_two_hex-chars}
 use Rattle.uv_text.specs.Faults.{violated}
 use Rattle.uv_text.proofs.faults.unit_fault.Goals as goal
 

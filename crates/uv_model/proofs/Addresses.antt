@@ -1,0 +1,4 @@
+-- Lemmas on the texts of addresses: the library's grammar, one value to a text, what is written is read back.
+pub mod AddressLemmas
+pub mod AddressUniqueness
+pub mod AddressesReadBack

@@ -1,0 +1,218 @@
+-- Authorities: the host, the port and the path that stand behind `//` in a valid text make a well-formed record.
+use Rattle.std.proofs.Common.{◌≡◌, ℕ, true, false, List, [], ◌∷◌, Option, Some, None, refl, sym, subst, inl, inr}
+use Rattle.std.specs.Str.Parse.{digits_value}
+use Rattle.std.proofs.lemmas.Bool.{cases_Bool}
+use Rattle.uv_model.specs.declared.scheme.Class.{Class}
+use Rattle.uv_model.specs.declared.scheme.Class.TheVariants.{Special, File, Other}
+use Rattle.uv_model.specs.declared.host.Host.{Host}
+use Rattle.uv_model.specs.declared.host.Host.TheVariants.{Domain, V4, V6, Opaque, Empty}
+use Rattle.uv_model.specs.declared.path.UrlPath.TheVariants.{Segments}
+use Rattle.uv_model.specs.Records.Denote.{authority_host, authority_path}
+use Rattle.uv_model.specs.Encoding.{encoded}
+use Rattle.uv_model.specs.Parts.{Parts}
+use Rattle.uv_model.specs.Path.{AreSegments, JoinsTo, walk}
+use Rattle.uv_model.specs.Scheme.{default_port, scheme_class}
+use Rattle.uv_model.specs.Valid.{FitsAuthority, IsFileHostText, IsHostText, IsOpaqueHostText, MayBePathAbsolute, is_default_port, port_given}
+use Rattle.uv_model.specs.Records.WellFormed.{AreUrlSegments, IsUrlHost, IsUrlPath, IsUrlPort, takes_port}
+use Rattle.uv_model.proofs.Paths.WalkLemmas.{AreUrlSegments-walk, HasSegment, HasSegment-walk}
+use Rattle.uv_model.proofs.Records.WellFormedLemmas.{IsUrlDomain-form, IsUrlOpaqueHost-encoded, IsUrlSegment-nil}
+
+-- ---- ports
+
+-- the port that a text gives behind a host
+pub IsUrlPort-given : (scheme : List ℕ) (host : Option Host) (port_text : Option (List ℕ))
+    → takes_port (scheme_class scheme) host ≡ true → IsUrlPort scheme host (port_given scheme port_text)
+IsUrlPort-given scheme host None takes = tt
+IsUrlPort-given scheme host (Some []) takes = tt
+IsUrlPort-given scheme host (Some (digit ∷ rest)) takes =
+    elim (cases_Bool (is_default_port scheme (digits_value 10 (digit ∷ rest)))) [
+      | inl default ↦ rw default tt
+      | inr other ↦ rw other (takes, other)
+    ]
+
+-- schemes of one default port give one port
+pub port_given-same : (scheme other : List ℕ) (port_text : Option (List ℕ)) → default_port scheme ≡ default_port other
+    → port_given scheme port_text ≡ port_given other port_text
+port_given-same scheme other None e = refl
+port_given-same scheme other (Some []) e = refl
+port_given-same scheme other (Some (digit ∷ rest)) e = rw e refl
+
+-- ---- paths
+
+-- a path with a segment
+pub IsUrlPath-some : (kind : Class) (host : Option Host) (list : List (List ℕ)) → HasSegment list → AreUrlSegments list
+    → IsUrlPath kind host (Segments list)
+IsUrlPath-some kind host [] has are = absurd cc
+IsUrlPath-some kind host (segment ∷ rest) has are = are
+
+-- the path that a walk over a segment or more leaves
+pub IsUrlPath-walk : (kind : Class) (host : Option Host) (start : List (List ℕ)) (segment : List ℕ)
+    → (rest : List (List ℕ))
+    → AreUrlSegments start → AreSegments (segment ∷ rest)
+    → IsUrlPath kind host (Segments (walk kind start (segment ∷ rest)))
+IsUrlPath-walk kind host start segment rest are each =
+    IsUrlPath-some kind host (walk kind start (segment ∷ rest)) (HasSegment-walk kind start segment rest)
+    (AreUrlSegments-walk kind start (segment ∷ rest) are each)
+
+-- the path that a walk over joined segments leaves
+pub IsUrlPath-joined : (kind : Class) (host : Option Host) (start segments : List (List ℕ)) (text : List ℕ)
+    → AreUrlSegments start → JoinsTo segments text → IsUrlPath kind host (Segments (walk kind start segments))
+IsUrlPath-joined kind host start [] text are joins = absurd (nothing joins.first joins.others joins.some)
+  where
+    nothing : (first : List ℕ) (others : List (List ℕ)) → [] ≡ first ∷ others → ⊥
+    nothing first others e = cc
+IsUrlPath-joined kind host start (segment ∷ rest) text are joins =
+    IsUrlPath-walk kind host start segment rest are joins.each
+
+-- the path behind a host
+pub IsUrlPath-authority : (kind : Class) (host : Host) (segments : List (List ℕ)) → AreSegments segments
+    → IsUrlPath kind (Some host) (Segments (authority_path kind segments))
+IsUrlPath-authority Special host [] each = (IsUrlSegment-nil, tt)
+IsUrlPath-authority File host [] each = (IsUrlSegment-nil, tt)
+IsUrlPath-authority Other host [] each = refl
+IsUrlPath-authority Special host (segment ∷ rest) each = IsUrlPath-walk Special (Some host) [] segment rest tt each
+IsUrlPath-authority File host (segment ∷ rest) each = IsUrlPath-walk File (Some host) [] segment rest tt each
+IsUrlPath-authority Other host (segment ∷ rest) each = IsUrlPath-walk Other (Some host) [] segment rest tt each
+
+-- the segments of a path-absolute string, where there is one
+pub AreSegments-maybe : (segments : List (List ℕ)) (text : List ℕ) → MayBePathAbsolute segments text
+    → AreSegments segments
+AreSegments-maybe segments text (inl none) = rw none.1 tt
+AreSegments-maybe segments text (inr path) = path.relative.joins.each
+
+-- ---- hosts
+
+-- the host of a text of class Special
+IsUrlHost-special : (text : List ℕ) (value : Host) → IsHostText text value → IsUrlHost Special (Some value)
+IsUrlHost-special text (Domain form) is = IsUrlDomain-form text form is
+IsUrlHost-special text (V4 value) is = tt
+IsUrlHost-special text (V6 pieces) is = tt
+IsUrlHost-special text (Opaque host) is = is
+IsUrlHost-special text Empty is = is
+
+-- it takes a port
+takes_port-special : (text : List ℕ) (value : Host) → IsHostText text value → takes_port Special (Some value) ≡ true
+takes_port-special text (Domain form) is = refl
+takes_port-special text (V4 value) is = refl
+takes_port-special text (V6 pieces) is = refl
+takes_port-special text (Opaque host) is = absurd is
+takes_port-special text Empty is = absurd is
+
+-- the host of a file text
+IsUrlHost-file : (text : List ℕ) (value : Host) → IsFileHostText text value → IsUrlHost File (Some value)
+IsUrlHost-file text (Domain form) is = (IsUrlDomain-form text form is.0, is.1)
+IsUrlHost-file text (V4 value) is = tt
+IsUrlHost-file text (V6 pieces) is = tt
+IsUrlHost-file text (Opaque host) is = is
+IsUrlHost-file text Empty is = tt
+
+-- ---- authorities
+
+-- what an authority gives a record
+pub record IsAuthority (kind : Class) (scheme : List ℕ) (parts : Parts) : Type 0 where
+  pub value : Host
+  pub valued : authority_host parts ≡ Some value
+  pub host : IsUrlHost kind (Some value)
+  pub port : IsUrlPort scheme (Some value) parts.port
+  pub each : AreSegments parts.segments
+
+-- a host with a value is that of the record
+authority_host-valued : (parts : Parts) (value : Host) → parts.host ≡ Some value → authority_host parts ≡ Some value
+authority_host-valued parts value e = rw e refl
+
+-- a host text without a value is an opaque host
+authority_host-opaque : (parts : Parts) (text : List ℕ) → parts.host ≡ None → parts.host_text ≡ Some text
+    → authority_host parts ≡ Some (Opaque (encoded false text))
+authority_host-opaque parts text e spelled = rw (e, spelled) refl
+
+-- class Special
+IsAuthority-special : (scheme text : List ℕ) (parts : Parts) → scheme_class scheme ≡ Special
+    → FitsAuthority Special scheme text parts → IsAuthority Special scheme parts
+IsAuthority-special scheme text parts kind fits =
+    let takes : takes_port (scheme_class scheme) (Some fits.value) ≡ true
+    = rw kind (takes_port-special text fits.value fits.host)
+    in
+    record {
+      value = fits.value;
+      valued = authority_host-valued parts fits.value fits.valued;
+      host = IsUrlHost-special text fits.value fits.host;
+      port = rw fits.port (IsUrlPort-given scheme (Some fits.value) parts.port_text takes);
+      each = AreSegments-maybe parts.segments parts.path_text fits.path;
+    }
+
+-- class File
+IsAuthority-file : (scheme text : List ℕ) (parts : Parts) → FitsAuthority File scheme text parts
+    → IsAuthority File scheme parts
+IsAuthority-file scheme text parts (port_text, port, fits) =
+    elim fits [
+      | inl named ↦ record {
+        value = named.0;
+        valued = authority_host-valued parts named.0 named.2;
+        host = IsUrlHost-file text named.0 named.1;
+        port = rw port tt;
+        each = AreSegments-maybe parts.segments parts.path_text named.3;
+      }
+      | inr empty ↦ record {
+        value = Empty;
+        valued = authority_host-valued parts Empty empty.1;
+        host = tt;
+        port = rw port tt;
+        each = empty.2.relative.joins.each;
+      }
+    ]
+
+-- the host of class Other, of which an IPv6 address alone has a value
+record IsOtherValue (parts : Parts) : Type 0 where
+  value : Host
+  valued : authority_host parts ≡ Some value
+  host : IsUrlHost Other (Some value)
+  takes : takes_port Other (Some value) ≡ true
+
+IsOtherValue-text : (text : List ℕ) (parts : Parts) (host : Option Host) → parts.host ≡ host
+    → parts.host_text ≡ Some text
+    → IsOpaqueHostText text host → IsOtherValue parts
+IsOtherValue-text text parts (Some (V6 pieces)) e spelled is =
+    record { value = V6 pieces; valued = authority_host-valued parts (V6 pieces) e; host = tt; takes = refl }
+IsOtherValue-text text parts (Some (Domain form)) e spelled is = absurd is
+IsOtherValue-text text parts (Some (V4 value)) e spelled is = absurd is
+IsOtherValue-text text parts (Some (Opaque host)) e spelled is = absurd is
+IsOtherValue-text text parts (Some Empty) e spelled is = absurd is
+IsOtherValue-text text parts None e spelled is =
+    record {
+      value = Opaque (encoded false text);
+      valued = authority_host-opaque parts text e spelled;
+      host = IsUrlOpaqueHost-encoded text is;
+      takes = refl;
+    }
+
+-- class Other
+IsAuthority-other : (scheme text : List ℕ) (parts : Parts) → scheme_class scheme ≡ Other → parts.host_text ≡ Some text
+    → FitsAuthority Other scheme text parts → IsAuthority Other scheme parts
+IsAuthority-other scheme text parts kind spelled (host, port, path) =
+    let each = AreSegments-maybe parts.segments parts.path_text path in
+    elim host [
+      | inl named ↦ let other = IsOtherValue-text text parts parts.host refl spelled named.0 in
+          let takes : takes_port (scheme_class scheme) (Some other.value) ≡ true = rw kind other.takes in
+          record {
+            value = other.value;
+            valued = other.valued;
+            host = other.host;
+            port = subst (λ (p : Option ℕ). IsUrlPort scheme (Some other.value) p) (sym port)
+                (IsUrlPort-given scheme (Some other.value) parts.port_text takes);
+            each = each;
+          }
+      | inr empty ↦ record {
+        value = Empty;
+        valued = authority_host-valued parts Empty empty.1;
+        host = tt;
+        port = rw (port, empty.2) tt;
+        each = each;
+      }
+    ]
+
+-- what stands behind `//` makes a well-formed record
+pub IsAuthority-fits : (kind : Class) (scheme text : List ℕ) (parts : Parts) → scheme_class scheme ≡ kind
+    → parts.host_text ≡ Some text → FitsAuthority kind scheme text parts → IsAuthority kind scheme parts
+IsAuthority-fits Special scheme text parts same spelled fits = IsAuthority-special scheme text parts same fits
+IsAuthority-fits File scheme text parts same spelled fits = IsAuthority-file scheme text parts fits
+IsAuthority-fits Other scheme text parts same spelled fits = IsAuthority-other scheme text parts same spelled fits

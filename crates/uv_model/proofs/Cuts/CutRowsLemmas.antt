@@ -1,0 +1,275 @@
+-- The rows of cuts and of complaints, by computation.
+use Rattle.std.proofs.Common.{ℕ, List, [], Option, None, codes, refl, inl, inr, arith, lit<, subst}
+use Rattle.std.specs.Prelude.{IsSome}
+use Rattle.std.proofs.lemmas.Bool.{false≢true}
+use Rattle.uv_model.specs.declared.rule.Rule.TheVariants.{NoScheme, OpaqueBase, TwoSlashes, HostMissing, HostCodePoint, PortDigit, PortRange, FirstSegmentEmpty, DriveAfterHost, CodePoint, Percent}
+use Rattle.uv_model.specs.Complaints.Complaint.{Complaint, IsStarted}
+use Rattle.uv_model.specs.Cut.{Cut, cut_of}
+use Rattle.uv_model.specs.Laws.CutRows.{file_base, CutRows, ComplaintRows, CutAndComplaintRows}
+use Rattle.uv_model.specs.Scheme.{scheme_class, default_port}
+use Rattle.uv_model.specs.Units.{is_url_code_point}
+use Rattle.uv_model.specs.Records.Url.{Url}
+
+cut_rows : CutRows
+unfolding cut_of scheme_class default_port
+cut_rows = record {
+  all_parts = refl;
+  opaque_path = refl;
+  first_colon = refl;
+  open_bracket = refl;
+  address = refl;
+  file_authority = refl;
+  no_base = refl;
+  one_slash = refl;
+  nothing = refl;
+}
+
+-- a text with a scheme and an authority violates no rule of the start
+started : (base : Option Url) (text : List ℕ) (cut : Cut) → IsSome cut.scheme → IsSome cut.host_text
+    → IsStarted base text cut
+started base text cut scheme host place NoScheme h =
+    false≢true (subst (λ (o : Option (List ℕ)). IsSome o) h.0 scheme)
+started base text cut scheme host place OpaqueBase h =
+    false≢true (subst (λ (o : Option (List ℕ)). IsSome o) h.0 scheme)
+started base text cut scheme host place TwoSlashes h =
+    false≢true (subst (λ (o : Option (List ℕ)). IsSome o) h.0.2 host)
+started base text cut scheme host place _ h = h
+
+-- a path-absolute reference to the base `file://h/a` violates none either
+file_started : IsStarted file_base (codes "/C:/x") (cut_of file_base (codes "/C:/x"))
+unfolding cut_of scheme_class default_port
+file_started place NoScheme h = absurd cc
+file_started place OpaqueBase h = false≢true h.1
+file_started place TwoSlashes h = false≢true h.0.0
+file_started place _ h = h
+
+special_host_missing_row : Complaint None (codes "http://") 7 HostMissing
+unfolding Complaint cut_of scheme_class default_port
+special_host_missing_row =
+    inr (inl (
+      started None (codes "http://") (cut_of None (codes "http://")) refl refl,
+      inl (record { inner = 0; moved = refl; holds = (refl, refl) }),
+    ))
+
+file_host_missing_row : Complaint None (codes "file://") 7 HostMissing
+unfolding Complaint cut_of scheme_class default_port
+file_host_missing_row =
+    inr (inl (
+      started None (codes "file://") (cut_of None (codes "file://")) refl refl,
+      inl (record { inner = 0; moved = refl; holds = ((refl, refl), refl) }),
+    ))
+
+other_host_missing_row : Complaint None (codes "foo://:80") 6 HostMissing
+unfolding Complaint cut_of scheme_class default_port
+other_host_missing_row =
+    inr (inl (
+      started None (codes "foo://:80") (cut_of None (codes "foo://:80")) refl refl,
+      inl (record { inner = 0; moved = refl; holds = ((refl, refl), refl) }),
+    ))
+
+host_code_point_row : Complaint None (codes "foo://u@h/") 7 HostCodePoint
+unfolding Complaint cut_of scheme_class default_port
+host_code_point_row =
+    inr (inl (
+      started None (codes "foo://u@h/") (cut_of None (codes "foo://u@h/")) refl refl,
+      inl (record {
+        inner = 1;
+        moved = refl;
+        holds =
+            (refl, record { code_point = 64; rest = codes "h"; here = refl; foreign = inl refl });
+      }),
+    ))
+
+host_bracket_row : Complaint None (codes "foo://a[:b/") 7 HostCodePoint
+unfolding Complaint cut_of scheme_class default_port
+host_bracket_row =
+    inr (inl (
+      started None (codes "foo://a[:b/") (cut_of None (codes "foo://a[:b/")) refl refl,
+      inl (record {
+        inner = 1;
+        moved = refl;
+        holds =
+            (refl, record { code_point = 91; rest = codes ":b"; here = refl; foreign = inl refl });
+      }),
+    ))
+
+host_colon_row : Complaint None (codes "foo://a[:b/") 8 HostCodePoint
+unfolding Complaint cut_of scheme_class default_port
+host_colon_row =
+    inr (inl (
+      started None (codes "foo://a[:b/") (cut_of None (codes "foo://a[:b/")) refl refl,
+      inl (record {
+        inner = 2;
+        moved = refl;
+        holds =
+            (refl, record { code_point = 58; rest = codes "b"; here = refl; foreign = inl refl });
+      }),
+    ))
+
+port_digit_row : Complaint None (codes "http://h:8a/") 10 PortDigit
+unfolding Complaint cut_of scheme_class default_port
+port_digit_row =
+    inr (inl (
+      started None (codes "http://h:8a/") (cut_of None (codes "http://h:8a/")) refl refl,
+      inr (inl
+          (record {
+            inner = 1;
+            moved = refl;
+            holds = record { code_point = 97; rest = []; here = refl; foreign = refl };
+          })),
+    ))
+
+port_password_row : Complaint None (codes "http://user:pw@h/") 12 PortDigit
+unfolding Complaint cut_of scheme_class default_port
+port_password_row =
+    inr (inl (
+      started None (codes "http://user:pw@h/") (cut_of None (codes "http://user:pw@h/")) refl refl,
+      inr (inl
+          (record {
+            inner = 0;
+            moved = refl;
+            holds = record { code_point = 112; rest = codes "w@h"; here = refl; foreign = refl };
+          })),
+    ))
+
+port_range_row : Complaint None (codes "http://h:65536/") 9 PortRange
+unfolding Complaint cut_of scheme_class default_port
+port_range_row =
+    inr (inl (
+      started None (codes "http://h:65536/") (cut_of None (codes "http://h:65536/")) refl refl,
+      inr (inl (record { inner = 0; moved = refl; holds = (record { digits = refl; large = lit< tt }, refl) })),
+    ))
+
+first_segment_row : Complaint None (codes "https://example.com//a") 20 FirstSegmentEmpty
+unfolding Complaint cut_of scheme_class default_port
+first_segment_row =
+    inr (inl (
+      started None (codes "https://example.com//a") (cut_of None (codes "https://example.com//a")) refl refl,
+      inr (inr (record { inner = 1; moved = refl; holds = (refl, refl) })),
+    ))
+
+file_first_segment_row : Complaint None (codes "file:////a") 8 FirstSegmentEmpty
+unfolding Complaint cut_of scheme_class default_port
+file_first_segment_row =
+    inr (inl (
+      started None (codes "file:////a") (cut_of None (codes "file:////a")) refl refl,
+      inr (inr (record { inner = 1; moved = refl; holds = (refl, refl) })),
+    ))
+
+drive_row : Complaint None (codes "file://h/C:/x") 8 DriveAfterHost
+unfolding Complaint cut_of scheme_class default_port
+drive_row =
+    inr (inl (
+      started None (codes "file://h/C:/x") (cut_of None (codes "file://h/C:/x")) refl refl,
+      inr (inr (record { inner = 0; moved = refl; holds = (refl, (λ same. cc), refl, refl) })),
+    ))
+
+localhost_drive_row : Complaint None (codes "file://localhost/C:/x") 16 DriveAfterHost
+unfolding Complaint cut_of scheme_class default_port
+localhost_drive_row =
+    inr (inl (
+      started None (codes "file://localhost/C:/x") (cut_of None (codes "file://localhost/C:/x")) refl refl,
+      inr (inr (record { inner = 0; moved = refl; holds = (refl, (λ same. cc), refl, refl) })),
+    ))
+
+base_drive_row : Complaint file_base (codes "/C:/x") 0 DriveAfterHost
+unfolding Complaint cut_of scheme_class default_port
+base_drive_row =
+    inr (inl (
+      file_started,
+      inr (inr (record { inner = 0; moved = refl; holds = (refl, (λ same. cc), refl, refl) })),
+    ))
+
+no_scheme_path_row : Complaint None (codes "//h^/a b") 6 CodePoint
+unfolding Complaint cut_of scheme_class default_port is_url_code_point
+no_scheme_path_row =
+    inr (inr (inl (record {
+      inner = 2;
+      moved = refl;
+      holds =
+          record {
+            code_point = 32;
+            rest = codes "b";
+            here = refl;
+            foreign = refl;
+            no_escape = λ same. omega
+                (arith, same);
+          };
+    })))
+
+path_percent_row : Complaint None (codes "http://h/%4?a") 9 Percent
+unfolding Complaint cut_of scheme_class default_port
+path_percent_row =
+    inr (inr (inl (record {
+      inner = 1;
+      moved = refl;
+      holds = record { rest = codes "4"; here = refl; bare = refl };
+    })))
+
+path_space_row : Complaint None (codes "http://h/a b") 10 CodePoint
+unfolding Complaint cut_of scheme_class default_port is_url_code_point
+path_space_row =
+    inr (inr (inl (record {
+      inner = 2;
+      moved = refl;
+      holds =
+          record {
+            code_point = 32;
+            rest = codes "b";
+            here = refl;
+            foreign = refl;
+            no_escape = λ same. omega
+                (arith, same);
+          };
+    })))
+
+fragment_sign_row : Complaint None (codes "http://h/#a#b") 11 CodePoint
+unfolding Complaint cut_of scheme_class default_port is_url_code_point
+fragment_sign_row =
+    inr (inr (inr (inr (record {
+      inner = 1;
+      moved = refl;
+      holds =
+          record {
+            code_point = 35;
+            rest = codes "b";
+            here = refl;
+            foreign = refl;
+            no_escape = λ same. omega
+                (arith, same);
+          };
+    }))))
+
+complaint_rows : ComplaintRows
+unfolding Complaint cut_of scheme_class default_port
+complaint_rows = record {
+  no_scheme = inl (refl, refl, refl);
+  no_scheme_nothing = inl (refl, refl, refl);
+  no_scheme_path = no_scheme_path_row;
+  more_than_fragment = inl (refl, refl, refl, refl);
+  no_fragment = inl (refl, refl, refl, refl);
+  no_slashes = inl ((refl, (λ same. cc), refl), refl);
+  one_slash = inl ((refl, (λ same. cc), refl), refl);
+  file_one_slash = inl ((refl, (λ same. cc), refl), refl);
+  special_host_missing = special_host_missing_row;
+  file_host_missing = file_host_missing_row;
+  other_host_missing = other_host_missing_row;
+  host_code_point = host_code_point_row;
+  host_bracket = host_bracket_row;
+  host_colon = host_colon_row;
+  port_digit = port_digit_row;
+  port_password = port_password_row;
+  port_range = port_range_row;
+  first_segment = first_segment_row;
+  file_first_segment = file_first_segment_row;
+  drive = drive_row;
+  localhost_drive = localhost_drive_row;
+  base_drive = base_drive_row;
+  path_percent = path_percent_row;
+  path_space = path_space_row;
+  fragment_sign = fragment_sign_row;
+}
+
+-- all rows
+pub cut_and_complaint_rows : CutAndComplaintRows
+cut_and_complaint_rows = record { cuts = cut_rows; complaints = complaint_rows }

@@ -1,0 +1,230 @@
+-- A text with a scheme is judged without looking at the base.
+use Rattle.std.proofs.Common.{◌≡◌, ℕ, true, false, ◌==◌, List, [], ◌∷◌, ◌++◌, Option, Some, None, refl, sym, ap, ◌∙◌, inl, inr, subst, append_assoc}
+use Rattle.std.specs.Prelude.{IsSome}
+use Rattle.std.specs.List.{list_all}
+use Rattle.std.specs.Char.{is_ascii_alphabetic}
+use Rattle.std.proofs.lemmas.Bool.{false≢true, and_parts, and_from}
+use Rattle.uv_model.specs.declared.scheme.Class.{Class}
+use Rattle.uv_model.specs.declared.scheme.Class.TheVariants.{Other}
+use Rattle.uv_model.specs.declared.rule.Rule.{Rule}
+use Rattle.uv_model.specs.declared.rule.Rule.TheVariants.{NoScheme, OpaqueBase, TwoSlashes, FirstSegmentEmpty, DriveAfterHost}
+use Rattle.uv_model.specs.Ascii.{colon, question_mark, number_sign}
+use Rattle.uv_model.specs.Scheme.{is_scheme, is_scheme_code_point, scheme_class}
+use Rattle.uv_model.specs.Path.{is_without}
+use Rattle.uv_model.specs.Records.Url.{Url}
+use Rattle.uv_model.specs.Parts.{Form, SchemeAuthority, SchemePath, SchemeOpaque, Authority, PathAbsolute, PathRelative, NoPath, Parts, has_scheme}
+use Rattle.uv_model.specs.Valid.{Valid, FitsAuthority, FitsHostText, FitsForm, FitsScheme, FitsBase, scheme_in, scheme_or, starts_with_scheme}
+use Rattle.uv_model.specs.Cut.{Cut, cut_of, class_in, scheme_cut, behind_scheme, text_before, text_behind, host_text_cut, port_text_cut, path_text_cut}
+use Rattle.uv_model.specs.Laws.Cuts.{TextsWithASchemeIgnoreTheBase}
+use Rattle.uv_model.specs.Complaints.Complaint.{StartComplaint, PathStartComplaint, HostPartComplaint, JudgedComplaint, HasHost, ComplaintOf, Complaint}
+use Rattle.uv_model.proofs.Texts.MarkLemmas.{is_without-cons, is_without-append, is_without-more, text_before-other}
+use Rattle.uv_model.proofs.Cuts.SchemeCutLemmas.{splits_at_scheme, starts_with_written_scheme}
+use Rattle.uv_model.proofs.Cuts.HostCutLemmas.{is_without-passes}
+use Rattle.uv_model.proofs.Cuts.ValidCutLemmas.{valid_texts}
+use Rattle.uv_model.proofs.Complaints.ComplaintLemmas.{cut_with}
+use Rattle.uv_model.proofs.Complaints.ComplaintsExcludeParts.{class_with_scheme}
+
+-- ---- a text with a scheme has it before its first `?` and `#`
+
+-- what stands before the first mark, of a text that begins with one without it
+text_before-behind : (mark : ℕ) (xs ys : List ℕ) → is_without mark xs ≡ true
+    → text_before mark (xs ++ ys) ≡ xs ++ text_before mark ys
+text_before-behind mark [] ys none = refl
+text_before-behind mark (c ∷ xs) ys none =
+    let parts = is_without-cons mark c xs none in
+    text_before-other mark c (xs ++ ys) parts.0 ∙ ap (λ zs. c ∷ zs) (text_before-behind mark xs ys parts.1)
+
+-- a scheme and `:` hold no mark that isn't one of their code points
+scheme_without : (mark : ℕ) (scheme : List ℕ) → is_scheme_code_point mark ≡ false → is_ascii_alphabetic mark ≡ false
+    → (colon == mark) ≡ false → is_scheme scheme ≡ true → is_without mark (scheme ++ colon ∷ []) ≡ true
+scheme_without mark [] other letter differs is = absurd (false≢true is)
+scheme_without mark (c ∷ rest) other letter differs is =
+    let parts = and_parts (is_ascii_alphabetic c) (list_all is_scheme_code_point rest) is in
+    let first : is_without mark (c ∷ []) ≡ true
+    = is_without-passes is_ascii_alphabetic mark (c ∷ []) letter (and_from _ _ parts.0 refl) in
+    let others = is_without-passes is_scheme_code_point mark rest other parts.1 in
+    is_without-append mark (c ∷ rest) (colon ∷ []) (is_without-append mark (c ∷ []) rest first others)
+    (is_without-more mark colon [] differs refl)
+
+-- so what stands before the first such mark begins with the scheme too
+starts_before : (mark : ℕ) (text : List ℕ) → is_scheme_code_point mark ≡ false → is_ascii_alphabetic mark ≡ false
+    → (colon == mark) ≡ false → starts_with_scheme text ≡ true → starts_with_scheme (text_before mark text) ≡ true
+starts_before mark text other letter differs starts =
+    let split = splits_at_scheme text starts in
+    let none = scheme_without mark split.scheme other letter differs split.is in
+    let whole : text ≡ (split.scheme ++ colon ∷ []) ++ split.rest
+    = split.joined ∙ sym (append_assoc split.scheme (colon ∷ []) split.rest) in
+    let front : text_before mark text ≡ split.scheme ++ colon ∷ text_before mark split.rest
+    = ap (text_before mark) whole ∙ (text_before-behind mark (split.scheme ++ colon ∷ []) split.rest none
+    ∙ append_assoc split.scheme (colon ∷ []) (text_before mark split.rest)) in
+    ap starts_with_scheme front ∙ starts_with_written_scheme split.scheme (text_before mark split.rest) split.is
+
+-- what stands before the query begins with the scheme
+start_with_scheme : (text : List ℕ) → starts_with_scheme text ≡ true
+    → starts_with_scheme (text_before question_mark (text_before number_sign text)) ≡ true
+start_with_scheme text starts =
+    starts_before question_mark (text_before number_sign text) refl refl refl
+    (starts_before number_sign text refl refl refl starts)
+
+-- the cut of such a text has a scheme
+pub cut_with_scheme : (base : Option Url) (text : List ℕ) → starts_with_scheme text ≡ true
+    → IsSome (cut_of base text).scheme
+unfolding cut_of
+cut_with_scheme base text starts = rw (start_with_scheme text starts) refl
+
+-- ---- the cut
+
+same_class : (base other : Option Url) (scheme : Option (List ℕ)) → IsSome scheme
+    → class_in base scheme ≡ class_in other scheme
+same_class base other scheme some = class_with_scheme base scheme some ∙ sym (class_with_scheme other scheme some)
+
+same_cut : (base other : Option Url) (text : List ℕ) → starts_with_scheme text ≡ true
+    → cut_of base text ≡ cut_of other text
+unfolding cut_of
+same_cut base other text starts =
+    let front = text_before number_sign text in
+    let start = text_before question_mark front in
+    let some = cut_with_scheme base text starts in
+    ap (λ (kind : Class). with_class kind start) (same_class base other (scheme_cut start) some)
+  where
+    with_class : Class → List ℕ → Cut
+    with_class kind start = record {
+      scheme = scheme_cut start;
+      host_text = host_text_cut kind (behind_scheme start);
+      port_text = port_text_cut kind (behind_scheme start);
+      path_text = path_text_cut (behind_scheme start);
+      query = text_behind question_mark (text_before number_sign text);
+      fragment = text_behind number_sign text;
+    }
+
+-- ---- valid parts
+
+-- the scheme by which the parts are judged
+same_scheme : (base other : Option Url) (scheme : Option (List ℕ)) → IsSome scheme
+    → scheme_or base scheme ≡ scheme_or other scheme
+same_scheme base other None some = absurd (false≢true some)
+same_scheme base other (Some scheme) some = refl
+
+fits_any_base : (base : Option Url) (parts : Parts) → IsSome parts.scheme → FitsBase base parts
+fits_any_base None parts some = some
+fits_any_base (Some url) parts some = inl some
+
+same_host_text : (base other : Option Url) (parts : Parts) (host_text : Option (List ℕ)) → IsSome parts.scheme
+    → FitsHostText base parts host_text → FitsHostText other parts host_text
+same_host_text base other parts None some is = is
+same_host_text base other parts (Some text) some is =
+    subst (λ (scheme : List ℕ). FitsAuthority (scheme_class scheme) scheme text parts)
+    (same_scheme base other parts.scheme some) is
+
+same_other : (base other : Option Url) (parts : Parts) → IsSome parts.scheme
+    → scheme_class (scheme_in base parts) ≡ Other
+    → scheme_class (scheme_in other parts) ≡ Other
+same_other base other parts some is = ap scheme_class (sym (same_scheme base other parts.scheme some)) ∙ is
+
+-- a form without a scheme doesn't fit a text with one
+no_scheme : (scheme : Option (List ℕ)) → IsSome scheme → scheme ≡ None → ⊥
+no_scheme scheme some none = false≢true (subst (λ (o : Option (List ℕ)). IsSome o) none some)
+
+same_form : (base other : Option Url) (form : Form) (parts : Parts) → IsSome parts.scheme
+    → FitsScheme (has_scheme form) parts.scheme → FitsForm base form parts → FitsForm other form parts
+same_form base other SchemeAuthority parts some scheme is = same_host_text base other parts parts.host_text some is
+same_form base other SchemePath parts some scheme (none, kind, path) =
+    (none, same_other base other parts some kind, path)
+same_form base other SchemeOpaque parts some scheme (none, kind, path, empty) =
+    (none, same_other base other parts some kind, path, empty)
+same_form base other Authority parts some scheme is = absurd (no_scheme parts.scheme some scheme)
+same_form base other PathAbsolute parts some scheme is = absurd (no_scheme parts.scheme some scheme)
+same_form base other PathRelative parts some scheme is = absurd (no_scheme parts.scheme some scheme)
+same_form base other NoPath parts some scheme is = absurd (no_scheme parts.scheme some scheme)
+
+same_valid : (base other : Option Url) (text : List ℕ) (parts : Parts) → starts_with_scheme text ≡ true
+    → Valid base text parts → Valid other text parts
+same_valid base other text parts starts valid =
+    let same : (cut_of base text).scheme ≡ parts.scheme
+    = ap (λ (cut : Cut). cut.scheme) (sym (valid_texts base text parts valid)) in
+    let some : IsSome parts.scheme
+    = subst (λ (o : Option (List ℕ)). IsSome o) same (cut_with_scheme base text starts) in
+    record {
+      whole = valid.whole;
+      scheme = valid.scheme;
+      against = fits_any_base other parts some;
+      form = same_form base other parts.form parts some valid.scheme valid.form;
+      query = valid.query;
+      fragment = valid.fragment;
+    }
+
+-- ---- complaints
+
+same_start : (base other : Option Url) (text : List ℕ) (cut : Cut) → IsSome cut.scheme → (place : ℕ) (rule : Rule)
+    → StartComplaint base text cut place rule → StartComplaint other text cut place rule
+same_start base other text cut some place NoScheme h = absurd (no_scheme cut.scheme some h.0)
+same_start base other text cut some place OpaqueBase h = absurd (no_scheme cut.scheme some h.0)
+same_start base other text cut some place TwoSlashes h = h
+same_start base other text cut some place _ h = absurd h
+
+same_host : (base other : Option Url) (cut : Cut) → IsSome cut.scheme → (place : ℕ) (rule : Rule)
+    → HostPartComplaint base cut place rule → HostPartComplaint other cut place rule
+same_host base other cut = go cut.scheme cut.host_text cut.port_text cut.path_text cut.query cut.fragment
+  where
+    go : (scheme host_text port_text : Option (List ℕ)) (path_text : List ℕ) (query fragment : Option (List ℕ))
+        → IsSome scheme → (place : ℕ) (rule : Rule)
+        → HostPartComplaint base (cut_with scheme host_text port_text path_text query fragment) place rule
+        → HostPartComplaint other (cut_with scheme host_text port_text path_text query fragment) place rule
+    go None host_text port_text path_text query fragment some place rule h = absurd (false≢true some)
+    go (Some scheme) None port_text path_text query fragment some place rule h = h
+    go (Some scheme) (Some host_text) port_text path_text query fragment some place rule h = h
+
+same_has_host : (base other : Option Url) (scheme host_text : Option (List ℕ)) → IsSome scheme
+    → HasHost base scheme host_text
+    → HasHost other scheme host_text
+same_has_host base other scheme (Some host_text) some h = h
+same_has_host None other None None some h = absurd h
+same_has_host (Some url) other None None some h = absurd (false≢true some)
+same_has_host None other (Some scheme) None some h = absurd h
+same_has_host (Some url) other (Some scheme) None some h = absurd h
+
+same_path_start : (base other : Option Url) (cut : Cut) → IsSome cut.scheme → (place : ℕ) (rule : Rule)
+    → PathStartComplaint base cut place rule → PathStartComplaint other cut place rule
+same_path_start base other cut some place FirstSegmentEmpty h = h
+same_path_start base other cut some place DriveAfterHost (kind, host, drive, at) =
+    let same = same_class other base cut.scheme some in
+    (same ∙ kind, same_has_host base other cut.scheme cut.host_text some host, drive, at)
+same_path_start base other cut some place _ h = absurd h
+
+same_judged : (base other : Option Url) (cut : Cut) → IsSome cut.scheme → (place : ℕ) (rule : Rule)
+    → JudgedComplaint base cut place rule → JudgedComplaint other cut place rule
+same_judged base other cut some place rule (inl h) = inl (same_host base other cut some place rule h)
+same_judged base other cut some place rule (inr (inl h)) = inr (inl h)
+same_judged base other cut some place rule (inr (inr h)) =
+    inr (inr (record {
+      inner = h.inner;
+      moved = h.moved;
+      holds = same_path_start base other cut some h.inner rule h.holds;
+    }))
+
+same_complaint_of : (base other : Option Url) (text : List ℕ) (cut : Cut) → IsSome cut.scheme
+    → (place : ℕ) (rule : Rule)
+    → ComplaintOf base text cut place rule → ComplaintOf other text cut place rule
+same_complaint_of base other text cut some place rule (inl h) = inl (same_start base other text cut some place rule h)
+same_complaint_of base other text cut some place rule (inr (inl (started, h))) =
+    inr (inl (
+      (λ p r s. started p r
+          (same_start other base text cut some p r s)),
+      same_judged base other cut some place rule h,
+    ))
+same_complaint_of base other text cut some place rule (inr (inr h)) = inr (inr h)
+
+same_complaint : (base other : Option Url) (text : List ℕ) → starts_with_scheme text ≡ true → (place : ℕ) (rule : Rule)
+    → Complaint base text place rule → Complaint other text place rule
+unfolding Complaint
+same_complaint base other text starts place rule h =
+    subst (λ (cut : Cut). ComplaintOf other text cut place rule) (same_cut base other text starts)
+    (same_complaint_of base other text (cut_of base text) (cut_with_scheme base text starts) place rule h)
+
+-- a text with a scheme ignores the base
+pub ignores_the_base : TextsWithASchemeIgnoreTheBase
+ignores_the_base text starts = record {
+  cut = λ base other. same_cut base other text starts;
+  valid = λ base other parts. same_valid base other text parts starts;
+  complaint = λ base other. same_complaint base other text starts;
+}

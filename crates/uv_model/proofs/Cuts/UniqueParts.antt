@@ -1,0 +1,245 @@
+-- The parts of a valid text are unique: each follows from the texts into which the text is cut.
+use Rattle.std.proofs.Common.{◌≡◌, ◌≢◌, ℕ, Bool, true, false, ◌==◌, List, [], ◌∷◌, All, Option, Some, None, refl, sym, ap, ◌∙◌, inl, inr}
+use Rattle.std.specs.Prelude.{if◌then◌else◌}
+use Rattle.std.specs.List.{slice_split, join_with_byte}
+use Rattle.std.proofs.lemmas.List.Elements.{All-nil, All-cons}
+use Rattle.std.proofs.lemmas.List.Splits.{slice_split_none, slice_split_at}
+use Rattle.uv_model.specs.declared.scheme.Class.{Class}
+use Rattle.uv_model.specs.declared.scheme.Class.TheVariants.{Special, File, Other}
+use Rattle.uv_model.specs.declared.host.Host.{Host}
+use Rattle.uv_model.specs.Ascii.{slash}
+use Rattle.uv_model.specs.Path.{IsPathAbsolute, IsPathRelative, AreSegments, is_without, starts_with_slash}
+use Rattle.uv_model.specs.Records.Url.{Url}
+use Rattle.uv_model.specs.Parts.{Form, SchemeAuthority, SchemePath, SchemeOpaque, Authority, PathAbsolute, PathRelative, NoPath, Parts, has_scheme}
+use Rattle.uv_model.specs.Valid.{MayBePathAbsolute, FitsAuthority, FitsHostText, HasNoAuthority, FitsForm, FitsScheme, port_given, scheme_in}
+use Rattle.uv_model.specs.Cut.{Cut, texts_of, class_in}
+use Rattle.uv_model.specs.Laws.Cuts.{PartsAreUnique}
+use Rattle.uv_model.proofs.Hosts.HostUniqueness.{HasHost, one_host}
+use Rattle.uv_model.proofs.Texts.MarkLemmas.{is_without-cons}
+use Rattle.uv_model.proofs.Cuts.ValidCutLemmas.{valid_texts}
+
+-- ---- segments
+
+-- the segments of a path-relative string
+abbrev segments_in : List ℕ → List (List ℕ)
+segments_in text = slice_split (λ c. c == slash) text
+
+-- no code point of a segment is `/`
+without_slash : (segment : List ℕ) → is_without slash segment ≡ true → All (λ c. (c == slash) ≡ false) segment
+without_slash [] none = All-nil (λ c. (c == slash) ≡ false)
+without_slash (c ∷ rest) none =
+    let parts = is_without-cons slash c rest none in
+    All-cons (λ c. (c == slash) ≡ false) c rest parts.0 (without_slash rest parts.1)
+
+-- segments with `/` between each two are split where they are joined
+split_joined : (first : List ℕ) (others : List (List ℕ)) → AreSegments (first ∷ others)
+    → segments_in (join_with_byte slash (first ∷ others)) ≡ first ∷ others
+split_joined first [] each = slice_split_none (λ c. c == slash) first (without_slash first each.0.no_slash)
+split_joined first (next ∷ rest) each =
+    slice_split_at (λ c. c == slash) first slash (join_with_byte slash (next ∷ rest))
+    (without_slash first each.0.no_slash) refl
+    ∙ ap (λ xs. first ∷ xs) (split_joined next rest each.1)
+
+-- so they are those of their text
+relative_segments : (segments : List (List ℕ)) (text : List ℕ) → IsPathRelative segments text
+    → segments ≡ segments_in text
+relative_segments segments text is =
+    let joins = is.joins in
+    let each : AreSegments (joins.first ∷ joins.others) = rw joins.some at joins.each in
+    rw (joins.joined, joins.some) (sym (split_joined joins.first joins.others each))
+
+-- the segments of a path-absolute string, or of no code point
+abbrev segments_behind : List ℕ → List (List ℕ)
+segments_behind [] = []
+segments_behind (c ∷ rest) = segments_in rest
+
+-- the segments of a path-absolute string
+absolute_segments : (segments : List (List ℕ)) (text : List ℕ) → IsPathAbsolute segments text
+    → segments ≡ segments_behind text
+absolute_segments segments text is = rw is.slashed (relative_segments segments is.behind is.relative)
+
+-- the segments of a path behind an authority
+may_be_segments : (segments : List (List ℕ)) (text : List ℕ) → MayBePathAbsolute segments text
+    → segments ≡ segments_behind text
+may_be_segments segments text (inl (nothing, none)) = rw (nothing, none) refl
+may_be_segments segments text (inr is) = absolute_segments segments text is
+
+-- the segments of a path by the form
+abbrev segments_of : Form → List ℕ → List (List ℕ)
+segments_of SchemeOpaque text = []
+segments_of PathRelative text = segments_in text
+segments_of NoPath text = []
+segments_of _ text = segments_behind text
+
+-- ---- the form
+
+-- the form of a text by what of it is there
+abbrev form_of : Option (List ℕ) → Option (List ℕ) → List ℕ → Form
+form_of (Some scheme) (Some host_text) path_text = SchemeAuthority
+form_of None (Some host_text) path_text = Authority
+form_of (Some scheme) None path_text = if starts_with_slash path_text then SchemePath else SchemeOpaque
+form_of None None [] = NoPath
+form_of None None (c ∷ rest) = if c == slash then PathAbsolute else PathRelative
+
+-- a form with an authority
+authority_form : (base : Option Url) (has : Bool) (parts : Parts) (scheme host_text : Option (List ℕ))
+    → FitsScheme has scheme → FitsHostText base parts host_text → (path_text : List ℕ)
+    → (if has then SchemeAuthority else Authority) ≡ form_of scheme host_text path_text
+authority_form base has parts scheme None named is path_text = absurd is
+authority_form base true parts (Some scheme) (Some host_text) named is path_text = refl
+authority_form base true parts None (Some host_text) named is path_text = absurd named
+authority_form base false parts scheme (Some host_text) named is path_text = rw named refl
+
+-- a form with a scheme and without an authority
+alone_form : (scheme host_text : Option (List ℕ)) (path_text : List ℕ) → FitsScheme true scheme → host_text ≡ None
+    → form_of scheme host_text path_text ≡ (if starts_with_slash path_text then SchemePath else SchemeOpaque)
+alone_form None host_text path_text named none = absurd named
+alone_form (Some scheme) host_text path_text named none = rw none refl
+
+-- a relative path that isn't empty, without a scheme and an authority
+relative_form : (path_text : List ℕ) → path_text ≢ [] → starts_with_slash path_text ≡ false
+    → PathRelative ≡ form_of None None path_text
+relative_form [] some start = absurd (some refl)
+relative_form (c ∷ rest) some start = rw start refl
+
+-- the form of the parts follows from their texts
+form_found : (base : Option Url) (form : Form) (parts : Parts) → FitsScheme (has_scheme form) parts.scheme
+    → FitsForm base form parts → form ≡ form_of parts.scheme parts.host_text parts.path_text
+form_found base SchemeAuthority parts named is =
+    authority_form base true parts parts.scheme parts.host_text named is parts.path_text
+form_found base Authority parts named is =
+    authority_form base false parts parts.scheme parts.host_text named is parts.path_text
+form_found base SchemePath parts named (none, other, path) =
+    let shown = alone_form parts.scheme parts.host_text parts.path_text named none.host_text in
+    let start : starts_with_slash parts.path_text ≡ true = rw path.slashed refl in
+    sym (shown ∙ rw start refl)
+form_found base SchemeOpaque parts named (none, other, (segments, path), empty) =
+    let shown = alone_form parts.scheme parts.host_text parts.path_text named none.host_text in
+    sym (shown ∙ rw path.start refl)
+form_found base PathAbsolute parts named (none, path, drive) = rw (named, none.host_text, path.slashed) refl
+form_found base PathRelative parts named (none, path, some, free) =
+    rw (named, none.host_text) (relative_form parts.path_text some path.start)
+form_found base NoPath parts named (none, nothing, empty) = rw (named, none.host_text, nothing) refl
+
+-- ---- what a form makes of the texts
+
+-- the host, the port and the segments are those of the texts
+record AreDenoted (kind : Class) (scheme : List ℕ) (form : Form) (host_text : Option (List ℕ)) (parts : Parts) : Type 0
+  where
+    host : HasHost kind host_text parts.host
+    port : parts.port ≡ port_given scheme parts.port_text
+    segments : parts.segments ≡ segments_of form parts.path_text
+
+-- no port where there is no port text
+no_port : (scheme : List ℕ) (port_text : Option (List ℕ)) (port : Option ℕ) → port_text ≡ None → port ≡ None
+    → port ≡ port_given scheme port_text
+no_port scheme port_text port absent none = rw (absent, none) refl
+
+-- no host where there is no host text
+no_host : (kind : Class) (host_text : Option (List ℕ)) (host : Option Host) → host_text ≡ None → host ≡ None
+    → HasHost kind host_text host
+no_host kind host_text host absent none = rw absent none
+
+-- what follows `//` by the class
+denoted_by_class : (kind : Class) (scheme host_text : List ℕ) (parts : Parts)
+    → FitsAuthority kind scheme host_text parts → AreDenoted kind scheme Authority (Some host_text) parts
+denoted_by_class Special scheme host_text parts is = record {
+  host = (is.value, is.host, is.valued);
+  port = is.port;
+  segments = may_be_segments parts.segments parts.path_text is.path;
+}
+denoted_by_class File scheme host_text parts (none, absent, inl (value, host, valued, path, drive)) = record {
+  host = inl (value, host, valued);
+  port = no_port scheme parts.port_text parts.port none absent;
+  segments = may_be_segments parts.segments parts.path_text path;
+}
+denoted_by_class File scheme host_text parts (none, absent, inr (nothing, valued, path)) = record {
+  host = inr (nothing, valued);
+  port = no_port scheme parts.port_text parts.port none absent;
+  segments = absolute_segments parts.segments parts.path_text path;
+}
+denoted_by_class Other scheme host_text parts (inl (host, port), given, path) = record {
+  host = inl host;
+  port = given;
+  segments = may_be_segments parts.segments parts.path_text path;
+}
+denoted_by_class Other scheme host_text parts (inr (nothing, valued, none), given, path) = record {
+  host = inr (nothing, valued);
+  port = given;
+  segments = may_be_segments parts.segments parts.path_text path;
+}
+
+-- with a host text
+denoted_with_host : (base : Option Url) (parts : Parts) (host_text : Option (List ℕ))
+    → FitsHostText base parts host_text
+    → AreDenoted (class_in base parts.scheme) (scheme_in base parts) Authority host_text parts
+denoted_with_host base parts None is = absurd is
+denoted_with_host base parts (Some host_text) is =
+    denoted_by_class (class_in base parts.scheme) (scheme_in base parts) host_text parts is
+
+-- without an authority
+denoted_alone : (kind : Class) (scheme : List ℕ) (form : Form) (parts : Parts) → HasNoAuthority parts
+    → parts.segments ≡ segments_of form parts.path_text → AreDenoted kind scheme form parts.host_text parts
+denoted_alone kind scheme form parts none segments = record {
+  host = no_host kind parts.host_text parts.host none.host_text none.host;
+  port = no_port scheme parts.port_text parts.port none.port_text none.port;
+  segments = segments;
+}
+
+-- in each form
+denoted_by_form : (base : Option Url) (form : Form) (parts : Parts) → FitsForm base form parts
+    → AreDenoted (class_in base parts.scheme) (scheme_in base parts) form parts.host_text parts
+denoted_by_form base SchemeAuthority parts is =
+    let all = denoted_with_host base parts parts.host_text is in
+    record { host = all.host; port = all.port; segments = all.segments }
+denoted_by_form base Authority parts is = denoted_with_host base parts parts.host_text is
+denoted_by_form base SchemePath parts (none, other, path) =
+    denoted_alone (class_in base parts.scheme) (scheme_in base parts) SchemePath parts none
+    (absolute_segments parts.segments parts.path_text path)
+denoted_by_form base SchemeOpaque parts (none, other, path, empty) =
+    denoted_alone (class_in base parts.scheme) (scheme_in base parts) SchemeOpaque parts none empty
+denoted_by_form base PathAbsolute parts (none, path, drive) =
+    denoted_alone (class_in base parts.scheme) (scheme_in base parts) PathAbsolute parts none
+    (absolute_segments parts.segments parts.path_text path)
+denoted_by_form base PathRelative parts (none, path, some, free) =
+    denoted_alone (class_in base parts.scheme) (scheme_in base parts) PathRelative parts none
+    (relative_segments parts.segments parts.path_text path)
+denoted_by_form base NoPath parts (none, nothing, empty) =
+    denoted_alone (class_in base parts.scheme) (scheme_in base parts) NoPath parts none empty
+
+-- ---- uniqueness
+
+-- parts with the same texts and values are the same
+same_parts : (p q : Parts) → texts_of p ≡ texts_of q → p.form ≡ q.form → p.host ≡ q.host → p.port ≡ q.port
+    → p.segments ≡ q.segments → p ≡ q
+same_parts p q texts form host port segments = λ i. record {
+  form = form i;
+  scheme = (texts i).scheme;
+  host_text = (texts i).host_text;
+  host = host i;
+  port_text = (texts i).port_text;
+  port = port i;
+  path_text = (texts i).path_text;
+  segments = segments i;
+  query = (texts i).query;
+  fragment = (texts i).fragment;
+}
+
+-- the parts of a valid text are unique
+pub parts_are_unique : PartsAreUnique
+parts_are_unique base text p q is is' =
+    let texts : texts_of p ≡ texts_of q = valid_texts base text p is ∙ sym (valid_texts base text q is') in
+    let scheme : p.scheme ≡ q.scheme = ap (λ (c : Cut). c.scheme) texts in
+    let host_text : p.host_text ≡ q.host_text = ap (λ (c : Cut). c.host_text) texts in
+    let port_text : p.port_text ≡ q.port_text = ap (λ (c : Cut). c.port_text) texts in
+    let path_text : p.path_text ≡ q.path_text = ap (λ (c : Cut). c.path_text) texts in
+    let found = form_found base p.form p is.scheme is.form in
+    let found' = form_found base q.form q is'.scheme is'.form in
+    let form : p.form ≡ q.form = found ∙ rw (scheme, host_text, path_text) (sym found') in
+    let all = denoted_by_form base p.form p is.form in
+    let all' = denoted_by_form base q.form q is'.form in
+    let has : HasHost (class_in base q.scheme) q.host_text p.host = rw (scheme, host_text) at all.host in
+    let host = one_host (class_in base q.scheme) q.host_text p.host q.host has all'.host in
+    let port : p.port ≡ q.port = all.port ∙ rw (scheme, port_text) (sym all'.port) in
+    let segments : p.segments ≡ q.segments = all.segments ∙ rw (form, path_text) (sym all'.segments) in
+    same_parts p q texts form host port segments

@@ -1,0 +1,313 @@
+-- The cut of a valid text has its parts.
+use Rattle.std.proofs.Common.{◌≡◌, ◌≢◌, ℕ, Bool, true, false, ◌==◌, List, [], ◌∷◌, ◌++◌, Option, Some, None, codes, refl, sym, ap, ◌∙◌, inl, inr, append_assoc}
+use Rattle.std.specs.List.{list_all}
+use Rattle.std.specs.Char.{is_ascii_digit, is_ascii_alphabetic}
+use Rattle.std.proofs.lemmas.Bool.{false≢true, true≢false, and_from, and_parts}
+use Rattle.uv_model.specs.declared.scheme.Class.{Class}
+use Rattle.uv_model.specs.declared.scheme.Class.TheVariants.{Special, File, Other}
+use Rattle.uv_model.specs.declared.host.Host.{Host}
+use Rattle.uv_model.specs.declared.host.Host.TheVariants.{Domain, V4, V6, Opaque, Empty}
+use Rattle.uv_model.specs.Ascii.{slash, colon, question_mark, number_sign}
+use Rattle.uv_model.specs.Path.{IsPathAbsolute, IsPathRelative, JoinsTo, is_without, starts_with_slash}
+use Rattle.uv_model.specs.Scheme.{is_scheme_code_point}
+use Rattle.uv_model.specs.Records.Url.{Url}
+use Rattle.uv_model.specs.Parts.{Form, SchemeAuthority, SchemePath, SchemeOpaque, Authority, PathAbsolute, PathRelative, NoPath, Parts, has_scheme, written, written_scheme, written_authority, written_behind}
+use Rattle.uv_model.specs.Valid.{Valid, IsHostText, IsFileHostText, IsOpaqueHostText, MayBePortText, MayBePathAbsolute, MayBeUnits, FitsAuthority, FitsHostText, HasNoAuthority, FitsForm, FitsScheme, scheme_in, starts_with_scheme}
+use Rattle.uv_model.specs.Cut.{IsSchemeCut, IsAuthorityCut, IsHostCut, texts_of, class_in, cut_of, starts_with_two_slashes, written_middle, written_start, written_cut}
+use Rattle.uv_model.specs.Laws.Cuts.{ValidTextsAreCutIntoTheirParts}
+use Rattle.uv_model.proofs.Texts.MarkLemmas.{is_without-append, is_without-more}
+use Rattle.uv_model.proofs.Paths.PathLemmas.{IsUnits-join, no_question_mark-join}
+use Rattle.uv_model.proofs.Cuts.HostCutLemmas.{is_without-passes, units_without_number_sign, IsHostWord, word_of_form, word_of_opaque, word_of_nothing, word_of_ipv4, word_of_ipv6, digits_without}
+use Rattle.uv_model.proofs.Cuts.CutLemmas.{cut_is_computed}
+
+-- ---- hosts
+
+-- a valid host ends where the cut ends it
+pub word_of_host : (text : List ℕ) (host : Host) → IsHostText text host → IsHostWord text
+word_of_host text (Domain form) is = word_of_form text form is.0
+word_of_host text (V4 value) is = word_of_ipv4 text value is
+word_of_host text (V6 pieces) is = word_of_ipv6 text pieces is
+word_of_host text (Opaque host) is = absurd is
+word_of_host text Empty is = absurd is
+
+-- so does one of a file URL
+pub word_of_file_host : (text : List ℕ) (host : Host) → IsFileHostText text host → IsHostWord text
+word_of_file_host text (Domain form) is = word_of_form text form is.0.0
+word_of_file_host text (V4 value) is = word_of_ipv4 text value is
+word_of_file_host text (V6 pieces) is = word_of_ipv6 text pieces is
+word_of_file_host text (Opaque host) is = absurd is
+word_of_file_host text Empty is = word_of_form text (codes "localhost") is.0
+
+-- and an opaque one
+pub word_of_opaque_host : (text : List ℕ) (host : Option Host) → IsOpaqueHostText text host → IsHostWord text
+word_of_opaque_host text None is = word_of_opaque text is
+word_of_opaque_host text (Some (Domain form)) is = absurd is
+word_of_opaque_host text (Some (V4 value)) is = absurd is
+word_of_opaque_host text (Some (V6 pieces)) is = word_of_ipv6 text pieces is
+word_of_opaque_host text (Some (Opaque host)) is = absurd is
+word_of_opaque_host text (Some Empty) is = absurd is
+
+-- a valid port, written behind `:`, holds no such mark
+port_without : (mark : ℕ) (port_text : Option (List ℕ)) → is_ascii_digit mark ≡ false → (colon == mark) ≡ false
+    → MayBePortText port_text → is_without mark (written_behind colon port_text) ≡ true
+port_without mark None other differs is = refl
+port_without mark (Some text) other differs is =
+    is_without-more mark colon text differs (digits_without mark text other is.digits)
+
+-- ---- paths
+
+-- the text of a path holds no mark that ends it
+pub record IsPathWord (text : List ℕ) : Type 0 where
+  pub no_question_mark : is_without question_mark text ≡ true
+  pub no_number_sign : is_without number_sign text ≡ true
+
+word_of_segments : (segments : List (List ℕ)) (text : List ℕ) → JoinsTo segments text → IsPathWord text
+word_of_segments segments text is = record {
+  no_question_mark = rw is.joined (no_question_mark-join segments is.each);
+  no_number_sign = rw is.joined (units_without_number_sign _ (IsUnits-join segments is.each));
+}
+
+-- one more `/` before
+word_of_slashed : (text : List ℕ) → IsPathWord text → IsPathWord (slash ∷ text)
+word_of_slashed text is = record { no_question_mark = is.no_question_mark; no_number_sign = is.no_number_sign }
+
+-- a path-relative string
+word_of_relative : (segments : List (List ℕ)) (text : List ℕ) → IsPathRelative segments text → IsPathWord text
+word_of_relative segments text is = word_of_segments segments text is.joins
+
+-- a path-absolute string
+word_of_absolute : (segments : List (List ℕ)) (text : List ℕ) → IsPathAbsolute segments text → IsPathWord text
+word_of_absolute segments text is =
+    rw is.slashed (word_of_slashed is.behind (word_of_relative segments is.behind is.relative))
+
+-- a path-absolute string doesn't begin with `//`
+pub absolute_without_two_slashes : (segments : List (List ℕ)) (text : List ℕ) → IsPathAbsolute segments text
+    → starts_with_two_slashes text ≡ false
+absolute_without_two_slashes segments text is =
+    rw is.slashed (one_slash is.behind is.relative.start)
+  where
+    one_slash : (behind : List ℕ) → starts_with_slash behind ≡ false → starts_with_two_slashes (slash ∷ behind) ≡ false
+    one_slash [] none = refl
+    one_slash (c ∷ rest) none = none
+
+-- a text that doesn't begin with `/` doesn't begin with `//`
+pub without_slash_without_two : (text : List ℕ) → starts_with_slash text ≡ false → starts_with_two_slashes text ≡ false
+without_slash_without_two [] none = refl
+without_slash_without_two (c ∷ []) none = refl
+without_slash_without_two (c ∷ d ∷ rest) none = rw none refl
+
+-- ---- what stands between the scheme and the query
+
+-- what holds of these texts of a valid text, whichever its form
+record MiddleFits (kind : Class) (host_text port_text : Option (List ℕ)) (path_text : List ℕ) : Type 0 where
+  no_question_mark : is_without question_mark (written_authority host_text port_text ++ path_text) ≡ true
+  no_number_sign : is_without number_sign (written_authority host_text port_text ++ path_text) ≡ true
+  authority : IsAuthorityCut kind host_text port_text path_text
+
+-- the text of a path behind an authority
+record IsPathBehind (text : List ℕ) : Type 0 where
+  word : IsPathWord text
+  start : text ≢ [] → starts_with_slash text ≡ true
+
+path_behind : (segments : List (List ℕ)) (text : List ℕ) → MayBePathAbsolute segments text → IsPathBehind text
+path_behind segments text (inl (nothing, none)) = record {
+  word = rw nothing (record { no_question_mark = refl; no_number_sign = refl });
+  start = λ some. absurd (some nothing);
+}
+path_behind segments text (inr is) = record {
+  word = word_of_absolute segments text is;
+  start = λ some. rw is.slashed refl;
+}
+
+-- an authority and a path hold no mark that ends them
+authority_without : (mark : ℕ) (host_text : List ℕ) (port_text : Option (List ℕ)) (path_text : List ℕ)
+    → (slash == mark) ≡ false
+    → is_without mark host_text ≡ true → is_without mark (written_behind colon port_text) ≡ true
+    → is_without mark path_text ≡ true
+    → is_without mark (written_authority (Some host_text) port_text ++ path_text) ≡ true
+authority_without mark host_text port_text path_text differs host port path =
+    let text = (host_text ++ written_behind colon port_text) ++ path_text in
+    let all = is_without-append mark (host_text ++ written_behind colon port_text) path_text
+    (is_without-append mark host_text (written_behind colon port_text) host port) path in
+    is_without-more mark slash (slash ∷ text) differs (is_without-more mark slash text differs all)
+
+-- with an authority
+authority_fits : (kind : Class) (host_text : List ℕ) (port_text : Option (List ℕ)) (path_text : List ℕ)
+    → IsHostWord host_text
+    → MayBePortText port_text → IsHostCut kind host_text port_text → IsPathBehind path_text
+    → MiddleFits kind (Some host_text) port_text path_text
+authority_fits kind host_text port_text path_text host port ends path =
+    record {
+      no_question_mark =
+          authority_without question_mark host_text port_text path_text refl host.no_question_mark
+          (port_without question_mark port_text refl refl port) path.word.no_question_mark;
+      no_number_sign =
+          authority_without number_sign host_text port_text path_text refl host.no_number_sign
+          (port_without number_sign port_text refl refl port) path.word.no_number_sign;
+      authority = (
+        is_without-append slash host_text _ host.no_slash (port_without slash port_text refl refl port),
+        path.start,
+        ends,
+      );
+    }
+
+-- no port text is a valid one
+no_port : (port_text : Option (List ℕ)) → port_text ≡ None → MayBePortText port_text
+no_port port_text none = rw none tt
+
+-- what follows `//` by the class
+fits_by_class : (kind : Class) (scheme host_text : List ℕ) (parts : Parts) → FitsAuthority kind scheme host_text parts
+    → MiddleFits kind (Some host_text) parts.port_text parts.path_text
+fits_by_class Special scheme host_text parts is =
+    let word = word_of_host host_text is.value is.host in
+    authority_fits Special host_text parts.port_text parts.path_text word is.port_text (word.ends parts.port_text)
+    (path_behind parts.segments parts.path_text is.path)
+fits_by_class File scheme host_text parts (none, absent, inl (value, host, valued, path, drive)) =
+    authority_fits File host_text parts.port_text parts.path_text (word_of_file_host host_text value host)
+    (no_port parts.port_text none) none (path_behind parts.segments parts.path_text path)
+fits_by_class File scheme host_text parts (none, absent, inr (nothing, valued, path)) =
+    let word : IsHostWord host_text = rw nothing word_of_nothing in
+    authority_fits File host_text parts.port_text parts.path_text word (no_port parts.port_text none) none
+    (path_behind parts.segments parts.path_text (inr path))
+fits_by_class Other scheme host_text parts (inl (host, port), given, path) =
+    let word = word_of_opaque_host host_text parts.host host in
+    authority_fits Other host_text parts.port_text parts.path_text word port (word.ends parts.port_text)
+    (path_behind parts.segments parts.path_text path)
+fits_by_class Other scheme host_text parts (inr (nothing, valued, none), given, path) =
+    let word : IsHostWord host_text = rw nothing word_of_nothing in
+    authority_fits Other host_text parts.port_text parts.path_text word (no_port parts.port_text none)
+    (word.ends parts.port_text)
+    (path_behind parts.segments parts.path_text path)
+
+-- with an authority, whose host text is there
+fits_with_host : (base : Option Url) (parts : Parts) (host_text : Option (List ℕ)) → FitsHostText base parts host_text
+    → MiddleFits (class_in base parts.scheme) host_text parts.port_text parts.path_text
+fits_with_host base parts None is = absurd is
+fits_with_host base parts (Some host_text) is =
+    fits_by_class (class_in base parts.scheme) (scheme_in base parts) host_text parts is
+
+-- without an authority
+fits_without : (kind : Class) (host_text port_text : Option (List ℕ)) (path_text : List ℕ) → host_text ≡ None
+    → port_text ≡ None
+    → IsPathWord path_text → starts_with_two_slashes path_text ≡ false → MiddleFits kind host_text port_text path_text
+fits_without kind host_text port_text path_text no_host no_port path start =
+    rw (no_host, no_port) (record {
+      no_question_mark = path.no_question_mark;
+      no_number_sign = path.no_number_sign;
+      authority = (refl, start);
+    })
+
+-- without an authority, by the facts of the form
+fits_alone : (kind : Class) (parts : Parts) → HasNoAuthority parts → IsPathWord parts.path_text
+    → starts_with_two_slashes parts.path_text ≡ false → MiddleFits kind parts.host_text parts.port_text parts.path_text
+fits_alone kind parts none path start =
+    fits_without kind parts.host_text parts.port_text parts.path_text none.host_text none.port_text path start
+
+-- the empty path
+empty_path_word : (text : List ℕ) → text ≡ [] → IsPathWord text
+empty_path_word text nothing = rw nothing (record { no_question_mark = refl; no_number_sign = refl })
+
+-- in each form
+fits_by_form : (base : Option Url) (form : Form) (parts : Parts) → FitsForm base form parts
+    → MiddleFits (class_in base parts.scheme) parts.host_text parts.port_text parts.path_text
+fits_by_form base SchemeAuthority parts is = fits_with_host base parts parts.host_text is
+fits_by_form base Authority parts is = fits_with_host base parts parts.host_text is
+fits_by_form base SchemePath parts (none, other, path) =
+    fits_alone (class_in base parts.scheme) parts none (word_of_absolute parts.segments parts.path_text path)
+    (absolute_without_two_slashes parts.segments parts.path_text path)
+fits_by_form base SchemeOpaque parts (none, other, (segments, path), empty) =
+    fits_alone (class_in base parts.scheme) parts none (word_of_relative segments parts.path_text path)
+    (without_slash_without_two parts.path_text path.start)
+fits_by_form base PathAbsolute parts (none, path, drive) =
+    fits_alone (class_in base parts.scheme) parts none (word_of_absolute parts.segments parts.path_text path)
+    (absolute_without_two_slashes parts.segments parts.path_text path)
+fits_by_form base PathRelative parts (none, path, some, free) =
+    fits_alone (class_in base parts.scheme) parts none (word_of_relative parts.segments parts.path_text path)
+    (without_slash_without_two parts.path_text path.start)
+fits_by_form base NoPath parts (none, nothing, empty) =
+    fits_alone (class_in base parts.scheme) parts none (empty_path_word parts.path_text nothing)
+    (ap starts_with_two_slashes nothing)
+
+-- ---- the scheme
+
+-- what stands between the scheme and the query, with an authority
+starts_like_authority : (base : Option Url) (parts : Parts) (host_text : Option (List ℕ))
+    → FitsHostText base parts host_text
+    → starts_with_scheme (written_authority host_text parts.port_text ++ parts.path_text) ≡ false
+starts_like_authority base parts None is = absurd is
+starts_like_authority base parts (Some host_text) is = refl
+
+-- a form without a scheme begins with none
+free_by_form : (base : Option Url) (form : Form) (parts : Parts) → FitsForm base form parts → has_scheme form ≡ false
+    → starts_with_scheme (written_authority parts.host_text parts.port_text ++ parts.path_text) ≡ false
+free_by_form base SchemeAuthority parts is none = absurd (true≢false none)
+free_by_form base SchemePath parts is none = absurd (true≢false none)
+free_by_form base SchemeOpaque parts is none = absurd (true≢false none)
+free_by_form base Authority parts is none = starts_like_authority base parts parts.host_text is
+free_by_form base PathAbsolute parts (absent, path, drive) none = rw (absent.host_text, path.slashed) refl
+free_by_form base PathRelative parts (absent, path, some, free) none = rw absent.host_text free
+free_by_form base NoPath parts (absent, nothing, empty) none = rw (absent.host_text, nothing) refl
+
+-- the scheme is cut where it ends
+scheme_fits : (has : Bool) (scheme : Option (List ℕ)) (middle : List ℕ) → FitsScheme has scheme
+    → (has ≡ false → starts_with_scheme middle ≡ false) → IsSchemeCut scheme middle
+scheme_fits true (Some scheme) middle is free = is
+scheme_fits true None middle is free = absurd is
+scheme_fits false scheme middle is free = rw is (free refl)
+
+-- a scheme holds no mark that isn't one of its code points
+scheme_without : (mark : ℕ) (has : Bool) (scheme : Option (List ℕ)) → is_scheme_code_point mark ≡ false
+    → is_ascii_alphabetic mark ≡ false → (colon == mark) ≡ false → FitsScheme has scheme
+    → is_without mark (written_scheme scheme) ≡ true
+scheme_without mark true None other letter differs is = absurd is
+scheme_without mark true (Some []) other letter differs is = absurd (false≢true is)
+scheme_without mark true (Some (c ∷ rest)) other letter differs is =
+    let parts = and_parts (is_ascii_alphabetic c) (list_all is_scheme_code_point rest) is in
+    let first : is_without mark (c ∷ []) ≡ true
+    = is_without-passes is_ascii_alphabetic mark (c ∷ []) letter (and_from _ _ parts.0 refl) in
+    let others = is_without-passes is_scheme_code_point mark rest other parts.1 in
+    is_without-append mark (c ∷ rest) (colon ∷ []) (is_without-append mark (c ∷ []) rest first others)
+    (is_without-more mark colon [] differs refl)
+scheme_without mark false scheme other letter differs is = rw is refl
+
+-- ---- the whole
+
+-- units behind `?` hold no `#`
+query_without : (query : Option (List ℕ)) → MayBeUnits query
+    → is_without number_sign (written_behind question_mark query) ≡ true
+query_without None is = refl
+query_without (Some query) is = units_without_number_sign query is
+
+-- the parts are written as their texts are
+pub written_as_cut : (parts : Parts) → written parts ≡ written_cut (texts_of parts)
+unfolding written
+written_as_cut parts = sym (simp append_assoc)
+
+-- the cut of a valid text has its parts
+pub valid_is_cut : ValidTextsAreCutIntoTheirParts
+valid_is_cut base text parts valid =
+    let middle = fits_by_form base parts.form parts valid.form in
+    let has = has_scheme parts.form in
+    let no_question = scheme_without question_mark has parts.scheme refl refl refl valid.scheme in
+    let no_number = scheme_without number_sign has parts.scheme refl refl refl valid.scheme in
+    let cut = texts_of parts in
+    record {
+      whole = valid.whole ∙ written_as_cut parts;
+      front =
+          is_without-append number_sign (written_start cut) (written_behind question_mark parts.query)
+          (is_without-append number_sign (written_scheme parts.scheme) (written_middle cut) no_number
+          middle.no_number_sign)
+          (query_without parts.query valid.query);
+      start =
+          is_without-append question_mark (written_scheme parts.scheme) (written_middle cut) no_question
+          middle.no_question_mark;
+      scheme =
+          scheme_fits has parts.scheme (written_middle cut) valid.scheme
+          (λ none. free_by_form base parts.form parts valid.form none);
+      authority = middle.authority;
+    }
+
+-- so its parts have the texts of the computed cut
+pub valid_texts : (base : Option Url) (text : List ℕ) (parts : Parts) → Valid base text parts
+    → texts_of parts ≡ cut_of base text
+valid_texts base text parts valid = cut_is_computed base text (texts_of parts) (valid_is_cut base text parts valid)

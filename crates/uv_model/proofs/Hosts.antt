@@ -1,0 +1,5 @@
+-- Lemmas on domains and on the one host of a text.
+pub mod DomainLemmas
+pub mod LastLabelLemmas
+pub mod Ipv4Domains
+pub mod HostUniqueness

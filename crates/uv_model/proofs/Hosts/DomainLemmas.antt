@@ -1,0 +1,153 @@
+-- Valid domains: what a form is, that it is one, and which texts have none.
+use Rattle.std.proofs.Common.{◌≡◌, ◌≢◌, ℕ, suc, ◌<◌, ◌-◌, true, false, not, ◌&&◌, nat_le, List, [], ◌∷◌, length, encode_utf8_all, IsAscii, Option, Some, None, IsSome, refl, sym, ap, ◌∙◌, inl, inr, arith}
+use Rattle.std.specs.Char.{is_ascii}
+use Rattle.std.specs.Int.{is_in_range}
+use Rattle.std.specs.List.{slice_index, list_all}
+use Rattle.std.proofs.lemmas.Bool.{false≢true, cases_Bool, and_parts, not-true}
+use Rattle.std.proofs.lemmas.Bool.Decides.{nat_tests}
+use Rattle.std.proofs.lemmas.List.Elements.{All-weaker}
+use Rattle.std.proofs.lemmas.List.Sums.{AllPass-from_list_all}
+use Rattle.std.proofs.lemmas.Option.{none-some, same_Some}
+use Rattle.std.proofs.lemmas.Str.{encodes-IsAscii}
+use Rattle.std.proofs.lemmas.Str.Ascii.{IsAscii-from_all}
+use Rattle.idna.specs.declared.deny_list.TheConstants.AsciiDenyList.{STD3, EMPTY}
+use Rattle.idna.specs.declared.options.DnsLength.TheVariants.{Ignore}
+use Rattle.idna.specs.declared.options.Hyphens.TheVariants.{Check}
+use Rattle.idna.specs.Labels.{is_full_stop, labels_of}
+use Rattle.idna.specs.Uts46.{process_utf8, to_ascii, to_unicode, domain_to_ascii, has_dns_lengths, verify_dns_length}
+use Rattle.idna.specs.Validity.{has_ace_prefix}
+use Rattle.idna.proofs.Uts46Lemmas.{IsOutputByte, All-to_ascii, to_ascii-invalid, to_unicode-to_ascii, domain_to_ascii-ascii}
+use Rattle.idna.proofs.ValidityLemmas.{denies-EMPTY, denies-STD3}
+use Rattle.uv_model.specs.Hosts.Domain.{without_root, has_permitted, is_form_code_point, has_lengths, strict_form, is_plain_ascii, parser_form, ends_in_number, IsForm, IsDomain, IsNumberText, HasNoForm}
+use Rattle.uv_model.specs.Scheme.{lowercase}
+use Rattle.uv_model.proofs.Texts.AsciiLemmas.{IsAscii-from_test}
+
+-- ---- the form at the settings of the URL parser
+
+-- lower case is what ToASCII at the parser's settings gives of plain ASCII
+plain_form : (text : List ℕ) → is_plain_ascii text ≡ true →
+    domain_to_ascii EMPTY (encode_utf8_all text) ≡ Some (lowercase text)
+plain_form text h =
+    let both = and_parts (list_all is_ascii text) _ h in
+    let lower = labels_of (lowercase text) in
+    let ascii = IsAscii-from_test text both.0 in
+    let none = AllPass-from_list_all (λ label. not (has_ace_prefix label)) lower both.1 in
+    ap (domain_to_ascii EMPTY) (encodes-IsAscii text ascii)
+    ∙ domain_to_ascii-ascii EMPTY text ascii (λ k d lt. denies-EMPTY _) (λ k d lt. not-true _ (none k d lt))
+
+-- so the parser's form is ToASCII at its settings, of every text
+pub parser_form-is : (text : List ℕ) → parser_form text ≡ domain_to_ascii EMPTY (encode_utf8_all text)
+unfolding parser_form
+parser_form-is text =
+    elim (cases_Bool (is_plain_ascii text)) [
+      | inl plain ↦ rw plain (sym (plain_form text plain))
+      | inr other ↦ rw other
+    ]
+
+-- ---- lengths
+
+-- the upper limit alone counts where there is a code point
+at_least_one : (n : ℕ) → is_in_range 1 253 (suc n) ≡ nat_le (suc n) 253
+at_least_one n = grind (arith, nat_tests)
+
+-- a name with no code point has one label, which is empty
+in_lengths : (name : List ℕ) →
+    (is_in_range 1 253 (length name) && list_all (λ label. is_in_range 1 63 (length label)) (labels_of name))
+    ≡ has_dns_lengths name
+in_lengths [] = refl
+in_lengths (b ∷ name) = rw (at_least_one (length name))
+
+-- the lengths are those that UTS #46 verifies, where a full stop at the end may stand
+pub has_lengths-is : (form : List ℕ) → has_lengths form ≡ verify_dns_length form true
+unfolding verify_dns_length
+has_lengths-is form =
+    in_lengths (without_root form)
+    ∙ elim (cases_Bool (is_full_stop (slice_index form (length form - 1)))) [ inl dot ↦ rw dot | inr other ↦ rw other ]
+
+-- ---- what has a form
+
+-- what strict ToASCII gives are code points of a form
+form_code_point : (c : ℕ) → IsOutputByte STD3 c → is_form_code_point c ≡ true
+form_code_point c h =
+    let allowed = sym (denies-STD3 c) ∙ h.allowed in
+    let small = h.ascii in
+    let lower = h.lower in
+    grind (arith, nat_tests)
+
+-- a text that strict ToASCII takes is one that ToUnicode takes
+shown : (bytes form : List ℕ) → to_ascii STD3 Check Ignore bytes ≡ Some form → (o : Option (List (List ℕ))) →
+    process_utf8 STD3 Check bytes ≡ o → IsSome (to_unicode STD3 Check bytes)
+unfolding to_unicode
+shown bytes form e None p = absurd (none-some form (sym (to_ascii-invalid STD3 Check Ignore bytes p) ∙ e))
+shown bytes form e (Some labels) p = rw p refl
+
+-- ToUnicode takes each form of strict ToASCII
+shown_form : (text form : List ℕ) → strict_form text ≡ Some form → IsSome (to_unicode STD3 Check form)
+shown_form text form e =
+    let bytes = encode_utf8_all text in
+    rw (to_unicode-to_ascii STD3 Check Ignore bytes form e) (shown bytes form e (process_utf8 STD3 Check bytes) refl)
+
+-- the form that both ToASCII give is that of the text, where its code points and the lengths are permitted
+pub IsForm-from : (text form : List ℕ) → has_permitted text ≡ true → strict_form text ≡ Some form →
+    has_lengths form ≡ true → domain_to_ascii EMPTY (encode_utf8_all text) ≡ Some form → IsForm text form
+IsForm-from text form permitted strict lengths parsed =
+    let bytes = All-to_ascii STD3 Check Ignore (encode_utf8_all text) form strict in
+    record {
+      permitted = permitted;
+      strict = strict;
+      letters = All-weaker (IsOutputByte STD3) (λ c. is_form_code_point c ≡ true) form_code_point form bytes;
+      lengths = lengths;
+      parsed = parser_form-is text ∙ parsed;
+      shown = shown_form text form strict;
+    }
+
+-- a form is ASCII
+pub IsAscii-form : (text form : List ℕ) → IsForm text form → IsAscii form
+IsAscii-form text form is =
+    IsAscii-from_all form (All-weaker (λ c. is_form_code_point c ≡ true) (λ c. c < 128) small form is.letters)
+  where
+    small : (c : ℕ) → is_form_code_point c ≡ true → c < 128
+    small c h = grind (arith, nat_tests)
+
+-- ---- what has none
+
+-- a text with an ASCII code point that isn't permitted has no form
+pub not_permitted : (text : List ℕ) → has_permitted text ≡ false → HasNoForm text
+not_permitted text e form h = false≢true (sym e ∙ h.permitted)
+
+-- a text that strict ToASCII refuses has no form
+pub not_strict : (text : List ℕ) → strict_form text ≡ None → HasNoForm text
+not_strict text e form h = none-some form (sym e ∙ h.strict)
+
+-- a text whose strict form has wrong lengths has no form
+pub no_lengths : (text form : List ℕ) → strict_form text ≡ Some form → has_lengths form ≡ false → HasNoForm text
+no_lengths text form e wrong other h =
+    let same = same_Some form other (sym e ∙ h.strict) in
+    false≢true (sym wrong ∙ ap has_lengths same ∙ h.lengths)
+
+-- a text that the parser's ToASCII refuses has no form
+pub not_parsed : (text : List ℕ) → domain_to_ascii EMPTY (encode_utf8_all text) ≡ None → HasNoForm text
+not_parsed text e form h = none-some form (sym e ∙ sym (parser_form-is text) ∙ h.parsed)
+
+-- a text whose two forms differ has no form
+pub other_parsed : (text form parsed : List ℕ) → strict_form text ≡ Some form →
+    domain_to_ascii EMPTY (encode_utf8_all text) ≡ Some parsed → form ≢ parsed → HasNoForm text
+other_parsed text form parsed e f differ other h =
+    let strict = same_Some form other (sym e ∙ h.strict) in
+    differ (strict ∙ sym (same_Some parsed other (sym f ∙ sym (parser_form-is text) ∙ h.parsed)))
+
+-- ---- one form
+
+-- a text has one form at most
+pub form_unique : (text a b : List ℕ) → IsForm text a → IsForm text b → a ≡ b
+form_unique text a b ha hb = same_Some a b (sym ha.strict ∙ hb.strict)
+
+-- a valid domain has one form
+pub domain_unique : (text a b : List ℕ) → IsDomain text a → IsDomain text b → a ≡ b
+domain_unique text a b ha hb = form_unique text a b ha.0 hb.0
+
+-- a valid domain isn't a number text
+pub domain_no_number : (text a : List ℕ) → IsDomain text a → ¬ (IsNumberText text)
+domain_no_number text a ha (b, is, number) =
+    let same : a ≡ b = form_unique text a b ha.0 is in
+    false≢true (sym ha.1 ∙ ap ends_in_number same ∙ number)

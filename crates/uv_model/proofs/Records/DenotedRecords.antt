@@ -1,0 +1,330 @@
+-- What a valid text denotes is well formed, form by form.
+use Rattle.std.proofs.Common.{◌≡◌, ℕ, true, false, not, ◌&&◌, List, [], ◌∷◌, Option, Some, None, refl, sym, subst, inl, inr}
+use Rattle.std.specs.Prelude.{option_map}
+use Rattle.std.proofs.lemmas.Bool.{cases_Bool, false≢true}
+use Rattle.uv_model.specs.declared.scheme.Class.{Class}
+use Rattle.uv_model.specs.declared.scheme.Class.TheVariants.{Special, File, Other}
+use Rattle.uv_model.specs.declared.host.Host.{Host}
+use Rattle.uv_model.specs.declared.path.UrlPath.{UrlPath}
+use Rattle.uv_model.specs.declared.path.UrlPath.TheVariants.{Opaque, Segments}
+use Rattle.uv_model.specs.Records.Denote.{authority_host, authority_path, denote, denoted_host, denoted_path, denoted_port, denoted_query, denoted_scheme, kept_drive, segments_in}
+use Rattle.uv_model.specs.Encoding.{encoded}
+use Rattle.uv_model.specs.Parts.{Form, Parts, SchemeAuthority, SchemePath, SchemeOpaque, Authority, PathAbsolute, PathRelative, NoPath, has_scheme}
+use Rattle.uv_model.specs.Scheme.{default_port, is_scheme, lowercase, scheme_class}
+use Rattle.uv_model.specs.Records.Url.{Url}
+use Rattle.uv_model.specs.Valid.{FitsBase, FitsForm, FitsScheme, HasAuthority, MayBeUnits, Valid, scheme_in}
+use Rattle.uv_model.specs.Records.WellFormed.{AreUrlSegments, IsUrlHost, IsUrlPath, IsUrlPort, IsUrlQuery, IsUrlScheme, MayBeWellFormed, WellFormed}
+use Rattle.uv_model.specs.Laws.Wholes.{DenotedRecordsAreWellFormed}
+use Rattle.uv_model.specs.Path.{IsPathAbsolute, IsPathRelative, is_drive_letter, is_normalized_drive_letter, shorten}
+use Rattle.uv_model.proofs.Cuts.AuthorityLemmas.{IsAuthority, IsAuthority-fits, IsUrlPath-authority, IsUrlPath-joined}
+use Rattle.uv_model.proofs.Paths.WalkLemmas.{AreUrlSegments-shorten}
+use Rattle.uv_model.proofs.SchemeLemmas.{default_port-lowercase, is_scheme-lowercase, no_uppercase-lowercase, scheme_class-lowercase}
+use Rattle.uv_model.proofs.Records.WellFormedLemmas.{IsUrlFragment-encoded, IsUrlOpaquePath-encoded, IsUrlQuery-encoded}
+
+-- the scheme of a text in lower case
+IsUrlScheme-lowercase : (scheme : List ℕ) → is_scheme scheme ≡ true → IsUrlScheme (lowercase scheme)
+IsUrlScheme-lowercase scheme is =
+    record { spelled = is_scheme-lowercase scheme is; lower = no_uppercase-lowercase scheme }
+
+-- a denoted scheme has the class of the scheme that the text is read by
+class-denoted : (base : Option Url) (parts : Parts) (scheme : Option (List ℕ)) → parts.scheme ≡ scheme
+    → scheme_class (scheme_in base parts) ≡ scheme_class (denoted_scheme base parts.scheme)
+class-denoted base parts (Some scheme) e = rw e (sym (scheme_class-lowercase scheme))
+class-denoted (Some url) parts None e = rw e refl
+class-denoted None parts None e = rw e refl
+
+-- the scheme of a form that has one
+IsUrlScheme-own : (base : Option Url) (scheme : Option (List ℕ)) → FitsScheme true scheme
+    → IsUrlScheme (denoted_scheme base scheme)
+IsUrlScheme-own base (Some scheme) fits = IsUrlScheme-lowercase scheme fits
+IsUrlScheme-own base None fits = absurd fits
+
+-- the query where the text has one, or the form another than the empty path
+IsUrlQuery-own : (base : Option Url) (kind : Class) (form : Form) (query : Option (List ℕ)) → MayBeUnits query
+    → (form ≡ NoPath → query ≡ None → IsUrlQuery kind (denoted_query base kind NoPath None))
+    → IsUrlQuery kind (denoted_query base kind form query)
+IsUrlQuery-own base kind form (Some query) units kept = IsUrlQuery-encoded kind query units
+IsUrlQuery-own base kind NoPath None units kept = kept refl refl
+IsUrlQuery-own base kind _ None units kept = tt
+
+-- the URL that the parts denote, read as of this form
+abbrev pub denote_as : Option Url → Form → Parts → Url
+denote_as base form parts =
+    let kind = scheme_class (scheme_in base parts) in
+    record {
+      scheme = denoted_scheme base parts.scheme;
+      host = denoted_host base form parts;
+      port = denoted_port base form parts;
+      path = denoted_path base kind form parts;
+      query = denoted_query base kind form parts.query;
+      fragment = option_map (encoded false) parts.fragment;
+    }
+
+-- what the forms differ in: all but the fragment, by the class that the text is read by
+record AreDenoted (base : Option Url) (kind : Class) (form : Form) (parts : Parts) : Type 0 where
+  scheme : IsUrlScheme (denoted_scheme base parts.scheme)
+  host : IsUrlHost kind (denoted_host base form parts)
+  port : IsUrlPort (denoted_scheme base parts.scheme) (denoted_host base form parts) (denoted_port base form parts)
+  path : IsUrlPath kind (denoted_host base form parts) (denoted_path base kind form parts)
+  query : IsUrlQuery kind (denoted_query base kind form parts.query)
+
+-- the whole record
+WellFormed-denoted : (base : Option Url) (form : Form) (parts : Parts) → MayBeUnits parts.fragment
+    → AreDenoted base (scheme_class (scheme_in base parts)) form parts → WellFormed (denote_as base form parts)
+WellFormed-denoted base form parts units are =
+    let kind = scheme_class (scheme_in base parts) in
+    let same = class-denoted base parts parts.scheme refl in
+    let host : Option Host = denoted_host base form parts in
+    let path : UrlPath = denoted_path base kind form parts in
+    record {
+      scheme = are.scheme;
+      host = subst (λ (k : Class). IsUrlHost k host) same are.host;
+      port = are.port;
+      path = subst (λ (k : Class). IsUrlPath k host path) same are.path;
+      query = subst (λ (k : Class). IsUrlQuery k (denoted_query base kind form parts.query)) same are.query;
+      fragment = IsUrlFragment-encoded parts.fragment units;
+    }
+
+-- ---- an opaque path
+
+AreDenoted-opaque : (base : Option Url) (parts : Parts) → FitsScheme true parts.scheme
+    → FitsForm base SchemeOpaque parts
+    → MayBeUnits parts.query → AreDenoted base (scheme_class (scheme_in base parts)) SchemeOpaque parts
+AreDenoted-opaque base parts scheme fits query =
+    record {
+      scheme = IsUrlScheme-own base parts.scheme scheme;
+      host = rw fits.1 tt;
+      port = tt;
+      path = (fits.1, refl, IsUrlOpaquePath-encoded parts.path_text fits.2);
+      query = IsUrlQuery-own base (scheme_class (scheme_in base parts)) SchemeOpaque parts.query query (λ e. absurd cc);
+    }
+
+-- what a valid text with a scheme and an opaque path denotes is well formed
+pub opaque_well_formed : (base : Option Url) (text : List ℕ) (parts : Parts) → Valid base text parts
+    → parts.form ≡ SchemeOpaque → WellFormed (denote base parts)
+unfolding denote
+opaque_well_formed base text parts valid form =
+    subst (λ (f : Form). WellFormed (denote_as base f parts)) (sym form)
+    (WellFormed-denoted base SchemeOpaque parts valid.fragment
+    (AreDenoted-opaque base parts (subst (λ (f : Form). FitsScheme (has_scheme f) parts.scheme) form valid.scheme)
+    (subst (λ (f : Form). FitsForm base f parts) form valid.form) valid.query))
+
+-- ---- an authority
+
+-- the default port of a denoted scheme is that of the scheme that the text is read by
+default_port-denoted : (base : Option Url) (parts : Parts) (scheme : Option (List ℕ)) → parts.scheme ≡ scheme
+    → default_port (denoted_scheme base parts.scheme) ≡ default_port (scheme_in base parts)
+default_port-denoted base parts (Some scheme) e = rw e (default_port-lowercase scheme)
+default_port-denoted (Some url) parts None e = rw e refl
+default_port-denoted None parts None e = rw e refl
+
+-- schemes of one class and one default port have the same ports
+IsUrlPort-same : (scheme other : List ℕ) (host : Option Host) (port : Option ℕ)
+    → scheme_class scheme ≡ scheme_class other
+    → default_port scheme ≡ default_port other → IsUrlPort other host port → IsUrlPort scheme host port
+IsUrlPort-same scheme other host None class default is = tt
+IsUrlPort-same scheme other host (Some port) class default is = (rw class is.0, rw default is.1)
+
+-- what stands behind `//`, by the host text
+IsAuthority-has : (base : Option Url) (parts : Parts) (text : Option (List ℕ))
+    → HasAuthority base (record parts { host_text = text })
+    → IsAuthority (scheme_class (scheme_in base parts)) (scheme_in base parts) (record parts { host_text = text })
+IsAuthority-has base parts None fits = absurd fits
+IsAuthority-has base parts (Some text) fits =
+    IsAuthority-fits (scheme_class (scheme_in base parts)) (scheme_in base parts) text
+    (record parts { host_text = Some text }) refl refl fits
+
+-- the host, the port and the path of a form with an authority
+record AreOfAuthority (base : Option Url) (kind : Class) (parts : Parts) : Type 0 where
+  host : IsUrlHost kind (authority_host parts)
+  port : IsUrlPort (denoted_scheme base parts.scheme) (authority_host parts) parts.port
+  path : IsUrlPath kind (authority_host parts) (Segments (authority_path kind parts.segments))
+
+AreOfAuthority-has : (base : Option Url) (parts : Parts) → HasAuthority base parts
+    → AreOfAuthority base (scheme_class (scheme_in base parts)) parts
+AreOfAuthority-has base parts has =
+    let kind : Class = scheme_class (scheme_in base parts) in
+    let is : IsAuthority kind (scheme_in base parts) parts = IsAuthority-has base parts parts.host_text has in
+    let class = sym (class-denoted base parts parts.scheme refl) in
+    let default = default_port-denoted base parts parts.scheme refl in
+    let scheme : List ℕ = denoted_scheme base parts.scheme in
+    let port : IsUrlPort scheme (Some is.value) parts.port
+    = IsUrlPort-same scheme (scheme_in base parts) (Some is.value) parts.port class default is.port
+    in
+    record {
+      host = subst (λ (h : Option Host). IsUrlHost kind h) (sym is.valued) is.host;
+      port =
+          subst (λ (h : Option Host). IsUrlPort (denoted_scheme base parts.scheme) h parts.port) (sym is.valued) port;
+      path =
+          subst (λ (h : Option Host). IsUrlPath kind h (Segments (authority_path kind parts.segments))) (sym is.valued)
+          (IsUrlPath-authority kind is.value parts.segments is.each);
+    }
+
+AreDenoted-scheme_authority : (base : Option Url) (parts : Parts) → FitsScheme true parts.scheme
+    → HasAuthority base parts
+    → MayBeUnits parts.query → AreDenoted base (scheme_class (scheme_in base parts)) SchemeAuthority parts
+AreDenoted-scheme_authority base parts scheme fits query =
+    let are = AreOfAuthority-has base parts fits in
+    record {
+      scheme = IsUrlScheme-own base parts.scheme scheme;
+      host = are.host;
+      port = are.port;
+      path = are.path;
+      query =
+          IsUrlQuery-own base (scheme_class (scheme_in base parts)) SchemeAuthority parts.query query (λ e. absurd cc);
+    }
+
+-- ---- a path behind a scheme
+
+AreDenoted-path : (base : Option Url) (parts : Parts) → FitsScheme true parts.scheme → FitsForm base SchemePath parts
+    → MayBeUnits parts.query → AreDenoted base (scheme_class (scheme_in base parts)) SchemePath parts
+AreDenoted-path base parts scheme fits query =
+    let kind : Class = scheme_class (scheme_in base parts) in
+    record {
+      scheme = IsUrlScheme-own base parts.scheme scheme;
+      host = rw fits.1 tt;
+      port = tt;
+      path = IsUrlPath-joined kind None [] parts.segments fits.2.behind tt fits.2.relative.joins;
+      query = IsUrlQuery-own base kind SchemePath parts.query query (λ e. absurd cc);
+    }
+
+-- ---- references
+
+-- a reference has the base's scheme
+scheme-reference : (url : Url) (parts : Parts) → parts.scheme ≡ None
+    → denoted_scheme (Some url) parts.scheme ≡ url.scheme
+scheme-reference url parts e = rw e refl
+
+-- and is read by its class
+class-reference : (url : Url) (parts : Parts) → parts.scheme ≡ None
+    → scheme_class (scheme_in (Some url) parts) ≡ scheme_class url.scheme
+class-reference url parts e = rw e refl
+
+-- what a reference with an authority denotes, but for the class
+AreDenoted-reference_authority : (url : Url) (parts : Parts) → WellFormed url → parts.scheme ≡ None
+    → HasAuthority (Some url) parts → MayBeUnits parts.query
+    → AreDenoted (Some url) (scheme_class (scheme_in (Some url) parts)) Authority parts
+AreDenoted-reference_authority url parts base none fits query =
+    let are = AreOfAuthority-has (Some url) parts fits in
+    record {
+      scheme = rw none base.scheme;
+      host = are.host;
+      port = are.port;
+      path = are.path;
+      query =
+          IsUrlQuery-own (Some url) (scheme_class (scheme_in (Some url) parts)) Authority parts.query query
+          (λ e. absurd cc);
+    }
+
+-- the segments of a base's path
+AreUrlSegments-base : (kind : Class) (host : Option Host) (path : UrlPath) → IsUrlPath kind host path
+    → AreUrlSegments (segments_in path)
+AreUrlSegments-base kind host (Opaque text) is = tt
+AreUrlSegments-base kind host (Segments []) is = tt
+AreUrlSegments-base kind host (Segments (segment ∷ rest)) is = is
+
+-- the drive letter that is kept of them
+AreUrlSegments-kept_drive : (kind : Class) (path segments : List (List ℕ)) → AreUrlSegments path
+    → AreUrlSegments (kept_drive kind path segments)
+AreUrlSegments-kept_drive Special path segments are = tt
+AreUrlSegments-kept_drive Other path segments are = tt
+AreUrlSegments-kept_drive File [] segments are = tt
+AreUrlSegments-kept_drive File (drive ∷ others) [] are = tt
+AreUrlSegments-kept_drive File (drive ∷ others) (first ∷ rest) are =
+    elim (cases_Bool (is_normalized_drive_letter drive && not (is_drive_letter first))) [
+      | inl keeps ↦ rw keeps (are.0, tt)
+      | inr drops ↦ rw drops tt
+    ]
+
+-- what a reference without an authority takes from its base
+AreDenoted-reference : (url : Url) (form : Form) (parts : Parts) → WellFormed url → parts.scheme ≡ None
+    → denoted_host (Some url) form parts ≡ url.host → denoted_port (Some url) form parts ≡ url.port
+    → IsUrlPath (scheme_class url.scheme) url.host (denoted_path (Some url) (scheme_class url.scheme) form parts)
+    → MayBeUnits parts.query → AreDenoted (Some url) (scheme_class (scheme_in (Some url) parts)) form parts
+AreDenoted-reference url form parts base none host port path query =
+    subst (λ (kind : Class). AreDenoted (Some url) kind form parts) (sym (class-reference url parts none))
+    (record {
+      scheme = rw none base.scheme;
+      host = rw host base.host;
+      port = rw (host, port, none) base.port;
+      path = rw host path;
+      query = IsUrlQuery-own (Some url) (scheme_class url.scheme) form parts.query query (λ is gone. base.query);
+    })
+
+-- the path of a path-absolute reference
+IsUrlPath-absolute : (url : Url) (parts : Parts) → WellFormed url → IsPathAbsolute parts.segments parts.path_text
+    → IsUrlPath (scheme_class url.scheme) url.host
+    (denoted_path (Some url) (scheme_class url.scheme) PathAbsolute parts)
+IsUrlPath-absolute url parts base path =
+    let kind : Class = scheme_class url.scheme in
+    let segments : List (List ℕ) = segments_in url.path in
+    let start : AreUrlSegments (kept_drive kind segments parts.segments)
+    = AreUrlSegments-kept_drive kind segments parts.segments (AreUrlSegments-base kind url.host url.path base.path)
+    in
+    IsUrlPath-joined kind url.host (kept_drive kind segments parts.segments) parts.segments path.behind start
+    path.relative.joins
+
+-- the path of a path-relative reference
+IsUrlPath-relative : (url : Url) (parts : Parts) → WellFormed url → IsPathRelative parts.segments parts.path_text
+    → IsUrlPath (scheme_class url.scheme) url.host
+    (denoted_path (Some url) (scheme_class url.scheme) PathRelative parts)
+IsUrlPath-relative url parts base path =
+    let kind : Class = scheme_class url.scheme in
+    let segments : List (List ℕ) = segments_in url.path in
+    let start : AreUrlSegments (shorten kind segments)
+    = AreUrlSegments-shorten kind segments (AreUrlSegments-base kind url.host url.path base.path)
+    in
+    IsUrlPath-joined kind url.host (shorten kind segments) parts.segments parts.path_text start path.joins
+
+-- ---- all forms
+
+-- the forms without a scheme, against a base
+AreDenoted-against : (url : Url) (form : Form) (parts : Parts) → WellFormed url → has_scheme form ≡ false
+    → parts.scheme ≡ None
+    → FitsForm (Some url) form parts → MayBeUnits parts.query
+    → AreDenoted (Some url) (scheme_class (scheme_in (Some url) parts)) form parts
+AreDenoted-against url SchemeAuthority parts base other none fits query = cc
+AreDenoted-against url SchemePath parts base other none fits query = cc
+AreDenoted-against url SchemeOpaque parts base other none fits query = cc
+AreDenoted-against url Authority parts base other none fits query =
+    AreDenoted-reference_authority url parts base none fits query
+AreDenoted-against url PathAbsolute parts base other none fits query =
+    AreDenoted-reference url PathAbsolute parts base none refl refl (IsUrlPath-absolute url parts base fits.1) query
+AreDenoted-against url PathRelative parts base other none fits query =
+    AreDenoted-reference url PathRelative parts base none refl refl (IsUrlPath-relative url parts base fits.1) query
+AreDenoted-against url NoPath parts base other none fits query =
+    AreDenoted-reference url NoPath parts base none refl refl base.path query
+
+-- a text without a scheme has a base
+AreDenoted-reference_form : (base : Option Url) (form : Form) (parts : Parts) → MayBeWellFormed base
+    → has_scheme form ≡ false
+    → parts.scheme ≡ None → FitsBase base parts → FitsForm base form parts → MayBeUnits parts.query
+    → AreDenoted base (scheme_class (scheme_in base parts)) form parts
+AreDenoted-reference_form None form parts base other none against fits query = absurd (false≢true (rw none at against))
+AreDenoted-reference_form (Some url) form parts base other none against fits query =
+    AreDenoted-against url form parts base other none fits query
+
+-- each form
+AreDenoted-form : (base : Option Url) (form : Form) (parts : Parts) → MayBeWellFormed base
+    → FitsScheme (has_scheme form) parts.scheme → FitsBase base parts → FitsForm base form parts
+    → MayBeUnits parts.query
+    → AreDenoted base (scheme_class (scheme_in base parts)) form parts
+AreDenoted-form base SchemeAuthority parts may scheme against fits query =
+    AreDenoted-scheme_authority base parts scheme fits query
+AreDenoted-form base SchemePath parts may scheme against fits query = AreDenoted-path base parts scheme fits query
+AreDenoted-form base SchemeOpaque parts may scheme against fits query = AreDenoted-opaque base parts scheme fits query
+AreDenoted-form base Authority parts may scheme against fits query =
+    AreDenoted-reference_form base Authority parts may refl scheme against fits query
+AreDenoted-form base PathAbsolute parts may scheme against fits query =
+    AreDenoted-reference_form base PathAbsolute parts may refl scheme against fits query
+AreDenoted-form base PathRelative parts may scheme against fits query =
+    AreDenoted-reference_form base PathRelative parts may refl scheme against fits query
+AreDenoted-form base NoPath parts may scheme against fits query =
+    AreDenoted-reference_form base NoPath parts may refl scheme against fits query
+
+-- what a valid text denotes is well formed
+pub denoted_records_are_well_formed : DenotedRecordsAreWellFormed
+unfolding denote
+denoted_records_are_well_formed base text parts may valid =
+    WellFormed-denoted base parts.form parts valid.fragment
+    (AreDenoted-form base parts.form parts may valid.scheme valid.against valid.form valid.query)

@@ -1,0 +1,140 @@
+-- Well-formed records: what the encoded parts of a valid text are.
+use Rattle.std.proofs.Common.{◌≡◌, ℕ, ◌<◌, Bool, true, false, not, List, [], ◌∷◌, Option, Some, None, refl, ap, ◌∙◌, ◌==◌}
+use Rattle.std.specs.Prelude.{if◌then◌else◌, option_map}
+use Rattle.std.specs.Fmt.{digit_glyph}
+use Rattle.std.proofs.lemmas.Bool.{agree_below_at, false≢true}
+use Rattle.std.proofs.lemmas.List.Sums.{list_all-from_AllPass}
+use Rattle.uv_model.specs.declared.scheme.Class.{Class}
+use Rattle.uv_model.specs.declared.scheme.Class.TheVariants.{Special, File, Other}
+use Rattle.uv_model.specs.Ascii.{question_mark, slash}
+use Rattle.uv_model.specs.Records.Denote.{quotes}
+use Rattle.uv_model.specs.Encoding.{encoded}
+use Rattle.uv_model.specs.Path.{IsSegment, is_double_dot, is_single_dot, is_without}
+use Rattle.uv_model.specs.Units.{IsUnits}
+use Rattle.uv_model.specs.Valid.{IsOpaquePath, MayBeUnits}
+use Rattle.uv_model.specs.Records.WellFormed.{IsAsciiUnits, IsUrlDomain, IsUrlFragment, IsUrlOpaqueHost, IsUrlOpaquePath, IsUrlQuery, IsUrlSegment}
+use Rattle.uv_model.specs.Hosts.Domain.{IsDomain, is_form_code_point, has_lengths}
+use Rattle.uv_model.specs.Hosts.OpaqueHost.{IsOpaqueHost, is_forbidden_host}
+use Rattle.uv_model.proofs.Paths.DotSegmentLemmas.{is_double_dot-encoded, is_single_dot-encoded}
+use Rattle.uv_model.proofs.Texts.UnitsLemmas.{IsUnits-nil}
+use Rattle.std.specs.List.{list_all}
+use Rattle.uv_model.proofs.Texts.EncodingLemmas.{IsUnits-encoded, encoded-some, is_ascii-encoded, no_apostrophe-encoded, passes-encoded_whole, starts_with_slash-encoded}
+use Rattle.uv_model.proofs.Paths.PathLemmas.{IsUnits-join, no_question_mark-join}
+
+-- units encoded are ASCII units
+pub IsAsciiUnits-encoded : (quote : Bool) (text : List ℕ) → IsUnits text → IsAsciiUnits (encoded quote text)
+IsAsciiUnits-encoded quote text units =
+    record { units = IsUnits-encoded quote text units; ascii = is_ascii-encoded quote text }
+
+-- the query of a valid text, encoded by the class
+pub IsUrlQuery-encoded : (kind : Class) (query : List ℕ) → IsUnits query
+    → IsUrlQuery kind (Some (encoded (quotes kind) query))
+IsUrlQuery-encoded Special query units = (IsAsciiUnits-encoded true query units, no_apostrophe-encoded query)
+IsUrlQuery-encoded File query units = (IsAsciiUnits-encoded true query units, no_apostrophe-encoded query)
+IsUrlQuery-encoded Other query units = IsAsciiUnits-encoded false query units
+
+-- the fragment of a valid text, encoded
+pub IsUrlFragment-encoded : (fragment : Option (List ℕ)) → MayBeUnits fragment
+    → IsUrlFragment (option_map (encoded false) fragment)
+IsUrlFragment-encoded None units = tt
+IsUrlFragment-encoded (Some fragment) units = IsAsciiUnits-encoded false fragment units
+
+-- the code point isn't the mark
+abbrev is_other : ℕ → ℕ → Bool
+is_other mark c = if c == mark then false else true
+
+-- `?` stands in no encoding of a text without it
+no_question_mark-encoded : (quote : Bool) (text : List ℕ) → is_without question_mark text ≡ true
+    → is_without question_mark (encoded quote text) ≡ true
+no_question_mark-encoded quote text = passes-encoded_whole (is_other question_mark) (refl, digit) quote text
+  where
+    digit : (d : ℕ) → d < 16 → is_other question_mark (digit_glyph true d) ≡ true
+    digit d small = agree_below_at (λ e. is_other question_mark (digit_glyph true e)) (λ e. true) 16 d refl small
+
+-- nor does `/`
+no_slash-encoded : (quote : Bool) (text : List ℕ) → is_without slash text ≡ true
+    → is_without slash (encoded quote text) ≡ true
+no_slash-encoded quote text = passes-encoded_whole (is_other slash) (refl, digit) quote text
+  where
+    digit : (d : ℕ) → d < 16 → is_other slash (digit_glyph true d) ≡ true
+    digit d small = agree_below_at (λ e. is_other slash (digit_glyph true e)) (λ e. true) 16 d refl small
+
+-- nor does a forbidden host code point
+permitted-encoded : (quote : Bool) (text : List ℕ) → list_all (λ c. not (is_forbidden_host c)) text ≡ true
+    → list_all (λ c. not (is_forbidden_host c)) (encoded quote text) ≡ true
+permitted-encoded quote text = passes-encoded_whole (λ c. not (is_forbidden_host c)) (refl, digit) quote text
+  where
+    digit : (d : ℕ) → d < 16 → not (is_forbidden_host (digit_glyph true d)) ≡ true
+    digit d small = agree_below_at (λ e. not (is_forbidden_host (digit_glyph true e))) (λ e. true) 16 d refl small
+
+-- the opaque path of a valid text, encoded
+pub IsUrlOpaquePath-encoded : (text : List ℕ) → IsOpaquePath text → IsUrlOpaquePath (encoded false text)
+IsUrlOpaquePath-encoded text (segments, path) =
+    record {
+      units = IsAsciiUnits-encoded false text (rw path.joins.joined (IsUnits-join segments path.joins.each));
+      no_question_mark =
+          no_question_mark-encoded false text (rw path.joins.joined (no_question_mark-join segments path.joins.each));
+      start = starts_with_slash-encoded false text path.start;
+    }
+
+-- ---- segments
+
+-- the empty segment
+pub IsUrlSegment-nil : IsUrlSegment []
+unfolding is_single_dot is_double_dot
+IsUrlSegment-nil =
+    record {
+      units = record { units = IsUnits-nil; no_slash = refl; no_question_mark = refl };
+      ascii = refl;
+      no_single_dot = refl;
+      no_double_dot = refl;
+    }
+
+-- a segment of a text that is no dot segment, encoded
+pub IsUrlSegment-encoded : (segment : List ℕ) → IsSegment segment → is_single_dot segment ≡ false
+    → is_double_dot segment ≡ false → IsUrlSegment (encoded false segment)
+IsUrlSegment-encoded segment is single double =
+    record {
+      units = record {
+        units = IsUnits-encoded false segment is.units;
+        no_slash = no_slash-encoded false segment is.no_slash;
+        no_question_mark = no_question_mark-encoded false segment is.no_question_mark;
+      };
+      ascii = is_ascii-encoded false segment;
+      no_single_dot = is_single_dot-encoded segment ∙ single;
+      no_double_dot = is_double_dot-encoded segment ∙ double;
+    }
+
+-- ---- hosts
+
+-- a form has a code point
+first_of_form : (form : List ℕ) → has_lengths form ≡ true → (first : ℕ) × (rest : List ℕ) × (form ≡ first ∷ rest)
+first_of_form [] lengths = absurd (false≢true lengths)
+first_of_form (c ∷ rest) lengths = (c, rest, refl)
+
+-- the form of a domain
+pub IsUrlDomain-form : (text form : List ℕ) → IsDomain text form → IsUrlDomain form
+IsUrlDomain-form text form is =
+    let parts = first_of_form form is.0.lengths in
+    record {
+      first = parts.0;
+      rest = parts.1;
+      some = parts.2;
+      letters = list_all-from_AllPass is_form_code_point form is.0.letters;
+      name = is.1;
+    }
+
+-- an opaque host of a text, encoded
+pub IsUrlOpaqueHost-encoded : (text : List ℕ) → IsOpaqueHost text → IsUrlOpaqueHost (encoded false text)
+IsUrlOpaqueHost-encoded text is =
+    let parts = encoded-some is.first is.rest in
+    record {
+      host = record {
+        first = parts.0;
+        rest = parts.1;
+        some = ap (λ t. encoded false t) is.some ∙ parts.2;
+        units = IsUnits-encoded false text is.units;
+        permitted = permitted-encoded false text is.permitted;
+      };
+      ascii = is_ascii-encoded false text;
+    }

@@ -1,6 +1,0 @@
--- The rows of both parsers.
-use Rattle.uv_model.proofs.laws.address_parser_rows.Goals as goal
-use Rattle.uv_model.proofs.AddressRows.{address_parser_rows}
-
-pub returns : goal.returns
-returns c = address_parser_rows

@@ -1,6 +1,0 @@
--- Each row, by computation.
-use Rattle.uv_model.proofs.Rows.Denotation.{denotation_rows_hold}
-use Rattle.uv_model.proofs.laws.denotation_rows.Goals as goal
-
-pub returns : goal.returns
-returns c = denotation_rows_hold

@@ -1,6 +1,0 @@
--- The host parser on valid domains.
-use Rattle.uv_model.proofs.laws.domains_are_parsed.Goals as goal
-use Rattle.uv_model.proofs.HostParserLemmas as lemma
-
-pub returns : goal.returns
-returns c = lemma.domains_are_parsed

@@ -1,6 +1,0 @@
--- Each row, by computation.
-use Rattle.uv_model.proofs.Rows.File.{file_rows_hold}
-use Rattle.uv_model.proofs.laws.file_rows.Goals as goal
-
-pub returns : goal.returns
-returns c = file_rows_hold

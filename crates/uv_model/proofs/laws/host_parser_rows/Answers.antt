@@ -1,6 +1,0 @@
--- The rows of the host parser.
-use Rattle.uv_model.proofs.laws.host_parser_rows.Goals as goal
-use Rattle.uv_model.proofs.HostRows.{host_parser_rows}
-
-pub returns : goal.returns
-returns c = host_parser_rows

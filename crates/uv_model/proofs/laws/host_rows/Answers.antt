@@ -1,6 +1,0 @@
--- Each row, by computation.
-use Rattle.uv_model.proofs.Rows.Hosts.{host_rows_hold}
-use Rattle.uv_model.proofs.laws.host_rows.Goals as goal
-
-pub returns : goal.returns
-returns c = host_rows_hold

@@ -1,6 +1,0 @@
--- Each row, by computation.
-use Rattle.uv_model.proofs.Rows.OpaquePaths.{opaque_path_rows_hold}
-use Rattle.uv_model.proofs.laws.opaque_path_rows.Goals as goal
-
-pub returns : goal.returns
-returns c = opaque_path_rows_hold

@@ -1,6 +1,0 @@
--- Each row, by computation.
-use Rattle.uv_model.proofs.Rows.Other.{other_rows_hold}
-use Rattle.uv_model.proofs.laws.other_rows.Goals as goal
-
-pub returns : goal.returns
-returns c = other_rows_hold

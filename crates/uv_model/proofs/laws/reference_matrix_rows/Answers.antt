@@ -1,6 +1,0 @@
--- Each row and each complaint, by computation.
-use Rattle.uv_model.proofs.Rows.ReferenceMatrix.{reference_matrix_rows_hold}
-use Rattle.uv_model.proofs.laws.reference_matrix_rows.Goals as goal
-
-pub returns : goal.returns
-returns c = reference_matrix_rows_hold

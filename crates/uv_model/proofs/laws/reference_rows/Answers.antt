@@ -1,6 +1,0 @@
--- Each row, by computation.
-use Rattle.uv_model.proofs.Rows.References.{reference_rows_hold}
-use Rattle.uv_model.proofs.laws.reference_rows.Goals as goal
-
-pub returns : goal.returns
-returns c = reference_rows_hold

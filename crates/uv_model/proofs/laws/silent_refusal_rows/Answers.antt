@@ -1,6 +1,0 @@
--- Each row, by computation.
-use Rattle.uv_model.proofs.Rows.SilentRefusals.{silent_refusal_rows_hold}
-use Rattle.uv_model.proofs.laws.silent_refusal_rows.Goals as goal
-
-pub returns : goal.returns
-returns c = silent_refusal_rows_hold

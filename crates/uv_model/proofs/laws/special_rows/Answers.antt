@@ -1,6 +1,0 @@
--- Each row, by computation.
-use Rattle.uv_model.proofs.Rows.Special.{special_rows_hold}
-use Rattle.uv_model.proofs.laws.special_rows.Goals as goal
-
-pub returns : goal.returns
-returns c = special_rows_hold

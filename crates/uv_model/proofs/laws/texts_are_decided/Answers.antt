@@ -1,6 +1,0 @@
--- The law is the lemma.
-use Rattle.uv_model.proofs.DecidedBases.{texts_are_decided}
-use Rattle.uv_model.proofs.laws.texts_are_decided.Goals as goal
-
-pub returns : goal.returns
-returns c = texts_are_decided

@@ -1,0 +1,190 @@
+-- The complaints of a text against a base: which rule its cut violates at which place, after the URL Standard,
+-- sections 3.4 and 4.3.
+use Rattle.std.specs.Prelude.{◌≡◌, ◌≢◌, ℕ, ◌+◌, ◌<◌, ◌⊎◌, Bool, true, false, ◌==◌, List, [], ◌∷◌, drop, Option, Some, None, IsSome, if◌then◌else◌}
+use Rattle.std.specs.List.{list_all}
+use Rattle.std.specs.Char.{is_ascii_digit}
+use Rattle.std.specs.Str.Parse.{digits_value}
+use Rattle.uv_model.specs.declared.scheme.Class.{Class}
+use Rattle.uv_model.specs.declared.scheme.Class.TheVariants.{Special, File, Other}
+use Rattle.uv_model.specs.declared.host.Host.TheVariants.{Empty}
+use Rattle.uv_model.specs.declared.rule.Refusal.{Refusal}
+use Rattle.uv_model.specs.declared.rule.Rule.{Rule}
+use Rattle.uv_model.specs.declared.rule.Rule.TheVariants.{NoScheme, OpaqueBase, TwoSlashes, HostMissing, HostDomain, HostNumber, HostIpv6, PortDigit, PortRange, FirstSegmentEmpty, DriveAfterHost}
+use Rattle.uv_model.specs.Hosts.Address.{IsIpv4}
+use Rattle.uv_model.specs.Ascii.{number_sign}
+use Rattle.uv_model.specs.Cut.{Cut, cut_of, class_in, starts_with_two_slashes, scheme_end, host_place, port_place, path_place, query_place, fragment_place}
+use Rattle.uv_model.specs.Hosts.Domain.{IsNumberText, HasNoForm}
+use Rattle.uv_model.specs.Hosts.OpaqueHost.{starts_with_bracket}
+use Rattle.uv_model.specs.Complaints.OpaqueHostComplaint.{IsBadIpv6, OpaqueHostComplaint}
+use Rattle.uv_model.specs.Path.{starts_with_slash, starts_with_drive}
+use Rattle.uv_model.specs.Complaints.UnitComplaint.{UnitComplaint}
+use Rattle.uv_model.specs.Records.Url.{Url, is_opaque}
+
+-- ---- before any part: a scheme, a base and `//`
+
+-- the text begins with `#`
+abbrev pub starts_with_number_sign : List ℕ → Bool
+starts_with_number_sign [] = false
+starts_with_number_sign (c ∷ rest) = c == number_sign
+
+-- the base has an opaque path
+abbrev pub HasOpaquePath : Option Url → Type 0
+HasOpaquePath None = ⊥
+HasOpaquePath (Some base) = is_opaque base.path ≡ true
+
+-- a scheme other than of class Other, without the `//` that it needs
+abbrev pub LacksSlashes : Cut → Type 0
+LacksSlashes cut = IsSome cut.scheme × (class_in None cut.scheme ≢ Other) × (cut.host_text ≡ None)
+
+-- the first of the two code points behind a scheme and `:` that isn't `/`, or the text's end
+abbrev pub slashes_place : Cut → ℕ
+slashes_place cut = scheme_end cut + (if starts_with_slash cut.path_text then 1 else 0)
+
+-- the rules under which no host, port and path start is judged
+abbrev pub StartComplaint : Option Url → List ℕ → Cut → ℕ → Rule → Type 0
+StartComplaint base text cut place NoScheme = (cut.scheme ≡ None) × (base ≡ None) × (place ≡ 0)
+StartComplaint base text cut place OpaqueBase =
+    (cut.scheme ≡ None) × HasOpaquePath base × (starts_with_number_sign text ≡ false) × (place ≡ 0)
+StartComplaint base text cut place TwoSlashes = LacksSlashes cut × (place ≡ slashes_place cut)
+StartComplaint base text cut place _ = ⊥
+
+-- ---- the host, by the class; places count from its first code point
+
+-- the text isn't empty, doesn't begin with `[` and is no IPv4 text, so that it should be a domain
+pub record ShouldBeDomain (text : List ℕ) : Type 0 where
+  pub some : text ≢ []
+  pub no_bracket : starts_with_bracket text ≡ false
+  pub no_ipv4 : (value : ℕ) → ¬ (IsIpv4 text value)
+
+-- the rules of the host of a URL of class Special or File, but for the rule of a missing host
+abbrev pub HostTextComplaint : List ℕ → Rule → Type 0
+HostTextComplaint host_text HostDomain = ShouldBeDomain host_text × HasNoForm host_text
+HostTextComplaint host_text HostNumber = ShouldBeDomain host_text × IsNumberText host_text
+HostTextComplaint host_text HostIpv6 = IsBadIpv6 host_text
+HostTextComplaint host_text _ = ⊥
+
+-- The host is missing: in class Special wherever it is empty, in class File where no path follows it, and else where
+-- a port follows it.
+abbrev pub LacksHost : Class → List ℕ → Option (List ℕ) → List ℕ → Type 0
+LacksHost Special host_text port_text path_text = host_text ≡ []
+LacksHost File host_text port_text path_text = (host_text ≡ []) × (starts_with_slash path_text ≡ false)
+LacksHost Other host_text port_text path_text = (host_text ≡ []) × IsSome port_text
+
+-- the rules of a host by what it holds
+abbrev pub HeldHostComplaint : Class → List ℕ → ℕ → Rule → Type 0
+HeldHostComplaint Other host_text place rule = OpaqueHostComplaint host_text place rule
+HeldHostComplaint _ host_text place rule = HostTextComplaint host_text rule × (place ≡ 0)
+
+-- the rules of a host
+abbrev pub HostComplaint : Class → List ℕ → Option (List ℕ) → List ℕ → ℕ → Rule → Type 0
+HostComplaint kind host_text port_text path_text place HostMissing =
+    LacksHost kind host_text port_text path_text × (place ≡ 0)
+HostComplaint kind host_text port_text path_text place rule = HeldHostComplaint kind host_text place rule
+
+-- ---- the port; places count from its first code point
+
+-- at the place stands a code point that isn't a digit
+pub record HasForeignDigit (text : List ℕ) (place : ℕ) : Type 0 where
+  pub code_point : ℕ
+  pub rest : List ℕ
+  pub here : drop place text ≡ code_point ∷ rest
+  pub foreign : is_ascii_digit code_point ≡ false
+
+-- digits alone, which denote more than 65535
+pub record IsTooLarge (text : List ℕ) : Type 0 where
+  pub digits : list_all is_ascii_digit text ≡ true
+  pub large : 65535 < digits_value 10 text
+
+-- the rules of a port
+abbrev pub PortComplaint : List ℕ → ℕ → Rule → Type 0
+PortComplaint port_text place PortDigit = HasForeignDigit port_text place
+PortComplaint port_text place PortRange = IsTooLarge port_text × (place ≡ 0)
+PortComplaint port_text place _ = ⊥
+
+-- ---- the start of the path; places count from its first code point
+
+-- a host that keeps a drive letter out of the path: the text's, or without a scheme and an authority the base's
+abbrev pub HasHost : Option Url → Option (List ℕ) → Option (List ℕ) → Type 0
+HasHost base scheme (Some host_text) = host_text ≢ []
+HasHost (Some url) None None = url.host ≢ Some Empty
+HasHost _ _ None = ⊥
+
+-- the rules of the start of a path
+abbrev pub PathStartComplaint : Option Url → Cut → ℕ → Rule → Type 0
+PathStartComplaint base cut place FirstSegmentEmpty = (starts_with_two_slashes cut.path_text ≡ true) × (place ≡ 1)
+PathStartComplaint base cut place DriveAfterHost =
+    (class_in base cut.scheme ≡ File) × HasHost base cut.scheme cut.host_text
+    × (starts_with_drive cut.path_text ≡ true) × (place ≡ 0)
+PathStartComplaint base cut place _ = ⊥
+
+-- ---- the whole text
+
+-- the complaints of a part that begins behind so many code points
+pub record Behind (start : ℕ) (complaint : ℕ → Rule → Type 0) (place : ℕ) (rule : Rule) : Type 0 where
+  pub inner : ℕ
+  pub moved : place ≡ start + inner
+  pub holds : complaint inner rule
+
+-- the refusal of a part that begins behind so many code points
+abbrev pub refusal_behind : ℕ → Refusal → Refusal
+refusal_behind start refusal = record { place = start + refusal.place; rule = refusal.rule }
+
+-- the fault of such a part, if there is one
+abbrev pub fault_behind : ℕ → Option Refusal → Option Refusal
+fault_behind start None = None
+fault_behind start (Some refusal) = Some (refusal_behind start refusal)
+
+-- the first fault, or else the second
+abbrev pub fault_or : Option Refusal → Option Refusal → Option Refusal
+fault_or None second = second
+fault_or (Some refusal) second = Some refusal
+
+-- the complaints of the host, where there is an authority
+abbrev pub HostPartComplaint : Option Url → Cut → ℕ → Rule → Type 0
+HostPartComplaint base cut place rule = of_host cut.host_text
+  where
+    of_host : Option (List ℕ) → Type 0
+    of_host None = ⊥
+    of_host (Some host_text) =
+        Behind (host_place cut)
+        (HostComplaint (class_in base cut.scheme) host_text cut.port_text cut.path_text) place rule
+
+-- the complaints of the port, where there is one
+abbrev pub PortPartComplaint : Cut → ℕ → Rule → Type 0
+PortPartComplaint cut place rule = of_port cut.host_text cut.port_text
+  where
+    of_port : Option (List ℕ) → Option (List ℕ) → Type 0
+    of_port (Some host_text) (Some port_text) = Behind (port_place host_text cut) (PortComplaint port_text) place rule
+    of_port _ _ = ⊥
+
+-- the complaints of the parts that are judged where no rule of the start is violated
+abbrev pub JudgedComplaint : Option Url → Cut → ℕ → Rule → Type 0
+JudgedComplaint base cut place rule =
+    HostPartComplaint base cut place rule ⊎ (PortPartComplaint cut place rule
+    ⊎ Behind (path_place cut) (PathStartComplaint base cut) place rule)
+
+-- the complaints of a text that may be absent, by what it holds
+abbrev pub MayBeUnitComplaint : ℕ → Option (List ℕ) → ℕ → Rule → Type 0
+MayBeUnitComplaint start None place rule = ⊥
+MayBeUnitComplaint start (Some text) place rule = Behind start (UnitComplaint text) place rule
+
+-- the complaints of the path, the query and the fragment by what they hold
+abbrev pub HeldComplaint : Cut → ℕ → Rule → Type 0
+HeldComplaint cut place rule =
+    Behind (path_place cut) (UnitComplaint cut.path_text) place rule
+    ⊎ (MayBeUnitComplaint (query_place cut) cut.query place rule
+    ⊎ MayBeUnitComplaint (fragment_place cut) cut.fragment place rule)
+
+-- no rule of the start is violated
+abbrev pub IsStarted : Option Url → List ℕ → Cut → Type 0
+IsStarted base text cut = (place : ℕ) (rule : Rule) → ¬ (StartComplaint base text cut place rule)
+
+-- the text with this cut violates the rule at the place
+abbrev pub ComplaintOf : Option Url → List ℕ → Cut → ℕ → Rule → Type 0
+ComplaintOf base text cut place rule =
+    StartComplaint base text cut place rule
+    ⊎ ((IsStarted base text cut × JudgedComplaint base cut place rule) ⊎ HeldComplaint cut place rule)
+
+-- the text violates the rule at the place
+unfoldable pub Complaint : Option Url → List ℕ → ℕ → Rule → Type 0
+Complaint base text place rule = ComplaintOf base text (cut_of base text) place rule

@@ -1,0 +1,16 @@
+-- The least of the complaints of a text: the least place, and there the rule with the least number.
+use Rattle.std.specs.Prelude.{ℕ, ◌≤◌, Option, Some, None}
+use Rattle.uv_model.specs.declared.rule.Rule.{Rule}
+use Rattle.uv_model.specs.declared.rule.Refusal.{Refusal}
+use Rattle.uv_model.specs.Complaints.Rule.{rule_number}
+
+-- the refusal stands among these complaints, at no larger place than each, and there with no larger number
+pub record IsLeastRefusal (complaint : ℕ → Rule → Type 0) (refusal : Refusal) : Type 0 where
+  pub stands : complaint refusal.place refusal.rule
+  pub first : (place : ℕ) (rule : Rule) → complaint place rule → refusal.place ≤ place
+  pub lowest : (rule : Rule) → complaint refusal.place rule → rule_number refusal.rule ≤ rule_number rule
+
+-- the least of these complaints, or none where there is no complaint
+abbrev pub IsLeast : (ℕ → Rule → Type 0) → Option Refusal → Type 0
+IsLeast complaint None = (place : ℕ) (rule : Rule) → complaint place rule → ⊥
+IsLeast complaint (Some refusal) = IsLeastRefusal complaint refusal

@@ -1,0 +1,4 @@
+-- What stands for a host (URL Standard, section 3.4): addresses, domains, opaque hosts.
+pub mod Address
+pub mod Domain
+pub mod OpaqueHost

@@ -1,0 +1,46 @@
+-- The laws of cuts and of complaints, each over every base and every text.
+use Rattle.std.specs.Prelude.{◌≡◌, ℕ, true, List, Option}
+use Rattle.uv_model.specs.Records.Url.{Url}
+use Rattle.uv_model.specs.Parts.{Parts}
+use Rattle.uv_model.specs.Valid.{Valid, starts_with_scheme}
+use Rattle.uv_model.specs.declared.rule.Rule.{Rule}
+use Rattle.uv_model.specs.Complaints.Complaint.{Complaint}
+use Rattle.uv_model.specs.Cut.{Cut, IsCut, cut_of, texts_of}
+
+-- the text has a cut, and no other one
+pub record HasOneCut (base : Option Url) (text : List ℕ) : Type 0 where
+  pub cut : Cut
+  pub is : IsCut base text cut
+  pub only : (other : Cut) → IsCut base text other → other ≡ cut
+
+-- every text has exactly one cut
+abbrev pub EveryTextHasOneCut : Type 0
+EveryTextHasOneCut = (base : Option Url) (text : List ℕ) → HasOneCut base text
+
+-- the cut of a valid text has the texts of its parts
+abbrev pub ValidTextsAreCutIntoTheirParts : Type 0
+ValidTextsAreCutIntoTheirParts =
+    (base : Option Url) (text : List ℕ) (parts : Parts) → Valid base text parts → IsCut base text (texts_of parts)
+
+-- the text has the same cut, the same valid parts and the same complaints against every base
+pub record IgnoresTheBase (text : List ℕ) : Type 0 where
+  pub cut : (base other : Option Url) → cut_of base text ≡ cut_of other text
+  pub valid : (base other : Option Url) (parts : Parts) → Valid base text parts → Valid other text parts
+  pub complaint :
+      (base other : Option Url) (place : ℕ)
+      (rule : Rule) → Complaint base text place rule → Complaint other text place rule
+
+-- a text with a scheme is judged without looking at the base
+abbrev pub TextsWithASchemeIgnoreTheBase : Type 0
+TextsWithASchemeIgnoreTheBase = (text : List ℕ) → starts_with_scheme text ≡ true → IgnoresTheBase text
+
+-- a text with a complaint has no valid parts
+abbrev pub TextsWithAComplaintHaveNoParts : Type 0
+TextsWithAComplaintHaveNoParts =
+    (base : Option Url) (text : List ℕ) (place : ℕ) (rule : Rule) → Complaint base text place rule
+    → (parts : Parts) → ¬ (Valid base text parts)
+
+-- the parts of a valid text are unique
+abbrev pub PartsAreUnique : Type 0
+PartsAreUnique =
+    (base : Option Url) (text : List ℕ) (p q : Parts) → Valid base text p → Valid base text q → p ≡ q

@@ -1,0 +1,11 @@
+-- Each text is taken by the grammar of silent texts, or its run stops: part by part, with a scheme and without one.
+pub mod CutTexts
+pub mod TailsDecided
+pub mod DecidedOpaque
+pub mod DecidedPath
+pub mod DecidedAuthority
+pub mod DecidedFile
+pub mod DecidedSchemes
+pub mod SchemeAbsent
+pub mod DecidedReferences
+pub mod SilentOrStopped

@@ -1,0 +1,295 @@
+-- An authority of a URL whose scheme isn't `file`: its host and its port are taken, or the parser machine stops.
+use Rattle.std.proofs.Common.{◌≡◌, ℕ, Bool, ◌+◌, ◌*◌, true, false, not, ◌&&◌, ◌||◌, ◌==◌, ◌⊎◌, List, [], ◌∷◌, ◌++◌, length, Option, Some, None, refl, sym, ◌∙◌, inl, inr, lt-ltb, le-ltb, append_assoc, append-nil, length-append, arith}
+use Rattle.std.specs.Prelude.{nat_lt}
+use Rattle.std.specs.List.{list_all}
+use Rattle.std.specs.Char.{is_ascii_digit}
+use Rattle.std.specs.Str.Parse.{digits_value}
+use Rattle.std.proofs.lemmas.Bool.{and_parts, cases_Bool, cases_lt, true≢false}
+use Rattle.std.proofs.lemmas.List.Folds.{list_all-append}
+use Rattle.uv_model.specs.declared.host.Host.{Host}
+use Rattle.uv_model.specs.Ascii.{slash, colon, question_mark, number_sign, at_sign, backslash}
+use Rattle.uv_model.specs.Cut.{EndsAtPort, is_within_at_end}
+use Rattle.uv_parser.specs.HostParser.{parse_host}
+use Rattle.uv_parser.specs.Machine.{Held, Sight, end, slash_mark, query_mark, fragment_mark, another, sight, turn, stop, AuthorityState, HostState, PortState, PathStartState, emptied, host_at, is_special, port_at, port_in, with_brackets, with_host, with_more, with_port}
+use Rattle.uv_model.specs.Parts.{written_behind}
+use Rattle.uv_model.specs.Path.{is_without}
+use Rattle.uv_model.specs.Records.Url.{Url}
+use Rattle.uv_model.specs.Valid.{IsPortText, MayBePortText}
+use Rattle.uv_parser.proofs.Loops.AuthorityLoops.{IsDelimiter, authority_law, authority_row_on, host_law, host_row_end, host_row_port, is_authority_letter, is_read_as_host, letter, port_law, port_row_end, port_row_on}
+use Rattle.uv_model.proofs.Cuts.AuthorityCutLemmas.{ends_from_start}
+use Rattle.uv_parser.proofs.Done.DoneAuthority.{reads_from}
+use Rattle.uv_parser.proofs.Loops.FileHosts.{and_true-right}
+use Rattle.uv_parser.proofs.HostParsing.HostsParsed.{has_some}
+use Rattle.uv_model.proofs.Texts.MarkLemmas.{is_without-more, is_without-parts}
+use Rattle.uv_parser.proofs.Running.Stopping.{Stops, stops_again, stops_after, stops_here, stops_step, stops_within}
+use Rattle.uv_model.proofs.Texts.UnitsAhead.{without_parts}
+
+-- a text without the three marks that end an authority
+pub record IsUnended (text : List ℕ) : Type 0 where
+  pub no_slash : is_without slash text ≡ true
+  pub no_question_mark : is_without question_mark text ≡ true
+  pub no_number_sign : is_without number_sign text ≡ true
+
+pub unended_behind : (c : ℕ) (cs : List ℕ) → IsUnended (c ∷ cs)
+    → ((c == slash) ≡ false) × ((c == question_mark) ≡ false) × ((c == number_sign) ≡ false) × IsUnended cs
+unended_behind c cs is =
+    let a = without_parts slash c cs is.no_slash in
+    let b = without_parts question_mark c cs is.no_question_mark in
+    let d = without_parts number_sign c cs is.no_number_sign in
+    (a.0, b.0, d.0, record { no_slash = a.1; no_question_mark = b.1; no_number_sign = d.1 })
+
+-- ---- rows that stop
+
+port_row_large : (h : Held) (s : Sight) → IsDelimiter s → nat_lt 65535 (digits_value 10 h.buffer) ≡ true
+    → port_at h s ≡ stop
+port_row_large h end is large = rw large refl
+port_row_large h slash_mark is large = rw large refl
+port_row_large h query_mark is large = rw large refl
+port_row_large h fragment_mark is large = rw large refl
+port_row_large h (another c) is large = absurd is
+
+host_row_empty : (h : Held) (s : Sight) → IsDelimiter s → ((length h.buffer == 0) && is_special h.url.scheme) ≡ true
+    → host_at h s ≡ stop
+host_row_empty h end is empty = rw empty refl
+host_row_empty h slash_mark is empty = rw empty refl
+host_row_empty h query_mark is empty = rw empty refl
+host_row_empty h fragment_mark is empty = rw empty refl
+host_row_empty h (another c) is empty = absurd is
+
+host_row_none : (h : Held) (s : Sight) → IsDelimiter s → ((length h.buffer == 0) && is_special h.url.scheme) ≡ false
+    → parse_host (is_special h.url.scheme) h.buffer ≡ None → host_at h s ≡ stop
+host_row_none h end is some none = rw (some, none) refl
+host_row_none h slash_mark is some none = rw (some, none) refl
+host_row_none h query_mark is some none = rw (some, none) refl
+host_row_none h fragment_mark is some none = rw (some, none) refl
+host_row_none h (another c) is some none = absurd is
+
+-- a code point of an authority that is no letter of one is `@`, or of a special URL `\`
+stopping : (special : Bool) (c : ℕ) → (c == slash) ≡ false → (c == question_mark) ≡ false
+    → (c == number_sign) ≡ false → is_authority_letter special c ≡ false
+    → ((c == at_sign) || ((c == backslash) && special)) ≡ true
+stopping special c a b d fault =
+    neither (c == at_sign) ((c == backslash) && special) (rw (a, b, d) at fault)
+  where
+    neither : (x y : Bool) → (not x && not y) ≡ false → (x || y) ≡ true
+    neither true y e = refl
+    neither false true e = refl
+    neither false false e = absurd (true≢false e)
+
+-- a host, or none
+pub host_cases : (o : Option Host) → (o ≡ None) ⊎ ((value : Host) × (o ≡ Some value))
+host_cases None = inl refl
+host_cases (Some value) = inr (value, refl)
+
+-- The host text is parsed, no port follows an empty one, and the port is a valid one.
+pub record IsHostTaken (special : Bool) (host : List ℕ) (port : Option (List ℕ)) : Type 0 where
+  pub value : Host
+  pub parsed : parse_host special host ≡ Some value
+  pub alone : host ≡ [] → port ≡ None
+  pub port_text : MayBePortText port
+
+module _ (base : Option Url) where
+  -- ---- the port
+
+  -- a port with another code point than a digit stops
+  port_stops : (cs rest : List ℕ) (h : Held) → list_all is_ascii_digit cs ≡ false → IsUnended cs
+      → Stops base PortState h (cs ++ rest) (length cs)
+  port_stops [] rest h foreign is = absurd (true≢false foreign)
+  port_stops (c ∷ cs) rest h foreign is =
+      let (a, b, d, later) = unended_behind c cs is in
+      elim (cases_Bool (is_ascii_digit c)) [
+        | inl digit ↦
+            stops_step base (λ p. port_row_on base c (cs ++ rest) h p digit)
+            (port_stops cs rest _ (rw digit at foreign) later)
+        | inr other ↦
+            let row : (p : ℕ) → turn base PortState p h (c ∷ (cs ++ rest)) ≡ stop
+            = λ p. simp (a, b, d, other) refl in
+            stops_within base (omega arith) (stops_here base row)
+      ]
+
+  -- from the port on
+  port_decided : (A : Type 0) (port rest : List ℕ) (h : Held) (k : ℕ) → IsUnended port → IsDelimiter (sight rest)
+      → ((g : Held) → g.url.scheme ≡ h.url.scheme → A ⊎ Stops base PathStartState g rest k)
+      → (IsPortText port × A) ⊎ Stops base PortState (emptied h) (port ++ rest) (length port + (k + 1))
+  port_decided A port rest h k is ends next =
+      elim (cases_Bool (list_all is_ascii_digit port)) [
+        | inl digits ↦ elim (cases_lt 65535 (digits_value 10 port)) [
+          | inl large ↦ inr
+              (stops_within base (omega arith)
+              (stops_after base (port_law base port rest (emptied h) digits)
+              (stops_here base
+              (λ p. port_row_large (with_more port (emptied h)) (sight rest) ends
+              (lt-ltb 65535 (digits_value 10 port) large)))))
+          | inr small ↦ elim (next (with_port (port_in h.url.scheme port) (emptied h)) refl) [
+            | inl fine ↦ inl (record { digits = digits; range = small }, fine)
+            | inr stops ↦ inr
+                (stops_within base (omega arith)
+                (stops_after base (port_law base port rest (emptied h) digits)
+                (stops_again base
+                (λ p. port_row_end (with_more port (emptied h)) (sight rest) ends
+                (le-ltb 65535 (digits_value 10 port) small)) stops)))
+          ]
+        ]
+        | inr foreign ↦ inr (stops_within base (omega arith) (port_stops port rest (emptied h) foreign is))
+      ]
+
+  -- ---- the host
+
+  -- from a host without a port on
+  host_alone : (A : Type 0) (special : Bool) (host rest : List ℕ) (h : Held) (k : ℕ)
+      → is_special h.url.scheme ≡ special
+      → is_read_as_host special false host ≡ true → IsDelimiter (sight rest)
+      → ((g : Held) → g.url.scheme ≡ h.url.scheme → A ⊎ Stops base PathStartState g rest k)
+      → (IsHostTaken special host None × A)
+      ⊎ Stops base HostState (with_brackets false (emptied h)) (host ++ rest) (length host + (k + 1))
+  host_alone A special host rest h k kind read ends next =
+      let held = with_more host (with_brackets (is_within_at_end false host) (emptied h)) in
+      let law = host_law base special false host rest (emptied h) kind read in
+      elim (cases_Bool ((length host == 0) && is_special h.url.scheme)) [
+        | inl empty ↦ inr
+            (stops_within base (omega arith)
+            (stops_after base law (stops_here base (λ p. host_row_empty held (sight rest) ends empty))))
+        | inr some ↦ elim (host_cases (parse_host (is_special h.url.scheme) host)) [
+          | inl none ↦ inr
+              (stops_within base (omega arith)
+              (stops_after base law (stops_here base (λ p. host_row_none held (sight rest) ends some none))))
+          | inr (value, parsed) ↦ elim (next (emptied (with_host (Some value) held)) refl) [
+            | inl fine ↦ inl (
+              record { value = value; parsed = rw kind at parsed; alone = λ same. refl; port_text = tt },
+              fine,
+            )
+            | inr stops ↦ inr
+                (stops_within base (omega arith)
+                (stops_after base law
+                (stops_again base (λ p. host_row_end value held (sight rest) ends some parsed) stops)))
+          ]
+        ]
+      ]
+
+  -- from a host with a port on
+  host_before_port : (A : Type 0) (special : Bool) (host port rest : List ℕ) (h : Held) (k : ℕ)
+      → is_special h.url.scheme ≡ special
+      → is_read_as_host special false host ≡ true → is_within_at_end false host ≡ false → IsUnended port
+      → IsDelimiter (sight rest)
+      → ((g : Held) → g.url.scheme ≡ h.url.scheme → A ⊎ Stops base PathStartState g rest k)
+      → (IsHostTaken special host (Some port) × A)
+      ⊎ Stops base HostState (with_brackets false (emptied h)) (host ++ (colon ∷ (port ++ rest)))
+      (length host + (length port + (k + 2)))
+  host_before_port A special [] port rest h k kind read closed is ends next =
+      inr (stops_within base (omega arith) (stops_here base (λ p. refl)))
+  host_before_port A special (c ∷ cs) port rest h k kind read closed is ends next =
+      let host = c ∷ cs in
+      let held = with_more host (with_brackets (is_within_at_end false host) (emptied h)) in
+      let law = host_law base special false host (colon ∷ (port ++ rest)) (emptied h) kind read in
+      let some = has_some host c cs refl in
+      elim (host_cases (parse_host (is_special h.url.scheme) host)) [
+        | inl none ↦
+            let row : (p : ℕ) → turn base HostState p held (colon ∷ (port ++ rest)) ≡ stop
+            = λ p. rw (closed, some, none) refl in
+            inr (stops_within base (omega arith) (stops_after base law (stops_here base row)))
+        | inr (value, parsed) ↦
+            elim (port_decided A port rest (with_host (Some value) held) k is ends next) [
+              | inl fine ↦ inl (
+                record { value = value; parsed = rw kind at parsed; alone = λ same. absurd cc; port_text = fine.0 },
+                fine.1,
+              )
+              | inr stops ↦ inr
+                  (stops_within base (omega arith)
+                  (stops_after base law
+                  (stops_step base (λ p. host_row_port base value (port ++ rest) held p closed some parsed) stops)))
+            ]
+      ]
+
+  -- ---- the authority
+
+  -- an authority with an `@`, or of a special URL a `\`, stops
+  authority_stops : (special : Bool) (cs rest : List ℕ) (h : Held) → is_special h.url.scheme ≡ special
+      → list_all (is_authority_letter special) cs ≡ false → IsUnended cs
+      → Stops base AuthorityState h (cs ++ rest) (length cs)
+  authority_stops special [] rest h kind fault is = absurd (true≢false fault)
+  authority_stops special (c ∷ cs) rest h kind fault is =
+      let (a, b, d, later) = unended_behind c cs is in
+      elim (cases_Bool (is_authority_letter special c)) [
+        | inl fine ↦
+            stops_step base (λ p. authority_row_on base special c (cs ++ rest) h p kind fine)
+            (authority_stops special cs rest _ kind (rw fine at fault) later)
+        | inr bad ↦
+            let row : (p : ℕ) → turn base AuthorityState p h (c ∷ (cs ++ rest)) ≡ stop
+            = λ p. simp (kind, a, b, d, stopping special c a b d bad) refl in
+            stops_within base (omega arith) (stops_here base row)
+      ]
+
+  -- from the authority on
+  pub authority_decided : (A : Type 0) (special : Bool) (host : List ℕ) (port : Option (List ℕ)) (rest : List ℕ)
+      (h : Held) (k : ℕ) → is_special h.url.scheme ≡ special → EndsAtPort host port
+      → IsUnended (host ++ written_behind colon port) → IsDelimiter (sight rest)
+      → ((g : Held) → g.url.scheme ≡ h.url.scheme → A ⊎ Stops base PathStartState g rest k)
+      → ((list_all (is_authority_letter special) host ≡ true) × IsHostTaken special host port × A)
+      ⊎ Stops base AuthorityState (with_brackets false (emptied h)) ((host ++ written_behind colon port) ++ rest)
+      (2 * length (host ++ written_behind colon port) + (k + 3))
+  authority_decided A special host port rest h k kind ends is delimited next =
+      let authority = host ++ written_behind colon port in
+      elim (cases_Bool (list_all (is_authority_letter special) authority)) [
+        | inl letters ↦
+            let split = and_parts (list_all (is_authority_letter special) host)
+            (list_all (is_authority_letter special) (written_behind colon port))
+            (sym (list_all-append (is_authority_letter special) host (written_behind colon port)) ∙ letters) in
+            let read = reads_from special false host port (ends_from_start host port ends) split.0 in
+            elim (host_decided port ends is read next) [
+              | inl fine ↦ inl (split.0, fine.0, fine.1)
+              | inr stops ↦ inr
+                  (stops_within base (omega arith)
+                  (stops_after base
+                  (authority_law base special authority rest (with_brackets false h) kind letters delimited) stops))
+            ]
+        | inr fault ↦ inr
+            (stops_within base (omega arith)
+            (authority_stops special authority rest (with_brackets false (emptied h)) kind fault is))
+      ]
+    where
+      host_decided : (port : Option (List ℕ)) → EndsAtPort host port → IsUnended (host ++ written_behind colon port)
+          → is_read_as_host special false host ≡ true
+          → ((g : Held) → g.url.scheme ≡ h.url.scheme → A ⊎ Stops base PathStartState g rest k)
+          → (IsHostTaken special host port × A)
+          ⊎ Stops base HostState (with_brackets false (emptied h)) ((host ++ written_behind colon port) ++ rest)
+          (length (host ++ written_behind colon port) + (k + 2))
+      host_decided None ends is read next =
+          elim (host_alone A special host rest h k kind read delimited next) [
+            | inl fine ↦ inl fine
+            | inr stops ↦ inr (rw append-nil (stops_within base (omega arith) stops))
+          ]
+      host_decided (Some port) ends is read next =
+          let behind : IsUnended port
+          = record {
+            no_slash = (is_without-parts slash (host ++ (colon ∷ [])) port
+                (rw (append_assoc host (colon ∷ []) port) is.no_slash)).1;
+            no_question_mark = (is_without-parts question_mark (host ++ (colon ∷ [])) port
+                (rw (append_assoc host (colon ∷ []) port) is.no_question_mark)).1;
+            no_number_sign = (is_without-parts number_sign (host ++ (colon ∷ [])) port
+                (rw (append_assoc host (colon ∷ []) port) is.no_number_sign)).1;
+          } in
+          elim (host_before_port A special host port rest h k kind read (ends.ends refl) behind delimited next) [
+            | inl fine ↦ inl fine
+            | inr stops ↦ inr
+                (rw (append_assoc host (colon ∷ port) rest)
+                (stops_within base (omega (arith, length-append host (colon ∷ port))) stops))
+          ]
+
+-- letters of an authority hold no `@`
+pub letters_no_at_sign : (special : Bool) (cs : List ℕ) → list_all (is_authority_letter special) cs ≡ true
+    → is_without at_sign cs ≡ true
+letters_no_at_sign special [] is = refl
+letters_no_at_sign special (c ∷ cs) is =
+    let parts = and_parts (is_authority_letter special c) (list_all (is_authority_letter special) cs) is in
+    let l = letter special c parts.0 in
+    is_without-more at_sign c cs l.no_at_sign (letters_no_at_sign special cs parts.1)
+
+-- and of a special URL no `\`
+pub letters_no_backslash : (cs : List ℕ) → list_all (is_authority_letter true) cs ≡ true
+    → is_without backslash cs ≡ true
+letters_no_backslash [] is = refl
+letters_no_backslash (c ∷ cs) is =
+    let parts = and_parts (is_authority_letter true c) (list_all (is_authority_letter true) cs) is in
+    let l = letter true c parts.0 in
+    is_without-more backslash c cs (sym (and_true-right (c == backslash)) ∙ l.no_backslash)
+    (letters_no_backslash cs parts.1)

@@ -1,0 +1,130 @@
+-- A text with a scheme of class Other and an opaque path: the parser is silent on it as its grammar says, or stops.
+use Rattle.std.proofs.Common.{◌≡◌, ℕ, suc, true, false, ◌⊎◌, List, [], ◌∷◌, ◌++◌, length, Option, Some, None, refl, ◌∙◌, inl, inr, length-append, arith}
+use Rattle.std.proofs.lemmas.Bool.{cases_Bool}
+use Rattle.uv_model.specs.declared.scheme.Class.TheVariants.{Other}
+use Rattle.uv_model.specs.declared.path.UrlPath.TheVariants.{Opaque}
+use Rattle.uv_model.specs.Ascii.{colon}
+use Rattle.uv_model.specs.Cut.{IsCut}
+use Rattle.uv_model.specs.Encoding.{encoded}
+use Rattle.uv_parser.specs.Machine.{Held, OpaquePathState, SchemeState, with_more, with_path, empty_held}
+use Rattle.uv_model.specs.Parts.{Parts, SchemeOpaque}
+use Rattle.uv_parser.specs.SilentTexts.{Silent}
+use Rattle.uv_model.specs.Path.{starts_with_slash}
+use Rattle.uv_parser.specs.Run.{first_removed}
+use Rattle.uv_model.specs.Scheme.{lowercase, scheme_class}
+use Rattle.uv_model.specs.Units.{is_faultless}
+use Rattle.uv_model.specs.Records.Url.{Url}
+use Rattle.uv_model.specs.Valid.{FitsBase, MayBeUnits}
+use Rattle.uv_model.proofs.Complaints.ComplaintLemmas.{cut_with}
+use Rattle.uv_parser.proofs.Decided.CutTexts.{HasMarks, marks, scheme_text}
+use Rattle.uv_parser.proofs.Loops.Looping.{opaque_path_law}
+use Rattle.uv_model.proofs.Paths.PathPieces.{path_relative, pieces}
+use Rattle.uv_parser.proofs.Running.RunsStopped.{RunStops, place_cases, removed_stops, scheme_stops}
+use Rattle.uv_parser.proofs.Loops.SchemeStretch.{scheme_held, colon_row}
+use Rattle.uv_parser.proofs.Running.Stopping.{Stops, stops_step, stops_after, stops_within}
+use Rattle.uv_parser.proofs.Loops.StoppingLoops.{opaque_path_stops}
+use Rattle.uv_parser.proofs.Loops.Tails.{tail, no_slash_before_tail}
+use Rattle.uv_parser.proofs.Decided.TailsDecided.{PassesToTail, no_hex_tail, tail_decided}
+
+-- the parts of such a text
+abbrev pub opaque_parts : List ℕ → Option (List ℕ) → List ℕ → Option (List ℕ) → Option (List ℕ) → Parts
+opaque_parts scheme port_text path query fragment = record {
+  form = SchemeOpaque;
+  scheme = Some scheme;
+  host_text = None;
+  host = None;
+  port_text = port_text;
+  port = None;
+  path_text = path;
+  segments = [];
+  query = query;
+  fragment = fragment;
+}
+
+-- what is held when the opaque path begins, and what is held behind it
+abbrev path_begun : List ℕ → Held
+path_begun scheme = with_path (Opaque []) (scheme_held scheme)
+
+abbrev path_held : List ℕ → List ℕ → Held
+path_held scheme path = with_path (Opaque (encoded false path)) (scheme_held scheme)
+
+module _ (base : Option Url) (scheme path : List ℕ) (query fragment : Option (List ℕ))
+    (other : scheme_class scheme ≡ Other) (start : starts_with_slash path ≡ false)
+    (have : HasMarks [] path query) where
+  opaque_passes : PassesToTail base OpaquePathState (path_held scheme path)
+  opaque_passes =
+      record {
+        query_held = path_held scheme path;
+        fragment_held = path_held scheme path;
+        at_query = λ p rest. refl;
+        at_fragment = λ p rest. refl;
+      }
+
+  -- from the opaque path on
+  path_decided : (is_faultless path ≡ true) × MayBeUnits query × MayBeUnits fragment
+      ⊎ Stops base OpaquePathState (path_begun scheme) (path ++ tail query fragment)
+      (length (path ++ tail query fragment))
+  path_decided =
+      elim (cases_Bool (is_faultless path)) [
+        | inl units ↦ elim (tail_decided base OpaquePathState (path_held scheme path) query fragment opaque_passes
+            have.query) [
+              | inl both ↦ inl (units, both.0, both.1)
+              | inr stops ↦ inr
+                  (stops_within base (omega (arith, length-append path (tail query fragment)))
+                  (stops_after base
+                  (opaque_path_law base path (tail query fragment) [] (scheme_held scheme) units have.path_question_mark)
+                  stops))
+            ]
+        | inr fault ↦ inr
+            (stops_within base (omega (arith, length-append path (tail query fragment)))
+            (opaque_path_stops base path (tail query fragment) (path_begun scheme) fault have.path_question_mark
+            have.path_number_sign (no_hex_tail query fragment)))
+      ]
+
+  -- from the scheme's `:` on
+  pub opaque_decided : (is_faultless path ≡ true) × MayBeUnits query × MayBeUnits fragment
+      ⊎ Stops base SchemeState (with_more (lowercase scheme) empty_held) (colon ∷ (path ++ tail query fragment))
+      (suc (length (path ++ tail query fragment)))
+  opaque_decided =
+      let no_slash = no_slash_before_tail path query fragment start in
+      elim path_decided [
+        | inl fine ↦ inl fine
+        | inr stops ↦ inr
+            (stops_step base
+            (λ p. colon_row base scheme (path ++ tail query fragment) p ∙ rw (other, no_slash) refl) stops)
+      ]
+
+-- the text is one on which the parser is silent, with these parts, or its run stops
+pub opaque_silent_or_stops : (base : Option Url) (text scheme : List ℕ) (port_text : Option (List ℕ)) (path : List ℕ)
+    (query fragment : Option (List ℕ))
+    → IsCut base text (cut_with (Some scheme) None port_text path query fragment)
+    → scheme_class scheme ≡ Other → starts_with_slash path ≡ false
+    → Silent base text (opaque_parts scheme port_text path query fragment) ⊎ RunStops base text
+opaque_silent_or_stops base text scheme port_text path query fragment is other start =
+    let have = marks base text (Some scheme) None port_text path query fragment is in
+    let whole = scheme_text base text scheme None port_text path query fragment is in
+    elim (place_cases (first_removed text)) [
+      | inl kept ↦ elim (opaque_decided base scheme path query fragment other start have) [
+        | inl (units, query_units, fragment_units) ↦ inl (record {
+          cut = is;
+          kept = kept;
+          scheme = is.scheme;
+          against = against base;
+          form = (
+            record { host_text = refl; host = refl; port_text = is.authority.0; port = refl },
+            other,
+            (pieces path, path_relative path units have.path_question_mark start),
+            refl,
+          );
+          query = query_units;
+          fragment = fragment_units;
+        })
+        | inr stops ↦ inr
+            (scheme_stops base text scheme (path ++ tail query fragment) _ kept is.scheme whole (omega arith) stops)
+      ]
+      | inr (p, removed) ↦ inr (removed_stops base text p removed)
+    ]
+  where
+    against : (base : Option Url) → FitsBase base (opaque_parts scheme port_text path query fragment)
+    against None = refl
+    against (Some url) = inl refl

@@ -1,0 +1,581 @@
+-- A text without a scheme, against a base: the parser is silent on it as its grammar says, or stops.
+use Rattle.std.proofs.Common.{◌≡◌, ℕ, suc, ◌+◌, ◌*◌, ◌≤◌, true, false, ◌||◌, ◌==◌, ◌⊎◌, List, [], ◌∷◌, ◌++◌, length, Option, Some, None, refl, sym, ap, subst, ◌∙◌, inl, inr, eqb-true, append_assoc, append-nil, length-append, arith}
+use Rattle.std.specs.Prelude.{IsSome}
+use Rattle.std.proofs.lemmas.Bool.{cases_Bool, false≢true}
+use Rattle.uv_model.specs.declared.host.Host.{Host}
+use Rattle.uv_model.specs.declared.host.Host.TheVariants as host
+use Rattle.uv_model.specs.declared.scheme.Class.{Class}
+use Rattle.uv_model.specs.declared.scheme.Class.TheVariants.{Special, File, Other}
+use Rattle.uv_model.specs.Ascii.{slash, colon, backslash, question_mark, number_sign}
+use Rattle.uv_model.specs.Cut.{Cut, IsCut, IsHostCut, starts_with_two_slashes}
+use Rattle.uv_parser.specs.Machine.{Held, State, with_fragment, begins, begins_drive, turn, stop, again, AuthorityState, FileSlashState, FileState, NoSchemeState, PathState, RelativeSlashState, RelativeState, SpecialAuthorityIgnoreSlashesState, empty_held, is_file, is_special, with_base, with_base_host, with_file_base, with_kept_drive, list_in, with_host, with_opaque_base, with_query, with_scheme, shortened}
+use Rattle.uv_model.specs.Parts.{Form, Parts, Authority, PathAbsolute, PathRelative, NoPath, written_authority, written_behind}
+use Rattle.uv_parser.specs.SilentTexts.{Silent, Takes, own_value}
+use Rattle.uv_model.specs.Path.{starts_with_slash}
+use Rattle.uv_parser.specs.Run.{first_removed}
+use Rattle.uv_model.specs.Scheme.{scheme_class}
+use Rattle.uv_model.specs.Records.Url.{Url, is_opaque}
+use Rattle.uv_model.specs.Valid.{port_given, starts_with_scheme}
+use Rattle.uv_model.proofs.Cuts.SchemesIgnoreBases.{cut_with_scheme}
+use Rattle.uv_model.proofs.Complaints.ComplaintLemmas.{cut_with}
+use Rattle.uv_model.proofs.Cuts.CutLemmas.{cut_is_computed}
+use Rattle.uv_parser.proofs.Decided.CutTexts.{HasMarks, cut_text, marks}
+use Rattle.uv_parser.proofs.Decided.DecidedAuthority.{IsUnended, authority_decided, letters_no_at_sign, letters_no_backslash}
+use Rattle.uv_parser.proofs.Decided.DecidedFile.{FileHostFits, file_host_decided}
+use Rattle.uv_parser.proofs.Decided.DecidedPath.{AreFine, FreeOfMarks, path_decided, path_start_decided}
+use Rattle.uv_parser.proofs.Decided.DecidedSchemes.{SilentOrStops, delimits_path, kind_cases, segments_behind, slashed_path}
+use Rattle.uv_model.proofs.Texts.MarkLemmas.{is_without-cons}
+use Rattle.uv_model.proofs.Paths.PathPieces.{path_relative, pieces}
+use Rattle.uv_parser.proofs.Running.RunsStopped.{RunStops, place_cases, removed_stops}
+use Rattle.uv_parser.proofs.Decided.SchemeAbsent.{absent_stops}
+use Rattle.uv_parser.proofs.Silence.SilentFile.{file_held}
+use Rattle.uv_parser.proofs.Running.Stopping.{Stops, stops_again, stops_here, stops_step, stops_within}
+use Rattle.uv_parser.proofs.Loops.Tails.{no_slash_before_tail, tail}
+use Rattle.uv_parser.proofs.Decided.TailsDecided.{PassesToTail, fragment_decided, tail_decided}
+
+-- of a text whose cut has no scheme none is at the start
+pub no_scheme_cut : (base : Option Url) (text : List ℕ) (cut : Cut) → IsCut base text cut → cut.scheme ≡ None
+    → starts_with_scheme text ≡ false
+no_scheme_cut base text cut is none =
+    elim (cases_Bool (starts_with_scheme text)) [
+      | inl starts ↦
+          let some : IsSome cut.scheme
+          = subst (λ (c : Cut). IsSome c.scheme) (sym (cut_is_computed base text cut is))
+          (cut_with_scheme base text starts) in
+          absurd (false≢true (subst (λ (o : Option (List ℕ)). IsSome o) none some))
+      | inr other ↦ other
+    ]
+
+-- the parts of a reference, with the values of its host and its port and with its segments
+abbrev reference_parts : Form → Option (List ℕ) → Option Host → Option (List ℕ) → Option ℕ → List ℕ
+    → List (List ℕ) → Option (List ℕ) → Option (List ℕ) → Parts
+reference_parts form host_text value port_text port path segments query fragment = record {
+  form = form;
+  scheme = None;
+  host_text = host_text;
+  host = value;
+  port_text = port_text;
+  port = port;
+  path_text = path;
+  segments = segments;
+  query = query;
+  fragment = fragment;
+}
+
+-- what is held with the base's scheme
+abbrev base_held : Url → Held
+base_held url = with_scheme url.scheme empty_held
+
+module _ (url : Url) (text : List ℕ) (host_text port_text : Option (List ℕ)) (path : List ℕ)
+    (query fragment : Option (List ℕ))
+    (is : IsCut (Some url) text (cut_with None host_text port_text path query fragment))
+    (kept : first_removed text ≡ None) where
+  -- the run stops where it stops from the no scheme state on
+  reference_stops : (rest : List ℕ) (k : ℕ) → text ≡ rest → k ≤ 2 * length rest + 15
+      → Stops (Some url) NoSchemeState empty_held rest k → RunStops (Some url) text
+  reference_stops rest k whole few stops =
+      absent_stops (Some url) text k kept
+      (no_scheme_cut (Some url) text (cut_with None host_text port_text path query fragment) is refl)
+      (rw whole few) (rw whole stops)
+
+  reference_text : text ≡ (written_authority host_text port_text ++ path) ++ tail query fragment
+  reference_text = cut_text (Some url) text None host_text port_text path query fragment is
+
+  have : HasMarks (written_authority host_text port_text) path query
+  have = marks (Some url) text None host_text port_text path query fragment is
+
+  free : FreeOfMarks path query
+  free = record { question_mark = have.path_question_mark; number_sign = have.path_number_sign; query = have.query }
+
+-- ---- a base with an opaque path
+
+begins_mark : (xs : List ℕ) → begins number_sign xs ≡ true → (rest : List ℕ) × (xs ≡ number_sign ∷ rest)
+begins_mark [] e = absurd (false≢true e)
+begins_mark (c ∷ rest) e = (rest, ap (λ x. x ∷ rest) (eqb-true c number_sign e))
+
+opaque_base : (url : Url) (text : List ℕ) (host_text port_text : Option (List ℕ)) (path : List ℕ)
+    (query fragment : Option (List ℕ))
+    → IsCut (Some url) text (cut_with None host_text port_text path query fragment) → first_removed text ≡ None
+    → is_opaque url.path ≡ true → SilentOrStops (Some url) text
+opaque_base url text (Some host) port_text path query fragment is kept opaque =
+    inr (reference_stops url text (Some host) port_text path query fragment is kept _ 1
+    (reference_text url text (Some host) port_text path query fragment is kept) (omega arith)
+    (stops_here (Some url) (λ p. rw opaque refl)))
+opaque_base url text None port_text (c ∷ path) query fragment is kept opaque =
+    let have = marks (Some url) text None None port_text (c ∷ path) query fragment is in
+    let mark = is_without-cons number_sign c path have.path_number_sign in
+    inr (reference_stops url text None port_text (c ∷ path) query fragment is kept _ 1
+    (reference_text url text None port_text (c ∷ path) query fragment is kept) (omega arith)
+    (stops_here (Some url) (λ p. rw (opaque, mark.0) refl)))
+opaque_base url text None port_text [] (Some query) fragment is kept opaque =
+    inr (reference_stops url text None port_text [] (Some query) fragment is kept _ 1
+    (reference_text url text None port_text [] (Some query) fragment is kept) (omega arith)
+    (stops_here (Some url) (λ p. rw opaque refl)))
+opaque_base url text None port_text [] None None is kept opaque =
+    inr (reference_stops url text None port_text [] None None is kept _ 1
+    (reference_text url text None port_text [] None None is kept) (omega arith)
+    (stops_here (Some url) (λ p. rw opaque refl)))
+opaque_base url text None port_text [] None (Some fragment) is kept opaque =
+    elim (fragment_decided (Some url) fragment (with_fragment (Some []) (with_opaque_base url empty_held))) [
+      | inl units ↦ inl (
+        reference_parts NoPath None None port_text None [] [] None (Some fragment),
+        record {
+          cut = is;
+          kept = kept;
+          scheme = refl;
+          against = inr (inr (refl, refl, refl));
+          form = (record { host_text = refl; host = refl; port_text = is.authority.0; port = refl }, refl, refl);
+          query = tt;
+          fragment = units;
+        },
+      )
+      | inr stops ↦ inr
+          (reference_stops url text None port_text [] None (Some fragment) is kept _ _
+          (reference_text url text None port_text [] None (Some fragment) is kept) (omega arith)
+          (stops_step (Some url) (λ p. rw opaque refl) stops))
+    ]
+
+-- ---- a base with a path of segments: texts without an authority
+
+module _ (url : Url) (text : List ℕ) (port_text : Option (List ℕ)) (query fragment : Option (List ℕ))
+    (not_opaque : is_opaque url.path ≡ false) (kept : first_removed text ≡ None) where
+  -- no path
+  no_path_silent : IsCut (Some url) text (cut_with None None port_text [] query fragment) → AreFine [] query fragment
+      → Silent (Some url) text (reference_parts NoPath None None port_text None [] [] query fragment)
+  no_path_silent is fine = record {
+    cut = is;
+    kept = kept;
+    scheme = refl;
+    against = inr (inl not_opaque);
+    form = (record { host_text = refl; host = refl; port_text = is.authority.0; port = refl }, refl, refl);
+    query = fine.1;
+    fragment = fine.2;
+  }
+
+  -- `/` and a path
+  absolute_silent : (behind : List ℕ) → IsCut (Some url) text (cut_with None None port_text (slash ∷ behind) query fragment)
+      → starts_with_slash behind ≡ false → AreFine behind query fragment
+      → Silent (Some url) text
+      (reference_parts PathAbsolute None None port_text None (slash ∷ behind) (pieces behind) query fragment)
+  absolute_silent behind is start fine =
+      let have = marks (Some url) text None None port_text (slash ∷ behind) query fragment is in
+      let question = is_without-cons question_mark slash behind have.path_question_mark in
+      record {
+        cut = is;
+        kept = kept;
+        scheme = refl;
+        against = inr (inl not_opaque);
+        form = (
+          record { host_text = refl; host = refl; port_text = is.authority.0; port = refl },
+          record { behind = behind; slashed = refl; relative = path_relative behind fine.0 question.1 start },
+        );
+        query = fine.1;
+        fragment = fine.2;
+      }
+
+  -- another path
+  relative_silent : (c : ℕ) (path : List ℕ) → IsCut (Some url) text (cut_with None None port_text (c ∷ path) query fragment)
+      → (c == slash) ≡ false → AreFine (c ∷ path) query fragment
+      → Silent (Some url) text
+      (reference_parts PathRelative None None port_text None (c ∷ path) (pieces (c ∷ path)) query fragment)
+  relative_silent c path is start fine =
+      let have = marks (Some url) text None None port_text (c ∷ path) query fragment is in
+      record {
+        cut = is;
+        kept = kept;
+        scheme = refl;
+        against = inr (inl not_opaque);
+        form = (
+          record { host_text = refl; host = refl; port_text = is.authority.0; port = refl },
+          path_relative (c ∷ path) fine.0 have.path_question_mark start,
+          (λ same. cc),
+          is.scheme,
+        );
+        query = fine.1;
+        fragment = fine.2;
+      }
+
+  -- the three forms, by how the run from behind the no scheme state goes
+  path_forms : (s : State) (h : Held) → ((rest : List ℕ) (p : ℕ) → turn (Some url) NoSchemeState p empty_held rest ≡ again s h)
+      → PassesToTail (Some url) s h
+      → ((behind : List ℕ) → starts_with_slash behind ≡ false → FreeOfMarks behind query
+      → AreFine behind query fragment
+      ⊎ Stops (Some url) s h (slash ∷ (behind ++ tail query fragment)) (length (behind ++ tail query fragment) + 2))
+      → ((c : ℕ) (rest : List ℕ) → (c == slash) ≡ false → (c == question_mark) ≡ false → (c == number_sign) ≡ false
+      → FreeOfMarks (c ∷ rest) query → AreFine (c ∷ rest) query fragment
+      ⊎ Stops (Some url) s h (c ∷ (rest ++ tail query fragment)) (length (rest ++ tail query fragment) + 2))
+      → (path : List ℕ) → IsCut (Some url) text (cut_with None None port_text path query fragment)
+      → SilentOrStops (Some url) text
+  path_forms s h row passes absolute relative [] is =
+      let have = marks (Some url) text None None port_text [] query fragment is in
+      elim (tail_decided (Some url) s h query fragment passes have.query) [
+        | inl fine ↦ inl (
+          reference_parts NoPath None None port_text None [] [] query fragment,
+          no_path_silent is (refl, fine.0, fine.1),
+        )
+        | inr stops ↦ inr
+            (reference_stops url text None port_text [] query fragment is kept _ _
+            (reference_text url text None port_text [] query fragment is kept) (omega arith)
+            (stops_again (Some url) (λ p. row (tail query fragment) p) stops))
+      ]
+  path_forms s h row passes absolute relative (c ∷ path) is =
+      let have = marks (Some url) text None None port_text (c ∷ path) query fragment is in
+      let question = is_without-cons question_mark c path have.path_question_mark in
+      let number = is_without-cons number_sign c path have.path_number_sign in
+      let few : length (path ++ tail query fragment) + 3 ≤ 2 * length ((c ∷ path) ++ tail query fragment) + 15
+      = omega arith in
+      elim (cases_Bool (c == slash)) [
+        | inl same ↦ with_slash c (eqb-true c slash same) is
+        | inr other ↦
+            elim (relative c path other question.0 number.0 (record {
+              question_mark = have.path_question_mark;
+              number_sign = have.path_number_sign;
+              query = have.query;
+            })) [
+              | inl fine ↦ inl (
+                reference_parts PathRelative None None port_text None (c ∷ path) (pieces (c ∷ path)) query fragment,
+                relative_silent c path is other fine,
+              )
+              | inr stops ↦ inr
+                  (reference_stops url text None port_text (c ∷ path) query fragment is kept _ _
+                  (reference_text url text None port_text (c ∷ path) query fragment is kept) (omega arith)
+                  (stops_again (Some url) (λ p. row ((c ∷ path) ++ tail query fragment) p) stops))
+            ]
+      ]
+    where
+      one_slash : (behind : List ℕ) → starts_with_two_slashes (slash ∷ behind) ≡ false → starts_with_slash behind ≡ false
+      one_slash [] none = refl
+      one_slash (d ∷ rest) none = none
+
+      here : IsCut (Some url) text (cut_with None None port_text (slash ∷ path) query fragment)
+          → SilentOrStops (Some url) text
+      here is =
+          let have = marks (Some url) text None None port_text (slash ∷ path) query fragment is in
+          let question = is_without-cons question_mark slash path have.path_question_mark in
+          let number = is_without-cons number_sign slash path have.path_number_sign in
+          let start = one_slash path is.authority.1 in
+          elim (absolute path start
+          (record { question_mark = question.1; number_sign = number.1; query = have.query })) [
+            | inl fine ↦ inl (
+              reference_parts PathAbsolute None None port_text None (slash ∷ path) (pieces path) query fragment,
+              absolute_silent path is start fine,
+            )
+            | inr stops ↦ inr
+                (reference_stops url text None port_text (slash ∷ path) query fragment is kept _ _
+                (reference_text url text None port_text (slash ∷ path) query fragment is kept) (omega arith)
+                (stops_again (Some url) (λ p. row (slash ∷ (path ++ tail query fragment)) p) stops))
+          ]
+
+      with_slash : (c : ℕ) → c ≡ slash
+          → IsCut (Some url) text (cut_with None None port_text (c ∷ path) query fragment)
+          → SilentOrStops (Some url) text
+      with_slash c same is =
+          here (subst (λ (x : ℕ). IsCut (Some url) text (cut_with None None port_text (x ∷ path) query fragment)) same is)
+
+  -- against a base of a class other than File
+  relative_forms : is_file url.scheme ≡ false → (path : List ℕ)
+      → IsCut (Some url) text (cut_with None None port_text path query fragment) → SilentOrStops (Some url) text
+  relative_forms plain path is =
+      path_forms RelativeState empty_held (λ rest p. rw (not_opaque, plain) refl)
+      (record {
+        query_held = with_base url (base_held url);
+        fragment_held = with_base url (base_held url);
+        at_query = λ p rest. refl;
+        at_fragment = λ p rest. refl;
+      })
+      (λ behind start free. absolute behind start free) (λ c rest a b d free. relative c rest a b d free) path is
+    where
+      absolute : (behind : List ℕ) → starts_with_slash behind ≡ false → FreeOfMarks behind query
+          → AreFine behind query fragment
+          ⊎ Stops (Some url) RelativeState empty_held (slash ∷ (behind ++ tail query fragment))
+          (length (behind ++ tail query fragment) + 2)
+      absolute behind start free =
+          let no_slash = no_slash_before_tail behind query fragment start in
+          elim (path_decided (Some url) behind query fragment (with_base_host url (base_held url)) free) [
+            | inl fine ↦ inl fine
+            | inr stops ↦ inr
+                (stops_within (Some url) (omega arith)
+                (stops_step (Some url) {s₁ = RelativeSlashState} {h₁ = base_held url} (λ p. refl)
+                (stops_again (Some url) (λ p. rw no_slash refl) stops)))
+          ]
+
+      relative : (c : ℕ) (rest : List ℕ) → (c == slash) ≡ false → (c == question_mark) ≡ false
+          → (c == number_sign) ≡ false → FreeOfMarks (c ∷ rest) query → AreFine (c ∷ rest) query fragment
+          ⊎ Stops (Some url) RelativeState empty_held (c ∷ (rest ++ tail query fragment))
+          (length (rest ++ tail query fragment) + 2)
+      relative c rest a b d free =
+          elim (path_decided (Some url) (c ∷ rest) query fragment
+          (shortened (with_query None (with_base url (base_held url)))) free) [
+            | inl fine ↦ inl fine
+            | inr stops ↦ inr
+                (stops_within (Some url) (omega arith) (stops_again (Some url) (λ p. simp (a, b, d) refl) stops))
+          ]
+
+  -- against a base of class File
+  file_forms : is_file url.scheme ≡ true → (path : List ℕ)
+      → IsCut (Some url) text (cut_with None None port_text path query fragment) → SilentOrStops (Some url) text
+  file_forms file path is =
+      path_forms FileState empty_held (λ rest p. rw (not_opaque, file) refl)
+      (record {
+        query_held = with_file_base url (file_held host.Empty);
+        fragment_held = with_file_base url (file_held host.Empty);
+        at_query = λ p rest. rw file refl;
+        at_fragment = λ p rest. rw file refl;
+      })
+      (λ behind start free. absolute behind start free) (λ c rest a b d free. relative c rest a b d free) path is
+    where
+      absolute : (behind : List ℕ) → starts_with_slash behind ≡ false → FreeOfMarks behind query
+          → AreFine behind query fragment
+          ⊎ Stops (Some url) FileState empty_held (slash ∷ (behind ++ tail query fragment))
+          (length (behind ++ tail query fragment) + 2)
+      absolute behind start free =
+          let rest = behind ++ tail query fragment in
+          let no_slash = no_slash_before_tail behind query fragment start in
+          elim (path_decided (Some url) behind query fragment
+          (with_kept_drive (list_in url.path) rest (with_host url.host (file_held host.Empty))) free) [
+            | inl fine ↦ inl fine
+            | inr stops ↦ inr
+                (stops_within (Some url) (omega arith)
+                (stops_step (Some url) {s₁ = FileSlashState} {h₁ = file_held host.Empty} (λ p. refl)
+                (stops_again (Some url) (λ p. rw (no_slash, file) refl) stops)))
+          ]
+
+      relative : (c : ℕ) (rest : List ℕ) → (c == slash) ≡ false → (c == question_mark) ≡ false
+          → (c == number_sign) ≡ false → FreeOfMarks (c ∷ rest) query → AreFine (c ∷ rest) query fragment
+          ⊎ Stops (Some url) FileState empty_held (c ∷ (rest ++ tail query fragment))
+          (length (rest ++ tail query fragment) + 2)
+      relative c rest a b d free =
+          elim (cases_Bool (begins_drive (c ∷ (rest ++ tail query fragment)))) [
+            | inl drive ↦
+                let row : (p : ℕ) → turn (Some url) FileState p empty_held (c ∷ (rest ++ tail query fragment)) ≡ stop
+                = λ p. simp (file, a, b, d, drive) refl in
+                inr (stops_within (Some url) (omega arith) (stops_here (Some url) row))
+            | inr no_drive ↦
+                let h = shortened (with_query None (with_file_base url (file_held host.Empty))) in
+                let row : (p : ℕ) → turn (Some url) FileState p empty_held (c ∷ (rest ++ tail query fragment))
+                ≡ again PathState h
+                = λ p. simp (file, a, b, d, no_drive) refl in
+                elim (path_decided (Some url) (c ∷ rest) query fragment h free) [
+                  | inl fine ↦ inl fine
+                  | inr stops ↦ inr (stops_within (Some url) (omega arith) (stops_again (Some url) row stops))
+                ]
+          ]
+
+-- ---- a base with a path of segments: texts with an authority
+
+module _ (url : Url) (text host_text : List ℕ) (port_text : Option (List ℕ)) (path : List ℕ)
+    (query fragment : Option (List ℕ))
+    (is : IsCut (Some url) text (cut_with None (Some host_text) port_text path query fragment))
+    (kept : first_removed text ≡ None) (not_opaque : is_opaque url.path ≡ false) where
+  free_behind : FreeOfMarks path query
+  free_behind = free url text (Some host_text) port_text path query fragment is kept
+
+  have_behind : HasMarks (slash ∷ slash ∷ (host_text ++ written_behind colon port_text)) path query
+  have_behind = marks (Some url) text None (Some host_text) port_text path query fragment is
+
+  unended_reference : IsUnended (host_text ++ written_behind colon port_text)
+  unended_reference = record {
+    no_slash = is.authority.0;
+    no_question_mark = have_behind.authority_question_mark;
+    no_number_sign = have_behind.authority_number_sign;
+  }
+
+  -- with host and port taken and the rest fine the text is silent
+  reference_silent : (value : Option Host) (port : Option ℕ)
+      → Takes (scheme_class url.scheme) url.scheme host_text
+      (reference_parts Authority (Some host_text) value port_text port path (segments_behind path) query fragment)
+      → AreFine path query fragment
+      → Silent (Some url) text
+      (reference_parts Authority (Some host_text) value port_text port path (segments_behind path) query fragment)
+  reference_silent value port takes fine = record {
+    cut = is;
+    kept = kept;
+    scheme = refl;
+    against = inr (inl not_opaque);
+    form = (takes, slashed_path path fine.0 have_behind.path_question_mark is.authority.1);
+    query = fine.1;
+    fragment = fine.2;
+  }
+
+  -- the whole text, and where it stops from the no scheme state on
+  reference_authority_stops : (k : ℕ)
+      → k ≤ 2 * length ((host_text ++ written_behind colon port_text) ++ (path ++ tail query fragment)) + 15
+      → Stops (Some url) NoSchemeState empty_held
+      (slash ∷ slash ∷ ((host_text ++ written_behind colon port_text) ++ (path ++ tail query fragment))) k
+      → RunStops (Some url) text
+  reference_authority_stops k few stops =
+      let authority = host_text ++ written_behind colon port_text in
+      let whole : text ≡ slash ∷ slash ∷ (authority ++ (path ++ tail query fragment))
+      = reference_text url text (Some host_text) port_text path query fragment is kept
+      ∙ ap (λ xs. slash ∷ slash ∷ xs) (append_assoc authority path (tail query fragment)) in
+      reference_stops url text (Some host_text) port_text path query fragment is kept
+      (slash ∷ slash ∷ (authority ++ (path ++ tail query fragment))) k whole (omega (arith, few)) stops
+
+  -- class Special
+  special_reference : scheme_class url.scheme ≡ Special → SilentOrStops (Some url) text
+  special_reference special =
+      let authority = host_text ++ written_behind colon port_text in
+      let rest = authority ++ (path ++ tail query fragment) in
+      let cut : IsHostCut Special host_text port_text
+      = subst (λ (k : Class). IsHostCut k host_text port_text) special is.authority.2 in
+      let plain : is_file url.scheme ≡ false = rw special refl in
+      let kind : is_special url.scheme ≡ true = rw special refl in
+      let start : (k : ℕ) → Stops (Some url) SpecialAuthorityIgnoreSlashesState (base_held url) rest k
+      → Stops (Some url) NoSchemeState empty_held (slash ∷ slash ∷ rest) (suc (suc (suc k)))
+      = λ k stops.
+      stops_again (Some url) {s₁ = RelativeState} {h₁ = empty_held} (λ p. rw (not_opaque, plain) refl)
+      (stops_step (Some url) {s₁ = RelativeSlashState} {h₁ = base_held url} (λ p. refl)
+      (stops_step (Some url) (λ p. rw kind refl) stops)) in
+      let long = length-append authority (path ++ tail query fragment) in
+      elim (cases_Bool (begins slash rest || begins backslash rest)) [
+        | inl further ↦ inr
+            (reference_authority_stops 4 (omega arith) (start 1 (stops_here (Some url) (λ p. rw further refl))))
+        | inr none ↦
+            elim (authority_decided (Some url) (AreFine path query fragment) true host_text port_text
+            (path ++ tail query fragment) (base_held url) (length (path ++ tail query fragment) + 1)
+            kind cut unended_reference
+            (delimits_path path query fragment is.authority.1)
+            (λ g same. path_start_decided (Some url) path query fragment g free_behind is.authority.1)) [
+              | inl (letters, taken, fine) ↦
+                  let parts = reference_parts Authority (Some host_text) (Some taken.value) port_text
+                  (port_given url.scheme port_text) path (segments_behind path) query fragment in
+                  let takes : Takes Special url.scheme host_text parts
+                  = record {
+                    value = taken.value;
+                    host = record {
+                      no_at_sign = letters_no_at_sign true host_text letters;
+                      no_backslash = letters_no_backslash host_text letters;
+                      parsed = taken.parsed;
+                    };
+                    valued = refl;
+                    port_text = taken.port_text;
+                    port = refl;
+                  } in
+                  inl (
+                    parts,
+                    reference_silent (Some taken.value) (port_given url.scheme port_text)
+                        (subst (λ (k : Class). Takes k url.scheme host_text parts) (sym special) takes) fine,
+                  )
+              | inr stops ↦ inr
+                  (reference_authority_stops _ (omega (arith, long))
+                  (start _ (stops_again (Some url) (λ p. rw none refl) stops)))
+            ]
+      ]
+
+  -- class Other
+  other_reference : scheme_class url.scheme ≡ Other → SilentOrStops (Some url) text
+  other_reference other =
+      let authority = host_text ++ written_behind colon port_text in
+      let rest = authority ++ (path ++ tail query fragment) in
+      let cut : IsHostCut Other host_text port_text
+      = subst (λ (k : Class). IsHostCut k host_text port_text) other is.authority.2 in
+      let plain : is_file url.scheme ≡ false = rw other refl in
+      let kind : is_special url.scheme ≡ false = rw other refl in
+      let start : (k : ℕ) → Stops (Some url) AuthorityState (base_held url) rest k
+      → Stops (Some url) NoSchemeState empty_held (slash ∷ slash ∷ rest) (suc (suc (suc k)))
+      = λ k stops.
+      stops_again (Some url) {s₁ = RelativeState} {h₁ = empty_held} (λ p. rw (not_opaque, plain) refl)
+      (stops_step (Some url) {s₁ = RelativeSlashState} {h₁ = base_held url} (λ p. refl)
+      (stops_step (Some url) (λ p. rw kind refl) stops)) in
+      let long = length-append authority (path ++ tail query fragment) in
+      elim (authority_decided (Some url) (AreFine path query fragment) false host_text port_text
+      (path ++ tail query fragment) (base_held url) (length (path ++ tail query fragment) + 1)
+      kind cut unended_reference
+      (delimits_path path query fragment is.authority.1)
+      (λ g same. path_start_decided (Some url) path query fragment g free_behind is.authority.1)) [
+        | inl (letters, taken, fine) ↦
+            let parts = reference_parts Authority (Some host_text) (own_value taken.value) port_text
+            (port_given url.scheme port_text) path (segments_behind path) query fragment in
+            let takes : Takes Other url.scheme host_text parts
+            = record {
+              value = taken.value;
+              no_at_sign = letters_no_at_sign false host_text letters;
+              parsed = taken.parsed;
+              valued = refl;
+              alone = taken.alone;
+              port_text = taken.port_text;
+              port = refl;
+            } in
+            inl (
+              parts,
+              reference_silent (own_value taken.value) (port_given url.scheme port_text)
+                  (subst (λ (k : Class). Takes k url.scheme host_text parts) (sym other) takes) fine,
+            )
+        | inr stops ↦ inr (reference_authority_stops _ (omega (arith, long)) (start _ stops))
+      ]
+
+  -- class File
+  file_reference : scheme_class url.scheme ≡ File → SilentOrStops (Some url) text
+  file_reference file =
+      let cut : port_text ≡ None
+      = subst (λ (k : Class). IsHostCut k host_text port_text) file is.authority.2 in
+      let alone : host_text ++ written_behind colon port_text ≡ host_text
+      = ap (λ o. host_text ++ written_behind colon o) cut ∙ append-nil host_text in
+      let kind : is_file url.scheme ≡ true = rw file refl in
+      let rest = path ++ tail query fragment in
+      elim (file_host_decided (Some url) (AreFine path query fragment) host_text rest (file_held host.Empty)
+      (length rest + 1) (subst IsUnended alone unended_reference) (delimits_path path query fragment is.authority.1)
+      (λ g same. path_start_decided (Some url) path query fragment g free_behind is.authority.1)) [
+        | inl (fits, fine) ↦ taken cut fits fine
+        | inr stops ↦ inr
+            (reference_authority_stops (suc (suc (suc (length host_text + ((length rest + 1) + 1)))))
+            (rw alone (omega (arith, length-append host_text rest)))
+            (rw alone
+            (stops_again (Some url) {s₁ = FileState} {h₁ = empty_held} (λ p. rw (not_opaque, kind) refl)
+            (stops_step (Some url) {s₁ = FileSlashState} {h₁ = file_held host.Empty} (λ p. refl)
+            (stops_step (Some url) (λ p. refl) stops)))))
+      ]
+    where
+      taken : port_text ≡ None → FileHostFits host_text → AreFine path query fragment
+          → SilentOrStops (Some url) text
+      taken cut (inl (value, host)) fine =
+          let parts = reference_parts Authority (Some host_text) (Some value) port_text None path
+          (segments_behind path) query fragment in
+          let takes : Takes File url.scheme host_text parts
+          = record { no_port_text = cut; no_port = refl; host = inl (value, host, refl) } in
+          inl (
+            parts,
+            reference_silent (Some value) None
+                (subst (λ (k : Class). Takes k url.scheme host_text parts) (sym file) takes) fine,
+          )
+      taken cut (inr empty) fine =
+          let parts = reference_parts Authority (Some host_text) (Some host.Empty) port_text None path
+          (segments_behind path) query fragment in
+          let takes : Takes File url.scheme host_text parts
+          = record { no_port_text = cut; no_port = refl; host = inr (empty, refl) } in
+          inl (
+            parts,
+            reference_silent (Some host.Empty) None
+                (subst (λ (k : Class). Takes k url.scheme host_text parts) (sym file) takes) fine,
+          )
+
+-- ---- the whole
+
+-- against a base each text without a scheme is silent with parts, or stops
+pub reference_silent_or_stops : (url : Url) (text : List ℕ) (host_text port_text : Option (List ℕ)) (path : List ℕ)
+    (query fragment : Option (List ℕ))
+    → IsCut (Some url) text (cut_with None host_text port_text path query fragment)
+    → SilentOrStops (Some url) text
+reference_silent_or_stops url text host_text port_text path query fragment is =
+    elim (place_cases (first_removed text)) [
+      | inl kept ↦ elim (cases_Bool (is_opaque url.path)) [
+        | inl opaque ↦ opaque_base url text host_text port_text path query fragment is kept opaque
+        | inr segments ↦ by_host host_text is kept segments
+      ]
+      | inr (p, removed) ↦ inr (removed_stops (Some url) text p removed)
+    ]
+  where
+    by_host : (host_text : Option (List ℕ))
+        → IsCut (Some url) text (cut_with None host_text port_text path query fragment)
+        → first_removed text ≡ None → is_opaque url.path ≡ false → SilentOrStops (Some url) text
+    by_host None is kept segments =
+        elim (cases_Bool (is_file url.scheme)) [
+          | inl file ↦ file_forms url text port_text query fragment segments kept file path is
+          | inr plain ↦ relative_forms url text port_text query fragment segments kept plain path is
+        ]
+    by_host (Some host) is kept segments =
+        elim (kind_cases (scheme_class url.scheme)) [
+          | inl special ↦ special_reference url text host port_text path query fragment is kept segments special
+          | inr (inl file) ↦ file_reference url text host port_text path query fragment is kept segments file
+          | inr (inr other) ↦ other_reference url text host port_text path query fragment is kept segments other
+        ]

@@ -1,0 +1,326 @@
+-- The run of a text with a scheme and an authority on which the parser is silent is done, with the URL that the parts
+-- denote.
+use Rattle.std.proofs.Common.{◌≡◌, ℕ, Bool, true, false, ◌==◌, ◌&&◌, ◌⊎◌, List, [], ◌∷◌, ◌++◌, length, Option, Some, None, refl, sym, ap, subst, ◌∙◌, inl, inr, arith}
+use Rattle.std.specs.List.{list_all}
+use Rattle.std.proofs.lemmas.Bool.{and_from, and_left, and_parts, and_right, cases_Bool, true≢false}
+use Rattle.uv_model.specs.declared.host.Host.{Host}
+use Rattle.uv_model.specs.declared.host.Host.TheVariants as host
+use Rattle.uv_model.specs.declared.scheme.Class.{Class}
+use Rattle.uv_model.specs.declared.scheme.Class.TheVariants.{Special, File, Other}
+use Rattle.uv_model.specs.Ascii.{slash, colon, left_bracket, right_bracket, question_mark, number_sign, at_sign, backslash}
+use Rattle.uv_model.specs.Cut.{EndsAtPort, IsAuthorityCut, IsHostCut, class_in, is_within, is_within_at_end}
+use Rattle.uv_model.specs.Records.Denote.{authority_host}
+use Rattle.uv_model.specs.Encoding.{encoded}
+use Rattle.uv_parser.specs.HostParser.{is_faultless_host, parse_bracketed, parse_host}
+use Rattle.uv_parser.specs.Ipv6Parser.{parse_ipv6}
+use Rattle.std.specs.Prelude.{◌-◌, slice_index, take, option_map}
+use Rattle.uv_parser.specs.Machine.{is_special}
+use Rattle.uv_model.specs.Parts.{Form, Parts, SchemeAuthority, has_scheme, written_authority, written_behind}
+use Rattle.uv_parser.specs.SilentTexts.{own_value, IsTakenFileHost, MayBePathSlashed, Silent, Takes, TakesAuthority, TakesFile, TakesHostText, TakesOther, TakesSpecial}
+use Rattle.uv_model.specs.Path.{is_without}
+use Rattle.uv_model.specs.Scheme.{is_scheme, lowercase, scheme_class}
+use Rattle.uv_parser.specs.Laws.Silence.{RunsSilently}
+use Rattle.uv_model.specs.Records.Url.{Url}
+use Rattle.uv_model.specs.Valid.{FitsScheme, MayBePortText, scheme_in, scheme_or}
+use Rattle.uv_model.proofs.Cuts.AuthorityCutLemmas.{EndsFrom, ends_from_start, first_is_no_mark, rest_ends}
+use Rattle.uv_parser.proofs.Loops.AuthorityEnds.{IsParsed}
+use Rattle.uv_parser.proofs.Loops.AuthorityLoops.{is_authority_letter, is_read_as_host}
+use Rattle.uv_parser.proofs.Decided.CutTexts.{marks}
+use Rattle.uv_parser.proofs.Done.Decided.{takes_form}
+use Rattle.uv_parser.proofs.Loops.FileHosts.{IsFileRead}
+use Rattle.uv_parser.proofs.HostParsing.HostsParsed.{has_some, parsed_some}
+use Rattle.uv_model.proofs.Texts.MarkLemmas.{is_without-parts}
+use Rattle.uv_parser.proofs.Loops.SchemeStretch.{scheme_there}
+use Rattle.uv_parser.proofs.Silence.SilentAuthority.{HasParsed, authority_runs, is_special_scheme, not_special, other_starts, special_some, special_starts, valued_some}
+use Rattle.uv_parser.proofs.Silence.SilentFile.{HasFileHost, empty_host_ends, file_host_ends, file_runs}
+use Rattle.uv_parser.proofs.Running.Steps.{ends_within}
+use Rattle.uv_model.proofs.Texts.UnitsAhead.{without_parts}
+use Rattle.uv_model.proofs.Cuts.ValidCutLemmas.{written_as_cut}
+
+-- ---- what the cut says of a host text
+
+-- a host text without `/`, `?`, `#`, `@` and, of a special URL, `\` has letters of an authority alone
+pub letters_from : (special : Bool) (cs : List ℕ) → is_without slash cs ≡ true → is_without question_mark cs ≡ true
+    → is_without number_sign cs ≡ true → is_without at_sign cs ≡ true
+    → (special ≡ true → is_without backslash cs ≡ true) → list_all (is_authority_letter special) cs ≡ true
+letters_from special [] a b d e f = refl
+letters_from special (c ∷ cs) a b d e f =
+    let a = without_parts slash c cs a in
+    let b = without_parts question_mark c cs b in
+    let d = without_parts number_sign c cs d in
+    let e = without_parts at_sign c cs e in
+    let mark = no_backslash special c cs f in
+    let first : is_authority_letter special c ≡ true = simp (a.0, b.0, d.0, e.0, mark) refl in
+    and_from _ _ first (letters_from special cs a.1 b.1 d.1 e.1 (λ is. (without_parts backslash c cs (f is)).1))
+  where
+    no_backslash : (special : Bool) (c : ℕ) (cs : List ℕ) → (special ≡ true → is_without backslash (c ∷ cs) ≡ true)
+        → ((c == backslash) && special) ≡ false
+    no_backslash true c cs f = and_left _ _ (without_parts backslash c cs (f refl)).0
+    no_backslash false c cs f = and_right (c == backslash) false refl
+
+-- the host state reads the whole host text of a cut
+pub reads_from : (special within : Bool) (cs : List ℕ) (port : Option (List ℕ)) → EndsFrom within cs port
+    → list_all (is_authority_letter special) cs ≡ true → is_read_as_host special within cs ≡ true
+reads_from special within [] port ends letters = refl
+reads_from special within (c ∷ cs) port ends letters =
+    let parts = and_parts (is_authority_letter special c) (list_all (is_authority_letter special) cs) letters in
+    let mark = first_is_no_mark within c cs port ends in
+    rw (parts.0, mark) (reads_from special (is_within within c) cs port (rest_ends within c cs port ends) parts.1)
+
+-- What a form with an authority says, with the scheme and the host text named.
+pub record IsNamed (base : Option Url) (parts : Parts) (kind : Class) (scheme host_text : List ℕ) : Type 0 where
+  pub given : parts.host_text ≡ Some host_text
+  pub of_kind : scheme_class scheme ≡ kind
+  pub takes : Takes kind scheme host_text parts
+  pub path : MayBePathSlashed parts.segments parts.path_text
+  pub host_cut : IsHostCut kind host_text parts.port_text
+  pub no_slash : is_without slash host_text ≡ true
+  pub no_question_mark : is_without question_mark host_text ≡ true
+  pub no_number_sign : is_without number_sign host_text ≡ true
+
+-- a host text is there
+taken_there : (base : Option Url) (parts : Parts) (host_text : Option (List ℕ)) → parts.host_text ≡ host_text
+    → TakesHostText base parts host_text
+    → (text : List ℕ) × (parts.host_text ≡ Some text)
+    × Takes (scheme_class (scheme_in base parts)) (scheme_in base parts) text parts
+taken_there base parts (Some text) given takes = (text, given, takes)
+taken_there base parts None given takes = absurd takes
+
+pub is_named_by : (base : Option Url) (text : List ℕ) (parts : Parts) (kind : Class) (scheme : List ℕ)
+    → Silent base text parts → TakesAuthority base parts → scheme_class (scheme_in base parts) ≡ kind
+    → scheme_in base parts ≡ scheme → (host_text : List ℕ) × IsNamed base parts kind scheme host_text
+is_named_by base text parts kind scheme is fits of_kind same =
+    let (host_text, given, takes) = taken_there base parts parts.host_text refl fits.0 in
+    let kind_of : scheme_class scheme ≡ kind = sym (ap scheme_class same) ∙ of_kind in
+    let takes : Takes (scheme_class scheme) scheme host_text parts
+    = subst (λ (s : List ℕ). Takes (scheme_class s) s host_text parts) same takes in
+    let have = marks base text parts.scheme parts.host_text parts.port_text parts.path_text parts.query parts.fragment
+    is.cut in
+    let question : is_without question_mark (host_text ++ written_behind colon parts.port_text) ≡ true
+    = subst (λ (o : Option (List ℕ)). is_without question_mark (written_authority o parts.port_text) ≡ true) given
+    have.authority_question_mark in
+    let number : is_without number_sign (host_text ++ written_behind colon parts.port_text) ≡ true
+    = subst (λ (o : Option (List ℕ)). is_without number_sign (written_authority o parts.port_text) ≡ true) given
+    have.authority_number_sign in
+    let cut : IsAuthorityCut (class_in base parts.scheme) (Some host_text) parts.port_text parts.path_text
+    = subst (λ (o : Option (List ℕ)). IsAuthorityCut (class_in base parts.scheme) o parts.port_text parts.path_text)
+    given is.cut.authority in (
+      host_text,
+      record {
+        given = given;
+        of_kind = kind_of;
+        takes = subst (λ (k : Class). Takes k scheme host_text parts) kind_of takes;
+        path = fits.1;
+        host_cut = subst (λ (k : Class). IsHostCut k host_text parts.port_text) of_kind cut.2;
+        no_slash = (is_without-parts slash host_text (written_behind colon parts.port_text) cut.0).0;
+        no_question_mark = (is_without-parts question_mark host_text (written_behind colon parts.port_text) question).0;
+        no_number_sign = (is_without-parts number_sign host_text (written_behind colon parts.port_text) number).0;
+      },
+    )
+
+is_named : (base : Option Url) (text : List ℕ) (parts : Parts) (kind : Class) → Silent base text parts
+    → parts.form ≡ SchemeAuthority → scheme_class (scheme_in base parts) ≡ kind
+    → (scheme : List ℕ) × (host_text : List ℕ) × (is_scheme scheme ≡ true) × (parts.scheme ≡ Some scheme)
+    × IsNamed base parts kind scheme host_text
+is_named base text parts kind is form of_kind =
+    let (scheme, named, spelled) = scheme_there parts.scheme
+    (subst (λ (f : Form). FitsScheme (has_scheme f) parts.scheme) form is.scheme) in
+    let (host_text, all) = is_named_by base text parts kind scheme is
+    (takes_form base text parts SchemeAuthority is form) of_kind (ap (scheme_or base) named) in
+    (scheme, host_text, spelled, named, all)
+
+-- ---- class Special
+
+-- a port's `:` stands outside brackets
+closed_before : (text : List ℕ) (port : Option (List ℕ)) → EndsAtPort text port → (length text == 0) ≡ false
+    → (port ≡ None) ⊎ (((length text == 0) ≡ false) × (is_within_at_end false text ≡ false))
+closed_before text None ends some = inl refl
+closed_before text (Some port) ends some = inr (some, ends.ends refl)
+
+taken_parsed : (parts : Parts) (scheme host_text : List ℕ) (port : Option (List ℕ)) (base : Option Url)
+    → IsNamed base parts Special scheme host_text → EndsAtPort host_text port → MayBePortText port
+    → (takes : TakesSpecial scheme host_text parts) → IsParsed scheme host_text port takes.value
+taken_parsed parts scheme host_text port base is ends fits takes =
+    let special = is_special_scheme scheme is.of_kind in
+    let letters = letters_from (is_special (lowercase scheme)) host_text is.no_slash is.no_question_mark
+    is.no_number_sign takes.host.no_at_sign (λ same. takes.host.no_backslash) in
+    let some = parsed_some host_text takes.value takes.host.parsed in
+    record {
+      read = record { letters = letters; read = reads_from (is_special (lowercase scheme)) false host_text port (ends_from_start host_text port ends) letters };
+      parsed = rw special takes.host.parsed;
+      stands = and_left _ _ some;
+      some = closed_before host_text port ends some;
+      port = fits;
+    }
+
+-- host, port and path of an authority of class Special are parsed as they are denoted
+pub special_has : (base : Option Url) (parts : Parts) (scheme host_text : List ℕ)
+    → (is : IsNamed base parts Special scheme host_text) → HasParsed parts scheme host_text is.takes.value
+special_has base parts scheme host_text is =
+    let takes : TakesSpecial scheme host_text parts = is.takes in
+    record {
+      parsed = taken_parsed parts scheme host_text parts.port_text base is is.host_cut takes.port_text takes;
+      valued = valued_some parts takes.value takes.valued;
+      port = takes.port;
+      path = is.path;
+    }
+
+-- its host has letters of an authority alone
+pub special_letters : (base : Option Url) (parts : Parts) (scheme host_text : List ℕ)
+    → IsNamed base parts Special scheme host_text → list_all (is_authority_letter true) host_text ≡ true
+special_letters base parts scheme host_text is =
+    letters_from true host_text is.no_slash is.no_question_mark is.no_number_sign is.takes.host.no_at_sign
+    (λ same. is.takes.host.no_backslash)
+
+-- an authority of class Special
+pub special_done : (base : Option Url) (text : List ℕ) (parts : Parts) → Silent base text parts
+    → parts.form ≡ SchemeAuthority → scheme_class (scheme_in base parts) ≡ Special → RunsSilently base text parts
+special_done base text parts silent form special =
+    let (scheme, host_text, spelled, named, is) = is_named base text parts Special silent form special in
+    let all = special_has base parts scheme host_text is in
+    authority_runs base parts scheme host_text is.takes.value text (silent.cut.whole ∙ sym (written_as_cut parts))
+    silent.query silent.fragment silent.kept form spelled named is.given all
+    (special_starts base parts scheme host_text is.takes.value is.of_kind
+    (special_letters base parts scheme host_text is)
+    (special_some scheme host_text is.takes.value (is_special_scheme scheme is.of_kind) all.parsed.parsed))
+
+-- ---- class Other
+
+-- the opaque host that the parser gives is the encoded text
+opaque_encoded : (text other : List ℕ) → parse_host false text ≡ Some (host.Opaque other) → other ≡ encoded false text
+unfolding parse_host
+opaque_encoded [] other parsed = absurd cc
+opaque_encoded (c ∷ rest) other parsed =
+    elim (cases_Bool (c == left_bracket)) [
+      | inl same ↦ absurd (no_bracketed rest other (rw same at parsed))
+      | inr plain ↦
+          elim (cases_Bool (is_faultless_host (c ∷ rest))) [
+            | inl fine ↦ let e : Some (host.Opaque (encoded false (c ∷ rest))) ≡ Some (host.Opaque other)
+                = rw (plain, fine) at parsed in cc
+            | inr fault ↦ let e : None ≡ Some (host.Opaque other) = rw (plain, fault) at parsed in absurd (none_some _ e)
+          ]
+    ]
+  where
+    none_some : (value : Host) → None ≡ Some value → ⊥
+    none_some value e = cc
+
+    no_pieces : (o : Option (List ℕ)) (other : List ℕ) → option_map host.V6 o ≡ Some (host.Opaque other) → ⊥
+    no_pieces None other e = cc
+    no_pieces (Some pieces) other e = cc
+
+    no_bracketed : (inner other : List ℕ) → parse_bracketed inner ≡ Some (host.Opaque other) → ⊥
+    no_bracketed inner other e =
+        elim (cases_Bool (slice_index inner (length inner - 1) == right_bracket)) [
+          | inl closed ↦ no_pieces (parse_ipv6 (take (length inner - 1) inner)) other (rw closed at e)
+          | inr ajar ↦ let e : None ≡ Some (host.Opaque other) = rw ajar at e in none_some _ e
+        ]
+
+-- the parser's host is the denoted one
+other_valued : (parts : Parts) (host_text : List ℕ) (value : Host) → parts.host_text ≡ Some host_text
+    → parse_host false host_text ≡ Some value → parts.host ≡ own_value value → Some value ≡ authority_host parts
+other_valued parts host_text (host.Domain form) given parsed e = rw e refl
+other_valued parts host_text (host.V4 value) given parsed e = rw e refl
+other_valued parts host_text (host.V6 pieces) given parsed e = rw e refl
+other_valued parts host_text host.Empty given parsed e = rw e refl
+other_valued parts host_text (host.Opaque other) given parsed e =
+    rw (e, given) (ap (λ t. Some (host.Opaque t)) (opaque_encoded host_text other parsed))
+
+-- an empty host has no port behind it, and a port's `:` stands outside brackets
+other_some : (text : List ℕ) (port : Option (List ℕ)) → EndsAtPort text port → (text ≡ [] → port ≡ None)
+    → (port ≡ None) ⊎ (((length text == 0) ≡ false) × (is_within_at_end false text ≡ false))
+other_some text None ends alone = inl refl
+other_some [] (Some port) ends alone = inl (alone refl)
+other_some (c ∷ rest) (Some port) ends alone = inr (has_some (c ∷ rest) c rest refl, ends.ends refl)
+
+-- host, port and path of an authority of class Other are parsed as they are denoted
+pub other_has : (base : Option Url) (parts : Parts) (scheme host_text : List ℕ)
+    → (is : IsNamed base parts Other scheme host_text) → HasParsed parts scheme host_text is.takes.value
+other_has base parts scheme host_text is =
+    let takes : TakesOther scheme host_text parts = is.takes in
+    let plain = not_special scheme is.of_kind in
+    let letters = letters_from (is_special (lowercase scheme)) host_text is.no_slash is.no_question_mark
+    is.no_number_sign takes.no_at_sign (λ same. absurd (true≢false (sym same ∙ plain))) in
+    let ends : EndsAtPort host_text parts.port_text = is.host_cut in
+    let parsed : IsParsed scheme host_text parts.port_text takes.value
+    = record {
+      read = record {
+        letters = letters;
+        read = reads_from (is_special (lowercase scheme)) false host_text parts.port_text
+            (ends_from_start host_text parts.port_text ends) letters;
+      };
+      parsed = rw plain takes.parsed;
+      stands = and_right (length host_text == 0) _ plain;
+      some = other_some host_text parts.port_text ends takes.alone;
+      port = takes.port_text;
+    } in
+    record {
+      parsed = parsed;
+      valued = other_valued parts host_text takes.value is.given takes.parsed takes.valued;
+      port = takes.port;
+      path = is.path;
+    }
+
+-- an authority of class Other
+pub other_done : (base : Option Url) (text : List ℕ) (parts : Parts) → Silent base text parts
+    → parts.form ≡ SchemeAuthority → scheme_class (scheme_in base parts) ≡ Other → RunsSilently base text parts
+other_done base text parts silent form other =
+    let (scheme, host_text, spelled, named, is) = is_named base text parts Other silent form other in
+    authority_runs base parts scheme host_text is.takes.value text (silent.cut.whole ∙ sym (written_as_cut parts))
+    silent.query silent.fragment silent.kept form spelled named is.given (other_has base parts scheme host_text is)
+    (other_starts base parts scheme host_text is.takes.value is.of_kind)
+
+-- ---- class File
+
+pub taken_file : (base : Option Url) (text : List ℕ) (parts : Parts) (scheme host_text : List ℕ) → Silent base text parts
+    → IsNamed base parts File scheme host_text → TakesFile host_text parts
+    → (value : Host) × HasFileHost base parts host_text value
+taken_file base text parts scheme host_text silent is takes =
+    by_host takes.host
+  where
+    by_host : ((value : Host) × IsTakenFileHost host_text value × (parts.host ≡ Some value))
+        ⊎ ((host_text ≡ []) × (parts.host ≡ Some host.Empty)) → (value : Host) × HasFileHost base parts host_text value
+    by_host (inl (value, host, valued)) =
+        let read : IsFileRead host_text value
+        = record {
+          parsed_value = host.host;
+          letters = record {
+            no_slash = is.no_slash;
+            no_question_mark = is.no_question_mark;
+            no_number_sign = is.no_number_sign;
+            no_backslash = host.no_backslash;
+          };
+          parsed = host.parsed;
+          made = sym host.valued;
+          drive = host.no_drive;
+        } in (
+          value,
+          record {
+            no_port_text = takes.no_port_text;
+            no_port = takes.no_port;
+            valued = valued;
+            path = is.path;
+            ends = file_host_ends base parts.segments parts.path_text parts.query parts.fragment is.path silent.query
+                silent.fragment host_text value read;
+          },
+        )
+    by_host (inr (empty, valued)) = (
+      host.Empty,
+      record {
+        no_port_text = takes.no_port_text;
+        no_port = takes.no_port;
+        valued = valued;
+        path = is.path;
+        ends = rw empty (ends_within base (omega arith)
+            (empty_host_ends base parts.segments parts.path_text parts.query parts.fragment is.path silent.query
+            silent.fragment));
+      },
+    )
+
+-- an authority of class File
+pub file_done : (base : Option Url) (text : List ℕ) (parts : Parts) → Silent base text parts
+    → parts.form ≡ SchemeAuthority → scheme_class (scheme_in base parts) ≡ File → RunsSilently base text parts
+file_done base text parts silent form file =
+    let (scheme, host_text, spelled, named, is) = is_named base text parts File silent form file in
+    let (value, there) = taken_file base text parts scheme host_text silent is is.takes in
+    file_runs base text parts scheme host_text value (silent.cut.whole ∙ sym (written_as_cut parts)) silent.query
+    silent.fragment silent.kept form spelled named is.given is.of_kind there

@@ -1,0 +1,131 @@
+-- The run of a reference with an authority on which the parser is silent is done, with the URL that the parts denote:
+-- against a well-formed base of class Special or Other. And the law for each base of class Special or Other with a path
+-- of segments.
+use Rattle.std.proofs.Common.{◌≡◌, ℕ, ◌+◌, true, false, ◌||◌, List, ◌∷◌, ◌++◌, length, Some, None, refl, sym, ap, subst, ◌∙◌, append_assoc, length-append, arith}
+use Rattle.uv_model.specs.declared.host.Host.{Host}
+use Rattle.uv_model.specs.declared.scheme.Class.TheVariants.{Special, Other}
+use Rattle.uv_model.specs.declared.path.UrlPath.TheVariants.{Segments}
+use Rattle.uv_model.specs.Ascii.{slash, backslash, colon}
+use Rattle.uv_model.specs.Records.Denote.{authority_path}
+use Rattle.uv_parser.specs.Machine.{State, begins, AuthorityState, NoSchemeState, RelativeSlashState, RelativeState, SpecialAuthorityIgnoreSlashesState, empty_held, is_file, is_special, with_scheme}
+use Rattle.uv_model.specs.Parts.{Parts, Authority, written_behind, written_authority}
+use Rattle.uv_parser.specs.SilentTexts.{Silent}
+use Rattle.uv_model.specs.Scheme.{lowercase, scheme_class}
+use Rattle.uv_parser.specs.Laws.Silence.{RunsSilently}
+use Rattle.uv_model.specs.Records.Url.{Url, is_opaque}
+use Rattle.uv_model.specs.Valid.{port_given, scheme_in, scheme_or}
+use Rattle.uv_parser.proofs.Loops.AuthorityEnds.{Behind, authority_ends, hosted}
+use Rattle.uv_parser.proofs.Decided.CutTexts.{cut_text}
+use Rattle.uv_parser.proofs.Done.Decided.{takes_form}
+use Rattle.uv_parser.proofs.Done.DoneAuthority.{is_named_by, other_has, special_has, special_letters}
+use Rattle.uv_parser.proofs.Done.DoneReferences.{reference_query, reference_runs}
+use Rattle.uv_parser.proofs.Loops.PathLoops.{walking}
+use Rattle.uv_model.proofs.SchemeLemmas.{scheme_class-lowercase}
+use Rattle.uv_parser.proofs.Loops.SchemeStretch.{scheme_held}
+use Rattle.uv_parser.proofs.Silence.SilentAuthority.{HasParsed, is_special_scheme, no_slash_before, special_some}
+use Rattle.uv_parser.proofs.Silence.SilentSchemes.{special_of_class}
+use Rattle.uv_parser.proofs.Running.Steps.{Ends, ends_again, ends_step, ends_within}
+use Rattle.uv_parser.proofs.Loops.Tails.{tail}
+
+module _ (url : Url) (text : List ℕ) (parts : Parts) (is : Silent (Some url) text parts)
+    (not_opaque : is_opaque url.path ≡ false) (none : parts.scheme ≡ None)
+    (lower : lowercase url.scheme ≡ url.scheme) where
+  -- what follows the authority, and the authority
+  rest : List ℕ
+  rest = parts.path_text ++ tail parts.query parts.fragment
+
+  -- the same steps lead to the authority for each text behind `//`
+  Starts : List ℕ → Type 0
+  Starts authority =
+      (k : ℕ) (u : Url) → Ends (Some url) AuthorityState (scheme_held url.scheme) (authority ++ rest) k u
+      → Ends (Some url) NoSchemeState empty_held (slash ∷ slash ∷ (authority ++ rest)) (k + 4) u
+
+  -- the whole run
+  authority_reference : (host_text : List ℕ) (value : Host) → parts.form ≡ Authority
+      → parts.host_text ≡ Some host_text → HasParsed parts url.scheme host_text value
+      → Starts (host_text ++ written_behind colon parts.port_text) → RunsSilently (Some url) text parts
+  unfolding rest Starts
+  authority_reference host_text value form given has start =
+      let authority = host_text ++ written_behind colon parts.port_text in
+      let behind : Behind parts.segments parts.path_text parts.query parts.fragment
+      = record { path = has.path; query = is.query; fragment = is.fragment } in
+      let spelled : text ≡ (written_authority (Some host_text) parts.port_text ++ parts.path_text)
+      ++ tail parts.query parts.fragment
+      = rw (none, given) at
+      (cut_text (Some url) text parts.scheme parts.host_text parts.port_text parts.path_text parts.query parts.fragment
+      is.cut) in
+      let whole : text ≡ slash ∷ slash ∷ (authority ++ rest)
+      = spelled ∙ ap (λ xs. slash ∷ slash ∷ xs) (append_assoc authority parts.path_text (tail parts.query parts.fragment)) in
+      let h = walking (authority_path (scheme_class (lowercase url.scheme)) parts.segments)
+      (hosted url.scheme value (port_given url.scheme parts.port_text)) in
+      reference_runs url text (slash ∷ slash ∷ (authority ++ rest)) parts Authority h
+      ((length authority + 1
+      + (length authority + (length parts.path_text + (length (tail parts.query parts.fragment) + 3)))) + 4)
+      whole is form none
+      (record {
+        scheme = lower;
+        host = has.valued;
+        port = sym has.port;
+        path = ap (λ k. Segments (authority_path k parts.segments)) (scheme_class-lowercase url.scheme);
+        query = reference_query url (scheme_class url.scheme) Authority parts.query h
+            (special_of_class (scheme_class url.scheme) (lowercase url.scheme) (scheme_class-lowercase url.scheme)) refl;
+      })
+      (omega (
+        arith,
+        length-append authority (parts.path_text ++ tail parts.query parts.fragment),
+        length-append parts.path_text (tail parts.query parts.fragment),
+      ))
+      (start _ _
+      (authority_ends (Some url) url.scheme value parts.segments parts.path_text parts.query parts.fragment behind
+      host_text parts.port_text has.parsed))
+
+  -- what is held with the base's scheme
+  same_held : (s : State) (xs : List ℕ) (k : ℕ) (u : Url) → Ends (Some url) s (scheme_held url.scheme) xs k u
+      → Ends (Some url) s (with_scheme url.scheme empty_held) xs k u
+  same_held s xs k u ends = subst (λ (n : List ℕ). Ends (Some url) s (with_scheme n empty_held) xs k u) lower ends
+
+  -- against a base of class Other
+  pub other_reference_done : parts.form ≡ Authority → scheme_class url.scheme ≡ Other → RunsSilently (Some url) text parts
+  unfolding Starts
+  other_reference_done form other =
+      let kind_in : scheme_class (scheme_in (Some url) parts) ≡ Other
+      = ap (λ o. scheme_class (scheme_or (Some url) o)) none ∙ other in
+      let (host_text, named) = is_named_by (Some url) text parts Other url.scheme is
+      (takes_form (Some url) text parts Authority is form) kind_in (ap (scheme_or (Some url)) none) in
+      let plain : is_file url.scheme ≡ false = rw other refl in
+      let kind : is_special url.scheme ≡ false = rw other refl in
+      authority_reference host_text named.takes.value form named.given
+      (other_has (Some url) parts url.scheme host_text named)
+      (λ k u ends.
+      ends_within (Some url) (omega arith)
+      (ends_again (Some url) {s₁ = RelativeState} {h₁ = empty_held} (λ p. rw (not_opaque, plain) refl)
+      (ends_step (Some url) {s₁ = RelativeSlashState} {h₁ = with_scheme url.scheme empty_held} (λ p. refl)
+      (ends_step (Some url) (λ p. rw kind refl) (same_held AuthorityState _ k u ends)))))
+
+  -- against a base of class Special
+  pub special_reference_done : parts.form ≡ Authority → scheme_class url.scheme ≡ Special
+      → RunsSilently (Some url) text parts
+  unfolding rest Starts
+  special_reference_done form special =
+      let kind_in : scheme_class (scheme_in (Some url) parts) ≡ Special
+      = ap (λ o. scheme_class (scheme_or (Some url) o)) none ∙ special in
+      let (host_text, named) = is_named_by (Some url) text parts Special url.scheme is
+      (takes_form (Some url) text parts Authority is form) kind_in (ap (scheme_or (Some url)) none) in
+      let plain : is_file url.scheme ≡ false = rw special refl in
+      let kind : is_special url.scheme ≡ true = rw special refl in
+      let has = special_has (Some url) parts url.scheme host_text named in
+      let rest = (host_text ++ written_behind colon parts.port_text)
+      ++ (parts.path_text ++ tail parts.query parts.fragment) in
+      let none : (begins slash rest || begins backslash rest) ≡ false
+      = no_slash_before host_text (written_behind colon parts.port_text)
+      (parts.path_text ++ tail parts.query parts.fragment)
+      (special_letters (Some url) parts url.scheme host_text named)
+      (special_some url.scheme host_text named.takes.value (is_special_scheme url.scheme special) has.parsed.parsed) in
+      authority_reference host_text named.takes.value form named.given has
+      (λ k u ends.
+      ends_within (Some url) (omega arith)
+      (ends_again (Some url) {s₁ = RelativeState} {h₁ = empty_held} (λ p. rw (not_opaque, plain) refl)
+      (ends_step (Some url) {s₁ = RelativeSlashState} {h₁ = with_scheme url.scheme empty_held} (λ p. refl)
+      (ends_step (Some url) {s₁ = SpecialAuthorityIgnoreSlashesState} {h₁ = with_scheme url.scheme empty_held}
+      (λ p. rw kind refl)
+      (ends_again (Some url) (λ p. rw none refl) (same_held AuthorityState rest k u ends))))))

@@ -1,0 +1,175 @@
+-- The drive letter that a path-absolute reference to a file base keeps, and the run of such a reference.
+use Rattle.std.proofs.Common.{◌≡◌, ℕ, suc, ◌+◌, true, false, ◌&&◌, ◌==◌, ◌⊎◌, List, [], ◌∷◌, ◌++◌, length, codes, Option, Some, None, refl, sym, ap, subst, ◌∙◌, inl, inr, append_assoc, length-append, arith}
+use Rattle.std.specs.List.{join_with_byte}
+use Rattle.std.specs.Char.{is_ascii_alphabetic}
+use Rattle.std.proofs.lemmas.Bool.{and_parts, and_right, cases_Bool, eqb-true, false≢true}
+use Rattle.uv_model.specs.declared.host.Host.{Host}
+use Rattle.uv_model.specs.declared.host.Host.TheVariants as host
+use Rattle.uv_model.specs.declared.scheme.Class.TheVariants.{File}
+use Rattle.uv_model.specs.declared.path.UrlPath.TheVariants.{Segments}
+use Rattle.uv_model.specs.Ascii.{slash, backslash, question_mark, number_sign}
+use Rattle.uv_model.specs.Records.Denote.{kept_drive, segments_in}
+use Rattle.uv_parser.specs.Machine.{Held, another, begins_drive, is_drive_end, sight, turn, again, FileSlashState, FileState, PathState, empty_held, is_file, list_in, with_host, with_kept_drive, with_scheme}
+use Rattle.uv_model.specs.Parts.{Parts, PathAbsolute}
+use Rattle.uv_parser.specs.SilentTexts.{Silent}
+use Rattle.uv_model.specs.Path.{IsSegment, is_drive_letter, is_normalized_drive_letter, walk}
+use Rattle.uv_model.specs.Scheme.{scheme_class}
+use Rattle.uv_parser.specs.Laws.Silence.{RunsSilently}
+use Rattle.uv_model.specs.Units.{is_faultless, is_unit_at, is_url_code_point}
+use Rattle.uv_model.specs.Records.Url.{Url, is_opaque}
+use Rattle.uv_parser.proofs.Loops.AuthorityLoops.{IsDelimiter}
+use Rattle.uv_parser.proofs.Done.Decided.{takes_form}
+use Rattle.uv_parser.proofs.Done.DoneReferences.{path_text, reference_query, reference_runs, same_list, walk_ends}
+use Rattle.uv_parser.proofs.Loops.FileHosts.{and_true-right, file_class}
+use Rattle.uv_parser.proofs.Loops.PathLoops.{walking}
+use Rattle.uv_parser.proofs.Silence.SilentFile.{file_held}
+use Rattle.uv_parser.proofs.Silence.SilentSchemes.{special_of_class}
+use Rattle.uv_parser.proofs.Running.Steps.{ends_again, ends_step}
+use Rattle.uv_parser.proofs.Loops.Tails.{no_slash_before_tail, tail}
+use Rattle.uv_model.proofs.Texts.UnitsAhead.{without_parts}
+use Rattle.uv_model.proofs.Texts.UnitsLemmas.{is_faultless-units}
+
+-- the three delimiters
+delimiters : (d : ℕ) (more : List ℕ) → IsDelimiter (sight (d ∷ more))
+    → (d ≡ slash) ⊎ ((d ≡ question_mark) ⊎ (d ≡ number_sign))
+delimiters d more is =
+    elim (cases_Bool (d == slash)) [
+      | inl a ↦ inl (eqb-true d slash a)
+      | inr not_a ↦ elim (cases_Bool (d == question_mark)) [
+        | inl b ↦ inr (inl (eqb-true d question_mark b))
+        | inr not_b ↦ elim (cases_Bool (d == number_sign)) [
+          | inl e ↦ inr (inr (eqb-true d number_sign e))
+          | inr not_e ↦
+              let plain : sight (d ∷ more) ≡ another d = rw (not_a, not_b, not_e) refl in
+              absurd (subst IsDelimiter plain is)
+        ]
+      ]
+    ]
+
+-- a code point of a segment ends no drive letter
+no_drive_end : (x : ℕ) (more rest : List ℕ) → is_unit_at x more ≡ true → (x == slash) ≡ false
+    → (x == question_mark) ≡ false → is_drive_end (x ∷ rest) ≡ false
+unfolding is_unit_at is_url_code_point
+no_drive_end x more rest unit a b =
+    elim (cases_Bool (x == backslash)) [
+      | inl is ↦ absurd (false≢true (rw (eqb-true x backslash is) at unit))
+      | inr other ↦ elim (cases_Bool (x == number_sign)) [
+        | inl is ↦ absurd (false≢true (rw (eqb-true x number_sign is) at unit))
+        | inr none ↦ rw (a, other, b, none) refl
+      ]
+    ]
+
+-- before a delimiter a segment is a drive letter exactly where the text begins with one
+drive_before : (first rest : List ℕ) → IsSegment first → IsDelimiter (sight rest)
+    → begins_drive (first ++ rest) ≡ is_drive_letter first
+drive_before [] [] is ends = refl
+drive_before [] (d ∷ []) is ends = refl
+drive_before [] (d ∷ m ∷ more) is ends =
+    elim (delimiters d (m ∷ more) ends) [
+      | inl e ↦ rw e refl
+      | inr (inl e) ↦ rw e refl
+      | inr (inr e) ↦ rw e refl
+    ]
+drive_before (c ∷ []) [] is ends = refl
+drive_before (c ∷ []) (d ∷ more) is ends =
+    elim (delimiters d more ends) [
+      | inl e ↦ rw e (ap (λ b. b && is_drive_end more) (and_right (is_ascii_alphabetic c) false refl))
+      | inr (inl e) ↦ rw e (ap (λ b. b && is_drive_end more) (and_right (is_ascii_alphabetic c) false refl))
+      | inr (inr e) ↦ rw e (ap (λ b. b && is_drive_end more) (and_right (is_ascii_alphabetic c) false refl))
+    ]
+drive_before (c ∷ m ∷ []) [] is ends = and_true-right (is_drive_letter (c ∷ m ∷ []))
+drive_before (c ∷ m ∷ []) (d ∷ more) is ends =
+    elim (delimiters d more ends) [
+      | inl e ↦ rw e (and_true-right (is_drive_letter (c ∷ m ∷ [])))
+      | inr (inl e) ↦ rw e (and_true-right (is_drive_letter (c ∷ m ∷ [])))
+      | inr (inr e) ↦ rw e (and_true-right (is_drive_letter (c ∷ m ∷ [])))
+    ]
+drive_before (c ∷ m ∷ x ∷ more) rest is ends =
+    let units = is_faultless-units (c ∷ m ∷ x ∷ more) is.units in
+    let second = (and_parts (is_unit_at c (m ∷ x ∷ more)) (is_faultless (m ∷ x ∷ more)) units).1 in
+    let third = (and_parts (is_unit_at m (x ∷ more)) (is_faultless (x ∷ more)) second).1 in
+    let unit = (and_parts (is_unit_at x more) (is_faultless more) third).0 in
+    let a = without_parts slash x more
+    (without_parts slash m (x ∷ more) (without_parts slash c (m ∷ x ∷ more) is.no_slash).1).1 in
+    let b = without_parts question_mark x more
+    (without_parts question_mark m (x ∷ more) (without_parts question_mark c (m ∷ x ∷ more) is.no_question_mark).1).1 in
+    and_right (is_drive_letter (c ∷ m ∷ [])) _ (no_drive_end x more (more ++ rest) unit a.0 b.0)
+
+delimits_tail : (query fragment : Option (List ℕ)) → IsDelimiter (sight (tail query fragment))
+delimits_tail (Some text) fragment = tt
+delimits_tail None (Some text) = tt
+delimits_tail None None = tt
+
+drive_joined : (first : List ℕ) (others : List (List ℕ)) (query fragment : Option (List ℕ)) → IsSegment first
+    → begins_drive (join_with_byte slash (first ∷ others) ++ tail query fragment) ≡ is_drive_letter first
+drive_joined first [] query fragment is = drive_before first (tail query fragment) is (delimits_tail query fragment)
+drive_joined first (next ∷ others) query fragment is =
+    rw (append_assoc first (slash ∷ join_with_byte slash (next ∷ others)) (tail query fragment))
+    (drive_before first (slash ∷ (join_with_byte slash (next ∷ others) ++ tail query fragment)) is tt)
+
+-- what is held with the base's host
+abbrev host_held : Option Host → Held
+host_held value = with_host value (with_scheme (codes "file") empty_held)
+
+-- the machine keeps the drive letter that is denoted
+kept_same : (list : List (List ℕ)) (first rest : List ℕ) (others : List (List ℕ)) (value : Option Host)
+    → begins_drive rest ≡ is_drive_letter first
+    → with_kept_drive list rest (host_held value) ≡ walking (kept_drive File list (first ∷ others)) (host_held value)
+kept_same [] first rest others value e = refl
+kept_same (drive ∷ more) first rest others value e =
+    elim (cases_Bool (is_drive_letter first)) [
+      | inl own ↦ elim (cases_Bool (is_normalized_drive_letter drive)) [
+        | inl normal ↦ rw (e, own, normal) refl
+        | inr other ↦ rw (e, own, other) refl
+      ]
+      | inr none ↦ elim (cases_Bool (is_normalized_drive_letter drive)) [
+        | inl normal ↦ rw (e, none, normal) refl
+        | inr other ↦ rw (e, none, other) refl
+      ]
+    ]
+
+-- a path-absolute reference to a file base
+pub file_absolute_done : (url : Url) (text : List ℕ) (parts : Parts) → Silent (Some url) text parts
+    → is_opaque url.path ≡ false → is_file url.scheme ≡ true → scheme_class url.scheme ≡ File → parts.scheme ≡ None
+    → url.scheme ≡ codes "file" → url.port ≡ None → parts.form ≡ PathAbsolute → RunsSilently (Some url) text parts
+file_absolute_done url text parts is not_opaque file kind none name no_port form =
+    let fits = takes_form (Some url) text parts PathAbsolute is form in
+    let path = fits.1 in
+    let joins = path.relative.joins in
+    let rest = path.behind ++ tail parts.query parts.fragment in
+    let whole : text ≡ slash ∷ rest
+    = path_text url text parts is none fits.0.host_text
+    ∙ ap (λ xs. xs ++ tail parts.query parts.fragment) path.slashed in
+    let spelled : path.behind ≡ join_with_byte slash (joins.first ∷ joins.others)
+    = joins.joined ∙ ap (join_with_byte slash) joins.some in
+    let segment : IsSegment joins.first = (rw joins.some at joins.each).0 in
+    let same : begins_drive rest ≡ is_drive_letter joins.first
+    = ap (λ xs. begins_drive (xs ++ tail parts.query parts.fragment)) spelled
+    ∙ drive_joined joins.first joins.others parts.query parts.fragment segment in
+    let no_slash = no_slash_before_tail path.behind parts.query parts.fragment path.relative.start in
+    let h = host_held url.host in
+    let kept = kept_drive File (list_in url.path) (joins.first ∷ joins.others) in
+    let walked = walk (scheme_class (codes "file")) kept parts.segments in
+    let denoted_kept : kept ≡ kept_drive (scheme_class url.scheme) (segments_in url.path) parts.segments
+    = ap (λ l. kept_drive File l (joins.first ∷ joins.others)) (same_list url.path)
+    ∙ (ap (λ k. kept_drive k (segments_in url.path) (joins.first ∷ joins.others)) (sym kind)
+    ∙ ap (kept_drive (scheme_class url.scheme) (segments_in url.path)) (sym joins.some)) in
+    let begun : (p : ℕ) → turn (Some url) FileSlashState p (file_held host.Empty) rest ≡ again PathState (walking kept h)
+    = λ p. rw (no_slash, file)
+    (ap (λ g. again PathState g) (kept_same (list_in url.path) joins.first rest joins.others url.host same)) in
+    reference_runs url text (slash ∷ rest) parts PathAbsolute (walking walked h)
+    (suc (suc (suc (length path.behind + (length (tail parts.query parts.fragment) + 1))))) whole is form none
+    (record {
+      scheme = sym name;
+      host = refl;
+      port = sym no_port;
+      path = ap (λ k. Segments (walk k kept parts.segments)) (file_class ∙ sym kind)
+          ∙ ap (λ l. Segments (walk (scheme_class url.scheme) l parts.segments)) denoted_kept;
+      query = reference_query url (scheme_class url.scheme) PathAbsolute parts.query (walking walked h)
+          (special_of_class (scheme_class url.scheme) (codes "file") (file_class ∙ sym kind)) refl;
+    })
+    (omega (arith, length-append path.behind (tail parts.query parts.fragment)))
+    (ends_again (Some url) {s₁ = FileState} {h₁ = empty_held} (λ p. rw (not_opaque, file) refl)
+    (ends_step (Some url) {s₁ = FileSlashState} {h₁ = file_held host.Empty} (λ p. refl)
+    (ends_again (Some url) begun
+    (walk_ends (Some url) parts.query parts.fragment is.query is.fragment kept parts.segments path.behind h joins))))

@@ -1,0 +1,8 @@
+-- Lemmas on the host parser and its address parsers: on valid hosts they give exactly the value.
+pub mod Ipv6ReadersLemmas
+pub mod Ipv6LoopLemmas
+pub mod Ipv6MovesLemmas
+pub mod Ipv6ParserLemmas
+pub mod Ipv4ParserLemmas
+pub mod HostParserLemmas
+pub mod HostsParsed

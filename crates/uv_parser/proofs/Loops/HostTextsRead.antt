@@ -1,0 +1,271 @@
+-- What the parser machine's authority and host states read of a valid host text: all of it.
+use Rattle.std.proofs.Common.{◌≡◌, ℕ, ◌<◌, ◌≤◌, Bool, true, false, not, ◌&&◌, ◌||◌, ◌==◌, List, [], ◌∷◌, ◌++◌, length, codes, decimal, refl, ap, lt-ltb, ne_eqb, ◌∙◌, inl, inr, arith}
+use Rattle.std.specs.Prelude.{nat_lt}
+use Rattle.std.specs.List.{list_all}
+use Rattle.std.specs.Char.{is_ascii_digit, is_ascii_hexdigit}
+use Rattle.std.proofs.lemmas.Bool.{false≢true, and_parts, and_from, and_right, or_left, cases_lt, agree_below_at}
+use Rattle.std.proofs.lemmas.Bool.Decides.{nat_tests}
+use Rattle.std.proofs.lemmas.List.Folds.{list_all-append}
+use Rattle.uv_model.specs.Hosts.Address.{IsFourNumbers, IsIpv4, IsGroupList, IsSide, IsIpv6, IsBracketedIpv6}
+use Rattle.uv_model.specs.Ascii.{colon, full_stop, left_bracket, right_bracket}
+use Rattle.uv_model.specs.Cut.{is_within, is_within_at_end, is_port_mark}
+use Rattle.uv_model.specs.Hosts.Domain.{is_permitted, has_permitted, IsDomain}
+use Rattle.uv_model.specs.Hosts.OpaqueHost.{is_forbidden_host, IsOpaqueHost}
+use Rattle.uv_parser.proofs.Loops.AuthorityLoops.{is_authority_letter, is_read_as_host}
+use Rattle.uv_model.proofs.Hosts.Ipv4Domains.{digits_alone}
+use Rattle.uv_model.proofs.Texts.UnitsLemmas.{is_faultless-units}
+use Rattle.uv_parser.proofs.Running.Unremoved.{is_unremoved, unremoved_faultless}
+
+-- the authority and host states read the whole text
+pub record IsRead (special : Bool) (text : List ℕ) : Type 0 where
+  pub letters : list_all (is_authority_letter special) text ≡ true
+  pub read : is_read_as_host special false text ≡ true
+
+-- they do, it ends outside brackets, and none of its code points is ever removed
+pub record IsReadWhole (text : List ℕ) : Type 0 where
+  pub as_host : IsRead true text
+  pub closed : is_within_at_end false text ≡ false
+  pub above : list_all is_unremoved text ≡ true
+
+-- ---- texts without brackets
+
+-- a code point of an authority that is neither `:` nor a bracket
+abbrev is_plain : ℕ → Bool
+is_plain c =
+    is_unremoved c
+    && (is_authority_letter true c && (not (c == colon) && (not (c == left_bracket) && not (c == right_bracket))))
+
+record Plain (c : ℕ) : Type 0 where
+  above : is_unremoved c ≡ true
+  letter : is_authority_letter true c ≡ true
+  mark : is_port_mark false c ≡ false
+  outside : is_within false c ≡ false
+
+plain : (c : ℕ) → is_plain c ≡ true → Plain c
+plain c is =
+    let parts = and_parts (is_unremoved c) _ is in
+    record {
+      above = parts.0;
+      letter =
+          (and_parts (is_authority_letter true c) _ parts.1).0;
+      mark =
+          grind (arith, nat_tests);
+      outside = grind (arith, nat_tests);
+    }
+
+-- a text of such code points is read
+pub read_plain : (text : List ℕ) → list_all is_plain text ≡ true → IsReadWhole text
+read_plain [] is = record { as_host = record { letters = refl; read = refl }; closed = refl; above = refl }
+read_plain (c ∷ rest) is =
+    let parts = and_parts (is_plain c) (list_all is_plain rest) is in
+    let first = plain c parts.0 in
+    let later = read_plain rest parts.1 in
+    record {
+      as_host = record {
+        letters = and_from _ _ first.letter later.as_host.letters;
+        read = rw (first.letter, first.mark, first.outside) later.as_host.read;
+      };
+      closed = rw first.outside later.closed;
+      above = and_from _ _ first.above later.above;
+    }
+
+-- every code point beyond ASCII is one
+plain_beyond : (c : ℕ) → 128 ≤ c → is_plain c ≡ true
+plain_beyond c beyond =
+    rw (
+      lt-ltb 0x20 c (omega arith),
+      ne_eqb c 47 (λ e. omega (arith, e)),
+      ne_eqb c 63 (λ e. omega (arith, e)),
+      ne_eqb c 35 (λ e. omega (arith, e)),
+      ne_eqb c 64 (λ e. omega (arith, e)),
+      ne_eqb c 92 (λ e. omega (arith, e)),
+      ne_eqb c 58 (λ e. omega (arith, e)),
+      ne_eqb c 91 (λ e. omega (arith, e)),
+      ne_eqb c 93 (λ e. omega (arith, e)),
+    ) refl
+
+-- a test that another implies
+implied : (a b : Bool) → (not a || b) ≡ true → a ≡ true → b ≡ true
+implied true b is holds = is
+implied false b is holds = absurd (false≢true holds)
+
+-- a code point of a unit that no host forbids
+plain_permitted : (c : ℕ) → not (is_forbidden_host c) ≡ true → is_unremoved c ≡ true → is_plain c ≡ true
+plain_permitted c permitted above =
+    elim (cases_lt c 128) [
+      | inl small ↦ implied (not (is_forbidden_host c) && is_unremoved c) (is_plain c)
+          (agree_below_at (λ d. not (not (is_forbidden_host d) && is_unremoved d) || is_plain d)
+          (λ d. true) 128 c refl small)
+          (and_from _ _ permitted above)
+      | inr beyond ↦ plain_beyond c beyond
+    ]
+
+plain_texts : (text : List ℕ) → list_all (λ c. not (is_forbidden_host c)) text ≡ true
+    → list_all is_unremoved text ≡ true
+    → list_all is_plain text ≡ true
+plain_texts [] permitted above = refl
+plain_texts (c ∷ rest) permitted above =
+    let first = and_parts (not (is_forbidden_host c)) _ permitted in
+    let second = and_parts (is_unremoved c) (list_all is_unremoved rest) above in
+    and_from _ _ (plain_permitted c first.0 second.0) (plain_texts rest first.1 second.1)
+
+-- an opaque-host string is read
+pub read_opaque : (text : List ℕ) → IsOpaqueHost text → IsReadWhole text
+read_opaque text is =
+    read_plain text (plain_texts text is.permitted (unremoved_faultless text (is_faultless-units text is.units)))
+
+-- a code point of a domain
+plain_domain : (c : ℕ) → is_permitted c ≡ true → is_plain c ≡ true
+plain_domain c permitted =
+    elim (cases_lt c 128) [
+      | inl small ↦ implied (is_permitted c) (is_plain c)
+          (agree_below_at (λ d. not (is_permitted d) || is_plain d) (λ d. true) 128 c refl small) permitted
+      | inr beyond ↦ plain_beyond c beyond
+    ]
+
+plain_domains : (text : List ℕ) → list_all is_permitted text ≡ true → list_all is_plain text ≡ true
+plain_domains [] permitted = refl
+plain_domains (c ∷ rest) permitted =
+    let parts = and_parts (is_permitted c) (list_all is_permitted rest) permitted in
+    and_from _ _ (plain_domain c parts.0) (plain_domains rest parts.1)
+
+-- a domain is read
+pub read_domain : (text form : List ℕ) → IsDomain text form → IsReadWhole text
+unfolding has_permitted
+read_domain text form is = read_plain text (plain_domains text is.0.permitted)
+
+-- ---- addresses
+
+-- a code point of an IPv4 text
+abbrev pub is_dotted : ℕ → Bool
+is_dotted c = is_ascii_digit c || (c == full_stop)
+
+-- a code point of an IPv6 text
+abbrev is_inner : ℕ → Bool
+is_inner c = is_ascii_hexdigit c || ((c == colon) || (c == full_stop))
+
+-- what holds of each code point of a text holds by a weaker test
+weaker : (p q : ℕ → Bool) → ((c : ℕ) → p c ≡ true → q c ≡ true) → (text : List ℕ) → list_all p text ≡ true
+    → list_all q text ≡ true
+weaker p q step [] is = refl
+weaker p q step (c ∷ rest) is =
+    let parts = and_parts (p c) (list_all p rest) is in
+    and_from _ _ (step c parts.0) (weaker p q step rest parts.1)
+
+-- the parts of a joined text
+joined : (p : ℕ → Bool) (xs ys : List ℕ) → list_all p xs ≡ true → list_all p ys ≡ true → list_all p (xs ++ ys) ≡ true
+joined p xs ys first second = list_all-append p xs ys ∙ and_from _ _ first second
+
+dotted_decimal : (n : ℕ) → n < 256 → list_all is_dotted (decimal n) ≡ true
+dotted_decimal n small =
+    weaker is_ascii_digit is_dotted (λ c digit. or_left (is_ascii_digit c) (c == full_stop) digit) (decimal n)
+    (and_parts (nat_lt 0 (length (decimal n))) (list_all is_ascii_digit (decimal n)) (digits_alone n small)).1
+
+pub dotted_numbers : (a b c d : ℕ) (text : List ℕ) → IsFourNumbers a b c d text → list_all is_dotted text ≡ true
+dotted_numbers a b c d text is =
+    let first : list_all is_dotted (decimal a) ≡ true = dotted_decimal a is.fit.0 in
+    let second : list_all is_dotted (decimal b) ≡ true = dotted_decimal b is.fit.1 in
+    let third : list_all is_dotted (decimal c) ≡ true = dotted_decimal c is.fit.2 in
+    let fourth : list_all is_dotted (decimal d) ≡ true = dotted_decimal d is.fit.3 in
+    rw is.spelled (simp (list_all-append is_dotted, first, second, third, fourth) refl)
+
+plain_dotted : (c : ℕ) → is_dotted c ≡ true → is_plain c ≡ true
+plain_dotted c is = grind (arith, nat_tests)
+
+inner_dotted : (c : ℕ) → is_dotted c ≡ true → is_inner c ≡ true
+inner_dotted c is = grind (arith, nat_tests)
+
+-- an IPv4 text is read
+pub read_ipv4 : (text : List ℕ) (value : ℕ) → IsIpv4 text value → IsReadWhole text
+read_ipv4 text value (a, b, c, d, is, e) =
+    read_plain text (weaker is_dotted is_plain plain_dotted text (dotted_numbers a b c d text is))
+
+inner_digits : (text : List ℕ) → list_all is_ascii_hexdigit text ≡ true → list_all is_inner text ≡ true
+inner_digits text is =
+    weaker is_ascii_hexdigit is_inner
+    (λ c hex. or_left (is_ascii_hexdigit c) ((c == colon) || (c == full_stop)) hex) text is
+
+inner_groups : (dotted : Bool) (text pieces : List ℕ) → IsGroupList dotted text pieces → list_all is_inner text ≡ true
+inner_groups dotted text [] h = absurd h
+inner_groups dotted text (p ∷ []) h = inner_digits text h.digits
+inner_groups dotted text (p ∷ q ∷ rest) (inl (group, others, split, is, more)) =
+    rw split
+    (joined is_inner group (colon ∷ others) (inner_digits group is.digits) (inner_groups dotted others (q ∷ rest) more))
+inner_groups dotted text (p ∷ q ∷ rest) (inr (allowed, none, (a, b, c, d, is, first, second))) =
+    weaker is_dotted is_inner inner_dotted text (dotted_numbers a b c d text is)
+
+inner_side : (dotted : Bool) (text pieces : List ℕ) → IsSide dotted text pieces → list_all is_inner text ≡ true
+inner_side dotted text pieces (inl (nothing, none)) = rw nothing refl
+inner_side dotted text pieces (inr list) = inner_groups dotted text pieces list
+
+inner_ipv6 : (text pieces : List ℕ) → IsIpv6 text pieces → list_all is_inner text ≡ true
+inner_ipv6 text pieces (inl (list, eight)) = inner_groups true text pieces list
+inner_ipv6 text pieces (inr is) =
+    rw is.spelled
+    (joined is_inner (is.left_text ++ codes "::") is.right_text
+    (joined is_inner is.left_text (codes "::") (inner_side false is.left_text is.left is.left_groups) refl)
+    (inner_side true is.right_text is.right is.right_groups))
+
+-- what a code point within brackets is
+record Inner (c : ℕ) : Type 0 where
+  above : is_unremoved c ≡ true
+  letter : is_authority_letter true c ≡ true
+  mark : is_port_mark true c ≡ false
+  inside : is_within true c ≡ true
+
+inner : (c : ℕ) → is_inner c ≡ true → Inner c
+inner c is = record {
+  above = grind (arith, nat_tests);
+  letter = grind (arith, nat_tests);
+  mark = and_right (c == colon) false refl;
+  inside = grind (arith, nat_tests);
+}
+
+-- within brackets up to the closing one
+read_within : (text : List ℕ) → list_all is_inner text ≡ true
+    → (list_all (is_authority_letter true) (text ++ right_bracket ∷ []) ≡ true)
+    × (is_read_as_host true true (text ++ right_bracket ∷ []) ≡ true)
+    × (is_within_at_end true (text ++ right_bracket ∷ []) ≡ false)
+    × (list_all is_unremoved (text ++ right_bracket ∷ []) ≡ true)
+read_within [] is = (refl, refl, refl, refl)
+read_within (c ∷ rest) is =
+    let parts = and_parts (is_inner c) (list_all is_inner rest) is in
+    let first = inner c parts.0 in
+    let later = read_within rest parts.1 in (
+      and_from _ _ first.letter later.0,
+      rw (first.letter, first.mark, first.inside) later.1,
+      ap (λ w. is_within_at_end w (rest ++ right_bracket ∷ [])) first.inside ∙ later.2,
+      and_from _ _ first.above later.3,
+    )
+
+-- an IPv6 text in brackets is read
+pub read_ipv6 : (text pieces : List ℕ) → IsBracketedIpv6 text pieces → IsReadWhole text
+read_ipv6 text pieces (between, spelled, is) =
+    let later = read_within between (inner_ipv6 between pieces is) in
+    rw spelled (record { as_host = record { letters = later.0; read = later.1 }; closed = later.2; above = later.3 })
+
+-- ---- a URL that isn't special
+
+letter_plain : (c : ℕ) → is_authority_letter true c ≡ true → is_authority_letter false c ≡ true
+letter_plain c is = grind (arith, nat_tests)
+
+-- what is read for a special URL is read for any other
+letters_plain : (text : List ℕ) → list_all (is_authority_letter true) text ≡ true
+    → list_all (is_authority_letter false) text ≡ true
+letters_plain [] is = refl
+letters_plain (c ∷ rest) is =
+    let parts = and_parts (is_authority_letter true c) (list_all (is_authority_letter true) rest) is in
+    and_from _ _ (letter_plain c parts.0) (letters_plain rest parts.1)
+
+host_plain : (within : Bool) (text : List ℕ) → is_read_as_host true within text ≡ true
+    → is_read_as_host false within text ≡ true
+host_plain within [] is = refl
+host_plain within (c ∷ rest) is =
+    let parts = and_parts (is_authority_letter true c) _ is in
+    let later = and_parts (not (is_port_mark within c)) (is_read_as_host true (is_within within c) rest) parts.1 in
+    and_from _ _ (letter_plain c parts.0) (and_from _ _ later.0 (host_plain (is_within within c) rest later.1))
+
+pub read_for : (special : Bool) (text : List ℕ) → IsRead true text → IsRead special text
+read_for true text is = is
+read_for false text is =
+    record { letters = letters_plain text is.letters; read = host_plain false text is.read }

@@ -1,0 +1,204 @@
+-- Tools for laws of the parser machine: one step, many steps one after the other, and the way from an exact count of
+-- steps to a bound on them. Each holds of every state, over any base and any text.
+use Rattle.std.proofs.Common.{◌≡◌, ℕ, zero, suc, ◌+◌, ◌-◌, ◌≤◌, List, [], ◌∷◌, Option, drop, refl, sym, ap, subst, ◌∙◌, drop-drop, zero-add, arith}
+use Rattle.uv_model.specs.Records.Url.{Url}
+use Rattle.uv_parser.specs.Machine.{State, Held, onward, again, from_place, turn}
+use Rattle.uv_parser.specs.Run.{Machine, Outcome, Done, Stopped, Going, settle, step, run_from}
+
+-- the machine goes on in this state, at this place, with this held
+abbrev pub at : State → ℕ → Held → Outcome
+at s p h = Going (record { state = s; pointer = p; held = h })
+
+-- the rest from the next place on
+pub drop_one : (text : List ℕ) (p c : ℕ) (rest : List ℕ) → drop p text ≡ c ∷ rest → drop (p + 1) text ≡ rest
+drop_one text p c rest e = sym (drop-drop 1 p text) ∙ ap (λ r. drop 1 r) e
+
+-- the rest from the place behind the next on
+pub drop_two : (text : List ℕ) (p c d : ℕ) (rest : List ℕ) → drop p text ≡ c ∷ d ∷ rest → drop (p + 2) text ≡ rest
+drop_two text p c d rest e = sym (drop-drop 2 p text) ∙ ap (λ r. drop 2 r) e
+
+-- ---- exact counts of steps
+
+module _ (base : Option Url) (text : List ℕ) where
+  -- one step is the row of the state, settled at the pointer's place
+  pub step_at : (s : State) (p : ℕ) (h : Held) (rest : List ℕ) → drop p text ≡ rest
+      → step base text (record { state = s; pointer = p; held = h }) ≡ settle p rest (turn base s p h rest)
+  unfolding step
+  step_at s p h rest e = ap (λ r. settle p r (turn base s p h r)) e
+
+  -- so many steps lead from one outcome to another
+  abbrev pub Leads : Outcome → ℕ → Outcome → Type 0
+  Leads from n to = run_from base text from n ≡ to
+
+  -- no step leads nowhere
+  pub leads_none : (from : Outcome) → Leads from 0 from
+  unfolding run_from
+  leads_none from = refl
+
+  -- a step, and then more of them
+  pub leads_step : (m : Machine) (k : ℕ) (next to : Outcome)
+      → step base text m ≡ next → Leads next k to → Leads (Going m) (suc k) to
+  unfolding run_from
+  leads_step m k next to e later = ap (λ o. run_from base text o k) e ∙ later
+
+  -- a run that has ended with a URL stays there
+  pub leads_done : (url : Url) (k : ℕ) → Leads (Done url) k (Done url)
+  unfolding run_from
+  leads_done url zero = refl
+  leads_done url (suc k) = refl
+
+  -- a run that has stopped stays there
+  pub leads_stopped : (p k : ℕ) → Leads (Stopped p) k (Stopped p)
+  unfolding run_from
+  leads_stopped p zero = refl
+  leads_stopped p (suc k) = refl
+
+  -- many steps, taken in two parts
+  pub run_in_parts : (from : Outcome) (j k : ℕ)
+      → run_from base text from (j + k) ≡ run_from base text (run_from base text from j) k
+  unfolding run_from
+  run_in_parts from zero k = ap (run_from base text from) (zero-add k)
+  run_in_parts (Done url) (suc j) k = leads_done url (suc j + k) ∙ sym (leads_done url k)
+  run_in_parts (Stopped p) (suc j) k = leads_stopped p (suc j + k) ∙ sym (leads_stopped p k)
+  run_in_parts (Going m) (suc j) k =
+      let count : suc j + k ≡ suc (j + k) = omega arith in
+      ap (run_from base text (Going m)) count ∙ run_in_parts (step base text m) j k
+
+  -- some steps, and then more of them
+  pub leads_then : (from next to : Outcome) (j k : ℕ) → Leads from j next → Leads next k to → Leads from (j + k) to
+  leads_then from next to j k first later = run_in_parts from j k ∙ (ap (λ o. run_from base text o k) first ∙ later)
+
+  -- a run that ends with a URL within a count of steps has ended with it at each higher count
+  pub leads_within : (from : Outcome) (url : Url) (j k : ℕ) → j ≤ k → Leads from j (Done url) → Leads from k (Done url)
+  leads_within from url j k within first =
+      let count : j + (k - j) ≡ k = omega arith in
+      subst (λ (n : ℕ). Leads from n (Done url)) count
+      (leads_then from (Done url) (Done url) j (k - j) first (leads_done url (k - j)))
+
+-- ---- laws over the rest of a text
+
+-- From a state with the one rest, so many steps lead to a state with the other rest, in each text and at each place.
+pub record Reaches (base : Option Url) (s : State) (h : Held) (before : List ℕ) (n : ℕ)
+    (s' : State) (h' : Held) (after : List ℕ) : Type 0 where
+  pub goes : (text : List ℕ) (p : ℕ) → drop p text ≡ before
+      → (q : ℕ) × (drop q text ≡ after) × Leads base text (at s p h) n (at s' q h')
+
+-- From a state with this rest, a run ends with this URL after so many steps, in each text and at each place.
+pub record Ends (base : Option Url) (s : State) (h : Held) (rest : List ℕ) (n : ℕ) (url : Url) : Type 0 where
+  pub goes : (text : List ℕ) (p : ℕ) → drop p text ≡ rest → Leads base text (at s p h) n (Done url)
+
+module _ (base : Option Url) where
+  -- no step stays where it is
+  pub reaches_none : (s : State) (h : Held) (rest : List ℕ) → Reaches base s h rest 0 s h rest
+  reaches_none s h rest = record { goes = λ text p e. (p, e, leads_none base text (at s p h)) }
+
+  -- a step past one code point, and then more of them
+  pub onward_then : {s : State} {h : Held} {c : ℕ} {rest : List ℕ} {s₁ : State} {h₁ : Held} {k : ℕ}
+      {s₂ : State} {h₂ : Held} {after : List ℕ}
+      → ((p : ℕ) → turn base s p h (c ∷ rest) ≡ onward s₁ h₁)
+      → Reaches base s₁ h₁ rest k s₂ h₂ after → Reaches base s h (c ∷ rest) (suc k) s₂ h₂ after
+  onward_then {s} {h} {c} {rest} {s₁} {h₁} {k} {s₂} {h₂} {after} row later = record {
+    goes = λ text p e.
+        let next = later.goes text (p + 1) (drop_one text p c rest e) in
+        let one : step base text (record { state = s; pointer = p; held = h }) ≡ at s₁ (p + 1) h₁
+        = step_at base text s p h (c ∷ rest) e ∙ ap (settle p (c ∷ rest)) (row p) in
+        (next.0, next.1, leads_step base text _ k _ _ one next.2);
+  }
+
+  -- a step that stays at its place, and then more of them
+  pub again_then : {s : State} {h : Held} {rest : List ℕ} {s₁ : State} {h₁ : Held} {k : ℕ}
+      {s₂ : State} {h₂ : Held} {after : List ℕ}
+      → ((p : ℕ) → turn base s p h rest ≡ again s₁ h₁)
+      → Reaches base s₁ h₁ rest k s₂ h₂ after → Reaches base s h rest (suc k) s₂ h₂ after
+  again_then {s} {h} {rest} {s₁} {h₁} {k} {s₂} {h₂} {after} row later = record {
+    goes = λ text p e.
+        let next = later.goes text p e in
+        let one : step base text (record { state = s; pointer = p; held = h }) ≡ at s₁ p h₁
+        = step_at base text s p h rest e ∙ ap (settle p rest) (row p) in
+        (next.0, next.1, leads_step base text _ k _ _ one next.2);
+  }
+
+  -- a step past two code points, and then more of them
+  pub past_two_then : {s : State} {h : Held} {c d : ℕ} {rest : List ℕ} {s₁ : State} {h₁ : Held} {k : ℕ}
+      {s₂ : State} {h₂ : Held} {after : List ℕ}
+      → ((p : ℕ) → turn base s p h (c ∷ d ∷ rest) ≡ from_place (p + 2) s₁ h₁)
+      → Reaches base s₁ h₁ rest k s₂ h₂ after → Reaches base s h (c ∷ d ∷ rest) (suc k) s₂ h₂ after
+  past_two_then {s} {h} {c} {d} {rest} {s₁} {h₁} {k} {s₂} {h₂} {after} row later = record {
+    goes = λ text p e.
+        let next = later.goes text (p + 2) (drop_two text p c d rest e) in
+        let one : step base text (record { state = s; pointer = p; held = h }) ≡ at s₁ (p + 2) h₁
+        = step_at base text s p h (c ∷ d ∷ rest) e ∙ ap (settle p (c ∷ d ∷ rest)) (row p) in
+        (next.0, next.1, leads_step base text _ k _ _ one next.2);
+  }
+
+  -- one law behind another
+  pub reaches_then : {s : State} {h : Held} {before : List ℕ} {j : ℕ}
+      {s₁ : State} {h₁ : Held} {between : List ℕ} {k : ℕ}
+      {s₂ : State} {h₂ : Held} {after : List ℕ}
+      → Reaches base s h before j s₁ h₁ between → Reaches base s₁ h₁ between k s₂ h₂ after
+      → Reaches base s h before (j + k) s₂ h₂ after
+  reaches_then {s} {h} {before} {j} {s₁} {h₁} {between} {k} {s₂} {h₂} {after} first later = record {
+    goes = λ text p e.
+        let mid = first.goes text p e in
+        let last = later.goes text mid.0 mid.1 in
+        (last.0, last.1, leads_then base text _ _ _ j k mid.2 last.2);
+  }
+
+  -- at the end of the text a step onward ends the run
+  pub ends_onward : {s : State} {h : Held} {s₁ : State} {h₁ : Held}
+      → ((p : ℕ) → turn base s p h [] ≡ onward s₁ h₁) → Ends base s h [] 1 h₁.url
+  ends_onward {s} {h} {s₁} {h₁} row = record {
+    goes = λ text p e.
+        let one : step base text (record { state = s; pointer = p; held = h }) ≡ Done h₁.url
+        = step_at base text s p h [] e ∙ ap (settle p []) (row p) in
+        leads_step base text _ 0 _ _ one (leads_none base text (Done h₁.url));
+  }
+
+  -- a step past one code point, and behind it the end
+  pub ends_step : {s : State} {h : Held} {c : ℕ} {rest : List ℕ} {s₁ : State} {h₁ : Held} {k : ℕ} {url : Url}
+      → ((p : ℕ) → turn base s p h (c ∷ rest) ≡ onward s₁ h₁)
+      → Ends base s₁ h₁ rest k url → Ends base s h (c ∷ rest) (suc k) url
+  ends_step {s} {h} {c} {rest} {s₁} {h₁} {k} {url} row last = record {
+    goes = λ text p e.
+        let one : step base text (record { state = s; pointer = p; held = h }) ≡ at s₁ (p + 1) h₁
+        = step_at base text s p h (c ∷ rest) e ∙ ap (settle p (c ∷ rest)) (row p) in
+        leads_step base text _ k _ _ one (last.goes text (p + 1) (drop_one text p c rest e));
+  }
+
+  -- a step that stays at its place, and behind it the end
+  pub ends_again : {s : State} {h : Held} {rest : List ℕ} {s₁ : State} {h₁ : Held} {k : ℕ} {url : Url}
+      → ((p : ℕ) → turn base s p h rest ≡ again s₁ h₁) → Ends base s₁ h₁ rest k url → Ends base s h rest (suc k) url
+  ends_again {s} {h} {rest} {s₁} {h₁} {k} {url} row last = record {
+    goes = λ text p e.
+        let one : step base text (record { state = s; pointer = p; held = h }) ≡ at s₁ p h₁
+        = step_at base text s p h rest e ∙ ap (settle p rest) (row p) in
+        leads_step base text _ k _ _ one (last.goes text p e);
+  }
+
+  -- a step past two code points, and behind it the end
+  pub ends_past_two : {s : State} {h : Held} {c d : ℕ} {rest : List ℕ} {s₁ : State} {h₁ : Held} {k : ℕ} {url : Url}
+      → ((p : ℕ) → turn base s p h (c ∷ d ∷ rest) ≡ from_place (p + 2) s₁ h₁)
+      → Ends base s₁ h₁ rest k url → Ends base s h (c ∷ d ∷ rest) (suc k) url
+  ends_past_two {s} {h} {c} {d} {rest} {s₁} {h₁} {k} {url} row last = record {
+    goes = λ text p e.
+        let one : step base text (record { state = s; pointer = p; held = h }) ≡ at s₁ (p + 2) h₁
+        = step_at base text s p h (c ∷ d ∷ rest) e ∙ ap (settle p (c ∷ d ∷ rest)) (row p) in
+        leads_step base text _ k _ _ one (last.goes text (p + 2) (drop_two text p c d rest e));
+  }
+
+  -- a law, and behind it the end
+  pub ends_after : {s : State} {h : Held} {before : List ℕ} {j : ℕ}
+      {s₁ : State} {h₁ : Held} {after : List ℕ} {k : ℕ} {url : Url}
+      → Reaches base s h before j s₁ h₁ after → Ends base s₁ h₁ after k url → Ends base s h before (j + k) url
+  ends_after {s} {h} {before} {j} {s₁} {h₁} {after} {k} {url} first last = record {
+    goes = λ text p e.
+        let mid = first.goes text p e in
+        leads_then base text _ _ _ j k mid.2 (last.goes text mid.0 mid.1);
+  }
+
+  -- an end within a count of steps is an end within each higher count
+  pub ends_within : {s : State} {h : Held} {rest : List ℕ} {j k : ℕ} {url : Url}
+      → j ≤ k → Ends base s h rest j url → Ends base s h rest k url
+  ends_within {s} {h} {rest} {j} {k} {url} within ends = record {
+    goes = λ text p e. leads_within base text _ url j k within (ends.goes text p e);
+  }

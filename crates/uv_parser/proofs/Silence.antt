@@ -1,0 +1,7 @@
+-- The claims on valid texts with a scheme, composed from the laws of the loops.
+pub mod SilentOpaque
+pub mod SilentPath
+pub mod SilentAuthority
+pub mod SilentFile
+pub mod SilentSchemes
+pub mod SilentTexts

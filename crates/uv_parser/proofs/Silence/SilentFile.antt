@@ -1,0 +1,232 @@
+-- The parser machine is silent on each valid text with a scheme of class File.
+use Rattle.std.proofs.Common.{◌≡◌, ℕ, suc, ◌+◌, true, List, ◌∷◌, ◌++◌, length, codes, Option, Some, None, refl, sym, ap, subst, ◌∙◌, inl, inr, append_assoc, append-nil, length-append, arith}
+use Rattle.std.specs.List.{list_all}
+use Rattle.std.proofs.lemmas.Bool.{false≢true}
+use Rattle.uv_model.specs.declared.host.Host.{Host}
+use Rattle.uv_model.specs.declared.host.Host.TheVariants as host
+use Rattle.uv_model.specs.declared.scheme.Class.{Class}
+use Rattle.uv_model.specs.declared.scheme.Class.TheVariants.{File, Other}
+use Rattle.uv_model.specs.declared.path.UrlPath.TheVariants.{Segments}
+use Rattle.uv_model.specs.Ascii.{slash, colon}
+use Rattle.uv_model.specs.Records.Denote.{authority_path}
+use Rattle.uv_parser.specs.Machine.{Held, Sight, end, slash_mark, query_mark, fragment_mark, another, sight, again, FileHostState, FileSlashState, FileState, PathStartState, SchemeState, file_host_at, empty_held, with_host, with_more, with_scheme}
+use Rattle.uv_model.specs.Parts.{Form, Parts, SchemeAuthority, SchemePath, SchemeOpaque, Authority, PathAbsolute, PathRelative, NoPath, has_scheme, written, written_behind}
+use Rattle.uv_parser.specs.Run.{first_removed}
+use Rattle.uv_model.specs.Scheme.{is_scheme, lowercase, scheme_class}
+use Rattle.uv_parser.specs.Laws.Silence.{RunsSilently, FileTextsRunSilently}
+use Rattle.uv_model.specs.Records.Url.{Url}
+use Rattle.uv_model.specs.Valid.{FitsAuthority, FitsForm, FitsScheme, HasAuthority, IsFileAuthority, MayBePathAbsolute, MayBeUnits, Valid, scheme_in, scheme_or}
+use Rattle.uv_parser.proofs.Loops.AuthorityEnds.{delimits}
+use Rattle.uv_parser.proofs.Loops.AuthorityLoops.{IsDelimiter}
+use Rattle.uv_parser.proofs.Loops.FileHosts.{IsFileRead, file_class, file_is_read, file_host_law, file_host_row, file_parsed, file_scheme}
+use Rattle.uv_parser.proofs.HostParsing.HostsParsed.{parsed_some}
+use Rattle.uv_parser.proofs.Loops.PathLoops.{walking}
+use Rattle.uv_parser.proofs.Loops.PathStarts.{path_start_ends}
+use Rattle.uv_parser.proofs.Loops.SchemeStretch.{colon_row, scheme_held, scheme_there}
+use Rattle.uv_parser.proofs.Silence.SilentAuthority.{authority_named, authority_there, unremoved_path, valued_some, written_with_authority}
+use Rattle.uv_parser.proofs.Silence.SilentSchemes.{EndsBehindScheme, HoldsDenoted, denoted_from_held, kept_text, runs_kept}
+use Rattle.uv_parser.proofs.Running.Steps.{Ends, ends_after, ends_again, ends_step, ends_within}
+use Rattle.uv_parser.proofs.Loops.Tails.{tail, with_tail}
+use Rattle.uv_parser.proofs.Running.Unremoved.{is_unremoved, unremoved_append}
+use Rattle.uv_parser.proofs.Loops.PathStarts.{slashed_absolute}
+use Rattle.uv_parser.specs.SilentTexts.{MayBePathSlashed}
+
+-- what is held behind the host
+abbrev pub file_held : Host → Held
+file_held value = with_host (Some value) (with_scheme (codes "file") empty_held)
+
+-- the URL at the end
+abbrev file_url : Host → List (List ℕ) → Option (List ℕ) → Option (List ℕ) → Url
+file_url value segments query fragment =
+    with_tail query fragment (walking (authority_path (scheme_class (codes "file")) segments) (file_held value))
+
+-- an empty host ends at a delimiter
+empty_host_row : (s : Sight) → IsDelimiter s
+    → file_host_at (file_held host.Empty) s ≡ again PathStartState (file_held host.Empty)
+empty_host_row end is = refl
+empty_host_row slash_mark is = refl
+empty_host_row query_mark is = refl
+empty_host_row fragment_mark is = refl
+empty_host_row (another c) is = absurd is
+
+module _ (base : Option Url) (segments : List (List ℕ)) (path : List ℕ) (query fragment : Option (List ℕ))
+    (segmented : MayBePathSlashed segments path) (query_units : MayBeUnits query)
+    (fragment_units : MayBeUnits fragment) where
+  -- from the scheme's `:` to the host
+  file_starts : (scheme rest : List ℕ) (k : ℕ) (url : Url) → scheme_class scheme ≡ File
+      → Ends base FileHostState (file_held host.Empty) rest k url
+      → Ends base SchemeState (with_more (lowercase scheme) empty_held) (colon ∷ slash ∷ slash ∷ rest)
+      (suc (suc (suc k))) url
+  file_starts scheme rest k url kind ends =
+      ends_step base {s₁ = FileState} {h₁ = scheme_held scheme}
+      (λ p. colon_row base scheme (slash ∷ slash ∷ rest) p ∙ rw kind refl)
+      (ends_step base {s₁ = FileSlashState} {h₁ = file_held host.Empty} (λ p. refl)
+      (ends_step base (λ p. refl) ends))
+
+  -- from behind the host to the end
+  file_path_ends : (value : Host)
+      → Ends base PathStartState (file_held value) (path ++ tail query fragment)
+      (length path + (length (tail query fragment) + 2))
+      (file_url value segments query fragment)
+  file_path_ends value =
+      path_start_ends base query fragment query_units fragment_units segments path (file_held value) segmented
+
+  -- from a host with a text to the end
+  pub file_host_ends : (text : List ℕ) (value : Host) → IsFileRead text value
+      → Ends base FileHostState (file_held host.Empty) (text ++ (path ++ tail query fragment))
+      (length text + suc (length path + (length (tail query fragment) + 2))) (file_url value segments query fragment)
+  file_host_ends text value is =
+      ends_after base (file_host_law base text (path ++ tail query fragment) (file_held host.Empty) is.letters)
+      (ends_again base
+      (λ p. file_host_row is.parsed_value (with_more text (file_held host.Empty)) (sight (path ++ tail query fragment))
+      (delimits segments path query fragment segmented) is.drive (parsed_some text is.parsed_value is.parsed) is.parsed
+      ∙ ap (λ v. again PathStartState (file_held v)) is.made)
+      (file_path_ends value))
+
+  -- from an empty host to the end
+  pub empty_host_ends :
+      Ends base FileHostState (file_held host.Empty) (path ++ tail query fragment)
+      (suc (length path + (length (tail query fragment) + 2))) (file_url host.Empty segments query fragment)
+  empty_host_ends =
+      ends_again base
+      (λ p. empty_host_row (sight (path ++ tail query fragment)) (delimits segments path query fragment segmented))
+      (file_path_ends host.Empty)
+
+-- The host text leads to the end, with this value.
+pub record HasFileHost (base : Option Url) (parts : Parts) (text : List ℕ) (value : Host) : Type 0 where
+  pub no_port_text : parts.port_text ≡ None
+  pub no_port : parts.port ≡ None
+  pub valued : parts.host ≡ Some value
+  pub path : MayBePathSlashed parts.segments parts.path_text
+  pub ends : Ends base FileHostState (file_held host.Empty) (text ++ (parts.path_text ++ tail parts.query parts.fragment))
+      (length text + suc (length parts.path_text + (length (tail parts.query parts.fragment) + 2)))
+      (file_url value parts.segments parts.query parts.fragment)
+
+file_host_there : (base : Option Url) (parts : Parts) (text : List ℕ) → MayBeUnits parts.query
+    → MayBeUnits parts.fragment
+    → IsFileAuthority text parts
+    → (value : Host) × HasFileHost base parts text value × (list_all is_unremoved text ≡ true)
+    × MayBePathAbsolute parts.segments parts.path_text
+file_host_there base parts text query fragment (no_text, none, inl (value, is, valued, path, drive)) =
+    let parsed = file_parsed text value is in (
+      value,
+      record {
+        no_port_text = no_text;
+        no_port = none;
+        valued = valued;
+        path = slashed_absolute parts.segments parts.path_text path;
+        ends =
+            file_host_ends base parts.segments parts.path_text parts.query parts.fragment
+            (slashed_absolute parts.segments parts.path_text path) query
+            fragment text value (file_is_read text value parsed);
+      },
+      parsed.read.above,
+      path,
+    )
+file_host_there base parts text query fragment (no_text, none, inr (empty, valued, path)) = (
+  host.Empty,
+  record {
+    no_port_text = no_text;
+    no_port = none;
+    valued = valued;
+    path = slashed_absolute parts.segments parts.path_text (inr path);
+    ends = rw empty (ends_within base (omega arith)
+        (empty_host_ends base parts.segments parts.path_text parts.query parts.fragment
+        (slashed_absolute parts.segments parts.path_text (inr path)) query fragment));
+  },
+  rw empty refl,
+  inr path,
+)
+
+-- what is held behind the path is what is denoted
+file_denoted : (base : Option Url) (parts : Parts) (scheme text : List ℕ) (value : Host) → scheme_class scheme ≡ File
+    → HasFileHost base parts text value
+    → HoldsDenoted base parts SchemeAuthority scheme
+    (walking (authority_path (scheme_class (codes "file")) parts.segments) (file_held value))
+file_denoted base parts scheme text value kind has =
+    record {
+      scheme = sym (file_scheme scheme kind);
+      host = valued_some parts value has.valued;
+      port = sym has.no_port;
+      path = ap (λ k. Segments (authority_path k parts.segments)) (file_class ∙ sym kind);
+      query = refl;
+    }
+
+-- the text of parts with an authority and no port
+written_file : (parts : Parts) (scheme text : List ℕ) → parts.scheme ≡ Some scheme → parts.host_text ≡ Some text
+    → parts.port_text ≡ None
+    → written parts ≡ scheme ++ colon ∷ ((slash ∷ slash ∷ (text ++ parts.path_text)) ++ tail parts.query parts.fragment)
+written_file parts scheme text named given none =
+    let wrote = written_with_authority parts scheme text named given in
+    let plain : text ++ written_behind colon parts.port_text ≡ text
+    = ap (λ o. text ++ written_behind colon o) none ∙ append-nil text in
+    wrote ∙ ap
+    (λ xs. scheme ++ colon ∷ ((slash ∷ slash ∷ (xs ++ parts.path_text)) ++ tail parts.query parts.fragment)) plain
+
+-- the whole run of such a text
+pub file_runs : (base : Option Url) (text : List ℕ) (parts : Parts) (scheme host_text : List ℕ) (value : Host)
+    → text ≡ written parts → MayBeUnits parts.query → MayBeUnits parts.fragment → first_removed text ≡ None
+    → parts.form ≡ SchemeAuthority → is_scheme scheme ≡ true → parts.scheme ≡ Some scheme
+    → parts.host_text ≡ Some host_text → scheme_class scheme ≡ File → HasFileHost base parts host_text value
+    → RunsSilently base text parts
+file_runs base text parts scheme host_text value spelled query fragment kept form is named given kind has =
+    let rest = host_text ++ parts.path_text in
+    let whole = append_assoc host_text parts.path_text (tail parts.query parts.fragment) in
+    let after : EndsBehindScheme base parts scheme (slash ∷ slash ∷ rest)
+    = record {
+      steps = suc (suc (suc (length host_text
+          + suc (length parts.path_text + (length (tail parts.query parts.fragment) + 2)))));
+      url = file_url value parts.segments parts.query parts.fragment;
+      named = is;
+      ends = rw whole
+          (file_starts base parts.segments parts.path_text parts.query parts.fragment has.path query fragment
+          scheme _ _ _ kind has.ends);
+      few =
+          omega (arith, length-append rest (tail parts.query parts.fragment), length-append host_text parts.path_text);
+      denoted = denoted_from_held base parts SchemeAuthority scheme _ refl form named
+          (file_denoted base parts scheme host_text value kind has);
+    } in
+    runs_kept base text parts scheme (slash ∷ slash ∷ rest) after kept
+    (spelled ∙ written_file parts scheme host_text named given has.no_port_text)
+
+-- with an authority
+file_authority_silent : (base : Option Url) (text : List ℕ) (parts : Parts) → Valid base text parts
+    → parts.form ≡ SchemeAuthority → scheme_class (scheme_in base parts) ≡ File → RunsSilently base text parts
+file_authority_silent base text parts valid form file =
+    let Q : Form → Type 0 = λ f. FitsScheme (has_scheme f) parts.scheme in
+    let has : HasAuthority base parts = subst (λ (f : Form). FitsForm base f parts) form valid.form in
+    let (scheme, named, is) = scheme_there parts.scheme (subst Q form valid.scheme) in
+    let (host_text, given) = authority_there base parts parts.host_text refl has in
+    let kind : scheme_class scheme ≡ File = sym (ap (λ o. scheme_class (scheme_or base o)) named) ∙ file in
+    let fits : FitsAuthority File scheme host_text parts
+    = subst (λ (k : Class). FitsAuthority k scheme host_text parts) kind
+    (authority_named base parts scheme host_text named given has) in
+    let (value, there, above, path) = file_host_there base parts host_text valid.query valid.fragment fits in
+    let kept = kept_text text scheme (slash ∷ slash ∷ (host_text ++ parts.path_text)) parts.query parts.fragment is
+    (unremoved_append host_text parts.path_text above (unremoved_path parts.segments parts.path_text path))
+    valid.query valid.fragment
+    (valid.whole ∙ written_file parts scheme host_text named given there.no_port_text) in
+    file_runs base text parts scheme host_text value valid.whole valid.query valid.fragment kept form is named given
+    kind there
+
+-- a class isn't two classes
+not_both : (kind : Class) → kind ≡ Other → kind ≡ File → ⊥
+not_both kind other file = absurd cc
+
+by_form : (base : Option Url) (text : List ℕ) (parts : Parts) (form : Form) → Valid base text parts → parts.form ≡ form
+    → has_scheme form ≡ true → scheme_class (scheme_in base parts) ≡ File → RunsSilently base text parts
+by_form base text parts SchemeAuthority valid e has file = file_authority_silent base text parts valid e file
+by_form base text parts SchemePath valid e has file =
+    absurd
+    (not_both (scheme_class (scheme_in base parts)) (subst (λ (f : Form). FitsForm base f parts) e valid.form).1 file)
+by_form base text parts SchemeOpaque valid e has file =
+    absurd
+    (not_both (scheme_class (scheme_in base parts)) (subst (λ (f : Form). FitsForm base f parts) e valid.form).1 file)
+by_form base text parts Authority valid e has file = absurd (false≢true has)
+by_form base text parts PathAbsolute valid e has file = absurd (false≢true has)
+by_form base text parts PathRelative valid e has file = absurd (false≢true has)
+by_form base text parts NoPath valid e has file = absurd (false≢true has)
+
+-- class File
+pub file_silent : FileTextsRunSilently
+file_silent base text parts valid has file = by_form base text parts parts.form valid refl has file

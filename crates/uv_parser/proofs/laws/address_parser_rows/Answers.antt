@@ -1,0 +1,6 @@
+-- The rows of both parsers.
+use Rattle.uv_parser.proofs.laws.address_parser_rows.Goals as goal
+use Rattle.uv_parser.proofs.Rows.AddressParsers.{address_parser_rows}
+
+pub returns : goal.returns
+returns c = address_parser_rows

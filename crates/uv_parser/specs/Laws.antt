@@ -1,0 +1,2 @@
+-- The laws of the parser's silence.
+pub mod Silence

@@ -1,0 +1,482 @@
+-- The basic URL parser, after the URL Standard, section 4.4, without state override, ended at its first validation
+-- error or failure. Each of its twenty states has one row, which says what one step does with the code point at the
+-- pointer.
+use Rattle.std.specs.Prelude.{ℕ, ◌+◌, ◌-◌, Bool, true, false, not, ◌&&◌, ◌||◌, ◌==◌, nat_lt, List, [], ◌∷◌, ◌++◌, length, codes, Option, Some, None, if◌then◌else◌}
+use Rattle.std.specs.Str.{bytes_eq}
+use Rattle.std.specs.Char.{is_ascii_alphabetic, is_ascii_digit, to_ascii_lowercase}
+use Rattle.std.specs.Str.Parse.{digits_value}
+use Rattle.uv_model.specs.declared.scheme.Class.{Class}
+use Rattle.uv_model.specs.declared.scheme.Class.TheVariants.{Special, File, Other}
+use Rattle.uv_model.specs.declared.host.Host.{Host}
+use Rattle.uv_model.specs.declared.host.Host.TheVariants as host
+use Rattle.uv_model.specs.declared.path.UrlPath.{UrlPath}
+use Rattle.uv_model.specs.declared.path.UrlPath.TheVariants.{Opaque, Segments}
+use Rattle.uv_model.specs.Ascii.{slash, colon, question_mark, number_sign, at_sign, left_bracket, right_bracket, backslash}
+use Rattle.uv_model.specs.Encoding.{encoded_code_point, encoded}
+use Rattle.uv_parser.specs.HostParser.{parse_host}
+use Rattle.uv_model.specs.Path.{is_drive_letter, is_normalized_drive_letter, is_single_dot, is_double_dot, shorten}
+use Rattle.uv_model.specs.Scheme.{is_scheme_code_point, scheme_class, default_port}
+use Rattle.uv_model.specs.Units.{is_unit_at}
+use Rattle.uv_model.specs.Records.Url.{Url, is_opaque}
+
+-- ---- what the machine is
+
+-- the states, in the standard's order; its hostname state serves a state override alone
+pub data State : Type 0 where
+  SchemeStartState : State
+  SchemeState : State
+  NoSchemeState : State
+  SpecialRelativeOrAuthorityState : State
+  PathOrAuthorityState : State
+  RelativeState : State
+  RelativeSlashState : State
+  SpecialAuthoritySlashesState : State
+  SpecialAuthorityIgnoreSlashesState : State
+  AuthorityState : State
+  HostState : State
+  PortState : State
+  FileState : State
+  FileSlashState : State
+  FileHostState : State
+  PathStartState : State
+  PathState : State
+  OpaquePathState : State
+  QueryState : State
+  FragmentState : State
+
+-- what the machine holds beside its state and its pointer
+pub record Held : Type 0 where
+  pub buffer : List ℕ
+  pub in_brackets : Bool
+  pub url : Url
+
+-- What a row says: the pointer moves by one, which at the end of the text ends the run; or the same place comes once
+-- more; or the pointer goes to a place; or the machine stops.
+pub data Turn : Type 0 where
+  onward : State → Held → Turn
+  again : State → Held → Turn
+  from_place : ℕ → State → Held → Turn
+  stop : Turn
+
+-- what stands at the pointer: a delimiter, of which one is the end of the text, or another code point
+pub data Sight : Type 0 where
+  end : Sight
+  slash_mark : Sight
+  query_mark : Sight
+  fragment_mark : Sight
+  another : ℕ → Sight
+
+-- the sight of the rest of the text
+abbrev pub sight : List ℕ → Sight
+sight [] = end
+sight (c ∷ rest) =
+    if c == slash then slash_mark
+    else (if c == question_mark then query_mark
+    else (if c == number_sign then fragment_mark else another c))
+
+-- the rest behind its first code point
+abbrev pub behind : List ℕ → List ℕ
+behind [] = []
+behind (c ∷ rest) = rest
+
+-- the rest begins with this code point
+abbrev pub begins : ℕ → List ℕ → Bool
+begins mark [] = false
+begins mark (c ∷ rest) = c == mark
+
+-- the rest begins with `//`
+abbrev pub begins_two_slashes : List ℕ → Bool
+begins_two_slashes [] = false
+begins_two_slashes (c ∷ rest) = (c == slash) && begins slash rest
+
+-- what may stand behind a drive letter: the end, `/`, `\`, `?` or `#`
+abbrev pub is_drive_end : List ℕ → Bool
+is_drive_end [] = true
+is_drive_end (c ∷ rest) = (c == slash) || ((c == backslash) || ((c == question_mark) || (c == number_sign)))
+
+-- the rest starts with a Windows drive letter (section 4.2)
+abbrev pub begins_drive : List ℕ → Bool
+begins_drive (c ∷ mark ∷ rest) = is_drive_letter (c ∷ mark ∷ []) && is_drive_end rest
+begins_drive _ = false
+
+-- a special scheme, which `file` is too
+abbrev pub is_special : List ℕ → Bool
+is_special scheme = is_special_class (scheme_class scheme)
+  where
+    is_special_class : Class → Bool
+    is_special_class Other = false
+    is_special_class _ = true
+
+-- the class of the scheme is File
+abbrev pub is_file : List ℕ → Bool
+is_file scheme = is_file_class (scheme_class scheme)
+  where
+    is_file_class : Class → Bool
+    is_file_class File = true
+    is_file_class _ = false
+
+-- ---- changes of what is held
+
+-- a URL with nothing in it and the empty list as its path, with which a run begins
+abbrev pub empty_url : Url
+empty_url = record { scheme = []; host = None; port = None; path = Segments []; query = None; fragment = None }
+
+-- what the machine holds when a run begins
+abbrev pub empty_held : Held
+empty_held = record { buffer = []; in_brackets = false; url = empty_url }
+
+-- a code point more in the buffer
+abbrev pub put : ℕ → Held → Held
+put c h = record h { buffer = h.buffer ++ (c ∷ []) }
+
+-- a text more in the buffer
+abbrev pub with_more : List ℕ → Held → Held
+with_more text h = record h { buffer = h.buffer ++ text }
+
+-- the buffer emptied
+abbrev pub emptied : Held → Held
+emptied h = record h { buffer = [] }
+
+-- the flag for brackets set or cleared
+abbrev pub with_brackets : Bool → Held → Held
+with_brackets flag h = record h { in_brackets = flag }
+
+-- the URL's scheme written
+abbrev pub with_scheme : List ℕ → Held → Held
+with_scheme scheme h = record h { url = record (h.url) { scheme = scheme } }
+
+-- the URL's host written
+abbrev pub with_host : Option Host → Held → Held
+with_host value h = record h { url = record (h.url) { host = value } }
+
+-- the URL's port written
+abbrev pub with_port : Option ℕ → Held → Held
+with_port port h = record h { url = record (h.url) { port = port } }
+
+-- the URL's path written
+abbrev pub with_path : UrlPath → Held → Held
+with_path path h = record h { url = record (h.url) { path = path } }
+
+-- the URL's query written
+abbrev pub with_query : Option (List ℕ) → Held → Held
+with_query query h = record h { url = record (h.url) { query = query } }
+
+-- the URL's fragment written
+abbrev pub with_fragment : Option (List ℕ) → Held → Held
+with_fragment fragment h = record h { url = record (h.url) { fragment = fragment } }
+
+-- host and port of the base
+abbrev pub with_base_host : Url → Held → Held
+with_base_host base h = with_port base.port (with_host base.host h)
+
+-- the segments of a path that isn't opaque
+abbrev pub list_in : UrlPath → List (List ℕ)
+list_in (Segments list) = list
+list_in (Opaque text) = []
+
+-- the path shortened
+abbrev pub shortened : Held → Held
+shortened h = with_path (Segments (shorten (scheme_class h.url.scheme) (list_in h.url.path))) h
+
+-- a segment more at the path's end
+abbrev pub with_segment : List ℕ → Held → Held
+with_segment segment h = with_path (Segments (list_in h.url.path ++ (segment ∷ []))) h
+
+-- ---- turns that several rows share
+
+-- the query begins, empty
+abbrev pub to_query : Held → Turn
+to_query h = onward QueryState (with_query (Some []) h)
+
+-- the fragment begins, empty
+abbrev pub to_fragment : Held → Turn
+to_fragment h = onward FragmentState (with_fragment (Some []) h)
+
+-- the code point goes on to the same state, unless it is a fault of units: neither a URL code point nor `%`, or `%`
+-- without two hex digits behind it
+abbrev pub unless_fault : ℕ → List ℕ → Turn → Turn
+unless_fault c rest turn = if is_unit_at c rest then turn else stop
+
+-- the host parser's host, or a stop
+abbrev pub with_parsed : Option Host → (Host → Turn) → Turn
+with_parsed None next = stop
+with_parsed (Some value) next = next value
+
+-- ---- the rows, in the standard's order
+
+-- An ASCII letter goes into the buffer in lower case, to the scheme state. Everything else: no scheme state, again.
+abbrev pub scheme_start_row : Held → List ℕ → Turn
+scheme_start_row h [] = again NoSchemeState h
+scheme_start_row h (c ∷ rest) =
+    if is_ascii_alphabetic c then onward SchemeState (put (to_ascii_lowercase c) h) else again NoSchemeState h
+
+-- the base has this scheme
+abbrev pub has_same_scheme : Option Url → List ℕ → Bool
+has_same_scheme None scheme = false
+has_same_scheme (Some base) scheme = bytes_eq base.scheme scheme
+
+-- Behind the scheme's `:`. `file` needs `//`; a special scheme goes by whether the base has the same one; any other
+-- goes by a `/`.
+abbrev pub after_scheme : Option Url → Class → ℕ → Held → List ℕ → Turn
+after_scheme base File p h rest = if begins_two_slashes rest then onward FileState h else stop
+after_scheme base Special p h rest =
+    if has_same_scheme base h.url.scheme then onward SpecialRelativeOrAuthorityState h
+    else onward SpecialAuthoritySlashesState h
+after_scheme base Other p h rest =
+    if begins slash rest then from_place (p + 2) PathOrAuthorityState h
+    else onward OpaquePathState (with_path (Opaque []) h)
+
+-- A code point of a scheme goes into the buffer in lower case. `:` makes the buffer the scheme. Everything else: the
+-- buffer emptied, no scheme state, from the first place.
+abbrev pub scheme_row : Option Url → ℕ → Held → List ℕ → Turn
+scheme_row base p h [] = from_place 0 NoSchemeState (emptied h)
+scheme_row base p h (c ∷ rest) =
+    if is_scheme_code_point c then onward SchemeState (put (to_ascii_lowercase c) h)
+    else (if c == colon then after_scheme base (scheme_class h.buffer) p (emptied (with_scheme h.buffer h)) rest
+    else from_place 0 NoSchemeState (emptied h))
+
+-- Scheme, path and query of a base with an opaque path, before a fragment.
+abbrev pub with_opaque_base : Url → Held → Held
+with_opaque_base base h = with_query base.query (with_path base.path (with_scheme base.scheme h))
+
+-- No base, or one with an opaque path where no `#` comes, stops. An opaque base hands on scheme, path and query to the
+-- fragment. Any other base leads to the relative state or, of scheme file, to the file state.
+abbrev pub no_scheme_row : Option Url → Held → List ℕ → Turn
+no_scheme_row None h rest = stop
+no_scheme_row (Some base) h rest =
+    if is_opaque base.path then (if begins number_sign rest then to_fragment (with_opaque_base base h) else stop)
+    else (if is_file base.scheme then again FileState h else again RelativeState h)
+
+-- `//` leads past both to the special authority ignore slashes state; everything else stops. The special authority
+-- slashes state has the same row.
+abbrev pub two_slashes_row : ℕ → Held → List ℕ → Turn
+two_slashes_row p h rest =
+    if begins_two_slashes rest then from_place (p + 2) SpecialAuthorityIgnoreSlashesState h else stop
+
+-- `/` leads to the authority state, everything else to the path state, again.
+abbrev pub path_or_authority_row : Held → List ℕ → Turn
+path_or_authority_row h rest = if begins slash rest then onward AuthorityState h else again PathState h
+
+-- Host, port, path and query of the base.
+abbrev pub with_base : Url → Held → Held
+with_base base h = with_query base.query (with_path base.path (with_base_host base h))
+
+-- `/` leads to the relative slash state. Else host, port, path and query are the base's: `?` and
+-- `#` begin anew from there, the end is done, and another code point drops the query and the path's last segment.
+abbrev pub relative_at : Url → Held → Sight → Turn
+relative_at base h slash_mark = onward RelativeSlashState h
+relative_at base h query_mark = to_query (with_base base h)
+relative_at base h fragment_mark = to_fragment (with_base base h)
+relative_at base h end = onward RelativeState (with_base base h)
+relative_at base h (another c) = again PathState (shortened (with_query None (with_base base h)))
+
+-- The scheme is the base's; without a base this state is never reached.
+abbrev pub relative_row : Option Url → Held → List ℕ → Turn
+relative_row None h rest = stop
+relative_row (Some base) h rest = relative_at base (with_scheme base.scheme h) (sight rest)
+
+-- A second `/` leads to an authority, for a special URL past further slashes. Else host and port are the base's: path
+-- state, again.
+abbrev pub relative_slash_row : Option Url → Held → List ℕ → Turn
+relative_slash_row None h rest = stop
+relative_slash_row (Some base) h rest =
+    if begins slash rest
+    then (if is_special h.url.scheme then onward SpecialAuthorityIgnoreSlashesState h else onward AuthorityState h)
+    else again PathState (with_base_host base h)
+
+-- A further `/` or `\` stops; everything else: authority state, again.
+abbrev pub ignore_slashes_row : Held → List ℕ → Turn
+ignore_slashes_row h rest = if begins slash rest || begins backslash rest then stop else again AuthorityState h
+
+-- `@` stops, and for a special URL `\`. A delimiter ends the authority: the host state reads it from its first place,
+-- which lies as far back as the buffer is long. Any other code point goes into the buffer.
+abbrev pub authority_at : ℕ → Held → Sight → Turn
+authority_at p h (another c) =
+    if (c == at_sign) || ((c == backslash) && is_special h.url.scheme) then stop else onward AuthorityState (put c h)
+authority_at p h _ = from_place (p - length h.buffer) HostState (emptied h)
+
+-- The buffer is a host: the host parser gives it, the buffer is emptied, and the turn goes on.
+abbrev pub host_ended : Held → (Held → Turn) → Turn
+host_ended h next =
+    with_parsed (parse_host (is_special h.url.scheme) h.buffer) (λ value. next (emptied (with_host (Some value) h)))
+
+-- a bracket sets or clears the flag
+abbrev pub bracketed : ℕ → Held → Held
+bracketed c h =
+    if c == left_bracket then with_brackets true h
+    else (if c == right_bracket then with_brackets false h else h)
+
+-- `:` outside brackets ends a host that isn't empty, to the port state. `\` stops for a special URL. A delimiter ends
+-- the host, which for a special URL isn't empty: path start state, again. Any other code point goes into the buffer.
+abbrev pub host_at : Held → Sight → Turn
+host_at h (another c) =
+    if (c == colon) && not h.in_brackets
+    then (if length h.buffer == 0 then stop else host_ended h (onward PortState))
+    else (if (c == backslash) && is_special h.url.scheme then stop else onward HostState (put c (bracketed c h)))
+host_at h _ =
+    if (length h.buffer == 0) && is_special h.url.scheme then stop else host_ended h (again PathStartState)
+
+-- the port that the buffer denotes, absent where it is empty or the scheme's default
+abbrev pub port_in : List ℕ → List ℕ → Option ℕ
+port_in scheme [] = None
+port_in scheme (digit ∷ rest) = unless_default (default_port scheme) (digits_value 10 (digit ∷ rest))
+  where
+    unless_default : Option ℕ → ℕ → Option ℕ
+    unless_default None port = Some port
+    unless_default (Some default) port = if port == default then None else Some port
+
+-- A digit goes into the buffer. A delimiter ends the port, which is at most 65535: path start state, again. Everything
+-- else stops.
+abbrev pub port_at : Held → Sight → Turn
+port_at h (another c) = if is_ascii_digit c then onward PortState (put c h) else stop
+port_at h _ =
+    if nat_lt 65535 (digits_value 10 h.buffer) then stop
+    else again PathStartState (emptied (with_port (port_in h.url.scheme h.buffer) h))
+
+-- the base, where it is of scheme file
+abbrev pub file_base : Option Url → Option Url
+file_base None = None
+file_base (Some base) = if is_file base.scheme then Some base else None
+
+-- Host, path and query of a file base.
+abbrev pub with_file_base : Url → Held → Held
+with_file_base base h = with_query base.query (with_path base.path (with_host base.host h))
+
+-- With a file base its host, path and query are handed on, as in the relative state; a drive letter at the rest's
+-- start stops. Without one: path state, again.
+abbrev pub file_at : Option Url → Held → List ℕ → Sight → Turn
+file_at base h rest slash_mark = onward FileSlashState h
+file_at None h rest _ = again PathState h
+file_at (Some base) h rest query_mark = to_query (with_file_base base h)
+file_at (Some base) h rest fragment_mark = to_fragment (with_file_base base h)
+file_at (Some base) h rest end = onward FileState (with_file_base base h)
+file_at (Some base) h rest (another c) =
+    if begins_drive rest then stop else again PathState (shortened (with_query None (with_file_base base h)))
+
+-- The scheme is file and the host empty, to begin with.
+abbrev pub file_row : Option Url → Held → List ℕ → Turn
+file_row base h rest =
+    file_at (file_base base) (with_host (Some host.Empty) (with_scheme (codes "file") h)) rest (sight rest)
+
+-- the base's first segment, where it is a drive letter that a rest without one keeps
+abbrev pub with_kept_drive : List (List ℕ) → List ℕ → Held → Held
+with_kept_drive [] rest h = h
+with_kept_drive (drive ∷ others) rest h =
+    if not (begins_drive rest) && is_normalized_drive_letter drive then with_segment drive h else h
+
+-- A second `/` leads to the file host state. Else a file base hands on its host and its drive letter: path state,
+-- again.
+abbrev pub file_slash_row : Option Url → Held → List ℕ → Turn
+file_slash_row base h rest = if begins slash rest then onward FileHostState h else without_host (file_base base)
+  where
+    without_host : Option Url → Turn
+    without_host None = again PathState h
+    without_host (Some url) = again PathState (with_kept_drive (list_in url.path) rest (with_host url.host h))
+
+-- `localhost` is the empty host
+abbrev pub file_host : Host → Host
+file_host (host.Domain form) = if bytes_eq form (codes "localhost") then host.Empty else host.Domain form
+file_host value = value
+
+-- `\` stops. A delimiter ends the host, which is no drive letter, and may be empty: path start state, again. Any other
+-- code point goes into the buffer.
+abbrev pub file_host_at : Held → Sight → Turn
+file_host_at h (another c) = if c == backslash then stop else onward FileHostState (put c h)
+file_host_at h _ =
+    if is_drive_letter h.buffer then stop
+    else (if length h.buffer == 0 then again PathStartState (with_host (Some host.Empty) h)
+    else with_parsed (parse_host true h.buffer)
+    (λ value. again PathStartState (emptied (with_host (Some (file_host value)) h))))
+
+-- A special URL goes to the path state, past a `/`. Any other goes there past a `/` or before another code point; `?`
+-- and `#` begin query and fragment, and the end is done.
+abbrev pub path_start_at : Bool → Held → Sight → Turn
+path_start_at special h slash_mark = onward PathState h
+path_start_at true h _ = again PathState h
+path_start_at false h query_mark = to_query h
+path_start_at false h fragment_mark = to_fragment h
+path_start_at false h end = onward PathStartState h
+path_start_at false h (another c) = again PathState h
+
+-- The buffer is a segment. A double-dot segment shortens the path, and a single-dot segment adds nothing; either
+-- leaves an empty segment where no `/` follows. Any other is added.
+abbrev pub segment_ended : Bool → Held → Held
+segment_ended slash_follows h =
+    if is_double_dot h.buffer
+    then (if slash_follows then emptied (shortened h) else emptied (with_segment [] (shortened h)))
+    else (if is_single_dot h.buffer
+    then (if slash_follows then emptied h else emptied (with_segment [] h))
+    else emptied (with_segment h.buffer h))
+
+-- A delimiter ends a segment; then `?` and `#` begin query and fragment, and the end is done. Any other code point,
+-- encoded, goes into the buffer.
+abbrev pub path_at : Held → List ℕ → Sight → Turn
+path_at h rest slash_mark = onward PathState (segment_ended true h)
+path_at h rest query_mark = to_query (segment_ended false h)
+path_at h rest fragment_mark = to_fragment (segment_ended false h)
+path_at h rest end = onward PathState (segment_ended false h)
+path_at h rest (another c) = unless_fault c (behind rest) (onward PathState (with_more (encoded_code_point false c) h))
+
+-- a text more at the end of the opaque path
+abbrev pub more_opaque : List ℕ → UrlPath → UrlPath
+more_opaque text (Opaque path) = Opaque (path ++ text)
+more_opaque text (Segments list) = Segments list
+
+-- a code point, encoded, at the end of the opaque path
+abbrev pub with_opaque : ℕ → Held → Held
+with_opaque c h = with_path (more_opaque (encoded_code_point false c) h.url.path) h
+
+-- `?` and `#` begin query and fragment, and the end is done. Any other code point, encoded, goes to the path.
+abbrev pub opaque_path_at : Held → List ℕ → Sight → Turn
+opaque_path_at h rest query_mark = to_query h
+opaque_path_at h rest fragment_mark = to_fragment h
+opaque_path_at h rest end = onward OpaquePathState h
+opaque_path_at h rest slash_mark = onward OpaquePathState (with_opaque slash h)
+opaque_path_at h rest (another c) = unless_fault c (behind rest) (onward OpaquePathState (with_opaque c h))
+
+-- The buffer, encoded, is the query; for a special URL `'` is encoded too.
+abbrev pub query_ended : Held → Held
+query_ended h = emptied (with_query (Some (encoded (is_special h.url.scheme) h.buffer)) h)
+
+-- `#` ends the query and begins the fragment, and the end is done. Any other code point goes into the buffer.
+abbrev pub query_at : Held → List ℕ → Sight → Turn
+query_at h rest fragment_mark = to_fragment (query_ended h)
+query_at h rest end = onward QueryState (query_ended h)
+query_at h rest slash_mark = onward QueryState (put slash h)
+query_at h rest query_mark = onward QueryState (put question_mark h)
+query_at h rest (another c) = unless_fault c (behind rest) (onward QueryState (put c h))
+
+-- a text more at the end of the fragment
+abbrev pub more_fragment : List ℕ → Option (List ℕ) → Option (List ℕ)
+more_fragment text None = Some text
+more_fragment text (Some fragment) = Some (fragment ++ text)
+
+-- The end is done. A code point, encoded, goes to the fragment.
+abbrev pub fragment_row : Held → List ℕ → Turn
+fragment_row h [] = onward FragmentState h
+fragment_row h (c ∷ rest) =
+    unless_fault c rest
+    (onward FragmentState (with_fragment (more_fragment (encoded_code_point false c) h.url.fragment) h))
+
+-- the row of a state, with the base, the pointer, what is held, and the rest of the text from the pointer on
+abbrev pub turn : Option Url → State → ℕ → Held → List ℕ → Turn
+turn base SchemeStartState p h rest = scheme_start_row h rest
+turn base SchemeState p h rest = scheme_row base p h rest
+turn base NoSchemeState p h rest = no_scheme_row base h rest
+turn base SpecialRelativeOrAuthorityState p h rest = two_slashes_row p h rest
+turn base PathOrAuthorityState p h rest = path_or_authority_row h rest
+turn base RelativeState p h rest = relative_row base h rest
+turn base RelativeSlashState p h rest = relative_slash_row base h rest
+turn base SpecialAuthoritySlashesState p h rest = two_slashes_row p h rest
+turn base SpecialAuthorityIgnoreSlashesState p h rest = ignore_slashes_row h rest
+turn base AuthorityState p h rest = authority_at p h (sight rest)
+turn base HostState p h rest = host_at h (sight rest)
+turn base PortState p h rest = port_at h (sight rest)
+turn base FileState p h rest = file_row base h rest
+turn base FileSlashState p h rest = file_slash_row base h rest
+turn base FileHostState p h rest = file_host_at h (sight rest)
+turn base PathStartState p h rest = path_start_at (is_special h.url.scheme) h (sight rest)
+turn base PathState p h rest = path_at h rest (sight rest)
+turn base OpaquePathState p h rest = opaque_path_at h rest (sight rest)
+turn base QueryState p h rest = query_at h rest (sight rest)
+turn base FragmentState p h rest = fragment_row h rest

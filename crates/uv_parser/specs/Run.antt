@@ -1,0 +1,70 @@
+-- Runs of the machine, after the URL Standard, section 4.4: the test before the first step, one step, and many.
+use Rattle.std.specs.Prelude.{ℕ, zero, suc, ◌+◌, ◌*◌, Bool, true, false, ◌||◌, ◌==◌, nat_le, List, [], ◌∷◌, length, drop, Option, Some, None, if◌then◌else◌}
+use Rattle.uv_model.specs.Records.Url.{Url}
+use Rattle.uv_parser.specs.Machine.{State, SchemeStartState, Held, Turn, onward, again, from_place, stop, turn, empty_held}
+
+-- a state, the pointer's place, and what is held
+pub record Machine : Type 0 where
+  pub state : State
+  pub pointer : ℕ
+  pub held : Held
+
+-- the run has ended with a URL, or with a stop at a place, or it goes on
+pub data Outcome : Type 0 where
+  Done : Url → Outcome
+  Stopped : ℕ → Outcome
+  Going : Machine → Outcome
+
+-- where the machine is behind a row at a place
+abbrev pub settle : ℕ → List ℕ → Turn → Outcome
+settle p rest stop = Stopped p
+settle p rest (again s h) = Going (record { state = s; pointer = p; held = h })
+settle p rest (from_place q s h) = Going (record { state = s; pointer = q; held = h })
+settle p [] (onward s h) = Done h.url
+settle p (c ∷ rest) (onward s h) = Going (record { state = s; pointer = p + 1; held = h })
+
+-- one step
+unfoldable pub step : Option Url → List ℕ → Machine → Outcome
+step base text m = settle m.pointer (drop m.pointer text) (turn base m.state m.pointer m.held (drop m.pointer text))
+
+-- at most so many steps
+unfoldable pub run_from : Option Url → List ℕ → Outcome → ℕ → Outcome
+run_from base text outcome zero = outcome
+run_from base text (Done url) (suc k) = Done url
+run_from base text (Stopped p) (suc k) = Stopped p
+run_from base text (Going m) (suc k) = run_from base text (step base text m) k
+
+-- ---- before the first step
+
+-- a tab, LF or CR
+abbrev pub is_tab_or_newline : ℕ → Bool
+is_tab_or_newline c = (c == 0x09) || ((c == 0x0A) || (c == 0x0D))
+
+-- a code point that the standard removes: a tab or newline, or at the text's first or last place a C0 control or a
+-- space
+abbrev pub is_removed : Bool → ℕ → Bool
+is_removed at_border c = is_tab_or_newline c || (if at_border then nat_le c 0x20 else false)
+
+-- the least place behind the first where a code point is removed
+abbrev pub removed_behind : ℕ → List ℕ → Option ℕ
+removed_behind p [] = None
+removed_behind p (c ∷ []) = if is_removed true c then Some p else None
+removed_behind p (c ∷ d ∷ rest) = if is_removed false c then Some p else removed_behind (p + 1) (d ∷ rest)
+
+-- the least place where a code point is removed
+unfoldable pub first_removed : List ℕ → Option ℕ
+first_removed [] = None
+first_removed (c ∷ rest) = if is_removed true c then Some 0 else removed_behind 1 rest
+
+-- the run stops there, or begins
+abbrev pub first_outcome : Option ℕ → Outcome
+first_outcome (Some p) = Stopped p
+first_outcome None = Going (record { state = SchemeStartState; pointer = 0; held = empty_held })
+
+-- what at most k steps of the machine give
+unfoldable pub run : Option Url → List ℕ → ℕ → Outcome
+run base text k = run_from base text (first_outcome (first_removed text)) k
+
+-- the bound on the steps of a run on a valid text
+abbrev pub step_bound : List ℕ → ℕ
+step_bound text = 3 * length text + 16
