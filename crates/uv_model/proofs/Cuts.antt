@@ -2,6 +2,7 @@
 -- and the parts of a valid text are unique.
 pub mod CutLemmas
 pub mod SchemeCutLemmas
+pub mod BracketLemmas
 pub mod AuthorityCutLemmas
 pub mod HostCutLemmas
 pub mod AuthorityLemmas

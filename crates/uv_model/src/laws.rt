@@ -2,7 +2,7 @@
 ghost use Rattle.uv_model.specs.Hosts.Address.{AreLibraryTexts};
 ghost use Rattle.uv_model.specs.Laws.Addresses.{AddressesAreReadBack};
 ghost use Rattle.uv_model.specs.Laws.CutRows.{CutAndComplaintRows};
-ghost use Rattle.uv_model.specs.Laws.Cuts.{EveryTextHasOneCut, PartsAreUnique, TextsWithAComplaintHaveNoParts, TextsWithASchemeIgnoreTheBase, ValidTextsAreCutIntoTheirParts};
+ghost use Rattle.uv_model.specs.Laws.Cuts.{EveryTextHasOneCut, NearestBracketsDecide, PartsAreUnique, TextsWithAComplaintHaveNoParts, TextsWithASchemeIgnoreTheBase, ValidTextsAreCutIntoTheirParts};
 ghost use Rattle.uv_model.specs.Laws.Wholes.{DenotedRecordsAreWellFormed, UnitsAreFaultless};
 
 /// A text is a concatenation of URL units exactly where no code point of it is a fault of units.
@@ -10,9 +10,14 @@ pub fn units_are_faultless()
     ensures { UnitsAreFaultless }
 {}
 
-/// Every text has, against every base, exactly one cut into the texts of its parts.
+/// Every text has, against every base, exactly one cut into the texts of its parts: the computed one.
 pub fn every_text_has_one_cut()
     ensures { EveryTextHasOneCut }
+{}
+
+/// A place of an authority is within brackets exactly where the nearest bracket before it is `[`.
+pub fn nearest_brackets_decide()
+    ensures { NearestBracketsDecide }
 {}
 
 /// The cut of a valid text has the texts of its parts.

@@ -60,4 +60,4 @@ computed_is_cut base text =
 
 -- each text has exactly one cut
 pub one_cut : EveryTextHasOneCut
-one_cut base text = record { cut = cut_of base text; is = computed_is_cut base text; only = cut_is_computed base text }
+one_cut base text = record { is = computed_is_cut base text; only = cut_is_computed base text }

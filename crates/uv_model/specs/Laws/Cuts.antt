@@ -1,17 +1,18 @@
 -- The laws of cuts and of complaints, each over every base and every text.
-use Rattle.std.specs.Prelude.{◌≡◌, ℕ, true, List, Option}
+use Rattle.std.specs.Prelude.{◌≡◌, ◌↔◌, ℕ, true, List, ◌∷◌, ◌++◌, Option}
 use Rattle.uv_model.specs.Records.Url.{Url}
 use Rattle.uv_model.specs.Parts.{Parts}
 use Rattle.uv_model.specs.Valid.{Valid, starts_with_scheme}
 use Rattle.uv_model.specs.declared.rule.Rule.{Rule}
 use Rattle.uv_model.specs.Complaints.Complaint.{Complaint}
-use Rattle.uv_model.specs.Cut.{Cut, IsCut, cut_of, texts_of}
+use Rattle.uv_model.specs.Ascii.{left_bracket, right_bracket}
+use Rattle.uv_model.specs.Cut.{Cut, IsCut, cut_of, ends_within, texts_of}
+use Rattle.uv_model.specs.Path.{is_without}
 
--- the text has a cut, and no other one
+-- the computed cut is a cut of the text, and each cut of the text is the computed one
 pub record HasOneCut (base : Option Url) (text : List ℕ) : Type 0 where
-  pub cut : Cut
-  pub is : IsCut base text cut
-  pub only : (other : Cut) → IsCut base text other → other ≡ cut
+  pub is : IsCut base text (cut_of base text)
+  pub only : (other : Cut) → IsCut base text other → other ≡ cut_of base text
 
 -- every text has exactly one cut
 abbrev pub EveryTextHasOneCut : Type 0
@@ -44,3 +45,16 @@ TextsWithAComplaintHaveNoParts =
 abbrev pub PartsAreUnique : Type 0
 PartsAreUnique =
     (base : Option Url) (text : List ℕ) (p q : Parts) → Valid base text p → Valid base text q → p ≡ q
+
+-- the text has a `[` behind which no bracket follows
+pub record EndsBehindOpenBracket (text : List ℕ) : Type 0 where
+  pub before : List ℕ
+  pub inner : List ℕ
+  pub spelled : text ≡ before ++ left_bracket ∷ inner
+  pub none_opens : is_without left_bracket inner ≡ true
+  pub none_closes : is_without right_bracket inner ≡ true
+
+-- a place is within brackets exactly where the nearest bracket before it is `[`, so that the port of an authority stands
+-- behind its first `:` of which that isn't so
+abbrev pub NearestBracketsDecide : Type 0
+NearestBracketsDecide = (text : List ℕ) → (ends_within text ≡ true) ↔ EndsBehindOpenBracket text

@@ -5,37 +5,30 @@ use Rattle.uv_parser.specs.Rows.Denotation.{DenotationRows, readings, expected, 
 use Rattle.uv_parser.proofs.Rows.Computing.{parser}
 use Rattle.uv_parser.proofs.Rows.RowsLemmas.{agree}
 
--- each row of the table, by computation
 authority_readings_hold : Agree readings expected authority_readings
 unfolding parser
 authority_readings_hold = agree readings expected authority_readings refl
 
--- each row of the table, by computation
 path_readings_hold : Agree readings expected path_readings
 unfolding parser
 path_readings_hold = agree readings expected path_readings refl
 
--- each row of the table, by computation
 reference_readings_hold : Agree readings expected reference_readings
 unfolding parser
 reference_readings_hold = agree readings expected reference_readings refl
 
--- each row of the table, by computation
 empty_readings_hold : Agree readings expected empty_readings
 unfolding parser
 empty_readings_hold = agree readings expected empty_readings refl
 
--- each row of the table, by computation
 shortened_paths_hold : Agree shortened_here shortened_there shortened_paths
 unfolding parser
 shortened_paths_hold = agree shortened_here shortened_there shortened_paths refl
 
--- each row of the table, by computation
 walked_paths_hold : Agree walked_here walked_there walked_paths
 unfolding parser
 walked_paths_hold = agree walked_here walked_there walked_paths refl
 
--- each table
 pub denotation_rows_hold : DenotationRows
 denotation_rows_hold = (
   authority_readings_hold,

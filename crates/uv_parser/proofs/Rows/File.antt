@@ -5,16 +5,13 @@ use Rattle.uv_parser.specs.Rows.File.{FileRows, host_rows, drive_rows}
 use Rattle.uv_parser.proofs.Rows.Computing.{parser}
 use Rattle.uv_parser.proofs.Rows.RowsLemmas.{all_hold}
 
--- each row of the table, by computation
 host_rows_hold : AllHold host_rows
 unfolding parser
 host_rows_hold = all_hold host_rows refl
 
--- each row of the table, by computation
 drive_rows_hold : AllHold drive_rows
 unfolding parser
 drive_rows_hold = all_hold drive_rows refl
 
--- each table
 pub file_rows_hold : FileRows
 file_rows_hold = (host_rows_hold, drive_rows_hold)

@@ -5,26 +5,21 @@ use Rattle.uv_parser.specs.Rows.Hosts.{HostRows, domain_rows, ipv4_rows, ipv6_ro
 use Rattle.uv_parser.proofs.Rows.Computing.{parser}
 use Rattle.uv_parser.proofs.Rows.RowsLemmas.{all_hold}
 
--- each row of the table, by computation
 domain_rows_hold : AllHold domain_rows
 unfolding parser
 domain_rows_hold = all_hold domain_rows refl
 
--- each row of the table, by computation
 ipv4_rows_hold : AllHold ipv4_rows
 unfolding parser
 ipv4_rows_hold = all_hold ipv4_rows refl
 
--- each row of the table, by computation
 ipv6_rows_hold : AllHold ipv6_rows
 unfolding parser
 ipv6_rows_hold = all_hold ipv6_rows refl
 
--- each row of the table, by computation
 ipv6_fault_rows_hold : AllHold ipv6_fault_rows
 unfolding parser
 ipv6_fault_rows_hold = all_hold ipv6_fault_rows refl
 
--- each table
 pub host_rows_hold : HostRows
 host_rows_hold = (domain_rows_hold, ipv4_rows_hold, ipv6_rows_hold, ipv6_fault_rows_hold)

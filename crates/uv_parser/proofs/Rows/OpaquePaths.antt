@@ -5,21 +5,17 @@ use Rattle.uv_parser.specs.Rows.OpaquePaths.{OpaquePathRows, opaque_rows, unit_r
 use Rattle.uv_parser.proofs.Rows.Computing.{parser}
 use Rattle.uv_parser.proofs.Rows.RowsLemmas.{all_hold}
 
--- each row of the table, by computation
 opaque_rows_hold : AllHold opaque_rows
 unfolding parser
 opaque_rows_hold = all_hold opaque_rows refl
 
--- each row of the table, by computation
 unit_rows_hold : AllHold unit_rows
 unfolding parser
 unit_rows_hold = all_hold unit_rows refl
 
--- each row of the table, by computation
 removed_rows_hold : AllHold removed_rows
 unfolding parser
 removed_rows_hold = all_hold removed_rows refl
 
--- each table
 pub opaque_path_rows_hold : OpaquePathRows
 opaque_path_rows_hold = (opaque_rows_hold, unit_rows_hold, removed_rows_hold)

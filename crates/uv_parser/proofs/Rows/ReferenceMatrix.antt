@@ -14,52 +14,42 @@ use Rattle.uv_model.specs.Records.Url.{Url, is_opaque}
 use Rattle.uv_parser.proofs.Rows.Computing.{parser}
 use Rattle.uv_parser.proofs.Rows.RowsLemmas.{agree, all_hold}
 
--- each row of the table, by computation
 base_rows_hold : AllHold base_rows
 unfolding parser
 base_rows_hold = all_hold base_rows refl
 
--- each row of the table, by computation
 http_rows_hold : AllHold http_rows
 unfolding parser
 http_rows_hold = all_hold http_rows refl
 
--- each row of the table, by computation
 root_rows_hold : AllHold root_rows
 unfolding parser
 root_rows_hold = all_hold root_rows refl
 
--- each row of the table, by computation
 drive_rows_hold : AllHold drive_rows
 unfolding parser
 drive_rows_hold = all_hold drive_rows refl
 
--- each row of the table, by computation
 file_host_rows_hold : AllHold file_host_rows
 unfolding parser
 file_host_rows_hold = all_hold file_host_rows refl
 
--- each row of the table, by computation
 host_drive_rows_hold : AllHold host_drive_rows
 unfolding parser
 host_drive_rows_hold = all_hold host_drive_rows refl
 
--- each row of the table, by computation
 hostless_rows_hold : AllHold hostless_rows
 unfolding parser
 hostless_rows_hold = all_hold hostless_rows refl
 
--- each row of the table, by computation
 other_host_rows_hold : AllHold other_host_rows
 unfolding parser
 other_host_rows_hold = all_hold other_host_rows refl
 
--- each row of the table, by computation
 opaque_rows_hold : AllHold opaque_rows
 unfolding parser
 opaque_rows_hold = all_hold opaque_rows refl
 
--- each row of the table, by computation
 opaque_query_rows_hold : AllHold opaque_query_rows
 unfolding parser
 opaque_query_rows_hold = all_hold opaque_query_rows refl

@@ -5,37 +5,30 @@ use Rattle.uv_parser.specs.Rows.References.{ReferenceRows, http_rows, root_rows,
 use Rattle.uv_parser.proofs.Rows.Computing.{parser}
 use Rattle.uv_parser.proofs.Rows.RowsLemmas.{all_hold}
 
--- each row of the table, by computation
 http_rows_hold : AllHold http_rows
 unfolding parser
 http_rows_hold = all_hold http_rows refl
 
--- each row of the table, by computation
 root_rows_hold : AllHold root_rows
 unfolding parser
 root_rows_hold = all_hold root_rows refl
 
--- each row of the table, by computation
 drive_rows_hold : AllHold drive_rows
 unfolding parser
 drive_rows_hold = all_hold drive_rows refl
 
--- each row of the table, by computation
 file_host_rows_hold : AllHold file_host_rows
 unfolding parser
 file_host_rows_hold = all_hold file_host_rows refl
 
--- each row of the table, by computation
 opaque_rows_hold : AllHold opaque_rows
 unfolding parser
 opaque_rows_hold = all_hold opaque_rows refl
 
--- each row of the table, by computation
 other_rows_hold : AllHold other_rows
 unfolding parser
 other_rows_hold = all_hold other_rows refl
 
--- each table
 pub reference_rows_hold : ReferenceRows
 reference_rows_hold =
     (http_rows_hold, root_rows_hold, drive_rows_hold, file_host_rows_hold, opaque_rows_hold, other_rows_hold)

@@ -5,37 +5,30 @@ use Rattle.uv_parser.specs.Rows.SilentRefusals.{SilentRefusalRows, file_rows, ho
 use Rattle.uv_parser.proofs.Rows.Computing.{parser}
 use Rattle.uv_parser.proofs.Rows.RowsLemmas.{all_hold}
 
--- each row of the table, by computation
 file_rows_hold : AllHold file_rows
 unfolding parser
 file_rows_hold = all_hold file_rows refl
 
--- each row of the table, by computation
 host_rows_hold : AllHold host_rows
 unfolding parser
 host_rows_hold = all_hold host_rows refl
 
--- each row of the table, by computation
 domain_rows_hold : AllHold domain_rows
 unfolding parser
 domain_rows_hold = all_hold domain_rows refl
 
--- each row of the table, by computation
 number_rows_hold : AllHold number_rows
 unfolding parser
 number_rows_hold = all_hold number_rows refl
 
--- each row of the table, by computation
 segment_rows_hold : AllHold segment_rows
 unfolding parser
 segment_rows_hold = all_hold segment_rows refl
 
--- each row of the table, by computation
 drive_rows_hold : AllHold drive_rows
 unfolding parser
 drive_rows_hold = all_hold drive_rows refl
 
--- each table
 pub silent_refusal_rows_hold : SilentRefusalRows
 silent_refusal_rows_hold =
     (file_rows_hold, host_rows_hold, domain_rows_hold, number_rows_hold, segment_rows_hold, drive_rows_hold)

@@ -5,31 +5,25 @@ use Rattle.uv_parser.specs.Rows.Special.{SpecialRows, scheme_rows, authority_row
 use Rattle.uv_parser.proofs.Rows.Computing.{parser}
 use Rattle.uv_parser.proofs.Rows.RowsLemmas.{all_hold}
 
--- each row of the table, by computation
 scheme_rows_hold : AllHold scheme_rows
 unfolding parser
 scheme_rows_hold = all_hold scheme_rows refl
 
--- each row of the table, by computation
 authority_rows_hold : AllHold authority_rows
 unfolding parser
 authority_rows_hold = all_hold authority_rows refl
 
--- each row of the table, by computation
 port_rows_hold : AllHold port_rows
 unfolding parser
 port_rows_hold = all_hold port_rows refl
 
--- each row of the table, by computation
 path_rows_hold : AllHold path_rows
 unfolding parser
 path_rows_hold = all_hold path_rows refl
 
--- each row of the table, by computation
 fault_rows_hold : AllHold fault_rows
 unfolding parser
 fault_rows_hold = all_hold fault_rows refl
 
--- each table
 pub special_rows_hold : SpecialRows
 special_rows_hold = (scheme_rows_hold, authority_rows_hold, port_rows_hold, path_rows_hold, fault_rows_hold)

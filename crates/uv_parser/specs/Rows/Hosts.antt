@@ -77,6 +77,7 @@ ipv6_fault_rows =
     ∷ stops "http://[12345::]/" 16
     ∷ stops "http://[1.2.3.4::]/" 18
     ∷ stops "http://[::1.2.3]/" 16
+    ∷ stops "http://[::1.2.3.]/" 17
     ∷ stops "http://[::1.2.3.04]/" 19
     ∷ stops "http://[::1.2.3.256]/" 20
     ∷ stops "http://[::1.2.3.4.5]/" 20

@@ -23,6 +23,7 @@ authority_rows =
     ∷ stops "foo://h\\:8/" 8
     ∷ stops "foo://a%4/" 9
     ∷ stops "foo://a b/" 9
+    ∷ stops "foo://a`b/" 9
     ∷ stops "foo://h:8a" 9
     ∷ stops "foo://h:65536" 13
     ∷ stops "foo://[::1" 10

@@ -178,6 +178,7 @@ other_rows =
     ∷ against other_base (done "/b/" (listed "foo" None None ("b" ∷ "" ∷ [])) "foo:/b/")
     ∷ against other_base (done "" (listed "foo" None None ("a" ∷ [])) "foo:/a")
     ∷ against other_base (done "?'" (with_query "'" (listed "foo" None None ("a" ∷ []))) "foo:/a?'")
+    ∷ against other_base (done "///x" (listed "foo" empty_host None ("x" ∷ [])) "foo:///x")
     ∷ against other_base (stops "//:80" 2)
     ∷ against other_host_base (done "//g" (listed "foo" (opaque_host "g") None []) "foo://g")
     ∷ against other_host_base (done "/b" (listed "foo" (opaque_host "h") None ("b" ∷ [])) "foo://h/b")

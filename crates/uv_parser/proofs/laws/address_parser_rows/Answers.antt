@@ -1,4 +1,4 @@
--- The rows of both parsers.
+-- The tables of the address parser rows.
 use Rattle.uv_parser.proofs.laws.address_parser_rows.Goals as goal
 use Rattle.uv_parser.proofs.Rows.AddressParsers.{address_parser_rows}
 

@@ -1,4 +1,4 @@
--- The rows of the host parser.
+-- The tables of the host parser rows.
 use Rattle.uv_parser.proofs.laws.host_parser_rows.Goals as goal
 use Rattle.uv_parser.proofs.Rows.HostParser.{host_parser_rows}
 

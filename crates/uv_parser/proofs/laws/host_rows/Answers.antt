@@ -1,4 +1,4 @@
--- Each row, by computation.
+-- The tables of the host rows.
 use Rattle.uv_parser.proofs.Rows.Hosts.{host_rows_hold}
 use Rattle.uv_parser.proofs.laws.host_rows.Goals as goal
 

@@ -1,4 +1,4 @@
--- Each row, by computation.
+-- The tables of the machine rows.
 use Rattle.uv_parser.proofs.Rows.Machine.{machine_rows_hold}
 use Rattle.uv_parser.proofs.laws.machine_rows.Goals as goal
 

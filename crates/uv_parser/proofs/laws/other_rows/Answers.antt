@@ -1,4 +1,4 @@
--- Each row, by computation.
+-- The tables of the other rows.
 use Rattle.uv_parser.proofs.Rows.Other.{other_rows_hold}
 use Rattle.uv_parser.proofs.laws.other_rows.Goals as goal
 

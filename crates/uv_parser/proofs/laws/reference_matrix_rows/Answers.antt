@@ -1,4 +1,4 @@
--- Each row and each complaint, by computation.
+-- The tables of the reference matrix rows.
 use Rattle.uv_parser.proofs.Rows.ReferenceMatrix.{reference_matrix_rows_hold}
 use Rattle.uv_parser.proofs.laws.reference_matrix_rows.Goals as goal
 

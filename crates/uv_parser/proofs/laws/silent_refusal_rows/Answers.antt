@@ -1,4 +1,4 @@
--- Each row, by computation.
+-- The tables of the silent refusal rows.
 use Rattle.uv_parser.proofs.Rows.SilentRefusals.{silent_refusal_rows_hold}
 use Rattle.uv_parser.proofs.laws.silent_refusal_rows.Goals as goal
 

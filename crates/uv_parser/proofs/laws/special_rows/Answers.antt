@@ -1,4 +1,4 @@
--- Each row, by computation.
+-- The tables of the special rows.
 use Rattle.uv_parser.proofs.Rows.Special.{special_rows_hold}
 use Rattle.uv_parser.proofs.laws.special_rows.Goals as goal
 
