@@ -1,16 +1,11 @@
 -- What a check says: the parser's silence by the class of the scheme, and the base by its text.
-use Rattle.std.proofs.Common.{◌≡◌, ℕ, true, refl, List, Option}
+use Rattle.std.proofs.Common.{◌≡◌, ℕ, true, List, Option}
 use Rattle.std.specs.Borrow.{Bor}
-use Rattle.uv_model.specs.declared.scheme.Class.{Class}
-use Rattle.uv_model.specs.declared.scheme.Class.TheVariants.{Special, File, Other}
 use Rattle.uv_model.specs.Parts.{Parts, has_scheme}
-use Rattle.uv_model.specs.Scheme.{scheme_class}
 use Rattle.uv_parser.specs.Laws.Silence.{RunsSilently}
 use Rattle.uv_model.specs.Records.Url.{Url}
-use Rattle.uv_model.specs.Valid.{scheme_in}
 use Rattle.uv_model.specs.Valid as valid
-use Rattle.uv_parser.proofs.Silence.SilentFile.{file_silent}
-use Rattle.uv_parser.proofs.Silence.SilentTexts.{other_silent, special_silent}
+use Rattle.uv_parser.proofs.Silence.ValidSilent.{scheme_runs_silently}
 use Rattle.uv_cli.specs.declared.check.CheckEnd.{CheckEnd}
 use Rattle.uv_cli.specs.declared.check.CheckEnd.TheVariants.{Valid, Refused, BaseRefused}
 use Rattle.uv_cli.specs.Check.{HasWritten, IsBase, WritesWhole}
@@ -23,13 +18,7 @@ written_against base url text old new Valid is written = (url, is, written)
 written_against base url text old new Refused is written = (url, is, written)
 written_against base url text old new (BaseRefused refusal) is written = absurd written.says
 
-silent_by : (kind : Class) (base : Option Url) (text : List ℕ) (parts : Parts) → valid.Valid base text parts
-    → has_scheme parts.form ≡ true → scheme_class (scheme_in base parts) ≡ kind → RunsSilently base text parts
-silent_by Special base text parts valid has is = special_silent base text parts valid has is
-silent_by File base text parts valid has is = file_silent base text parts valid has is
-silent_by Other base text parts valid has is = other_silent base text parts valid has is
-
 -- the parser is silent on each valid text with a scheme
 pub scheme_silent : (base : Option Url) (text : List ℕ) (parts : Parts) → valid.Valid base text parts
     → has_scheme parts.form ≡ true → RunsSilently base text parts
-scheme_silent base text parts valid has = silent_by (scheme_class (scheme_in base parts)) base text parts valid has refl
+scheme_silent base text parts valid has = scheme_runs_silently base text parts valid has

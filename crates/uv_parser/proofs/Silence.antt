@@ -4,4 +4,5 @@ pub mod SilentPath
 pub mod SilentAuthority
 pub mod SilentFile
 pub mod SilentSchemes
-pub mod SilentTexts
+pub mod ValidSilent
+pub mod SilentParts

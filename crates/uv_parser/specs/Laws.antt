@@ -1,2 +1,3 @@
 -- The laws of the parser's silence.
 pub mod Silence
+pub mod ValidTexts

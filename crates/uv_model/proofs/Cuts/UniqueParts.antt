@@ -1,6 +1,7 @@
 -- The parts of a valid text are unique: each follows from the texts into which the text is cut.
 use Rattle.std.proofs.Common.{◌≡◌, ◌≢◌, ℕ, Bool, true, false, ◌==◌, List, [], ◌∷◌, All, Option, Some, None, refl, sym, ap, ◌∙◌, inl, inr}
-use Rattle.std.specs.Prelude.{if◌then◌else◌}
+use Rattle.std.specs.Prelude.{IsSome, if◌then◌else◌}
+use Rattle.std.proofs.lemmas.Bool.{false≢true}
 use Rattle.std.specs.List.{slice_split, join_with_byte}
 use Rattle.std.proofs.lemmas.List.Elements.{All-nil, All-cons}
 use Rattle.std.proofs.lemmas.List.Splits.{slice_split_none, slice_split_at}
@@ -8,7 +9,7 @@ use Rattle.uv_model.specs.declared.scheme.Class.{Class}
 use Rattle.uv_model.specs.declared.scheme.Class.TheVariants.{Special, File, Other}
 use Rattle.uv_model.specs.declared.host.Host.{Host}
 use Rattle.uv_model.specs.Ascii.{slash}
-use Rattle.uv_model.specs.Path.{IsPathAbsolute, IsPathRelative, AreSegments, is_without, starts_with_slash}
+use Rattle.uv_model.specs.Path.{IsPathAbsolute, IsPathRelative, JoinsTo, AreSegments, is_without, starts_with_slash}
 use Rattle.uv_model.specs.Records.Url.{Url}
 use Rattle.uv_model.specs.Parts.{Form, SchemeAuthority, SchemePath, SchemeOpaque, Authority, PathAbsolute, PathRelative, NoPath, Parts, has_scheme}
 use Rattle.uv_model.specs.Valid.{MayBePathAbsolute, FitsAuthority, FitsHostText, HasNoAuthority, FitsForm, FitsScheme, port_given, scheme_in}
@@ -20,8 +21,8 @@ use Rattle.uv_model.proofs.Cuts.ValidCutLemmas.{valid_texts}
 
 -- ---- segments
 
--- the segments of a path-relative string
-abbrev segments_in : List ℕ → List (List ℕ)
+-- the texts between the `/` of a text
+abbrev pub segments_in : List ℕ → List (List ℕ)
 segments_in text = slice_split (λ c. c == slash) text
 
 -- no code point of a segment is `/`
@@ -41,20 +42,23 @@ split_joined first (next ∷ rest) each =
     ∙ ap (λ xs. first ∷ xs) (split_joined next rest each.1)
 
 -- so they are those of their text
-relative_segments : (segments : List (List ℕ)) (text : List ℕ) → IsPathRelative segments text
-    → segments ≡ segments_in text
-relative_segments segments text is =
-    let joins = is.joins in
+pub joined_segments : (segments : List (List ℕ)) (text : List ℕ) → JoinsTo segments text → segments ≡ segments_in text
+joined_segments segments text joins =
     let each : AreSegments (joins.first ∷ joins.others) = rw joins.some at joins.each in
     rw (joins.joined, joins.some) (sym (split_joined joins.first joins.others each))
 
+-- the segments of a path-relative string
+pub relative_segments : (segments : List (List ℕ)) (text : List ℕ) → IsPathRelative segments text
+    → segments ≡ segments_in text
+relative_segments segments text is = joined_segments segments text is.joins
+
 -- the segments of a path-absolute string, or of no code point
-abbrev segments_behind : List ℕ → List (List ℕ)
+abbrev pub segments_behind : List ℕ → List (List ℕ)
 segments_behind [] = []
 segments_behind (c ∷ rest) = segments_in rest
 
 -- the segments of a path-absolute string
-absolute_segments : (segments : List (List ℕ)) (text : List ℕ) → IsPathAbsolute segments text
+pub absolute_segments : (segments : List (List ℕ)) (text : List ℕ) → IsPathAbsolute segments text
     → segments ≡ segments_behind text
 absolute_segments segments text is = rw is.slashed (relative_segments segments is.behind is.relative)
 
@@ -65,7 +69,7 @@ may_be_segments segments text (inl (nothing, none)) = rw (nothing, none) refl
 may_be_segments segments text (inr is) = absolute_segments segments text is
 
 -- the segments of a path by the form
-abbrev segments_of : Form → List ℕ → List (List ℕ)
+abbrev pub segments_of : Form → List ℕ → List (List ℕ)
 segments_of SchemeOpaque text = []
 segments_of PathRelative text = segments_in text
 segments_of NoPath text = []
@@ -74,7 +78,7 @@ segments_of _ text = segments_behind text
 -- ---- the form
 
 -- the form of a text by what of it is there
-abbrev form_of : Option (List ℕ) → Option (List ℕ) → List ℕ → Form
+abbrev pub form_of : Option (List ℕ) → Option (List ℕ) → List ℕ → Form
 form_of (Some scheme) (Some host_text) path_text = SchemeAuthority
 form_of None (Some host_text) path_text = Authority
 form_of (Some scheme) None path_text = if starts_with_slash path_text then SchemePath else SchemeOpaque
@@ -82,22 +86,27 @@ form_of None None [] = NoPath
 form_of None None (c ∷ rest) = if c == slash then PathAbsolute else PathRelative
 
 -- a form with an authority
-authority_form : (base : Option Url) (has : Bool) (parts : Parts) (scheme host_text : Option (List ℕ))
-    → FitsScheme has scheme → FitsHostText base parts host_text → (path_text : List ℕ)
-    → (if has then SchemeAuthority else Authority) ≡ form_of scheme host_text path_text
-authority_form base has parts scheme None named is path_text = absurd is
-authority_form base true parts (Some scheme) (Some host_text) named is path_text = refl
-authority_form base true parts None (Some host_text) named is path_text = absurd named
-authority_form base false parts scheme (Some host_text) named is path_text = rw named refl
+pub authority_form : (has : Bool) (scheme host_text : Option (List ℕ)) → FitsScheme has scheme → IsSome host_text
+    → (path_text : List ℕ) → (if has then SchemeAuthority else Authority) ≡ form_of scheme host_text path_text
+authority_form has scheme None named some path_text = absurd (false≢true some)
+authority_form true (Some scheme) (Some host_text) named some path_text = refl
+authority_form true None (Some host_text) named some path_text = absurd named
+authority_form false scheme (Some host_text) named some path_text = rw named refl
+
+-- which has a host text
+host_is_some : (base : Option Url) (parts : Parts) (host_text : Option (List ℕ)) → FitsHostText base parts host_text
+    → IsSome host_text
+host_is_some base parts None is = absurd is
+host_is_some base parts (Some host_text) is = refl
 
 -- a form with a scheme and without an authority
-alone_form : (scheme host_text : Option (List ℕ)) (path_text : List ℕ) → FitsScheme true scheme → host_text ≡ None
+pub alone_form : (scheme host_text : Option (List ℕ)) (path_text : List ℕ) → FitsScheme true scheme → host_text ≡ None
     → form_of scheme host_text path_text ≡ (if starts_with_slash path_text then SchemePath else SchemeOpaque)
 alone_form None host_text path_text named none = absurd named
 alone_form (Some scheme) host_text path_text named none = rw none refl
 
 -- a relative path that isn't empty, without a scheme and an authority
-relative_form : (path_text : List ℕ) → path_text ≢ [] → starts_with_slash path_text ≡ false
+pub relative_form : (path_text : List ℕ) → path_text ≢ [] → starts_with_slash path_text ≡ false
     → PathRelative ≡ form_of None None path_text
 relative_form [] some start = absurd (some refl)
 relative_form (c ∷ rest) some start = rw start refl
@@ -106,9 +115,9 @@ relative_form (c ∷ rest) some start = rw start refl
 form_found : (base : Option Url) (form : Form) (parts : Parts) → FitsScheme (has_scheme form) parts.scheme
     → FitsForm base form parts → form ≡ form_of parts.scheme parts.host_text parts.path_text
 form_found base SchemeAuthority parts named is =
-    authority_form base true parts parts.scheme parts.host_text named is parts.path_text
+    authority_form true parts.scheme parts.host_text named (host_is_some base parts parts.host_text is) parts.path_text
 form_found base Authority parts named is =
-    authority_form base false parts parts.scheme parts.host_text named is parts.path_text
+    authority_form false parts.scheme parts.host_text named (host_is_some base parts parts.host_text is) parts.path_text
 form_found base SchemePath parts named (none, other, path) =
     let shown = alone_form parts.scheme parts.host_text parts.path_text named none.host_text in
     let start : starts_with_slash parts.path_text ≡ true = rw path.slashed refl in
@@ -131,7 +140,7 @@ record AreDenoted (kind : Class) (scheme : List ℕ) (form : Form) (host_text : 
     segments : parts.segments ≡ segments_of form parts.path_text
 
 -- no port where there is no port text
-no_port : (scheme : List ℕ) (port_text : Option (List ℕ)) (port : Option ℕ) → port_text ≡ None → port ≡ None
+pub no_port : (scheme : List ℕ) (port_text : Option (List ℕ)) (port : Option ℕ) → port_text ≡ None → port ≡ None
     → port ≡ port_given scheme port_text
 no_port scheme port_text port absent none = rw (absent, none) refl
 
@@ -210,7 +219,7 @@ denoted_by_form base NoPath parts (none, nothing, empty) =
 -- ---- uniqueness
 
 -- parts with the same texts and values are the same
-same_parts : (p q : Parts) → texts_of p ≡ texts_of q → p.form ≡ q.form → p.host ≡ q.host → p.port ≡ q.port
+pub same_parts : (p q : Parts) → texts_of p ≡ texts_of q → p.form ≡ q.form → p.host ≡ q.host → p.port ≡ q.port
     → p.segments ≡ q.segments → p ≡ q
 same_parts p q texts form host port segments = λ i. record {
   form = form i;

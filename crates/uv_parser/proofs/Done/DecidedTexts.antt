@@ -12,9 +12,11 @@ use Rattle.uv_model.specs.Records.Url.{Url}
 use Rattle.uv_model.specs.Valid.{scheme_in, starts_with_scheme}
 use Rattle.uv_model.proofs.Cuts.SchemesIgnoreBases.{cut_with_scheme}
 use Rattle.uv_model.proofs.Cuts.CutLemmas.{computed_is_cut}
-use Rattle.uv_parser.proofs.Done.Decided.{is_decided, no_scheme, opaque_done, path_done, same_cut}
+use Rattle.uv_parser.proofs.Done.Decided.{is_decided, no_scheme, same_cut}
 use Rattle.uv_parser.proofs.Decided.DecidedSchemes.{kind_cases, scheme_silent_or_stops}
 use Rattle.uv_parser.proofs.Done.DoneAuthority.{file_done, other_done, special_done}
+use Rattle.uv_parser.proofs.Silence.SilentOpaque.{opaque_done}
+use Rattle.uv_parser.proofs.Silence.SilentPath.{path_done}
 
 -- the run of a text with a scheme on which the parser is silent is done
 pub scheme_done : (base : Option Url) (text scheme : List ℕ) (parts : Parts) (form : Form) → Silent base text parts

@@ -18,8 +18,7 @@ use Rattle.uv_model.specs.Cut.{is_within_at_end}
 use Rattle.uv_parser.specs.SilentTexts.{MayBePathSlashed}
 use Rattle.uv_model.specs.Valid.{MayBePortText, MayBeUnits, port_given}
 use Rattle.uv_parser.specs.Machine.{Held, again, sight, with_brackets, AuthorityState, HostState, PortState, PathStartState, with_host, with_more, with_port, port_in, is_special}
-use Rattle.uv_parser.proofs.Loops.AuthorityLoops.{IsDelimiter, authority_law, digit_letter, host_law, host_row_end, host_row_port, is_authority_letter, port_law, port_row_end}
-use Rattle.uv_parser.proofs.Loops.HostTextsRead.{IsRead}
+use Rattle.uv_parser.proofs.Loops.AuthorityLoops.{IsDelimiter, IsRead, authority_law, digit_letter, host_law, host_row_end, host_row_port, is_authority_letter, port_law, port_row_end}
 use Rattle.uv_parser.proofs.Loops.PathLoops.{walking}
 use Rattle.uv_parser.proofs.Loops.PathStarts.{path_start_ends}
 use Rattle.uv_model.proofs.SchemeLemmas.{default_port-lowercase}

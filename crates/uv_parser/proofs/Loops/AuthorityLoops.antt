@@ -117,6 +117,11 @@ is_read_as_host special within [] = true
 is_read_as_host special within (c ∷ rest) =
     is_authority_letter special c && (not (is_port_mark within c) && is_read_as_host special (is_within within c) rest)
 
+-- The authority and host states read the whole text.
+pub record IsRead (special : Bool) (text : List ℕ) : Type 0 where
+  pub letters : list_all (is_authority_letter special) text ≡ true
+  pub read : is_read_as_host special false text ≡ true
+
 -- a bracket sets or clears the flag as it stands within brackets or not
 pub bracketed_is : (within : Bool) (c : ℕ) (h : Held)
     → bracketed c (with_brackets within h) ≡ with_brackets (is_within within c) h

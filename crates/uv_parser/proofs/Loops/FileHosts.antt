@@ -125,15 +125,6 @@ pub record IsFileRead (text : List ℕ) (value : Host) : Type 0 where
   pub made : file_host parsed_value ≡ value
   pub drive : is_drive_letter text ≡ false
 
-pub file_is_read : (text : List ℕ) (value : Host) → IsFileParsed text value → IsFileRead text value
-file_is_read text value is = record {
-  parsed_value = is.parsed_value;
-  letters = file_text text is.read.as_host.letters;
-  parsed = is.parsed;
-  made = is.made;
-  drive = is.drive;
-}
-
 -- a host with a text
 pub file_parsed : (text : List ℕ) (value : Host) → IsFileHostText text value → IsFileParsed text value
 unfolding has_permitted

@@ -1,73 +1,39 @@
--- What the parser machine's authority and host states read of a valid host text: all of it.
-use Rattle.std.proofs.Common.{◌≡◌, ℕ, ◌<◌, ◌≤◌, Bool, true, false, not, ◌&&◌, ◌||◌, ◌==◌, List, [], ◌∷◌, ◌++◌, length, codes, decimal, refl, ap, lt-ltb, ne_eqb, ◌∙◌, inl, inr, arith}
+-- What the parser machine reads of a valid host text: all of it, since it holds letters of an authority alone.
+use Rattle.std.proofs.Common.{◌≡◌, ℕ, ◌<◌, ◌≤◌, Bool, true, false, not, ◌&&◌, ◌||◌, ◌==◌, List, [], ◌∷◌, ◌++◌, length, codes, decimal, refl, lt-ltb, ne_eqb, ◌∙◌, inl, inr, arith}
 use Rattle.std.specs.Prelude.{nat_lt}
 use Rattle.std.specs.List.{list_all}
 use Rattle.std.specs.Char.{is_ascii_digit, is_ascii_hexdigit}
-use Rattle.std.proofs.lemmas.Bool.{false≢true, and_parts, and_from, and_right, or_left, cases_lt, agree_below_at}
+use Rattle.std.proofs.lemmas.Bool.{false≢true, and_parts, and_from, or_left, cases_lt, agree_below_at}
 use Rattle.std.proofs.lemmas.Bool.Decides.{nat_tests}
 use Rattle.std.proofs.lemmas.List.Folds.{list_all-append}
 use Rattle.uv_model.specs.Hosts.Address.{IsFourNumbers, IsIpv4, IsGroupList, IsSide, IsIpv6, IsBracketedIpv6}
 use Rattle.uv_model.specs.Ascii.{colon, full_stop, left_bracket, right_bracket}
-use Rattle.uv_model.specs.Cut.{is_within, is_within_at_end, is_port_mark}
 use Rattle.uv_model.specs.Hosts.Domain.{is_permitted, has_permitted, IsDomain}
 use Rattle.uv_model.specs.Hosts.OpaqueHost.{is_forbidden_host, IsOpaqueHost}
-use Rattle.uv_parser.proofs.Loops.AuthorityLoops.{is_authority_letter, is_read_as_host}
+use Rattle.uv_parser.proofs.Loops.AuthorityLoops.{is_authority_letter}
 use Rattle.uv_model.proofs.Hosts.Ipv4Domains.{digits_alone}
 use Rattle.uv_model.proofs.Texts.UnitsLemmas.{is_faultless-units}
 use Rattle.uv_parser.proofs.Running.Unremoved.{is_unremoved, unremoved_faultless}
 
--- the authority and host states read the whole text
-pub record IsRead (special : Bool) (text : List ℕ) : Type 0 where
-  pub letters : list_all (is_authority_letter special) text ≡ true
-  pub read : is_read_as_host special false text ≡ true
-
--- they do, it ends outside brackets, and none of its code points is ever removed
+-- The text holds letters of an authority alone, and none of its code points is ever removed.
 pub record IsReadWhole (text : List ℕ) : Type 0 where
-  pub as_host : IsRead true text
-  pub closed : is_within_at_end false text ≡ false
+  pub letters : list_all (is_authority_letter true) text ≡ true
   pub above : list_all is_unremoved text ≡ true
 
--- ---- texts without brackets
-
--- a code point of an authority that is neither `:` nor a bracket
+-- such a code point
 abbrev is_plain : ℕ → Bool
-is_plain c =
-    is_unremoved c
-    && (is_authority_letter true c && (not (c == colon) && (not (c == left_bracket) && not (c == right_bracket))))
-
-record Plain (c : ℕ) : Type 0 where
-  above : is_unremoved c ≡ true
-  letter : is_authority_letter true c ≡ true
-  mark : is_port_mark false c ≡ false
-  outside : is_within false c ≡ false
-
-plain : (c : ℕ) → is_plain c ≡ true → Plain c
-plain c is =
-    let parts = and_parts (is_unremoved c) _ is in
-    record {
-      above = parts.0;
-      letter =
-          (and_parts (is_authority_letter true c) _ parts.1).0;
-      mark =
-          grind (arith, nat_tests);
-      outside = grind (arith, nat_tests);
-    }
+is_plain c = is_unremoved c && is_authority_letter true c
 
 -- a text of such code points is read
-pub read_plain : (text : List ℕ) → list_all is_plain text ≡ true → IsReadWhole text
-read_plain [] is = record { as_host = record { letters = refl; read = refl }; closed = refl; above = refl }
+read_plain : (text : List ℕ) → list_all is_plain text ≡ true → IsReadWhole text
+read_plain [] is = record { letters = refl; above = refl }
 read_plain (c ∷ rest) is =
     let parts = and_parts (is_plain c) (list_all is_plain rest) is in
-    let first = plain c parts.0 in
+    let first = and_parts (is_unremoved c) (is_authority_letter true c) parts.0 in
     let later = read_plain rest parts.1 in
-    record {
-      as_host = record {
-        letters = and_from _ _ first.letter later.as_host.letters;
-        read = rw (first.letter, first.mark, first.outside) later.as_host.read;
-      };
-      closed = rw first.outside later.closed;
-      above = and_from _ _ first.above later.above;
-    }
+    record { letters = and_from _ _ first.1 later.letters; above = and_from _ _ first.0 later.above }
+
+-- ---- texts without brackets
 
 -- every code point beyond ASCII is one
 plain_beyond : (c : ℕ) → 128 ≤ c → is_plain c ≡ true
@@ -79,9 +45,6 @@ plain_beyond c beyond =
       ne_eqb c 35 (λ e. omega (arith, e)),
       ne_eqb c 64 (λ e. omega (arith, e)),
       ne_eqb c 92 (λ e. omega (arith, e)),
-      ne_eqb c 58 (λ e. omega (arith, e)),
-      ne_eqb c 91 (λ e. omega (arith, e)),
-      ne_eqb c 93 (λ e. omega (arith, e)),
     ) refl
 
 -- a test that another implies
@@ -206,66 +169,12 @@ inner_ipv6 text pieces (inr is) =
     (joined is_inner is.left_text (codes "::") (inner_side false is.left_text is.left is.left_groups) refl)
     (inner_side true is.right_text is.right is.right_groups))
 
--- what a code point within brackets is
-record Inner (c : ℕ) : Type 0 where
-  above : is_unremoved c ≡ true
-  letter : is_authority_letter true c ≡ true
-  mark : is_port_mark true c ≡ false
-  inside : is_within true c ≡ true
-
-inner : (c : ℕ) → is_inner c ≡ true → Inner c
-inner c is = record {
-  above = grind (arith, nat_tests);
-  letter = grind (arith, nat_tests);
-  mark = and_right (c == colon) false refl;
-  inside = grind (arith, nat_tests);
-}
-
--- within brackets up to the closing one
-read_within : (text : List ℕ) → list_all is_inner text ≡ true
-    → (list_all (is_authority_letter true) (text ++ right_bracket ∷ []) ≡ true)
-    × (is_read_as_host true true (text ++ right_bracket ∷ []) ≡ true)
-    × (is_within_at_end true (text ++ right_bracket ∷ []) ≡ false)
-    × (list_all is_unremoved (text ++ right_bracket ∷ []) ≡ true)
-read_within [] is = (refl, refl, refl, refl)
-read_within (c ∷ rest) is =
-    let parts = and_parts (is_inner c) (list_all is_inner rest) is in
-    let first = inner c parts.0 in
-    let later = read_within rest parts.1 in (
-      and_from _ _ first.letter later.0,
-      rw (first.letter, first.mark, first.inside) later.1,
-      ap (λ w. is_within_at_end w (rest ++ right_bracket ∷ [])) first.inside ∙ later.2,
-      and_from _ _ first.above later.3,
-    )
+plain_inner : (c : ℕ) → is_inner c ≡ true → is_plain c ≡ true
+plain_inner c is = grind (arith, nat_tests)
 
 -- an IPv6 text in brackets is read
 pub read_ipv6 : (text pieces : List ℕ) → IsBracketedIpv6 text pieces → IsReadWhole text
 read_ipv6 text pieces (between, spelled, is) =
-    let later = read_within between (inner_ipv6 between pieces is) in
-    rw spelled (record { as_host = record { letters = later.0; read = later.1 }; closed = later.2; above = later.3 })
-
--- ---- a URL that isn't special
-
-letter_plain : (c : ℕ) → is_authority_letter true c ≡ true → is_authority_letter false c ≡ true
-letter_plain c is = grind (arith, nat_tests)
-
--- what is read for a special URL is read for any other
-letters_plain : (text : List ℕ) → list_all (is_authority_letter true) text ≡ true
-    → list_all (is_authority_letter false) text ≡ true
-letters_plain [] is = refl
-letters_plain (c ∷ rest) is =
-    let parts = and_parts (is_authority_letter true c) (list_all (is_authority_letter true) rest) is in
-    and_from _ _ (letter_plain c parts.0) (letters_plain rest parts.1)
-
-host_plain : (within : Bool) (text : List ℕ) → is_read_as_host true within text ≡ true
-    → is_read_as_host false within text ≡ true
-host_plain within [] is = refl
-host_plain within (c ∷ rest) is =
-    let parts = and_parts (is_authority_letter true c) _ is in
-    let later = and_parts (not (is_port_mark within c)) (is_read_as_host true (is_within within c) rest) parts.1 in
-    and_from _ _ (letter_plain c parts.0) (and_from _ _ later.0 (host_plain (is_within within c) rest later.1))
-
-pub read_for : (special : Bool) (text : List ℕ) → IsRead true text → IsRead special text
-read_for true text is = is
-read_for false text is =
-    record { letters = letters_plain text is.letters; read = host_plain false text is.read }
+    let inside = weaker is_inner is_plain plain_inner between (inner_ipv6 between pieces is) in
+    rw spelled (read_plain (left_bracket ∷ (between ++ right_bracket ∷ []))
+    (joined is_plain between (right_bracket ∷ []) inside refl))

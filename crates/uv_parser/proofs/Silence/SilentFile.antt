@@ -1,34 +1,29 @@
--- The parser machine is silent on each valid text with a scheme of class File.
-use Rattle.std.proofs.Common.{◌≡◌, ℕ, suc, ◌+◌, true, List, ◌∷◌, ◌++◌, length, codes, Option, Some, None, refl, sym, ap, subst, ◌∙◌, inl, inr, append_assoc, append-nil, length-append, arith}
-use Rattle.std.specs.List.{list_all}
-use Rattle.std.proofs.lemmas.Bool.{false≢true}
+-- The whole run of a text with a scheme of class File and a host.
+use Rattle.std.proofs.Common.{◌≡◌, ℕ, suc, ◌+◌, true, List, ◌∷◌, ◌++◌, length, codes, Option, Some, None, refl, sym, ap, ◌∙◌, append_assoc, append-nil, length-append, arith}
 use Rattle.uv_model.specs.declared.host.Host.{Host}
 use Rattle.uv_model.specs.declared.host.Host.TheVariants as host
-use Rattle.uv_model.specs.declared.scheme.Class.{Class}
-use Rattle.uv_model.specs.declared.scheme.Class.TheVariants.{File, Other}
+use Rattle.uv_model.specs.declared.scheme.Class.TheVariants.{File}
 use Rattle.uv_model.specs.declared.path.UrlPath.TheVariants.{Segments}
 use Rattle.uv_model.specs.Ascii.{slash, colon}
 use Rattle.uv_model.specs.Records.Denote.{authority_path}
 use Rattle.uv_parser.specs.Machine.{Held, Sight, end, slash_mark, query_mark, fragment_mark, another, sight, again, FileHostState, FileSlashState, FileState, PathStartState, SchemeState, file_host_at, empty_held, with_host, with_more, with_scheme}
-use Rattle.uv_model.specs.Parts.{Form, Parts, SchemeAuthority, SchemePath, SchemeOpaque, Authority, PathAbsolute, PathRelative, NoPath, has_scheme, written, written_behind}
+use Rattle.uv_model.specs.Parts.{Parts, SchemeAuthority, written, written_behind}
 use Rattle.uv_parser.specs.Run.{first_removed}
 use Rattle.uv_model.specs.Scheme.{is_scheme, lowercase, scheme_class}
-use Rattle.uv_parser.specs.Laws.Silence.{RunsSilently, FileTextsRunSilently}
+use Rattle.uv_parser.specs.Laws.Silence.{RunsSilently}
 use Rattle.uv_model.specs.Records.Url.{Url}
-use Rattle.uv_model.specs.Valid.{FitsAuthority, FitsForm, FitsScheme, HasAuthority, IsFileAuthority, MayBePathAbsolute, MayBeUnits, Valid, scheme_in, scheme_or}
+use Rattle.uv_model.specs.Valid.{MayBeUnits}
 use Rattle.uv_parser.proofs.Loops.AuthorityEnds.{delimits}
 use Rattle.uv_parser.proofs.Loops.AuthorityLoops.{IsDelimiter}
-use Rattle.uv_parser.proofs.Loops.FileHosts.{IsFileRead, file_class, file_is_read, file_host_law, file_host_row, file_parsed, file_scheme}
+use Rattle.uv_parser.proofs.Loops.FileHosts.{IsFileRead, file_class, file_host_law, file_host_row, file_scheme}
 use Rattle.uv_parser.proofs.HostParsing.HostsParsed.{parsed_some}
 use Rattle.uv_parser.proofs.Loops.PathLoops.{walking}
 use Rattle.uv_parser.proofs.Loops.PathStarts.{path_start_ends}
-use Rattle.uv_parser.proofs.Loops.SchemeStretch.{colon_row, scheme_held, scheme_there}
-use Rattle.uv_parser.proofs.Silence.SilentAuthority.{authority_named, authority_there, unremoved_path, valued_some, written_with_authority}
-use Rattle.uv_parser.proofs.Silence.SilentSchemes.{EndsBehindScheme, HoldsDenoted, denoted_from_held, kept_text, runs_kept}
-use Rattle.uv_parser.proofs.Running.Steps.{Ends, ends_after, ends_again, ends_step, ends_within}
+use Rattle.uv_parser.proofs.Loops.SchemeStretch.{colon_row, scheme_held}
+use Rattle.uv_parser.proofs.Silence.SilentAuthority.{valued_some, written_with_authority}
+use Rattle.uv_parser.proofs.Silence.SilentSchemes.{EndsBehindScheme, HoldsDenoted, denoted_from_held, runs_kept}
+use Rattle.uv_parser.proofs.Running.Steps.{Ends, ends_after, ends_again, ends_step}
 use Rattle.uv_parser.proofs.Loops.Tails.{tail, with_tail}
-use Rattle.uv_parser.proofs.Running.Unremoved.{is_unremoved, unremoved_append}
-use Rattle.uv_parser.proofs.Loops.PathStarts.{slashed_absolute}
 use Rattle.uv_parser.specs.SilentTexts.{MayBePathSlashed}
 
 -- what is held behind the host
@@ -102,42 +97,6 @@ pub record HasFileHost (base : Option Url) (parts : Parts) (text : List ℕ) (va
       (length text + suc (length parts.path_text + (length (tail parts.query parts.fragment) + 2)))
       (file_url value parts.segments parts.query parts.fragment)
 
-file_host_there : (base : Option Url) (parts : Parts) (text : List ℕ) → MayBeUnits parts.query
-    → MayBeUnits parts.fragment
-    → IsFileAuthority text parts
-    → (value : Host) × HasFileHost base parts text value × (list_all is_unremoved text ≡ true)
-    × MayBePathAbsolute parts.segments parts.path_text
-file_host_there base parts text query fragment (no_text, none, inl (value, is, valued, path, drive)) =
-    let parsed = file_parsed text value is in (
-      value,
-      record {
-        no_port_text = no_text;
-        no_port = none;
-        valued = valued;
-        path = slashed_absolute parts.segments parts.path_text path;
-        ends =
-            file_host_ends base parts.segments parts.path_text parts.query parts.fragment
-            (slashed_absolute parts.segments parts.path_text path) query
-            fragment text value (file_is_read text value parsed);
-      },
-      parsed.read.above,
-      path,
-    )
-file_host_there base parts text query fragment (no_text, none, inr (empty, valued, path)) = (
-  host.Empty,
-  record {
-    no_port_text = no_text;
-    no_port = none;
-    valued = valued;
-    path = slashed_absolute parts.segments parts.path_text (inr path);
-    ends = rw empty (ends_within base (omega arith)
-        (empty_host_ends base parts.segments parts.path_text parts.query parts.fragment
-        (slashed_absolute parts.segments parts.path_text (inr path)) query fragment));
-  },
-  rw empty refl,
-  inr path,
-)
-
 -- what is held behind the path is what is denoted
 file_denoted : (base : Option Url) (parts : Parts) (scheme text : List ℕ) (value : Host) → scheme_class scheme ≡ File
     → HasFileHost base parts text value
@@ -188,45 +147,3 @@ file_runs base text parts scheme host_text value spelled query fragment kept for
     } in
     runs_kept base text parts scheme (slash ∷ slash ∷ rest) after kept
     (spelled ∙ written_file parts scheme host_text named given has.no_port_text)
-
--- with an authority
-file_authority_silent : (base : Option Url) (text : List ℕ) (parts : Parts) → Valid base text parts
-    → parts.form ≡ SchemeAuthority → scheme_class (scheme_in base parts) ≡ File → RunsSilently base text parts
-file_authority_silent base text parts valid form file =
-    let Q : Form → Type 0 = λ f. FitsScheme (has_scheme f) parts.scheme in
-    let has : HasAuthority base parts = subst (λ (f : Form). FitsForm base f parts) form valid.form in
-    let (scheme, named, is) = scheme_there parts.scheme (subst Q form valid.scheme) in
-    let (host_text, given) = authority_there base parts parts.host_text refl has in
-    let kind : scheme_class scheme ≡ File = sym (ap (λ o. scheme_class (scheme_or base o)) named) ∙ file in
-    let fits : FitsAuthority File scheme host_text parts
-    = subst (λ (k : Class). FitsAuthority k scheme host_text parts) kind
-    (authority_named base parts scheme host_text named given has) in
-    let (value, there, above, path) = file_host_there base parts host_text valid.query valid.fragment fits in
-    let kept = kept_text text scheme (slash ∷ slash ∷ (host_text ++ parts.path_text)) parts.query parts.fragment is
-    (unremoved_append host_text parts.path_text above (unremoved_path parts.segments parts.path_text path))
-    valid.query valid.fragment
-    (valid.whole ∙ written_file parts scheme host_text named given there.no_port_text) in
-    file_runs base text parts scheme host_text value valid.whole valid.query valid.fragment kept form is named given
-    kind there
-
--- a class isn't two classes
-not_both : (kind : Class) → kind ≡ Other → kind ≡ File → ⊥
-not_both kind other file = absurd cc
-
-by_form : (base : Option Url) (text : List ℕ) (parts : Parts) (form : Form) → Valid base text parts → parts.form ≡ form
-    → has_scheme form ≡ true → scheme_class (scheme_in base parts) ≡ File → RunsSilently base text parts
-by_form base text parts SchemeAuthority valid e has file = file_authority_silent base text parts valid e file
-by_form base text parts SchemePath valid e has file =
-    absurd
-    (not_both (scheme_class (scheme_in base parts)) (subst (λ (f : Form). FitsForm base f parts) e valid.form).1 file)
-by_form base text parts SchemeOpaque valid e has file =
-    absurd
-    (not_both (scheme_class (scheme_in base parts)) (subst (λ (f : Form). FitsForm base f parts) e valid.form).1 file)
-by_form base text parts Authority valid e has file = absurd (false≢true has)
-by_form base text parts PathAbsolute valid e has file = absurd (false≢true has)
-by_form base text parts PathRelative valid e has file = absurd (false≢true has)
-by_form base text parts NoPath valid e has file = absurd (false≢true has)
-
--- class File
-pub file_silent : FileTextsRunSilently
-file_silent base text parts valid has file = by_form base text parts parts.form valid refl has file

@@ -1,23 +1,24 @@
--- The parser machine is silent on each valid text with an opaque path.
-use Rattle.std.proofs.Common.{◌≡◌, ℕ, suc, ◌+◌, false, List, [], ◌∷◌, ◌++◌, length, Option, refl, subst, ◌∙◌, length-append, arith}
+-- The run of a text with an opaque path on which the parser is silent.
+use Rattle.std.proofs.Common.{◌≡◌, ℕ, suc, ◌+◌, false, List, [], ◌∷◌, ◌++◌, length, Option, refl, sym, subst, ◌∙◌, length-append, arith}
 use Rattle.uv_model.specs.declared.scheme.Class.TheVariants.{Other}
 use Rattle.uv_model.specs.declared.path.UrlPath.TheVariants.{Opaque}
 use Rattle.uv_model.specs.Ascii.{colon}
 use Rattle.uv_model.specs.Encoding.{encoded}
 use Rattle.uv_parser.specs.Machine.{Held, OpaquePathState, SchemeState, with_more, with_path, empty_held}
 use Rattle.uv_model.specs.Parts.{Form, Parts, SchemeOpaque, has_scheme}
+use Rattle.uv_parser.specs.SilentTexts.{Silent, TakesForm}
 use Rattle.uv_model.specs.Path.{IsPathRelative}
 use Rattle.uv_model.specs.Scheme.{lowercase, scheme_class}
-use Rattle.uv_parser.specs.Laws.Silence.{OpaqueTextsRunSilently}
+use Rattle.uv_parser.specs.Laws.Silence.{RunsSilently}
 use Rattle.uv_model.specs.Records.Url.{Url}
 use Rattle.uv_model.specs.Valid.{FitsForm, FitsScheme, MayBeUnits}
 use Rattle.uv_model.proofs.Paths.JoinedSegments.{faultless_path, without_path}
 use Rattle.uv_parser.proofs.Loops.Looping.{opaque_path_law}
 use Rattle.uv_parser.proofs.Loops.SchemeStretch.{scheme_held, colon_row, scheme_there}
-use Rattle.uv_parser.proofs.Silence.SilentSchemes.{EndsBehindScheme, HoldsDenoted, denoted_from_held, runs_silently, written_without_authority}
+use Rattle.uv_parser.proofs.Silence.SilentSchemes.{EndsBehindScheme, HoldsDenoted, denoted_from_held, runs_kept, written_without_authority}
 use Rattle.uv_parser.proofs.Running.Steps.{Ends, ends_step, ends_after}
 use Rattle.uv_parser.proofs.Loops.Tails.{tail, with_tail, TurnsToTail, tail_ends, no_slash_before_tail}
-use Rattle.uv_parser.proofs.Running.Unremoved.{unremoved_faultless}
+use Rattle.uv_model.proofs.Cuts.ValidCutLemmas.{written_as_cut}
 
 -- what is held behind the path
 abbrev path_held : List ℕ → List ℕ → Held
@@ -47,13 +48,14 @@ module _ (base : Option Url) where
       → HoldsDenoted base parts SchemeOpaque scheme (path_held scheme parts.path_text)
   opaque_denoted scheme parts = record { scheme = refl; host = refl; port = refl; path = refl; query = refl }
 
--- the machine is silent on each valid text with an opaque path
-pub opaque_silent : OpaqueTextsRunSilently
-opaque_silent base text parts valid form =
-    let P : Form → Type 0 = λ f. FitsForm base f parts in
+-- the run of a text with an opaque path on which the parser is silent is done
+pub opaque_done : (base : Option Url) (text : List ℕ) (parts : Parts) → Silent base text parts → parts.form ≡ SchemeOpaque
+    → RunsSilently base text parts
+opaque_done base text parts silent form =
+    let P : Form → Type 0 = λ f. TakesForm base f parts in
     let Q : Form → Type 0 = λ f. FitsScheme (has_scheme f) parts.scheme in
-    let fits : FitsForm base SchemeOpaque parts = subst P form valid.form in
-    let (scheme, named, is) = scheme_there parts.scheme (subst Q form valid.scheme) in
+    let fits : FitsForm base SchemeOpaque parts = subst P form silent.form in
+    let (scheme, named, is) = scheme_there parts.scheme (subst Q form silent.scheme) in
     let other : scheme_class scheme ≡ Other = rw named at fits.1 in
     let behind : EndsBehindScheme base parts scheme parts.path_text
     = record {
@@ -62,10 +64,9 @@ opaque_silent base text parts valid form =
       named = is;
       ends =
           opaque_ends base scheme parts.path_text fits.2.0 parts.query parts.fragment other fits.2.1
-          valid.query valid.fragment;
+          silent.query silent.fragment;
       few = omega (arith, length-append parts.path_text (tail parts.query parts.fragment));
       denoted = denoted_from_held base parts SchemeOpaque scheme _ refl form named (opaque_denoted base scheme parts);
     } in
-    runs_silently base text parts scheme parts.path_text behind
-    (unremoved_faultless parts.path_text (faultless_path fits.2.0 parts.path_text fits.2.1)) valid.query valid.fragment
-    (valid.whole ∙ written_without_authority parts scheme named fits.0.host_text)
+    runs_kept base text parts scheme parts.path_text behind silent.kept
+    (silent.cut.whole ∙ (sym (written_as_cut parts) ∙ written_without_authority parts scheme named fits.0.host_text))

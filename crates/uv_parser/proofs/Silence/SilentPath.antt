@@ -1,24 +1,24 @@
--- The parser machine is silent on each valid text with a scheme and a path of segments, without an authority.
-use Rattle.std.proofs.Common.{◌≡◌, ℕ, suc, ◌+◌, List, [], ◌∷◌, ◌++◌, length, Option, refl, ap, subst, ◌∙◌, length-append, arith}
+-- The run of a text with a scheme and a path of segments, without an authority, on which the parser is silent.
+use Rattle.std.proofs.Common.{◌≡◌, ℕ, suc, ◌+◌, List, [], ◌∷◌, ◌++◌, length, Option, refl, sym, ap, subst, ◌∙◌, length-append, arith}
 use Rattle.uv_model.specs.declared.scheme.Class.TheVariants.{Other}
 use Rattle.uv_model.specs.declared.path.UrlPath.TheVariants.{Segments}
 use Rattle.uv_model.specs.Ascii.{slash, colon}
 use Rattle.uv_parser.specs.Machine.{Held, PathOrAuthorityState, SchemeState, with_more, empty_held}
 use Rattle.uv_model.specs.Parts.{Form, Parts, SchemePath, has_scheme}
+use Rattle.uv_parser.specs.SilentTexts.{Silent, TakesForm}
 use Rattle.uv_model.specs.Path.{IsPathRelative, walk}
 use Rattle.uv_model.specs.Scheme.{lowercase, scheme_class}
 use Rattle.uv_parser.specs.Laws.Silence.{RunsSilently}
 use Rattle.uv_model.specs.Records.Url.{Url}
-use Rattle.uv_model.specs.Valid.{FitsForm, FitsScheme, MayBeUnits, Valid}
-use Rattle.uv_model.proofs.Paths.JoinedSegments.{faultless_path}
+use Rattle.uv_model.specs.Valid.{FitsForm, FitsScheme, MayBeUnits}
 use Rattle.uv_parser.proofs.Loops.PathLoops.{walking}
 use Rattle.uv_parser.proofs.Loops.PathStarts.{relative_ends}
 use Rattle.uv_model.proofs.SchemeLemmas.{scheme_class-lowercase}
 use Rattle.uv_parser.proofs.Loops.SchemeStretch.{scheme_held, colon_row, scheme_there}
-use Rattle.uv_parser.proofs.Silence.SilentSchemes.{EndsBehindScheme, HoldsDenoted, denoted_from_held, runs_silently, written_without_authority}
+use Rattle.uv_parser.proofs.Silence.SilentSchemes.{EndsBehindScheme, HoldsDenoted, denoted_from_held, runs_kept, written_without_authority}
 use Rattle.uv_parser.proofs.Running.Steps.{Ends, ends_past_two, ends_again}
 use Rattle.uv_parser.proofs.Loops.Tails.{tail, with_tail, no_slash_before_tail}
-use Rattle.uv_parser.proofs.Running.Unremoved.{unremoved_faultless}
+use Rattle.uv_model.proofs.Cuts.ValidCutLemmas.{written_as_cut}
 
 -- what is held behind the path
 abbrev path_held : List ℕ → List (List ℕ) → Held
@@ -50,14 +50,14 @@ module _ (base : Option Url) where
         query = refl;
       }
 
--- the machine is silent on each valid text with a scheme and a path, without an authority
-pub path_silent : (base : Option Url) (text : List ℕ) (parts : Parts) → Valid base text parts → parts.form ≡ SchemePath
+-- the run of a text with a scheme and a path, without an authority, on which the parser is silent is done
+pub path_done : (base : Option Url) (text : List ℕ) (parts : Parts) → Silent base text parts → parts.form ≡ SchemePath
     → RunsSilently base text parts
-path_silent base text parts valid form =
-    let P : Form → Type 0 = λ f. FitsForm base f parts in
+path_done base text parts silent form =
+    let P : Form → Type 0 = λ f. TakesForm base f parts in
     let Q : Form → Type 0 = λ f. FitsScheme (has_scheme f) parts.scheme in
-    let fits : FitsForm base SchemePath parts = subst P form valid.form in
-    let (scheme, named, is) = scheme_there parts.scheme (subst Q form valid.scheme) in
+    let fits : FitsForm base SchemePath parts = subst P form silent.form in
+    let (scheme, named, is) = scheme_there parts.scheme (subst Q form silent.scheme) in
     let other : scheme_class scheme ≡ Other = rw named at fits.1 in
     let path = fits.2 in
     let slashed = path.slashed in
@@ -68,11 +68,11 @@ path_silent base text parts valid form =
       named = is;
       ends =
           path_ends base scheme path.behind parts.segments parts.query parts.fragment other path.relative
-          valid.query valid.fragment;
+          silent.query silent.fragment;
       few = omega (arith, length-append path.behind (tail parts.query parts.fragment));
       denoted = denoted_from_held base parts SchemePath scheme _ refl form named (path_denoted base scheme parts);
     } in
-    runs_silently base text parts scheme (slash ∷ path.behind) behind
-    (unremoved_faultless path.behind (faultless_path parts.segments path.behind path.relative)) valid.query valid.fragment
-    (valid.whole ∙ (written_without_authority parts scheme named fits.0.host_text
-    ∙ ap (λ xs. scheme ++ colon ∷ (xs ++ tail parts.query parts.fragment)) slashed))
+    runs_kept base text parts scheme (slash ∷ path.behind) behind silent.kept
+    (silent.cut.whole ∙ (sym (written_as_cut parts)
+    ∙ (written_without_authority parts scheme named fits.0.host_text
+    ∙ ap (λ xs. scheme ++ colon ∷ (xs ++ tail parts.query parts.fragment)) slashed)))

@@ -1,7 +1,6 @@
 -- From the end of a run to the URL that is denoted, for each text with a scheme.
 use Rattle.std.proofs.Common.{◌≡◌, ℕ, ◌+◌, ◌*◌, ◌≤◌, true, false, List, [], ◌∷◌, ◌++◌, length, Option, Some, None, refl, sym, ap, subst, ◌∙◌, append_assoc, length-append, arith}
 use Rattle.std.specs.Prelude.{option_map}
-use Rattle.std.specs.List.{list_all}
 use Rattle.std.proofs.lemmas.Bool.{false≢true}
 use Rattle.uv_model.specs.declared.scheme.Class.{Class}
 use Rattle.uv_model.specs.declared.scheme.Class.TheVariants.{Special, File, Other}
@@ -14,13 +13,12 @@ use Rattle.uv_parser.specs.Run.{Done, first_removed, run, step_bound}
 use Rattle.uv_model.specs.Scheme.{is_scheme, lowercase, scheme_class}
 use Rattle.uv_parser.specs.Laws.Silence.{RunsSilently}
 use Rattle.uv_model.specs.Records.Url.{Url}
-use Rattle.uv_model.specs.Valid.{MayBeUnits, scheme_in, scheme_or}
+use Rattle.uv_model.specs.Valid.{scheme_in, scheme_or}
 use Rattle.uv_model.proofs.Records.DenotedRecords.{denote_as}
 use Rattle.uv_model.proofs.SchemeLemmas.{scheme_class-lowercase}
 use Rattle.uv_parser.proofs.Loops.SchemeStretch.{scheme_stretch}
 use Rattle.uv_parser.proofs.Running.Steps.{Ends, ends_after, ends_within}
 use Rattle.uv_parser.proofs.Loops.Tails.{tail, query_given, with_tail}
-use Rattle.uv_parser.proofs.Running.Unremoved.{is_unremoved, first_removed-none, unremoved_scheme, unremoved_append, unremoved_tail}
 
 -- a run from the first place that ends within the bound, on a text without a code point that is removed
 pub run_from_ends : (base : Option Url) (text : List ℕ) (k : ℕ) (url : Url) → first_removed text ≡ None
@@ -40,19 +38,7 @@ pub record EndsBehindScheme (base : Option Url) (parts : Parts) (scheme middle :
   pub few : steps ≤ 3 * length (middle ++ tail parts.query parts.fragment) + 16
   pub denoted : url ≡ denote base parts
 
--- a text of which the scheme, what is behind it, the query and the fragment hold no code point that is removed
-pub kept_text : (text scheme middle : List ℕ) (query fragment : Option (List ℕ)) → is_scheme scheme ≡ true
-    → list_all is_unremoved middle ≡ true → MayBeUnits query → MayBeUnits fragment
-    → text ≡ scheme ++ colon ∷ (middle ++ tail query fragment) → first_removed text ≡ None
-kept_text text scheme middle query fragment named above query_units fragment_units whole =
-    let rest = middle ++ tail query fragment in
-    let kept : list_all is_unremoved (scheme ++ colon ∷ rest) ≡ true
-    = unremoved_append scheme (colon ∷ rest) (unremoved_scheme scheme named)
-    (unremoved_append middle (tail query fragment) above
-    (unremoved_tail query fragment query_units fragment_units)) in
-    rw whole (first_removed-none (scheme ++ colon ∷ rest) kept)
-
--- the whole run of such a text
+-- the whole run of a text without a code point that is removed
 pub runs_kept : (base : Option Url) (text : List ℕ) (parts : Parts) (scheme middle : List ℕ)
     → EndsBehindScheme base parts scheme middle → first_removed text ≡ None
     → text ≡ scheme ++ colon ∷ (middle ++ tail parts.query parts.fragment) → RunsSilently base text parts
@@ -63,15 +49,6 @@ runs_kept base text parts scheme middle behind kept whole =
     rw (whole, ← behind.denoted)
     (run_from_ends base (scheme ++ colon ∷ rest) _ behind.url (rw whole at kept) few
     (ends_after base (scheme_stretch base scheme (colon ∷ rest) behind.named) behind.ends))
-
--- the same where each code point behind the scheme is above U+0020
-pub runs_silently : (base : Option Url) (text : List ℕ) (parts : Parts) (scheme middle : List ℕ)
-    → EndsBehindScheme base parts scheme middle → list_all is_unremoved middle ≡ true
-    → MayBeUnits parts.query → MayBeUnits parts.fragment
-    → text ≡ scheme ++ colon ∷ (middle ++ tail parts.query parts.fragment) → RunsSilently base text parts
-runs_silently base text parts scheme middle behind above query fragment whole =
-    runs_kept base text parts scheme middle behind
-    (kept_text text scheme middle parts.query parts.fragment behind.named above query fragment whole) whole
 
 -- ---- the URL
 

@@ -1,5 +1,5 @@
 -- The law is the lemma.
-use Rattle.uv_parser.proofs.Silence.SilentOpaque.{opaque_silent}
+use Rattle.uv_parser.proofs.Silence.ValidSilent.{opaque_silent}
 use Rattle.uv_parser.proofs.laws.opaque_texts_run_silently.Goals as goal
 
 pub returns : goal.returns

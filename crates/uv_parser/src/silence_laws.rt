@@ -1,0 +1,20 @@
+//! Laws of the texts on which the URL parser is silent, each as the clause of a function that does nothing.
+ghost use Rattle.uv_parser.specs.Laws.ValidTexts.{SilentPartsAreUnique, ValidTextsAreSilent, ValidTextsRunSilently};
+
+/// The parser's grammar takes every valid text, against every base and none, with the same parts (URL Standard,
+/// sections 4.3 and 4.4).
+pub fn valid_texts_are_silent()
+    ensures { ValidTextsAreSilent }
+{}
+
+/// On every valid text, alone or against a well-formed base, the URL parser runs to its end with no validation error
+/// and no failure, and gives exactly the URL that the text's parts denote (URL Standard, section 4.4).
+pub fn valid_texts_run_silently()
+    ensures { ValidTextsRunSilently }
+{}
+
+/// A text on which the parser is silent has, against every base and none, only one form, and only one text and value of
+/// each part (URL Standard, section 4.4).
+pub fn parts_of_a_silent_text_are_unique()
+    ensures { SilentPartsAreUnique }
+{}
