@@ -5,3 +5,4 @@ pub mod Loops
 pub mod Silence
 pub mod Decided
 pub mod Done
+pub mod Counting

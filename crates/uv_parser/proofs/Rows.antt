@@ -14,3 +14,4 @@ pub mod ReferenceMatrix
 pub mod References
 pub mod SilentRefusals
 pub mod Special
+pub mod StepCounts

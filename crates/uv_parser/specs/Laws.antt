@@ -1,3 +1,4 @@
 -- The laws of the parser's silence.
 pub mod Silence
 pub mod ValidTexts
+pub mod StepCounts

@@ -20,6 +20,7 @@ pub mod ReferenceMatrix
 pub mod References
 pub mod SilentRefusals
 pub mod Special
+pub mod StepCounts
 
 -- ---- URLs, written down
 

@@ -112,14 +112,17 @@ pub record Silent (base : Option Url) (text : List ℕ) (parts : Parts) : Type 0
 
 -- ---- the law
 
--- Within the bound on its steps the run of a text ends with the URL that the parts denote exactly where the parser's
--- grammar takes the text with parts, and else it stops.
-pub record IsDecided (base : Option Url) (text : List ℕ) : Type 0 where
-  pub silent : (parts : Parts) → Silent base text parts → run base text (step_bound text) ≡ Done (denote base parts)
-  pub only : (url : Url) → run base text (step_bound text) ≡ Done url
+-- Within so many steps the run of a text ends with the URL that the parts denote exactly where the parser's grammar
+-- takes the text with parts, and else it stops.
+pub record IsDecidedWithin (steps : ℕ) (base : Option Url) (text : List ℕ) : Type 0 where
+  pub silent : (parts : Parts) → Silent base text parts → run base text steps ≡ Done (denote base parts)
+  pub only : (url : Url) → run base text steps ≡ Done url
       → (parts : Parts) × Silent base text parts × (url ≡ denote base parts)
-  pub ended : ((parts : Parts) × Silent base text parts)
-      ⊎ ((place : ℕ) × (run base text (step_bound text) ≡ Stopped place))
+  pub ended : ((parts : Parts) × Silent base text parts) ⊎ ((place : ℕ) × (run base text steps ≡ Stopped place))
+
+-- it is decided within the bound on its steps
+abbrev pub IsDecided : Option Url → List ℕ → Type 0
+IsDecided base text = IsDecidedWithin (step_bound text) base text
 
 -- against each well-formed base, and without a base, each text is decided
 abbrev pub TextsAreDecided : Type 0

@@ -4,3 +4,4 @@
 
 pub mod laws;
 pub mod silence_laws;
+pub mod step_counts;

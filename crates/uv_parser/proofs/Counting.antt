@@ -1,0 +1,4 @@
+-- How many steps a run takes: what each state costs, that none takes more, and so that each run ends.
+pub mod StepCosts
+pub mod StepsFewer
+pub mod RunsEnded

@@ -1,0 +1,117 @@
+-- Each run of the parser machine ends within twice the length of the text and five steps, and more steps change
+-- nothing.
+use Rattle.std.proofs.Common.{◌≡◌, ℕ, zero, suc, ◌+◌, ◌-◌, ◌<◌, ◌≤◌, ◌⊎◌, List, [], ◌∷◌, length, drop, Option, Some, None, ◌==◌, true, false, refl, sym, ap, ◌∙◌, inl, inr, arith}
+use Rattle.std.specs.Char.{is_ascii_alphabetic}
+use Rattle.std.proofs.lemmas.Bool.{cases_Bool}
+use Rattle.std.proofs.lemmas.Bool.Decides.{nat_tests}
+use Rattle.uv_model.specs.Ascii.{slash}
+use Rattle.uv_parser.specs.Machine.{Turn, onward, again, from_place, stop, turn, begins, SchemeStartState, empty_held}
+use Rattle.uv_model.specs.Parts.{Parts}
+use Rattle.uv_parser.specs.SilentTexts.{Silent}
+use Rattle.uv_parser.specs.Run.{Machine, Outcome, Done, Stopped, Going, first_outcome, first_removed, settle, step, run, run_from, step_bound}
+use Rattle.uv_parser.specs.Laws.StepCounts.{IsEnded, RunsEnd, RunsKeepTheirEnd, TextsAreDecidedSoon, least_step_bound}
+use Rattle.uv_model.specs.Records.Url.{Url}
+use Rattle.uv_parser.proofs.Done.DecidedBases.{texts_are_decided}
+use Rattle.uv_parser.proofs.Counting.StepCosts.{LeavesFewer, later, later_at_start, later_without_scheme}
+use Rattle.uv_parser.proofs.Counting.StepsFewer.{turn_fewer}
+use Rattle.uv_parser.proofs.Running.Steps.{drop_one, leads_done, leads_stopped, run_in_parts}
+
+-- behind the step from the first place so many steps come at most
+start_leaves : (text : List ℕ) → later_at_start text 0 text < least_step_bound text
+start_leaves [] = omega arith
+start_leaves (c ∷ rest) = elim (cases_Bool (is_ascii_alphabetic c)) [
+  | inl letter ↦
+      let other : (c == slash) ≡ false = no_slash c letter in
+      rw (letter, other) (omega arith)
+  | inr none ↦ rw none (without_scheme (c ∷ rest))
+]
+  where
+    no_slash : (c : ℕ) → is_ascii_alphabetic c ≡ true → (c == slash) ≡ false
+    no_slash c letter = grind (arith, nat_tests)
+
+    without_scheme : (text : List ℕ) → later_without_scheme 0 text + 1 < least_step_bound text
+    without_scheme text = elim (cases_Bool (begins slash text)) [
+      | inl is ↦ rw is (omega arith)
+      | inr not_slash ↦ rw not_slash (omega arith)
+    ]
+
+module _ (base : Option Url) (text : List ℕ) where
+  -- behind a row that leaves fewer steps the run ends, where it does from each machine with so few
+  ends_behind : (k p : ℕ) (rest : List ℕ) (most : ℕ) (t : Turn) → drop p text ≡ rest → most ≤ k
+      → LeavesFewer text rest most t
+      → ((m : Machine) → later text m.state (length m.held.buffer) (drop m.pointer text) < k
+      → IsEnded (run_from base text (Going m) k))
+      → IsEnded (run_from base text (settle p rest t) k)
+  ends_behind k p rest most stop e few leaves ends = rw (leads_stopped base text p k) tt
+  ends_behind k p rest most (again s h) e few leaves ends =
+      ends (record { state = s; pointer = p; held = h }) (rw e (omega (arith, few, leaves)))
+  ends_behind k p rest most (from_place q s h) e few leaves ends =
+      ends (record { state = s; pointer = q; held = h }) (omega (arith, few, leaves))
+  ends_behind k p [] most (onward s h) e few leaves ends = rw (leads_done base text h.url k) tt
+  ends_behind k p (c ∷ rest) most (onward s h) e few leaves ends =
+      ends (record { state = s; pointer = p + 1; held = h })
+      (rw (drop_one text p c rest e) (omega (arith, few, leaves)))
+
+  -- a machine behind whose next step fewer steps than these are to come has ended after so many
+  ends_within : (k : ℕ) (m : Machine) → later text m.state (length m.held.buffer) (drop m.pointer text) < k
+      → IsEnded (run_from base text (Going m) k)
+  unfolding run_from step
+  ends_within zero m few = absurd (none few)
+    where
+      none : {n : ℕ} → n < 0 → ⊥
+      none less = omega (arith, less)
+  ends_within (suc k) m few =
+      let rest = drop m.pointer text in
+      ends_behind k m.pointer rest (later text m.state (length m.held.buffer) rest)
+      (turn base m.state m.pointer m.held rest) refl (omega (arith, few))
+      (turn_fewer text base m.state m.pointer m.held rest refl).fewer
+      (λ next less. ends_within k next less)
+
+-- each run has ended within the bound
+pub runs_end : RunsEnd
+unfolding run
+runs_end base text = by_start (first_removed text)
+  where
+    by_start : (removed : Option ℕ) → IsEnded (run_from base text (first_outcome removed) (least_step_bound text))
+    by_start (Some place) = rw (leads_stopped base text place (least_step_bound text)) tt
+    by_start None =
+        ends_within base text (least_step_bound text)
+        (record { state = SchemeStartState; pointer = 0; held = empty_held }) (start_leaves text)
+
+-- more steps change nothing where a run has ended
+ended_stays : (base : Option Url) (text : List ℕ) (outcome : Outcome) (k : ℕ) → IsEnded outcome
+    → run_from base text outcome k ≡ outcome
+ended_stays base text (Done url) k is = leads_done base text url k
+ended_stays base text (Stopped place) k is = leads_stopped base text place k
+ended_stays base text (Going m) k is = absurd is
+
+-- nor do steps beyond the bound
+pub runs_keep_their_end : RunsKeepTheirEnd
+unfolding run
+runs_keep_their_end base text steps within =
+    let bound = least_step_bound text in
+    let first = first_outcome (first_removed text) in
+    let count : steps ≡ bound + (steps - bound) = omega (arith, within) in
+    ap (run_from base text first) count
+    ∙ (run_in_parts base text first bound (steps - bound)
+    ∙ ended_stays base text (run_from base text first bound) (steps - bound) (runs_end base text))
+
+-- each text is decided within any number of steps from the bound on, as it is within the wider bound
+pub texts_are_decided_soon : TextsAreDecidedSoon
+texts_are_decided_soon base text steps well within =
+    let wide : least_step_bound text ≤ step_bound text = omega arith in
+    let same : run base text steps ≡ run base text (step_bound text)
+    = runs_keep_their_end base text steps within ∙ sym (runs_keep_their_end base text (step_bound text) wide) in
+    let decided = texts_are_decided base text well in
+    record {
+      silent = λ parts is. same ∙ decided.silent parts is;
+      only = λ url done. decided.only url (sym same ∙ done);
+      ended = ended same decided.ended;
+    }
+  where
+    ended : run base text steps ≡ run base text (step_bound text)
+        → ((parts : Parts) × Silent base text parts)
+        ⊎ ((place : ℕ) × (run base text (step_bound text) ≡ Stopped place))
+        → ((parts : Parts) × Silent base text parts) ⊎ ((place : ℕ) × (run base text steps ≡ Stopped place))
+    ended same (inl silent) = inl silent
+    ended same (inr (place, stops)) = inr (place, same ∙ stops)

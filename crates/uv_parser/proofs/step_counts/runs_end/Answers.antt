@@ -1,0 +1,6 @@
+-- The law is the lemma.
+use Rattle.uv_parser.proofs.Counting.RunsEnded.{runs_end}
+use Rattle.uv_parser.proofs.step_counts.runs_end.Goals as goal
+
+pub returns : goal.returns
+returns c = runs_end

@@ -1,0 +1,25 @@
+//! Laws on how many steps the URL parser takes, each as the clause of a function that does nothing.
+ghost use Rattle.uv_parser.specs.Rows.StepCounts.{StepCountRows};
+ghost use Rattle.uv_parser.specs.Laws.StepCounts.{RunsEnd, RunsKeepTheirEnd, TextsAreDecidedSoon};
+
+/// Against every base and without one the run of every text, valid or not, has ended after `2n + 5` steps, where `n` is
+/// the number of its code points: it is done, or it has stopped (URL Standard, section 4.4).
+pub fn runs_end()
+    ensures { RunsEnd }
+{}
+
+/// More than `2n + 5` steps give what `2n + 5` do.
+pub fn runs_keep_their_end()
+    ensures { RunsKeepTheirEnd }
+{}
+
+/// Within any number of steps from `2n + 5` on the run of a text is done, with the URL that the parts denote, exactly
+/// where the parser's grammar takes the text with parts, and else it has stopped.
+pub fn texts_are_decided_soon()
+    ensures { TextsAreDecidedSoon }
+{}
+
+/// Runs of texts that take exactly `2n + 5` steps.
+pub fn step_count_rows()
+    ensures { StepCountRows }
+{}
