@@ -2,4 +2,5 @@
 pub mod DomainLemmas
 pub mod LastLabelLemmas
 pub mod Ipv4Domains
+pub mod StandardTexts
 pub mod HostUniqueness

@@ -1,5 +1,6 @@
 -- Lemmas on paths: segments, dot segments, the pieces between slashes, the walk.
 pub mod PathLemmas
+pub mod SlashedPaths
 pub mod PathPieces
 pub mod JoinedSegments
 pub mod DotSegmentLemmas

@@ -53,6 +53,10 @@ backslash = 0x5C
 abbrev pub right_bracket : ℕ
 right_bracket = 0x5D
 
+-- `_`
+abbrev pub underscore : ℕ
+underscore = 0x5F
+
 -- `|`
 abbrev pub vertical_bar : ℕ
 vertical_bar = 0x7C

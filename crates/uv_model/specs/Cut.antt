@@ -8,7 +8,8 @@ use Rattle.uv_model.specs.Path.{is_without, starts_with_slash}
 use Rattle.uv_model.specs.Scheme.{is_scheme, scheme_class}
 use Rattle.uv_model.specs.Records.Url.{Url}
 use Rattle.uv_model.specs.Parts.{Parts, written_scheme, written_authority, written_behind}
-use Rattle.uv_model.specs.Valid.{scheme_or, starts_with_scheme}
+use Rattle.uv_model.specs.Setting.{scheme_or}
+use Rattle.uv_model.specs.Valid.{starts_with_scheme}
 
 -- the texts of the parts, none of them judged: a host text is there where there is an authority
 pub record Cut : Type 0 where

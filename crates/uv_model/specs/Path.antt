@@ -1,5 +1,5 @@
 -- Paths and their segments, after the URL Standard, sections 4.1 to 4.4.
-use Rattle.std.specs.Prelude.{◌≡◌, ℕ, Bool, true, false, ◌&&◌, ◌||◌, ◌==◌, List, [], ◌∷◌, ◌++◌, codes, if◌then◌else◌}
+use Rattle.std.specs.Prelude.{◌≡◌, ◌⊎◌, ℕ, Bool, true, false, ◌&&◌, ◌||◌, ◌==◌, List, [], ◌∷◌, ◌++◌, codes, if◌then◌else◌}
 use Rattle.std.specs.List.{list_all, join_with_byte}
 use Rattle.std.specs.Str.{bytes_eq}
 use Rattle.std.specs.Char.{is_ascii_alphabetic}
@@ -103,6 +103,16 @@ pub record IsPathAbsolute (segments : List (List ℕ)) (text : List ℕ) : Type 
   pub behind : List ℕ
   pub slashed : text ≡ slash ∷ behind
   pub relative : IsPathRelative segments behind
+
+-- `/` and any segments, of which the first may be empty too
+pub record IsPathSlashed (segments : List (List ℕ)) (text : List ℕ) : Type 0 where
+  pub behind : List ℕ
+  pub slashed : text ≡ slash ∷ behind
+  pub joins : JoinsTo segments behind
+
+-- no code point and no segment, or `/` and any segments
+abbrev pub MayBePathSlashed : List (List ℕ) → List ℕ → Type 0
+MayBePathSlashed segments text = ((text ≡ []) × (segments ≡ [])) ⊎ IsPathSlashed segments text
 
 -- the text begins with `/`, a Windows drive letter, `/`
 abbrev pub starts_with_drive : List ℕ → Bool

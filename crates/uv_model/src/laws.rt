@@ -1,9 +1,11 @@
 //! Laws over the definitions, each as the clause of a function that does nothing.
 ghost use Rattle.uv_model.specs.Hosts.Address.{AreLibraryTexts};
+ghost use Rattle.uv_model.specs.Hosts.Domain.{StandardDomainsAreWide};
 ghost use Rattle.uv_model.specs.Laws.Addresses.{AddressesAreReadBack};
 ghost use Rattle.uv_model.specs.Laws.CutRows.{CutAndComplaintRows};
 ghost use Rattle.uv_model.specs.Laws.Cuts.{EveryTextHasOneCut, NearestBracketsDecide, PartsAreUnique, TextsWithAComplaintHaveNoParts, TextsWithASchemeIgnoreTheBase, ValidTextsAreCutIntoTheirParts};
-ghost use Rattle.uv_model.specs.Laws.Wholes.{DenotedRecordsAreWellFormed, UnitsAreFaultless};
+ghost use Rattle.uv_model.specs.Laws.Wholes.{DenotedRecordsAreWellFormed, UnitsAreFaultless, StandardTextsAreWide};
+ghost use Rattle.uv_model.specs.Records.WellFormed.{StandardRecordsAreWide};
 
 /// A text is a concatenation of URL units exactly where no code point of it is a fault of units.
 pub fn units_are_faultless()
@@ -25,12 +27,14 @@ pub fn valid_texts_are_cut_into_their_parts()
     ensures { ValidTextsAreCutIntoTheirParts }
 {}
 
-/// A text that begins with a scheme and `:` has against every base the same cut, valid parts and complaints.
+/// A text that begins with a scheme and `:` has against every base the same cut, and in each profile the same valid parts
+/// and complaints.
 pub fn texts_with_a_scheme_ignore_the_base()
     ensures { TextsWithASchemeIgnoreTheBase }
 {}
 
-/// A valid text has, against every base and against none, only one form, and only one text and value of each part.
+/// A valid text has in each profile, against every base and against none, only one form, and only one text and value of
+/// each part.
 pub fn parts_of_a_valid_text_are_unique()
     ensures { PartsAreUnique }
 {}
@@ -40,7 +44,7 @@ pub fn cut_and_complaint_rows()
     ensures { CutAndComplaintRows }
 {}
 
-/// A text with a complaint has no valid parts.
+/// A text with a complaint of a profile has no valid parts in it.
 pub fn texts_with_a_complaint_have_no_parts()
     ensures { TextsWithAComplaintHaveNoParts }
 {}
@@ -57,8 +61,18 @@ pub fn addresses_are_read_back()
     ensures { AddressesAreReadBack }
 {}
 
-/// The record that a valid text denotes, alone or against a well-formed base, is well formed (URL Standard, sections
-/// 4.1 and 4.3).
+/// The record that a valid text of either profile denotes, alone or against a base that is well formed by the same
+/// profile, is well formed by it (URL Standard, sections 4.1 and 4.3). Against any record it is well formed by the wide
+/// profile.
 pub fn denoted_records_are_well_formed()
     ensures { DenotedRecordsAreWellFormed }
+{}
+
+/// A valid text of the standard profile is one of the wide profile, alone or against the same base, with the same parts,
+/// and so it denotes the same record. A domain of the standard profile is one of the wide profile with the same form, and
+/// a record that is well formed by the standard profile is so by the wide profile.
+pub fn standard_texts_are_wide()
+    ensures texts { StandardTextsAreWide }
+    ensures domains { StandardDomainsAreWide }
+    ensures records { StandardRecordsAreWide }
 {}

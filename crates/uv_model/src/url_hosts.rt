@@ -1,32 +1,33 @@
 //! Whether a host may stand in a record, by the class of the scheme (URL Standard, section 4.1).
 ghost use Rattle.std.specs.List.{list_all};
 ghost use Rattle.std.specs.Prelude.{◌≡◌, ◌↔◌, IsTrue, not, option_copied};
-ghost use Rattle.uv_model.specs.Hosts.Domain.{is_form_code_point};
+ghost use Rattle.uv_model.specs.Hosts.Domain.{is_domain_mark, is_form_code_point};
 ghost use Rattle.uv_model.specs.Hosts.OpaqueHost.{is_forbidden_host};
 ghost use Rattle.uv_model.specs.Records.WellFormed.{IsFileHost, IsOtherHost, IsSpecialHost, IsUrlDomain, IsUrlHost, IsUrlOpaqueHost};
 
 use crate::ascii_units::is_ascii_units;
 use crate::domain::ends_in_number;
 use crate::host::Host;
+use crate::profile::Profile;
 use crate::scheme::Class;
 use crate::text::Text;
 
 /// Whether a URL of this class may have the host, or be without one.
-pub fn is_url_host(kind: Class, host: Option<&Host>) -> bool
-    ensures { IsTrue result ↔ IsUrlHost kind (option_copied host.entry) }
+pub fn is_url_host(kind: Class, host: Option<&Host>, profile: Profile) -> bool
+    ensures { IsTrue result ↔ IsUrlHost profile kind (option_copied host.entry) }
 {
     match kind {
-        Class::Special => is_special_host(host),
-        Class::File => is_file_host(host),
+        Class::Special => is_special_host(host, profile),
+        Class::File => is_file_host(host, profile),
         Class::Other => is_other_host(host),
     }
 }
 
-fn is_special_host(host: Option<&Host>) -> bool
-    ensures { IsTrue result ↔ IsSpecialHost (option_copied host.entry) }
+fn is_special_host(host: Option<&Host>, profile: Profile) -> bool
+    ensures { IsTrue result ↔ IsSpecialHost profile (option_copied host.entry) }
 {
     match host {
-        Some(Host::Domain(form)) => is_url_domain(form),
+        Some(Host::Domain(form)) => is_url_domain(form, profile),
         Some(Host::V4(_)) => true,
         Some(Host::V6(_)) => true,
         Some(Host::Opaque(_)) => false,
@@ -35,15 +36,15 @@ fn is_special_host(host: Option<&Host>) -> bool
     }
 }
 
-fn is_file_host(host: Option<&Host>) -> bool
-    ensures { IsTrue result ↔ IsFileHost (option_copied host.entry) }
+fn is_file_host(host: Option<&Host>, profile: Profile) -> bool
+    ensures { IsTrue result ↔ IsFileHost profile (option_copied host.entry) }
 {
     match host {
         Some(Host::Domain(form)) => {
             if form.as_str() == "localhost" {
                 return false;
             }
-            is_url_domain(form)
+            is_url_domain(form, profile)
         }
         Some(Host::V4(_)) => true,
         Some(Host::V6(_)) => true,
@@ -66,8 +67,8 @@ fn is_other_host(host: Option<&Host>) -> bool
     }
 }
 
-fn is_url_domain(form: &Text) -> bool
-    ensures { IsTrue result ↔ IsUrlDomain form.now }
+fn is_url_domain(form: &Text, profile: Profile) -> bool
+    ensures { IsTrue result ↔ IsUrlDomain profile form.now }
 {
     let text = form.as_str();
     if text.is_empty() {
@@ -76,7 +77,7 @@ fn is_url_domain(form: &Text) -> bool
     if ends_in_number(text) {
         return false;
     }
-    has_form_bytes(text.as_bytes())
+    has_form_bytes(text.as_bytes(), profile)
 }
 
 fn is_url_opaque_host(text: &Text) -> bool
@@ -92,14 +93,22 @@ fn is_url_opaque_host(text: &Text) -> bool
     has_permitted_bytes(bytes)
 }
 
-// Lower-case letters, digits, hyphens and full stops.
-fn has_form_bytes(text: &[u8]) -> bool
-    ensures { result ≡ list_all is_form_code_point text.now }
+// Lower-case letters, digits and the marks that the profile permits in a domain.
+fn has_form_bytes(text: &[u8], profile: Profile) -> bool
+    ensures { result ≡ list_all (is_form_code_point profile) text.now }
 {
     text.iter().all(|byte| byte.is_ascii_lowercase()
         || byte.is_ascii_digit()
-        || *byte == b'-'
-        || *byte == b'.')
+        || is_domain_mark(*byte, profile))
+}
+
+fn is_domain_mark(byte: u8, profile: Profile) -> bool
+    ensures { result ≡ is_domain_mark profile byte }
+{
+    match profile {
+        Profile::Standard => byte == b'-' || byte == b'.',
+        Profile::Wide => byte == b'_' || byte == b'-' || byte == b'.',
+    }
 }
 
 // No forbidden host code point (URL Standard, section 3.2).

@@ -9,12 +9,13 @@ ghost use Rattle.uv_model.specs.Records.WellFormed.{IsUrlFragment, IsUrlPort, Is
 use crate::ascii_units::{is_ascii_units, is_without};
 use crate::host::Host;
 use crate::path::UrlPath;
+use crate::profile::Profile;
 use crate::scheme::{Class, class_of, default_port};
 use crate::url_hosts::is_url_host;
 use crate::url_paths::is_url_path;
 
-/// Whether these parts make a well-formed record, and so may be given to `Record::make`. A text that isn't ASCII makes
-/// none. It takes no memory.
+/// Whether these parts make a record that is well formed by the profile. Those that are by the wide one may be given to
+/// `Record::make`. A text that isn't ASCII makes none. It takes no memory.
 pub fn well_formed(
     scheme: &str,
     host: Option<&Host>,
@@ -22,8 +23,9 @@ pub fn well_formed(
     path: &UrlPath,
     query: Option<&str>,
     fragment: Option<&str>,
+    profile: Profile,
 ) -> bool
-    ensures { IsTrue result ↔ WellFormed (record {
+    ensures { IsTrue result ↔ WellFormed profile (record {
       scheme = scheme.now;
       host = option_copied host.entry;
       port = port;
@@ -36,7 +38,7 @@ pub fn well_formed(
         return false;
     }
     let kind = class_of_url_scheme(scheme);
-    if !is_url_host(kind, host) {
+    if !is_url_host(kind, host, profile) {
         return false;
     }
     if !is_url_port(scheme, host, port) {

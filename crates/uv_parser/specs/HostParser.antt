@@ -3,6 +3,7 @@ use Rattle.std.specs.Prelude.{◌≡◌, ℕ, ◌-◌, Bool, true, false, ◌&&�
 use Rattle.std.specs.List.{list_any}
 use Rattle.std.specs.Str.{is_utf8}
 use Rattle.percent_encoding.specs.Percent.{percent_decode}
+use Rattle.uv_model.specs.declared.profile.Profile.{Profile}
 use Rattle.uv_model.specs.declared.host.Host.{Host}
 use Rattle.uv_model.specs.declared.host.Host.TheVariants.{Domain, V4, V6, Opaque, Empty}
 use Rattle.uv_model.specs.Ascii.{percent_sign, left_bracket, right_bracket}
@@ -60,9 +61,10 @@ parse_host special (c ∷ rest) =
 
 -- ---- laws
 
--- a valid domain is parsed, for a special URL, as the domain of its form
+-- a valid domain of either profile is parsed, for a special URL, as the domain of its form
 abbrev pub DomainsAreParsed : Type 0
-DomainsAreParsed = (text form : List ℕ) → IsDomain text form → parse_host true text ≡ Some (Domain form)
+DomainsAreParsed =
+    (profile : Profile) (text form : List ℕ) → IsDomain profile text form → parse_host true text ≡ Some (Domain form)
 
 -- an IPv4 text is parsed, for a special URL, as the address of its value
 abbrev pub Ipv4HostsAreParsed : Type 0

@@ -1,20 +1,22 @@
 -- The texts on which the URL parser (URL Standard, section 4.4) is silent, as a grammar: the standard's of section 4.3,
 -- with the parser's own conditions on a host, a path behind an authority and the authority of a file URL.
 use Rattle.std.specs.Prelude.{◌≡◌, ℕ, ◌⊎◌, false, true, List, [], ◌∷◌, Option, Some, None}
+use Rattle.uv_model.specs.declared.profile.Profile.TheVariants.{Standard, Wide}
 use Rattle.uv_model.specs.declared.scheme.Class.{Class}
 use Rattle.uv_model.specs.declared.scheme.Class.TheVariants.{Special, File, Other}
 use Rattle.uv_model.specs.declared.host.Host.{Host}
 use Rattle.uv_model.specs.declared.host.Host.TheVariants.{Empty, Opaque}
-use Rattle.uv_model.specs.Ascii.{slash, at_sign, backslash}
+use Rattle.uv_model.specs.Ascii.{at_sign, backslash}
 use Rattle.uv_model.specs.Cut.{IsCut, texts_of}
 use Rattle.uv_parser.specs.HostParser.{parse_host}
 use Rattle.uv_parser.specs.Machine.{file_host}
 use Rattle.uv_model.specs.Parts.{Form, SchemeAuthority, Authority, PathAbsolute, Parts, has_scheme}
-use Rattle.uv_model.specs.Path.{IsPathAbsolute, JoinsTo, is_drive_letter, is_without}
+use Rattle.uv_model.specs.Path.{MayBePathSlashed, IsPathAbsolute, IsPathSlashed, is_drive_letter, is_without}
 use Rattle.uv_model.specs.Records.Denote.{denote}
 use Rattle.uv_parser.specs.Run.{Done, Stopped, first_removed, run, step_bound}
 use Rattle.uv_model.specs.Records.Url.{Url}
-use Rattle.uv_model.specs.Scheme.{scheme_class}
+use Rattle.uv_model.specs.Scheme.{default_port, scheme_class}
+use Rattle.uv_model.specs.Setting.{setting_of}
 use Rattle.uv_model.specs.Records.WellFormed.{MayBeWellFormed}
 use Rattle.uv_model.specs.Valid.{FitsBase, FitsForm, FitsScheme, HasNoAuthority, MayBePortText, MayBeUnits, port_given, scheme_in}
 
@@ -34,23 +36,13 @@ pub record IsTakenFileHost (text : List ℕ) (value : Host) : Type 0 where
   pub parsed : parse_host true text ≡ Some host
   pub valued : value ≡ file_host host
 
--- `/` and any segments
-pub record IsPathSlashed (segments : List (List ℕ)) (text : List ℕ) : Type 0 where
-  pub behind : List ℕ
-  pub slashed : text ≡ slash ∷ behind
-  pub joins : JoinsTo segments behind
-
--- no code point and no segment, or `/` and any segments
-abbrev pub MayBePathSlashed : List (List ℕ) → List ℕ → Type 0
-MayBePathSlashed segments text = ((text ≡ []) × (segments ≡ [])) ⊎ IsPathSlashed segments text
-
 -- a special URL
 pub record TakesSpecial (scheme host_text : List ℕ) (parts : Parts) : Type 0 where
   pub value : Host
   pub host : IsTakenHost host_text value
   pub valued : parts.host ≡ Some value
   pub port_text : MayBePortText parts.port_text
-  pub port : parts.port ≡ port_given scheme parts.port_text
+  pub port : parts.port ≡ port_given (default_port scheme) parts.port_text
 
 -- a file URL
 pub record TakesFile (host_text : List ℕ) (parts : Parts) : Type 0 where
@@ -72,7 +64,7 @@ pub record TakesOther (scheme host_text : List ℕ) (parts : Parts) : Type 0 whe
   pub valued : parts.host ≡ own_value value
   pub alone : host_text ≡ [] → parts.port_text ≡ None
   pub port_text : MayBePortText parts.port_text
-  pub port : parts.port ≡ port_given scheme parts.port_text
+  pub port : parts.port ≡ port_given (default_port scheme) parts.port_text
 
 -- a host and a port by the class
 abbrev pub Takes : Class → List ℕ → List ℕ → Parts → Type 0
@@ -93,12 +85,13 @@ TakesAuthority base parts =
 
 -- ---- the forms
 
--- the host, the port and the path by the form: without an authority as in a valid URL string, but for drive letters
+-- The host, the port and the path by the form: without an authority as in a valid URL string, but for drive letters.
+-- The profiles differ behind an authority alone, so either says the same here.
 abbrev pub TakesForm : Option Url → Form → Parts → Type 0
 TakesForm base SchemeAuthority parts = TakesAuthority base parts
 TakesForm base Authority parts = TakesAuthority base parts
 TakesForm base PathAbsolute parts = HasNoAuthority parts × IsPathAbsolute parts.segments parts.path_text
-TakesForm base form parts = FitsForm base form parts
+TakesForm base form parts = FitsForm (setting_of Standard base parts.scheme) form parts
 
 -- The text is cut into the texts of these parts, no code point of it is removed, and the parser is silent on each part.
 pub record Silent (base : Option Url) (text : List ℕ) (parts : Parts) : Type 0 where
@@ -126,4 +119,4 @@ IsDecided base text = IsDecidedWithin (step_bound text) base text
 
 -- against each well-formed base, and without a base, each text is decided
 abbrev pub TextsAreDecided : Type 0
-TextsAreDecided = (base : Option Url) (text : List ℕ) → MayBeWellFormed base → IsDecided base text
+TextsAreDecided = (base : Option Url) (text : List ℕ) → MayBeWellFormed Wide base → IsDecided base text

@@ -17,13 +17,13 @@ ghost use Rattle.uv_parser.specs.Rows.SilentRefusals.{SilentRefusalRows};
 ghost use Rattle.uv_parser.specs.Rows.Special.{SpecialRows};
 ghost use Rattle.uv_parser.specs.SilentTexts.{TextsAreDecided};
 
-/// On every valid text with an opaque path, against every base and none, the URL parser runs to its end with no
+/// On every valid text of either profile with an opaque path, against every base and none, the URL parser runs to its end with no
 /// validation error and no failure, and gives exactly the URL that the text's parts denote (URL Standard, section 4.4).
 pub fn opaque_texts_run_silently()
     ensures { OpaqueTextsRunSilently }
 {}
 
-/// On every valid text with a scheme of class Other, against every base and none, the URL parser runs to its end with
+/// On every valid text of either profile with a scheme of class Other, against every base and none, the URL parser runs to its end with
 /// no validation error and no failure, and gives exactly the URL that the text's parts denote (URL Standard, section
 /// 4.4).
 pub fn other_texts_run_silently()
@@ -61,7 +61,7 @@ pub fn address_parser_rows()
     ensures { AddressParserRows }
 {}
 
-/// For a special URL the host parser makes of every valid domain the domain of exactly its form (URL Standard,
+/// For a special URL the host parser makes of every valid domain of either profile the domain of exactly its form (URL Standard,
 /// section 3.5).
 pub fn domains_are_parsed()
     ensures { DomainsAreParsed }

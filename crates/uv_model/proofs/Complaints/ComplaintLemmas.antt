@@ -3,6 +3,8 @@ use Rattle.std.proofs.Common.{◌≡◌, ◌≢◌, ℕ, zero, suc, ◌+◌, ◌
 use Rattle.std.specs.Prelude.{if◌then◌else◌}
 use Rattle.std.proofs.lemmas.Bool.{false≢true, true≢false, and_parts, eqb-true}
 use Rattle.std.proofs.lemmas.List.{length-append, length-drop}
+use Rattle.uv_model.specs.declared.profile.Profile.{Profile}
+use Rattle.uv_model.specs.declared.profile.Profile.TheVariants.{Standard, Wide}
 use Rattle.uv_model.specs.declared.scheme.Class.{Class}
 use Rattle.uv_model.specs.declared.scheme.Class.TheVariants.{Special, File, Other}
 use Rattle.uv_model.specs.declared.rule.Rule.{Rule}
@@ -14,9 +16,9 @@ use Rattle.uv_model.specs.Path.{starts_with_slash}
 use Rattle.uv_model.specs.Complaints.UnitComplaint.{UnitComplaint}
 use Rattle.uv_model.specs.Complaints.OpaqueHostComplaint.{OpaqueHostComplaint}
 use Rattle.uv_model.specs.Units.{is_url_code_point}
-use Rattle.uv_model.specs.Records.Url.{Url}
-use Rattle.uv_model.specs.Cut.{Cut, class_in, scheme_end, path_place, query_place, fragment_place, starts_with_two_slashes, written_start, written_middle}
-use Rattle.uv_model.specs.Complaints.Complaint.{Behind, StartComplaint, HostTextComplaint, HeldHostComplaint, HostComplaint, PortComplaint, PathStartComplaint, HostPartComplaint, PortPartComplaint, MayBeUnitComplaint, slashes_place}
+use Rattle.uv_model.specs.Setting.{Setting}
+use Rattle.uv_model.specs.Cut.{Cut, scheme_end, path_place, query_place, fragment_place, starts_with_two_slashes, written_start, written_middle}
+use Rattle.uv_model.specs.Complaints.Complaint.{Behind, StartComplaint, HostTextComplaint, HeldHostComplaint, HostComplaint, PortComplaint, PathStartComplaint, HasEmptyFirst, HostPartComplaint, PortPartComplaint, MayBeUnitComplaint, slashes_place}
 use Rattle.uv_model.proofs.Complaints.LeastLemmas.{Ends, Begins}
 
 -- ---- places within a text
@@ -49,27 +51,28 @@ some_length [] some = absurd (some refl)
 some_length (c ∷ rest) some = omega arith
 
 -- a host with a fault of what it holds isn't empty
-host_text_some : (text : List ℕ) (rule : Rule) → HostTextComplaint text rule → 0 < length text
-host_text_some text HostDomain h = some_length text h.0.some
-host_text_some text HostNumber h = some_length text h.0.some
-host_text_some [] HostIpv6 h = absurd (false≢true h.bracket)
-host_text_some (c ∷ rest) HostIpv6 h = omega arith
-host_text_some text _ h = absurd h
+host_text_some : (profile : Profile) (text : List ℕ) (rule : Rule) → HostTextComplaint profile text rule → 0 < length text
+host_text_some profile text HostDomain h = some_length text h.0.some
+host_text_some profile text HostNumber h = some_length text h.0.some
+host_text_some profile [] HostIpv6 h = absurd (false≢true h.bracket)
+host_text_some profile (c ∷ rest) HostIpv6 h = omega arith
+host_text_some profile text _ h = absurd h
 
 -- a fault of what a host holds stands within its text
-held_host_within : (kind : Class) (text : List ℕ) (place : ℕ) (rule : Rule) → HeldHostComplaint kind text place rule
+held_host_within : (profile : Profile) (kind : Class) (text : List ℕ) (place : ℕ) (rule : Rule)
+    → HeldHostComplaint profile kind text place rule
     → place < length text
-held_host_within Special text place rule (h, at) = (let some = host_text_some text rule h in omega arith)
-held_host_within File text place rule (h, at) = (let some = host_text_some text rule h in omega arith)
-held_host_within Other text place rule h = opaque_complaint_within text place rule h
+held_host_within profile Special text place rule (h, at) = (let some = host_text_some profile text rule h in omega arith)
+held_host_within profile File text place rule (h, at) = (let some = host_text_some profile text rule h in omega arith)
+held_host_within profile Other text place rule h = opaque_complaint_within text place rule h
 
 -- a fault of a host stands within its text, or is that of a missing host
-host_complaint_ends : (kind : Class) (text : List ℕ) (port_text : Option (List ℕ)) (path_text : List ℕ) (place : ℕ)
+host_complaint_ends : (profile : Profile) (kind : Class) (text : List ℕ) (port_text : Option (List ℕ)) (path_text : List ℕ) (place : ℕ)
     (rule : Rule)
-    → HostComplaint kind text port_text path_text place rule
+    → HostComplaint profile kind text port_text path_text place rule
     → (place < length text) ⊎ ((place ≡ 0) × (rule_number rule ≤ 4))
-host_complaint_ends kind text port_text path_text place HostMissing h = inr (h.1, omega arith)
-host_complaint_ends kind text port_text path_text place rule h = inl (held_host_within kind text place rule h)
+host_complaint_ends profile kind text port_text path_text place HostMissing h = inr (h.1, omega arith)
+host_complaint_ends profile kind text port_text path_text place rule h = inl (held_host_within profile kind text place rule h)
 
 -- a fault of a port stands within its text, by rule 9 or 10
 port_complaint_bounds : (text : List ℕ) (place : ℕ) (rule : Rule) → PortComplaint text place rule
@@ -86,13 +89,20 @@ port_complaint_bounds text place _ h = absurd h
 abbrev pub second_slash : List ℕ → ℕ
 second_slash path_text = if starts_with_two_slashes path_text then 1 else 0
 
+-- a forbidden empty first segment stands where the path begins with `//`
+empty_first_starts : (profile : Profile) (path_text : List ℕ) → HasEmptyFirst profile path_text
+    → starts_with_two_slashes path_text ≡ true
+empty_first_starts Standard path_text empty = empty
+empty_first_starts Wide path_text empty = absurd empty
+
 -- a fault of a path's start stands no further than that place, by rule 11 or 12
-path_start_bounds : (base : Option Url) (cut : Cut) (place : ℕ) (rule : Rule) → PathStartComplaint base cut place rule
+path_start_bounds : (setting : Setting) (cut : Cut) (place : ℕ) (rule : Rule) → PathStartComplaint setting cut place rule
     → (place ≤ second_slash cut.path_text) × (11 ≤ rule_number rule) × (rule_number rule ≤ 12)
-path_start_bounds base cut place FirstSegmentEmpty (starts, at) =
+path_start_bounds setting cut place FirstSegmentEmpty (empty, at) =
+    let starts = empty_first_starts setting.profile cut.path_text empty in
     (subst (λ (b : Bool). place ≤ (if b then 1 else 0)) (sym starts) (omega arith), omega arith, omega arith)
-path_start_bounds base cut place DriveAfterHost (kind, host, drive, at) = (omega arith, omega arith, omega arith)
-path_start_bounds base cut place _ h = absurd h
+path_start_bounds setting cut place DriveAfterHost (kind, host, drive, at) = (omega arith, omega arith, omega arith)
+path_start_bounds setting cut place _ h = absurd h
 
 -- a text that begins with `/` has no fault of units there
 slash_is_unit : (text : List ℕ) (rule : Rule) → starts_with_slash text ≡ true → UnitComplaint text 0 rule → ⊥
@@ -176,17 +186,17 @@ fragment_behind_query cut =
     omega arith
 
 -- the host's complaints
-pub host_part_ends : (base : Option Url) (cut : Cut) → Ends (HostPartComplaint base cut) (host_end cut) 4
-host_part_ends base cut =
+pub host_part_ends : (setting : Setting) (cut : Cut) → Ends (HostPartComplaint setting cut) (host_end cut) 4
+host_part_ends setting cut =
     go cut.scheme cut.host_text cut.port_text cut.path_text cut.query cut.fragment
   where
     go : (scheme host_text port_text : Option (List ℕ)) (path_text : List ℕ) (query fragment : Option (List ℕ))
-        → Ends (HostPartComplaint base (cut_with scheme host_text port_text path_text query fragment))
+        → Ends (HostPartComplaint setting (cut_with scheme host_text port_text path_text query fragment))
         (host_end (cut_with scheme host_text port_text path_text query fragment)) 4
     go scheme None port_text path_text query fragment = record { by = λ place rule h. absurd h }
     go scheme (Some host_text) port_text path_text query fragment = record {
       by = λ place rule h.
-          elim (host_complaint_ends (class_in base scheme) host_text port_text path_text h.inner rule h.holds) [
+          elim (host_complaint_ends setting.profile setting.class host_text port_text path_text h.inner rule h.holds) [
             | inl within ↦ inl (omega (arith, h.moved))
             | inr (first, number) ↦ inr (omega (arith, h.moved), number)
           ];
@@ -224,19 +234,19 @@ port_part_begins cut = go cut.scheme cut.host_text cut.port_text cut.path_text c
     }
 
 -- the complaints of the path's start
-pub path_start_ends : (base : Option Url) (cut : Cut)
-    → Ends (Behind (path_place cut) (PathStartComplaint base cut)) (path_place cut + second_slash cut.path_text) 12
-path_start_ends base cut = record {
+pub path_start_ends : (setting : Setting) (cut : Cut)
+    → Ends (Behind (path_place cut) (PathStartComplaint setting cut)) (path_place cut + second_slash cut.path_text) 12
+path_start_ends setting cut = record {
   by = λ place rule h.
-      (let bounds = path_start_bounds base cut h.inner rule h.holds in inr (omega (arith, h.moved), bounds.2));
+      (let bounds = path_start_bounds setting cut h.inner rule h.holds in inr (omega (arith, h.moved), bounds.2));
 }
 
 -- and they begin with the path, by rule 11 or 12
-pub path_start_begins : (base : Option Url) (cut : Cut)
-    → Begins (Behind (path_place cut) (PathStartComplaint base cut)) (path_place cut) 11
-path_start_begins base cut = record {
+pub path_start_begins : (setting : Setting) (cut : Cut)
+    → Begins (Behind (path_place cut) (PathStartComplaint setting cut)) (path_place cut) 11
+path_start_begins setting cut = record {
   from = λ place rule h.
-      (let bounds = path_start_bounds base cut h.inner rule h.holds in (omega (arith, h.moved), bounds.1));
+      (let bounds = path_start_bounds setting cut h.inner rule h.holds in (omega (arith, h.moved), bounds.1));
 }
 
 -- the complaints of units of a text that begins at a place
@@ -297,11 +307,11 @@ query_ends cut = go cut.scheme cut.host_text cut.port_text cut.path_text cut.que
     }
 
 -- the complaints before any part
-pub start_ends : (base : Option Url) (text : List ℕ) (cut : Cut)
-    → Ends (StartComplaint base text cut) (slashes_place cut) 3
-start_ends base text cut = record { by = by }
+pub start_ends : (setting : Setting) (text : List ℕ) (cut : Cut)
+    → Ends (StartComplaint setting text cut) (slashes_place cut) 3
+start_ends setting text cut = record { by = by }
   where
-    by : (place : ℕ) (rule : Rule) → StartComplaint base text cut place rule
+    by : (place : ℕ) (rule : Rule) → StartComplaint setting text cut place rule
         → (place < slashes_place cut) ⊎ ((place ≤ slashes_place cut) × (rule_number rule ≤ 3))
     by place NoScheme (none, no_base, at) = inr (omega arith, omega arith)
     by place OpaqueBase (none, opaque, more, at) = inr (omega arith, omega arith)

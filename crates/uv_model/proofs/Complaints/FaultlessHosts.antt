@@ -7,6 +7,8 @@ use Rattle.std.proofs.lemmas.Option.{same_Some}
 use Rattle.std.proofs.lemmas.Bool.Decides.{nat_tests}
 use Rattle.std.proofs.lemmas.List.{length-append}
 use Rattle.idna.specs.Validity.{has_ace_prefix}
+use Rattle.uv_model.specs.declared.profile.Profile.{Profile}
+use Rattle.uv_model.specs.declared.profile.Profile.TheVariants.{Standard, Wide}
 use Rattle.uv_model.specs.declared.host.Host.{Host}
 use Rattle.uv_model.specs.declared.host.Host.TheVariants.{Domain, V4, V6, Opaque, Empty}
 use Rattle.uv_model.specs.declared.rule.Rule.{Rule}
@@ -26,21 +28,24 @@ use Rattle.uv_model.proofs.Complaints.UnitComplaintLemmas.{no_complaint-units}
 -- ---- what a text with a form isn't
 
 -- it isn't empty
-form_not_empty : (form : List ℕ) → IsForm [] form → ⊥
+form_not_empty : (profile : Profile) (form : List ℕ) → IsForm profile [] form → ⊥
 unfolding parser_form has_ace_prefix
-form_not_empty form is =
+form_not_empty profile form is =
     let same : [] ≡ form = same_Some [] form is.parsed in
     false≢true (subst (λ (f : List ℕ). has_lengths f ≡ true) (sym same) is.lengths)
 
-permitted_no_bracket : (c : ℕ) → is_permitted c ≡ true → (c == left_bracket) ≡ false
-permitted_no_bracket c permitted = grind (arith, nat_tests)
+permitted_no_bracket : (profile : Profile) (c : ℕ) → is_permitted profile c ≡ true → (c == left_bracket) ≡ false
+permitted_no_bracket Standard c permitted = grind (arith, nat_tests)
+permitted_no_bracket Wide c permitted = grind (arith, nat_tests)
 
 -- it doesn't begin with `[`
-pub form_no_bracket : (text form : List ℕ) → IsForm text form → starts_with_bracket text ≡ false
+pub form_no_bracket : (profile : Profile) (text form : List ℕ) → IsForm profile text form
+    → starts_with_bracket text ≡ false
 unfolding has_permitted
-form_no_bracket [] form is = refl
-form_no_bracket (c ∷ rest) form is =
-    permitted_no_bracket c (and_parts (is_permitted c) (list_all is_permitted rest) is.permitted).0
+form_no_bracket profile [] form is = refl
+form_no_bracket profile (c ∷ rest) form is =
+    permitted_no_bracket profile c
+    (and_parts (is_permitted profile c) (list_all (is_permitted profile) rest) is.permitted).0
 
 -- ---- hosts of classes Special and File
 
@@ -51,49 +56,49 @@ ipv4_not_empty value (a, b, c, d, is, e) =
     omega arith
 
 -- a valid host isn't empty
-pub host_not_empty : (text : List ℕ) (host : Host) → IsHostText text host → text ≢ []
-host_not_empty text (Domain form) is nothing = form_not_empty form (rw nothing at is.0)
-host_not_empty text (V4 value) is nothing = ipv4_not_empty value (rw nothing at is)
-host_not_empty text (V6 pieces) is nothing =
+pub host_not_empty : (profile : Profile) (text : List ℕ) (host : Host) → IsHostText profile text host → text ≢ []
+host_not_empty profile text (Domain form) is nothing = form_not_empty profile form (rw nothing at is.0)
+host_not_empty profile text (V4 value) is nothing = ipv4_not_empty value (rw nothing at is)
+host_not_empty profile text (V6 pieces) is nothing =
     (let starts = bracketed_bracket text pieces is in false≢true (rw nothing at starts))
-host_not_empty text (Opaque host) is nothing = is
-host_not_empty text Empty is nothing = is
+host_not_empty profile text (Opaque host) is nothing = is
+host_not_empty profile text Empty is nothing = is
 
 -- and its text has no complaint
-pub host_text_faultless : (text : List ℕ) (host : Host) → IsHostText text host → (rule : Rule)
-    → HostTextComplaint text rule → ⊥
-host_text_faultless text (Domain form) is HostDomain (should, none) = none form is.0
-host_text_faultless text (Domain form) is HostNumber (should, number) = domain_no_number text form is number
-host_text_faultless text (Domain form) is HostIpv6 bad = false≢true (sym (form_no_bracket text form is.0) ∙ bad.bracket)
-host_text_faultless text (Domain form) is _ h = h
-host_text_faultless text (V4 value) is HostDomain (should, none) = should.no_ipv4 value is
-host_text_faultless text (V4 value) is HostNumber (should, number) = should.no_ipv4 value is
-host_text_faultless text (V4 value) is HostIpv6 bad = false≢true (sym (ipv4_no_bracket text value is) ∙ bad.bracket)
-host_text_faultless text (V4 value) is _ h = h
-host_text_faultless text (V6 pieces) is HostDomain (should, none) =
+pub host_text_faultless : (profile : Profile) (text : List ℕ) (host : Host) → IsHostText profile text host
+    → (rule : Rule) → HostTextComplaint profile text rule → ⊥
+host_text_faultless profile text (Domain form) is HostDomain (should, none) = none form is.0
+host_text_faultless profile text (Domain form) is HostNumber (should, number) = domain_no_number profile text form is number
+host_text_faultless profile text (Domain form) is HostIpv6 bad = false≢true (sym (form_no_bracket profile text form is.0) ∙ bad.bracket)
+host_text_faultless profile text (Domain form) is _ h = h
+host_text_faultless profile text (V4 value) is HostDomain (should, none) = should.no_ipv4 value is
+host_text_faultless profile text (V4 value) is HostNumber (should, number) = should.no_ipv4 value is
+host_text_faultless profile text (V4 value) is HostIpv6 bad = false≢true (sym (ipv4_no_bracket text value is) ∙ bad.bracket)
+host_text_faultless profile text (V4 value) is _ h = h
+host_text_faultless profile text (V6 pieces) is HostDomain (should, none) =
     false≢true (sym should.no_bracket ∙ bracketed_bracket text pieces is)
-host_text_faultless text (V6 pieces) is HostNumber (should, number) =
+host_text_faultless profile text (V6 pieces) is HostNumber (should, number) =
     false≢true (sym should.no_bracket ∙ bracketed_bracket text pieces is)
-host_text_faultless text (V6 pieces) is HostIpv6 bad = bad.no_value pieces is
-host_text_faultless text (V6 pieces) is _ h = h
-host_text_faultless text (Opaque host) is rule h = is
-host_text_faultless text Empty is rule h = is
+host_text_faultless profile text (V6 pieces) is HostIpv6 bad = bad.no_value pieces is
+host_text_faultless profile text (V6 pieces) is _ h = h
+host_text_faultless profile text (Opaque host) is rule h = is
+host_text_faultless profile text Empty is rule h = is
 
 -- a valid host of a file URL is one of a URL of class Special
-pub file_host_is_host : (text : List ℕ) (host : Host) → IsFileHostText text host
-    → (other : Host) × IsHostText text other
-file_host_is_host text (Domain form) is = (Domain form, is.0)
-file_host_is_host text (V4 value) is = (V4 value, is)
-file_host_is_host text (V6 pieces) is = (V6 pieces, is)
-file_host_is_host text (Opaque host) is = absurd is
-file_host_is_host text Empty is = (Domain (codes "localhost"), is)
+pub file_host_is_host : (profile : Profile) (text : List ℕ) (host : Host) → IsFileHostText profile text host
+    → (other : Host) × IsHostText profile text other
+file_host_is_host profile text (Domain form) is = (Domain form, is.0)
+file_host_is_host profile text (V4 value) is = (V4 value, is)
+file_host_is_host profile text (V6 pieces) is = (V6 pieces, is)
+file_host_is_host profile text (Opaque host) is = absurd is
+file_host_is_host profile text Empty is = (Domain (codes "localhost"), is)
 
 -- the empty text has no complaint but that it is missing
-pub empty_host_faultless : (rule : Rule) → HostTextComplaint [] rule → ⊥
-empty_host_faultless HostDomain (should, none) = should.some refl
-empty_host_faultless HostNumber (should, number) = should.some refl
-empty_host_faultless HostIpv6 bad = false≢true bad.bracket
-empty_host_faultless _ h = h
+pub empty_host_faultless : (profile : Profile) (rule : Rule) → HostTextComplaint profile [] rule → ⊥
+empty_host_faultless profile HostDomain (should, none) = should.some refl
+empty_host_faultless profile HostNumber (should, number) = should.some refl
+empty_host_faultless profile HostIpv6 bad = false≢true bad.bracket
+empty_host_faultless profile _ h = h
 
 -- ---- opaque hosts
 

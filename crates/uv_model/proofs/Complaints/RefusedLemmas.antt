@@ -1,14 +1,16 @@
 -- The least complaint of a text: the first fault in the order in which the parts are judged.
 use Rattle.std.proofs.Common.{◌≡◌, ℕ, ◌+◌, ◌<◌, ◌≤◌, ◌⊎◌, Bool, true, false, List, [], ◌∷◌, Option, Some, None, length, inl, inr, arith, subst}
 use Rattle.std.specs.Prelude.{if◌then◌else◌}
+use Rattle.uv_model.specs.declared.profile.Profile.{Profile}
 use Rattle.uv_model.specs.declared.rule.Rule.{Rule}
 use Rattle.uv_model.specs.declared.rule.Refusal.{Refusal}
 use Rattle.uv_model.specs.Complaints.Refusal.{IsLeast}
 use Rattle.uv_model.specs.Complaints.Rule.{rule_number}
 use Rattle.uv_model.specs.Path.{starts_with_slash}
 use Rattle.uv_model.specs.Complaints.UnitComplaint.{UnitComplaint}
+use Rattle.uv_model.specs.Setting.{Setting, setting_of}
 use Rattle.uv_model.specs.Records.Url.{Url}
-use Rattle.uv_model.specs.Cut.{Cut, IsCut, class_in, host_place, port_place, path_place, query_place, fragment_place, starts_with_two_slashes}
+use Rattle.uv_model.specs.Cut.{Cut, IsCut, host_place, port_place, path_place, query_place, fragment_place, starts_with_two_slashes}
 use Rattle.uv_model.specs.Complaints.Complaint.{Behind, StartComplaint, HostComplaint, PortComplaint, PathStartComplaint, HostPartComplaint, PortPartComplaint, MayBeUnitComplaint, JudgedComplaint, HeldComplaint, IsStarted, ComplaintOf, Complaint, slashes_place, fault_behind}
 use Rattle.uv_model.proofs.Cuts.CutLemmas.{cut_is_computed}
 use Rattle.uv_model.proofs.Complaints.LeastLemmas.{Either, Begins, Precedes, precedes, least_first, least_second, begins_either, begins_earlier, least_behind}
@@ -38,20 +40,20 @@ abbrev pub FromPath : Cut → ℕ → Rule → Type 0
 FromPath cut = Either (OfPath cut) (FromQuery cut)
 
 -- the complaints of the path's start
-abbrev pub OfPathStart : Option Url → Cut → ℕ → Rule → Type 0
-OfPathStart base cut = Behind (path_place cut) (PathStartComplaint base cut)
+abbrev pub OfPathStart : Setting → Cut → ℕ → Rule → Type 0
+OfPathStart setting cut = Behind (path_place cut) (PathStartComplaint setting cut)
 
 -- those of the path's start and of what follows
-abbrev pub FromPathStart : Option Url → Cut → ℕ → Rule → Type 0
-FromPathStart base cut = Either (OfPathStart base cut) (FromPath cut)
+abbrev pub FromPathStart : Setting → Cut → ℕ → Rule → Type 0
+FromPathStart setting cut = Either (OfPathStart setting cut) (FromPath cut)
 
 -- those of the port and of what follows it
-abbrev pub FromPort : Option Url → Cut → ℕ → Rule → Type 0
-FromPort base cut = Either (PortPartComplaint cut) (FromPathStart base cut)
+abbrev pub FromPort : Setting → Cut → ℕ → Rule → Type 0
+FromPort setting cut = Either (PortPartComplaint cut) (FromPathStart setting cut)
 
 -- those of the host and of what follows it
-abbrev pub FromHost : Option Url → Cut → ℕ → Rule → Type 0
-FromHost base cut = Either (HostPartComplaint base cut) (FromPort base cut)
+abbrev pub FromHost : Setting → Cut → ℕ → Rule → Type 0
+FromHost setting cut = Either (HostPartComplaint setting cut) (FromPort setting cut)
 
 -- ---- where they begin
 
@@ -81,24 +83,24 @@ second_slash_within (c ∷ d ∷ rest) =
     let most : second_slash (c ∷ d ∷ rest) ≤ 1 = one_at_most (starts_with_two_slashes (c ∷ d ∷ rest)) in
     omega arith
 
-path_begins : (base : Option Url) (cut : Cut) → Begins (FromPath cut) (path_place cut + second_slash cut.path_text) 13
-path_begins base cut =
+path_begins : (setting : Setting) (cut : Cut) → Begins (FromPath cut) (path_place cut + second_slash cut.path_text) 13
+path_begins setting cut =
     let within = second_slash_within cut.path_text in
     let query = query_behind_path cut in
     begins_either (OfPath cut) (FromQuery cut) (path_place cut + second_slash cut.path_text) 13
     (path_held_begins (path_place cut) cut.path_text) (query_begins cut _ (omega arith))
 
-path_start_all_begin : (base : Option Url) (cut : Cut) → Begins (FromPathStart base cut) (path_place cut) 11
-path_start_all_begin base cut =
-    begins_either (OfPathStart base cut) (FromPath cut) (path_place cut) 11 (path_start_begins base cut)
-    (begins_earlier (FromPath cut) _ 13 (path_place cut) 11 (path_begins base cut) (omega arith) (omega arith))
+path_start_all_begin : (setting : Setting) (cut : Cut) → Begins (FromPathStart setting cut) (path_place cut) 11
+path_start_all_begin setting cut =
+    begins_either (OfPathStart setting cut) (FromPath cut) (path_place cut) 11 (path_start_begins setting cut)
+    (begins_earlier (FromPath cut) _ 13 (path_place cut) 11 (path_begins setting cut) (omega arith) (omega arith))
 
-port_all_begin : (base : Option Url) (cut : Cut) → Begins (FromPort base cut) (host_end cut) 9
-port_all_begin base cut =
+port_all_begin : (setting : Setting) (cut : Cut) → Begins (FromPort setting cut) (host_end cut) 9
+port_all_begin setting cut =
     let path = host_before_path cut in
-    begins_either (PortPartComplaint cut) (FromPathStart base cut) (host_end cut) 9 (port_part_begins cut)
-    (begins_earlier (FromPathStart base cut) (path_place cut) 11 (host_end cut) 9
-    (path_start_all_begin base cut) path (omega arith))
+    begins_either (PortPartComplaint cut) (FromPathStart setting cut) (host_end cut) 9 (port_part_begins cut)
+    (begins_earlier (FromPathStart setting cut) (path_place cut) 11 (host_end cut) 9
+    (path_start_all_begin setting cut) path (omega arith))
 
 -- ---- each part before all that follow it
 
@@ -113,28 +115,28 @@ path_first cut =
     precedes (OfPath cut) (FromQuery cut) (path_place cut + length cut.path_text) 13
     (held_ends (path_place cut) cut.path_text) (query_begins cut _ (omega arith))
 
-path_start_first : (base : Option Url) (cut : Cut) → Precedes (OfPathStart base cut) (FromPath cut)
-path_start_first base cut =
-    precedes (OfPathStart base cut) (FromPath cut) (path_place cut + second_slash cut.path_text) 12
-    (path_start_ends base cut)
-    (begins_earlier (FromPath cut) _ 13 _ 12 (path_begins base cut) (omega arith) (omega arith))
+path_start_first : (setting : Setting) (cut : Cut) → Precedes (OfPathStart setting cut) (FromPath cut)
+path_start_first setting cut =
+    precedes (OfPathStart setting cut) (FromPath cut) (path_place cut + second_slash cut.path_text) 12
+    (path_start_ends setting cut)
+    (begins_earlier (FromPath cut) _ 13 _ 12 (path_begins setting cut) (omega arith) (omega arith))
 
-port_first : (base : Option Url) (cut : Cut) → Precedes (PortPartComplaint cut) (FromPathStart base cut)
-port_first base cut =
-    precedes (PortPartComplaint cut) (FromPathStart base cut) (path_place cut) 10 (port_part_ends cut)
-    (begins_earlier (FromPathStart base cut) _ 11 _ 10 (path_start_all_begin base cut) (omega arith) (omega arith))
+port_first : (setting : Setting) (cut : Cut) → Precedes (PortPartComplaint cut) (FromPathStart setting cut)
+port_first setting cut =
+    precedes (PortPartComplaint cut) (FromPathStart setting cut) (path_place cut) 10 (port_part_ends cut)
+    (begins_earlier (FromPathStart setting cut) _ 11 _ 10 (path_start_all_begin setting cut) (omega arith) (omega arith))
 
-host_first : (base : Option Url) (cut : Cut) → Precedes (HostPartComplaint base cut) (FromPort base cut)
-host_first base cut =
-    precedes (HostPartComplaint base cut) (FromPort base cut) (host_end cut) 4 (host_part_ends base cut)
-    (begins_earlier (FromPort base cut) _ 9 _ 4 (port_all_begin base cut) (omega arith) (omega arith))
+host_first : (setting : Setting) (cut : Cut) → Precedes (HostPartComplaint setting cut) (FromPort setting cut)
+host_first setting cut =
+    precedes (HostPartComplaint setting cut) (FromPort setting cut) (host_end cut) 4 (host_part_ends setting cut)
+    (begins_earlier (FromPort setting cut) _ 9 _ 4 (port_all_begin setting cut) (omega arith) (omega arith))
 
 -- ---- the complaints of the whole text
 
 -- no text violates a rule of the start and one of a judged part
-abbrev pub Rest : Option Url → List ℕ → Cut → ℕ → Rule → Type 0
-Rest base text cut place rule =
-    (IsStarted base text cut × JudgedComplaint base cut place rule) ⊎ HeldComplaint cut place rule
+abbrev pub Rest : Setting → List ℕ → Cut → ℕ → Rule → Type 0
+Rest setting text cut place rule =
+    (IsStarted setting text cut × JudgedComplaint setting cut place rule) ⊎ HeldComplaint cut place rule
 
 -- what the path, the query and the fragment hold begins no earlier than such a complaint stands
 held_begin : (cut : Cut) → Begins (FromPath cut) (slashes_place cut) 3
@@ -147,60 +149,66 @@ held_begin cut =
     (begins_earlier (FromQuery cut) (slashes_place cut) 13 (slashes_place cut) 3
     (query_begins cut (slashes_place cut) (omega arith)) (omega arith) (omega arith))
 
-start_before_held : (base : Option Url) (text : List ℕ) (cut : Cut)
-    → Precedes (StartComplaint base text cut) (FromPath cut)
-start_before_held base text cut =
-    precedes (StartComplaint base text cut) (FromPath cut) (slashes_place cut) 3 (start_ends base text cut)
+start_before_held : (setting : Setting) (text : List ℕ) (cut : Cut)
+    → Precedes (StartComplaint setting text cut) (FromPath cut)
+start_before_held setting text cut =
+    precedes (StartComplaint setting text cut) (FromPath cut) (slashes_place cut) 3 (start_ends setting text cut)
     (held_begin cut)
 
 -- where a rule of the start is violated, its complaint comes first
-start_first : (base : Option Url) (text : List ℕ) (cut : Cut)
-    → Precedes (StartComplaint base text cut) (Rest base text cut)
-start_first base text cut = record { order = order }
+start_first : (setting : Setting) (text : List ℕ) (cut : Cut)
+    → Precedes (StartComplaint setting text cut) (Rest setting text cut)
+start_first setting text cut = record { order = order }
   where
-    order : (place later : ℕ) (rule other : Rule) → StartComplaint base text cut place rule
-        → Rest base text cut later other
+    order : (place later : ℕ) (rule other : Rule) → StartComplaint setting text cut place rule
+        → Rest setting text cut later other
         → (place < later) ⊎ ((place ≡ later) × (rule_number rule ≤ rule_number other))
     order place later rule other start (inl (started, judged)) = absurd (started place rule start)
-    order place later rule other start (inr h) = (start_before_held base text cut).order place later rule other start h
+    order place later rule other start (inr h) = (start_before_held setting text cut).order place later rule other start h
 
 -- without such a violation the complaints are those of the parts
-from_parts : (base : Option Url) (text : List ℕ) (cut : Cut) → IsStarted base text cut → (place : ℕ) (rule : Rule)
-    → FromHost base cut place rule → ComplaintOf base text cut place rule
-from_parts base text cut started place rule (inl host) = inr (inl (started, inl host))
-from_parts base text cut started place rule (inr (inl port)) = inr (inl (started, inr (inl port)))
-from_parts base text cut started place rule (inr (inr (inl start))) = inr (inl (started, inr (inr start)))
-from_parts base text cut started place rule (inr (inr (inr held))) = inr (inr held)
+from_parts : (setting : Setting) (text : List ℕ) (cut : Cut) → IsStarted setting text cut → (place : ℕ) (rule : Rule)
+    → FromHost setting cut place rule → ComplaintOf setting text cut place rule
+from_parts setting text cut started place rule (inl host) = inr (inl (started, inl host))
+from_parts setting text cut started place rule (inr (inl port)) = inr (inl (started, inr (inl port)))
+from_parts setting text cut started place rule (inr (inr (inl start))) = inr (inl (started, inr (inr start)))
+from_parts setting text cut started place rule (inr (inr (inr held))) = inr (inr held)
 
-to_parts : (base : Option Url) (text : List ℕ) (cut : Cut) → IsStarted base text cut → (place : ℕ) (rule : Rule)
-    → ComplaintOf base text cut place rule → FromHost base cut place rule
-to_parts base text cut started place rule (inl start) = absurd (started place rule start)
-to_parts base text cut started place rule (inr (inl (again, inl host))) = inl host
-to_parts base text cut started place rule (inr (inl (again, inr (inl port)))) = inr (inl port)
-to_parts base text cut started place rule (inr (inl (again, inr (inr start)))) = inr (inr (inl start))
-to_parts base text cut started place rule (inr (inr held)) = inr (inr (inr held))
+to_parts : (setting : Setting) (text : List ℕ) (cut : Cut) → IsStarted setting text cut → (place : ℕ) (rule : Rule)
+    → ComplaintOf setting text cut place rule → FromHost setting cut place rule
+to_parts setting text cut started place rule (inl start) = absurd (started place rule start)
+to_parts setting text cut started place rule (inr (inl (again, inl host))) = inl host
+to_parts setting text cut started place rule (inr (inl (again, inr (inl port)))) = inr (inl port)
+to_parts setting text cut started place rule (inr (inl (again, inr (inr start)))) = inr (inr (inl start))
+to_parts setting text cut started place rule (inr (inr held)) = inr (inr (inr held))
 
 -- the least complaint of a cut of the text is that of the text
-pub least_of_cut : (base : Option Url) (text : List ℕ) (cut : Cut) (least : Option Refusal) → IsCut base text cut
-    → IsLeast (ComplaintOf base text cut) least → IsLeast (Complaint base text) least
+pub least_of_cut : (profile : Profile) (base : Option Url) (text : List ℕ) (cut : Cut) (least : Option Refusal)
+    → IsCut base text cut → IsLeast (ComplaintOf (setting_of profile base cut.scheme) text cut) least
+    → IsLeast (Complaint profile base text) least
 unfolding Complaint
-least_of_cut base text cut least is found =
-    subst (λ (c : Cut). IsLeast (ComplaintOf base text c) least) (cut_is_computed base text cut is) found
+least_of_cut profile base text cut least is found =
+    subst (λ (c : Cut). IsLeast (ComplaintOf (setting_of profile base c.scheme) text c) least)
+    (cut_is_computed base text cut is) found
 
 -- where no rule of the start is violated, the least complaint of the parts is that of the text
-pub least_of_parts : (base : Option Url) (text : List ℕ) (cut : Cut) (least : Option Refusal) → IsCut base text cut
-    → IsStarted base text cut → IsLeast (FromHost base cut) least → IsLeast (Complaint base text) least
-least_of_parts base text cut least is started found =
-    least_of_cut base text cut least is
-    (IsLeast-like (FromHost base cut) (ComplaintOf base text cut) (from_parts base text cut started)
-    (to_parts base text cut started) least found)
+pub least_of_parts : (profile : Profile) (base : Option Url) (text : List ℕ) (cut : Cut) (least : Option Refusal)
+    → IsCut base text cut → IsStarted (setting_of profile base cut.scheme) text cut
+    → IsLeast (FromHost (setting_of profile base cut.scheme) cut) least → IsLeast (Complaint profile base text) least
+least_of_parts profile base text cut least is started found =
+    let setting = setting_of profile base cut.scheme in
+    least_of_cut profile base text cut least is
+    (IsLeast-like (FromHost setting cut) (ComplaintOf setting text cut) (from_parts setting text cut started)
+    (to_parts setting text cut started) least found)
 
 -- the least complaint of a start that violates a rule is that of the text
-pub refused_at_start : (base : Option Url) (text : List ℕ) (cut : Cut) (refusal : Refusal) → IsCut base text cut
-    → IsLeast (StartComplaint base text cut) (Some refusal) → IsLeast (Complaint base text) (Some refusal)
-refused_at_start base text cut refusal is found =
-    least_of_cut base text cut (Some refusal) is
-    (least_first (StartComplaint base text cut) (Rest base text cut) refusal (start_first base text cut) found)
+pub refused_at_start : (profile : Profile) (base : Option Url) (text : List ℕ) (cut : Cut) (refusal : Refusal)
+    → IsCut base text cut → IsLeast (StartComplaint (setting_of profile base cut.scheme) text cut) (Some refusal)
+    → IsLeast (Complaint profile base text) (Some refusal)
+refused_at_start profile base text cut refusal is found =
+    let setting = setting_of profile base cut.scheme in
+    least_of_cut profile base text cut (Some refusal) is
+    (least_first (StartComplaint setting text cut) (Rest setting text cut) refusal (start_first setting text cut) found)
 
 -- ---- each part refuses, or passes the text on to what follows it
 
@@ -225,52 +233,52 @@ pub path_passes : (cut : Cut) (least : Option Refusal) → IsLeast (OfPath cut) 
 path_passes cut least = least_second (OfPath cut) (FromQuery cut) least
 
 -- a fault of the path's start comes before those of units
-pub path_start_refuses : (base : Option Url) (cut : Cut) (refusal : Refusal)
-    → IsLeast (OfPathStart base cut) (Some refusal)
-    → IsLeast (FromPathStart base cut) (Some refusal)
-path_start_refuses base cut refusal =
-    least_first (OfPathStart base cut) (FromPath cut) refusal (path_start_first base cut)
+pub path_start_refuses : (setting : Setting) (cut : Cut) (refusal : Refusal)
+    → IsLeast (OfPathStart setting cut) (Some refusal)
+    → IsLeast (FromPathStart setting cut) (Some refusal)
+path_start_refuses setting cut refusal =
+    least_first (OfPathStart setting cut) (FromPath cut) refusal (path_start_first setting cut)
 
 -- where the path's start has none, those decide
-pub path_start_passes : (base : Option Url) (cut : Cut) (least : Option Refusal) → IsLeast (OfPathStart base cut) None
-    → IsLeast (FromPath cut) least → IsLeast (FromPathStart base cut) least
-path_start_passes base cut least = least_second (OfPathStart base cut) (FromPath cut) least
+pub path_start_passes : (setting : Setting) (cut : Cut) (least : Option Refusal) → IsLeast (OfPathStart setting cut) None
+    → IsLeast (FromPath cut) least → IsLeast (FromPathStart setting cut) least
+path_start_passes setting cut least = least_second (OfPathStart setting cut) (FromPath cut) least
 
 -- a fault of the port comes before those of the path and of what follows it
-pub port_refuses : (base : Option Url) (cut : Cut) (refusal : Refusal) → IsLeast (PortPartComplaint cut) (Some refusal)
-    → IsLeast (FromPort base cut) (Some refusal)
-port_refuses base cut refusal =
-    least_first (PortPartComplaint cut) (FromPathStart base cut) refusal (port_first base cut)
+pub port_refuses : (setting : Setting) (cut : Cut) (refusal : Refusal) → IsLeast (PortPartComplaint cut) (Some refusal)
+    → IsLeast (FromPort setting cut) (Some refusal)
+port_refuses setting cut refusal =
+    least_first (PortPartComplaint cut) (FromPathStart setting cut) refusal (port_first setting cut)
 
 -- where the port has none, those decide
-pub port_passes : (base : Option Url) (cut : Cut) (least : Option Refusal) → IsLeast (PortPartComplaint cut) None
-    → IsLeast (FromPathStart base cut) least → IsLeast (FromPort base cut) least
-port_passes base cut least = least_second (PortPartComplaint cut) (FromPathStart base cut) least
+pub port_passes : (setting : Setting) (cut : Cut) (least : Option Refusal) → IsLeast (PortPartComplaint cut) None
+    → IsLeast (FromPathStart setting cut) least → IsLeast (FromPort setting cut) least
+port_passes setting cut least = least_second (PortPartComplaint cut) (FromPathStart setting cut) least
 
 -- a fault of the host comes before those of what follows it
-pub host_refuses : (base : Option Url) (cut : Cut) (refusal : Refusal)
-    → IsLeast (HostPartComplaint base cut) (Some refusal)
-    → IsLeast (FromHost base cut) (Some refusal)
-host_refuses base cut refusal =
-    least_first (HostPartComplaint base cut) (FromPort base cut) refusal (host_first base cut)
+pub host_refuses : (setting : Setting) (cut : Cut) (refusal : Refusal)
+    → IsLeast (HostPartComplaint setting cut) (Some refusal)
+    → IsLeast (FromHost setting cut) (Some refusal)
+host_refuses setting cut refusal =
+    least_first (HostPartComplaint setting cut) (FromPort setting cut) refusal (host_first setting cut)
 
 -- where the host has none, those decide
-pub host_passes : (base : Option Url) (cut : Cut) (least : Option Refusal) → IsLeast (HostPartComplaint base cut) None
-    → IsLeast (FromPort base cut) least → IsLeast (FromHost base cut) least
-host_passes base cut least = least_second (HostPartComplaint base cut) (FromPort base cut) least
+pub host_passes : (setting : Setting) (cut : Cut) (least : Option Refusal) → IsLeast (HostPartComplaint setting cut) None
+    → IsLeast (FromPort setting cut) least → IsLeast (FromHost setting cut) least
+host_passes setting cut least = least_second (HostPartComplaint setting cut) (FromPort setting cut) least
 
 -- ---- from a part judged alone to the part of the text
 
 -- the least complaint of the host is its least one behind `//`
-pub least_of_host : (base : Option Url) (cut : Cut) (host_text : List ℕ) (least : Option Refusal)
+pub least_of_host : (setting : Setting) (cut : Cut) (host_text : List ℕ) (least : Option Refusal)
     → cut.host_text ≡ Some host_text
-    → IsLeast (HostComplaint (class_in base cut.scheme) host_text cut.port_text cut.path_text) least
-    → IsLeast (HostPartComplaint base cut) (fault_behind (host_place cut) least)
-least_of_host base cut host_text least is found = rw is (least_behind (host_place cut) _ least found)
+    → IsLeast (HostComplaint setting.profile setting.class host_text cut.port_text cut.path_text) least
+    → IsLeast (HostPartComplaint setting cut) (fault_behind (host_place cut) least)
+least_of_host setting cut host_text least is found = rw is (least_behind (host_place cut) _ least found)
 
 -- without an authority the host has none
-pub none_of_host : (base : Option Url) (cut : Cut) → cut.host_text ≡ None → IsLeast (HostPartComplaint base cut) None
-none_of_host base cut is = rw is (λ place rule h. h)
+pub none_of_host : (setting : Setting) (cut : Cut) → cut.host_text ≡ None → IsLeast (HostPartComplaint setting cut) None
+none_of_host setting cut is = rw is (λ place rule h. h)
 
 -- the least complaint of the port is its least one behind the host and `:`
 pub least_of_port : (cut : Cut) (host_text port_text : List ℕ) (least : Option Refusal) → cut.host_text ≡ Some host_text
@@ -291,10 +299,10 @@ none_of_port cut is = go cut.scheme cut.host_text cut.port_text cut.path_text cu
     go scheme (Some host_text) (Some port_text) path_text query fragment is = absurd cc
 
 -- the least complaint of the path's start
-pub least_of_path_start : (base : Option Url) (cut : Cut) (least : Option Refusal)
-    → IsLeast (PathStartComplaint base cut) least
-    → IsLeast (OfPathStart base cut) (fault_behind (path_place cut) least)
-least_of_path_start base cut least found = least_behind (path_place cut) (PathStartComplaint base cut) least found
+pub least_of_path_start : (setting : Setting) (cut : Cut) (least : Option Refusal)
+    → IsLeast (PathStartComplaint setting cut) least
+    → IsLeast (OfPathStart setting cut) (fault_behind (path_place cut) least)
+least_of_path_start setting cut least found = least_behind (path_place cut) (PathStartComplaint setting cut) least found
 
 -- the least complaint of the path by what it holds
 pub least_of_path : (cut : Cut) (least : Option Refusal) → IsLeast (UnitComplaint cut.path_text) least

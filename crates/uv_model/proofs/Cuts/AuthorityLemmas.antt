@@ -1,7 +1,8 @@
 -- Authorities: the host, the port and the path that stand behind `//` in a valid text make a well-formed record.
-use Rattle.std.proofs.Common.{◌≡◌, ℕ, true, false, List, [], ◌∷◌, Option, Some, None, refl, sym, subst, inl, inr}
+use Rattle.std.proofs.Common.{◌≡◌, ℕ, true, false, List, [], ◌∷◌, Option, Some, None, refl, sym, ap, subst, ◌∙◌, inl, inr}
 use Rattle.std.specs.Str.Parse.{digits_value}
 use Rattle.std.proofs.lemmas.Bool.{cases_Bool}
+use Rattle.uv_model.specs.declared.profile.Profile.{Profile}
 use Rattle.uv_model.specs.declared.scheme.Class.{Class}
 use Rattle.uv_model.specs.declared.scheme.Class.TheVariants.{Special, File, Other}
 use Rattle.uv_model.specs.declared.host.Host.{Host}
@@ -10,10 +11,12 @@ use Rattle.uv_model.specs.declared.path.UrlPath.TheVariants.{Segments}
 use Rattle.uv_model.specs.Records.Denote.{authority_host, authority_path}
 use Rattle.uv_model.specs.Encoding.{encoded}
 use Rattle.uv_model.specs.Parts.{Parts}
-use Rattle.uv_model.specs.Path.{AreSegments, JoinsTo, walk}
+use Rattle.uv_model.specs.Path.{MayBePathSlashed, AreSegments, IsPathSlashed, JoinsTo, walk}
 use Rattle.uv_model.specs.Scheme.{default_port, scheme_class}
-use Rattle.uv_model.specs.Valid.{FitsAuthority, IsFileHostText, IsHostText, IsOpaqueHostText, MayBePathAbsolute, is_default_port, port_given}
-use Rattle.uv_model.specs.Records.WellFormed.{AreUrlSegments, IsUrlHost, IsUrlPath, IsUrlPort, takes_port}
+use Rattle.uv_model.specs.Setting.{Setting}
+use Rattle.uv_model.specs.Valid.{FitsAuthority, IsFileHostText, IsHostText, IsOpaqueHostText, is_default_port, port_given}
+use Rattle.uv_model.specs.Records.WellFormed.{AreUrlSegments, IsOtherHost, IsUrlHost, IsUrlPath, IsUrlPort, takes_port}
+use Rattle.uv_model.proofs.Paths.SlashedPaths.{slashed_behind, slashed_or_none}
 use Rattle.uv_model.proofs.Paths.WalkLemmas.{AreUrlSegments-walk, HasSegment, HasSegment-walk}
 use Rattle.uv_model.proofs.Records.WellFormedLemmas.{IsUrlDomain-form, IsUrlOpaqueHost-encoded, IsUrlSegment-nil}
 
@@ -21,7 +24,7 @@ use Rattle.uv_model.proofs.Records.WellFormedLemmas.{IsUrlDomain-form, IsUrlOpaq
 
 -- the port that a text gives behind a host
 pub IsUrlPort-given : (scheme : List ℕ) (host : Option Host) (port_text : Option (List ℕ))
-    → takes_port (scheme_class scheme) host ≡ true → IsUrlPort scheme host (port_given scheme port_text)
+    → takes_port (scheme_class scheme) host ≡ true → IsUrlPort scheme host (port_given (default_port scheme) port_text)
 IsUrlPort-given scheme host None takes = tt
 IsUrlPort-given scheme host (Some []) takes = tt
 IsUrlPort-given scheme host (Some (digit ∷ rest)) takes =
@@ -32,7 +35,7 @@ IsUrlPort-given scheme host (Some (digit ∷ rest)) takes =
 
 -- schemes of one default port give one port
 pub port_given-same : (scheme other : List ℕ) (port_text : Option (List ℕ)) → default_port scheme ≡ default_port other
-    → port_given scheme port_text ≡ port_given other port_text
+    → port_given (default_port scheme) port_text ≡ port_given (default_port other) port_text
 port_given-same scheme other None e = refl
 port_given-same scheme other (Some []) e = refl
 port_given-same scheme other (Some (digit ∷ rest)) e = rw e refl
@@ -74,45 +77,48 @@ IsUrlPath-authority Special host (segment ∷ rest) each = IsUrlPath-walk Specia
 IsUrlPath-authority File host (segment ∷ rest) each = IsUrlPath-walk File (Some host) [] segment rest tt each
 IsUrlPath-authority Other host (segment ∷ rest) each = IsUrlPath-walk Other (Some host) [] segment rest tt each
 
--- the segments of a path-absolute string, where there is one
-pub AreSegments-maybe : (segments : List (List ℕ)) (text : List ℕ) → MayBePathAbsolute segments text
+-- the segments of a path behind an authority, where there is one
+pub AreSegments-maybe : (segments : List (List ℕ)) (text : List ℕ) → MayBePathSlashed segments text
     → AreSegments segments
 AreSegments-maybe segments text (inl none) = rw none.1 tt
-AreSegments-maybe segments text (inr path) = path.relative.joins.each
+AreSegments-maybe segments text (inr path) = path.joins.each
 
 -- ---- hosts
 
 -- the host of a text of class Special
-IsUrlHost-special : (text : List ℕ) (value : Host) → IsHostText text value → IsUrlHost Special (Some value)
-IsUrlHost-special text (Domain form) is = IsUrlDomain-form text form is
-IsUrlHost-special text (V4 value) is = tt
-IsUrlHost-special text (V6 pieces) is = tt
-IsUrlHost-special text (Opaque host) is = is
-IsUrlHost-special text Empty is = is
+IsUrlHost-special : (profile : Profile) (text : List ℕ) (value : Host) → IsHostText profile text value
+    → IsUrlHost profile Special (Some value)
+IsUrlHost-special profile text (Domain form) is = IsUrlDomain-form profile text form is
+IsUrlHost-special profile text (V4 value) is = tt
+IsUrlHost-special profile text (V6 pieces) is = tt
+IsUrlHost-special profile text (Opaque host) is = is
+IsUrlHost-special profile text Empty is = is
 
 -- it takes a port
-takes_port-special : (text : List ℕ) (value : Host) → IsHostText text value → takes_port Special (Some value) ≡ true
-takes_port-special text (Domain form) is = refl
-takes_port-special text (V4 value) is = refl
-takes_port-special text (V6 pieces) is = refl
-takes_port-special text (Opaque host) is = absurd is
-takes_port-special text Empty is = absurd is
+takes_port-special : (profile : Profile) (text : List ℕ) (value : Host) → IsHostText profile text value
+    → takes_port Special (Some value) ≡ true
+takes_port-special profile text (Domain form) is = refl
+takes_port-special profile text (V4 value) is = refl
+takes_port-special profile text (V6 pieces) is = refl
+takes_port-special profile text (Opaque host) is = absurd is
+takes_port-special profile text Empty is = absurd is
 
 -- the host of a file text
-IsUrlHost-file : (text : List ℕ) (value : Host) → IsFileHostText text value → IsUrlHost File (Some value)
-IsUrlHost-file text (Domain form) is = (IsUrlDomain-form text form is.0, is.1)
-IsUrlHost-file text (V4 value) is = tt
-IsUrlHost-file text (V6 pieces) is = tt
-IsUrlHost-file text (Opaque host) is = is
-IsUrlHost-file text Empty is = tt
+IsUrlHost-file : (profile : Profile) (text : List ℕ) (value : Host) → IsFileHostText profile text value
+    → IsUrlHost profile File (Some value)
+IsUrlHost-file profile text (Domain form) is = (IsUrlDomain-form profile text form is.0, is.1)
+IsUrlHost-file profile text (V4 value) is = tt
+IsUrlHost-file profile text (V6 pieces) is = tt
+IsUrlHost-file profile text (Opaque host) is = is
+IsUrlHost-file profile text Empty is = tt
 
 -- ---- authorities
 
 -- what an authority gives a record
-pub record IsAuthority (kind : Class) (scheme : List ℕ) (parts : Parts) : Type 0 where
+pub record IsAuthority (profile : Profile) (kind : Class) (scheme : List ℕ) (parts : Parts) : Type 0 where
   pub value : Host
   pub valued : authority_host parts ≡ Some value
-  pub host : IsUrlHost kind (Some value)
+  pub host : IsUrlHost profile kind (Some value)
   pub port : IsUrlPort scheme (Some value) parts.port
   pub each : AreSegments parts.segments
 
@@ -126,38 +132,43 @@ authority_host-opaque : (parts : Parts) (text : List ℕ) → parts.host ≡ Non
 authority_host-opaque parts text e spelled = rw (e, spelled) refl
 
 -- class Special
-IsAuthority-special : (scheme text : List ℕ) (parts : Parts) → scheme_class scheme ≡ Special
-    → FitsAuthority Special scheme text parts → IsAuthority Special scheme parts
-IsAuthority-special scheme text parts kind fits =
+IsAuthority-special : (setting : Setting) (scheme text : List ℕ) (parts : Parts) → scheme_class scheme ≡ Special
+    → setting.default_port ≡ default_port scheme → FitsAuthority Special setting text parts
+    → IsAuthority setting.profile Special scheme parts
+IsAuthority-special setting scheme text parts kind default fits =
     let takes : takes_port (scheme_class scheme) (Some fits.value) ≡ true
-    = rw kind (takes_port-special text fits.value fits.host)
+    = rw kind (takes_port-special setting.profile text fits.value fits.host)
     in
     record {
       value = fits.value;
       valued = authority_host-valued parts fits.value fits.valued;
-      host = IsUrlHost-special text fits.value fits.host;
-      port = rw fits.port (IsUrlPort-given scheme (Some fits.value) parts.port_text takes);
-      each = AreSegments-maybe parts.segments parts.path_text fits.path;
+      host = IsUrlHost-special setting.profile text fits.value fits.host;
+      port = rw (fits.port, default) (IsUrlPort-given scheme (Some fits.value) parts.port_text takes);
+      each =
+          AreSegments-maybe parts.segments parts.path_text
+          (slashed_or_none setting.profile parts.segments parts.path_text fits.path);
     }
 
 -- class File
-IsAuthority-file : (scheme text : List ℕ) (parts : Parts) → FitsAuthority File scheme text parts
-    → IsAuthority File scheme parts
-IsAuthority-file scheme text parts (port_text, port, fits) =
+IsAuthority-file : (setting : Setting) (scheme text : List ℕ) (parts : Parts)
+    → FitsAuthority File setting text parts → IsAuthority setting.profile File scheme parts
+IsAuthority-file setting scheme text parts (port_text, port, fits) =
     elim fits [
       | inl named ↦ record {
         value = named.0;
         valued = authority_host-valued parts named.0 named.2;
-        host = IsUrlHost-file text named.0 named.1;
+        host = IsUrlHost-file setting.profile text named.0 named.1;
         port = rw port tt;
-        each = AreSegments-maybe parts.segments parts.path_text named.3;
+        each =
+            AreSegments-maybe parts.segments parts.path_text
+            (slashed_or_none setting.profile parts.segments parts.path_text named.3);
       }
       | inr empty ↦ record {
         value = Empty;
         valued = authority_host-valued parts Empty empty.1;
         host = tt;
         port = rw port tt;
-        each = empty.2.relative.joins.each;
+        each = (slashed_behind setting.profile parts.segments parts.path_text empty.2).joins.each;
       }
     ]
 
@@ -165,7 +176,7 @@ IsAuthority-file scheme text parts (port_text, port, fits) =
 record IsOtherValue (parts : Parts) : Type 0 where
   value : Host
   valued : authority_host parts ≡ Some value
-  host : IsUrlHost Other (Some value)
+  host : IsOtherHost (Some value)
   takes : takes_port Other (Some value) ≡ true
 
 IsOtherValue-text : (text : List ℕ) (parts : Parts) (host : Option Host) → parts.host ≡ host
@@ -186,10 +197,15 @@ IsOtherValue-text text parts None e spelled is =
     }
 
 -- class Other
-IsAuthority-other : (scheme text : List ℕ) (parts : Parts) → scheme_class scheme ≡ Other → parts.host_text ≡ Some text
-    → FitsAuthority Other scheme text parts → IsAuthority Other scheme parts
-IsAuthority-other scheme text parts kind spelled (host, port, path) =
-    let each = AreSegments-maybe parts.segments parts.path_text path in
+IsAuthority-other : (setting : Setting) (scheme text : List ℕ) (parts : Parts) → scheme_class scheme ≡ Other
+    → setting.default_port ≡ default_port scheme → parts.host_text ≡ Some text
+    → FitsAuthority Other setting text parts → IsAuthority setting.profile Other scheme parts
+IsAuthority-other setting scheme text parts kind default spelled (host, given, path) =
+    let each =
+    AreSegments-maybe parts.segments parts.path_text
+    (slashed_or_none setting.profile parts.segments parts.path_text path) in
+    let port : parts.port ≡ port_given (default_port scheme) parts.port_text
+    = given ∙ ap (λ (d : Option ℕ). port_given d parts.port_text) default in
     elim host [
       | inl named ↦ let other = IsOtherValue-text text parts parts.host refl spelled named.0 in
           let takes : takes_port (scheme_class scheme) (Some other.value) ≡ true = rw kind other.takes in
@@ -211,8 +227,12 @@ IsAuthority-other scheme text parts kind spelled (host, port, path) =
     ]
 
 -- what stands behind `//` makes a well-formed record
-pub IsAuthority-fits : (kind : Class) (scheme text : List ℕ) (parts : Parts) → scheme_class scheme ≡ kind
-    → parts.host_text ≡ Some text → FitsAuthority kind scheme text parts → IsAuthority kind scheme parts
-IsAuthority-fits Special scheme text parts same spelled fits = IsAuthority-special scheme text parts same fits
-IsAuthority-fits File scheme text parts same spelled fits = IsAuthority-file scheme text parts fits
-IsAuthority-fits Other scheme text parts same spelled fits = IsAuthority-other scheme text parts same spelled fits
+pub IsAuthority-fits : (kind : Class) (setting : Setting) (scheme text : List ℕ) (parts : Parts)
+    → scheme_class scheme ≡ kind → setting.default_port ≡ default_port scheme → parts.host_text ≡ Some text
+    → FitsAuthority kind setting text parts → IsAuthority setting.profile kind scheme parts
+IsAuthority-fits Special setting scheme text parts same default spelled fits =
+    IsAuthority-special setting scheme text parts same default fits
+IsAuthority-fits File setting scheme text parts same default spelled fits =
+    IsAuthority-file setting scheme text parts fits
+IsAuthority-fits Other setting scheme text parts same default spelled fits =
+    IsAuthority-other setting scheme text parts same default spelled fits

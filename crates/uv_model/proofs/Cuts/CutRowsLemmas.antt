@@ -2,11 +2,14 @@
 use Rattle.std.proofs.Common.{ℕ, List, [], Option, None, codes, refl, inl, inr, arith, lit<, subst}
 use Rattle.std.specs.Prelude.{IsSome}
 use Rattle.std.proofs.lemmas.Bool.{false≢true}
+use Rattle.uv_model.specs.declared.profile.Profile.{Profile}
+use Rattle.uv_model.specs.declared.profile.Profile.TheVariants.{Standard}
 use Rattle.uv_model.specs.declared.rule.Rule.TheVariants.{NoScheme, OpaqueBase, TwoSlashes, HostMissing, HostCodePoint, PortDigit, PortRange, FirstSegmentEmpty, DriveAfterHost, CodePoint, Percent}
 use Rattle.uv_model.specs.Complaints.Complaint.{Complaint, IsStarted}
 use Rattle.uv_model.specs.Cut.{Cut, cut_of}
 use Rattle.uv_model.specs.Laws.CutRows.{file_base, CutRows, ComplaintRows, CutAndComplaintRows}
 use Rattle.uv_model.specs.Scheme.{scheme_class, default_port}
+use Rattle.uv_model.specs.Setting.{Setting, setting_of}
 use Rattle.uv_model.specs.Units.{is_url_code_point}
 use Rattle.uv_model.specs.Records.Url.{Url}
 
@@ -25,53 +28,59 @@ cut_rows = record {
 }
 
 -- a text with a scheme and an authority violates no rule of the start
-started : (base : Option Url) (text : List ℕ) (cut : Cut) → IsSome cut.scheme → IsSome cut.host_text
-    → IsStarted base text cut
-started base text cut scheme host place NoScheme h =
+started : (setting : Setting) (text : List ℕ) (cut : Cut) → IsSome cut.scheme → IsSome cut.host_text
+    → IsStarted setting text cut
+started setting text cut scheme host place NoScheme h =
     false≢true (subst (λ (o : Option (List ℕ)). IsSome o) h.0 scheme)
-started base text cut scheme host place OpaqueBase h =
+started setting text cut scheme host place OpaqueBase h =
     false≢true (subst (λ (o : Option (List ℕ)). IsSome o) h.0 scheme)
-started base text cut scheme host place TwoSlashes h =
+started setting text cut scheme host place TwoSlashes h =
     false≢true (subst (λ (o : Option (List ℕ)). IsSome o) h.0.2 host)
-started base text cut scheme host place _ h = h
+started setting text cut scheme host place _ h = h
+
+-- nor does the text with its computed cut
+pub started_row : (profile : Profile) (base : Option Url) (text : List ℕ) → IsSome (cut_of base text).scheme
+    → IsSome (cut_of base text).host_text
+    → IsStarted (setting_of profile base (cut_of base text).scheme) text (cut_of base text)
+started_row profile base text = started (setting_of profile base (cut_of base text).scheme) text (cut_of base text)
 
 -- a path-absolute reference to the base `file://h/a` violates none either
-file_started : IsStarted file_base (codes "/C:/x") (cut_of file_base (codes "/C:/x"))
+file_started : IsStarted (setting_of Standard file_base (cut_of file_base (codes "/C:/x")).scheme) (codes "/C:/x") (cut_of file_base (codes "/C:/x"))
 unfolding cut_of scheme_class default_port
 file_started place NoScheme h = absurd cc
 file_started place OpaqueBase h = false≢true h.1
 file_started place TwoSlashes h = false≢true h.0.0
 file_started place _ h = h
 
-special_host_missing_row : Complaint None (codes "http://") 7 HostMissing
+special_host_missing_row : Complaint Standard None (codes "http://") 7 HostMissing
 unfolding Complaint cut_of scheme_class default_port
 special_host_missing_row =
     inr (inl (
-      started None (codes "http://") (cut_of None (codes "http://")) refl refl,
+      started_row Standard None (codes "http://") refl refl,
       inl (record { inner = 0; moved = refl; holds = (refl, refl) }),
     ))
 
-file_host_missing_row : Complaint None (codes "file://") 7 HostMissing
+file_host_missing_row : Complaint Standard None (codes "file://") 7 HostMissing
 unfolding Complaint cut_of scheme_class default_port
 file_host_missing_row =
     inr (inl (
-      started None (codes "file://") (cut_of None (codes "file://")) refl refl,
+      started_row Standard None (codes "file://") refl refl,
       inl (record { inner = 0; moved = refl; holds = ((refl, refl), refl) }),
     ))
 
-other_host_missing_row : Complaint None (codes "foo://:80") 6 HostMissing
+other_host_missing_row : Complaint Standard None (codes "foo://:80") 6 HostMissing
 unfolding Complaint cut_of scheme_class default_port
 other_host_missing_row =
     inr (inl (
-      started None (codes "foo://:80") (cut_of None (codes "foo://:80")) refl refl,
+      started_row Standard None (codes "foo://:80") refl refl,
       inl (record { inner = 0; moved = refl; holds = ((refl, refl), refl) }),
     ))
 
-host_code_point_row : Complaint None (codes "foo://u@h/") 7 HostCodePoint
+host_code_point_row : Complaint Standard None (codes "foo://u@h/") 7 HostCodePoint
 unfolding Complaint cut_of scheme_class default_port
 host_code_point_row =
     inr (inl (
-      started None (codes "foo://u@h/") (cut_of None (codes "foo://u@h/")) refl refl,
+      started_row Standard None (codes "foo://u@h/") refl refl,
       inl (record {
         inner = 1;
         moved = refl;
@@ -80,11 +89,11 @@ host_code_point_row =
       }),
     ))
 
-host_bracket_row : Complaint None (codes "foo://a[:b/") 7 HostCodePoint
+host_bracket_row : Complaint Standard None (codes "foo://a[:b/") 7 HostCodePoint
 unfolding Complaint cut_of scheme_class default_port
 host_bracket_row =
     inr (inl (
-      started None (codes "foo://a[:b/") (cut_of None (codes "foo://a[:b/")) refl refl,
+      started_row Standard None (codes "foo://a[:b/") refl refl,
       inl (record {
         inner = 1;
         moved = refl;
@@ -93,11 +102,11 @@ host_bracket_row =
       }),
     ))
 
-host_colon_row : Complaint None (codes "foo://a[:b/") 8 HostCodePoint
+host_colon_row : Complaint Standard None (codes "foo://a[:b/") 8 HostCodePoint
 unfolding Complaint cut_of scheme_class default_port
 host_colon_row =
     inr (inl (
-      started None (codes "foo://a[:b/") (cut_of None (codes "foo://a[:b/")) refl refl,
+      started_row Standard None (codes "foo://a[:b/") refl refl,
       inl (record {
         inner = 2;
         moved = refl;
@@ -106,11 +115,11 @@ host_colon_row =
       }),
     ))
 
-port_digit_row : Complaint None (codes "http://h:8a/") 10 PortDigit
+port_digit_row : Complaint Standard None (codes "http://h:8a/") 10 PortDigit
 unfolding Complaint cut_of scheme_class default_port
 port_digit_row =
     inr (inl (
-      started None (codes "http://h:8a/") (cut_of None (codes "http://h:8a/")) refl refl,
+      started_row Standard None (codes "http://h:8a/") refl refl,
       inr (inl
           (record {
             inner = 1;
@@ -119,11 +128,11 @@ port_digit_row =
           })),
     ))
 
-port_password_row : Complaint None (codes "http://user:pw@h/") 12 PortDigit
+port_password_row : Complaint Standard None (codes "http://user:pw@h/") 12 PortDigit
 unfolding Complaint cut_of scheme_class default_port
 port_password_row =
     inr (inl (
-      started None (codes "http://user:pw@h/") (cut_of None (codes "http://user:pw@h/")) refl refl,
+      started_row Standard None (codes "http://user:pw@h/") refl refl,
       inr (inl
           (record {
             inner = 0;
@@ -132,47 +141,47 @@ port_password_row =
           })),
     ))
 
-port_range_row : Complaint None (codes "http://h:65536/") 9 PortRange
+port_range_row : Complaint Standard None (codes "http://h:65536/") 9 PortRange
 unfolding Complaint cut_of scheme_class default_port
 port_range_row =
     inr (inl (
-      started None (codes "http://h:65536/") (cut_of None (codes "http://h:65536/")) refl refl,
+      started_row Standard None (codes "http://h:65536/") refl refl,
       inr (inl (record { inner = 0; moved = refl; holds = (record { digits = refl; large = lit< tt }, refl) })),
     ))
 
-first_segment_row : Complaint None (codes "https://example.com//a") 20 FirstSegmentEmpty
+first_segment_row : Complaint Standard None (codes "https://example.com//a") 20 FirstSegmentEmpty
 unfolding Complaint cut_of scheme_class default_port
 first_segment_row =
     inr (inl (
-      started None (codes "https://example.com//a") (cut_of None (codes "https://example.com//a")) refl refl,
+      started_row Standard None (codes "https://example.com//a") refl refl,
       inr (inr (record { inner = 1; moved = refl; holds = (refl, refl) })),
     ))
 
-file_first_segment_row : Complaint None (codes "file:////a") 8 FirstSegmentEmpty
+file_first_segment_row : Complaint Standard None (codes "file:////a") 8 FirstSegmentEmpty
 unfolding Complaint cut_of scheme_class default_port
 file_first_segment_row =
     inr (inl (
-      started None (codes "file:////a") (cut_of None (codes "file:////a")) refl refl,
+      started_row Standard None (codes "file:////a") refl refl,
       inr (inr (record { inner = 1; moved = refl; holds = (refl, refl) })),
     ))
 
-drive_row : Complaint None (codes "file://h/C:/x") 8 DriveAfterHost
+drive_row : Complaint Standard None (codes "file://h/C:/x") 8 DriveAfterHost
 unfolding Complaint cut_of scheme_class default_port
 drive_row =
     inr (inl (
-      started None (codes "file://h/C:/x") (cut_of None (codes "file://h/C:/x")) refl refl,
+      started_row Standard None (codes "file://h/C:/x") refl refl,
       inr (inr (record { inner = 0; moved = refl; holds = (refl, (λ same. cc), refl, refl) })),
     ))
 
-localhost_drive_row : Complaint None (codes "file://localhost/C:/x") 16 DriveAfterHost
+localhost_drive_row : Complaint Standard None (codes "file://localhost/C:/x") 16 DriveAfterHost
 unfolding Complaint cut_of scheme_class default_port
 localhost_drive_row =
     inr (inl (
-      started None (codes "file://localhost/C:/x") (cut_of None (codes "file://localhost/C:/x")) refl refl,
+      started_row Standard None (codes "file://localhost/C:/x") refl refl,
       inr (inr (record { inner = 0; moved = refl; holds = (refl, (λ same. cc), refl, refl) })),
     ))
 
-base_drive_row : Complaint file_base (codes "/C:/x") 0 DriveAfterHost
+base_drive_row : Complaint Standard file_base (codes "/C:/x") 0 DriveAfterHost
 unfolding Complaint cut_of scheme_class default_port
 base_drive_row =
     inr (inl (
@@ -180,7 +189,7 @@ base_drive_row =
       inr (inr (record { inner = 0; moved = refl; holds = (refl, (λ same. cc), refl, refl) })),
     ))
 
-no_scheme_path_row : Complaint None (codes "//h^/a b") 6 CodePoint
+no_scheme_path_row : Complaint Standard None (codes "//h^/a b") 6 CodePoint
 unfolding Complaint cut_of scheme_class default_port is_url_code_point
 no_scheme_path_row =
     inr (inr (inl (record {
@@ -197,7 +206,7 @@ no_scheme_path_row =
           };
     })))
 
-path_percent_row : Complaint None (codes "http://h/%4?a") 9 Percent
+path_percent_row : Complaint Standard None (codes "http://h/%4?a") 9 Percent
 unfolding Complaint cut_of scheme_class default_port
 path_percent_row =
     inr (inr (inl (record {
@@ -206,7 +215,7 @@ path_percent_row =
       holds = record { rest = codes "4"; here = refl; bare = refl };
     })))
 
-path_space_row : Complaint None (codes "http://h/a b") 10 CodePoint
+path_space_row : Complaint Standard None (codes "http://h/a b") 10 CodePoint
 unfolding Complaint cut_of scheme_class default_port is_url_code_point
 path_space_row =
     inr (inr (inl (record {
@@ -223,7 +232,7 @@ path_space_row =
           };
     })))
 
-fragment_sign_row : Complaint None (codes "http://h/#a#b") 11 CodePoint
+fragment_sign_row : Complaint Standard None (codes "http://h/#a#b") 11 CodePoint
 unfolding Complaint cut_of scheme_class default_port is_url_code_point
 fragment_sign_row =
     inr (inr (inr (inr (record {

@@ -9,6 +9,8 @@ use Rattle.std.proofs.lemmas.Fmt.{decimal_is_IsNumeral}
 use Rattle.std.proofs.lemmas.List.Folds.{list_all-append}
 use Rattle.uv_model.specs.Ascii.{slash, colon, full_stop, question_mark, number_sign, percent_sign, left_bracket, right_bracket}
 use Rattle.uv_model.specs.Hosts.Address.{IsFourNumbers, IsIpv4, IsGroupList, IsSide, IsIpv6, IsBracketedIpv6}
+use Rattle.uv_model.specs.declared.profile.Profile.{Profile}
+use Rattle.uv_model.specs.declared.profile.Profile.TheVariants.{Standard, Wide}
 use Rattle.uv_model.specs.Hosts.Domain.{IsForm, has_permitted, is_permitted}
 use Rattle.uv_model.specs.Hosts.OpaqueHost.{IsOpaqueHost, is_forbidden_host}
 use Rattle.uv_model.specs.Path.{is_without}
@@ -109,9 +111,11 @@ word_passes test s q n c b text each =
     }
 
 -- a text with a form
-pub word_of_form : (text form : List ℕ) → IsForm text form → IsHostWord text
+pub word_of_form : (profile : Profile) (text form : List ℕ) → IsForm profile text form → IsHostWord text
 unfolding has_permitted
-word_of_form text form is = word_passes is_permitted refl refl refl refl refl text is.permitted
+word_of_form Standard text form is =
+    word_passes (is_permitted Standard) refl refl refl refl refl text is.permitted
+word_of_form Wide text form is = word_passes (is_permitted Wide) refl refl refl refl refl text is.permitted
 
 -- an opaque host without brackets
 pub word_of_opaque : (text : List ℕ) → IsOpaqueHost text → IsHostWord text
@@ -119,7 +123,7 @@ word_of_opaque text is = word_passes (λ c. not (is_forbidden_host c)) refl refl
 
 -- the empty text
 pub word_of_nothing : IsHostWord []
-word_of_nothing = word_passes is_permitted refl refl refl refl refl [] refl
+word_of_nothing = word_passes (is_permitted Standard) refl refl refl refl refl [] refl
 
 -- ---- addresses
 

@@ -4,8 +4,9 @@ use Rattle.std.specs.Prelude.{IsSome}
 use Rattle.std.specs.List.{list_all}
 use Rattle.std.specs.Char.{is_ascii_alphabetic}
 use Rattle.std.proofs.lemmas.Bool.{false≢true, and_parts, and_from}
+use Rattle.uv_model.specs.declared.profile.Profile.{Profile}
 use Rattle.uv_model.specs.declared.scheme.Class.{Class}
-use Rattle.uv_model.specs.declared.scheme.Class.TheVariants.{Other}
+use Rattle.uv_model.specs.declared.scheme.Class.TheVariants.{Special, File, Other}
 use Rattle.uv_model.specs.declared.rule.Rule.{Rule}
 use Rattle.uv_model.specs.declared.rule.Rule.TheVariants.{NoScheme, OpaqueBase, TwoSlashes, FirstSegmentEmpty, DriveAfterHost}
 use Rattle.uv_model.specs.Ascii.{colon, question_mark, number_sign}
@@ -13,7 +14,8 @@ use Rattle.uv_model.specs.Scheme.{is_scheme, is_scheme_code_point, scheme_class}
 use Rattle.uv_model.specs.Path.{is_without}
 use Rattle.uv_model.specs.Records.Url.{Url}
 use Rattle.uv_model.specs.Parts.{Form, SchemeAuthority, SchemePath, SchemeOpaque, Authority, PathAbsolute, PathRelative, NoPath, Parts, has_scheme}
-use Rattle.uv_model.specs.Valid.{Valid, FitsAuthority, FitsHostText, FitsForm, FitsScheme, FitsBase, scheme_in, scheme_or, starts_with_scheme}
+use Rattle.uv_model.specs.Setting.{Setting, scheme_or, setting_of}
+use Rattle.uv_model.specs.Valid.{Valid, FitsAuthority, FitsHostText, FitsForm, FitsScheme, FitsBase, scheme_in, starts_with_scheme}
 use Rattle.uv_model.specs.Cut.{Cut, cut_of, class_in, scheme_cut, behind_scheme, text_before, text_behind, host_text_cut, port_text_cut, path_text_cut}
 use Rattle.uv_model.specs.Laws.Cuts.{TextsWithASchemeIgnoreTheBase}
 use Rattle.uv_model.specs.Complaints.Complaint.{StartComplaint, PathStartComplaint, HostPartComplaint, JudgedComplaint, HasHost, ComplaintOf, Complaint}
@@ -109,12 +111,27 @@ fits_any_base : (base : Option Url) (parts : Parts) → IsSome parts.scheme → 
 fits_any_base None parts some = some
 fits_any_base (Some url) parts some = inl some
 
-same_host_text : (base other : Option Url) (parts : Parts) (host_text : Option (List ℕ)) → IsSome parts.scheme
-    → FitsHostText base parts host_text → FitsHostText other parts host_text
-same_host_text base other parts None some is = is
-same_host_text base other parts (Some text) some is =
-    subst (λ (scheme : List ℕ). FitsAuthority (scheme_class scheme) scheme text parts)
-    (same_scheme base other parts.scheme some) is
+-- what follows `//` doesn't depend on it
+same_authority : (class : Class) (setting : Setting) (other : Option Url) (text : List ℕ) (parts : Parts)
+    → FitsAuthority class setting text parts → FitsAuthority class (record setting { base = other }) text parts
+same_authority Special setting other text parts is = record {
+  value = is.value;
+  host = is.host;
+  valued = is.valued;
+  port_text = is.port_text;
+  port = is.port;
+  path = is.path;
+}
+same_authority File setting other text parts is = is
+same_authority Other setting other text parts is = is
+
+same_host_text : (profile : Profile) (base other : Option Url) (parts : Parts) (scheme host_text : Option (List ℕ))
+    → IsSome scheme → FitsHostText (setting_of profile base scheme) parts host_text
+    → FitsHostText (setting_of profile other scheme) parts host_text
+same_host_text profile base other parts scheme None some is = is
+same_host_text profile base other parts None (Some text) some is = absurd (false≢true some)
+same_host_text profile base other parts (Some scheme) (Some text) some is =
+    same_authority (scheme_class scheme) (setting_of profile base (Some scheme)) other text parts is
 
 same_other : (base other : Option Url) (parts : Parts) → IsSome parts.scheme
     → scheme_class (scheme_in base parts) ≡ Other
@@ -125,51 +142,54 @@ same_other base other parts some is = ap scheme_class (sym (same_scheme base oth
 no_scheme : (scheme : Option (List ℕ)) → IsSome scheme → scheme ≡ None → ⊥
 no_scheme scheme some none = false≢true (subst (λ (o : Option (List ℕ)). IsSome o) none some)
 
-same_form : (base other : Option Url) (form : Form) (parts : Parts) → IsSome parts.scheme
-    → FitsScheme (has_scheme form) parts.scheme → FitsForm base form parts → FitsForm other form parts
-same_form base other SchemeAuthority parts some scheme is = same_host_text base other parts parts.host_text some is
-same_form base other SchemePath parts some scheme (none, kind, path) =
+same_form : (profile : Profile) (base other : Option Url) (form : Form) (parts : Parts) → IsSome parts.scheme
+    → FitsScheme (has_scheme form) parts.scheme → FitsForm (setting_of profile base parts.scheme) form parts
+    → FitsForm (setting_of profile other parts.scheme) form parts
+same_form profile base other SchemeAuthority parts some scheme is =
+    same_host_text profile base other parts parts.scheme parts.host_text some is
+same_form profile base other SchemePath parts some scheme (none, kind, path) =
     (none, same_other base other parts some kind, path)
-same_form base other SchemeOpaque parts some scheme (none, kind, path, empty) =
+same_form profile base other SchemeOpaque parts some scheme (none, kind, path, empty) =
     (none, same_other base other parts some kind, path, empty)
-same_form base other Authority parts some scheme is = absurd (no_scheme parts.scheme some scheme)
-same_form base other PathAbsolute parts some scheme is = absurd (no_scheme parts.scheme some scheme)
-same_form base other PathRelative parts some scheme is = absurd (no_scheme parts.scheme some scheme)
-same_form base other NoPath parts some scheme is = absurd (no_scheme parts.scheme some scheme)
+same_form profile base other Authority parts some scheme is = absurd (no_scheme parts.scheme some scheme)
+same_form profile base other PathAbsolute parts some scheme is = absurd (no_scheme parts.scheme some scheme)
+same_form profile base other PathRelative parts some scheme is = absurd (no_scheme parts.scheme some scheme)
+same_form profile base other NoPath parts some scheme is = absurd (no_scheme parts.scheme some scheme)
 
-same_valid : (base other : Option Url) (text : List ℕ) (parts : Parts) → starts_with_scheme text ≡ true
-    → Valid base text parts → Valid other text parts
-same_valid base other text parts starts valid =
+same_valid : (profile : Profile) (base other : Option Url) (text : List ℕ) (parts : Parts)
+    → starts_with_scheme text ≡ true → Valid profile base text parts → Valid profile other text parts
+same_valid profile base other text parts starts valid =
     let same : (cut_of base text).scheme ≡ parts.scheme
-    = ap (λ (cut : Cut). cut.scheme) (sym (valid_texts base text parts valid)) in
+    = ap (λ (cut : Cut). cut.scheme) (sym (valid_texts profile base text parts valid)) in
     let some : IsSome parts.scheme
     = subst (λ (o : Option (List ℕ)). IsSome o) same (cut_with_scheme base text starts) in
     record {
       whole = valid.whole;
       scheme = valid.scheme;
       against = fits_any_base other parts some;
-      form = same_form base other parts.form parts some valid.scheme valid.form;
+      form = same_form profile base other parts.form parts some valid.scheme valid.form;
       query = valid.query;
       fragment = valid.fragment;
     }
 
 -- ---- complaints
 
-same_start : (base other : Option Url) (text : List ℕ) (cut : Cut) → IsSome cut.scheme → (place : ℕ) (rule : Rule)
-    → StartComplaint base text cut place rule → StartComplaint other text cut place rule
-same_start base other text cut some place NoScheme h = absurd (no_scheme cut.scheme some h.0)
-same_start base other text cut some place OpaqueBase h = absurd (no_scheme cut.scheme some h.0)
-same_start base other text cut some place TwoSlashes h = h
-same_start base other text cut some place _ h = absurd h
+same_start : (profile : Profile) (base other : Option Url) (text : List ℕ) (cut : Cut) → IsSome cut.scheme → (place : ℕ) (rule : Rule)
+    → StartComplaint (setting_of profile base cut.scheme) text cut place rule → StartComplaint (setting_of profile other cut.scheme) text cut place rule
+same_start profile base other text cut some place NoScheme h = absurd (no_scheme cut.scheme some h.0)
+same_start profile base other text cut some place OpaqueBase h = absurd (no_scheme cut.scheme some h.0)
+same_start profile base other text cut some place TwoSlashes ((has, kind, none), at) =
+    ((has, (λ is. kind (same_class base other cut.scheme some ∙ is)), none), at)
+same_start profile base other text cut some place _ h = absurd h
 
-same_host : (base other : Option Url) (cut : Cut) → IsSome cut.scheme → (place : ℕ) (rule : Rule)
-    → HostPartComplaint base cut place rule → HostPartComplaint other cut place rule
-same_host base other cut = go cut.scheme cut.host_text cut.port_text cut.path_text cut.query cut.fragment
+same_host : (profile : Profile) (base other : Option Url) (cut : Cut) → IsSome cut.scheme → (place : ℕ) (rule : Rule)
+    → HostPartComplaint (setting_of profile base cut.scheme) cut place rule → HostPartComplaint (setting_of profile other cut.scheme) cut place rule
+same_host profile base other cut = go cut.scheme cut.host_text cut.port_text cut.path_text cut.query cut.fragment
   where
     go : (scheme host_text port_text : Option (List ℕ)) (path_text : List ℕ) (query fragment : Option (List ℕ))
         → IsSome scheme → (place : ℕ) (rule : Rule)
-        → HostPartComplaint base (cut_with scheme host_text port_text path_text query fragment) place rule
-        → HostPartComplaint other (cut_with scheme host_text port_text path_text query fragment) place rule
+        → HostPartComplaint (setting_of profile base scheme) (cut_with scheme host_text port_text path_text query fragment) place rule
+        → HostPartComplaint (setting_of profile other scheme) (cut_with scheme host_text port_text path_text query fragment) place rule
     go None host_text port_text path_text query fragment some place rule h = absurd (false≢true some)
     go (Some scheme) None port_text path_text query fragment some place rule h = h
     go (Some scheme) (Some host_text) port_text path_text query fragment some place rule h = h
@@ -183,48 +203,48 @@ same_has_host (Some url) other None None some h = absurd (false≢true some)
 same_has_host None other (Some scheme) None some h = absurd h
 same_has_host (Some url) other (Some scheme) None some h = absurd h
 
-same_path_start : (base other : Option Url) (cut : Cut) → IsSome cut.scheme → (place : ℕ) (rule : Rule)
-    → PathStartComplaint base cut place rule → PathStartComplaint other cut place rule
-same_path_start base other cut some place FirstSegmentEmpty h = h
-same_path_start base other cut some place DriveAfterHost (kind, host, drive, at) =
+same_path_start : (profile : Profile) (base other : Option Url) (cut : Cut) → IsSome cut.scheme → (place : ℕ) (rule : Rule)
+    → PathStartComplaint (setting_of profile base cut.scheme) cut place rule → PathStartComplaint (setting_of profile other cut.scheme) cut place rule
+same_path_start profile base other cut some place FirstSegmentEmpty h = h
+same_path_start profile base other cut some place DriveAfterHost (kind, host, drive, at) =
     let same = same_class other base cut.scheme some in
     (same ∙ kind, same_has_host base other cut.scheme cut.host_text some host, drive, at)
-same_path_start base other cut some place _ h = absurd h
+same_path_start profile base other cut some place _ h = absurd h
 
-same_judged : (base other : Option Url) (cut : Cut) → IsSome cut.scheme → (place : ℕ) (rule : Rule)
-    → JudgedComplaint base cut place rule → JudgedComplaint other cut place rule
-same_judged base other cut some place rule (inl h) = inl (same_host base other cut some place rule h)
-same_judged base other cut some place rule (inr (inl h)) = inr (inl h)
-same_judged base other cut some place rule (inr (inr h)) =
+same_judged : (profile : Profile) (base other : Option Url) (cut : Cut) → IsSome cut.scheme → (place : ℕ) (rule : Rule)
+    → JudgedComplaint (setting_of profile base cut.scheme) cut place rule → JudgedComplaint (setting_of profile other cut.scheme) cut place rule
+same_judged profile base other cut some place rule (inl h) = inl (same_host profile base other cut some place rule h)
+same_judged profile base other cut some place rule (inr (inl h)) = inr (inl h)
+same_judged profile base other cut some place rule (inr (inr h)) =
     inr (inr (record {
       inner = h.inner;
       moved = h.moved;
-      holds = same_path_start base other cut some h.inner rule h.holds;
+      holds = same_path_start profile base other cut some h.inner rule h.holds;
     }))
 
-same_complaint_of : (base other : Option Url) (text : List ℕ) (cut : Cut) → IsSome cut.scheme
+same_complaint_of : (profile : Profile) (base other : Option Url) (text : List ℕ) (cut : Cut) → IsSome cut.scheme
     → (place : ℕ) (rule : Rule)
-    → ComplaintOf base text cut place rule → ComplaintOf other text cut place rule
-same_complaint_of base other text cut some place rule (inl h) = inl (same_start base other text cut some place rule h)
-same_complaint_of base other text cut some place rule (inr (inl (started, h))) =
+    → ComplaintOf (setting_of profile base cut.scheme) text cut place rule → ComplaintOf (setting_of profile other cut.scheme) text cut place rule
+same_complaint_of profile base other text cut some place rule (inl h) = inl (same_start profile base other text cut some place rule h)
+same_complaint_of profile base other text cut some place rule (inr (inl (started, h))) =
     inr (inl (
       (λ p r s. started p r
-          (same_start other base text cut some p r s)),
-      same_judged base other cut some place rule h,
+          (same_start profile other base text cut some p r s)),
+      same_judged profile base other cut some place rule h,
     ))
-same_complaint_of base other text cut some place rule (inr (inr h)) = inr (inr h)
+same_complaint_of profile base other text cut some place rule (inr (inr h)) = inr (inr h)
 
-same_complaint : (base other : Option Url) (text : List ℕ) → starts_with_scheme text ≡ true → (place : ℕ) (rule : Rule)
-    → Complaint base text place rule → Complaint other text place rule
+same_complaint : (profile : Profile) (base other : Option Url) (text : List ℕ) → starts_with_scheme text ≡ true → (place : ℕ) (rule : Rule)
+    → Complaint profile base text place rule → Complaint profile other text place rule
 unfolding Complaint
-same_complaint base other text starts place rule h =
-    subst (λ (cut : Cut). ComplaintOf other text cut place rule) (same_cut base other text starts)
-    (same_complaint_of base other text (cut_of base text) (cut_with_scheme base text starts) place rule h)
+same_complaint profile base other text starts place rule h =
+    subst (λ (cut : Cut). ComplaintOf (setting_of profile other cut.scheme) text cut place rule) (same_cut base other text starts)
+    (same_complaint_of profile base other text (cut_of base text) (cut_with_scheme base text starts) place rule h)
 
 -- a text with a scheme ignores the base
 pub ignores_the_base : TextsWithASchemeIgnoreTheBase
 ignores_the_base text starts = record {
   cut = λ base other. same_cut base other text starts;
-  valid = λ base other parts. same_valid base other text parts starts;
-  complaint = λ base other. same_complaint base other text starts;
+  valid = λ profile base other parts. same_valid profile base other text parts starts;
+  complaint = λ profile base other. same_complaint profile base other text starts;
 }

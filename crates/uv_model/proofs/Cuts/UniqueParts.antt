@@ -5,18 +5,22 @@ use Rattle.std.proofs.lemmas.Bool.{false≢true}
 use Rattle.std.specs.List.{slice_split, join_with_byte}
 use Rattle.std.proofs.lemmas.List.Elements.{All-nil, All-cons}
 use Rattle.std.proofs.lemmas.List.Splits.{slice_split_none, slice_split_at}
+use Rattle.uv_model.specs.declared.profile.Profile.{Profile}
+use Rattle.uv_model.specs.declared.profile.Profile.TheVariants.{Standard, Wide}
 use Rattle.uv_model.specs.declared.scheme.Class.{Class}
 use Rattle.uv_model.specs.declared.scheme.Class.TheVariants.{Special, File, Other}
 use Rattle.uv_model.specs.declared.host.Host.{Host}
 use Rattle.uv_model.specs.Ascii.{slash}
-use Rattle.uv_model.specs.Path.{IsPathAbsolute, IsPathRelative, JoinsTo, AreSegments, is_without, starts_with_slash}
+use Rattle.uv_model.specs.Path.{MayBePathSlashed, IsPathAbsolute, IsPathRelative, JoinsTo, AreSegments, is_without, starts_with_slash, IsPathSlashed}
 use Rattle.uv_model.specs.Records.Url.{Url}
 use Rattle.uv_model.specs.Parts.{Form, SchemeAuthority, SchemePath, SchemeOpaque, Authority, PathAbsolute, PathRelative, NoPath, Parts, has_scheme}
-use Rattle.uv_model.specs.Valid.{MayBePathAbsolute, FitsAuthority, FitsHostText, HasNoAuthority, FitsForm, FitsScheme, port_given, scheme_in}
-use Rattle.uv_model.specs.Cut.{Cut, texts_of, class_in}
+use Rattle.uv_model.specs.Setting.{Setting, setting_of}
+use Rattle.uv_model.specs.Valid.{FitsAuthority, FitsHostText, HasNoAuthority, FitsForm, FitsScheme, port_given}
+use Rattle.uv_model.specs.Cut.{Cut, texts_of}
 use Rattle.uv_model.specs.Laws.Cuts.{PartsAreUnique}
 use Rattle.uv_model.proofs.Hosts.HostUniqueness.{HasHost, one_host}
 use Rattle.uv_model.proofs.Texts.MarkLemmas.{is_without-cons}
+use Rattle.uv_model.proofs.Paths.SlashedPaths.{slashed_behind, slashed_or_none}
 use Rattle.uv_model.proofs.Cuts.ValidCutLemmas.{valid_texts}
 
 -- ---- segments
@@ -52,7 +56,7 @@ pub relative_segments : (segments : List (List ℕ)) (text : List ℕ) → IsPat
     → segments ≡ segments_in text
 relative_segments segments text is = joined_segments segments text is.joins
 
--- the segments of a path-absolute string, or of no code point
+-- the segments of a path that begins with `/`, or of no code point
 abbrev pub segments_behind : List ℕ → List (List ℕ)
 segments_behind [] = []
 segments_behind (c ∷ rest) = segments_in rest
@@ -62,11 +66,16 @@ pub absolute_segments : (segments : List (List ℕ)) (text : List ℕ) → IsPat
     → segments ≡ segments_behind text
 absolute_segments segments text is = rw is.slashed (relative_segments segments is.behind is.relative)
 
+-- the segments of `/` and any segments
+pub slashed_segments : (segments : List (List ℕ)) (text : List ℕ) → IsPathSlashed segments text
+    → segments ≡ segments_behind text
+slashed_segments segments text is = rw is.slashed (joined_segments segments is.behind is.joins)
+
 -- the segments of a path behind an authority
-may_be_segments : (segments : List (List ℕ)) (text : List ℕ) → MayBePathAbsolute segments text
+pub may_be_segments : (segments : List (List ℕ)) (text : List ℕ) → MayBePathSlashed segments text
     → segments ≡ segments_behind text
 may_be_segments segments text (inl (nothing, none)) = rw (nothing, none) refl
-may_be_segments segments text (inr is) = absolute_segments segments text is
+may_be_segments segments text (inr is) = slashed_segments segments text is
 
 -- the segments of a path by the form
 abbrev pub segments_of : Form → List ℕ → List (List ℕ)
@@ -94,10 +103,10 @@ authority_form true None (Some host_text) named some path_text = absurd named
 authority_form false scheme (Some host_text) named some path_text = rw named refl
 
 -- which has a host text
-host_is_some : (base : Option Url) (parts : Parts) (host_text : Option (List ℕ)) → FitsHostText base parts host_text
+host_is_some : (setting : Setting) (parts : Parts) (host_text : Option (List ℕ)) → FitsHostText setting parts host_text
     → IsSome host_text
-host_is_some base parts None is = absurd is
-host_is_some base parts (Some host_text) is = refl
+host_is_some setting parts None is = absurd is
+host_is_some setting parts (Some host_text) is = refl
 
 -- a form with a scheme and without an authority
 pub alone_form : (scheme host_text : Option (List ℕ)) (path_text : List ℕ) → FitsScheme true scheme → host_text ≡ None
@@ -112,109 +121,116 @@ relative_form [] some start = absurd (some refl)
 relative_form (c ∷ rest) some start = rw start refl
 
 -- the form of the parts follows from their texts
-form_found : (base : Option Url) (form : Form) (parts : Parts) → FitsScheme (has_scheme form) parts.scheme
-    → FitsForm base form parts → form ≡ form_of parts.scheme parts.host_text parts.path_text
-form_found base SchemeAuthority parts named is =
-    authority_form true parts.scheme parts.host_text named (host_is_some base parts parts.host_text is) parts.path_text
-form_found base Authority parts named is =
-    authority_form false parts.scheme parts.host_text named (host_is_some base parts parts.host_text is) parts.path_text
-form_found base SchemePath parts named (none, other, path) =
+form_found : (setting : Setting) (form : Form) (parts : Parts) → FitsScheme (has_scheme form) parts.scheme
+    → FitsForm setting form parts → form ≡ form_of parts.scheme parts.host_text parts.path_text
+form_found setting SchemeAuthority parts named is =
+    authority_form true parts.scheme parts.host_text named (host_is_some setting parts parts.host_text is) parts.path_text
+form_found setting Authority parts named is =
+    authority_form false parts.scheme parts.host_text named (host_is_some setting parts parts.host_text is) parts.path_text
+form_found setting SchemePath parts named (none, other, path) =
     let shown = alone_form parts.scheme parts.host_text parts.path_text named none.host_text in
     let start : starts_with_slash parts.path_text ≡ true = rw path.slashed refl in
     sym (shown ∙ rw start refl)
-form_found base SchemeOpaque parts named (none, other, (segments, path), empty) =
+form_found setting SchemeOpaque parts named (none, other, (segments, path), empty) =
     let shown = alone_form parts.scheme parts.host_text parts.path_text named none.host_text in
     sym (shown ∙ rw path.start refl)
-form_found base PathAbsolute parts named (none, path, drive) = rw (named, none.host_text, path.slashed) refl
-form_found base PathRelative parts named (none, path, some, free) =
+form_found setting PathAbsolute parts named (none, path, drive) = rw (named, none.host_text, path.slashed) refl
+form_found setting PathRelative parts named (none, path, some, free) =
     rw (named, none.host_text) (relative_form parts.path_text some path.start)
-form_found base NoPath parts named (none, nothing, empty) = rw (named, none.host_text, nothing) refl
+form_found setting NoPath parts named (none, nothing, empty) = rw (named, none.host_text, nothing) refl
 
 -- ---- what a form makes of the texts
 
 -- the host, the port and the segments are those of the texts
-record AreDenoted (kind : Class) (scheme : List ℕ) (form : Form) (host_text : Option (List ℕ)) (parts : Parts) : Type 0
+record AreDenoted (setting : Setting) (kind : Class) (form : Form) (host_text : Option (List ℕ)) (parts : Parts)
+    : Type 0
   where
-    host : HasHost kind host_text parts.host
-    port : parts.port ≡ port_given scheme parts.port_text
+    host : HasHost setting.profile kind host_text parts.host
+    port : parts.port ≡ port_given setting.default_port parts.port_text
     segments : parts.segments ≡ segments_of form parts.path_text
 
 -- no port where there is no port text
-pub no_port : (scheme : List ℕ) (port_text : Option (List ℕ)) (port : Option ℕ) → port_text ≡ None → port ≡ None
-    → port ≡ port_given scheme port_text
-no_port scheme port_text port absent none = rw (absent, none) refl
+pub no_port : (default : Option ℕ) (port_text : Option (List ℕ)) (port : Option ℕ) → port_text ≡ None → port ≡ None
+    → port ≡ port_given default port_text
+no_port default port_text port absent none = rw (absent, none) refl
 
 -- no host where there is no host text
-no_host : (kind : Class) (host_text : Option (List ℕ)) (host : Option Host) → host_text ≡ None → host ≡ None
-    → HasHost kind host_text host
-no_host kind host_text host absent none = rw absent none
+no_host : (profile : Profile) (kind : Class) (host_text : Option (List ℕ)) (host : Option Host) → host_text ≡ None → host ≡ None
+    → HasHost profile kind host_text host
+no_host profile kind host_text host absent none = rw absent none
 
 -- what follows `//` by the class
-denoted_by_class : (kind : Class) (scheme host_text : List ℕ) (parts : Parts)
-    → FitsAuthority kind scheme host_text parts → AreDenoted kind scheme Authority (Some host_text) parts
-denoted_by_class Special scheme host_text parts is = record {
+denoted_by_class : (kind : Class) (setting : Setting) (host_text : List ℕ) (parts : Parts)
+    → FitsAuthority kind setting host_text parts → AreDenoted setting kind Authority (Some host_text) parts
+denoted_by_class Special setting host_text parts is = record {
   host = (is.value, is.host, is.valued);
   port = is.port;
-  segments = may_be_segments parts.segments parts.path_text is.path;
+  segments = may_be_segments parts.segments parts.path_text
+      (slashed_or_none setting.profile parts.segments parts.path_text is.path);
 }
-denoted_by_class File scheme host_text parts (none, absent, inl (value, host, valued, path, drive)) = record {
+denoted_by_class File setting host_text parts (none, absent, inl (value, host, valued, path, drive)) = record {
   host = inl (value, host, valued);
-  port = no_port scheme parts.port_text parts.port none absent;
-  segments = may_be_segments parts.segments parts.path_text path;
+  port = no_port setting.default_port parts.port_text parts.port none absent;
+  segments = may_be_segments parts.segments parts.path_text
+      (slashed_or_none setting.profile parts.segments parts.path_text path);
 }
-denoted_by_class File scheme host_text parts (none, absent, inr (nothing, valued, path)) = record {
+denoted_by_class File setting host_text parts (none, absent, inr (nothing, valued, path)) = record {
   host = inr (nothing, valued);
-  port = no_port scheme parts.port_text parts.port none absent;
-  segments = absolute_segments parts.segments parts.path_text path;
+  port = no_port setting.default_port parts.port_text parts.port none absent;
+  segments =
+      slashed_segments parts.segments parts.path_text
+      (slashed_behind setting.profile parts.segments parts.path_text path);
 }
-denoted_by_class Other scheme host_text parts (inl (host, port), given, path) = record {
+denoted_by_class Other setting host_text parts (inl (host, port), given, path) = record {
   host = inl host;
   port = given;
-  segments = may_be_segments parts.segments parts.path_text path;
+  segments = may_be_segments parts.segments parts.path_text
+      (slashed_or_none setting.profile parts.segments parts.path_text path);
 }
-denoted_by_class Other scheme host_text parts (inr (nothing, valued, none), given, path) = record {
+denoted_by_class Other setting host_text parts (inr (nothing, valued, none), given, path) = record {
   host = inr (nothing, valued);
   port = given;
-  segments = may_be_segments parts.segments parts.path_text path;
+  segments = may_be_segments parts.segments parts.path_text
+      (slashed_or_none setting.profile parts.segments parts.path_text path);
 }
 
 -- with a host text
-denoted_with_host : (base : Option Url) (parts : Parts) (host_text : Option (List ℕ))
-    → FitsHostText base parts host_text
-    → AreDenoted (class_in base parts.scheme) (scheme_in base parts) Authority host_text parts
-denoted_with_host base parts None is = absurd is
-denoted_with_host base parts (Some host_text) is =
-    denoted_by_class (class_in base parts.scheme) (scheme_in base parts) host_text parts is
+denoted_with_host : (setting : Setting) (parts : Parts) (host_text : Option (List ℕ))
+    → FitsHostText setting parts host_text
+    → AreDenoted setting setting.class Authority host_text parts
+denoted_with_host setting parts None is = absurd is
+denoted_with_host setting parts (Some host_text) is =
+    denoted_by_class setting.class setting host_text parts is
 
 -- without an authority
-denoted_alone : (kind : Class) (scheme : List ℕ) (form : Form) (parts : Parts) → HasNoAuthority parts
-    → parts.segments ≡ segments_of form parts.path_text → AreDenoted kind scheme form parts.host_text parts
-denoted_alone kind scheme form parts none segments = record {
-  host = no_host kind parts.host_text parts.host none.host_text none.host;
-  port = no_port scheme parts.port_text parts.port none.port_text none.port;
+denoted_alone : (setting : Setting) (kind : Class) (form : Form) (parts : Parts) → HasNoAuthority parts
+    → parts.segments ≡ segments_of form parts.path_text → AreDenoted setting kind form parts.host_text parts
+denoted_alone setting kind form parts none segments = record {
+  host = no_host setting.profile kind parts.host_text parts.host none.host_text none.host;
+  port = no_port setting.default_port parts.port_text parts.port none.port_text none.port;
   segments = segments;
 }
 
 -- in each form
-denoted_by_form : (base : Option Url) (form : Form) (parts : Parts) → FitsForm base form parts
-    → AreDenoted (class_in base parts.scheme) (scheme_in base parts) form parts.host_text parts
-denoted_by_form base SchemeAuthority parts is =
-    let all = denoted_with_host base parts parts.host_text is in
+denoted_by_form : (setting : Setting) (form : Form) (parts : Parts) → FitsForm setting form parts
+    → AreDenoted setting setting.class form parts.host_text parts
+denoted_by_form setting SchemeAuthority parts is =
+    let all = denoted_with_host setting parts parts.host_text is in
     record { host = all.host; port = all.port; segments = all.segments }
-denoted_by_form base Authority parts is = denoted_with_host base parts parts.host_text is
-denoted_by_form base SchemePath parts (none, other, path) =
-    denoted_alone (class_in base parts.scheme) (scheme_in base parts) SchemePath parts none
+denoted_by_form setting Authority parts is = denoted_with_host setting parts parts.host_text is
+denoted_by_form setting SchemePath parts (none, other, path) =
+    denoted_alone setting setting.class SchemePath parts none
     (absolute_segments parts.segments parts.path_text path)
-denoted_by_form base SchemeOpaque parts (none, other, path, empty) =
-    denoted_alone (class_in base parts.scheme) (scheme_in base parts) SchemeOpaque parts none empty
-denoted_by_form base PathAbsolute parts (none, path, drive) =
-    denoted_alone (class_in base parts.scheme) (scheme_in base parts) PathAbsolute parts none
+denoted_by_form setting SchemeOpaque parts (none, other, path, empty) =
+    denoted_alone setting setting.class SchemeOpaque parts none empty
+denoted_by_form setting PathAbsolute parts (none, path, drive) =
+    denoted_alone setting setting.class PathAbsolute parts none
     (absolute_segments parts.segments parts.path_text path)
-denoted_by_form base PathRelative parts (none, path, some, free) =
-    denoted_alone (class_in base parts.scheme) (scheme_in base parts) PathRelative parts none
+denoted_by_form setting PathRelative parts (none, path, some, free) =
+    denoted_alone setting setting.class PathRelative parts none
     (relative_segments parts.segments parts.path_text path)
-denoted_by_form base NoPath parts (none, nothing, empty) =
-    denoted_alone (class_in base parts.scheme) (scheme_in base parts) NoPath parts none empty
+denoted_by_form setting NoPath parts (none, nothing, empty) =
+    denoted_alone setting setting.class NoPath parts none empty
 
 -- ---- uniqueness
 
@@ -236,19 +252,20 @@ same_parts p q texts form host port segments = λ i. record {
 
 -- the parts of a valid text are unique
 pub parts_are_unique : PartsAreUnique
-parts_are_unique base text p q is is' =
-    let texts : texts_of p ≡ texts_of q = valid_texts base text p is ∙ sym (valid_texts base text q is') in
+parts_are_unique profile base text p q is is' =
+    let setting = setting_of profile base q.scheme in
+    let texts : texts_of p ≡ texts_of q = valid_texts profile base text p is ∙ sym (valid_texts profile base text q is') in
     let scheme : p.scheme ≡ q.scheme = ap (λ (c : Cut). c.scheme) texts in
     let host_text : p.host_text ≡ q.host_text = ap (λ (c : Cut). c.host_text) texts in
     let port_text : p.port_text ≡ q.port_text = ap (λ (c : Cut). c.port_text) texts in
     let path_text : p.path_text ≡ q.path_text = ap (λ (c : Cut). c.path_text) texts in
-    let found = form_found base p.form p is.scheme is.form in
-    let found' = form_found base q.form q is'.scheme is'.form in
+    let found = form_found (setting_of profile base p.scheme) p.form p is.scheme is.form in
+    let found' = form_found setting q.form q is'.scheme is'.form in
     let form : p.form ≡ q.form = found ∙ rw (scheme, host_text, path_text) (sym found') in
-    let all = denoted_by_form base p.form p is.form in
-    let all' = denoted_by_form base q.form q is'.form in
-    let has : HasHost (class_in base q.scheme) q.host_text p.host = rw (scheme, host_text) at all.host in
-    let host = one_host (class_in base q.scheme) q.host_text p.host q.host has all'.host in
+    let all = denoted_by_form (setting_of profile base p.scheme) p.form p is.form in
+    let all' = denoted_by_form setting q.form q is'.form in
+    let has : HasHost profile setting.class q.host_text p.host = rw (scheme, host_text) at all.host in
+    let host = one_host profile setting.class q.host_text p.host q.host has all'.host in
     let port : p.port ≡ q.port = all.port ∙ rw (scheme, port_text) (sym all'.port) in
     let segments : p.segments ≡ q.segments = all.segments ∙ rw (form, path_text) (sym all'.segments) in
     same_parts p q texts form host port segments

@@ -3,40 +3,44 @@ use Rattle.std.proofs.Common.{◌≡◌, ◌≢◌, ℕ, Bool, true, false, ◌=
 use Rattle.std.specs.List.{list_all}
 use Rattle.std.specs.Char.{is_ascii_digit, is_ascii_alphabetic}
 use Rattle.std.proofs.lemmas.Bool.{false≢true, true≢false, and_from, and_parts}
+use Rattle.uv_model.specs.declared.profile.Profile.{Profile}
 use Rattle.uv_model.specs.declared.scheme.Class.{Class}
 use Rattle.uv_model.specs.declared.scheme.Class.TheVariants.{Special, File, Other}
 use Rattle.uv_model.specs.declared.host.Host.{Host}
 use Rattle.uv_model.specs.declared.host.Host.TheVariants.{Domain, V4, V6, Opaque, Empty}
 use Rattle.uv_model.specs.Ascii.{slash, colon, question_mark, number_sign}
-use Rattle.uv_model.specs.Path.{IsPathAbsolute, IsPathRelative, JoinsTo, is_without, starts_with_slash}
+use Rattle.uv_model.specs.Path.{MayBePathSlashed, IsPathAbsolute, IsPathRelative, IsPathSlashed, JoinsTo, is_without, starts_with_slash}
 use Rattle.uv_model.specs.Scheme.{is_scheme_code_point}
 use Rattle.uv_model.specs.Records.Url.{Url}
 use Rattle.uv_model.specs.Parts.{Form, SchemeAuthority, SchemePath, SchemeOpaque, Authority, PathAbsolute, PathRelative, NoPath, Parts, has_scheme, written, written_scheme, written_authority, written_behind}
-use Rattle.uv_model.specs.Valid.{Valid, IsHostText, IsFileHostText, IsOpaqueHostText, MayBePortText, MayBePathAbsolute, MayBeUnits, FitsAuthority, FitsHostText, HasNoAuthority, FitsForm, FitsScheme, scheme_in, starts_with_scheme}
-use Rattle.uv_model.specs.Cut.{IsSchemeCut, IsAuthorityCut, IsHostCut, texts_of, class_in, cut_of, starts_with_two_slashes, written_middle, written_start, written_cut}
+use Rattle.uv_model.specs.Setting.{Setting, setting_of}
+use Rattle.uv_model.specs.Valid.{Valid, IsHostText, IsFileHostText, IsOpaqueHostText, MayBePortText, MayBeUnits, FitsAuthority, FitsHostText, HasNoAuthority, FitsForm, FitsScheme, starts_with_scheme}
+use Rattle.uv_model.specs.Cut.{IsSchemeCut, IsAuthorityCut, IsHostCut, texts_of, cut_of, starts_with_two_slashes, written_middle, written_start, written_cut}
 use Rattle.uv_model.specs.Laws.Cuts.{ValidTextsAreCutIntoTheirParts}
 use Rattle.uv_model.proofs.Texts.MarkLemmas.{is_without-append, is_without-more}
 use Rattle.uv_model.proofs.Paths.PathLemmas.{IsUnits-join, no_question_mark-join}
 use Rattle.uv_model.proofs.Cuts.HostCutLemmas.{is_without-passes, units_without_number_sign, IsHostWord, word_of_form, word_of_opaque, word_of_nothing, word_of_ipv4, word_of_ipv6, digits_without}
 use Rattle.uv_model.proofs.Cuts.CutLemmas.{cut_is_computed}
+use Rattle.uv_model.proofs.Paths.SlashedPaths.{slashed_behind, slashed_or_none}
 
 -- ---- hosts
 
 -- a valid host ends where the cut ends it
-pub word_of_host : (text : List ℕ) (host : Host) → IsHostText text host → IsHostWord text
-word_of_host text (Domain form) is = word_of_form text form is.0
-word_of_host text (V4 value) is = word_of_ipv4 text value is
-word_of_host text (V6 pieces) is = word_of_ipv6 text pieces is
-word_of_host text (Opaque host) is = absurd is
-word_of_host text Empty is = absurd is
+pub word_of_host : (profile : Profile) (text : List ℕ) (host : Host) → IsHostText profile text host → IsHostWord text
+word_of_host profile text (Domain form) is = word_of_form profile text form is.0
+word_of_host profile text (V4 value) is = word_of_ipv4 text value is
+word_of_host profile text (V6 pieces) is = word_of_ipv6 text pieces is
+word_of_host profile text (Opaque host) is = absurd is
+word_of_host profile text Empty is = absurd is
 
 -- so does one of a file URL
-pub word_of_file_host : (text : List ℕ) (host : Host) → IsFileHostText text host → IsHostWord text
-word_of_file_host text (Domain form) is = word_of_form text form is.0.0
-word_of_file_host text (V4 value) is = word_of_ipv4 text value is
-word_of_file_host text (V6 pieces) is = word_of_ipv6 text pieces is
-word_of_file_host text (Opaque host) is = absurd is
-word_of_file_host text Empty is = word_of_form text (codes "localhost") is.0
+pub word_of_file_host : (profile : Profile) (text : List ℕ) (host : Host) → IsFileHostText profile text host
+    → IsHostWord text
+word_of_file_host profile text (Domain form) is = word_of_form profile text form is.0.0
+word_of_file_host profile text (V4 value) is = word_of_ipv4 text value is
+word_of_file_host profile text (V6 pieces) is = word_of_ipv6 text pieces is
+word_of_file_host profile text (Opaque host) is = absurd is
+word_of_file_host profile text Empty is = word_of_form profile text (codes "localhost") is.0
 
 -- and an opaque one
 pub word_of_opaque_host : (text : List ℕ) (host : Option Host) → IsOpaqueHostText text host → IsHostWord text
@@ -80,6 +84,11 @@ word_of_absolute : (segments : List (List ℕ)) (text : List ℕ) → IsPathAbso
 word_of_absolute segments text is =
     rw is.slashed (word_of_slashed is.behind (word_of_relative segments is.behind is.relative))
 
+-- `/` and any segments
+word_of_path_slashed : (segments : List (List ℕ)) (text : List ℕ) → IsPathSlashed segments text → IsPathWord text
+word_of_path_slashed segments text is =
+    rw is.slashed (word_of_slashed is.behind (word_of_segments segments is.behind is.joins))
+
 -- a path-absolute string doesn't begin with `//`
 pub absolute_without_two_slashes : (segments : List (List ℕ)) (text : List ℕ) → IsPathAbsolute segments text
     → starts_with_two_slashes text ≡ false
@@ -105,17 +114,17 @@ record MiddleFits (kind : Class) (host_text port_text : Option (List ℕ)) (path
   authority : IsAuthorityCut kind host_text port_text path_text
 
 -- the text of a path behind an authority
-record IsPathBehind (text : List ℕ) : Type 0 where
+record IsPathEnd (text : List ℕ) : Type 0 where
   word : IsPathWord text
   start : text ≢ [] → starts_with_slash text ≡ true
 
-path_behind : (segments : List (List ℕ)) (text : List ℕ) → MayBePathAbsolute segments text → IsPathBehind text
+path_behind : (segments : List (List ℕ)) (text : List ℕ) → MayBePathSlashed segments text → IsPathEnd text
 path_behind segments text (inl (nothing, none)) = record {
   word = rw nothing (record { no_question_mark = refl; no_number_sign = refl });
   start = λ some. absurd (some nothing);
 }
 path_behind segments text (inr is) = record {
-  word = word_of_absolute segments text is;
+  word = word_of_path_slashed segments text is;
   start = λ some. rw is.slashed refl;
 }
 
@@ -134,7 +143,7 @@ authority_without mark host_text port_text path_text differs host port path =
 -- with an authority
 authority_fits : (kind : Class) (host_text : List ℕ) (port_text : Option (List ℕ)) (path_text : List ℕ)
     → IsHostWord host_text
-    → MayBePortText port_text → IsHostCut kind host_text port_text → IsPathBehind path_text
+    → MayBePortText port_text → IsHostCut kind host_text port_text → IsPathEnd path_text
     → MiddleFits kind (Some host_text) port_text path_text
 authority_fits kind host_text port_text path_text host port ends path =
     record {
@@ -156,35 +165,41 @@ no_port : (port_text : Option (List ℕ)) → port_text ≡ None → MayBePortTe
 no_port port_text none = rw none tt
 
 -- what follows `//` by the class
-fits_by_class : (kind : Class) (scheme host_text : List ℕ) (parts : Parts) → FitsAuthority kind scheme host_text parts
+fits_by_class : (kind : Class) (setting : Setting) (host_text : List ℕ) (parts : Parts)
+    → FitsAuthority kind setting host_text parts
     → MiddleFits kind (Some host_text) parts.port_text parts.path_text
-fits_by_class Special scheme host_text parts is =
-    let word = word_of_host host_text is.value is.host in
+fits_by_class Special setting host_text parts is =
+    let word = word_of_host setting.profile host_text is.value is.host in
     authority_fits Special host_text parts.port_text parts.path_text word is.port_text (word.ends parts.port_text)
-    (path_behind parts.segments parts.path_text is.path)
-fits_by_class File scheme host_text parts (none, absent, inl (value, host, valued, path, drive)) =
-    authority_fits File host_text parts.port_text parts.path_text (word_of_file_host host_text value host)
-    (no_port parts.port_text none) none (path_behind parts.segments parts.path_text path)
-fits_by_class File scheme host_text parts (none, absent, inr (nothing, valued, path)) =
+    (path_behind parts.segments parts.path_text
+    (slashed_or_none setting.profile parts.segments parts.path_text is.path))
+fits_by_class File setting host_text parts (none, absent, inl (value, host, valued, path, drive)) =
+    authority_fits File host_text parts.port_text parts.path_text (word_of_file_host setting.profile host_text value host)
+    (no_port parts.port_text none) none (path_behind parts.segments parts.path_text
+    (slashed_or_none setting.profile parts.segments parts.path_text path))
+fits_by_class File setting host_text parts (none, absent, inr (nothing, valued, path)) =
     let word : IsHostWord host_text = rw nothing word_of_nothing in
     authority_fits File host_text parts.port_text parts.path_text word (no_port parts.port_text none) none
-    (path_behind parts.segments parts.path_text (inr path))
-fits_by_class Other scheme host_text parts (inl (host, port), given, path) =
+    (path_behind parts.segments parts.path_text
+    (inr (slashed_behind setting.profile parts.segments parts.path_text path)))
+fits_by_class Other setting host_text parts (inl (host, port), given, path) =
     let word = word_of_opaque_host host_text parts.host host in
     authority_fits Other host_text parts.port_text parts.path_text word port (word.ends parts.port_text)
-    (path_behind parts.segments parts.path_text path)
-fits_by_class Other scheme host_text parts (inr (nothing, valued, none), given, path) =
+    (path_behind parts.segments parts.path_text
+    (slashed_or_none setting.profile parts.segments parts.path_text path))
+fits_by_class Other setting host_text parts (inr (nothing, valued, none), given, path) =
     let word : IsHostWord host_text = rw nothing word_of_nothing in
     authority_fits Other host_text parts.port_text parts.path_text word (no_port parts.port_text none)
     (word.ends parts.port_text)
-    (path_behind parts.segments parts.path_text path)
+    (path_behind parts.segments parts.path_text
+    (slashed_or_none setting.profile parts.segments parts.path_text path))
 
 -- with an authority, whose host text is there
-fits_with_host : (base : Option Url) (parts : Parts) (host_text : Option (List ℕ)) → FitsHostText base parts host_text
-    → MiddleFits (class_in base parts.scheme) host_text parts.port_text parts.path_text
-fits_with_host base parts None is = absurd is
-fits_with_host base parts (Some host_text) is =
-    fits_by_class (class_in base parts.scheme) (scheme_in base parts) host_text parts is
+fits_with_host : (setting : Setting) (parts : Parts) (host_text : Option (List ℕ)) → FitsHostText setting parts host_text
+    → MiddleFits setting.class host_text parts.port_text parts.path_text
+fits_with_host setting parts None is = absurd is
+fits_with_host setting parts (Some host_text) is =
+    fits_by_class setting.class setting host_text parts is
 
 -- without an authority
 fits_without : (kind : Class) (host_text port_text : Option (List ℕ)) (path_text : List ℕ) → host_text ≡ None
@@ -208,45 +223,45 @@ empty_path_word : (text : List ℕ) → text ≡ [] → IsPathWord text
 empty_path_word text nothing = rw nothing (record { no_question_mark = refl; no_number_sign = refl })
 
 -- in each form
-fits_by_form : (base : Option Url) (form : Form) (parts : Parts) → FitsForm base form parts
-    → MiddleFits (class_in base parts.scheme) parts.host_text parts.port_text parts.path_text
-fits_by_form base SchemeAuthority parts is = fits_with_host base parts parts.host_text is
-fits_by_form base Authority parts is = fits_with_host base parts parts.host_text is
-fits_by_form base SchemePath parts (none, other, path) =
-    fits_alone (class_in base parts.scheme) parts none (word_of_absolute parts.segments parts.path_text path)
+fits_by_form : (setting : Setting) (form : Form) (parts : Parts) → FitsForm setting form parts
+    → MiddleFits setting.class parts.host_text parts.port_text parts.path_text
+fits_by_form setting SchemeAuthority parts is = fits_with_host setting parts parts.host_text is
+fits_by_form setting Authority parts is = fits_with_host setting parts parts.host_text is
+fits_by_form setting SchemePath parts (none, other, path) =
+    fits_alone setting.class parts none (word_of_absolute parts.segments parts.path_text path)
     (absolute_without_two_slashes parts.segments parts.path_text path)
-fits_by_form base SchemeOpaque parts (none, other, (segments, path), empty) =
-    fits_alone (class_in base parts.scheme) parts none (word_of_relative segments parts.path_text path)
+fits_by_form setting SchemeOpaque parts (none, other, (segments, path), empty) =
+    fits_alone setting.class parts none (word_of_relative segments parts.path_text path)
     (without_slash_without_two parts.path_text path.start)
-fits_by_form base PathAbsolute parts (none, path, drive) =
-    fits_alone (class_in base parts.scheme) parts none (word_of_absolute parts.segments parts.path_text path)
+fits_by_form setting PathAbsolute parts (none, path, drive) =
+    fits_alone setting.class parts none (word_of_absolute parts.segments parts.path_text path)
     (absolute_without_two_slashes parts.segments parts.path_text path)
-fits_by_form base PathRelative parts (none, path, some, free) =
-    fits_alone (class_in base parts.scheme) parts none (word_of_relative parts.segments parts.path_text path)
+fits_by_form setting PathRelative parts (none, path, some, free) =
+    fits_alone setting.class parts none (word_of_relative parts.segments parts.path_text path)
     (without_slash_without_two parts.path_text path.start)
-fits_by_form base NoPath parts (none, nothing, empty) =
-    fits_alone (class_in base parts.scheme) parts none (empty_path_word parts.path_text nothing)
+fits_by_form setting NoPath parts (none, nothing, empty) =
+    fits_alone setting.class parts none (empty_path_word parts.path_text nothing)
     (ap starts_with_two_slashes nothing)
 
 -- ---- the scheme
 
 -- what stands between the scheme and the query, with an authority
-starts_like_authority : (base : Option Url) (parts : Parts) (host_text : Option (List ℕ))
-    → FitsHostText base parts host_text
+starts_like_authority : (setting : Setting) (parts : Parts) (host_text : Option (List ℕ))
+    → FitsHostText setting parts host_text
     → starts_with_scheme (written_authority host_text parts.port_text ++ parts.path_text) ≡ false
-starts_like_authority base parts None is = absurd is
-starts_like_authority base parts (Some host_text) is = refl
+starts_like_authority setting parts None is = absurd is
+starts_like_authority setting parts (Some host_text) is = refl
 
 -- a form without a scheme begins with none
-free_by_form : (base : Option Url) (form : Form) (parts : Parts) → FitsForm base form parts → has_scheme form ≡ false
+free_by_form : (setting : Setting) (form : Form) (parts : Parts) → FitsForm setting form parts → has_scheme form ≡ false
     → starts_with_scheme (written_authority parts.host_text parts.port_text ++ parts.path_text) ≡ false
-free_by_form base SchemeAuthority parts is none = absurd (true≢false none)
-free_by_form base SchemePath parts is none = absurd (true≢false none)
-free_by_form base SchemeOpaque parts is none = absurd (true≢false none)
-free_by_form base Authority parts is none = starts_like_authority base parts parts.host_text is
-free_by_form base PathAbsolute parts (absent, path, drive) none = rw (absent.host_text, path.slashed) refl
-free_by_form base PathRelative parts (absent, path, some, free) none = rw absent.host_text free
-free_by_form base NoPath parts (absent, nothing, empty) none = rw (absent.host_text, nothing) refl
+free_by_form setting SchemeAuthority parts is none = absurd (true≢false none)
+free_by_form setting SchemePath parts is none = absurd (true≢false none)
+free_by_form setting SchemeOpaque parts is none = absurd (true≢false none)
+free_by_form setting Authority parts is none = starts_like_authority setting parts parts.host_text is
+free_by_form setting PathAbsolute parts (absent, path, drive) none = rw (absent.host_text, path.slashed) refl
+free_by_form setting PathRelative parts (absent, path, some, free) none = rw absent.host_text free
+free_by_form setting NoPath parts (absent, nothing, empty) none = rw (absent.host_text, nothing) refl
 
 -- the scheme is cut where it ends
 scheme_fits : (has : Bool) (scheme : Option (List ℕ)) (middle : List ℕ) → FitsScheme has scheme
@@ -285,8 +300,9 @@ written_as_cut parts = sym (simp append_assoc)
 
 -- the cut of a valid text has its parts
 pub valid_is_cut : ValidTextsAreCutIntoTheirParts
-valid_is_cut base text parts valid =
-    let middle = fits_by_form base parts.form parts valid.form in
+valid_is_cut profile base text parts valid =
+    let setting = setting_of profile base parts.scheme in
+    let middle = fits_by_form setting parts.form parts valid.form in
     let has = has_scheme parts.form in
     let no_question = scheme_without question_mark has parts.scheme refl refl refl valid.scheme in
     let no_number = scheme_without number_sign has parts.scheme refl refl refl valid.scheme in
@@ -303,11 +319,12 @@ valid_is_cut base text parts valid =
           middle.no_question_mark;
       scheme =
           scheme_fits has parts.scheme (written_middle cut) valid.scheme
-          (λ none. free_by_form base parts.form parts valid.form none);
+          (λ none. free_by_form setting parts.form parts valid.form none);
       authority = middle.authority;
     }
 
 -- so its parts have the texts of the computed cut
-pub valid_texts : (base : Option Url) (text : List ℕ) (parts : Parts) → Valid base text parts
-    → texts_of parts ≡ cut_of base text
-valid_texts base text parts valid = cut_is_computed base text (texts_of parts) (valid_is_cut base text parts valid)
+pub valid_texts : (profile : Profile) (base : Option Url) (text : List ℕ) (parts : Parts)
+    → Valid profile base text parts → texts_of parts ≡ cut_of base text
+valid_texts profile base text parts valid =
+    cut_is_computed base text (texts_of parts) (valid_is_cut profile base text parts valid)

@@ -3,10 +3,10 @@ use Rattle.std.proofs.Common.{◌≡◌, ◌≢◌, ℕ, suc, ◌<◌, ◌-◌, 
 use Rattle.std.specs.Char.{is_ascii}
 use Rattle.std.specs.Int.{is_in_range}
 use Rattle.std.specs.List.{slice_index, list_all}
-use Rattle.std.proofs.lemmas.Bool.{false≢true, cases_Bool, and_parts, not-true}
+use Rattle.std.proofs.lemmas.Bool.{false≢true, cases_Bool, and_from, and_parts, not-true}
 use Rattle.std.proofs.lemmas.Bool.Decides.{nat_tests}
 use Rattle.std.proofs.lemmas.List.Elements.{All-weaker}
-use Rattle.std.proofs.lemmas.List.Sums.{AllPass-from_list_all}
+use Rattle.std.proofs.lemmas.List.Sums.{AllPass-from_list_all, list_all-from_AllPass}
 use Rattle.std.proofs.lemmas.Option.{none-some, same_Some}
 use Rattle.std.proofs.lemmas.Str.{encodes-IsAscii}
 use Rattle.std.proofs.lemmas.Str.Ascii.{IsAscii-from_all}
@@ -18,7 +18,9 @@ use Rattle.idna.specs.Uts46.{process_utf8, to_ascii, to_unicode, domain_to_ascii
 use Rattle.idna.specs.Validity.{has_ace_prefix}
 use Rattle.idna.proofs.Uts46Lemmas.{IsOutputByte, All-to_ascii, to_ascii-invalid, to_unicode-to_ascii, domain_to_ascii-ascii}
 use Rattle.idna.proofs.ValidityLemmas.{denies-EMPTY, denies-STD3}
-use Rattle.uv_model.specs.Hosts.Domain.{without_root, has_permitted, is_form_code_point, has_lengths, strict_form, is_plain_ascii, parser_form, ends_in_number, IsForm, IsDomain, IsNumberText, HasNoForm}
+use Rattle.uv_model.specs.declared.profile.Profile.{Profile}
+use Rattle.uv_model.specs.declared.profile.Profile.TheVariants.{Standard, Wide}
+use Rattle.uv_model.specs.Hosts.Domain.{without_root, is_permitted, has_permitted, is_form_code_point, has_lengths, strict_form, is_plain_ascii, parser_form, ends_in_number, IsForm, IsDomain, IsNumberText, HasNoForm, StandardDomainsAreWide}
 use Rattle.uv_model.specs.Scheme.{lowercase}
 use Rattle.uv_model.proofs.Texts.AsciiLemmas.{IsAscii-from_test}
 
@@ -67,7 +69,7 @@ has_lengths-is form =
 -- ---- what has a form
 
 -- what strict ToASCII gives are code points of a form
-form_code_point : (c : ℕ) → IsOutputByte STD3 c → is_form_code_point c ≡ true
+form_code_point : (c : ℕ) → IsOutputByte STD3 c → is_form_code_point Standard c ≡ true
 form_code_point c h =
     let allowed = sym (denies-STD3 c) ∙ h.allowed in
     let small = h.ascii in
@@ -87,67 +89,138 @@ shown_form text form e =
     let bytes = encode_utf8_all text in
     rw (to_unicode-to_ascii STD3 Check Ignore bytes form e) (shown bytes form e (process_utf8 STD3 Check bytes) refl)
 
--- the form that both ToASCII give is that of the text, where its code points and the lengths are permitted
-pub IsForm-from : (text form : List ℕ) → has_permitted text ≡ true → strict_form text ≡ Some form →
-    has_lengths form ≡ true → domain_to_ascii EMPTY (encode_utf8_all text) ≡ Some form → IsForm text form
+-- the form that both ToASCII give is that of the text by the standard profile, where its code points and the lengths
+-- are permitted
+pub IsForm-from : (text form : List ℕ) → has_permitted Standard text ≡ true → strict_form text ≡ Some form →
+    has_lengths form ≡ true → domain_to_ascii EMPTY (encode_utf8_all text) ≡ Some form → IsForm Standard text form
 IsForm-from text form permitted strict lengths parsed =
     let bytes = All-to_ascii STD3 Check Ignore (encode_utf8_all text) form strict in
     record {
       permitted = permitted;
-      strict = strict;
-      letters = All-weaker (IsOutputByte STD3) (λ c. is_form_code_point c ≡ true) form_code_point form bytes;
-      lengths = lengths;
       parsed = parser_form-is text ∙ parsed;
-      shown = shown_form text form strict;
+      letters = All-weaker (IsOutputByte STD3) (λ c. is_form_code_point Standard c ≡ true) form_code_point form bytes;
+      lengths = lengths;
+      fits = record { ascii = strict; shown = shown_form text form strict };
     }
 
+-- the form that ToASCII at the settings of the URL parser gives is that of the text by the wide profile, where the code
+-- points of both and the lengths are permitted
+pub IsForm-wide : (text form : List ℕ) → has_permitted Wide text ≡ true →
+    domain_to_ascii EMPTY (encode_utf8_all text) ≡ Some form → list_all (is_form_code_point Wide) form ≡ true →
+    has_lengths form ≡ true → IsForm Wide text form
+IsForm-wide text form permitted parsed letters lengths = record {
+  permitted = permitted;
+  parsed = parser_form-is text ∙ parsed;
+  letters = AllPass-from_list_all (is_form_code_point Wide) form letters;
+  lengths = lengths;
+  fits = tt;
+}
+
 -- a form is ASCII
-pub IsAscii-form : (text form : List ℕ) → IsForm text form → IsAscii form
-IsAscii-form text form is =
-    IsAscii-from_all form (All-weaker (λ c. is_form_code_point c ≡ true) (λ c. c < 128) small form is.letters)
+pub IsAscii-form : (profile : Profile) (text form : List ℕ) → IsForm profile text form → IsAscii form
+IsAscii-form profile text form is =
+    IsAscii-from_all form
+    (All-weaker (λ c. is_form_code_point profile c ≡ true) (λ c. c < 128) (small profile) form is.letters)
   where
-    small : (c : ℕ) → is_form_code_point c ≡ true → c < 128
-    small c h = grind (arith, nat_tests)
+    small : (profile : Profile) (c : ℕ) → is_form_code_point profile c ≡ true → c < 128
+    small Standard c h = grind (arith, nat_tests)
+    small Wide c h = grind (arith, nat_tests)
 
 -- ---- what has none
 
 -- a text with an ASCII code point that isn't permitted has no form
-pub not_permitted : (text : List ℕ) → has_permitted text ≡ false → HasNoForm text
-not_permitted text e form h = false≢true (sym e ∙ h.permitted)
+pub not_permitted : (profile : Profile) (text : List ℕ) → has_permitted profile text ≡ false → HasNoForm profile text
+not_permitted profile text e form h = false≢true (sym e ∙ h.permitted)
 
--- a text that strict ToASCII refuses has no form
-pub not_strict : (text : List ℕ) → strict_form text ≡ None → HasNoForm text
-not_strict text e form h = none-some form (sym e ∙ h.strict)
+-- a text that strict ToASCII refuses has no form by the standard profile
+pub not_strict : (text : List ℕ) → strict_form text ≡ None → HasNoForm Standard text
+not_strict text e form h = none-some form (sym e ∙ h.fits.ascii)
 
--- a text whose strict form has wrong lengths has no form
-pub no_lengths : (text form : List ℕ) → strict_form text ≡ Some form → has_lengths form ≡ false → HasNoForm text
+-- a text whose strict form has wrong lengths has none either
+pub no_lengths : (text form : List ℕ) → strict_form text ≡ Some form → has_lengths form ≡ false
+    → HasNoForm Standard text
 no_lengths text form e wrong other h =
-    let same = same_Some form other (sym e ∙ h.strict) in
+    let same = same_Some form other (sym e ∙ h.fits.ascii) in
     false≢true (sym wrong ∙ ap has_lengths same ∙ h.lengths)
 
 -- a text that the parser's ToASCII refuses has no form
-pub not_parsed : (text : List ℕ) → domain_to_ascii EMPTY (encode_utf8_all text) ≡ None → HasNoForm text
-not_parsed text e form h = none-some form (sym e ∙ sym (parser_form-is text) ∙ h.parsed)
+pub not_parsed : (profile : Profile) (text : List ℕ) → domain_to_ascii EMPTY (encode_utf8_all text) ≡ None →
+    HasNoForm profile text
+not_parsed profile text e form h = none-some form (sym e ∙ sym (parser_form-is text) ∙ h.parsed)
 
--- a text whose two forms differ has no form
+-- the form of a text is what the parser's ToASCII gives
+parsed_form : (profile : Profile) (text form other : List ℕ) →
+    domain_to_ascii EMPTY (encode_utf8_all text) ≡ Some form → IsForm profile text other → form ≡ other
+parsed_form profile text form other e h = same_Some form other (sym e ∙ sym (parser_form-is text) ∙ h.parsed)
+
+-- a text whose parsed form has another code point has no form
+pub no_letters : (profile : Profile) (text form : List ℕ) →
+    domain_to_ascii EMPTY (encode_utf8_all text) ≡ Some form → list_all (is_form_code_point profile) form ≡ false →
+    HasNoForm profile text
+no_letters profile text form e wrong other h =
+    let same = parsed_form profile text form other e h in
+    let letters = list_all-from_AllPass (is_form_code_point profile) other h.letters in
+    false≢true (sym wrong ∙ ap (list_all (is_form_code_point profile)) same ∙ letters)
+
+-- a text whose parsed form has wrong lengths has no form
+pub no_parsed_lengths : (profile : Profile) (text form : List ℕ) →
+    domain_to_ascii EMPTY (encode_utf8_all text) ≡ Some form → has_lengths form ≡ false → HasNoForm profile text
+no_parsed_lengths profile text form e wrong other h =
+    false≢true (sym wrong ∙ ap has_lengths (parsed_form profile text form other e h) ∙ h.lengths)
+
+-- a text whose two forms differ has no form by the standard profile
 pub other_parsed : (text form parsed : List ℕ) → strict_form text ≡ Some form →
-    domain_to_ascii EMPTY (encode_utf8_all text) ≡ Some parsed → form ≢ parsed → HasNoForm text
+    domain_to_ascii EMPTY (encode_utf8_all text) ≡ Some parsed → form ≢ parsed → HasNoForm Standard text
 other_parsed text form parsed e f differ other h =
-    let strict = same_Some form other (sym e ∙ h.strict) in
-    differ (strict ∙ sym (same_Some parsed other (sym f ∙ sym (parser_form-is text) ∙ h.parsed)))
+    let strict = same_Some form other (sym e ∙ h.fits.ascii) in
+    differ (strict ∙ sym (parsed_form Standard text parsed other f h))
 
 -- ---- one form
 
 -- a text has one form at most
-pub form_unique : (text a b : List ℕ) → IsForm text a → IsForm text b → a ≡ b
-form_unique text a b ha hb = same_Some a b (sym ha.strict ∙ hb.strict)
+pub form_unique : (profile : Profile) (text a b : List ℕ) → IsForm profile text a → IsForm profile text b → a ≡ b
+form_unique profile text a b ha hb = same_Some a b (sym ha.parsed ∙ hb.parsed)
 
 -- a valid domain has one form
-pub domain_unique : (text a b : List ℕ) → IsDomain text a → IsDomain text b → a ≡ b
-domain_unique text a b ha hb = form_unique text a b ha.0 hb.0
+pub domain_unique : (profile : Profile) (text a b : List ℕ) → IsDomain profile text a → IsDomain profile text b
+    → a ≡ b
+domain_unique profile text a b ha hb = form_unique profile text a b ha.0 hb.0
 
 -- a valid domain isn't a number text
-pub domain_no_number : (text a : List ℕ) → IsDomain text a → ¬ (IsNumberText text)
-domain_no_number text a ha (b, is, number) =
-    let same : a ≡ b = form_unique text a b ha.0 is in
+pub domain_no_number : (profile : Profile) (text a : List ℕ) → IsDomain profile text a → ¬ (IsNumberText profile text)
+domain_no_number profile text a ha (b, is, number) =
+    let same : a ≡ b = form_unique profile text a b ha.0 is in
     false≢true (sym ha.1 ∙ ap ends_in_number same ∙ number)
+
+-- ---- both profiles
+
+-- a permitted code point, and one of a form
+wide_permitted : (c : ℕ) → is_permitted Standard c ≡ true → is_permitted Wide c ≡ true
+wide_permitted c h = grind (arith, nat_tests)
+
+pub wide_letter : (c : ℕ) → is_form_code_point Standard c ≡ true → is_form_code_point Wide c ≡ true
+wide_letter c h = grind (arith, nat_tests)
+
+-- a text of permitted code points
+wide_text : (text : List ℕ) → has_permitted Standard text ≡ true → has_permitted Wide text ≡ true
+unfolding has_permitted
+wide_text [] h = refl
+wide_text (c ∷ rest) h =
+    let parts = and_parts (is_permitted Standard c) (list_all (is_permitted Standard) rest) h in
+    and_from _ _ (wide_permitted c parts.0) (wide_text rest parts.1)
+
+-- a form of the standard profile is one of the wide profile
+wide_form : (text form : List ℕ) → IsForm Standard text form → IsForm Wide text form
+wide_form text form is = record {
+  permitted = wide_text text is.permitted;
+  parsed = is.parsed;
+  letters =
+      All-weaker (λ c. is_form_code_point Standard c ≡ true) (λ c. is_form_code_point Wide c ≡ true) wide_letter form
+      is.letters;
+  lengths = is.lengths;
+  fits = tt;
+}
+
+-- so is a valid domain
+pub standard_domains_are_wide : StandardDomainsAreWide
+standard_domains_are_wide text form is = (wide_form text form is.0, is.1)

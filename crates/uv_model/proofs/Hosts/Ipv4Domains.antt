@@ -15,6 +15,8 @@ use Rattle.idna.specs.declared.deny_list.TheConstants.AsciiDenyList.{EMPTY}
 use Rattle.idna.specs.Labels.{is_full_stop}
 use Rattle.idna.specs.Uts46.{domain_to_ascii}
 use Rattle.idna.proofs.Uts46Lemmas.{domain_to_ascii-alphanumeric}
+use Rattle.uv_model.specs.declared.profile.Profile.{Profile}
+use Rattle.uv_model.specs.declared.profile.Profile.TheVariants.{Standard}
 use Rattle.uv_model.specs.Hosts.Address.{IsFourNumbers, IsIpv4}
 use Rattle.uv_model.specs.Ascii.{percent_sign, full_stop}
 use Rattle.uv_model.specs.Hosts.Domain.{is_form_code_point, is_digits, parser_form, ends_in_number, IsDomain}
@@ -27,7 +29,7 @@ simple_byte b (inl digit) = let low = digit.0 in let high = digit.1 in grind (ar
 simple_byte b (inr dot) = rw dot refl
 
 -- a digit or a full stop is a code point of a form
-pub form_byte : (b : ℕ) → IsDigitOrDot b → is_form_code_point b ≡ true
+pub form_byte : (b : ℕ) → IsDigitOrDot b → is_form_code_point Standard b ≡ true
 form_byte b (inl digit) = let low = digit.0 in let high = digit.1 in grind (arith, nat_tests)
 form_byte b (inr dot) = rw dot refl
 
@@ -104,7 +106,8 @@ parser_form-ipv4 text value (a, b, c, d, is, e) =
     ∙ domain_to_ascii-alphanumeric EMPTY text (All-weaker IsDigitOrDot IsPlain simple_byte text simple)
 
 -- an IPv4 text is no valid domain
-pub ipv4_no_domain : (text form : List ℕ) (value : ℕ) → IsIpv4 text value → ¬ (IsDomain text form)
-ipv4_no_domain text form value is (has, other) =
+pub ipv4_no_domain : (profile : Profile) (text form : List ℕ) (value : ℕ) → IsIpv4 text value →
+    ¬ (IsDomain profile text form)
+ipv4_no_domain profile text form value is (has, other) =
     let same : text ≡ form = same_Some text form (sym (parser_form-ipv4 text value is) ∙ has.parsed) in
     false≢true (sym other ∙ ap ends_in_number (sym same) ∙ ends_in_number-ipv4 text value is)

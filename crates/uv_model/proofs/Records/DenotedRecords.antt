@@ -2,6 +2,8 @@
 use Rattle.std.proofs.Common.{◌≡◌, ℕ, true, false, not, ◌&&◌, List, [], ◌∷◌, Option, Some, None, refl, sym, subst, inl, inr}
 use Rattle.std.specs.Prelude.{option_map}
 use Rattle.std.proofs.lemmas.Bool.{cases_Bool, false≢true}
+use Rattle.uv_model.specs.declared.profile.Profile.{Profile}
+use Rattle.uv_model.specs.declared.profile.Profile.TheVariants.{Standard, Wide}
 use Rattle.uv_model.specs.declared.scheme.Class.{Class}
 use Rattle.uv_model.specs.declared.scheme.Class.TheVariants.{Special, File, Other}
 use Rattle.uv_model.specs.declared.host.Host.{Host}
@@ -11,6 +13,7 @@ use Rattle.uv_model.specs.Records.Denote.{authority_host, authority_path, denote
 use Rattle.uv_model.specs.Encoding.{encoded}
 use Rattle.uv_model.specs.Parts.{Form, Parts, SchemeAuthority, SchemePath, SchemeOpaque, Authority, PathAbsolute, PathRelative, NoPath, has_scheme}
 use Rattle.uv_model.specs.Scheme.{default_port, is_scheme, lowercase, scheme_class}
+use Rattle.uv_model.specs.Setting.{setting_of}
 use Rattle.uv_model.specs.Records.Url.{Url}
 use Rattle.uv_model.specs.Valid.{FitsBase, FitsForm, FitsScheme, HasAuthority, MayBeUnits, Valid, scheme_in}
 use Rattle.uv_model.specs.Records.WellFormed.{AreUrlSegments, IsUrlHost, IsUrlPath, IsUrlPort, IsUrlQuery, IsUrlScheme, MayBeWellFormed, WellFormed}
@@ -19,6 +22,7 @@ use Rattle.uv_model.specs.Path.{IsPathAbsolute, IsPathRelative, is_drive_letter,
 use Rattle.uv_model.proofs.Cuts.AuthorityLemmas.{IsAuthority, IsAuthority-fits, IsUrlPath-authority, IsUrlPath-joined}
 use Rattle.uv_model.proofs.Paths.WalkLemmas.{AreUrlSegments-shorten}
 use Rattle.uv_model.proofs.SchemeLemmas.{default_port-lowercase, is_scheme-lowercase, no_uppercase-lowercase, scheme_class-lowercase}
+use Rattle.uv_model.proofs.Hosts.StandardTexts.{standard_texts_are_wide}
 use Rattle.uv_model.proofs.Records.WellFormedLemmas.{IsUrlFragment-encoded, IsUrlOpaquePath-encoded, IsUrlQuery-encoded}
 
 -- the scheme of a text in lower case
@@ -61,24 +65,24 @@ denote_as base form parts =
     }
 
 -- what the forms differ in: all but the fragment, by the class that the text is read by
-record AreDenoted (base : Option Url) (kind : Class) (form : Form) (parts : Parts) : Type 0 where
+record AreDenoted (profile : Profile) (base : Option Url) (kind : Class) (form : Form) (parts : Parts) : Type 0 where
   scheme : IsUrlScheme (denoted_scheme base parts.scheme)
-  host : IsUrlHost kind (denoted_host base form parts)
+  host : IsUrlHost profile kind (denoted_host base form parts)
   port : IsUrlPort (denoted_scheme base parts.scheme) (denoted_host base form parts) (denoted_port base form parts)
   path : IsUrlPath kind (denoted_host base form parts) (denoted_path base kind form parts)
   query : IsUrlQuery kind (denoted_query base kind form parts.query)
 
 -- the whole record
-WellFormed-denoted : (base : Option Url) (form : Form) (parts : Parts) → MayBeUnits parts.fragment
-    → AreDenoted base (scheme_class (scheme_in base parts)) form parts → WellFormed (denote_as base form parts)
-WellFormed-denoted base form parts units are =
+WellFormed-denoted : (profile : Profile) (base : Option Url) (form : Form) (parts : Parts) → MayBeUnits parts.fragment
+    → AreDenoted profile base (scheme_class (scheme_in base parts)) form parts → WellFormed profile (denote_as base form parts)
+WellFormed-denoted profile base form parts units are =
     let kind = scheme_class (scheme_in base parts) in
     let same = class-denoted base parts parts.scheme refl in
     let host : Option Host = denoted_host base form parts in
     let path : UrlPath = denoted_path base kind form parts in
     record {
       scheme = are.scheme;
-      host = subst (λ (k : Class). IsUrlHost k host) same are.host;
+      host = subst (λ (k : Class). IsUrlHost profile k host) same are.host;
       port = are.port;
       path = subst (λ (k : Class). IsUrlPath k host path) same are.path;
       query = subst (λ (k : Class). IsUrlQuery k (denoted_query base kind form parts.query)) same are.query;
@@ -87,10 +91,10 @@ WellFormed-denoted base form parts units are =
 
 -- ---- an opaque path
 
-AreDenoted-opaque : (base : Option Url) (parts : Parts) → FitsScheme true parts.scheme
-    → FitsForm base SchemeOpaque parts
-    → MayBeUnits parts.query → AreDenoted base (scheme_class (scheme_in base parts)) SchemeOpaque parts
-AreDenoted-opaque base parts scheme fits query =
+AreDenoted-opaque : (profile : Profile) (base : Option Url) (parts : Parts) → FitsScheme true parts.scheme
+    → FitsForm (setting_of profile base parts.scheme) SchemeOpaque parts
+    → MayBeUnits parts.query → AreDenoted profile base (scheme_class (scheme_in base parts)) SchemeOpaque parts
+AreDenoted-opaque profile base parts scheme fits query =
     record {
       scheme = IsUrlScheme-own base parts.scheme scheme;
       host = rw fits.1 tt;
@@ -100,14 +104,14 @@ AreDenoted-opaque base parts scheme fits query =
     }
 
 -- what a valid text with a scheme and an opaque path denotes is well formed
-pub opaque_well_formed : (base : Option Url) (text : List ℕ) (parts : Parts) → Valid base text parts
-    → parts.form ≡ SchemeOpaque → WellFormed (denote base parts)
+pub opaque_well_formed : (profile : Profile) (base : Option Url) (text : List ℕ) (parts : Parts) → Valid profile base text parts
+    → parts.form ≡ SchemeOpaque → WellFormed profile (denote base parts)
 unfolding denote
-opaque_well_formed base text parts valid form =
-    subst (λ (f : Form). WellFormed (denote_as base f parts)) (sym form)
-    (WellFormed-denoted base SchemeOpaque parts valid.fragment
-    (AreDenoted-opaque base parts (subst (λ (f : Form). FitsScheme (has_scheme f) parts.scheme) form valid.scheme)
-    (subst (λ (f : Form). FitsForm base f parts) form valid.form) valid.query))
+opaque_well_formed profile base text parts valid form =
+    subst (λ (f : Form). WellFormed profile (denote_as base f parts)) (sym form)
+    (WellFormed-denoted profile base SchemeOpaque parts valid.fragment
+    (AreDenoted-opaque profile base parts (subst (λ (f : Form). FitsScheme (has_scheme f) parts.scheme) form valid.scheme)
+    (subst (λ (f : Form). FitsForm (setting_of profile base parts.scheme) f parts) form valid.form) valid.query))
 
 -- ---- an authority
 
@@ -126,25 +130,26 @@ IsUrlPort-same scheme other host None class default is = tt
 IsUrlPort-same scheme other host (Some port) class default is = (rw class is.0, rw default is.1)
 
 -- what stands behind `//`, by the host text
-IsAuthority-has : (base : Option Url) (parts : Parts) (text : Option (List ℕ))
-    → HasAuthority base (record parts { host_text = text })
-    → IsAuthority (scheme_class (scheme_in base parts)) (scheme_in base parts) (record parts { host_text = text })
-IsAuthority-has base parts None fits = absurd fits
-IsAuthority-has base parts (Some text) fits =
-    IsAuthority-fits (scheme_class (scheme_in base parts)) (scheme_in base parts) text
-    (record parts { host_text = Some text }) refl refl fits
+IsAuthority-has : (profile : Profile) (base : Option Url) (parts : Parts) (text : Option (List ℕ))
+    → HasAuthority (setting_of profile base parts.scheme) (record parts { host_text = text })
+    → IsAuthority profile (scheme_class (scheme_in base parts)) (scheme_in base parts)
+    (record parts { host_text = text })
+IsAuthority-has profile base parts None fits = absurd fits
+IsAuthority-has profile base parts (Some text) fits =
+    IsAuthority-fits (scheme_class (scheme_in base parts)) (setting_of profile base parts.scheme)
+    (scheme_in base parts) text (record parts { host_text = Some text }) refl refl refl fits
 
 -- the host, the port and the path of a form with an authority
-record AreOfAuthority (base : Option Url) (kind : Class) (parts : Parts) : Type 0 where
-  host : IsUrlHost kind (authority_host parts)
+record AreOfAuthority (profile : Profile) (base : Option Url) (kind : Class) (parts : Parts) : Type 0 where
+  host : IsUrlHost profile kind (authority_host parts)
   port : IsUrlPort (denoted_scheme base parts.scheme) (authority_host parts) parts.port
   path : IsUrlPath kind (authority_host parts) (Segments (authority_path kind parts.segments))
 
-AreOfAuthority-has : (base : Option Url) (parts : Parts) → HasAuthority base parts
-    → AreOfAuthority base (scheme_class (scheme_in base parts)) parts
-AreOfAuthority-has base parts has =
+AreOfAuthority-has : (profile : Profile) (base : Option Url) (parts : Parts) → HasAuthority (setting_of profile base parts.scheme) parts
+    → AreOfAuthority profile base (scheme_class (scheme_in base parts)) parts
+AreOfAuthority-has profile base parts has =
     let kind : Class = scheme_class (scheme_in base parts) in
-    let is : IsAuthority kind (scheme_in base parts) parts = IsAuthority-has base parts parts.host_text has in
+    let is : IsAuthority profile kind (scheme_in base parts) parts = IsAuthority-has profile base parts parts.host_text has in
     let class = sym (class-denoted base parts parts.scheme refl) in
     let default = default_port-denoted base parts parts.scheme refl in
     let scheme : List ℕ = denoted_scheme base parts.scheme in
@@ -152,7 +157,7 @@ AreOfAuthority-has base parts has =
     = IsUrlPort-same scheme (scheme_in base parts) (Some is.value) parts.port class default is.port
     in
     record {
-      host = subst (λ (h : Option Host). IsUrlHost kind h) (sym is.valued) is.host;
+      host = subst (λ (h : Option Host). IsUrlHost profile kind h) (sym is.valued) is.host;
       port =
           subst (λ (h : Option Host). IsUrlPort (denoted_scheme base parts.scheme) h parts.port) (sym is.valued) port;
       path =
@@ -160,11 +165,11 @@ AreOfAuthority-has base parts has =
           (IsUrlPath-authority kind is.value parts.segments is.each);
     }
 
-AreDenoted-scheme_authority : (base : Option Url) (parts : Parts) → FitsScheme true parts.scheme
-    → HasAuthority base parts
-    → MayBeUnits parts.query → AreDenoted base (scheme_class (scheme_in base parts)) SchemeAuthority parts
-AreDenoted-scheme_authority base parts scheme fits query =
-    let are = AreOfAuthority-has base parts fits in
+AreDenoted-scheme_authority : (profile : Profile) (base : Option Url) (parts : Parts) → FitsScheme true parts.scheme
+    → HasAuthority (setting_of profile base parts.scheme) parts
+    → MayBeUnits parts.query → AreDenoted profile base (scheme_class (scheme_in base parts)) SchemeAuthority parts
+AreDenoted-scheme_authority profile base parts scheme fits query =
+    let are = AreOfAuthority-has profile base parts fits in
     record {
       scheme = IsUrlScheme-own base parts.scheme scheme;
       host = are.host;
@@ -176,9 +181,9 @@ AreDenoted-scheme_authority base parts scheme fits query =
 
 -- ---- a path behind a scheme
 
-AreDenoted-path : (base : Option Url) (parts : Parts) → FitsScheme true parts.scheme → FitsForm base SchemePath parts
-    → MayBeUnits parts.query → AreDenoted base (scheme_class (scheme_in base parts)) SchemePath parts
-AreDenoted-path base parts scheme fits query =
+AreDenoted-path : (profile : Profile) (base : Option Url) (parts : Parts) → FitsScheme true parts.scheme → FitsForm (setting_of profile base parts.scheme) SchemePath parts
+    → MayBeUnits parts.query → AreDenoted profile base (scheme_class (scheme_in base parts)) SchemePath parts
+AreDenoted-path profile base parts scheme fits query =
     let kind : Class = scheme_class (scheme_in base parts) in
     record {
       scheme = IsUrlScheme-own base parts.scheme scheme;
@@ -201,11 +206,11 @@ class-reference : (url : Url) (parts : Parts) → parts.scheme ≡ None
 class-reference url parts e = rw e refl
 
 -- what a reference with an authority denotes, but for the class
-AreDenoted-reference_authority : (url : Url) (parts : Parts) → WellFormed url → parts.scheme ≡ None
-    → HasAuthority (Some url) parts → MayBeUnits parts.query
-    → AreDenoted (Some url) (scheme_class (scheme_in (Some url) parts)) Authority parts
-AreDenoted-reference_authority url parts base none fits query =
-    let are = AreOfAuthority-has (Some url) parts fits in
+AreDenoted-reference_authority : (profile : Profile) (url : Url) (parts : Parts) → WellFormed profile url → parts.scheme ≡ None
+    → HasAuthority (setting_of profile (Some url) parts.scheme) parts → MayBeUnits parts.query
+    → AreDenoted profile (Some url) (scheme_class (scheme_in (Some url) parts)) Authority parts
+AreDenoted-reference_authority profile url parts base none fits query =
+    let are = AreOfAuthority-has profile (Some url) parts fits in
     record {
       scheme = rw none base.scheme;
       host = are.host;
@@ -237,12 +242,12 @@ AreUrlSegments-kept_drive File (drive ∷ others) (first ∷ rest) are =
     ]
 
 -- what a reference without an authority takes from its base
-AreDenoted-reference : (url : Url) (form : Form) (parts : Parts) → WellFormed url → parts.scheme ≡ None
+AreDenoted-reference : (profile : Profile) (url : Url) (form : Form) (parts : Parts) → WellFormed profile url → parts.scheme ≡ None
     → denoted_host (Some url) form parts ≡ url.host → denoted_port (Some url) form parts ≡ url.port
     → IsUrlPath (scheme_class url.scheme) url.host (denoted_path (Some url) (scheme_class url.scheme) form parts)
-    → MayBeUnits parts.query → AreDenoted (Some url) (scheme_class (scheme_in (Some url) parts)) form parts
-AreDenoted-reference url form parts base none host port path query =
-    subst (λ (kind : Class). AreDenoted (Some url) kind form parts) (sym (class-reference url parts none))
+    → MayBeUnits parts.query → AreDenoted profile (Some url) (scheme_class (scheme_in (Some url) parts)) form parts
+AreDenoted-reference profile url form parts base none host port path query =
+    subst (λ (kind : Class). AreDenoted profile (Some url) kind form parts) (sym (class-reference url parts none))
     (record {
       scheme = rw none base.scheme;
       host = rw host base.host;
@@ -252,10 +257,10 @@ AreDenoted-reference url form parts base none host port path query =
     })
 
 -- the path of a path-absolute reference
-IsUrlPath-absolute : (url : Url) (parts : Parts) → WellFormed url → IsPathAbsolute parts.segments parts.path_text
+IsUrlPath-absolute : (profile : Profile) (url : Url) (parts : Parts) → WellFormed profile url → IsPathAbsolute parts.segments parts.path_text
     → IsUrlPath (scheme_class url.scheme) url.host
     (denoted_path (Some url) (scheme_class url.scheme) PathAbsolute parts)
-IsUrlPath-absolute url parts base path =
+IsUrlPath-absolute profile url parts base path =
     let kind : Class = scheme_class url.scheme in
     let segments : List (List ℕ) = segments_in url.path in
     let start : AreUrlSegments (kept_drive kind segments parts.segments)
@@ -265,10 +270,10 @@ IsUrlPath-absolute url parts base path =
     path.relative.joins
 
 -- the path of a path-relative reference
-IsUrlPath-relative : (url : Url) (parts : Parts) → WellFormed url → IsPathRelative parts.segments parts.path_text
+IsUrlPath-relative : (profile : Profile) (url : Url) (parts : Parts) → WellFormed profile url → IsPathRelative parts.segments parts.path_text
     → IsUrlPath (scheme_class url.scheme) url.host
     (denoted_path (Some url) (scheme_class url.scheme) PathRelative parts)
-IsUrlPath-relative url parts base path =
+IsUrlPath-relative profile url parts base path =
     let kind : Class = scheme_class url.scheme in
     let segments : List (List ℕ) = segments_in url.path in
     let start : AreUrlSegments (shorten kind segments)
@@ -279,52 +284,64 @@ IsUrlPath-relative url parts base path =
 -- ---- all forms
 
 -- the forms without a scheme, against a base
-AreDenoted-against : (url : Url) (form : Form) (parts : Parts) → WellFormed url → has_scheme form ≡ false
+AreDenoted-against : (profile : Profile) (url : Url) (form : Form) (parts : Parts) → WellFormed profile url → has_scheme form ≡ false
     → parts.scheme ≡ None
-    → FitsForm (Some url) form parts → MayBeUnits parts.query
-    → AreDenoted (Some url) (scheme_class (scheme_in (Some url) parts)) form parts
-AreDenoted-against url SchemeAuthority parts base other none fits query = cc
-AreDenoted-against url SchemePath parts base other none fits query = cc
-AreDenoted-against url SchemeOpaque parts base other none fits query = cc
-AreDenoted-against url Authority parts base other none fits query =
-    AreDenoted-reference_authority url parts base none fits query
-AreDenoted-against url PathAbsolute parts base other none fits query =
-    AreDenoted-reference url PathAbsolute parts base none refl refl (IsUrlPath-absolute url parts base fits.1) query
-AreDenoted-against url PathRelative parts base other none fits query =
-    AreDenoted-reference url PathRelative parts base none refl refl (IsUrlPath-relative url parts base fits.1) query
-AreDenoted-against url NoPath parts base other none fits query =
-    AreDenoted-reference url NoPath parts base none refl refl base.path query
+    → FitsForm (setting_of profile (Some url) parts.scheme) form parts → MayBeUnits parts.query
+    → AreDenoted profile (Some url) (scheme_class (scheme_in (Some url) parts)) form parts
+AreDenoted-against profile url SchemeAuthority parts base other none fits query = cc
+AreDenoted-against profile url SchemePath parts base other none fits query = cc
+AreDenoted-against profile url SchemeOpaque parts base other none fits query = cc
+AreDenoted-against profile url Authority parts base other none fits query =
+    AreDenoted-reference_authority profile url parts base none fits query
+AreDenoted-against profile url PathAbsolute parts base other none fits query =
+    AreDenoted-reference profile url PathAbsolute parts base none refl refl (IsUrlPath-absolute profile url parts base fits.1) query
+AreDenoted-against profile url PathRelative parts base other none fits query =
+    AreDenoted-reference profile url PathRelative parts base none refl refl (IsUrlPath-relative profile url parts base fits.1) query
+AreDenoted-against profile url NoPath parts base other none fits query =
+    AreDenoted-reference profile url NoPath parts base none refl refl base.path query
 
 -- a text without a scheme has a base
-AreDenoted-reference_form : (base : Option Url) (form : Form) (parts : Parts) → MayBeWellFormed base
+AreDenoted-reference_form : (profile : Profile) (base : Option Url) (form : Form) (parts : Parts) → MayBeWellFormed profile base
     → has_scheme form ≡ false
-    → parts.scheme ≡ None → FitsBase base parts → FitsForm base form parts → MayBeUnits parts.query
-    → AreDenoted base (scheme_class (scheme_in base parts)) form parts
-AreDenoted-reference_form None form parts base other none against fits query = absurd (false≢true (rw none at against))
-AreDenoted-reference_form (Some url) form parts base other none against fits query =
-    AreDenoted-against url form parts base other none fits query
+    → parts.scheme ≡ None → FitsBase base parts → FitsForm (setting_of profile base parts.scheme) form parts → MayBeUnits parts.query
+    → AreDenoted profile base (scheme_class (scheme_in base parts)) form parts
+AreDenoted-reference_form profile None form parts base other none against fits query = absurd (false≢true (rw none at against))
+AreDenoted-reference_form profile (Some url) form parts base other none against fits query =
+    AreDenoted-against profile url form parts base other none fits query
 
 -- each form
-AreDenoted-form : (base : Option Url) (form : Form) (parts : Parts) → MayBeWellFormed base
-    → FitsScheme (has_scheme form) parts.scheme → FitsBase base parts → FitsForm base form parts
+AreDenoted-form : (profile : Profile) (base : Option Url) (form : Form) (parts : Parts) → MayBeWellFormed profile base
+    → FitsScheme (has_scheme form) parts.scheme → FitsBase base parts → FitsForm (setting_of profile base parts.scheme) form parts
     → MayBeUnits parts.query
-    → AreDenoted base (scheme_class (scheme_in base parts)) form parts
-AreDenoted-form base SchemeAuthority parts may scheme against fits query =
-    AreDenoted-scheme_authority base parts scheme fits query
-AreDenoted-form base SchemePath parts may scheme against fits query = AreDenoted-path base parts scheme fits query
-AreDenoted-form base SchemeOpaque parts may scheme against fits query = AreDenoted-opaque base parts scheme fits query
-AreDenoted-form base Authority parts may scheme against fits query =
-    AreDenoted-reference_form base Authority parts may refl scheme against fits query
-AreDenoted-form base PathAbsolute parts may scheme against fits query =
-    AreDenoted-reference_form base PathAbsolute parts may refl scheme against fits query
-AreDenoted-form base PathRelative parts may scheme against fits query =
-    AreDenoted-reference_form base PathRelative parts may refl scheme against fits query
-AreDenoted-form base NoPath parts may scheme against fits query =
-    AreDenoted-reference_form base NoPath parts may refl scheme against fits query
+    → AreDenoted profile base (scheme_class (scheme_in base parts)) form parts
+AreDenoted-form profile base SchemeAuthority parts may scheme against fits query =
+    AreDenoted-scheme_authority profile base parts scheme fits query
+AreDenoted-form profile base SchemePath parts may scheme against fits query = AreDenoted-path profile base parts scheme fits query
+AreDenoted-form profile base SchemeOpaque parts may scheme against fits query = AreDenoted-opaque profile base parts scheme fits query
+AreDenoted-form profile base Authority parts may scheme against fits query =
+    AreDenoted-reference_form profile base Authority parts may refl scheme against fits query
+AreDenoted-form profile base PathAbsolute parts may scheme against fits query =
+    AreDenoted-reference_form profile base PathAbsolute parts may refl scheme against fits query
+AreDenoted-form profile base PathRelative parts may scheme against fits query =
+    AreDenoted-reference_form profile base PathRelative parts may refl scheme against fits query
+AreDenoted-form profile base NoPath parts may scheme against fits query =
+    AreDenoted-reference_form profile base NoPath parts may refl scheme against fits query
+
+-- what a valid text denotes against a base of the same profile is well formed
+denoted_same : (profile : Profile) (base : Option Url) (text : List ℕ) (parts : Parts) → MayBeWellFormed profile base
+    → Valid profile base text parts → WellFormed profile (denote base parts)
+unfolding denote
+denoted_same profile base text parts may valid =
+    WellFormed-denoted profile base parts.form parts valid.fragment
+    (AreDenoted-form profile base parts.form parts may valid.scheme valid.against valid.form valid.query)
+
+-- against a base of the wide profile it is a record of that profile
+denoted_wide : (profile : Profile) (base : Option Url) (text : List ℕ) (parts : Parts) → MayBeWellFormed Wide base
+    → Valid profile base text parts → WellFormed Wide (denote base parts)
+denoted_wide Standard base text parts may valid =
+    denoted_same Wide base text parts may (standard_texts_are_wide base text parts valid)
+denoted_wide Wide base text parts may valid = denoted_same Wide base text parts may valid
 
 -- what a valid text denotes is well formed
 pub denoted_records_are_well_formed : DenotedRecordsAreWellFormed
-unfolding denote
-denoted_records_are_well_formed base text parts may valid =
-    WellFormed-denoted base parts.form parts valid.fragment
-    (AreDenoted-form base parts.form parts may valid.scheme valid.against valid.form valid.query)
+denoted_records_are_well_formed = record { same = denoted_same; wide = denoted_wide }

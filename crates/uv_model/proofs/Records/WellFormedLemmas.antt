@@ -13,6 +13,7 @@ use Rattle.uv_model.specs.Path.{IsSegment, is_double_dot, is_single_dot, is_with
 use Rattle.uv_model.specs.Units.{IsUnits}
 use Rattle.uv_model.specs.Valid.{IsOpaquePath, MayBeUnits}
 use Rattle.uv_model.specs.Records.WellFormed.{IsAsciiUnits, IsUrlDomain, IsUrlFragment, IsUrlOpaqueHost, IsUrlOpaquePath, IsUrlQuery, IsUrlSegment}
+use Rattle.uv_model.specs.declared.profile.Profile.{Profile}
 use Rattle.uv_model.specs.Hosts.Domain.{IsDomain, is_form_code_point, has_lengths}
 use Rattle.uv_model.specs.Hosts.OpaqueHost.{IsOpaqueHost, is_forbidden_host}
 use Rattle.uv_model.proofs.Paths.DotSegmentLemmas.{is_double_dot-encoded, is_single_dot-encoded}
@@ -113,14 +114,15 @@ first_of_form [] lengths = absurd (false≢true lengths)
 first_of_form (c ∷ rest) lengths = (c, rest, refl)
 
 -- the form of a domain
-pub IsUrlDomain-form : (text form : List ℕ) → IsDomain text form → IsUrlDomain form
-IsUrlDomain-form text form is =
+pub IsUrlDomain-form : (profile : Profile) (text form : List ℕ) → IsDomain profile text form
+    → IsUrlDomain profile form
+IsUrlDomain-form profile text form is =
     let parts = first_of_form form is.0.lengths in
     record {
       first = parts.0;
       rest = parts.1;
       some = parts.2;
-      letters = list_all-from_AllPass is_form_code_point form is.0.letters;
+      letters = list_all-from_AllPass (is_form_code_point profile) form is.0.letters;
       name = is.1;
     }
 

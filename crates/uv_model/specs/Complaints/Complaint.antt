@@ -1,9 +1,11 @@
--- The complaints of a text against a base: which rule its cut violates at which place, after the URL Standard,
--- sections 3.4 and 4.3.
+-- The complaints of a text by a profile, against a base: which rule its cut violates at which place, after the URL
+-- Standard, sections 3.4 and 4.3.
 use Rattle.std.specs.Prelude.{◌≡◌, ◌≢◌, ℕ, ◌+◌, ◌<◌, ◌⊎◌, Bool, true, false, ◌==◌, List, [], ◌∷◌, drop, Option, Some, None, IsSome, if◌then◌else◌}
 use Rattle.std.specs.List.{list_all}
 use Rattle.std.specs.Char.{is_ascii_digit}
 use Rattle.std.specs.Str.Parse.{digits_value}
+use Rattle.uv_model.specs.declared.profile.Profile.{Profile}
+use Rattle.uv_model.specs.declared.profile.Profile.TheVariants.{Standard, Wide}
 use Rattle.uv_model.specs.declared.scheme.Class.{Class}
 use Rattle.uv_model.specs.declared.scheme.Class.TheVariants.{Special, File, Other}
 use Rattle.uv_model.specs.declared.host.Host.TheVariants.{Empty}
@@ -12,11 +14,12 @@ use Rattle.uv_model.specs.declared.rule.Rule.{Rule}
 use Rattle.uv_model.specs.declared.rule.Rule.TheVariants.{NoScheme, OpaqueBase, TwoSlashes, HostMissing, HostDomain, HostNumber, HostIpv6, PortDigit, PortRange, FirstSegmentEmpty, DriveAfterHost}
 use Rattle.uv_model.specs.Hosts.Address.{IsIpv4}
 use Rattle.uv_model.specs.Ascii.{number_sign}
-use Rattle.uv_model.specs.Cut.{Cut, cut_of, class_in, starts_with_two_slashes, scheme_end, host_place, port_place, path_place, query_place, fragment_place}
+use Rattle.uv_model.specs.Cut.{Cut, cut_of, starts_with_two_slashes, scheme_end, host_place, port_place, path_place, query_place, fragment_place}
 use Rattle.uv_model.specs.Hosts.Domain.{IsNumberText, HasNoForm}
 use Rattle.uv_model.specs.Hosts.OpaqueHost.{starts_with_bracket}
 use Rattle.uv_model.specs.Complaints.OpaqueHostComplaint.{IsBadIpv6, OpaqueHostComplaint}
 use Rattle.uv_model.specs.Path.{starts_with_slash, starts_with_drive}
+use Rattle.uv_model.specs.Setting.{Setting, setting_of}
 use Rattle.uv_model.specs.Complaints.UnitComplaint.{UnitComplaint}
 use Rattle.uv_model.specs.Records.Url.{Url, is_opaque}
 
@@ -33,20 +36,20 @@ HasOpaquePath None = ⊥
 HasOpaquePath (Some base) = is_opaque base.path ≡ true
 
 -- a scheme other than of class Other, without the `//` that it needs
-abbrev pub LacksSlashes : Cut → Type 0
-LacksSlashes cut = IsSome cut.scheme × (class_in None cut.scheme ≢ Other) × (cut.host_text ≡ None)
+abbrev pub LacksSlashes : Setting → Cut → Type 0
+LacksSlashes setting cut = IsSome cut.scheme × (setting.class ≢ Other) × (cut.host_text ≡ None)
 
 -- the first of the two code points behind a scheme and `:` that isn't `/`, or the text's end
 abbrev pub slashes_place : Cut → ℕ
 slashes_place cut = scheme_end cut + (if starts_with_slash cut.path_text then 1 else 0)
 
 -- the rules under which no host, port and path start is judged
-abbrev pub StartComplaint : Option Url → List ℕ → Cut → ℕ → Rule → Type 0
-StartComplaint base text cut place NoScheme = (cut.scheme ≡ None) × (base ≡ None) × (place ≡ 0)
-StartComplaint base text cut place OpaqueBase =
-    (cut.scheme ≡ None) × HasOpaquePath base × (starts_with_number_sign text ≡ false) × (place ≡ 0)
-StartComplaint base text cut place TwoSlashes = LacksSlashes cut × (place ≡ slashes_place cut)
-StartComplaint base text cut place _ = ⊥
+abbrev pub StartComplaint : Setting → List ℕ → Cut → ℕ → Rule → Type 0
+StartComplaint setting text cut place NoScheme = (cut.scheme ≡ None) × (setting.base ≡ None) × (place ≡ 0)
+StartComplaint setting text cut place OpaqueBase =
+    (cut.scheme ≡ None) × HasOpaquePath setting.base × (starts_with_number_sign text ≡ false) × (place ≡ 0)
+StartComplaint setting text cut place TwoSlashes = LacksSlashes setting cut × (place ≡ slashes_place cut)
+StartComplaint setting text cut place _ = ⊥
 
 -- ---- the host, by the class; places count from its first code point
 
@@ -57,11 +60,11 @@ pub record ShouldBeDomain (text : List ℕ) : Type 0 where
   pub no_ipv4 : (value : ℕ) → ¬ (IsIpv4 text value)
 
 -- the rules of the host of a URL of class Special or File, but for the rule of a missing host
-abbrev pub HostTextComplaint : List ℕ → Rule → Type 0
-HostTextComplaint host_text HostDomain = ShouldBeDomain host_text × HasNoForm host_text
-HostTextComplaint host_text HostNumber = ShouldBeDomain host_text × IsNumberText host_text
-HostTextComplaint host_text HostIpv6 = IsBadIpv6 host_text
-HostTextComplaint host_text _ = ⊥
+abbrev pub HostTextComplaint : Profile → List ℕ → Rule → Type 0
+HostTextComplaint profile host_text HostDomain = ShouldBeDomain host_text × HasNoForm profile host_text
+HostTextComplaint profile host_text HostNumber = ShouldBeDomain host_text × IsNumberText profile host_text
+HostTextComplaint profile host_text HostIpv6 = IsBadIpv6 host_text
+HostTextComplaint profile host_text _ = ⊥
 
 -- The host is missing: in class Special wherever it is empty, in class File where no path follows it, and else where
 -- a port follows it.
@@ -71,15 +74,16 @@ LacksHost File host_text port_text path_text = (host_text ≡ []) × (starts_wit
 LacksHost Other host_text port_text path_text = (host_text ≡ []) × IsSome port_text
 
 -- the rules of a host by what it holds
-abbrev pub HeldHostComplaint : Class → List ℕ → ℕ → Rule → Type 0
-HeldHostComplaint Other host_text place rule = OpaqueHostComplaint host_text place rule
-HeldHostComplaint _ host_text place rule = HostTextComplaint host_text rule × (place ≡ 0)
+abbrev pub HeldHostComplaint : Profile → Class → List ℕ → ℕ → Rule → Type 0
+HeldHostComplaint profile Other host_text place rule = OpaqueHostComplaint host_text place rule
+HeldHostComplaint profile _ host_text place rule = HostTextComplaint profile host_text rule × (place ≡ 0)
 
 -- the rules of a host
-abbrev pub HostComplaint : Class → List ℕ → Option (List ℕ) → List ℕ → ℕ → Rule → Type 0
-HostComplaint kind host_text port_text path_text place HostMissing =
-    LacksHost kind host_text port_text path_text × (place ≡ 0)
-HostComplaint kind host_text port_text path_text place rule = HeldHostComplaint kind host_text place rule
+abbrev pub HostComplaint : Profile → Class → List ℕ → Option (List ℕ) → List ℕ → ℕ → Rule → Type 0
+HostComplaint profile class host_text port_text path_text place HostMissing =
+    LacksHost class host_text port_text path_text × (place ≡ 0)
+HostComplaint profile class host_text port_text path_text place rule =
+    HeldHostComplaint profile class host_text place rule
 
 -- ---- the port; places count from its first code point
 
@@ -109,13 +113,19 @@ HasHost base scheme (Some host_text) = host_text ≢ []
 HasHost (Some url) None None = url.host ≢ Some Empty
 HasHost _ _ None = ⊥
 
+-- an empty first segment that isn't the only one, where the profile forbids it
+abbrev pub HasEmptyFirst : Profile → List ℕ → Type 0
+HasEmptyFirst Standard path_text = starts_with_two_slashes path_text ≡ true
+HasEmptyFirst Wide path_text = ⊥
+
 -- the rules of the start of a path
-abbrev pub PathStartComplaint : Option Url → Cut → ℕ → Rule → Type 0
-PathStartComplaint base cut place FirstSegmentEmpty = (starts_with_two_slashes cut.path_text ≡ true) × (place ≡ 1)
-PathStartComplaint base cut place DriveAfterHost =
-    (class_in base cut.scheme ≡ File) × HasHost base cut.scheme cut.host_text
+abbrev pub PathStartComplaint : Setting → Cut → ℕ → Rule → Type 0
+PathStartComplaint setting cut place FirstSegmentEmpty =
+    HasEmptyFirst setting.profile cut.path_text × (place ≡ 1)
+PathStartComplaint setting cut place DriveAfterHost =
+    (setting.class ≡ File) × HasHost setting.base cut.scheme cut.host_text
     × (starts_with_drive cut.path_text ≡ true) × (place ≡ 0)
-PathStartComplaint base cut place _ = ⊥
+PathStartComplaint setting cut place _ = ⊥
 
 -- ---- the whole text
 
@@ -140,14 +150,14 @@ fault_or None second = second
 fault_or (Some refusal) second = Some refusal
 
 -- the complaints of the host, where there is an authority
-abbrev pub HostPartComplaint : Option Url → Cut → ℕ → Rule → Type 0
-HostPartComplaint base cut place rule = of_host cut.host_text
+abbrev pub HostPartComplaint : Setting → Cut → ℕ → Rule → Type 0
+HostPartComplaint setting cut place rule = of_host cut.host_text
   where
     of_host : Option (List ℕ) → Type 0
     of_host None = ⊥
     of_host (Some host_text) =
         Behind (host_place cut)
-        (HostComplaint (class_in base cut.scheme) host_text cut.port_text cut.path_text) place rule
+        (HostComplaint setting.profile setting.class host_text cut.port_text cut.path_text) place rule
 
 -- the complaints of the port, where there is one
 abbrev pub PortPartComplaint : Cut → ℕ → Rule → Type 0
@@ -158,10 +168,10 @@ PortPartComplaint cut place rule = of_port cut.host_text cut.port_text
     of_port _ _ = ⊥
 
 -- the complaints of the parts that are judged where no rule of the start is violated
-abbrev pub JudgedComplaint : Option Url → Cut → ℕ → Rule → Type 0
-JudgedComplaint base cut place rule =
-    HostPartComplaint base cut place rule ⊎ (PortPartComplaint cut place rule
-    ⊎ Behind (path_place cut) (PathStartComplaint base cut) place rule)
+abbrev pub JudgedComplaint : Setting → Cut → ℕ → Rule → Type 0
+JudgedComplaint setting cut place rule =
+    HostPartComplaint setting cut place rule ⊎ (PortPartComplaint cut place rule
+    ⊎ Behind (path_place cut) (PathStartComplaint setting cut) place rule)
 
 -- the complaints of a text that may be absent, by what it holds
 abbrev pub MayBeUnitComplaint : ℕ → Option (List ℕ) → ℕ → Rule → Type 0
@@ -176,15 +186,16 @@ HeldComplaint cut place rule =
     ⊎ MayBeUnitComplaint (fragment_place cut) cut.fragment place rule)
 
 -- no rule of the start is violated
-abbrev pub IsStarted : Option Url → List ℕ → Cut → Type 0
-IsStarted base text cut = (place : ℕ) (rule : Rule) → ¬ (StartComplaint base text cut place rule)
+abbrev pub IsStarted : Setting → List ℕ → Cut → Type 0
+IsStarted setting text cut = (place : ℕ) (rule : Rule) → ¬ (StartComplaint setting text cut place rule)
 
 -- the text with this cut violates the rule at the place
-abbrev pub ComplaintOf : Option Url → List ℕ → Cut → ℕ → Rule → Type 0
-ComplaintOf base text cut place rule =
-    StartComplaint base text cut place rule
-    ⊎ ((IsStarted base text cut × JudgedComplaint base cut place rule) ⊎ HeldComplaint cut place rule)
+abbrev pub ComplaintOf : Setting → List ℕ → Cut → ℕ → Rule → Type 0
+ComplaintOf setting text cut place rule =
+    StartComplaint setting text cut place rule
+    ⊎ ((IsStarted setting text cut × JudgedComplaint setting cut place rule) ⊎ HeldComplaint cut place rule)
 
--- the text violates the rule at the place
-unfoldable pub Complaint : Option Url → List ℕ → ℕ → Rule → Type 0
-Complaint base text place rule = ComplaintOf base text (cut_of base text) place rule
+-- the text, against the base, violates the rule of the profile at the place
+unfoldable pub Complaint : Profile → Option Url → List ℕ → ℕ → Rule → Type 0
+Complaint profile base text place rule =
+    let cut = cut_of base text in ComplaintOf (setting_of profile base cut.scheme) text cut place rule

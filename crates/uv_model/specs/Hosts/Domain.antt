@@ -10,7 +10,9 @@ use Rattle.idna.specs.declared.options.DnsLength.TheVariants.{Ignore}
 use Rattle.idna.specs.Labels.{is_full_stop, labels_of}
 use Rattle.idna.specs.Uts46.{to_ascii, to_unicode, domain_to_ascii}
 use Rattle.idna.specs.Validity.{has_ace_prefix}
-use Rattle.uv_model.specs.Ascii.{hyphen, full_stop}
+use Rattle.uv_model.specs.declared.profile.Profile.{Profile}
+use Rattle.uv_model.specs.declared.profile.Profile.TheVariants.{Standard, Wide}
+use Rattle.uv_model.specs.Ascii.{hyphen, full_stop, underscore}
 use Rattle.uv_model.specs.Scheme.{lowercase}
 
 -- ---- the number rule
@@ -37,17 +39,22 @@ ends_in_number text = is_digits (last_label text) || is_hexadecimal (last_label 
 
 -- ---- valid domains
 
--- the code point is beyond ASCII, or a letter, a digit, the hyphen or the full stop
-abbrev pub is_permitted : ℕ → Bool
-is_permitted c = not (is_ascii c) || (is_ascii_alphanumeric c || ((c == hyphen) || (c == full_stop)))
+-- the ASCII code points of a domain beside letters and digits: the hyphen and the full stop, in the wide profile also `_`
+abbrev pub is_domain_mark : Profile → ℕ → Bool
+is_domain_mark Standard c = (c == hyphen) || (c == full_stop)
+is_domain_mark Wide c = (c == underscore) || ((c == hyphen) || (c == full_stop))
 
--- the ASCII code points of the text are letters, digits, hyphens and full stops
-unfoldable pub has_permitted : List ℕ → Bool
-has_permitted text = list_all is_permitted text
+-- the code point is beyond ASCII, or a letter, a digit or a mark of a domain
+abbrev pub is_permitted : Profile → ℕ → Bool
+is_permitted profile c = not (is_ascii c) || (is_ascii_alphanumeric c || is_domain_mark profile c)
 
--- a lower-case letter, a digit, the hyphen or the full stop
-abbrev pub is_form_code_point : ℕ → Bool
-is_form_code_point c = is_ascii_lowercase c || (is_ascii_digit c || ((c == hyphen) || (c == full_stop)))
+-- the ASCII code points of the text are letters, digits and marks of a domain
+unfoldable pub has_permitted : Profile → List ℕ → Bool
+has_permitted profile text = list_all (is_permitted profile) text
+
+-- a lower-case letter, a digit or a mark of a domain
+abbrev pub is_form_code_point : Profile → ℕ → Bool
+is_form_code_point profile c = is_ascii_lowercase c || (is_ascii_digit c || is_domain_mark profile c)
 
 -- each label has 1 to 63 code points and the whole 1 to 253, where one full stop at the end isn't counted
 abbrev pub has_lengths : List ℕ → Bool
@@ -68,23 +75,38 @@ is_plain_ascii text =
 unfoldable pub parser_form : List ℕ → Option (List ℕ)
 parser_form text = if is_plain_ascii text then Some (lowercase text) else domain_to_ascii EMPTY (encode_utf8_all text)
 
--- the text has this form, by both settings, and ToUnicode takes the form
-pub record IsForm (text form : List ℕ) : Type 0 where
-  pub permitted : has_permitted text ≡ true
-  pub strict : strict_form text ≡ Some form
-  pub letters : All (λ c. is_form_code_point c ≡ true) form
-  pub lengths : has_lengths form ≡ true
-  pub parsed : parser_form text ≡ Some form
+-- the form is also that of the strict settings, and ToUnicode at them takes it
+pub record IsStrict (text form : List ℕ) : Type 0 where
+  pub ascii : strict_form text ≡ Some form
   pub shown : IsSome (to_unicode STD3 Check form)
 
+-- what a profile asks of a form beyond the settings of the URL parser
+abbrev pub FitsProfile : Profile → List ℕ → List ℕ → Type 0
+FitsProfile Standard text form = IsStrict text form
+FitsProfile Wide text form = Unit {0}
+
+-- the text has this form
+pub record IsForm (profile : Profile) (text form : List ℕ) : Type 0 where
+  pub permitted : has_permitted profile text ≡ true
+  pub parsed : parser_form text ≡ Some form
+  pub letters : All (λ c. is_form_code_point profile c ≡ true) form
+  pub lengths : has_lengths form ≡ true
+  pub fits : FitsProfile profile text form
+
 -- a valid domain of this form
-abbrev pub IsDomain : List ℕ → List ℕ → Type 0
-IsDomain text form = IsForm text form × (ends_in_number form ≡ false)
+abbrev pub IsDomain : Profile → List ℕ → List ℕ → Type 0
+IsDomain profile text form = IsForm profile text form × (ends_in_number form ≡ false)
 
 -- a domain but for its form, which ends in a number
-abbrev pub IsNumberText : List ℕ → Type 0
-IsNumberText text = (form : List ℕ) × IsForm text form × (ends_in_number form ≡ true)
+abbrev pub IsNumberText : Profile → List ℕ → Type 0
+IsNumberText profile text = (form : List ℕ) × IsForm profile text form × (ends_in_number form ≡ true)
 
 -- the text has no form
-abbrev pub HasNoForm : List ℕ → Type 0
-HasNoForm text = (form : List ℕ) → ¬ (IsForm text form)
+abbrev pub HasNoForm : Profile → List ℕ → Type 0
+HasNoForm profile text = (form : List ℕ) → ¬ (IsForm profile text form)
+
+-- ---- laws
+
+-- a valid domain of the standard profile is one of the wide profile, with the same form
+abbrev pub StandardDomainsAreWide : Type 0
+StandardDomainsAreWide = (text form : List ℕ) → IsDomain Standard text form → IsDomain Wide text form

@@ -3,6 +3,7 @@ use Rattle.std.specs.Prelude.{◌≡◌, [], ◌∷◌, codes, Option, Some, Non
 use Rattle.uv_model.specs.declared.host.Host.TheVariants.{Empty}
 use Rattle.uv_model.specs.declared.host.Host.TheVariants as host
 use Rattle.uv_model.specs.declared.path.UrlPath.TheVariants.{Opaque, Segments}
+use Rattle.uv_model.specs.declared.profile.Profile.TheVariants.{Standard}
 use Rattle.uv_model.specs.declared.rule.Rule.TheVariants.{NoScheme, OpaqueBase, TwoSlashes, HostMissing, HostCodePoint, PortDigit, PortRange, FirstSegmentEmpty, DriveAfterHost, CodePoint, Percent}
 use Rattle.uv_model.specs.Complaints.Complaint.{Complaint}
 use Rattle.uv_model.specs.Cut.{cut_of}
@@ -118,31 +119,31 @@ pub record CutRows : Type 0 where
 
 -- a complaint of each rule whose violation computes, at its place
 pub record ComplaintRows : Type 0 where
-  pub no_scheme : Complaint None (codes " http://h/") 0 NoScheme
-  pub no_scheme_nothing : Complaint None [] 0 NoScheme
-  pub no_scheme_path : Complaint None (codes "//h^/a b") 6 CodePoint
-  pub more_than_fragment : Complaint opaque_base (codes "x") 0 OpaqueBase
-  pub no_fragment : Complaint opaque_base [] 0 OpaqueBase
-  pub no_slashes : Complaint None (codes "http:") 5 TwoSlashes
-  pub one_slash : Complaint None (codes "http:/") 6 TwoSlashes
-  pub file_one_slash : Complaint file_base (codes "file:/C:/x") 6 TwoSlashes
-  pub special_host_missing : Complaint None (codes "http://") 7 HostMissing
-  pub file_host_missing : Complaint None (codes "file://") 7 HostMissing
-  pub other_host_missing : Complaint None (codes "foo://:80") 6 HostMissing
-  pub host_code_point : Complaint None (codes "foo://u@h/") 7 HostCodePoint
-  pub host_bracket : Complaint None (codes "foo://a[:b/") 7 HostCodePoint
-  pub host_colon : Complaint None (codes "foo://a[:b/") 8 HostCodePoint
-  pub port_digit : Complaint None (codes "http://h:8a/") 10 PortDigit
-  pub port_password : Complaint None (codes "http://user:pw@h/") 12 PortDigit
-  pub port_range : Complaint None (codes "http://h:65536/") 9 PortRange
-  pub first_segment : Complaint None (codes "https://example.com//a") 20 FirstSegmentEmpty
-  pub file_first_segment : Complaint None (codes "file:////a") 8 FirstSegmentEmpty
-  pub drive : Complaint None (codes "file://h/C:/x") 8 DriveAfterHost
-  pub localhost_drive : Complaint None (codes "file://localhost/C:/x") 16 DriveAfterHost
-  pub base_drive : Complaint file_base (codes "/C:/x") 0 DriveAfterHost
-  pub path_percent : Complaint None (codes "http://h/%4?a") 9 Percent
-  pub path_space : Complaint None (codes "http://h/a b") 10 CodePoint
-  pub fragment_sign : Complaint None (codes "http://h/#a#b") 11 CodePoint
+  pub no_scheme : Complaint Standard None (codes " http://h/") 0 NoScheme
+  pub no_scheme_nothing : Complaint Standard None [] 0 NoScheme
+  pub no_scheme_path : Complaint Standard None (codes "//h^/a b") 6 CodePoint
+  pub more_than_fragment : Complaint Standard opaque_base (codes "x") 0 OpaqueBase
+  pub no_fragment : Complaint Standard opaque_base [] 0 OpaqueBase
+  pub no_slashes : Complaint Standard None (codes "http:") 5 TwoSlashes
+  pub one_slash : Complaint Standard None (codes "http:/") 6 TwoSlashes
+  pub file_one_slash : Complaint Standard file_base (codes "file:/C:/x") 6 TwoSlashes
+  pub special_host_missing : Complaint Standard None (codes "http://") 7 HostMissing
+  pub file_host_missing : Complaint Standard None (codes "file://") 7 HostMissing
+  pub other_host_missing : Complaint Standard None (codes "foo://:80") 6 HostMissing
+  pub host_code_point : Complaint Standard None (codes "foo://u@h/") 7 HostCodePoint
+  pub host_bracket : Complaint Standard None (codes "foo://a[:b/") 7 HostCodePoint
+  pub host_colon : Complaint Standard None (codes "foo://a[:b/") 8 HostCodePoint
+  pub port_digit : Complaint Standard None (codes "http://h:8a/") 10 PortDigit
+  pub port_password : Complaint Standard None (codes "http://user:pw@h/") 12 PortDigit
+  pub port_range : Complaint Standard None (codes "http://h:65536/") 9 PortRange
+  pub first_segment : Complaint Standard None (codes "https://example.com//a") 20 FirstSegmentEmpty
+  pub file_first_segment : Complaint Standard None (codes "file:////a") 8 FirstSegmentEmpty
+  pub drive : Complaint Standard None (codes "file://h/C:/x") 8 DriveAfterHost
+  pub localhost_drive : Complaint Standard None (codes "file://localhost/C:/x") 16 DriveAfterHost
+  pub base_drive : Complaint Standard file_base (codes "/C:/x") 0 DriveAfterHost
+  pub path_percent : Complaint Standard None (codes "http://h/%4?a") 9 Percent
+  pub path_space : Complaint Standard None (codes "http://h/a b") 10 CodePoint
+  pub fragment_sign : Complaint Standard None (codes "http://h/#a#b") 11 CodePoint
 
 -- the rows of both
 pub record CutAndComplaintRows : Type 0 where

@@ -1,5 +1,6 @@
 -- The laws of cuts and of complaints, each over every base and every text.
 use Rattle.std.specs.Prelude.{◌≡◌, ◌↔◌, ℕ, true, List, ◌∷◌, ◌++◌, Option}
+use Rattle.uv_model.specs.declared.profile.Profile.{Profile}
 use Rattle.uv_model.specs.Records.Url.{Url}
 use Rattle.uv_model.specs.Parts.{Parts}
 use Rattle.uv_model.specs.Valid.{Valid, starts_with_scheme}
@@ -21,15 +22,17 @@ EveryTextHasOneCut = (base : Option Url) (text : List ℕ) → HasOneCut base te
 -- the cut of a valid text has the texts of its parts
 abbrev pub ValidTextsAreCutIntoTheirParts : Type 0
 ValidTextsAreCutIntoTheirParts =
-    (base : Option Url) (text : List ℕ) (parts : Parts) → Valid base text parts → IsCut base text (texts_of parts)
+    (profile : Profile) (base : Option Url) (text : List ℕ) (parts : Parts) → Valid profile base text parts → IsCut base text (texts_of parts)
 
 -- the text has the same cut, the same valid parts and the same complaints against every base
 pub record IgnoresTheBase (text : List ℕ) : Type 0 where
   pub cut : (base other : Option Url) → cut_of base text ≡ cut_of other text
-  pub valid : (base other : Option Url) (parts : Parts) → Valid base text parts → Valid other text parts
+  pub valid :
+      (profile : Profile) (base other : Option Url) (parts : Parts)
+      → Valid profile base text parts → Valid profile other text parts
   pub complaint :
-      (base other : Option Url) (place : ℕ)
-      (rule : Rule) → Complaint base text place rule → Complaint other text place rule
+      (profile : Profile) (base other : Option Url) (place : ℕ) (rule : Rule)
+      → Complaint profile base text place rule → Complaint profile other text place rule
 
 -- a text with a scheme is judged without looking at the base
 abbrev pub TextsWithASchemeIgnoreTheBase : Type 0
@@ -38,13 +41,14 @@ TextsWithASchemeIgnoreTheBase = (text : List ℕ) → starts_with_scheme text �
 -- a text with a complaint has no valid parts
 abbrev pub TextsWithAComplaintHaveNoParts : Type 0
 TextsWithAComplaintHaveNoParts =
-    (base : Option Url) (text : List ℕ) (place : ℕ) (rule : Rule) → Complaint base text place rule
-    → (parts : Parts) → ¬ (Valid base text parts)
+    (profile : Profile) (base : Option Url) (text : List ℕ) (place : ℕ) (rule : Rule)
+    → Complaint profile base text place rule → (parts : Parts) → ¬ (Valid profile base text parts)
 
 -- the parts of a valid text are unique
 abbrev pub PartsAreUnique : Type 0
 PartsAreUnique =
-    (base : Option Url) (text : List ℕ) (p q : Parts) → Valid base text p → Valid base text q → p ≡ q
+    (profile : Profile) (base : Option Url) (text : List ℕ) (p q : Parts)
+    → Valid profile base text p → Valid profile base text q → p ≡ q
 
 -- the text has a `[` behind which no bracket follows
 pub record EndsBehindOpenBracket (text : List ℕ) : Type 0 where

@@ -1,7 +1,9 @@
--- Well-formed records: what the URL Standard, section 4.1, asks of a URL, and what the texts of this product give.
+-- Well-formed records: what the URL Standard, section 4.1, asks of a URL, and what the texts of each profile give.
 use Rattle.std.specs.Prelude.{◌≡◌, ◌≢◌, ℕ, Bool, true, false, not, List, [], ◌∷◌, codes, Option, Some, None}
 use Rattle.std.specs.List.{list_all}
 use Rattle.std.specs.Char.{is_ascii, is_ascii_uppercase}
+use Rattle.uv_model.specs.declared.profile.Profile.{Profile}
+use Rattle.uv_model.specs.declared.profile.Profile.TheVariants.{Standard, Wide}
 use Rattle.uv_model.specs.declared.scheme.Class.{Class}
 use Rattle.uv_model.specs.declared.scheme.Class.TheVariants.{Special, File, Other}
 use Rattle.uv_model.specs.declared.host.Host.{Host}
@@ -36,12 +38,12 @@ pub record IsUrlScheme (scheme : List ℕ) : Type 0 where
   pub spelled : is_scheme scheme ≡ true
   pub lower : list_all (λ c. not (is_ascii_uppercase c)) scheme ≡ true
 
--- a domain: lower-case letters, digits, `-` and `.`, at least one, and not ending in a number
-pub record IsUrlDomain (form : List ℕ) : Type 0 where
+-- a domain: lower-case letters, digits and the profile's marks, at least one, and not ending in a number
+pub record IsUrlDomain (profile : Profile) (form : List ℕ) : Type 0 where
   pub first : ℕ
   pub rest : List ℕ
   pub some : form ≡ first ∷ rest
-  pub letters : list_all is_form_code_point form ≡ true
+  pub letters : list_all (is_form_code_point profile) form ≡ true
   pub name : ends_in_number form ≡ false
 
 -- an opaque host: ASCII, units without forbidden host code points
@@ -50,19 +52,19 @@ pub record IsUrlOpaqueHost (text : List ℕ) : Type 0 where
   pub ascii : is_ascii_text text ≡ true
 
 -- the host of a URL of class Special: a domain or an address
-abbrev pub IsSpecialHost : Option Host → Type 0
-IsSpecialHost (Some (host.Domain form)) = IsUrlDomain form
-IsSpecialHost (Some (host.V4 value)) = Unit {0}
-IsSpecialHost (Some (host.V6 pieces)) = Unit {0}
-IsSpecialHost _ = ⊥
+abbrev pub IsSpecialHost : Profile → Option Host → Type 0
+IsSpecialHost profile (Some (host.Domain form)) = IsUrlDomain profile form
+IsSpecialHost profile (Some (host.V4 value)) = Unit {0}
+IsSpecialHost profile (Some (host.V6 pieces)) = Unit {0}
+IsSpecialHost profile _ = ⊥
 
 -- the host of a file URL: a domain but `localhost`, an address, or the empty host
-abbrev pub IsFileHost : Option Host → Type 0
-IsFileHost (Some (host.Domain form)) = IsUrlDomain form × (form ≢ codes "localhost")
-IsFileHost (Some (host.V4 value)) = Unit {0}
-IsFileHost (Some (host.V6 pieces)) = Unit {0}
-IsFileHost (Some host.Empty) = Unit {0}
-IsFileHost _ = ⊥
+abbrev pub IsFileHost : Profile → Option Host → Type 0
+IsFileHost profile (Some (host.Domain form)) = IsUrlDomain profile form × (form ≢ codes "localhost")
+IsFileHost profile (Some (host.V4 value)) = Unit {0}
+IsFileHost profile (Some (host.V6 pieces)) = Unit {0}
+IsFileHost profile (Some host.Empty) = Unit {0}
+IsFileHost profile _ = ⊥
 
 -- the host of any other URL: none, an opaque host, an IPv6 address, or the empty host
 abbrev pub IsOtherHost : Option Host → Type 0
@@ -73,10 +75,10 @@ IsOtherHost (Some host.Empty) = Unit {0}
 IsOtherHost _ = ⊥
 
 -- the host by the class of the scheme
-abbrev pub IsUrlHost : Class → Option Host → Type 0
-IsUrlHost Special host = IsSpecialHost host
-IsUrlHost File host = IsFileHost host
-IsUrlHost Other host = IsOtherHost host
+abbrev pub IsUrlHost : Profile → Class → Option Host → Type 0
+IsUrlHost profile Special host = IsSpecialHost profile host
+IsUrlHost profile File host = IsFileHost profile host
+IsUrlHost profile Other host = IsOtherHost host
 
 -- a host that a port may follow
 abbrev pub takes_port : Class → Option Host → Bool
@@ -131,16 +133,22 @@ abbrev pub IsUrlFragment : Option (List ℕ) → Type 0
 IsUrlFragment None = Unit {0}
 IsUrlFragment (Some fragment) = IsAsciiUnits fragment
 
--- the record is well formed
-pub record WellFormed (url : Url) : Type 0 where
+-- the record is well formed, by the profile
+pub record WellFormed (profile : Profile) (url : Url) : Type 0 where
   pub scheme : IsUrlScheme url.scheme
-  pub host : IsUrlHost (scheme_class url.scheme) url.host
+  pub host : IsUrlHost profile (scheme_class url.scheme) url.host
   pub port : IsUrlPort url.scheme url.host url.port
   pub path : IsUrlPath (scheme_class url.scheme) url.host url.path
   pub query : IsUrlQuery (scheme_class url.scheme) url.query
   pub fragment : IsUrlFragment url.fragment
 
 -- an absent record, or a well-formed one, as a base is
-abbrev pub MayBeWellFormed : Option Url → Type 0
-MayBeWellFormed None = Unit {0}
-MayBeWellFormed (Some url) = WellFormed url
+abbrev pub MayBeWellFormed : Profile → Option Url → Type 0
+MayBeWellFormed profile None = Unit {0}
+MayBeWellFormed profile (Some url) = WellFormed profile url
+
+-- ---- a law
+
+-- a record that is well formed by the standard profile is so by the wide profile
+abbrev pub StandardRecordsAreWide : Type 0
+StandardRecordsAreWide = (url : Url) → WellFormed Standard url → WellFormed Wide url

@@ -32,6 +32,7 @@ fn sample(alloc: Global) -> Result<Option<Record>, Fail> {
         &path,
         some_query,
         some_fragment,
+        Profile::Standard,
     ) {
         return Ok(None);
     }
@@ -97,6 +98,7 @@ fn worked(alloc: Global) -> Result<Option<Record>, Fail> {
         &path,
         some_query,
         some_fragment,
+        Profile::Standard,
     ) {
         return Ok(None);
     }

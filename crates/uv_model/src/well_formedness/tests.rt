@@ -61,11 +61,27 @@ fn judges_hosts_and_ports(rt: HostRuntime) -> Result<(), Fail> {
         ("", None, None, false),
         ("f\u{F6}", None, None, false),
     ] {
-        assert_eq!(rt;
-            well_formed(scheme, host, port, &path, None, None),
-            want,
-            "{scheme} {host:?} {port:?}"
-        );
+        for profile in [Profile::Standard, Profile::Wide] {
+            assert_eq!(rt;
+                well_formed(scheme, host, port, &path, None, None, profile),
+                want,
+                "{scheme} {host:?} {port:?} {profile:?}"
+            );
+        }
+    }
+    Ok(())
+}
+
+#[test]
+fn permits_underscores_in_wide_domains(rt: HostRuntime) -> Result<(), Fail> {
+    let alloc = rt.alloc();
+    let path = segments(alloc, &["", "a"])?;
+    let host = Host::Domain(ascii(alloc, "a_b")?);
+    for scheme in ["http", "file"] {
+        for (profile, want) in [(Profile::Standard, false), (Profile::Wide, true)] {
+            let judged = well_formed(scheme, Some(&host), None, &path, None, None, profile);
+            assert_eq!(rt; judged, want, "{scheme} {profile:?}");
+        }
     }
     Ok(())
 }
@@ -85,15 +101,35 @@ fn judges_paths(rt: HostRuntime) -> Result<(), Fail> {
     ] {
         let path = segments(alloc, &texts)?;
         assert_eq!(rt;
-            well_formed("foo", None, None, &path, None, None),
+            well_formed("foo", None, None, &path, None, None, Profile::Standard),
             want,
             "{path:?}"
         );
     }
     let nothing = segments(alloc, &[])?;
-    assert!(rt; well_formed("foo", Some(&Host::Empty), None, &nothing, None, None));
-    assert!(rt; !well_formed("foo", None, None, &nothing, None, None));
-    assert!(rt; !well_formed("file", Some(&Host::Empty), None, &nothing, None, None));
+    assert!(rt;
+        well_formed(
+            "foo",
+            Some(&Host::Empty),
+            None,
+            &nothing,
+            None,
+            None,
+            Profile::Standard
+        )
+    );
+    assert!(rt; !well_formed("foo", None, None, &nothing, None, None, Profile::Standard));
+    assert!(rt;
+        !well_formed(
+            "file",
+            Some(&Host::Empty),
+            None,
+            &nothing,
+            None,
+            None,
+            Profile::Standard
+        )
+    );
     Ok(())
 }
 
@@ -112,13 +148,23 @@ fn judges_opaque_paths(rt: HostRuntime) -> Result<(), Fail> {
     ] {
         let path = UrlPath::Opaque(ascii(alloc, text)?);
         assert_eq!(rt;
-            well_formed(scheme, None, None, &path, None, None),
+            well_formed(scheme, None, None, &path, None, None, Profile::Standard),
             want,
             "{scheme} {text}"
         );
     }
     let path = UrlPath::Opaque(ascii(alloc, "a")?);
-    assert!(rt; !well_formed("urn", Some(&Host::Empty), None, &path, None, None));
+    assert!(rt;
+        !well_formed(
+            "urn",
+            Some(&Host::Empty),
+            None,
+            &path,
+            None,
+            None,
+            Profile::Standard
+        )
+    );
     Ok(())
 }
 
@@ -136,7 +182,15 @@ fn judges_queries_and_fragments(rt: HostRuntime) -> Result<(), Fail> {
         ("foo", None, Some("%g0"), false),
         ("foo", None, Some("\u{E9}"), false),
     ] {
-        let judged = well_formed(scheme, Some(&empty), None, &path, query, fragment);
+        let judged = well_formed(
+            scheme,
+            Some(&empty),
+            None,
+            &path,
+            query,
+            fragment,
+            Profile::Wide,
+        );
         assert_eq!(rt; judged, want, "{scheme} {query:?} {fragment:?}");
     }
     Ok(())

@@ -13,7 +13,7 @@ use Rattle.uv_model.specs.Parts.{Form, Parts, Authority, PathAbsolute, PathRelat
 use Rattle.uv_parser.specs.SilentTexts.{Silent, Takes, own_value}
 use Rattle.uv_model.specs.Path.{starts_with_slash}
 use Rattle.uv_parser.specs.Run.{first_removed}
-use Rattle.uv_model.specs.Scheme.{scheme_class}
+use Rattle.uv_model.specs.Scheme.{default_port, scheme_class}
 use Rattle.uv_model.specs.Records.Url.{Url, is_opaque}
 use Rattle.uv_model.specs.Valid.{port_given, starts_with_scheme}
 use Rattle.uv_model.proofs.Cuts.SchemesIgnoreBases.{cut_with_scheme}
@@ -438,7 +438,7 @@ module _ (url : Url) (text host_text : List ℕ) (port_text : Option (List ℕ))
             (λ g same. path_start_decided (Some url) path query fragment g free_behind is.authority.1)) [
               | inl (letters, taken, fine) ↦
                   let parts = reference_parts Authority (Some host_text) (Some taken.value) port_text
-                  (port_given url.scheme port_text) path (segments_behind path) query fragment in
+                  (port_given (default_port url.scheme) port_text) path (segments_behind path) query fragment in
                   let takes : Takes Special url.scheme host_text parts
                   = record {
                     value = taken.value;
@@ -453,7 +453,7 @@ module _ (url : Url) (text host_text : List ℕ) (port_text : Option (List ℕ))
                   } in
                   inl (
                     parts,
-                    reference_silent (Some taken.value) (port_given url.scheme port_text)
+                    reference_silent (Some taken.value) (port_given (default_port url.scheme) port_text)
                         (subst (λ (k : Class). Takes k url.scheme host_text parts) (sym special) takes) fine,
                   )
               | inr stops ↦ inr
@@ -485,7 +485,7 @@ module _ (url : Url) (text host_text : List ℕ) (port_text : Option (List ℕ))
       (λ g same. path_start_decided (Some url) path query fragment g free_behind is.authority.1)) [
         | inl (letters, taken, fine) ↦
             let parts = reference_parts Authority (Some host_text) (own_value taken.value) port_text
-            (port_given url.scheme port_text) path (segments_behind path) query fragment in
+            (port_given (default_port url.scheme) port_text) path (segments_behind path) query fragment in
             let takes : Takes Other url.scheme host_text parts
             = record {
               value = taken.value;
@@ -498,7 +498,7 @@ module _ (url : Url) (text host_text : List ℕ) (port_text : Option (List ℕ))
             } in
             inl (
               parts,
-              reference_silent (own_value taken.value) (port_given url.scheme port_text)
+              reference_silent (own_value taken.value) (port_given (default_port url.scheme) port_text)
                   (subst (λ (k : Class). Takes k url.scheme host_text parts) (sym other) takes) fine,
             )
         | inr stops ↦ inr (reference_authority_stops _ (omega (arith, long)) (start _ stops))

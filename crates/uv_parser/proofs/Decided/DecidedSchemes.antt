@@ -9,10 +9,10 @@ use Rattle.uv_model.specs.Ascii.{slash, colon, backslash, question_mark, number_
 use Rattle.uv_model.specs.Cut.{IsCut, IsHostCut, starts_with_two_slashes}
 use Rattle.uv_parser.specs.Machine.{begins, begins_two_slashes, has_same_scheme, sight, AuthorityState, FileHostState, FileSlashState, FileState, PathOrAuthorityState, SchemeState, SpecialAuthorityIgnoreSlashesState, SpecialAuthoritySlashesState, SpecialRelativeOrAuthorityState, empty_held, with_more}
 use Rattle.uv_model.specs.Parts.{Parts, SchemeAuthority, SchemePath, written_behind}
-use Rattle.uv_parser.specs.SilentTexts.{MayBePathSlashed, Silent, Takes, own_value}
-use Rattle.uv_model.specs.Path.{is_without, starts_with_slash}
+use Rattle.uv_parser.specs.SilentTexts.{Silent, Takes, own_value}
+use Rattle.uv_model.specs.Path.{MayBePathSlashed, is_without, starts_with_slash}
 use Rattle.uv_parser.specs.Run.{first_removed}
-use Rattle.uv_model.specs.Scheme.{lowercase, scheme_class}
+use Rattle.uv_model.specs.Scheme.{default_port, lowercase, scheme_class}
 use Rattle.uv_model.specs.Units.{is_faultless, is_unit_at}
 use Rattle.uv_model.specs.Records.Url.{Url}
 use Rattle.uv_model.specs.Valid.{FitsBase, port_given}
@@ -232,7 +232,7 @@ module _ (base : Option Url) (text scheme host_text : List ℕ) (port_text : Opt
             (λ g same. path_start_decided base path query fragment g free is.authority.1)) [
               | inl (letters, taken, fine) ↦
                   let parts = authority_parts scheme host_text port_text path query fragment (Some taken.value)
-                  (port_given scheme port_text) in
+                  (port_given (default_port scheme) port_text) in
                   let takes : Takes Special scheme host_text parts
                   = record {
                     value = taken.value;
@@ -247,7 +247,7 @@ module _ (base : Option Url) (text scheme host_text : List ℕ) (port_text : Opt
                   } in
                   inl (
                     parts,
-                    authority_silent (Some taken.value) (port_given scheme port_text)
+                    authority_silent (Some taken.value) (port_given (default_port scheme) port_text)
                         (subst (λ (k : Class). Takes k scheme host_text parts) (sym special) takes)
                         have.path_question_mark fine,
                   )
@@ -272,7 +272,7 @@ module _ (base : Option Url) (text scheme host_text : List ℕ) (port_text : Opt
       (λ g same. path_start_decided base path query fragment g free is.authority.1)) [
         | inl (letters, taken, fine) ↦
             let parts = authority_parts scheme host_text port_text path query fragment (own_value taken.value)
-            (port_given scheme port_text) in
+            (port_given (default_port scheme) port_text) in
             let takes : Takes Other scheme host_text parts
             = record {
               value = taken.value;
@@ -285,7 +285,7 @@ module _ (base : Option Url) (text scheme host_text : List ℕ) (port_text : Opt
             } in
             inl (
               parts,
-              authority_silent (own_value taken.value) (port_given scheme port_text)
+              authority_silent (own_value taken.value) (port_given (default_port scheme) port_text)
                   (subst (λ (k : Class). Takes k scheme host_text parts) (sym other) takes)
                   have.path_question_mark fine,
             )

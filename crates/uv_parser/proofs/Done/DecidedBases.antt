@@ -6,6 +6,7 @@ use Rattle.std.specs.Char.{is_ascii_uppercase, to_ascii_lowercase}
 use Rattle.std.proofs.lemmas.Bool.{and_parts, cases_Bool, false≢true, not-true, true≢false}
 use Rattle.std.proofs.lemmas.Bool.Decides.{nat_tests}
 use Rattle.uv_model.specs.declared.host.Host.{Host}
+use Rattle.uv_model.specs.declared.profile.Profile.TheVariants.{Wide}
 use Rattle.uv_model.specs.declared.scheme.Class.{Class}
 use Rattle.uv_model.specs.declared.scheme.Class.TheVariants.{Special, File, Other}
 use Rattle.uv_model.specs.declared.path.UrlPath.{UrlPath}
@@ -56,7 +57,7 @@ takes_none File = refl
 takes_none Other = refl
 
 -- with an opaque path there is neither a host nor a port
-opaque_facts : (url : Url) → WellFormed url → is_opaque url.path ≡ true → (url.host ≡ None) × (url.port ≡ None)
+opaque_facts : (url : Url) → WellFormed Wide url → is_opaque url.path ≡ true → (url.host ≡ None) × (url.port ≡ None)
 opaque_facts url is opaque = by_path url.path refl is.path
   where
     by_path : (path : UrlPath) → url.path ≡ path → IsUrlPath (scheme_class url.scheme) url.host path
@@ -74,7 +75,7 @@ option_some : (o : Option (List ℕ)) → IsSome o → (text : List ℕ) × (o �
 option_some None some = absurd (false≢true some)
 option_some (Some text) some = (text, refl)
 
-opaque_base_done : (url : Url) (text : List ℕ) (parts : Parts) → WellFormed url → is_opaque url.path ≡ true
+opaque_base_done : (url : Url) (text : List ℕ) (parts : Parts) → WellFormed Wide url → is_opaque url.path ≡ true
     → Silent (Some url) text parts → parts.scheme ≡ None → parts.form ≡ NoPath → parts.query ≡ None
     → (fragment : List ℕ) → parts.fragment ≡ Some fragment → RunsSilently (Some url) text parts
 opaque_base_done url text parts well opaque is none form no_query fragment given =
@@ -101,7 +102,7 @@ opaque_base_done url text parts well opaque is none form no_query fragment given
 -- ---- every text
 
 -- a file base has the scheme `file` and no port
-file_facts : (url : Url) → WellFormed url → scheme_class url.scheme ≡ File
+file_facts : (url : Url) → WellFormed Wide url → scheme_class url.scheme ≡ File
     → (is_file url.scheme ≡ true) × (url.scheme ≡ codes "file") × (url.port ≡ None)
 file_facts url is file = (
   rw file refl,
@@ -109,7 +110,7 @@ file_facts url is file = (
   port_absent url.scheme url.host url.port is.port (ap (λ k. takes_port k url.host) file),
 )
 
-file_cases : (url : Url) → WellFormed url
+file_cases : (url : Url) → WellFormed Wide url
     → ((scheme_class url.scheme ≡ File)
     × ((is_file url.scheme ≡ true) × (url.scheme ≡ codes "file") × (url.port ≡ None)))
     ⊎ (is_file url.scheme ≡ false)
@@ -125,7 +126,7 @@ scheme_missing None none fits = fits
 scheme_missing (Some scheme) none fits = cc
 
 -- without a scheme
-absent_done : (url : Url) (text : List ℕ) (parts : Parts) (form : Form) → WellFormed url
+absent_done : (url : Url) (text : List ℕ) (parts : Parts) (form : Form) → WellFormed Wide url
     → is_opaque url.path ≡ false → Silent (Some url) text parts → parts.form ≡ form
     → parts.scheme ≡ None → RunsSilently (Some url) text parts
 absent_done url text parts SchemeAuthority well segments is e none = absurd (scheme_missing parts.scheme none (subst (λ (f : Form). FitsScheme (has_scheme f) parts.scheme) e is.scheme))
@@ -156,7 +157,7 @@ absent_done url text parts NoPath well segments is e none =
       | inr plain ↦ no_path_done url text parts is segments plain none e
     ]
 
-silent_done : (url : Url) (text : List ℕ) (parts : Parts) (scheme : Option (List ℕ)) → WellFormed url
+silent_done : (url : Url) (text : List ℕ) (parts : Parts) (scheme : Option (List ℕ)) → WellFormed Wide url
     → Silent (Some url) text parts → parts.scheme ≡ scheme
     → RunsSilently (Some url) text parts
 silent_done url text parts (Some scheme) well is named =
@@ -178,7 +179,7 @@ silent_done url text parts None well is none =
         opaque_base_done url text parts well opaque is none form no_query fragment given
 
 -- each text
-pub texts_are_decided : (base : Option Url) (text : List ℕ) → MayBeWellFormed base → IsDecided base text
+pub texts_are_decided : (base : Option Url) (text : List ℕ) → MayBeWellFormed Wide base → IsDecided base text
 texts_are_decided None text well = texts_alone_are_decided text
 texts_are_decided (Some url) text well =
     is_decided (Some url) text (λ parts is. silent_done url text parts parts.scheme well is refl)

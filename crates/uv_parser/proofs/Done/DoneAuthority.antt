@@ -16,12 +16,13 @@ use Rattle.uv_parser.specs.Ipv6Parser.{parse_ipv6}
 use Rattle.std.specs.Prelude.{◌-◌, slice_index, take, option_map}
 use Rattle.uv_parser.specs.Machine.{is_special}
 use Rattle.uv_model.specs.Parts.{Form, Parts, SchemeAuthority, has_scheme, written_authority, written_behind}
-use Rattle.uv_parser.specs.SilentTexts.{own_value, IsTakenFileHost, MayBePathSlashed, Silent, Takes, TakesAuthority, TakesFile, TakesHostText, TakesOther, TakesSpecial}
-use Rattle.uv_model.specs.Path.{is_without}
+use Rattle.uv_parser.specs.SilentTexts.{own_value, IsTakenFileHost, Silent, Takes, TakesAuthority, TakesFile, TakesHostText, TakesOther, TakesSpecial}
+use Rattle.uv_model.specs.Path.{MayBePathSlashed, is_without}
 use Rattle.uv_model.specs.Scheme.{is_scheme, lowercase, scheme_class}
 use Rattle.uv_parser.specs.Laws.Silence.{RunsSilently}
 use Rattle.uv_model.specs.Records.Url.{Url}
-use Rattle.uv_model.specs.Valid.{FitsScheme, MayBePortText, scheme_in, scheme_or}
+use Rattle.uv_model.specs.Setting.{scheme_or}
+use Rattle.uv_model.specs.Valid.{FitsScheme, MayBePortText, scheme_in}
 use Rattle.uv_model.proofs.Cuts.AuthorityCutLemmas.{EndsFrom, ends_from_start, first_is_no_mark, rest_ends}
 use Rattle.uv_parser.proofs.Loops.AuthorityEnds.{IsParsed}
 use Rattle.uv_parser.proofs.Loops.AuthorityLoops.{is_authority_letter, is_read_as_host}

@@ -10,10 +10,11 @@ use Rattle.uv_model.specs.Records.Denote.{authority_path}
 use Rattle.uv_parser.specs.Machine.{State, begins, AuthorityState, NoSchemeState, RelativeSlashState, RelativeState, SpecialAuthorityIgnoreSlashesState, empty_held, is_file, is_special, with_scheme}
 use Rattle.uv_model.specs.Parts.{Parts, Authority, written_behind, written_authority}
 use Rattle.uv_parser.specs.SilentTexts.{Silent}
-use Rattle.uv_model.specs.Scheme.{lowercase, scheme_class}
+use Rattle.uv_model.specs.Scheme.{default_port, lowercase, scheme_class}
 use Rattle.uv_parser.specs.Laws.Silence.{RunsSilently}
 use Rattle.uv_model.specs.Records.Url.{Url, is_opaque}
-use Rattle.uv_model.specs.Valid.{port_given, scheme_in, scheme_or}
+use Rattle.uv_model.specs.Setting.{scheme_or}
+use Rattle.uv_model.specs.Valid.{port_given, scheme_in}
 use Rattle.uv_parser.proofs.Loops.AuthorityEnds.{Behind, authority_ends, hosted}
 use Rattle.uv_parser.proofs.Decided.CutTexts.{cut_text}
 use Rattle.uv_parser.proofs.Done.Decided.{takes_form}
@@ -57,7 +58,7 @@ module _ (url : Url) (text : List ℕ) (parts : Parts) (is : Silent (Some url) t
       let whole : text ≡ slash ∷ slash ∷ (authority ++ rest)
       = spelled ∙ ap (λ xs. slash ∷ slash ∷ xs) (append_assoc authority parts.path_text (tail parts.query parts.fragment)) in
       let h = walking (authority_path (scheme_class (lowercase url.scheme)) parts.segments)
-      (hosted url.scheme value (port_given url.scheme parts.port_text)) in
+      (hosted url.scheme value (port_given (default_port url.scheme) parts.port_text)) in
       reference_runs url text (slash ∷ slash ∷ (authority ++ rest)) parts Authority h
       ((length authority + 1
       + (length authority + (length parts.path_text + (length (tail parts.query parts.fragment) + 3)))) + 4)

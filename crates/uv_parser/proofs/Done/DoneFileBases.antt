@@ -17,7 +17,8 @@ use Rattle.uv_model.specs.Scheme.{scheme_class}
 use Rattle.uv_parser.specs.Laws.Silence.{RunsSilently}
 use Rattle.uv_model.specs.Units.{is_faultless, is_unit_at, is_url_code_point}
 use Rattle.uv_model.specs.Records.Url.{Url, is_opaque}
-use Rattle.uv_model.specs.Valid.{scheme_in, scheme_or, starts_with_scheme}
+use Rattle.uv_model.specs.Setting.{scheme_or}
+use Rattle.uv_model.specs.Valid.{scheme_in, starts_with_scheme}
 use Rattle.uv_parser.proofs.Decided.CutTexts.{cut_text, marks}
 use Rattle.uv_parser.proofs.Done.Decided.{takes_form}
 use Rattle.uv_parser.proofs.Done.DoneAuthority.{is_named_by, taken_file}

@@ -19,7 +19,8 @@ use Rattle.uv_model.specs.Path.{AreSegments, JoinsTo, is_without, shorten, start
 use Rattle.uv_model.specs.Scheme.{scheme_class}
 use Rattle.uv_parser.specs.Laws.Silence.{RunsSilently}
 use Rattle.uv_model.specs.Records.Url.{Url, is_opaque}
-use Rattle.uv_model.specs.Valid.{MayBeUnits, scheme_in, scheme_or}
+use Rattle.uv_model.specs.Setting.{scheme_or}
+use Rattle.uv_model.specs.Valid.{MayBeUnits, scheme_in}
 use Rattle.uv_parser.proofs.Decided.CutTexts.{cut_text, marks}
 use Rattle.uv_parser.proofs.Done.Decided.{takes_form}
 use Rattle.uv_parser.proofs.Decided.DecidedReferences.{no_scheme_cut}

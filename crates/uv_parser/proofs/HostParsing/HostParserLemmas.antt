@@ -13,20 +13,24 @@ use Rattle.std.proofs.lemmas.Str.Ascii.{IsAscii-from_all}
 use Rattle.std.proofs.NetLemmas.Alphabet.{IsDigitOrDot}
 use Rattle.percent_encoding.specs.Percent.{percent_decode}
 use Rattle.percent_encoding.proofs.PercentLemmas.{percent_decode-nil, percent_decode_not_percent}
-use Rattle.idna.specs.declared.deny_list.TheConstants.AsciiDenyList.{STD3}
+use Rattle.idna.specs.declared.deny_list.TheConstants.AsciiDenyList.{STD3, EMPTY}
 use Rattle.idna.specs.declared.options.DnsLength.TheVariants.{Ignore}
-use Rattle.idna.specs.declared.options.Hyphens.TheVariants.{Check}
-use Rattle.idna.specs.Uts46.{process_utf8}
+use Rattle.idna.specs.declared.options.Hyphens.TheVariants.{Check, Allow}
+use Rattle.idna.specs.Uts46.{process_utf8, domain_to_ascii}
 use Rattle.idna.specs.Validity.{has_ace_prefix}
-use Rattle.idna.proofs.Uts46Lemmas.{to_ascii-invalid}
+use Rattle.idna.proofs.Uts46Lemmas.{to_ascii-invalid, domain_to_ascii-alphanumeric}
+use Rattle.idna.specs.Labels.{is_full_stop}
+use Rattle.uv_model.specs.declared.profile.Profile.{Profile}
+use Rattle.uv_model.specs.declared.profile.Profile.TheVariants.{Standard, Wide}
 use Rattle.uv_model.specs.declared.host.Host.TheVariants.{Domain, V4, Opaque}
 use Rattle.uv_model.specs.Hosts.Address.{IsIpv4}
 use Rattle.uv_model.specs.Ascii.{percent_sign, full_stop, left_bracket, right_bracket}
-use Rattle.uv_model.specs.Hosts.Domain.{is_permitted, has_permitted, is_form_code_point, has_lengths, strict_form, parser_form, IsForm, IsDomain}
+use Rattle.uv_model.specs.Hosts.Domain.{is_permitted, has_permitted, is_form_code_point, has_lengths, strict_form, parser_form, IsForm, IsDomain, is_digits, ends_in_number}
 use Rattle.uv_model.specs.Encoding.{encoded}
 use Rattle.uv_parser.specs.HostParser.{is_forbidden_domain, is_faultless_host, percent_decoded, parse_domain, parse_host, DomainsAreParsed, Ipv4HostsAreParsed, Ipv6HostsAreParsed, OpaqueHostsAreParsed, EmptyHostIsParsed}
 use Rattle.uv_model.specs.Hosts.OpaqueHost.{is_forbidden_host}
 use Rattle.uv_model.specs.Units.{is_unit_at, is_faultless}
+use Rattle.uv_model.proofs.Hosts.DomainLemmas.{parser_form-is}
 use Rattle.uv_parser.proofs.HostParsing.Ipv4ParserLemmas.{ipv4_parsed}
 use Rattle.uv_parser.proofs.HostParsing.Ipv6ParserLemmas.{ipv6_parsed}
 use Rattle.uv_model.proofs.Hosts.LastLabelLemmas.{All-encoded, last_of}
@@ -63,30 +67,32 @@ percent_decoded-plain text none utf8 =
 -- ---- domains
 
 -- processing refuses what isn't UTF-8
-not_utf8 : (bytes : List ℕ) → is_utf8 bytes ≡ false → process_utf8 STD3 Check bytes ≡ None
+not_utf8 : (bytes : List ℕ) → is_utf8 bytes ≡ false → process_utf8 EMPTY Allow bytes ≡ None
 not_utf8 bytes h = rw h
 
--- strict ToASCII takes UTF-8 alone
-utf8-form : (text form : List ℕ) → strict_form text ≡ Some form → is_utf8 (encode_utf8_all text) ≡ true
+-- the parser's ToASCII takes UTF-8 alone
+utf8-form : (text form : List ℕ) → parser_form text ≡ Some form → is_utf8 (encode_utf8_all text) ≡ true
 utf8-form text form e =
     let bytes = encode_utf8_all text in
     elim (cases_Bool (is_utf8 bytes)) [
       | inl whole ↦ whole
       | inr broken ↦
-          let none = to_ascii-invalid STD3 Check Ignore bytes (not_utf8 bytes broken) in
-          absurd (none-some form (sym none ∙ e))
+          let none = to_ascii-invalid EMPTY Allow Ignore bytes (not_utf8 bytes broken) in
+          absurd (none-some form (sym none ∙ (sym (parser_form-is text) ∙ e)))
     ]
 
 -- a code point of a form is no forbidden domain code point
-allowed_code_point : (c : ℕ) → is_form_code_point c ≡ true → is_forbidden_domain c ≡ false
-allowed_code_point c h = grind (arith, nat_tests)
+allowed_code_point : (profile : Profile) (c : ℕ) → is_form_code_point profile c ≡ true → is_forbidden_domain c ≡ false
+allowed_code_point Standard c h = grind (arith, nat_tests)
+allowed_code_point Wide c h = grind (arith, nat_tests)
 
 -- a form has no forbidden domain code point
-allowed-form : (form : List ℕ) → All (λ c. is_form_code_point c ≡ true) form → list_any is_forbidden_domain form ≡ false
-allowed-form form h =
-    let IsOfForm : ℕ → Type 0 = λ c. is_form_code_point c ≡ true in
+allowed-form : (profile : Profile) (form : List ℕ) → All (λ c. is_form_code_point profile c ≡ true) form →
+    list_any is_forbidden_domain form ≡ false
+allowed-form profile form h =
+    let IsOfForm : ℕ → Type 0 = λ c. is_form_code_point profile c ≡ true in
     let IsAllowed : ℕ → Type 0 = λ c. is_forbidden_domain c ≡ false in
-    list_any_none is_forbidden_domain form (All-weaker IsOfForm IsAllowed allowed_code_point form h)
+    list_any_none is_forbidden_domain form (All-weaker IsOfForm IsAllowed (allowed_code_point profile) form h)
 
 -- a form isn't empty
 some-form : (form : List ℕ) → has_lengths form ≡ true → (length form == 0) ≡ false
@@ -94,43 +100,50 @@ some-form [] h = absurd (false≢true h)
 some-form (c ∷ form) h = grind (arith, nat_tests)
 
 -- a permitted text doesn't begin with `[`
-not_bracket : (c : ℕ) (rest : List ℕ) → has_permitted (c ∷ rest) ≡ true → (c == left_bracket) ≡ false
+not_bracket : (profile : Profile) (c : ℕ) (rest : List ℕ) → has_permitted profile (c ∷ rest) ≡ true →
+    (c == left_bracket) ≡ false
 unfolding has_permitted
-not_bracket c rest h =
-    let first = (and_parts (is_permitted c) (list_all is_permitted rest) h).0 in
-    grind (arith, nat_tests)
+not_bracket profile c rest h = first profile (and_parts (is_permitted profile c) _ h).0
+  where
+    first : (profile : Profile) → is_permitted profile c ≡ true → (c == left_bracket) ≡ false
+    first Standard permitted = grind (arith, nat_tests)
+    first Wide permitted = grind (arith, nat_tests)
 
 -- a permitted text has no `%`
-no_percent-permitted : (text : List ℕ) → has_permitted text ≡ true → All (λ c. c ≢ percent_sign) text
+no_percent-permitted : (profile : Profile) (text : List ℕ) → has_permitted profile text ≡ true →
+    All (λ c. c ≢ percent_sign) text
 unfolding has_permitted
-no_percent-permitted text h =
-    let IsPermitted : ℕ → Type 0 = λ c. is_permitted c ≡ true in
-    All-weaker IsPermitted (λ c. c ≢ percent_sign) not_percent text (AllPass-from_list_all is_permitted text h)
+no_percent-permitted profile text h =
+    let IsPermitted : ℕ → Type 0 = λ c. is_permitted profile c ≡ true in
+    All-weaker IsPermitted (λ c. c ≢ percent_sign) (not_percent profile) text
+    (AllPass-from_list_all (is_permitted profile) text h)
   where
-    not_percent : (c : ℕ) → is_permitted c ≡ true → c ≢ percent_sign
-    not_percent c h e = false≢true (ap is_permitted (sym e) ∙ h)
+    not_percent : (profile : Profile) (c : ℕ) → is_permitted profile c ≡ true → c ≢ percent_sign
+    not_percent Standard c h e = false≢true (ap (is_permitted Standard) (sym e) ∙ h)
+    not_percent Wide c h e = false≢true (ap (is_permitted Wide) (sym e) ∙ h)
 
 -- the empty text has no form
-no_form-empty : (form : List ℕ) → IsForm [] form → ⊥
+no_form-empty : (profile : Profile) (form : List ℕ) → IsForm profile [] form → ⊥
 unfolding parser_form has_ace_prefix
-no_form-empty form is =
+no_form-empty profile form is =
     let same : [] ≡ form = same_Some [] form is.parsed in
     false≢true (ap has_lengths same ∙ is.lengths)
 
 -- a valid domain is read by the parser of domains as its form
-parse_domain-valid : (text form : List ℕ) → IsDomain text form → parse_domain text ≡ Some (Domain form)
+parse_domain-valid : (profile : Profile) (text form : List ℕ) → IsDomain profile text form →
+    parse_domain text ≡ Some (Domain form)
 unfolding parse_domain
-parse_domain-valid text form (is, other) =
-    let none = no_percent-permitted text is.permitted in
-    let read = percent_decoded-plain text none (utf8-form text form is.strict) in
-    rw (read, is.parsed, some-form form is.lengths, allowed-form form is.letters, other)
+parse_domain-valid profile text form (is, other) =
+    let none = no_percent-permitted profile text is.permitted in
+    let read = percent_decoded-plain text none (utf8-form text form is.parsed) in
+    rw (read, is.parsed, some-form form is.lengths, allowed-form profile form is.letters, other)
 
 -- a valid domain is parsed as the domain of its form
 pub domains_are_parsed : DomainsAreParsed
 unfolding parse_host
-domains_are_parsed [] form is = absurd (no_form-empty form is.0)
-domains_are_parsed (c ∷ rest) form is =
-    rw (not_bracket c rest is.0.permitted) (parse_domain-valid (c ∷ rest) form is)
+domains_are_parsed profile [] form is = absurd (no_form-empty profile form is.0)
+domains_are_parsed profile (c ∷ rest) form is =
+    rw (not_bracket profile c rest is.0.permitted) (parse_domain-valid profile (c ∷ rest) form is)
 
 -- ---- opaque hosts
 
@@ -198,8 +211,8 @@ parse_domain-ipv4 text value h =
     let plain = All-weaker IsDigitOrDot (λ x. x ≢ percent_sign) no_percent text simple in
     let utf8 : is_utf8 (encode_utf8_all text) ≡ true =
     rw (encodes-IsAscii text ascii) (is_utf8-from_IsUtf8 text (IsUtf8-from_ascii text ascii)) in
-    let IsOfForm : ℕ → Type 0 = λ x. is_form_code_point x ≡ true in
-    let allowed = allowed-form text (All-weaker IsDigitOrDot IsOfForm form_byte text simple) in
+    let IsOfForm : ℕ → Type 0 = λ x. is_form_code_point Standard x ≡ true in
+    let allowed = allowed-form Standard text (All-weaker IsDigitOrDot IsOfForm form_byte text simple) in
     let ends = ends_in_number-ipv4 text value h in
     let some : (length text == 0) ≡ false =
     ne_eqb (length text) 0 (λ none. absurd (omega (arith, some-ipv4 text value h))) in

@@ -1,7 +1,9 @@
 -- What the host parser makes of a valid host text: its value, and the parser machine reads the whole text.
 use Rattle.std.proofs.Common.{◌≡◌, ℕ, suc, true, false, ◌==◌, List, [], ◌∷◌, length, Option, Some, None, refl, ne_eqb, arith}
 use Rattle.std.specs.List.{list_all}
-use Rattle.std.proofs.lemmas.Bool.{and_parts}
+use Rattle.std.proofs.lemmas.Bool.{and_parts, and_left, and_right}
+use Rattle.uv_parser.proofs.Running.Unremoved.{is_unremoved}
+use Rattle.uv_model.specs.declared.profile.Profile.{Profile}
 use Rattle.uv_model.specs.declared.host.Host.{Host}
 use Rattle.uv_model.specs.declared.host.Host.TheVariants as host
 use Rattle.uv_model.specs.Ascii.{at_sign}
@@ -50,15 +52,15 @@ taken_from text value read parsed = record {
 }
 
 -- a valid host text is taken with its value
-pub host_taken : (text : List ℕ) (value : Host) → IsHostText text value → IsTaken text value
-host_taken text (host.Domain form) is =
-    taken_from text (host.Domain form) (read_domain text form is) (domains_are_parsed text form is)
-host_taken text (host.V4 value) is =
+pub host_taken : (profile : Profile) (text : List ℕ) (value : Host) → IsHostText profile text value → IsTaken text value
+host_taken profile text (host.Domain form) is =
+    taken_from text (host.Domain form) (read_domain profile text form is) (domains_are_parsed profile text form is)
+host_taken profile text (host.V4 value) is =
     taken_from text (host.V4 value) (read_ipv4 text value is) (ipv4_hosts_are_parsed text value is)
-host_taken text (host.V6 pieces) is =
+host_taken profile text (host.V6 pieces) is =
     taken_from text (host.V6 pieces) (read_ipv6 text pieces is) (ipv6_hosts_are_parsed true text pieces is)
-host_taken text (host.Opaque other) is = absurd is
-host_taken text host.Empty is = absurd is
+host_taken profile text (host.Opaque other) is = absurd is
+host_taken profile text host.Empty is = absurd is
 
 -- What the parser makes of the host text of a URL that isn't special, where an opaque host has its text alone.
 pub record IsTakenPlain (text : List ℕ) (given : Option Host) : Type 0 where

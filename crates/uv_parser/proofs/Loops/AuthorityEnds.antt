@@ -1,5 +1,6 @@
 -- The parser machine from the start of an authority to the end of the text, where host and port are followed by a path,
 -- a query and a fragment.
+use Rattle.uv_model.specs.Path.{MayBePathSlashed}
 use Rattle.std.proofs.Common.{◌≡◌, ℕ, Bool, suc, ◌+◌, true, false, ◌&&◌, ◌==◌, ◌⊎◌, List, [], ◌∷◌, ◌++◌, length, Option, Some, None, refl, ap, subst, ◌∙◌, inl, inr, ⊎_elim, append_assoc, append-nil, length-append, le-ltb, arith}
 use Rattle.std.specs.Prelude.{nat_lt}
 use Rattle.std.specs.List.{list_all}
@@ -15,7 +16,6 @@ use Rattle.uv_model.specs.Parts.{written_behind}
 use Rattle.uv_model.specs.Scheme.{default_port, lowercase, scheme_class}
 use Rattle.uv_model.specs.Records.Url.{Url}
 use Rattle.uv_model.specs.Cut.{is_within_at_end}
-use Rattle.uv_parser.specs.SilentTexts.{MayBePathSlashed}
 use Rattle.uv_model.specs.Valid.{MayBePortText, MayBeUnits, port_given}
 use Rattle.uv_parser.specs.Machine.{Held, again, sight, with_brackets, AuthorityState, HostState, PortState, PathStartState, with_host, with_more, with_port, port_in, is_special}
 use Rattle.uv_parser.proofs.Loops.AuthorityLoops.{IsDelimiter, IsRead, authority_law, digit_letter, host_law, host_row_end, host_row_port, is_authority_letter, port_law, port_row_end}
@@ -45,7 +45,7 @@ option_cases None = inl refl
 option_cases (Some n) = inr (n, refl)
 
 -- the port that the machine gives is the one that is denoted
-port_is_given : (scheme text : List ℕ) → port_in (lowercase scheme) text ≡ port_given scheme (Some text)
+port_is_given : (scheme text : List ℕ) → port_in (lowercase scheme) text ≡ port_given (default_port scheme) (Some text)
 port_is_given scheme [] = refl
 port_is_given scheme (digit ∷ rest) =
     elim (option_cases (default_port scheme)) [
@@ -120,7 +120,7 @@ module _ (base : Option Url) (scheme : List ℕ) (value : Host) (segments : List
   port_ends : (port : List ℕ) → MayBePortText (Some port)
       → Ends base PortState (with_host (Some value) (scheme_held scheme)) (port ++ rest)
       (length port + suc (length path + (length (tail query fragment) + 2)))
-      (authority_url scheme value (port_given scheme (Some port)) segments query fragment)
+      (authority_url scheme value (port_given (default_port scheme) (Some port)) segments query fragment)
   unfolding rest
   port_ends port fits =
       let small : nat_lt 65535 (digits_value 10 port) ≡ false = le-ltb 65535 (digits_value 10 port) fits.range in
@@ -129,13 +129,13 @@ module _ (base : Option Url) (scheme : List ℕ) (value : Host) (segments : List
       (ends_again base
       (λ p. port_row_end held (sight rest) (delimits segments path query fragment behind.path) small
       ∙ ap (λ o. again PathStartState (hosted scheme value o)) (port_is_given scheme port))
-      (rest_ends false (port_given scheme (Some port))))
+      (rest_ends false (port_given (default_port scheme) (Some port))))
 
   -- from the host to the end
   host_ends : (host : List ℕ) (port : Option (List ℕ)) → IsParsed scheme host port value
       → Ends base HostState (scheme_held scheme) (host ++ (written_behind colon port ++ rest))
       (length (host ++ written_behind colon port) + (length path + (length (tail query fragment) + 3)))
-      (authority_url scheme value (port_given scheme port) segments query fragment)
+      (authority_url scheme value (port_given (default_port scheme) port) segments query fragment)
   unfolding rest
   host_ends host None is =
       let within = is_within_at_end false host in
@@ -164,7 +164,7 @@ module _ (base : Option Url) (scheme : List ℕ) (value : Host) (segments : List
       ((host ++ written_behind colon port) ++ (path ++ tail query fragment))
       (length (host ++ written_behind colon port) + 1
       + (length (host ++ written_behind colon port) + (length path + (length (tail query fragment) + 3))))
-      (authority_url scheme value (port_given scheme port) segments query fragment)
+      (authority_url scheme value (port_given (default_port scheme) port) segments query fragment)
   unfolding rest
   authority_ends host port is =
       ends_after base

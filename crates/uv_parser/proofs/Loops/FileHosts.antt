@@ -7,6 +7,8 @@ use Rattle.std.specs.Str.{bytes_eq}
 use Rattle.std.proofs.lemmas.Bool.{and_parts, and_from, and_right, cases_Bool, false_from_ne_true}
 use Rattle.std.proofs.lemmas.Bool.Decides.{nat_tests}
 use Rattle.std.proofs.lemmas.Slice.Eq.{bytes_eq-Decides}
+use Rattle.uv_model.specs.declared.profile.Profile.{Profile}
+use Rattle.uv_model.specs.declared.profile.Profile.TheVariants.{Standard, Wide}
 use Rattle.uv_model.specs.declared.host.Host.{Host}
 use Rattle.uv_model.specs.declared.host.Host.TheVariants as host
 use Rattle.uv_model.specs.declared.scheme.Class.TheVariants.{File}
@@ -80,22 +82,26 @@ file_host_row value h (another c) is drive some parsed = absurd is
 
 -- ---- no host is a drive letter
 
-no_drive_mark : (mark : ℕ) → is_permitted mark ≡ true → ((mark == colon) || (mark == vertical_bar)) ≡ false
-no_drive_mark mark is = grind (arith, nat_tests)
+no_drive_mark : (profile : Profile) (mark : ℕ) → is_permitted profile mark ≡ true
+    → ((mark == colon) || (mark == vertical_bar)) ≡ false
+no_drive_mark Standard mark is = grind (arith, nat_tests)
+no_drive_mark Wide mark is = grind (arith, nat_tests)
 
 -- a text of a domain's code points
-no_drive : (text : List ℕ) → list_all is_permitted text ≡ true → is_drive_letter text ≡ false
-no_drive [] is = refl
-no_drive (c ∷ []) is = refl
-no_drive (c ∷ mark ∷ []) is =
+no_drive : (profile : Profile) (text : List ℕ) → list_all (is_permitted profile) text ≡ true
+    → is_drive_letter text ≡ false
+no_drive profile [] is = refl
+no_drive profile (c ∷ []) is = refl
+no_drive profile (c ∷ mark ∷ []) is =
     and_right (is_ascii_alphabetic c) _
-    (no_drive_mark mark (and_parts (is_permitted mark) true (and_parts (is_permitted c) _ is).1).0)
-no_drive (c ∷ mark ∷ next ∷ rest) is = refl
+    (no_drive_mark profile mark
+    (and_parts (is_permitted profile mark) true (and_parts (is_permitted profile c) _ is).1).0)
+no_drive profile (c ∷ mark ∷ next ∷ rest) is = refl
 
-dotted_permitted : (c : ℕ) → is_dotted c ≡ true → is_permitted c ≡ true
+dotted_permitted : (c : ℕ) → is_dotted c ≡ true → is_permitted Standard c ≡ true
 dotted_permitted c is = grind (arith, nat_tests)
 
-dotted_texts : (text : List ℕ) → list_all is_dotted text ≡ true → list_all is_permitted text ≡ true
+dotted_texts : (text : List ℕ) → list_all is_dotted text ≡ true → list_all (is_permitted Standard) text ≡ true
 dotted_texts [] is = refl
 dotted_texts (c ∷ rest) is =
     let parts = and_parts (is_dotted c) (list_all is_dotted rest) is in
@@ -126,39 +132,40 @@ pub record IsFileRead (text : List ℕ) (value : Host) : Type 0 where
   pub drive : is_drive_letter text ≡ false
 
 -- a host with a text
-pub file_parsed : (text : List ℕ) (value : Host) → IsFileHostText text value → IsFileParsed text value
+pub file_parsed : (profile : Profile) (text : List ℕ) (value : Host) → IsFileHostText profile text value
+    → IsFileParsed text value
 unfolding has_permitted
-file_parsed text (host.Domain form) (is, other) = record {
+file_parsed profile text (host.Domain form) (is, other) = record {
   parsed_value = host.Domain form;
-  read = read_domain text form is;
-  parsed = domains_are_parsed text form is;
+  read = read_domain profile text form is;
+  parsed = domains_are_parsed profile text form is;
   made =
       rw
       (false_from_ne_true (bytes_eq form (codes "localhost"))
       (λ same. other ((bytes_eq-Decides form (codes "localhost")).0 same))) refl;
-  drive = no_drive text is.0.permitted;
+  drive = no_drive profile text is.0.permitted;
 }
-file_parsed text (host.V4 value) is = record {
+file_parsed profile text (host.V4 value) is = record {
   parsed_value = host.V4 value;
   read = read_ipv4 text value is;
   parsed = ipv4_hosts_are_parsed text value is;
   made = refl;
-  drive = no_drive text (dotted_texts text (dotted_numbers is.0 is.1 is.2 is.3 text is.4));
+  drive = no_drive Standard text (dotted_texts text (dotted_numbers is.0 is.1 is.2 is.3 text is.4));
 }
-file_parsed text (host.V6 pieces) is = record {
+file_parsed profile text (host.V6 pieces) is = record {
   parsed_value = host.V6 pieces;
   read = read_ipv6 text pieces is;
   parsed = ipv6_hosts_are_parsed true text pieces is;
   made = refl;
   drive = rw is.1 (no_drive_brackets is.0);
 }
-file_parsed text (host.Opaque other) is = absurd is
-file_parsed text host.Empty is = record {
+file_parsed profile text (host.Opaque other) is = absurd is
+file_parsed profile text host.Empty is = record {
   parsed_value = host.Domain (codes "localhost");
-  read = read_domain text (codes "localhost") is;
-  parsed = domains_are_parsed text (codes "localhost") is;
+  read = read_domain profile text (codes "localhost") is;
+  parsed = domains_are_parsed profile text (codes "localhost") is;
   made = refl;
-  drive = no_drive text is.0.permitted;
+  drive = no_drive profile text is.0.permitted;
 }
 
 -- ---- the scheme

@@ -8,6 +8,9 @@ use Rattle.std.proofs.lemmas.Bool.Decides.{nat_tests}
 use Rattle.std.proofs.lemmas.List.Folds.{list_all-append}
 use Rattle.uv_model.specs.Hosts.Address.{IsFourNumbers, IsIpv4, IsGroupList, IsSide, IsIpv6, IsBracketedIpv6}
 use Rattle.uv_model.specs.Ascii.{colon, full_stop, left_bracket, right_bracket}
+use Rattle.uv_model.specs.Cut.{is_within, is_within_at_end, is_port_mark}
+use Rattle.uv_model.specs.declared.profile.Profile.{Profile}
+use Rattle.uv_model.specs.declared.profile.Profile.TheVariants.{Standard, Wide}
 use Rattle.uv_model.specs.Hosts.Domain.{is_permitted, has_permitted, IsDomain}
 use Rattle.uv_model.specs.Hosts.OpaqueHost.{is_forbidden_host, IsOpaqueHost}
 use Rattle.uv_parser.proofs.Loops.AuthorityLoops.{is_authority_letter}
@@ -78,24 +81,30 @@ read_opaque text is =
     read_plain text (plain_texts text is.permitted (unremoved_faultless text (is_faultless-units text is.units)))
 
 -- a code point of a domain
-plain_domain : (c : ℕ) → is_permitted c ≡ true → is_plain c ≡ true
-plain_domain c permitted =
+plain_domain : (profile : Profile) (c : ℕ) → is_permitted profile c ≡ true → is_plain c ≡ true
+plain_domain profile c permitted =
     elim (cases_lt c 128) [
-      | inl small ↦ implied (is_permitted c) (is_plain c)
-          (agree_below_at (λ d. not (is_permitted d) || is_plain d) (λ d. true) 128 c refl small) permitted
+      | inl small ↦ implied (is_permitted profile c) (is_plain c) (plain_ascii profile small) permitted
       | inr beyond ↦ plain_beyond c beyond
     ]
+  where
+    plain_ascii : (profile : Profile) → c < 128 → (not (is_permitted profile c) || is_plain c) ≡ true
+    plain_ascii Standard small =
+        agree_below_at (λ d. not (is_permitted Standard d) || is_plain d) (λ d. true) 128 c refl small
+    plain_ascii Wide small =
+        agree_below_at (λ d. not (is_permitted Wide d) || is_plain d) (λ d. true) 128 c refl small
 
-plain_domains : (text : List ℕ) → list_all is_permitted text ≡ true → list_all is_plain text ≡ true
-plain_domains [] permitted = refl
-plain_domains (c ∷ rest) permitted =
-    let parts = and_parts (is_permitted c) (list_all is_permitted rest) permitted in
-    and_from _ _ (plain_domain c parts.0) (plain_domains rest parts.1)
+plain_domains : (profile : Profile) (text : List ℕ) → list_all (is_permitted profile) text ≡ true
+    → list_all is_plain text ≡ true
+plain_domains profile [] permitted = refl
+plain_domains profile (c ∷ rest) permitted =
+    let parts = and_parts (is_permitted profile c) (list_all (is_permitted profile) rest) permitted in
+    and_from _ _ (plain_domain profile c parts.0) (plain_domains profile rest parts.1)
 
 -- a domain is read
-pub read_domain : (text form : List ℕ) → IsDomain text form → IsReadWhole text
+pub read_domain : (profile : Profile) (text form : List ℕ) → IsDomain profile text form → IsReadWhole text
 unfolding has_permitted
-read_domain text form is = read_plain text (plain_domains text is.0.permitted)
+read_domain profile text form is = read_plain text (plain_domains profile text is.0.permitted)
 
 -- ---- addresses
 

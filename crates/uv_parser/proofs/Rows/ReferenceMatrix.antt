@@ -3,6 +3,7 @@ use Rattle.std.proofs.Common.{◌≡◌, ℕ, List, [], ◌∷◌, Option, Some,
 use Prim.Native.String.{String as Literal}
 use Rattle.std.specs.Prelude.{IsSome}
 use Rattle.std.proofs.lemmas.Bool.{false≢true}
+use Rattle.uv_model.specs.declared.profile.Profile.TheVariants.{Standard}
 use Rattle.uv_model.specs.declared.rule.Rule.TheVariants.{NoScheme, OpaqueBase, TwoSlashes, DriveAfterHost}
 use Rattle.uv_model.specs.Complaints.Complaint.{Complaint, IsStarted, starts_with_number_sign}
 use Rattle.uv_model.specs.Cut.{Cut, cut_of}
@@ -10,6 +11,7 @@ use Rattle.uv_parser.specs.Rows.{Agree, AllHold}
 use Rattle.uv_parser.specs.Rows.References.{file_host_base, urn_base, opaque_base}
 use Rattle.uv_parser.specs.Rows.ReferenceMatrix.{ReferenceMatrixRows, RefusedPairs, AllViolate, host_drive_base, other_texts, base_rows, http_rows, root_rows, drive_rows, file_host_rows, host_drive_rows, hostless_rows, other_host_rows, opaque_rows, opaque_query_rows}
 use Rattle.uv_model.specs.Scheme.{scheme_class, default_port}
+use Rattle.uv_model.specs.Setting.{setting_of}
 use Rattle.uv_model.specs.Records.Url.{Url, is_opaque}
 use Rattle.uv_parser.proofs.Rows.Computing.{parser}
 use Rattle.uv_parser.proofs.Rows.RowsLemmas.{agree, all_hold}
@@ -56,7 +58,7 @@ opaque_query_rows_hold = all_hold opaque_query_rows refl
 
 -- a text without a scheme violates no rule of the start against a base whose path isn't opaque
 started : (base : Url) (text : List ℕ) (cut : Cut) → is_opaque base.path ≡ false → cut.scheme ≡ None
-    → IsStarted (Some base) text cut
+    → IsStarted (setting_of Standard (Some base) cut.scheme) text cut
 started base text cut listed bare place NoScheme h = absurd cc
 started base text cut listed bare place OpaqueBase h = absurd cc
 started base text cut listed bare place TwoSlashes h =
@@ -64,7 +66,7 @@ started base text cut listed bare place TwoSlashes h =
 started base text cut listed bare place _ h = h
 
 -- `/C:/x` has a drive letter behind the base's host
-behind_host : Complaint (Some file_host_base) (codes "/C:/x") 0 DriveAfterHost
+behind_host : Complaint Standard (Some file_host_base) (codes "/C:/x") 0 DriveAfterHost
 unfolding Complaint cut_of scheme_class default_port
 behind_host =
     inr (inl (
@@ -73,7 +75,7 @@ behind_host =
     ))
 
 -- `/C:/x` has a drive letter behind the base's host
-behind_host_and_drive : Complaint (Some host_drive_base) (codes "/C:/x") 0 DriveAfterHost
+behind_host_and_drive : Complaint Standard (Some host_drive_base) (codes "/C:/x") 0 DriveAfterHost
 unfolding Complaint cut_of scheme_class default_port
 behind_host_and_drive =
     inr (inl (

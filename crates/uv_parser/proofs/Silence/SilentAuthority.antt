@@ -1,20 +1,25 @@
 -- The whole run of a text with a scheme and an authority, of class Other or Special, whose host and port are parsed.
+use Rattle.uv_model.specs.Path.{MayBePathSlashed}
 use Rattle.std.proofs.Common.{◌≡◌, ℕ, suc, ◌+◌, true, false, ◌||◌, ◌==◌, List, [], ◌∷◌, ◌++◌, length, Option, Some, None, refl, sym, ap, ◌∙◌, inl, inr, append_assoc, length-append, arith}
 use Rattle.std.specs.List.{list_all}
+use Rattle.std.specs.Char.{is_ascii_digit}
+use Rattle.uv_model.specs.Valid.{MayBePortText}
+use Rattle.uv_model.proofs.Paths.SlashedPaths.{slashed_or_none}
 use Rattle.std.proofs.lemmas.Bool.Decides.{nat_tests}
 use Rattle.uv_parser.specs.HostParser.{parse_host}
 use Rattle.std.proofs.lemmas.Bool.{true≢false, and_parts, cases_Bool}
 use Rattle.uv_model.specs.declared.host.Host.{Host}
 use Rattle.uv_model.specs.declared.host.Host.TheVariants as host
+use Rattle.uv_model.specs.declared.profile.Profile.{Profile}
+use Rattle.uv_model.specs.declared.scheme.Class.{Class}
 use Rattle.uv_model.specs.declared.scheme.Class.TheVariants.{Special, Other}
 use Rattle.uv_model.specs.declared.path.UrlPath.TheVariants.{Segments}
 use Rattle.uv_model.specs.Ascii.{slash, backslash, colon}
 use Rattle.uv_model.specs.Records.Denote.{authority_host, authority_path}
 use Rattle.uv_parser.specs.Machine.{begins, has_same_scheme, SpecialAuthorityIgnoreSlashesState, SpecialAuthoritySlashesState, SpecialRelativeOrAuthorityState, AuthorityState, PathOrAuthorityState, SchemeState, empty_held, is_special, with_more}
 use Rattle.uv_model.specs.Parts.{Parts, SchemeAuthority, written, written_behind}
-use Rattle.uv_parser.specs.SilentTexts.{MayBePathSlashed}
 use Rattle.uv_parser.specs.Run.{first_removed}
-use Rattle.uv_model.specs.Scheme.{is_scheme, lowercase, scheme_class}
+use Rattle.uv_model.specs.Scheme.{default_port, is_scheme, lowercase, scheme_class}
 use Rattle.uv_parser.specs.Laws.Silence.{RunsSilently}
 use Rattle.uv_model.specs.Records.Url.{Url}
 use Rattle.uv_model.specs.Valid.{MayBeUnits, port_given}
@@ -63,7 +68,7 @@ special_some scheme text value special parsed = parsed_some text value (rw speci
 pub record HasParsed (parts : Parts) (scheme host_text : List ℕ) (value : Host) : Type 0 where
   pub parsed : IsParsed scheme host_text parts.port_text value
   pub valued : Some value ≡ authority_host parts
-  pub port : parts.port ≡ port_given scheme parts.port_text
+  pub port : parts.port ≡ port_given (default_port scheme) parts.port_text
   pub path : MayBePathSlashed parts.segments parts.path_text
 
 module _ (base : Option Url) (parts : Parts) (scheme host_text : List ℕ) (value : Host) where
@@ -84,7 +89,7 @@ module _ (base : Option Url) (parts : Parts) (scheme host_text : List ℕ) (valu
   authority_denoted : HasParsed parts scheme host_text value
       → HoldsDenoted base parts SchemeAuthority scheme
       (walking (authority_path (scheme_class (lowercase scheme)) parts.segments)
-      (hosted scheme value (port_given scheme parts.port_text)))
+      (hosted scheme value (port_given (default_port scheme) parts.port_text)))
   authority_denoted has =
       record {
         scheme = refl;
@@ -108,7 +113,7 @@ module _ (base : Option Url) (parts : Parts) (scheme host_text : List ℕ) (valu
       = record {
         steps = (length authority + 1
             + (length authority + (length parts.path_text + (length (tail parts.query parts.fragment) + 3)))) + 4;
-        url = authority_url scheme value (port_given scheme parts.port_text) parts.segments parts.query parts.fragment;
+        url = authority_url scheme value (port_given (default_port scheme) parts.port_text) parts.segments parts.query parts.fragment;
         named = is;
         ends = rw whole (start _ _
             (authority_ends base scheme value parts.segments parts.path_text parts.query parts.fragment behind

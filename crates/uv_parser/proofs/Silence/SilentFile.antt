@@ -1,8 +1,11 @@
 -- The whole run of a text with a scheme of class File and a host.
+use Rattle.uv_model.specs.Path.{MayBePathSlashed}
 use Rattle.std.proofs.Common.{◌≡◌, ℕ, suc, ◌+◌, true, List, ◌∷◌, ◌++◌, length, codes, Option, Some, None, refl, sym, ap, ◌∙◌, append_assoc, append-nil, length-append, arith}
 use Rattle.uv_model.specs.declared.host.Host.{Host}
 use Rattle.uv_model.specs.declared.host.Host.TheVariants as host
-use Rattle.uv_model.specs.declared.scheme.Class.TheVariants.{File}
+use Rattle.uv_model.specs.declared.scheme.Class.TheVariants.{File, Other}
+use Rattle.uv_model.specs.declared.profile.Profile.{Profile}
+use Rattle.uv_model.specs.declared.scheme.Class.{Class}
 use Rattle.uv_model.specs.declared.path.UrlPath.TheVariants.{Segments}
 use Rattle.uv_model.specs.Ascii.{slash, colon}
 use Rattle.uv_model.specs.Records.Denote.{authority_path}
@@ -12,7 +15,8 @@ use Rattle.uv_parser.specs.Run.{first_removed}
 use Rattle.uv_model.specs.Scheme.{is_scheme, lowercase, scheme_class}
 use Rattle.uv_parser.specs.Laws.Silence.{RunsSilently}
 use Rattle.uv_model.specs.Records.Url.{Url}
-use Rattle.uv_model.specs.Valid.{MayBeUnits}
+use Rattle.uv_model.specs.Valid.{MayBeUnits, FitsAuthority, FitsForm, FitsScheme, HasAuthority, IsFileAuthority, Valid, scheme_in}
+use Rattle.uv_model.specs.Setting.{Setting, scheme_or, setting_of}
 use Rattle.uv_parser.proofs.Loops.AuthorityEnds.{delimits}
 use Rattle.uv_parser.proofs.Loops.AuthorityLoops.{IsDelimiter}
 use Rattle.uv_parser.proofs.Loops.FileHosts.{IsFileRead, file_class, file_host_law, file_host_row, file_scheme}
@@ -24,7 +28,6 @@ use Rattle.uv_parser.proofs.Silence.SilentAuthority.{valued_some, written_with_a
 use Rattle.uv_parser.proofs.Silence.SilentSchemes.{EndsBehindScheme, HoldsDenoted, denoted_from_held, runs_kept}
 use Rattle.uv_parser.proofs.Running.Steps.{Ends, ends_after, ends_again, ends_step}
 use Rattle.uv_parser.proofs.Loops.Tails.{tail, with_tail}
-use Rattle.uv_parser.specs.SilentTexts.{MayBePathSlashed}
 
 -- what is held behind the host
 abbrev pub file_held : Host → Held

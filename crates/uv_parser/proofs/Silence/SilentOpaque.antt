@@ -7,9 +7,11 @@ use Rattle.uv_model.specs.Encoding.{encoded}
 use Rattle.uv_parser.specs.Machine.{Held, OpaquePathState, SchemeState, with_more, with_path, empty_held}
 use Rattle.uv_model.specs.Parts.{Form, Parts, SchemeOpaque, has_scheme}
 use Rattle.uv_parser.specs.SilentTexts.{Silent, TakesForm}
+use Rattle.uv_model.specs.declared.profile.Profile.TheVariants.{Standard}
 use Rattle.uv_model.specs.Path.{IsPathRelative}
 use Rattle.uv_model.specs.Scheme.{lowercase, scheme_class}
 use Rattle.uv_parser.specs.Laws.Silence.{RunsSilently}
+use Rattle.uv_model.specs.Setting.{setting_of}
 use Rattle.uv_model.specs.Records.Url.{Url}
 use Rattle.uv_model.specs.Valid.{FitsForm, FitsScheme, MayBeUnits}
 use Rattle.uv_model.proofs.Paths.JoinedSegments.{faultless_path, without_path}
@@ -54,7 +56,7 @@ pub opaque_done : (base : Option Url) (text : List ℕ) (parts : Parts) → Sile
 opaque_done base text parts silent form =
     let P : Form → Type 0 = λ f. TakesForm base f parts in
     let Q : Form → Type 0 = λ f. FitsScheme (has_scheme f) parts.scheme in
-    let fits : FitsForm base SchemeOpaque parts = subst P form silent.form in
+    let fits : FitsForm (setting_of Standard base parts.scheme) SchemeOpaque parts = subst P form silent.form in
     let (scheme, named, is) = scheme_there parts.scheme (subst Q form silent.scheme) in
     let other : scheme_class scheme ≡ Other = rw named at fits.1 in
     let behind : EndsBehindScheme base parts scheme parts.path_text

@@ -9,10 +9,11 @@ use Rattle.uv_model.specs.declared.scheme.Class.TheVariants.{Special, File, Othe
 use Rattle.uv_model.specs.Cut.{Cut, class_in, texts_of}
 use Rattle.uv_parser.specs.HostParser.{parse_host}
 use Rattle.uv_parser.specs.Machine.{file_host}
-use Rattle.uv_parser.specs.SilentTexts.{IsTakenFileHost, MayBePathSlashed, Takes, TakesForm, TakesHostText, own_value}
+use Rattle.uv_parser.specs.SilentTexts.{IsTakenFileHost, Takes, TakesForm, TakesHostText, own_value}
 use Rattle.uv_model.specs.Parts.{Form, SchemeAuthority, SchemePath, SchemeOpaque, Authority, PathAbsolute, PathRelative, NoPath, Parts, has_scheme}
-use Rattle.uv_model.specs.Path.{starts_with_slash}
+use Rattle.uv_model.specs.Path.{MayBePathSlashed, starts_with_slash}
 use Rattle.uv_parser.specs.Laws.ValidTexts.{SilentPartsAreUnique}
+use Rattle.uv_model.specs.Scheme.{default_port}
 use Rattle.uv_model.specs.Records.Url.{Url}
 use Rattle.uv_model.specs.Valid.{FitsScheme, HasNoAuthority, port_given, scheme_in}
 use Rattle.uv_model.proofs.Cuts.CutLemmas.{cut_is_computed}
@@ -64,7 +65,7 @@ one_taken_host Other (Some text) host other (a, is, e) (b, is', e') =
 record AreTaken (kind : Class) (scheme : List ℕ) (form : Form) (host_text : Option (List ℕ)) (parts : Parts) : Type 0
   where
     host : HasTakenHost kind host_text parts.host
-    port : parts.port ≡ port_given scheme parts.port_text
+    port : parts.port ≡ port_given (default_port scheme) parts.port_text
     segments : parts.segments ≡ segments_of form parts.path_text
 
 -- the segments of a path behind an authority
@@ -83,7 +84,7 @@ taken_by_class Special scheme host_text parts is path = record {
 }
 taken_by_class File scheme host_text parts is path = record {
   host = is.host;
-  port = no_port scheme parts.port_text parts.port is.no_port_text is.no_port;
+  port = no_port (default_port scheme) parts.port_text parts.port is.no_port_text is.no_port;
   segments = slashed_segments parts.segments parts.path_text path;
 }
 taken_by_class Other scheme host_text parts is path = record {
@@ -105,7 +106,7 @@ taken_alone : (kind : Class) (scheme : List ℕ) (form : Form) (parts : Parts) �
     → parts.segments ≡ segments_of form parts.path_text → AreTaken kind scheme form parts.host_text parts
 taken_alone kind scheme form parts none segments = record {
   host = rw none.host_text none.host;
-  port = no_port scheme parts.port_text parts.port none.port_text none.port;
+  port = no_port (default_port scheme) parts.port_text parts.port none.port_text none.port;
   segments = segments;
 }
 

@@ -6,8 +6,10 @@ use Rattle.uv_model.specs.Ascii.{slash, colon}
 use Rattle.uv_parser.specs.Machine.{Held, PathOrAuthorityState, SchemeState, with_more, empty_held}
 use Rattle.uv_model.specs.Parts.{Form, Parts, SchemePath, has_scheme}
 use Rattle.uv_parser.specs.SilentTexts.{Silent, TakesForm}
+use Rattle.uv_model.specs.declared.profile.Profile.TheVariants.{Standard}
 use Rattle.uv_model.specs.Path.{IsPathRelative, walk}
 use Rattle.uv_model.specs.Scheme.{lowercase, scheme_class}
+use Rattle.uv_model.specs.Setting.{setting_of}
 use Rattle.uv_parser.specs.Laws.Silence.{RunsSilently}
 use Rattle.uv_model.specs.Records.Url.{Url}
 use Rattle.uv_model.specs.Valid.{FitsForm, FitsScheme, MayBeUnits}
@@ -56,7 +58,7 @@ pub path_done : (base : Option Url) (text : List ℕ) (parts : Parts) → Silent
 path_done base text parts silent form =
     let P : Form → Type 0 = λ f. TakesForm base f parts in
     let Q : Form → Type 0 = λ f. FitsScheme (has_scheme f) parts.scheme in
-    let fits : FitsForm base SchemePath parts = subst P form silent.form in
+    let fits : FitsForm (setting_of Standard base parts.scheme) SchemePath parts = subst P form silent.form in
     let (scheme, named, is) = scheme_there parts.scheme (subst Q form silent.scheme) in
     let other : scheme_class scheme ≡ Other = rw named at fits.1 in
     let path = fits.2 in

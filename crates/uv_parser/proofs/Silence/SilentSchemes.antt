@@ -13,7 +13,8 @@ use Rattle.uv_parser.specs.Run.{Done, first_removed, run, step_bound}
 use Rattle.uv_model.specs.Scheme.{is_scheme, lowercase, scheme_class}
 use Rattle.uv_parser.specs.Laws.Silence.{RunsSilently}
 use Rattle.uv_model.specs.Records.Url.{Url}
-use Rattle.uv_model.specs.Valid.{scheme_in, scheme_or}
+use Rattle.uv_model.specs.Valid.{scheme_in}
+use Rattle.uv_model.specs.Setting.{scheme_or}
 use Rattle.uv_model.proofs.Records.DenotedRecords.{denote_as}
 use Rattle.uv_model.proofs.SchemeLemmas.{scheme_class-lowercase}
 use Rattle.uv_parser.proofs.Loops.SchemeStretch.{scheme_stretch}

@@ -5,25 +5,27 @@ use Rattle.std.specs.Char.{is_ascii_digit}
 use Rattle.std.proofs.lemmas.Bool.{true≢false, and_parts, and_from}
 use Rattle.std.proofs.lemmas.Bool.Decides.{nat_tests}
 use Rattle.uv_model.specs.declared.host.Host.TheVariants as host
+use Rattle.uv_model.specs.declared.profile.Profile.{Profile}
 use Rattle.uv_model.specs.declared.scheme.Class.{Class}
 use Rattle.uv_model.specs.declared.scheme.Class.TheVariants.{Special, File, Other}
 use Rattle.uv_model.specs.Ascii.{colon}
 use Rattle.uv_model.specs.Cut.{class_in}
 use Rattle.uv_parser.specs.SilentTexts.{Takes, TakesForm, TakesHostText}
 use Rattle.uv_model.specs.Parts.{Form, SchemeAuthority, SchemePath, SchemeOpaque, Authority, PathAbsolute, PathRelative, NoPath, Parts, has_scheme, written, written_scheme, written_authority}
-use Rattle.uv_model.specs.Path.{IsPathAbsolute, IsPathRelative}
+use Rattle.uv_model.specs.Path.{IsPathAbsolute, IsPathRelative, MayBePathSlashed}
 use Rattle.uv_parser.specs.Run.{first_removed}
 use Rattle.uv_parser.specs.Laws.Silence.{FileTextsRunSilently, OpaqueTextsRunSilently, OtherTextsRunSilently, RunsSilently, SpecialTextsRunSilently}
 use Rattle.uv_parser.specs.Laws.ValidTexts.{ValidTextsAreSilent, ValidTextsRunSilently}
+use Rattle.uv_model.specs.Setting.{scheme_or, setting_of}
 use Rattle.uv_model.specs.Records.Url.{Url}
-use Rattle.uv_model.specs.Valid.{FitsAuthority, FitsForm, FitsHostText, FitsScheme, HasNoAuthority, MayBePathAbsolute, MayBePortText, Valid, scheme_in}
+use Rattle.uv_model.specs.Valid.{FitsAuthority, FitsForm, FitsHostText, FitsScheme, HasNoAuthority, MayBePortText, Valid, scheme_in}
 use Rattle.uv_parser.proofs.Done.DecidedBases.{texts_are_decided}
 use Rattle.uv_parser.proofs.Done.DecidedTexts.{scheme_done}
 use Rattle.uv_parser.proofs.Loops.FileHosts.{file_parsed, file_text}
 use Rattle.uv_parser.proofs.HostParsing.HostParserLemmas.{empty_host_is_parsed}
 use Rattle.uv_parser.proofs.HostParsing.HostsParsed.{host_taken, opaque_taken}
-use Rattle.uv_model.proofs.Paths.JoinedSegments.{faultless_path}
-use Rattle.uv_parser.proofs.Loops.PathStarts.{slashed_absolute}
+use Rattle.uv_model.proofs.Paths.JoinedSegments.{faultless_joined, faultless_path}
+use Rattle.uv_model.proofs.Paths.SlashedPaths.{slashed_behind, slashed_or_none}
 use Rattle.uv_parser.proofs.Loops.SchemeStretch.{scheme_there}
 use Rattle.uv_parser.proofs.Loops.Tails.{tail}
 use Rattle.uv_parser.proofs.Running.Unremoved.{is_unremoved, first_removed-none, unremoved_append, unremoved_faultless, unremoved_scheme, unremoved_tail}
@@ -36,13 +38,14 @@ record IsTakenBy (kind : Class) (scheme host_text : List ℕ) (parts : Parts) : 
   takes : Takes kind scheme host_text parts
   above : list_all is_unremoved host_text ≡ true
   port_text : MayBePortText parts.port_text
-  path : MayBePathAbsolute parts.segments parts.path_text
+  path : MayBePathSlashed parts.segments parts.path_text
 
 -- by the class
-taken_by_class : (kind : Class) (scheme host_text : List ℕ) (parts : Parts) → FitsAuthority kind scheme host_text parts
-    → IsTakenBy kind scheme host_text parts
-taken_by_class Special scheme host_text parts is =
-    let taken = host_taken host_text is.value is.host in
+taken_by_class : (kind : Class) (profile : Profile) (base : Option Url) (scheme : Option (List ℕ)) (host_text : List ℕ)
+    (parts : Parts) → FitsAuthority kind (setting_of profile base scheme) host_text parts
+    → IsTakenBy kind (scheme_or base scheme) host_text parts
+taken_by_class Special profile base scheme host_text parts is =
+    let taken = host_taken profile host_text is.value is.host in
     record {
       takes = record {
         value = is.value;
@@ -53,10 +56,10 @@ taken_by_class Special scheme host_text parts is =
       };
       above = taken.above;
       port_text = is.port_text;
-      path = is.path;
+      path = slashed_or_none profile parts.segments parts.path_text is.path;
     }
-taken_by_class File scheme host_text parts (no_text, none, inl (value, is, valued, path, drive)) =
-    let parsed = file_parsed host_text value is in
+taken_by_class File profile base scheme host_text parts (no_text, none, inl (value, is, valued, path, drive)) =
+    let parsed = file_parsed profile host_text value is in
     record {
       takes = record {
         no_port_text = no_text;
@@ -75,15 +78,15 @@ taken_by_class File scheme host_text parts (no_text, none, inl (value, is, value
       };
       above = parsed.read.above;
       port_text = rw no_text tt;
-      path = path;
+      path = slashed_or_none profile parts.segments parts.path_text path;
     }
-taken_by_class File scheme host_text parts (no_text, none, inr (empty, valued, path)) = record {
+taken_by_class File profile base scheme host_text parts (no_text, none, inr (empty, valued, path)) = record {
   takes = record { no_port_text = no_text; no_port = none; host = inr (empty, valued) };
   above = rw empty refl;
   port_text = rw no_text tt;
-  path = inr path;
+  path = inr (slashed_behind profile parts.segments parts.path_text path);
 }
-taken_by_class Other scheme host_text parts (inl (is, port_text), port, path) =
+taken_by_class Other profile base scheme host_text parts (inl (is, port_text), port, path) =
     let taken = opaque_taken host_text parts.host is in
     record {
       takes = record {
@@ -97,9 +100,9 @@ taken_by_class Other scheme host_text parts (inl (is, port_text), port, path) =
       };
       above = taken.above;
       port_text = port_text;
-      path = path;
+      path = slashed_or_none profile parts.segments parts.path_text path;
     }
-taken_by_class Other scheme host_text parts (inr (empty, valued, no_text), port, path) = record {
+taken_by_class Other profile base scheme host_text parts (inr (empty, valued, no_text), port, path) = record {
   takes = record {
     value = host.Empty;
     no_at_sign = rw empty refl;
@@ -111,7 +114,7 @@ taken_by_class Other scheme host_text parts (inr (empty, valued, no_text), port,
   };
   above = rw empty refl;
   port_text = rw no_text tt;
-  path = path;
+  path = slashed_or_none profile parts.segments parts.path_text path;
 }
 
 -- ---- what the test before the first step finds
@@ -142,10 +145,11 @@ unremoved_absolute : (segments : List (List ℕ)) (text : List ℕ) → IsPathAb
     → list_all is_unremoved text ≡ true
 unremoved_absolute segments text path = rw path.slashed (unremoved_relative segments path.behind path.relative)
 
-unremoved_path : (segments : List (List ℕ)) (text : List ℕ) → MayBePathAbsolute segments text
+unremoved_path : (segments : List (List ℕ)) (text : List ℕ) → MayBePathSlashed segments text
     → list_all is_unremoved text ≡ true
 unremoved_path segments text (inl none) = rw none.0 refl
-unremoved_path segments text (inr path) = unremoved_absolute segments text path
+unremoved_path segments text (inr path) =
+    rw path.slashed (unremoved_faultless path.behind (faultless_joined segments path.behind path.joins))
 
 -- nor those of a scheme and its `:`
 unremoved_written_scheme : (has : Bool) (scheme : Option (List ℕ)) → FitsScheme has scheme
@@ -166,14 +170,14 @@ record FormIsTaken (base : Option Url) (form : Form) (parts : Parts) : Type 0 wh
 record HostIsTaken (base : Option Url) (parts : Parts) (host_text : Option (List ℕ)) : Type 0 where
   takes : TakesHostText base parts host_text
   authority : list_all is_unremoved (written_authority host_text parts.port_text) ≡ true
-  path : MayBePathAbsolute parts.segments parts.path_text
+  path : MayBePathSlashed parts.segments parts.path_text
 
 -- with a host text
-taken_with_host : (base : Option Url) (parts : Parts) (host_text : Option (List ℕ)) → FitsHostText base parts host_text
-    → HostIsTaken base parts host_text
-taken_with_host base parts None is = absurd is
-taken_with_host base parts (Some host_text) is =
-    let taken = taken_by_class (class_in base parts.scheme) (scheme_in base parts) host_text parts is in
+taken_with_host : (profile : Profile) (base : Option Url) (parts : Parts) (host_text : Option (List ℕ))
+    → FitsHostText (setting_of profile base parts.scheme) parts host_text → HostIsTaken base parts host_text
+taken_with_host profile base parts None is = absurd is
+taken_with_host profile base parts (Some host_text) is =
+    let taken = taken_by_class (class_in base parts.scheme) profile base parts.scheme host_text parts is in
     record {
       takes = taken.takes;
       authority = unremoved_authority host_text parts.port_text taken.above taken.port_text;
@@ -181,12 +185,13 @@ taken_with_host base parts (Some host_text) is =
     }
 
 -- with an authority
-taken_authority : (base : Option Url) (parts : Parts) → FitsHostText base parts parts.host_text
+taken_authority : (profile : Profile) (base : Option Url) (parts : Parts)
+    → FitsHostText (setting_of profile base parts.scheme) parts parts.host_text
     → FormIsTaken base Authority parts
-taken_authority base parts is =
-    let taken = taken_with_host base parts parts.host_text is in
+taken_authority profile base parts is =
+    let taken = taken_with_host profile base parts parts.host_text is in
     record {
-      takes = (taken.takes, slashed_absolute parts.segments parts.path_text taken.path);
+      takes = (taken.takes, taken.path);
       authority = taken.authority;
       path = unremoved_path parts.segments parts.path_text taken.path;
     }
@@ -197,33 +202,34 @@ no_authority : (parts : Parts) → HasNoAuthority parts
 no_authority parts none = rw none.host_text refl
 
 -- each form
-taken_by_form : (base : Option Url) (form : Form) (parts : Parts) → FitsForm base form parts
+taken_by_form : (profile : Profile) (base : Option Url) (form : Form) (parts : Parts)
+    → FitsForm (setting_of profile base parts.scheme) form parts
     → FormIsTaken base form parts
-taken_by_form base SchemeAuthority parts is =
-    let taken = taken_authority base parts is in
+taken_by_form profile base SchemeAuthority parts is =
+    let taken = taken_authority profile base parts is in
     record { takes = taken.takes; authority = taken.authority; path = taken.path }
-taken_by_form base Authority parts is = taken_authority base parts is
-taken_by_form base SchemePath parts (none, other, path) = record {
+taken_by_form profile base Authority parts is = taken_authority profile base parts is
+taken_by_form profile base SchemePath parts (none, other, path) = record {
   takes = (none, other, path);
   authority = no_authority parts none;
   path = unremoved_absolute parts.segments parts.path_text path;
 }
-taken_by_form base SchemeOpaque parts (none, other, (segments, path), empty) = record {
+taken_by_form profile base SchemeOpaque parts (none, other, (segments, path), empty) = record {
   takes = (none, other, (segments, path), empty);
   authority = no_authority parts none;
   path = unremoved_relative segments parts.path_text path;
 }
-taken_by_form base PathAbsolute parts (none, path, drive) = record {
+taken_by_form profile base PathAbsolute parts (none, path, drive) = record {
   takes = (none, path);
   authority = no_authority parts none;
   path = unremoved_absolute parts.segments parts.path_text path;
 }
-taken_by_form base PathRelative parts (none, path, some, free) = record {
+taken_by_form profile base PathRelative parts (none, path, some, free) = record {
   takes = (none, path, some, free);
   authority = no_authority parts none;
   path = unremoved_relative parts.segments parts.path_text path;
 }
-taken_by_form base NoPath parts (none, nothing, empty) = record {
+taken_by_form profile base NoPath parts (none, nothing, empty) = record {
   takes = (none, nothing, empty);
   authority = no_authority parts none;
   path = rw nothing refl;
@@ -232,10 +238,11 @@ taken_by_form base NoPath parts (none, nothing, empty) = record {
 -- ---- the laws
 
 -- no code point of a valid text is removed
-valid_is_kept : (base : Option Url) (text : List ℕ) (parts : Parts) → Valid base text parts → first_removed text ≡ None
+valid_is_kept : (profile : Profile) (base : Option Url) (text : List ℕ) (parts : Parts)
+    → Valid profile base text parts → first_removed text ≡ None
 unfolding written
-valid_is_kept base text parts valid =
-    let taken = taken_by_form base parts.form parts valid.form in
+valid_is_kept profile base text parts valid =
+    let taken = taken_by_form profile base parts.form parts valid.form in
     let authority = written_authority parts.host_text parts.port_text in
     let behind = tail parts.query parts.fragment in
     let path = unremoved_append parts.path_text behind taken.path
@@ -247,41 +254,42 @@ valid_is_kept base text parts valid =
 
 -- the parser's grammar takes each valid text
 pub valid_is_silent : ValidTextsAreSilent
-valid_is_silent base text parts valid = record {
-  cut = valid_is_cut base text parts valid;
-  kept = valid_is_kept base text parts valid;
+valid_is_silent profile base text parts valid = record {
+  cut = valid_is_cut profile base text parts valid;
+  kept = valid_is_kept profile base text parts valid;
   scheme = valid.scheme;
   against = valid.against;
-  form = (taken_by_form base parts.form parts valid.form).takes;
+  form = (taken_by_form profile base parts.form parts valid.form).takes;
   query = valid.query;
   fragment = valid.fragment;
 }
 
 -- so the parser is silent on it
 pub valid_runs_silently : ValidTextsRunSilently
-valid_runs_silently base text parts well valid =
-    (texts_are_decided base text well).silent parts (valid_is_silent base text parts valid)
+valid_runs_silently profile base text parts well valid =
+    (texts_are_decided base text well).silent parts (valid_is_silent profile base text parts valid)
 
 -- a text with a scheme is judged alone, so that the base needn't be well formed
-pub scheme_runs_silently : (base : Option Url) (text : List ℕ) (parts : Parts) → Valid base text parts
+pub scheme_runs_silently : (profile : Profile) (base : Option Url) (text : List ℕ) (parts : Parts)
+    → Valid profile base text parts
     → has_scheme parts.form ≡ true → RunsSilently base text parts
-scheme_runs_silently base text parts valid has =
+scheme_runs_silently profile base text parts valid has =
     let (scheme, named, is) = scheme_there parts.scheme
     (subst (λ (b : Bool). FitsScheme b parts.scheme) has valid.scheme) in
-    scheme_done base text scheme parts parts.form (valid_is_silent base text parts valid) refl named
+    scheme_done base text scheme parts parts.form (valid_is_silent profile base text parts valid) refl named
 
 -- with an opaque path
 pub opaque_silent : OpaqueTextsRunSilently
-opaque_silent base text parts valid form = scheme_runs_silently base text parts valid (ap has_scheme form)
+opaque_silent profile base text parts valid form = scheme_runs_silently profile base text parts valid (ap has_scheme form)
 
 -- with a scheme of class Other
 pub other_silent : OtherTextsRunSilently
-other_silent base text parts valid has other = scheme_runs_silently base text parts valid has
+other_silent profile base text parts valid has other = scheme_runs_silently profile base text parts valid has
 
 -- of class Special
 pub special_silent : SpecialTextsRunSilently
-special_silent base text parts valid has special = scheme_runs_silently base text parts valid has
+special_silent profile base text parts valid has special = scheme_runs_silently profile base text parts valid has
 
 -- of class File
 pub file_silent : FileTextsRunSilently
-file_silent base text parts valid has file = scheme_runs_silently base text parts valid has
+file_silent profile base text parts valid has file = scheme_runs_silently profile base text parts valid has

@@ -1,5 +1,6 @@
 -- Runs of the URL parser (URL Standard, section 4.4) that end with no validation error and no failure.
 use Rattle.std.specs.Prelude.{◌≡◌, ℕ, true, List, Option}
+use Rattle.uv_model.specs.declared.profile.Profile.{Profile}
 use Rattle.uv_model.specs.declared.scheme.Class.TheVariants.{Special, File, Other}
 use Rattle.uv_model.specs.Scheme.{scheme_class}
 use Rattle.uv_model.specs.Records.Url.{Url}
@@ -15,26 +16,26 @@ RunsSilently base text parts = run base text (step_bound text) ≡ Done (denote 
 -- the parser is silent on each valid text with an opaque path, and gives the URL that its parts denote
 abbrev pub OpaqueTextsRunSilently : Type 0
 OpaqueTextsRunSilently =
-    (base : Option Url) (text : List ℕ) (parts : Parts)
-    → Valid base text parts → parts.form ≡ SchemeOpaque → RunsSilently base text parts
+    (profile : Profile) (base : Option Url) (text : List ℕ) (parts : Parts)
+    → Valid profile base text parts → parts.form ≡ SchemeOpaque → RunsSilently base text parts
 
 -- the parser is silent on each valid text with a scheme of class Other, and gives the URL that its parts denote
 abbrev pub OtherTextsRunSilently : Type 0
 OtherTextsRunSilently =
-    (base : Option Url) (text : List ℕ) (parts : Parts)
-    → Valid base text parts → has_scheme parts.form ≡ true → scheme_class (scheme_in base parts) ≡ Other
+    (profile : Profile) (base : Option Url) (text : List ℕ) (parts : Parts)
+    → Valid profile base text parts → has_scheme parts.form ≡ true → scheme_class (scheme_in base parts) ≡ Other
     → RunsSilently base text parts
 
 -- the same with a scheme of class Special
 abbrev pub SpecialTextsRunSilently : Type 0
 SpecialTextsRunSilently =
-    (base : Option Url) (text : List ℕ) (parts : Parts)
-    → Valid base text parts → has_scheme parts.form ≡ true → scheme_class (scheme_in base parts) ≡ Special
+    (profile : Profile) (base : Option Url) (text : List ℕ) (parts : Parts)
+    → Valid profile base text parts → has_scheme parts.form ≡ true → scheme_class (scheme_in base parts) ≡ Special
     → RunsSilently base text parts
 
 -- the same with a scheme of class File
 abbrev pub FileTextsRunSilently : Type 0
 FileTextsRunSilently =
-    (base : Option Url) (text : List ℕ) (parts : Parts)
-    → Valid base text parts → has_scheme parts.form ≡ true → scheme_class (scheme_in base parts) ≡ File
+    (profile : Profile) (base : Option Url) (text : List ℕ) (parts : Parts)
+    → Valid profile base text parts → has_scheme parts.form ≡ true → scheme_class (scheme_in base parts) ≡ File
     → RunsSilently base text parts

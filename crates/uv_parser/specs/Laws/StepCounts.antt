@@ -3,6 +3,7 @@
 use Rattle.std.specs.Prelude.{◌≡◌, ℕ, ◌+◌, ◌*◌, ◌≤◌, List, length, Option}
 use Rattle.uv_parser.specs.SilentTexts.{IsDecidedWithin}
 use Rattle.uv_parser.specs.Run.{Outcome, Done, Stopped, Going, run}
+use Rattle.uv_model.specs.declared.profile.Profile.TheVariants.{Wide}
 use Rattle.uv_model.specs.Records.Url.{Url}
 use Rattle.uv_model.specs.Records.WellFormed.{MayBeWellFormed}
 
@@ -28,5 +29,5 @@ RunsKeepTheirEnd = (base : Option Url) (text : List ℕ) (steps : ℕ) → least
 -- Against each well-formed base, and without a base, each text is decided within any number of steps from the bound on.
 -- So it is within the wider bound of specs/Run.
 abbrev pub TextsAreDecidedSoon : Type 0
-TextsAreDecidedSoon = (base : Option Url) (text : List ℕ) (steps : ℕ) → MayBeWellFormed base
+TextsAreDecidedSoon = (base : Option Url) (text : List ℕ) (steps : ℕ) → MayBeWellFormed Wide base
     → least_step_bound text ≤ steps → IsDecidedWithin steps base text

@@ -3,6 +3,7 @@
 use Rattle.std.specs.Prelude.{List, [], ◌∷◌, codes, Option, Some, None}
 use Prim.Native.String.{String as Literal}
 use Rattle.uv_model.specs.declared.host.Host.{Host}
+use Rattle.uv_model.specs.declared.profile.Profile.TheVariants.{Standard}
 use Rattle.uv_model.specs.declared.rule.Rule.{Rule}
 use Rattle.uv_model.specs.declared.rule.Rule.TheVariants.{OpaqueBase, DriveAfterHost}
 use Rattle.uv_model.specs.Complaints.Complaint.{Complaint}
@@ -239,7 +240,7 @@ opaque_query_rows =
 -- each of the texts violates the rule at its first place against the base
 abbrev pub AllViolate : Url → Rule → List Literal → Type 0
 AllViolate base rule [] = Unit {0}
-AllViolate base rule (text ∷ texts) = Complaint (Some base) (codes text) 0 rule × AllViolate base rule texts
+AllViolate base rule (text ∷ texts) = Complaint Standard (Some base) (codes text) 0 rule × AllViolate base rule texts
 
 -- the texts that aren't a fragment alone
 abbrev pub other_texts : List Literal
@@ -248,8 +249,8 @@ other_texts =
 
 -- A drive letter may not follow the host of a file base, and only a fragment may follow an opaque path.
 pub record RefusedPairs : Type 0 where
-  pub drive_behind_host : Complaint (Some file_host_base) (codes "/C:/x") 0 DriveAfterHost
-  pub drive_behind_host_and_drive : Complaint (Some host_drive_base) (codes "/C:/x") 0 DriveAfterHost
+  pub drive_behind_host : Complaint Standard (Some file_host_base) (codes "/C:/x") 0 DriveAfterHost
+  pub drive_behind_host_and_drive : Complaint Standard (Some host_drive_base) (codes "/C:/x") 0 DriveAfterHost
   pub opaque_path : AllViolate urn_base OpaqueBase other_texts
   pub opaque_path_and_query : AllViolate opaque_base OpaqueBase other_texts
 
