@@ -3,6 +3,9 @@ pub mod Ipv6ReadersLemmas
 pub mod Ipv6LoopLemmas
 pub mod Ipv6MovesLemmas
 pub mod Ipv6ParserLemmas
+pub mod Ipv6ReadersTaken
+pub mod Ipv6TurnsTaken
+pub mod Ipv6Taken
 pub mod Ipv4ParserLemmas
 pub mod HostParserLemmas
 pub mod HostsParsed

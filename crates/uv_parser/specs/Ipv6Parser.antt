@@ -1,5 +1,5 @@
 -- The IPv6 parser (URL Standard, section 3.5): pieces, a piece index and a compress index, and swaps at the end.
-use Rattle.std.specs.Prelude.{◌≡◌, ℕ, zero, suc, ◌+◌, ◌-◌, ◌*◌, not, ◌&&◌, ◌||◌, ◌==◌, nat_lt, nat_le, List, [], ◌∷◌, length, drop, replicate, slice_index, slice_set, Option, Some, None, is_some, option_map, option_and_then, if◌then◌else◌}
+use Rattle.std.specs.Prelude.{◌≡◌, ◌↔◌, ℕ, zero, suc, ◌+◌, ◌-◌, ◌*◌, not, ◌&&◌, ◌||◌, ◌==◌, nat_lt, nat_le, List, [], ◌∷◌, length, drop, replicate, slice_index, slice_set, Option, Some, None, is_some, option_map, option_and_then, if◌then◌else◌}
 use Rattle.std.specs.Char.{digit_value, is_digit}
 use Rattle.uv_model.specs.Ascii.{colon, full_stop}
 use Rattle.uv_model.specs.Hosts.Address.{IsIpv6}
@@ -106,3 +106,7 @@ parse_ipv6 text =
 -- the law: on an IPv6 text the parser gives exactly its pieces
 abbrev pub Ipv6TextsAreParsed : Type 0
 Ipv6TextsAreParsed = (text pieces : List ℕ) → IsIpv6 text pieces → parse_ipv6 text ≡ Some pieces
+
+-- the law: the parser gives pieces on the IPv6 texts alone, and exactly theirs
+abbrev pub Ipv6ParserTakesIpv6Texts : Type 0
+Ipv6ParserTakesIpv6Texts = (text pieces : List ℕ) → (parse_ipv6 text ≡ Some pieces) ↔ IsIpv6 text pieces

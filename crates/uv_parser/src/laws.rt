@@ -1,7 +1,7 @@
 //! Laws over the URL parser, each as the clause of a function that does nothing.
 ghost use Rattle.uv_parser.specs.HostParser.{DomainsAreParsed, EmptyHostIsParsed, Ipv4HostsAreParsed, Ipv6HostsAreParsed, OpaqueHostsAreParsed};
 ghost use Rattle.uv_parser.specs.Ipv4Parser.{Ipv4TextsAreParsed};
-ghost use Rattle.uv_parser.specs.Ipv6Parser.{Ipv6TextsAreParsed};
+ghost use Rattle.uv_parser.specs.Ipv6Parser.{Ipv6ParserTakesIpv6Texts, Ipv6TextsAreParsed};
 ghost use Rattle.uv_parser.specs.Laws.Silence.{FileTextsRunSilently, OpaqueTextsRunSilently, OtherTextsRunSilently, SpecialTextsRunSilently};
 ghost use Rattle.uv_parser.specs.Rows.AddressParsers.{AddressParserRows};
 ghost use Rattle.uv_parser.specs.Rows.Denotation.{DenotationRows};
@@ -54,6 +54,12 @@ pub fn ipv4_texts_are_parsed()
 /// On every IPv6 text the IPv6 parser gives exactly the text's eight pieces (URL Standard, section 3.5).
 pub fn ipv6_texts_are_parsed()
     ensures { Ipv6TextsAreParsed }
+{}
+
+/// The IPv6 parser takes the IPv6 texts alone: where it gives pieces, the text is an IPv6 text of these pieces (URL
+/// Standard, section 3.5).
+pub fn ipv6_parser_takes_ipv6_texts()
+    ensures { Ipv6ParserTakesIpv6Texts }
 {}
 
 /// What both parsers make of texts that are written out, such as the failure on `1::2::3` (URL Standard, section 3.5).
