@@ -1,8 +1,21 @@
-//! The number rule of a domain's last label, after the URL Standard, section 3.5.
+//! The marks of a domain, and the number rule of its last label (URL Standard, sections 3.4 and 3.5).
 ghost use Rattle.std.specs.Char.{is_ascii_digit, is_ascii_hexdigit};
 ghost use Rattle.std.specs.List.{list_all};
 ghost use Rattle.std.specs.Prelude.{chars, ◌≡◌};
 ghost use Rattle.uv_model.specs.Hosts.Domain as spec;
+
+use crate::profile::Profile;
+
+/// Whether a code point is one of the marks that a domain of the profile may hold beside letters and digits: `-` and
+/// `.`, and by the wide profile also `_`.
+pub fn is_domain_mark(c: char, profile: Profile) -> bool
+    ensures { result ≡ spec.is_domain_mark profile c }
+{
+    match profile {
+        Profile::Standard => c == '-' || c == '.',
+        Profile::Wide => c == '_' || c == '-' || c == '.',
+    }
+}
 
 /// Whether the text ends in a number (URL Standard, section 3.5, the ends-in-a-number checker): its last label, where
 /// one empty label at the end is dropped, is digits alone, or `0x` and then nothing or hex digits.

@@ -27,8 +27,8 @@ pub fn valid_texts_are_cut_into_their_parts()
     ensures { ValidTextsAreCutIntoTheirParts }
 {}
 
-/// A text that begins with a scheme and `:` has against every base the same cut, and in each profile the same valid parts
-/// and complaints.
+/// A text that begins with a scheme and `:` has against every base the same cut, and in each profile the same valid
+/// parts and complaints.
 pub fn texts_with_a_scheme_ignore_the_base()
     ensures { TextsWithASchemeIgnoreTheBase }
 {}
@@ -68,9 +68,9 @@ pub fn denoted_records_are_well_formed()
     ensures { DenotedRecordsAreWellFormed }
 {}
 
-/// A valid text of the standard profile is one of the wide profile, alone or against the same base, with the same parts,
-/// and so it denotes the same record. A domain of the standard profile is one of the wide profile with the same form, and
-/// a record that is well formed by the standard profile is so by the wide profile.
+/// A valid text of the standard profile is one of the wide profile, alone or against the same base, with the same
+/// parts, and so it denotes the same record. A domain of the standard profile is one of the wide profile with the same
+/// form, and a record that is well formed by the standard profile is so by the wide profile.
 pub fn standard_texts_are_wide()
     ensures texts { StandardTextsAreWide }
     ensures domains { StandardDomainsAreWide }

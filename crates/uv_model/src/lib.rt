@@ -24,7 +24,7 @@ mod well_formedness;
 pub use adapters::ToWriter;
 pub use code_points::{first_code_point, starts_with_two_hex};
 pub use device::{DeviceFault, Sink, write_whole};
-pub use domain::ends_in_number;
+pub use domain::{ends_in_number, is_domain_mark};
 pub use host::Host;
 pub use opaque_host::is_forbidden_host;
 pub use path::UrlPath;

@@ -1,12 +1,12 @@
 //! Whether a host may stand in a record, by the class of the scheme (URL Standard, section 4.1).
 ghost use Rattle.std.specs.List.{list_all};
 ghost use Rattle.std.specs.Prelude.{◌≡◌, ◌↔◌, IsTrue, not, option_copied};
-ghost use Rattle.uv_model.specs.Hosts.Domain.{is_domain_mark, is_form_code_point};
+ghost use Rattle.uv_model.specs.Hosts.Domain.{is_form_code_point};
 ghost use Rattle.uv_model.specs.Hosts.OpaqueHost.{is_forbidden_host};
 ghost use Rattle.uv_model.specs.Records.WellFormed.{IsFileHost, IsOtherHost, IsSpecialHost, IsUrlDomain, IsUrlHost, IsUrlOpaqueHost};
 
 use crate::ascii_units::is_ascii_units;
-use crate::domain::ends_in_number;
+use crate::domain::{ends_in_number, is_domain_mark};
 use crate::host::Host;
 use crate::profile::Profile;
 use crate::scheme::Class;
@@ -99,16 +99,7 @@ fn has_form_bytes(text: &[u8], profile: Profile) -> bool
 {
     text.iter().all(|byte| byte.is_ascii_lowercase()
         || byte.is_ascii_digit()
-        || is_domain_mark(*byte, profile))
-}
-
-fn is_domain_mark(byte: u8, profile: Profile) -> bool
-    ensures { result ≡ is_domain_mark profile byte }
-{
-    match profile {
-        Profile::Standard => byte == b'-' || byte == b'.',
-        Profile::Wide => byte == b'_' || byte == b'-' || byte == b'.',
-    }
+        || is_domain_mark(char::from(*byte), profile))
 }
 
 // No forbidden host code point (URL Standard, section 3.2).

@@ -16,6 +16,7 @@ pub mod Hosts
 pub mod Machine
 pub mod OpaquePaths
 pub mod Other
+pub mod Profiles
 pub mod ReferenceMatrix
 pub mod References
 pub mod SilentRefusals

@@ -11,21 +11,23 @@ ghost use Rattle.uv_parser.specs.Rows.Hosts.{HostRows};
 ghost use Rattle.uv_parser.specs.Rows.Machine.{MachineRows};
 ghost use Rattle.uv_parser.specs.Rows.OpaquePaths.{OpaquePathRows};
 ghost use Rattle.uv_parser.specs.Rows.Other.{OtherRows};
+ghost use Rattle.uv_parser.specs.Rows.Profiles.{ProfileRows};
 ghost use Rattle.uv_parser.specs.Rows.ReferenceMatrix.{ReferenceMatrixRows};
 ghost use Rattle.uv_parser.specs.Rows.References.{ReferenceRows};
 ghost use Rattle.uv_parser.specs.Rows.SilentRefusals.{SilentRefusalRows};
 ghost use Rattle.uv_parser.specs.Rows.Special.{SpecialRows};
 ghost use Rattle.uv_parser.specs.SilentTexts.{TextsAreDecided};
 
-/// On every valid text of either profile with an opaque path, against every base and none, the URL parser runs to its end with no
-/// validation error and no failure, and gives exactly the URL that the text's parts denote (URL Standard, section 4.4).
+/// On every valid text of either profile with an opaque path, against every base and none, the URL parser runs to its
+/// end with no validation error and no failure, and gives exactly the URL that the text's parts denote (URL Standard,
+/// section 4.4).
 pub fn opaque_texts_run_silently()
     ensures { OpaqueTextsRunSilently }
 {}
 
-/// On every valid text of either profile with a scheme of class Other, against every base and none, the URL parser runs to its end with
-/// no validation error and no failure, and gives exactly the URL that the text's parts denote (URL Standard, section
-/// 4.4).
+/// On every valid text of either profile with a scheme of class Other, against every base and none, the URL parser runs
+/// to its end with no validation error and no failure, and gives exactly the URL that the text's parts denote (URL
+/// Standard, section 4.4).
 pub fn other_texts_run_silently()
     ensures { OtherTextsRunSilently }
 {}
@@ -67,8 +69,8 @@ pub fn address_parser_rows()
     ensures { AddressParserRows }
 {}
 
-/// For a special URL the host parser makes of every valid domain of either profile the domain of exactly its form (URL Standard,
-/// section 3.5).
+/// For a special URL the host parser makes of every valid domain of either profile the domain of exactly its form (URL
+/// Standard, section 3.5).
 pub fn domains_are_parsed()
     ensures { DomainsAreParsed }
 {}
@@ -146,6 +148,12 @@ pub fn silent_refusal_rows()
 /// they are shortened or walked (URL Standard, sections 4.2 and 4.4).
 pub fn denotation_rows()
     ensures { DenotationRows }
+{}
+
+/// Texts by which the profiles differ, and some on which they agree: valid parts, the URL that they denote, and
+/// complaints.
+pub fn profile_rows()
+    ensures { ProfileRows }
 {}
 
 /// What the host parser makes of texts that are written out, such as `example%2Ecom` (URL Standard, section 3.5).

@@ -51,7 +51,8 @@ some_length [] some = absurd (some refl)
 some_length (c ∷ rest) some = omega arith
 
 -- a host with a fault of what it holds isn't empty
-host_text_some : (profile : Profile) (text : List ℕ) (rule : Rule) → HostTextComplaint profile text rule → 0 < length text
+host_text_some : (profile : Profile) (text : List ℕ) (rule : Rule) → HostTextComplaint profile text rule
+    → 0 < length text
 host_text_some profile text HostDomain h = some_length text h.0.some
 host_text_some profile text HostNumber h = some_length text h.0.some
 host_text_some profile [] HostIpv6 h = absurd (false≢true h.bracket)
@@ -62,17 +63,20 @@ host_text_some profile text _ h = absurd h
 held_host_within : (profile : Profile) (kind : Class) (text : List ℕ) (place : ℕ) (rule : Rule)
     → HeldHostComplaint profile kind text place rule
     → place < length text
-held_host_within profile Special text place rule (h, at) = (let some = host_text_some profile text rule h in omega arith)
+held_host_within profile Special text place rule (h, at) =
+    (let some = host_text_some profile text rule h in omega arith)
 held_host_within profile File text place rule (h, at) = (let some = host_text_some profile text rule h in omega arith)
 held_host_within profile Other text place rule h = opaque_complaint_within text place rule h
 
 -- a fault of a host stands within its text, or is that of a missing host
-host_complaint_ends : (profile : Profile) (kind : Class) (text : List ℕ) (port_text : Option (List ℕ)) (path_text : List ℕ) (place : ℕ)
+host_complaint_ends : (profile : Profile) (kind : Class) (text : List ℕ) (port_text : Option (List ℕ))
+    (path_text : List ℕ) (place : ℕ)
     (rule : Rule)
     → HostComplaint profile kind text port_text path_text place rule
     → (place < length text) ⊎ ((place ≡ 0) × (rule_number rule ≤ 4))
 host_complaint_ends profile kind text port_text path_text place HostMissing h = inr (h.1, omega arith)
-host_complaint_ends profile kind text port_text path_text place rule h = inl (held_host_within profile kind text place rule h)
+host_complaint_ends profile kind text port_text path_text place rule h =
+    inl (held_host_within profile kind text place rule h)
 
 -- a fault of a port stands within its text, by rule 9 or 10
 port_complaint_bounds : (text : List ℕ) (place : ℕ) (rule : Rule) → PortComplaint text place rule
@@ -96,7 +100,8 @@ empty_first_starts Standard path_text empty = empty
 empty_first_starts Wide path_text empty = absurd empty
 
 -- a fault of a path's start stands no further than that place, by rule 11 or 12
-path_start_bounds : (setting : Setting) (cut : Cut) (place : ℕ) (rule : Rule) → PathStartComplaint setting cut place rule
+path_start_bounds : (setting : Setting) (cut : Cut) (place : ℕ) (rule : Rule)
+    → PathStartComplaint setting cut place rule
     → (place ≤ second_slash cut.path_text) × (11 ≤ rule_number rule) × (rule_number rule ≤ 12)
 path_start_bounds setting cut place FirstSegmentEmpty (empty, at) =
     let starts = empty_first_starts setting.profile cut.path_text empty in

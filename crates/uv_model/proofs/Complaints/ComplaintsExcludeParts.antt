@@ -32,7 +32,8 @@ use Rattle.uv_model.proofs.Complaints.FaultlessHosts.{host_not_empty, host_text_
 -- ---- the host, by the class
 
 -- a host that is there and has no complaint of what it holds, of class Special
-special_host_faultless : (profile : Profile) (text : List ℕ) (port_text : Option (List ℕ)) (path_text : List ℕ) → text ≢ []
+special_host_faultless : (profile : Profile) (text : List ℕ) (port_text : Option (List ℕ)) (path_text : List ℕ)
+    → text ≢ []
     → ((rule : Rule) → HostTextComplaint profile text rule → ⊥) → (place : ℕ) (rule : Rule)
     → HostComplaint profile Special text port_text path_text place rule → ⊥
 special_host_faultless profile text port_text path_text some none place HostMissing h = some h.0
@@ -66,14 +67,17 @@ authority_host_faultless : (kind : Class) (setting : Setting) (text : List ℕ) 
     → FitsAuthority kind setting text parts
     → (place : ℕ) (rule : Rule) → HostComplaint setting.profile kind text parts.port_text parts.path_text place rule → ⊥
 authority_host_faultless Special setting text parts is =
-    special_host_faultless setting.profile text parts.port_text parts.path_text (host_not_empty setting.profile text is.value is.host)
+    special_host_faultless setting.profile text parts.port_text parts.path_text
+    (host_not_empty setting.profile text is.value is.host)
     (host_text_faultless setting.profile text is.value is.host)
 authority_host_faultless File setting text parts (no_port, absent, inl (value, host, valued, path, drive)) =
     let (other, is) = file_host_is_host setting.profile text value host in
-    file_host_faultless setting.profile text parts.port_text parts.path_text (λ nothing. absurd (host_not_empty setting.profile text other is nothing))
+    file_host_faultless setting.profile text parts.port_text parts.path_text
+    (λ nothing. absurd (host_not_empty setting.profile text other is nothing))
     (host_text_faultless setting.profile text other is)
 authority_host_faultless File setting text parts (no_port, absent, inr (nothing, valued, path)) =
-    let none : (rule : Rule) → HostTextComplaint setting.profile text rule → ⊥ = rw nothing (empty_host_faultless setting.profile) in
+    let none : (rule : Rule) → HostTextComplaint setting.profile text rule
+    → ⊥ = rw nothing (empty_host_faultless setting.profile) in
     file_host_faultless setting.profile text parts.port_text parts.path_text
     (λ same. slashed_start parts.segments parts.path_text
     (slashed_behind setting.profile parts.segments parts.path_text path)) none
@@ -214,7 +218,8 @@ path_start_alone : (setting : Setting) (cut : Cut) → cut.host_text ≡ None
 path_start_alone setting cut none start bare place FirstSegmentEmpty (empty, at) =
     one_slash_start setting.profile cut.path_text start empty
 path_start_alone setting cut none start bare place DriveAfterHost (kind, some, drive, at) =
-    let host : HasHost setting.base cut.scheme None = subst (λ (o : Option (List ℕ)). HasHost setting.base cut.scheme o) none some in
+    let host : HasHost setting.base cut.scheme None =
+    subst (λ (o : Option (List ℕ)). HasHost setting.base cut.scheme o) none some in
     false≢true (sym (bare kind host) ∙ drive)
 path_start_alone setting cut none start bare place _ h = h
 
@@ -225,12 +230,15 @@ record IsFaultless (setting : Setting) (parts : Parts) : Type 0 where
   start : (place : ℕ) (rule : Rule) → PathStartComplaint setting (texts_of parts) place rule → ⊥
   units : IsUnits parts.path_text
 
-faultless_with : (setting : Setting) (parts : Parts) → FitsHostText setting parts parts.host_text → IsFaultless setting parts
+faultless_with : (setting : Setting) (parts : Parts) → FitsHostText setting parts parts.host_text
+    → IsFaultless setting parts
 faultless_with setting parts is = record {
   host = host_part_faultless setting parts parts.host_text is;
   port = port_part_faultless (texts_of parts) (authority_port_fits setting parts parts.host_text is);
   start = path_start_behind setting parts parts.host_text is;
-  units = behind_units setting.profile parts.segments parts.path_text (authority_path_fits setting parts parts.host_text is);
+  units =
+      behind_units setting.profile parts.segments parts.path_text
+      (authority_path_fits setting parts parts.host_text is);
 }
 
 faultless_without : (setting : Setting) (parts : Parts) → HasNoAuthority parts → IsUnits parts.path_text
@@ -257,25 +265,33 @@ reference_drive None (Some scheme) path none is kind host = absurd host
 reference_drive (Some url) None path none is kind host = is kind host
 reference_drive (Some url) (Some scheme) path none is kind host = absurd host
 
-faultless_form : (profile : Profile) (base : Option Url) (form : Form) (parts : Parts) → FitsForm (setting_of profile base parts.scheme) form parts
+faultless_form : (profile : Profile) (base : Option Url) (form : Form) (parts : Parts)
+    → FitsForm (setting_of profile base parts.scheme) form parts
     → FitsScheme (has_scheme form) parts.scheme → IsFaultless (setting_of profile base parts.scheme) parts
-faultless_form profile base SchemeAuthority parts is scheme = faultless_with (setting_of profile base parts.scheme) parts is
+faultless_form profile base SchemeAuthority parts is scheme =
+    faultless_with (setting_of profile base parts.scheme) parts is
 faultless_form profile base Authority parts is scheme = faultless_with (setting_of profile base parts.scheme) parts is
 faultless_form profile base SchemePath parts (none, other, path) scheme =
-    faultless_without (setting_of profile base parts.scheme) parts none (absolute_units parts.segments parts.path_text path)
-    (absolute_without_two_slashes parts.segments parts.path_text path) (other_no_drive (setting_of profile base parts.scheme) parts other)
+    faultless_without (setting_of profile base parts.scheme) parts none
+    (absolute_units parts.segments parts.path_text path)
+    (absolute_without_two_slashes parts.segments parts.path_text path)
+    (other_no_drive (setting_of profile base parts.scheme) parts other)
 faultless_form profile base SchemeOpaque parts (none, other, (segments, path), empty) scheme =
     faultless_without (setting_of profile base parts.scheme) parts none (relative_units segments parts.path_text path)
-    (without_slash_without_two parts.path_text path.start) (other_no_drive (setting_of profile base parts.scheme) parts other)
+    (without_slash_without_two parts.path_text path.start)
+    (other_no_drive (setting_of profile base parts.scheme) parts other)
 faultless_form profile base PathAbsolute parts (none, path, drive) scheme =
-    faultless_without (setting_of profile base parts.scheme) parts none (absolute_units parts.segments parts.path_text path)
+    faultless_without (setting_of profile base parts.scheme) parts none
+    (absolute_units parts.segments parts.path_text path)
     (absolute_without_two_slashes parts.segments parts.path_text path)
     (reference_drive base parts.scheme parts.path_text scheme drive)
 faultless_form profile base PathRelative parts (none, path, some, free) scheme =
-    faultless_without (setting_of profile base parts.scheme) parts none (relative_units parts.segments parts.path_text path)
+    faultless_without (setting_of profile base parts.scheme) parts none
+    (relative_units parts.segments parts.path_text path)
     (without_slash_without_two parts.path_text path.start) (λ kind host. slash_before_drive parts.path_text path.start)
 faultless_form profile base NoPath parts (none, nothing, empty) scheme =
-    faultless_without (setting_of profile base parts.scheme) parts none (rw nothing IsUnits-nil) (ap starts_with_two_slashes nothing)
+    faultless_without (setting_of profile base parts.scheme) parts none (rw nothing IsUnits-nil)
+    (ap starts_with_two_slashes nothing)
     (λ kind host. ap starts_with_drive nothing)
 
 -- ---- the start
@@ -308,11 +324,13 @@ no_path setting NoPath parts is same = (is.0, is.1)
 
 -- a base with an opaque path lets a fragment alone through
 opaque_or_fragment : (profile : Profile) (base : Option Url) (text : List ℕ) (parts : Parts)
-    → Valid profile base text parts → FitsBase base parts → parts.scheme ≡ None → HasOpaquePath base → starts_with_number_sign text ≡ true
+    → Valid profile base text parts → FitsBase base parts → parts.scheme ≡ None → HasOpaquePath base
+    → starts_with_number_sign text ≡ true
 opaque_or_fragment profile None text parts valid is none opaque = absurd opaque
 opaque_or_fragment profile (Some url) text parts valid (inl some) none opaque =
     absurd (false≢true (subst (λ (o : Option (List ℕ)). IsSome o) none some))
-opaque_or_fragment profile (Some url) text parts valid (inr (inl other)) none opaque = absurd (false≢true (sym other ∙ opaque))
+opaque_or_fragment profile (Some url) text parts valid (inr (inl other)) none opaque =
+    absurd (false≢true (sym other ∙ opaque))
 opaque_or_fragment profile (Some url) text parts valid (inr (inr (form, query, some))) none opaque =
     let alone = no_path (setting_of profile (Some url) parts.scheme) parts.form parts valid.form form in
     fragment_alone text parts valid.whole none alone.0 alone.1 query parts.fragment refl some

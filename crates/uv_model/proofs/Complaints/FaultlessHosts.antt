@@ -68,12 +68,15 @@ host_not_empty profile text Empty is nothing = is
 pub host_text_faultless : (profile : Profile) (text : List ℕ) (host : Host) → IsHostText profile text host
     → (rule : Rule) → HostTextComplaint profile text rule → ⊥
 host_text_faultless profile text (Domain form) is HostDomain (should, none) = none form is.0
-host_text_faultless profile text (Domain form) is HostNumber (should, number) = domain_no_number profile text form is number
-host_text_faultless profile text (Domain form) is HostIpv6 bad = false≢true (sym (form_no_bracket profile text form is.0) ∙ bad.bracket)
+host_text_faultless profile text (Domain form) is HostNumber (should, number) =
+    domain_no_number profile text form is number
+host_text_faultless profile text (Domain form) is HostIpv6 bad =
+    false≢true (sym (form_no_bracket profile text form is.0) ∙ bad.bracket)
 host_text_faultless profile text (Domain form) is _ h = h
 host_text_faultless profile text (V4 value) is HostDomain (should, none) = should.no_ipv4 value is
 host_text_faultless profile text (V4 value) is HostNumber (should, number) = should.no_ipv4 value is
-host_text_faultless profile text (V4 value) is HostIpv6 bad = false≢true (sym (ipv4_no_bracket text value is) ∙ bad.bracket)
+host_text_faultless profile text (V4 value) is HostIpv6 bad =
+    false≢true (sym (ipv4_no_bracket text value is) ∙ bad.bracket)
 host_text_faultless profile text (V4 value) is _ h = h
 host_text_faultless profile text (V6 pieces) is HostDomain (should, none) =
     false≢true (sym should.no_bracket ∙ bracketed_bracket text pieces is)

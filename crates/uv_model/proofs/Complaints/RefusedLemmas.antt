@@ -124,7 +124,8 @@ path_start_first setting cut =
 port_first : (setting : Setting) (cut : Cut) → Precedes (PortPartComplaint cut) (FromPathStart setting cut)
 port_first setting cut =
     precedes (PortPartComplaint cut) (FromPathStart setting cut) (path_place cut) 10 (port_part_ends cut)
-    (begins_earlier (FromPathStart setting cut) _ 11 _ 10 (path_start_all_begin setting cut) (omega arith) (omega arith))
+    (begins_earlier (FromPathStart setting cut) _ 11 _ 10 (path_start_all_begin setting cut) (omega arith)
+    (omega arith))
 
 host_first : (setting : Setting) (cut : Cut) → Precedes (HostPartComplaint setting cut) (FromPort setting cut)
 host_first setting cut =
@@ -164,7 +165,8 @@ start_first setting text cut = record { order = order }
         → Rest setting text cut later other
         → (place < later) ⊎ ((place ≡ later) × (rule_number rule ≤ rule_number other))
     order place later rule other start (inl (started, judged)) = absurd (started place rule start)
-    order place later rule other start (inr h) = (start_before_held setting text cut).order place later rule other start h
+    order place later rule other start (inr h) =
+        (start_before_held setting text cut).order place later rule other start h
 
 -- without such a violation the complaints are those of the parts
 from_parts : (setting : Setting) (text : List ℕ) (cut : Cut) → IsStarted setting text cut → (place : ℕ) (rule : Rule)
@@ -240,7 +242,8 @@ path_start_refuses setting cut refusal =
     least_first (OfPathStart setting cut) (FromPath cut) refusal (path_start_first setting cut)
 
 -- where the path's start has none, those decide
-pub path_start_passes : (setting : Setting) (cut : Cut) (least : Option Refusal) → IsLeast (OfPathStart setting cut) None
+pub path_start_passes : (setting : Setting) (cut : Cut) (least : Option Refusal)
+    → IsLeast (OfPathStart setting cut) None
     → IsLeast (FromPath cut) least → IsLeast (FromPathStart setting cut) least
 path_start_passes setting cut least = least_second (OfPathStart setting cut) (FromPath cut) least
 
@@ -263,7 +266,8 @@ host_refuses setting cut refusal =
     least_first (HostPartComplaint setting cut) (FromPort setting cut) refusal (host_first setting cut)
 
 -- where the host has none, those decide
-pub host_passes : (setting : Setting) (cut : Cut) (least : Option Refusal) → IsLeast (HostPartComplaint setting cut) None
+pub host_passes : (setting : Setting) (cut : Cut) (least : Option Refusal)
+    → IsLeast (HostPartComplaint setting cut) None
     → IsLeast (FromPort setting cut) least → IsLeast (FromHost setting cut) least
 host_passes setting cut least = least_second (HostPartComplaint setting cut) (FromPort setting cut) least
 

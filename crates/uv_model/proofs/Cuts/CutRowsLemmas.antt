@@ -28,7 +28,7 @@ cut_rows = record {
 }
 
 -- a text with a scheme and an authority violates no rule of the start
-started : (setting : Setting) (text : List ℕ) (cut : Cut) → IsSome cut.scheme → IsSome cut.host_text
+pub started : (setting : Setting) (text : List ℕ) (cut : Cut) → IsSome cut.scheme → IsSome cut.host_text
     → IsStarted setting text cut
 started setting text cut scheme host place NoScheme h =
     false≢true (subst (λ (o : Option (List ℕ)). IsSome o) h.0 scheme)
@@ -45,7 +45,8 @@ pub started_row : (profile : Profile) (base : Option Url) (text : List ℕ) → 
 started_row profile base text = started (setting_of profile base (cut_of base text).scheme) text (cut_of base text)
 
 -- a path-absolute reference to the base `file://h/a` violates none either
-file_started : IsStarted (setting_of Standard file_base (cut_of file_base (codes "/C:/x")).scheme) (codes "/C:/x") (cut_of file_base (codes "/C:/x"))
+file_started : IsStarted (setting_of Standard file_base (cut_of file_base (codes "/C:/x")).scheme) (codes "/C:/x")
+    (cut_of file_base (codes "/C:/x"))
 unfolding cut_of scheme_class default_port
 file_started place NoScheme h = absurd cc
 file_started place OpaqueBase h = false≢true h.1

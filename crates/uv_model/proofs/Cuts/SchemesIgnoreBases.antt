@@ -174,8 +174,10 @@ same_valid profile base other text parts starts valid =
 
 -- ---- complaints
 
-same_start : (profile : Profile) (base other : Option Url) (text : List ℕ) (cut : Cut) → IsSome cut.scheme → (place : ℕ) (rule : Rule)
-    → StartComplaint (setting_of profile base cut.scheme) text cut place rule → StartComplaint (setting_of profile other cut.scheme) text cut place rule
+same_start : (profile : Profile) (base other : Option Url) (text : List ℕ) (cut : Cut) → IsSome cut.scheme
+    → (place : ℕ) (rule : Rule)
+    → StartComplaint (setting_of profile base cut.scheme) text cut place rule
+    → StartComplaint (setting_of profile other cut.scheme) text cut place rule
 same_start profile base other text cut some place NoScheme h = absurd (no_scheme cut.scheme some h.0)
 same_start profile base other text cut some place OpaqueBase h = absurd (no_scheme cut.scheme some h.0)
 same_start profile base other text cut some place TwoSlashes ((has, kind, none), at) =
@@ -183,13 +185,16 @@ same_start profile base other text cut some place TwoSlashes ((has, kind, none),
 same_start profile base other text cut some place _ h = absurd h
 
 same_host : (profile : Profile) (base other : Option Url) (cut : Cut) → IsSome cut.scheme → (place : ℕ) (rule : Rule)
-    → HostPartComplaint (setting_of profile base cut.scheme) cut place rule → HostPartComplaint (setting_of profile other cut.scheme) cut place rule
+    → HostPartComplaint (setting_of profile base cut.scheme) cut place rule
+    → HostPartComplaint (setting_of profile other cut.scheme) cut place rule
 same_host profile base other cut = go cut.scheme cut.host_text cut.port_text cut.path_text cut.query cut.fragment
   where
     go : (scheme host_text port_text : Option (List ℕ)) (path_text : List ℕ) (query fragment : Option (List ℕ))
         → IsSome scheme → (place : ℕ) (rule : Rule)
-        → HostPartComplaint (setting_of profile base scheme) (cut_with scheme host_text port_text path_text query fragment) place rule
-        → HostPartComplaint (setting_of profile other scheme) (cut_with scheme host_text port_text path_text query fragment) place rule
+        → HostPartComplaint (setting_of profile base scheme)
+        (cut_with scheme host_text port_text path_text query fragment) place rule
+        → HostPartComplaint (setting_of profile other scheme)
+        (cut_with scheme host_text port_text path_text query fragment) place rule
     go None host_text port_text path_text query fragment some place rule h = absurd (false≢true some)
     go (Some scheme) None port_text path_text query fragment some place rule h = h
     go (Some scheme) (Some host_text) port_text path_text query fragment some place rule h = h
@@ -203,8 +208,10 @@ same_has_host (Some url) other None None some h = absurd (false≢true some)
 same_has_host None other (Some scheme) None some h = absurd h
 same_has_host (Some url) other (Some scheme) None some h = absurd h
 
-same_path_start : (profile : Profile) (base other : Option Url) (cut : Cut) → IsSome cut.scheme → (place : ℕ) (rule : Rule)
-    → PathStartComplaint (setting_of profile base cut.scheme) cut place rule → PathStartComplaint (setting_of profile other cut.scheme) cut place rule
+same_path_start : (profile : Profile) (base other : Option Url) (cut : Cut) → IsSome cut.scheme
+    → (place : ℕ) (rule : Rule)
+    → PathStartComplaint (setting_of profile base cut.scheme) cut place rule
+    → PathStartComplaint (setting_of profile other cut.scheme) cut place rule
 same_path_start profile base other cut some place FirstSegmentEmpty h = h
 same_path_start profile base other cut some place DriveAfterHost (kind, host, drive, at) =
     let same = same_class other base cut.scheme some in
@@ -212,7 +219,8 @@ same_path_start profile base other cut some place DriveAfterHost (kind, host, dr
 same_path_start profile base other cut some place _ h = absurd h
 
 same_judged : (profile : Profile) (base other : Option Url) (cut : Cut) → IsSome cut.scheme → (place : ℕ) (rule : Rule)
-    → JudgedComplaint (setting_of profile base cut.scheme) cut place rule → JudgedComplaint (setting_of profile other cut.scheme) cut place rule
+    → JudgedComplaint (setting_of profile base cut.scheme) cut place rule
+    → JudgedComplaint (setting_of profile other cut.scheme) cut place rule
 same_judged profile base other cut some place rule (inl h) = inl (same_host profile base other cut some place rule h)
 same_judged profile base other cut some place rule (inr (inl h)) = inr (inl h)
 same_judged profile base other cut some place rule (inr (inr h)) =
@@ -224,8 +232,10 @@ same_judged profile base other cut some place rule (inr (inr h)) =
 
 same_complaint_of : (profile : Profile) (base other : Option Url) (text : List ℕ) (cut : Cut) → IsSome cut.scheme
     → (place : ℕ) (rule : Rule)
-    → ComplaintOf (setting_of profile base cut.scheme) text cut place rule → ComplaintOf (setting_of profile other cut.scheme) text cut place rule
-same_complaint_of profile base other text cut some place rule (inl h) = inl (same_start profile base other text cut some place rule h)
+    → ComplaintOf (setting_of profile base cut.scheme) text cut place rule
+    → ComplaintOf (setting_of profile other cut.scheme) text cut place rule
+same_complaint_of profile base other text cut some place rule (inl h) =
+    inl (same_start profile base other text cut some place rule h)
 same_complaint_of profile base other text cut some place rule (inr (inl (started, h))) =
     inr (inl (
       (λ p r s. started p r
@@ -234,11 +244,13 @@ same_complaint_of profile base other text cut some place rule (inr (inl (started
     ))
 same_complaint_of profile base other text cut some place rule (inr (inr h)) = inr (inr h)
 
-same_complaint : (profile : Profile) (base other : Option Url) (text : List ℕ) → starts_with_scheme text ≡ true → (place : ℕ) (rule : Rule)
+same_complaint : (profile : Profile) (base other : Option Url) (text : List ℕ) → starts_with_scheme text ≡ true
+    → (place : ℕ) (rule : Rule)
     → Complaint profile base text place rule → Complaint profile other text place rule
 unfolding Complaint
 same_complaint profile base other text starts place rule h =
-    subst (λ (cut : Cut). ComplaintOf (setting_of profile other cut.scheme) text cut place rule) (same_cut base other text starts)
+    subst (λ (cut : Cut). ComplaintOf (setting_of profile other cut.scheme) text cut place rule)
+    (same_cut base other text starts)
     (same_complaint_of profile base other text (cut_of base text) (cut_with_scheme base text starts) place rule h)
 
 -- a text with a scheme ignores the base

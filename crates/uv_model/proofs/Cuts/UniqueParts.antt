@@ -155,7 +155,8 @@ pub no_port : (default : Option ℕ) (port_text : Option (List ℕ)) (port : Opt
 no_port default port_text port absent none = rw (absent, none) refl
 
 -- no host where there is no host text
-no_host : (profile : Profile) (kind : Class) (host_text : Option (List ℕ)) (host : Option Host) → host_text ≡ None → host ≡ None
+no_host : (profile : Profile) (kind : Class) (host_text : Option (List ℕ)) (host : Option Host) → host_text ≡ None
+    → host ≡ None
     → HasHost profile kind host_text host
 no_host profile kind host_text host absent none = rw absent none
 
@@ -254,7 +255,8 @@ same_parts p q texts form host port segments = λ i. record {
 pub parts_are_unique : PartsAreUnique
 parts_are_unique profile base text p q is is' =
     let setting = setting_of profile base q.scheme in
-    let texts : texts_of p ≡ texts_of q = valid_texts profile base text p is ∙ sym (valid_texts profile base text q is') in
+    let texts : texts_of p ≡ texts_of q =
+    valid_texts profile base text p is ∙ sym (valid_texts profile base text q is') in
     let scheme : p.scheme ≡ q.scheme = ap (λ (c : Cut). c.scheme) texts in
     let host_text : p.host_text ≡ q.host_text = ap (λ (c : Cut). c.host_text) texts in
     let port_text : p.port_text ≡ q.port_text = ap (λ (c : Cut). c.port_text) texts in

@@ -174,7 +174,8 @@ fits_by_class Special setting host_text parts is =
     (path_behind parts.segments parts.path_text
     (slashed_or_none setting.profile parts.segments parts.path_text is.path))
 fits_by_class File setting host_text parts (none, absent, inl (value, host, valued, path, drive)) =
-    authority_fits File host_text parts.port_text parts.path_text (word_of_file_host setting.profile host_text value host)
+    authority_fits File host_text parts.port_text parts.path_text
+    (word_of_file_host setting.profile host_text value host)
     (no_port parts.port_text none) none (path_behind parts.segments parts.path_text
     (slashed_or_none setting.profile parts.segments parts.path_text path))
 fits_by_class File setting host_text parts (none, absent, inr (nothing, valued, path)) =
@@ -195,7 +196,8 @@ fits_by_class Other setting host_text parts (inr (nothing, valued, none), given,
     (slashed_or_none setting.profile parts.segments parts.path_text path))
 
 -- with an authority, whose host text is there
-fits_with_host : (setting : Setting) (parts : Parts) (host_text : Option (List ℕ)) → FitsHostText setting parts host_text
+fits_with_host : (setting : Setting) (parts : Parts) (host_text : Option (List ℕ))
+    → FitsHostText setting parts host_text
     → MiddleFits setting.class host_text parts.port_text parts.path_text
 fits_with_host setting parts None is = absurd is
 fits_with_host setting parts (Some host_text) is =

@@ -29,8 +29,10 @@ host_unique profile text (V4 a) (V4 b) is is' = ap V4 (ipv4_unique text a b is i
 host_unique profile text (V6 a) (V6 b) is is' = ap V6 (bracketed_unique text a b is is')
 host_unique profile text (Domain a) (V4 b) is is' = absurd (ipv4_no_domain profile text a b is' is)
 host_unique profile text (V4 a) (Domain b) is is' = absurd (ipv4_no_domain profile text b a is is')
-host_unique profile text (Domain a) (V6 b) is is' = absurd (not_bracketed text b (form_no_bracket profile text a is.0) is')
-host_unique profile text (V6 a) (Domain b) is is' = absurd (not_bracketed text a (form_no_bracket profile text b is'.0) is)
+host_unique profile text (Domain a) (V6 b) is is' =
+    absurd (not_bracketed text b (form_no_bracket profile text a is.0) is')
+host_unique profile text (V6 a) (Domain b) is is' =
+    absurd (not_bracketed text a (form_no_bracket profile text b is'.0) is)
 host_unique profile text (V4 a) (V6 b) is is' = absurd (not_bracketed text b (ipv4_no_bracket text a is) is')
 host_unique profile text (V6 a) (V4 b) is is' = absurd (not_bracketed text a (ipv4_no_bracket text b is') is)
 host_unique profile text (Opaque a) other is is' = absurd is
@@ -55,8 +57,10 @@ file_host_unique profile text Empty (Domain b) is is' = absurd (is'.1 (sym (doma
 file_host_unique profile text (Domain a) Empty is is' = absurd (is.1 (domain_unique profile text a _ is.0 is'))
 file_host_unique profile text Empty (V4 b) is is' = absurd (ipv4_no_domain profile text _ b is' is)
 file_host_unique profile text (V4 a) Empty is is' = absurd (ipv4_no_domain profile text _ a is is')
-file_host_unique profile text Empty (V6 b) is is' = absurd (not_bracketed text b (form_no_bracket profile text _ is.0) is')
-file_host_unique profile text (V6 a) Empty is is' = absurd (not_bracketed text a (form_no_bracket profile text _ is'.0) is)
+file_host_unique profile text Empty (V6 b) is is' =
+    absurd (not_bracketed text b (form_no_bracket profile text _ is.0) is')
+file_host_unique profile text (V6 a) Empty is is' =
+    absurd (not_bracketed text a (form_no_bracket profile text _ is'.0) is)
 file_host_unique profile text (Opaque a) other is is' = absurd is
 file_host_unique profile text value (Opaque b) is is' = absurd is'
 
@@ -116,6 +120,8 @@ one_host profile File (Some text) host other (inr (nothing, e)) (inl (b, is', e'
     absurd (file_host_not_empty profile text b is' nothing)
 one_host profile File (Some text) host other (inr (nothing, e)) (inr (nothing', e')) = e ∙ sym e'
 one_host profile Other (Some text) host other (inl is) (inl is') = opaque_unique text host other is is'
-one_host profile Other (Some text) host other (inl is) (inr (nothing, e')) = absurd (opaque_not_empty text host is nothing)
-one_host profile Other (Some text) host other (inr (nothing, e)) (inl is') = absurd (opaque_not_empty text other is' nothing)
+one_host profile Other (Some text) host other (inl is) (inr (nothing, e')) =
+    absurd (opaque_not_empty text host is nothing)
+one_host profile Other (Some text) host other (inr (nothing, e)) (inl is') =
+    absurd (opaque_not_empty text other is' nothing)
 one_host profile Other (Some text) host other (inr (nothing, e)) (inr (nothing', e')) = e ∙ sym e'

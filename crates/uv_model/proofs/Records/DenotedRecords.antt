@@ -74,7 +74,8 @@ record AreDenoted (profile : Profile) (base : Option Url) (kind : Class) (form :
 
 -- the whole record
 WellFormed-denoted : (profile : Profile) (base : Option Url) (form : Form) (parts : Parts) → MayBeUnits parts.fragment
-    → AreDenoted profile base (scheme_class (scheme_in base parts)) form parts → WellFormed profile (denote_as base form parts)
+    → AreDenoted profile base (scheme_class (scheme_in base parts)) form parts
+    → WellFormed profile (denote_as base form parts)
 WellFormed-denoted profile base form parts units are =
     let kind = scheme_class (scheme_in base parts) in
     let same = class-denoted base parts parts.scheme refl in
@@ -104,13 +105,15 @@ AreDenoted-opaque profile base parts scheme fits query =
     }
 
 -- what a valid text with a scheme and an opaque path denotes is well formed
-pub opaque_well_formed : (profile : Profile) (base : Option Url) (text : List ℕ) (parts : Parts) → Valid profile base text parts
+pub opaque_well_formed : (profile : Profile) (base : Option Url) (text : List ℕ) (parts : Parts)
+    → Valid profile base text parts
     → parts.form ≡ SchemeOpaque → WellFormed profile (denote base parts)
 unfolding denote
 opaque_well_formed profile base text parts valid form =
     subst (λ (f : Form). WellFormed profile (denote_as base f parts)) (sym form)
     (WellFormed-denoted profile base SchemeOpaque parts valid.fragment
-    (AreDenoted-opaque profile base parts (subst (λ (f : Form). FitsScheme (has_scheme f) parts.scheme) form valid.scheme)
+    (AreDenoted-opaque profile base parts
+    (subst (λ (f : Form). FitsScheme (has_scheme f) parts.scheme) form valid.scheme)
     (subst (λ (f : Form). FitsForm (setting_of profile base parts.scheme) f parts) form valid.form) valid.query))
 
 -- ---- an authority
@@ -145,11 +148,13 @@ record AreOfAuthority (profile : Profile) (base : Option Url) (kind : Class) (pa
   port : IsUrlPort (denoted_scheme base parts.scheme) (authority_host parts) parts.port
   path : IsUrlPath kind (authority_host parts) (Segments (authority_path kind parts.segments))
 
-AreOfAuthority-has : (profile : Profile) (base : Option Url) (parts : Parts) → HasAuthority (setting_of profile base parts.scheme) parts
+AreOfAuthority-has : (profile : Profile) (base : Option Url) (parts : Parts)
+    → HasAuthority (setting_of profile base parts.scheme) parts
     → AreOfAuthority profile base (scheme_class (scheme_in base parts)) parts
 AreOfAuthority-has profile base parts has =
     let kind : Class = scheme_class (scheme_in base parts) in
-    let is : IsAuthority profile kind (scheme_in base parts) parts = IsAuthority-has profile base parts parts.host_text has in
+    let is : IsAuthority profile kind (scheme_in base parts) parts =
+    IsAuthority-has profile base parts parts.host_text has in
     let class = sym (class-denoted base parts parts.scheme refl) in
     let default = default_port-denoted base parts parts.scheme refl in
     let scheme : List ℕ = denoted_scheme base parts.scheme in
@@ -181,7 +186,8 @@ AreDenoted-scheme_authority profile base parts scheme fits query =
 
 -- ---- a path behind a scheme
 
-AreDenoted-path : (profile : Profile) (base : Option Url) (parts : Parts) → FitsScheme true parts.scheme → FitsForm (setting_of profile base parts.scheme) SchemePath parts
+AreDenoted-path : (profile : Profile) (base : Option Url) (parts : Parts) → FitsScheme true parts.scheme
+    → FitsForm (setting_of profile base parts.scheme) SchemePath parts
     → MayBeUnits parts.query → AreDenoted profile base (scheme_class (scheme_in base parts)) SchemePath parts
 AreDenoted-path profile base parts scheme fits query =
     let kind : Class = scheme_class (scheme_in base parts) in
@@ -206,7 +212,8 @@ class-reference : (url : Url) (parts : Parts) → parts.scheme ≡ None
 class-reference url parts e = rw e refl
 
 -- what a reference with an authority denotes, but for the class
-AreDenoted-reference_authority : (profile : Profile) (url : Url) (parts : Parts) → WellFormed profile url → parts.scheme ≡ None
+AreDenoted-reference_authority : (profile : Profile) (url : Url) (parts : Parts) → WellFormed profile url
+    → parts.scheme ≡ None
     → HasAuthority (setting_of profile (Some url) parts.scheme) parts → MayBeUnits parts.query
     → AreDenoted profile (Some url) (scheme_class (scheme_in (Some url) parts)) Authority parts
 AreDenoted-reference_authority profile url parts base none fits query =
@@ -242,7 +249,8 @@ AreUrlSegments-kept_drive File (drive ∷ others) (first ∷ rest) are =
     ]
 
 -- what a reference without an authority takes from its base
-AreDenoted-reference : (profile : Profile) (url : Url) (form : Form) (parts : Parts) → WellFormed profile url → parts.scheme ≡ None
+AreDenoted-reference : (profile : Profile) (url : Url) (form : Form) (parts : Parts) → WellFormed profile url
+    → parts.scheme ≡ None
     → denoted_host (Some url) form parts ≡ url.host → denoted_port (Some url) form parts ≡ url.port
     → IsUrlPath (scheme_class url.scheme) url.host (denoted_path (Some url) (scheme_class url.scheme) form parts)
     → MayBeUnits parts.query → AreDenoted profile (Some url) (scheme_class (scheme_in (Some url) parts)) form parts
@@ -257,7 +265,8 @@ AreDenoted-reference profile url form parts base none host port path query =
     })
 
 -- the path of a path-absolute reference
-IsUrlPath-absolute : (profile : Profile) (url : Url) (parts : Parts) → WellFormed profile url → IsPathAbsolute parts.segments parts.path_text
+IsUrlPath-absolute : (profile : Profile) (url : Url) (parts : Parts) → WellFormed profile url
+    → IsPathAbsolute parts.segments parts.path_text
     → IsUrlPath (scheme_class url.scheme) url.host
     (denoted_path (Some url) (scheme_class url.scheme) PathAbsolute parts)
 IsUrlPath-absolute profile url parts base path =
@@ -270,7 +279,8 @@ IsUrlPath-absolute profile url parts base path =
     path.relative.joins
 
 -- the path of a path-relative reference
-IsUrlPath-relative : (profile : Profile) (url : Url) (parts : Parts) → WellFormed profile url → IsPathRelative parts.segments parts.path_text
+IsUrlPath-relative : (profile : Profile) (url : Url) (parts : Parts) → WellFormed profile url
+    → IsPathRelative parts.segments parts.path_text
     → IsUrlPath (scheme_class url.scheme) url.host
     (denoted_path (Some url) (scheme_class url.scheme) PathRelative parts)
 IsUrlPath-relative profile url parts base path =
@@ -284,7 +294,8 @@ IsUrlPath-relative profile url parts base path =
 -- ---- all forms
 
 -- the forms without a scheme, against a base
-AreDenoted-against : (profile : Profile) (url : Url) (form : Form) (parts : Parts) → WellFormed profile url → has_scheme form ≡ false
+AreDenoted-against : (profile : Profile) (url : Url) (form : Form) (parts : Parts) → WellFormed profile url
+    → has_scheme form ≡ false
     → parts.scheme ≡ None
     → FitsForm (setting_of profile (Some url) parts.scheme) form parts → MayBeUnits parts.query
     → AreDenoted profile (Some url) (scheme_class (scheme_in (Some url) parts)) form parts
@@ -294,30 +305,38 @@ AreDenoted-against profile url SchemeOpaque parts base other none fits query = c
 AreDenoted-against profile url Authority parts base other none fits query =
     AreDenoted-reference_authority profile url parts base none fits query
 AreDenoted-against profile url PathAbsolute parts base other none fits query =
-    AreDenoted-reference profile url PathAbsolute parts base none refl refl (IsUrlPath-absolute profile url parts base fits.1) query
+    AreDenoted-reference profile url PathAbsolute parts base none refl refl
+    (IsUrlPath-absolute profile url parts base fits.1) query
 AreDenoted-against profile url PathRelative parts base other none fits query =
-    AreDenoted-reference profile url PathRelative parts base none refl refl (IsUrlPath-relative profile url parts base fits.1) query
+    AreDenoted-reference profile url PathRelative parts base none refl refl
+    (IsUrlPath-relative profile url parts base fits.1) query
 AreDenoted-against profile url NoPath parts base other none fits query =
     AreDenoted-reference profile url NoPath parts base none refl refl base.path query
 
 -- a text without a scheme has a base
-AreDenoted-reference_form : (profile : Profile) (base : Option Url) (form : Form) (parts : Parts) → MayBeWellFormed profile base
+AreDenoted-reference_form : (profile : Profile) (base : Option Url) (form : Form) (parts : Parts)
+    → MayBeWellFormed profile base
     → has_scheme form ≡ false
-    → parts.scheme ≡ None → FitsBase base parts → FitsForm (setting_of profile base parts.scheme) form parts → MayBeUnits parts.query
+    → parts.scheme ≡ None → FitsBase base parts → FitsForm (setting_of profile base parts.scheme) form parts
+    → MayBeUnits parts.query
     → AreDenoted profile base (scheme_class (scheme_in base parts)) form parts
-AreDenoted-reference_form profile None form parts base other none against fits query = absurd (false≢true (rw none at against))
+AreDenoted-reference_form profile None form parts base other none against fits query =
+    absurd (false≢true (rw none at against))
 AreDenoted-reference_form profile (Some url) form parts base other none against fits query =
     AreDenoted-against profile url form parts base other none fits query
 
 -- each form
 AreDenoted-form : (profile : Profile) (base : Option Url) (form : Form) (parts : Parts) → MayBeWellFormed profile base
-    → FitsScheme (has_scheme form) parts.scheme → FitsBase base parts → FitsForm (setting_of profile base parts.scheme) form parts
+    → FitsScheme (has_scheme form) parts.scheme → FitsBase base parts
+    → FitsForm (setting_of profile base parts.scheme) form parts
     → MayBeUnits parts.query
     → AreDenoted profile base (scheme_class (scheme_in base parts)) form parts
 AreDenoted-form profile base SchemeAuthority parts may scheme against fits query =
     AreDenoted-scheme_authority profile base parts scheme fits query
-AreDenoted-form profile base SchemePath parts may scheme against fits query = AreDenoted-path profile base parts scheme fits query
-AreDenoted-form profile base SchemeOpaque parts may scheme against fits query = AreDenoted-opaque profile base parts scheme fits query
+AreDenoted-form profile base SchemePath parts may scheme against fits query =
+    AreDenoted-path profile base parts scheme fits query
+AreDenoted-form profile base SchemeOpaque parts may scheme against fits query =
+    AreDenoted-opaque profile base parts scheme fits query
 AreDenoted-form profile base Authority parts may scheme against fits query =
     AreDenoted-reference_form profile base Authority parts may refl scheme against fits query
 AreDenoted-form profile base PathAbsolute parts may scheme against fits query =

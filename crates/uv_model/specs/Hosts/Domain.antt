@@ -39,7 +39,8 @@ ends_in_number text = is_digits (last_label text) || is_hexadecimal (last_label 
 
 -- ---- valid domains
 
--- the ASCII code points of a domain beside letters and digits: the hyphen and the full stop, in the wide profile also `_`
+-- the ASCII code points of a domain beside letters and digits: the hyphen and the full stop, and by the wide profile
+-- the low line too
 abbrev pub is_domain_mark : Profile → ℕ → Bool
 is_domain_mark Standard c = (c == hyphen) || (c == full_stop)
 is_domain_mark Wide c = (c == underscore) || ((c == hyphen) || (c == full_stop))

@@ -22,7 +22,8 @@ EveryTextHasOneCut = (base : Option Url) (text : List ℕ) → HasOneCut base te
 -- the cut of a valid text has the texts of its parts
 abbrev pub ValidTextsAreCutIntoTheirParts : Type 0
 ValidTextsAreCutIntoTheirParts =
-    (profile : Profile) (base : Option Url) (text : List ℕ) (parts : Parts) → Valid profile base text parts → IsCut base text (texts_of parts)
+    (profile : Profile) (base : Option Url) (text : List ℕ) (parts : Parts) → Valid profile base text parts
+    → IsCut base text (texts_of parts)
 
 -- the text has the same cut, the same valid parts and the same complaints against every base
 pub record IgnoresTheBase (text : List ℕ) : Type 0 where
