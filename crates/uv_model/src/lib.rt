@@ -15,6 +15,7 @@ mod record;
 mod rule;
 mod scheme;
 mod segments;
+mod serializer;
 mod text;
 mod units;
 mod url_hosts;

@@ -6,3 +6,4 @@ pub mod Silence
 pub mod Decided
 pub mod Done
 pub mod Counting
+pub mod RoundTrip

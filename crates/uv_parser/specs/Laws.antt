@@ -2,3 +2,4 @@
 pub mod Silence
 pub mod ValidTexts
 pub mod StepCounts
+pub mod RoundTrip

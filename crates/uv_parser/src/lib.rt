@@ -3,5 +3,6 @@
 #![tactic(auto)]
 
 pub mod laws;
+pub mod round_trip;
 pub mod silence_laws;
 pub mod step_counts;

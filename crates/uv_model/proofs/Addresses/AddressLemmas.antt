@@ -61,7 +61,7 @@ hex_digits [] h = refl
 hex_digits (c ∷ text) h = rw (hex_digit c h.0, hex_digits text h.1) refl
 
 -- a group is a group of the library
-group_to : (text : List ℕ) (piece : ℕ) → IsGroup text piece → Grammar.IsGroup text piece
+pub group_to : (text : List ℕ) (piece : ℕ) → IsGroup text piece → Grammar.IsGroup text piece
 group_to text piece is = (((is.some, digits_below text is.digits), sym is.value), is.few)
 
 -- and a group of the library is one

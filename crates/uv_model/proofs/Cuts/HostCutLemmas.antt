@@ -110,12 +110,17 @@ word_passes test s q n c b text each =
       };
     }
 
+-- a text of a domain's code points
+pub word_of_permitted : (profile : Profile) (text : List ℕ) → list_all (is_permitted profile) text ≡ true
+    → IsHostWord text
+word_of_permitted Standard text permitted =
+    word_passes (is_permitted Standard) refl refl refl refl refl text permitted
+word_of_permitted Wide text permitted = word_passes (is_permitted Wide) refl refl refl refl refl text permitted
+
 -- a text with a form
 pub word_of_form : (profile : Profile) (text form : List ℕ) → IsForm profile text form → IsHostWord text
 unfolding has_permitted
-word_of_form Standard text form is =
-    word_passes (is_permitted Standard) refl refl refl refl refl text is.permitted
-word_of_form Wide text form is = word_passes (is_permitted Wide) refl refl refl refl refl text is.permitted
+word_of_form profile text form is = word_of_permitted profile text is.permitted
 
 -- an opaque host without brackets
 pub word_of_opaque : (text : List ℕ) → IsOpaqueHost text → IsHostWord text

@@ -14,8 +14,8 @@ use Rattle.uv_model.specs.Scheme.{is_scheme_code_point}
 use Rattle.uv_model.specs.Records.Url.{Url}
 use Rattle.uv_model.specs.Parts.{Form, SchemeAuthority, SchemePath, SchemeOpaque, Authority, PathAbsolute, PathRelative, NoPath, Parts, has_scheme, written, written_scheme, written_authority, written_behind}
 use Rattle.uv_model.specs.Setting.{Setting, setting_of}
-use Rattle.uv_model.specs.Valid.{Valid, IsHostText, IsFileHostText, IsOpaqueHostText, MayBePortText, MayBeUnits, FitsAuthority, FitsHostText, HasNoAuthority, FitsForm, FitsScheme, starts_with_scheme}
-use Rattle.uv_model.specs.Cut.{IsSchemeCut, IsAuthorityCut, IsHostCut, texts_of, cut_of, starts_with_two_slashes, written_middle, written_start, written_cut}
+use Rattle.uv_model.specs.Valid.{Valid, IsHostText, IsFileHostText, IsOpaqueHostText, MayBePortText, MayBeUnits, FitsAuthority, FitsHostText, HasNoAuthority, FitsForm, FitsScheme, starts_with_scheme, scheme_in}
+use Rattle.uv_model.specs.Cut.{IsSchemeCut, IsAuthorityCut, IsHostCut, texts_of, cut_of, starts_with_two_slashes, written_middle, written_start, written_cut, IsCut, class_in}
 use Rattle.uv_model.specs.Laws.Cuts.{ValidTextsAreCutIntoTheirParts}
 use Rattle.uv_model.proofs.Texts.MarkLemmas.{is_without-append, is_without-more}
 use Rattle.uv_model.proofs.Paths.PathLemmas.{IsUnits-join, no_question_mark-join}
@@ -65,14 +65,14 @@ pub record IsPathWord (text : List ℕ) : Type 0 where
   pub no_question_mark : is_without question_mark text ≡ true
   pub no_number_sign : is_without number_sign text ≡ true
 
-word_of_segments : (segments : List (List ℕ)) (text : List ℕ) → JoinsTo segments text → IsPathWord text
+pub word_of_segments : (segments : List (List ℕ)) (text : List ℕ) → JoinsTo segments text → IsPathWord text
 word_of_segments segments text is = record {
   no_question_mark = rw is.joined (no_question_mark-join segments is.each);
   no_number_sign = rw is.joined (units_without_number_sign _ (IsUnits-join segments is.each));
 }
 
 -- one more `/` before
-word_of_slashed : (text : List ℕ) → IsPathWord text → IsPathWord (slash ∷ text)
+pub word_of_slashed : (text : List ℕ) → IsPathWord text → IsPathWord (slash ∷ text)
 word_of_slashed text is = record { no_question_mark = is.no_question_mark; no_number_sign = is.no_number_sign }
 
 -- a path-relative string
@@ -108,15 +108,15 @@ without_slash_without_two (c ∷ d ∷ rest) none = rw none refl
 -- ---- what stands between the scheme and the query
 
 -- what holds of these texts of a valid text, whichever its form
-record MiddleFits (kind : Class) (host_text port_text : Option (List ℕ)) (path_text : List ℕ) : Type 0 where
-  no_question_mark : is_without question_mark (written_authority host_text port_text ++ path_text) ≡ true
-  no_number_sign : is_without number_sign (written_authority host_text port_text ++ path_text) ≡ true
-  authority : IsAuthorityCut kind host_text port_text path_text
+pub record MiddleFits (kind : Class) (host_text port_text : Option (List ℕ)) (path_text : List ℕ) : Type 0 where
+  pub no_question_mark : is_without question_mark (written_authority host_text port_text ++ path_text) ≡ true
+  pub no_number_sign : is_without number_sign (written_authority host_text port_text ++ path_text) ≡ true
+  pub authority : IsAuthorityCut kind host_text port_text path_text
 
 -- the text of a path behind an authority
-record IsPathEnd (text : List ℕ) : Type 0 where
-  word : IsPathWord text
-  start : text ≢ [] → starts_with_slash text ≡ true
+pub record IsPathEnd (text : List ℕ) : Type 0 where
+  pub word : IsPathWord text
+  pub start : text ≢ [] → starts_with_slash text ≡ true
 
 path_behind : (segments : List (List ℕ)) (text : List ℕ) → MayBePathSlashed segments text → IsPathEnd text
 path_behind segments text (inl (nothing, none)) = record {
@@ -141,7 +141,7 @@ authority_without mark host_text port_text path_text differs host port path =
     is_without-more mark slash (slash ∷ text) differs (is_without-more mark slash text differs all)
 
 -- with an authority
-authority_fits : (kind : Class) (host_text : List ℕ) (port_text : Option (List ℕ)) (path_text : List ℕ)
+pub authority_fits : (kind : Class) (host_text : List ℕ) (port_text : Option (List ℕ)) (path_text : List ℕ)
     → IsHostWord host_text
     → MayBePortText port_text → IsHostCut kind host_text port_text → IsPathEnd path_text
     → MiddleFits kind (Some host_text) port_text path_text
@@ -300,30 +300,37 @@ pub written_as_cut : (parts : Parts) → written parts ≡ written_cut (texts_of
 unfolding written
 written_as_cut parts = sym (simp append_assoc)
 
--- the cut of a valid text has its parts
-pub valid_is_cut : ValidTextsAreCutIntoTheirParts
-valid_is_cut profile base text parts valid =
-    let setting = setting_of profile base parts.scheme in
-    let middle = fits_by_form setting parts.form parts valid.form in
-    let has = has_scheme parts.form in
-    let no_question = scheme_without question_mark has parts.scheme refl refl refl valid.scheme in
-    let no_number = scheme_without number_sign has parts.scheme refl refl refl valid.scheme in
+-- parts whose scheme, authority, path and query fit are the cut of the text that they are written as
+pub cut_of_parts : (base : Option Url) (text : List ℕ) (parts : Parts) (has : Bool) → text ≡ written parts
+    → FitsScheme has parts.scheme
+    → (has ≡ false → starts_with_scheme (written_middle (texts_of parts)) ≡ false)
+    → MiddleFits (class_in base parts.scheme) parts.host_text parts.port_text parts.path_text
+    → MayBeUnits parts.query → IsCut base text (texts_of parts)
+cut_of_parts base text parts has whole scheme free middle query =
+    let no_question = scheme_without question_mark has parts.scheme refl refl refl scheme in
+    let no_number = scheme_without number_sign has parts.scheme refl refl refl scheme in
     let cut = texts_of parts in
     record {
-      whole = valid.whole ∙ written_as_cut parts;
+      whole = whole ∙ written_as_cut parts;
       front =
           is_without-append number_sign (written_start cut) (written_behind question_mark parts.query)
           (is_without-append number_sign (written_scheme parts.scheme) (written_middle cut) no_number
           middle.no_number_sign)
-          (query_without parts.query valid.query);
+          (query_without parts.query query);
       start =
           is_without-append question_mark (written_scheme parts.scheme) (written_middle cut) no_question
           middle.no_question_mark;
-      scheme =
-          scheme_fits has parts.scheme (written_middle cut) valid.scheme
-          (λ none. free_by_form setting parts.form parts valid.form none);
+      scheme = scheme_fits has parts.scheme (written_middle cut) scheme free;
       authority = middle.authority;
     }
+
+-- the cut of a valid text has its parts
+pub valid_is_cut : ValidTextsAreCutIntoTheirParts
+valid_is_cut profile base text parts valid =
+    let setting = setting_of profile base parts.scheme in
+    cut_of_parts base text parts (has_scheme parts.form) valid.whole valid.scheme
+    (λ none. free_by_form setting parts.form parts valid.form none) (fits_by_form setting parts.form parts valid.form)
+    valid.query
 
 -- so its parts have the texts of the computed cut
 pub valid_texts : (profile : Profile) (base : Option Url) (text : List ℕ) (parts : Parts)

@@ -9,7 +9,8 @@ use Rattle.uv_model.specs.Path.{AreSegments, is_without}
 use Rattle.uv_model.specs.Units.{IsUnits, is_url_code_point}
 use Rattle.uv_model.proofs.Texts.UnitsLemmas.{IsUnits-joined, IsUnits-nil}
 
-slash_is_url : is_url_code_point slash ≡ true
+-- `/` is a URL code point
+pub slash_is_url : is_url_code_point slash ≡ true
 unfolding is_url_code_point
 slash_is_url = refl
 

@@ -28,7 +28,7 @@ abbrev is_plain : ℕ → Bool
 is_plain c = is_unremoved c && is_authority_letter true c
 
 -- a text of such code points is read
-read_plain : (text : List ℕ) → list_all is_plain text ≡ true → IsReadWhole text
+pub read_plain : (text : List ℕ) → list_all is_plain text ≡ true → IsReadWhole text
 read_plain [] is = record { letters = refl; above = refl }
 read_plain (c ∷ rest) is =
     let parts = and_parts (is_plain c) (list_all is_plain rest) is in
@@ -101,10 +101,15 @@ plain_domains profile (c ∷ rest) permitted =
     let parts = and_parts (is_permitted profile c) (list_all (is_permitted profile) rest) permitted in
     and_from _ _ (plain_domain profile c parts.0) (plain_domains profile rest parts.1)
 
+-- a text of a domain's code points is read
+pub read_permitted : (profile : Profile) (text : List ℕ) → list_all (is_permitted profile) text ≡ true
+    → IsReadWhole text
+read_permitted profile text permitted = read_plain text (plain_domains profile text permitted)
+
 -- a domain is read
 pub read_domain : (profile : Profile) (text form : List ℕ) → IsDomain profile text form → IsReadWhole text
 unfolding has_permitted
-read_domain profile text form is = read_plain text (plain_domains profile text is.0.permitted)
+read_domain profile text form is = read_permitted profile text is.0.permitted
 
 -- ---- addresses
 

@@ -130,7 +130,7 @@ unremoved_digits (c ∷ rest) is =
     unremoved_digit c is = grind (arith, nat_tests)
 
 -- nor are the code points of an authority
-unremoved_authority : (host : List ℕ) (port : Option (List ℕ)) → list_all is_unremoved host ≡ true
+pub unremoved_authority : (host : List ℕ) (port : Option (List ℕ)) → list_all is_unremoved host ≡ true
     → MayBePortText port → list_all is_unremoved (written_authority (Some host) port) ≡ true
 unremoved_authority host None above fits = unremoved_append host [] above refl
 unremoved_authority host (Some port) above fits =

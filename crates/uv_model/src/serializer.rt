@@ -1,0 +1,152 @@
+//! The URL serializer: a record written as text.
+ghost use Rattle.std.specs.Prelude.{◌≡◌, ◌<◌, ◌∷◌, ◌++◌, OnOk, OnErr, IfOk, Option, Some, None, codes, option_copied, string_bytes};
+ghost use Rattle.std.specs.Io.{StartsWith};
+ghost use Rattle.uv_model.specs.Records.Serialize.{serial, serial_authority, serial_host, serial_path, serial_port, serial_segments};
+ghost use Rattle.uv_model.specs.Ascii.{colon, question_mark, number_sign};
+ghost use Rattle.uv_model.specs.Parts.{written_behind};
+
+use crate::host::Host;
+use crate::path::UrlPath;
+use crate::record::Record;
+use crate::text::Text;
+use std::alloc::{AllocError, Global};
+
+impl Record {
+    /// The record's URL serialized (URL Standard, section 4.5). An error means that memory ran out.
+    pub fn text(&self, alloc: Global) -> Result<String, AllocError>
+        ensures { IfOk result (λ text. string_bytes text ≡ serial self.now) }
+    {
+        let mut text = String::new(alloc);
+        self.push_text(alloc, &mut text)?;
+        Ok(text)
+    }
+
+    /// Appends the record's URL serialized (URL Standard, section 4.5). An error means that memory ran out: `out` then
+    /// still begins with what it held.
+    #[tactic(auto, unfolding(crate::specs::Records::Serialize::serial))]
+    pub fn push_text(&self, alloc: Global, out: &mut String) -> Result<(), AllocError>
+        ensures ok { OnOk result (string_bytes out.new ≡ string_bytes out.old ++ serial self.now) }
+        ensures err { OnErr result (StartsWith (string_bytes out.new) (string_bytes out.old)) }
+    {
+        push_before_path(alloc, out, self)?;
+        push_from_path(out, self)
+    }
+}
+
+// The scheme with its `:`, and what stands between it and the path.
+fn push_before_path(alloc: Global, out: &mut String, url: &Record) -> Result<(), AllocError>
+    ensures ok { OnOk result (string_bytes out.new ≡ string_bytes out.old ++ (url.now.scheme
+        ++ (colon ∷ serial_authority url.now.host url.now.port url.now.path))) }
+    ensures err { OnErr result (StartsWith (string_bytes out.new) (string_bytes out.old)) }
+{
+    out.push_str(url.scheme())?;
+    out.push_str(":")?;
+    push_authority(alloc, out, url.host(), url.port(), url.path())
+}
+
+// The path, the query and the fragment.
+fn push_from_path(out: &mut String, url: &Record) -> Result<(), AllocError>
+    ensures ok { OnOk result (string_bytes out.new ≡ string_bytes out.old ++ (serial_path url.now.path
+        ++ (written_behind question_mark url.now.query
+        ++ written_behind number_sign url.now.fragment))) }
+    ensures err { OnErr result (StartsWith (string_bytes out.new) (string_bytes out.old)) }
+{
+    push_path(out, url.path())?;
+    push_behind(out, '?', url.query())?;
+    push_behind(out, '#', url.fragment())
+}
+
+// What stands between the scheme's `:` and the path.
+fn push_authority(
+    alloc: Global,
+    out: &mut String,
+    host: Option<&Host>,
+    port: Option<u16>,
+    path: &UrlPath,
+) -> Result<(), AllocError>
+    ensures ok { OnOk result (string_bytes out.new ≡ string_bytes out.old
+        ++ serial_authority (option_copied host.entry) port path.now) }
+    ensures err { OnErr result (StartsWith (string_bytes out.new) (string_bytes out.old)) }
+{
+    match host {
+        Some(host) => {
+            out.push_str("//")?;
+            push_host(alloc, out, host)?;
+            push_port(alloc, out, port)
+        }
+        None => out.push_str(dot_front(path)),
+    }
+}
+
+// `/.` before a path that would begin with `//`, which would be read as an authority.
+fn dot_front(path: &UrlPath) -> &'static str
+    ensures { result.now ≡ serial_authority None None path.now }
+{
+    match path {
+        UrlPath::Segments(segments) => match segments.as_slice() {
+            [first, _, ..] if first.as_str().is_empty() => "/.",
+            _ => "",
+        },
+        UrlPath::Opaque(_) => "",
+    }
+}
+
+#[tactic(auto, unfolding(crate::specs::Records::Serialize::serial_host))]
+fn push_host(alloc: Global, out: &mut String, host: &Host) -> Result<(), AllocError>
+    ensures ok { OnOk result (string_bytes out.new ≡ string_bytes out.old ++ serial_host host.now) }
+    ensures err { OnErr result (string_bytes out.new ≡ string_bytes out.old) }
+{
+    match host {
+        Host::Domain(form) => out.push_str(form.as_str()),
+        Host::Opaque(text) => out.push_str(text.as_str()),
+        Host::V4(_) | Host::V6(_) => out.push_str(host.text(alloc)?.as_str()),
+        Host::Empty => Ok(()),
+    }
+}
+
+fn push_port(alloc: Global, out: &mut String, port: Option<u16>) -> Result<(), AllocError>
+    ensures ok { OnOk result (string_bytes out.new ≡ string_bytes out.old ++ serial_port port) }
+    ensures err { OnErr result (StartsWith (string_bytes out.new) (string_bytes out.old)) }
+{
+    match port {
+        Some(port) => push_behind(out, ':', Some(port.to_string(alloc)?.as_str())),
+        None => Ok(()),
+    }
+}
+
+fn push_path(out: &mut String, path: &UrlPath) -> Result<(), AllocError>
+    ensures ok { OnOk result (string_bytes out.new ≡ string_bytes out.old ++ serial_path path.now) }
+    ensures err { OnErr result (StartsWith (string_bytes out.new) (string_bytes out.old)) }
+{
+    match path {
+        UrlPath::Opaque(text) => out.push_str(text.as_str()),
+        UrlPath::Segments(segments) => push_segments(out, segments.as_slice()),
+    }
+}
+
+fn push_segments(out: &mut String, segments: &[Text]) -> Result<(), AllocError>
+    ensures ok { OnOk result (string_bytes out.new ≡ string_bytes out.old ++ serial_segments segments.now) }
+    ensures err { OnErr result (StartsWith (string_bytes out.new) (string_bytes out.old)) }
+{
+    for segment in segments {
+        push_behind(out, '/', Some(segment.as_str()))?;
+    }
+    Ok(())
+}
+
+// An ASCII mark and the text behind it, where there is one.
+fn push_behind(out: &mut String, mark: char, text: Option<&str>) -> Result<(), AllocError>
+    requires { mark < 128 }
+    ensures ok { OnOk result (string_bytes out.new ≡ string_bytes out.old
+        ++ written_behind mark (option_copied text.entry)) }
+    ensures err { OnErr result (StartsWith (string_bytes out.new) (string_bytes out.old)) }
+{
+    let Some(text) = text else {
+        return Ok(());
+    };
+    out.push(mark)?;
+    out.push_str(text)
+}
+
+#[cfg(test)]
+mod tests;

@@ -1,0 +1,294 @@
+-- The serialized text of a well-formed URL with a host: the parser is silent on it, and its parts denote the URL.
+use Rattle.std.proofs.Common.{◌≡◌, ℕ, true, List, [], ◌∷◌, ◌++◌, ◌⊎◌, decimal, Option, Some, None, refl, sym, ap, ◌∙◌, inl, inr, append_assoc}
+use Rattle.std.specs.Prelude.{option_map}
+use Rattle.std.specs.List.{list_all, join_with_byte}
+use Rattle.std.proofs.lemmas.Bool.{false≢true}
+use Rattle.uv_model.specs.declared.profile.Profile.TheVariants.{Wide}
+use Rattle.uv_model.specs.Path.{MayBePathSlashed}
+use Rattle.uv_model.specs.declared.scheme.Class.{Class}
+use Rattle.uv_model.specs.declared.scheme.Class.TheVariants.{Special, File, Other}
+use Rattle.uv_model.specs.declared.host.Host.{Host}
+use Rattle.uv_model.specs.declared.host.Host.TheVariants as host
+use Rattle.uv_model.specs.declared.path.UrlPath.TheVariants.{Segments}
+use Rattle.uv_model.specs.Ascii.{slash, colon, at_sign}
+use Rattle.uv_model.specs.Cut.{IsHostCut}
+use Rattle.uv_model.specs.Records.Denote.{authority_host, authority_path, denote}
+use Rattle.uv_model.specs.Parts.{Parts, SchemeAuthority, written, written_behind}
+use Rattle.uv_parser.specs.SilentTexts.{Silent, Takes, own_value}
+use Rattle.uv_parser.specs.Laws.RoundTrip.{IsStableHost, MayBePortNumber}
+use Rattle.uv_model.specs.Scheme.{default_port, scheme_class}
+use Rattle.uv_model.specs.Records.Serialize.{serial, serial_host, serial_port, serial_segments}
+use Rattle.uv_model.specs.Records.Url.{Url}
+use Rattle.uv_model.specs.Valid.{MayBePortText, port_given}
+use Rattle.uv_model.specs.Records.WellFormed.{AreUrlSegments, IsUrlFragment, IsUrlHost, IsUrlPath, IsUrlPort, IsUrlQuery, IsUrlScheme, takes_port}
+use Rattle.uv_model.proofs.Paths.PathLemmas.{IsUnits-join}
+use Rattle.uv_parser.proofs.RoundTrip.SerializedHosts.{IsHostRead, file_taken, host_read, host_without, other_parsed, special_taken}
+use Rattle.uv_parser.proofs.RoundTrip.SerializedPaths.{IsSilentOn, denoted_query-own, lowercase-scheme, url_of}
+use Rattle.uv_parser.proofs.RoundTrip.SerializedTexts.{AreSegments-url, encoded-ascii, encoded-fragment, fragment_units, port_given-decimal, port_text-decimal, query_units, serial_segments-joined, walk-kept}
+use Rattle.uv_parser.proofs.Silence.SilentAuthority.{written_with_authority}
+use Rattle.uv_parser.proofs.Silence.ValidSilent.{unremoved_authority}
+use Rattle.uv_parser.proofs.Silence.SilentSchemes.{kept_text}
+use Rattle.uv_parser.proofs.Loops.Tails.{tail}
+use Rattle.uv_model.proofs.Texts.UnitsLemmas.{is_faultless-units}
+use Rattle.uv_parser.proofs.Running.Unremoved.{is_unremoved, unremoved_append, unremoved_faultless}
+use Rattle.uv_model.proofs.Cuts.ValidCutLemmas.{IsPathEnd, authority_fits, cut_of_parts, word_of_segments, word_of_slashed}
+
+-- ---- the path
+
+-- the path behind an authority, with its segments
+path_slashed : (segments : List (List ℕ)) → AreUrlSegments segments
+    → MayBePathSlashed segments (serial_segments segments)
+path_slashed [] are = inl (refl, refl)
+path_slashed (segment ∷ rest) are = inr (record {
+  behind = join_with_byte slash (segment ∷ rest);
+  slashed = serial_segments-joined segment rest;
+  joins = record {
+    first = segment;
+    others = rest;
+    some = refl;
+    each = AreSegments-url (segment ∷ rest) are;
+    joined = refl;
+  };
+})
+
+-- it holds no mark that ends it
+path_behind : (segments : List (List ℕ)) (text : List ℕ) → MayBePathSlashed segments text → IsPathEnd text
+path_behind segments text (inl (nothing, none)) = record {
+  word = rw nothing (record { no_question_mark = refl; no_number_sign = refl });
+  start = λ some. absurd (some nothing);
+}
+path_behind segments text (inr is) = record {
+  word = rw is.slashed (word_of_slashed is.behind (word_of_segments segments is.behind is.joins));
+  start = λ some. rw is.slashed refl;
+}
+
+-- nor a code point that is removed
+path_above : (segments : List (List ℕ)) (text : List ℕ) → MayBePathSlashed segments text
+    → list_all is_unremoved text ≡ true
+path_above segments text (inl (nothing, none)) = rw nothing refl
+path_above segments text (inr is) =
+    rw (is.slashed, is.joins.joined)
+    (unremoved_faultless (join_with_byte slash segments)
+    (is_faultless-units (join_with_byte slash segments) (IsUnits-join segments is.joins.each)))
+
+-- the path of a URL with a host has segments of a URL
+path_segments : (kind : Class) (value : Host) (segments : List (List ℕ))
+    → IsUrlPath kind (Some value) (Segments segments) → AreUrlSegments segments
+path_segments kind value [] is = tt
+path_segments kind value (segment ∷ rest) is = is
+
+-- and denotes itself
+path_denoted : (kind : Class) (value : Host) (segments : List (List ℕ))
+    → IsUrlPath kind (Some value) (Segments segments) → authority_path kind segments ≡ segments
+path_denoted Special value [] is = absurd (false≢true is)
+path_denoted File value [] is = absurd (false≢true is)
+path_denoted Other value [] is = refl
+path_denoted Special value (segment ∷ rest) is = walk-kept Special [] (segment ∷ rest) is
+path_denoted File value (segment ∷ rest) is = walk-kept File [] (segment ∷ rest) is
+path_denoted Other value (segment ∷ rest) is = walk-kept Other [] (segment ∷ rest) is
+
+-- ---- the port
+
+-- the port, with its text
+record PortFits (kind : Class) (scheme : List ℕ) (value : Host) (port : Option ℕ) : Type 0 where
+  text : MayBePortText (option_map decimal port)
+  given : port ≡ port_given (default_port scheme) (option_map decimal port)
+  taken : (port ≡ None) ⊎ (takes_port kind (Some value) ≡ true)
+
+port_fits : (scheme : List ℕ) (value : Host) (port : Option ℕ) → IsUrlPort scheme (Some value) port
+    → MayBePortNumber port → PortFits (scheme_class scheme) scheme value port
+port_fits scheme value None is small = record { text = tt; given = refl; taken = inl refl }
+port_fits scheme value (Some port) is small = record {
+  text = port_text-decimal port small;
+  given = sym (port_given-decimal scheme port small is.1);
+  taken = inr is.0;
+}
+
+-- what is written for it
+port_written : (port : Option ℕ) → written_behind colon (option_map decimal port) ≡ serial_port port
+port_written None = refl
+port_written (Some port) = refl
+
+-- ---- the parts
+
+-- the parts of the text of a URL with a host
+abbrev authority_parts : List ℕ → Host → Option ℕ → List (List ℕ) → Option (List ℕ) → Option (List ℕ) → Parts
+authority_parts scheme value port segments query fragment = record {
+  form = SchemeAuthority;
+  scheme = Some scheme;
+  host_text = Some (serial_host value);
+  host = own_value value;
+  port_text = option_map decimal port;
+  port = port;
+  path_text = serial_segments segments;
+  segments = segments;
+  query = query;
+  fragment = fragment;
+}
+
+-- a host whose text is empty is the empty host
+empty_text : (value : Host) → IsUrlHost Wide Other (Some value) → serial_host value ≡ [] → value ≡ host.Empty
+unfolding serial_host
+empty_text (host.Domain form) is nothing = absurd is
+empty_text (host.V4 value) is nothing = absurd is
+empty_text (host.V6 pieces) is nothing = absurd cc
+empty_text (host.Opaque text) is nothing = absurd (let some = is.host.some in cc)
+empty_text host.Empty is nothing = refl
+
+-- no port stands behind it
+alone : (value : Host) (port : Option ℕ) → IsUrlHost Wide Other (Some value)
+    → (port ≡ None) ⊎ (takes_port Other (Some value) ≡ true) → serial_host value ≡ []
+    → option_map decimal port ≡ None
+alone value port is (inl none) nothing = rw none refl
+alone value port is (inr takes) nothing =
+    absurd (false≢true (sym (ap (λ v. takes_port Other (Some v)) (empty_text value is nothing)) ∙ takes))
+
+-- of a file URL no port is there
+no_file_port : (value : Host) (port : Option ℕ) → (port ≡ None) ⊎ (takes_port File (Some value) ≡ true)
+    → port ≡ None
+no_file_port value port (inl none) = none
+no_file_port value port (inr takes) = absurd (false≢true takes)
+
+-- each host but an opaque one is its own value
+own_file : (value : Host) → IsUrlHost Wide File (Some value) → own_value value ≡ Some value
+own_file (host.Domain form) is = refl
+own_file (host.V4 value) is = refl
+own_file (host.V6 pieces) is = refl
+own_file (host.Opaque text) is = absurd is
+own_file host.Empty is = refl
+
+own_special : (value : Host) → IsUrlHost Wide Special (Some value) → own_value value ≡ Some value
+own_special (host.Domain form) is = refl
+own_special (host.V4 value) is = refl
+own_special (host.V6 pieces) is = refl
+own_special (host.Opaque text) is = absurd is
+own_special host.Empty is = absurd is
+
+-- the parser's grammar takes the host and the port
+takes : (kind : Class) (scheme : List ℕ) (value : Host) (port : Option ℕ) (segments : List (List ℕ))
+    (query fragment : Option (List ℕ)) → IsUrlHost Wide kind (Some value) → IsStableHost value
+    → PortFits kind scheme value port
+    → Takes kind scheme (serial_host value) (authority_parts scheme value port segments query fragment)
+takes Special scheme value port segments query fragment is stable fits = record {
+  value = value;
+  host = special_taken value is stable;
+  valued = own_special value is;
+  port_text = fits.text;
+  port = fits.given;
+}
+takes File scheme value port segments query fragment is stable fits =
+    let none = no_file_port value port fits.taken in
+    record {
+      no_port_text = rw none refl;
+      no_port = none;
+      host = elim (file_taken value is stable) [
+        | inl taken ↦ inl (value, taken, own_file value is)
+        | inr (nothing, empty) ↦ inr (nothing, own_file value is ∙ ap Some empty)
+      ];
+    }
+takes Other scheme value port segments query fragment is stable fits = record {
+  value = value;
+  no_at_sign = host_without at_sign (serial_host value) refl (host_read Other value is stable);
+  parsed = other_parsed value is stable;
+  valued = refl;
+  alone = alone value port is fits.taken;
+  port_text = fits.text;
+  port = fits.given;
+}
+
+-- the host is cut where its text ends
+host_cut : (kind : Class) (value : Host) (port : Option ℕ) → IsHostRead (serial_host value)
+    → (port ≡ None) ⊎ (takes_port kind (Some value) ≡ true)
+    → IsHostCut kind (serial_host value) (option_map decimal port)
+host_cut Special value port read taken = read.word.ends (option_map decimal port)
+host_cut File value port read taken = rw (no_file_port value port taken) refl
+host_cut Other value port read taken = read.word.ends (option_map decimal port)
+
+-- the host of the parts is the URL's
+host_denoted : (kind : Class) (value : Host) → IsUrlHost Wide kind (Some value)
+    → (parts : Parts) → parts.host ≡ own_value value → parts.host_text ≡ Some (serial_host value)
+    → authority_host parts ≡ Some value
+unfolding serial_host
+host_denoted kind (host.Domain form) is parts own text = rw own refl
+host_denoted kind (host.V4 value) is parts own text = rw own refl
+host_denoted kind (host.V6 pieces) is parts own text = rw own refl
+host_denoted kind host.Empty is parts own text = rw own refl
+host_denoted Special (host.Opaque name) is parts own text = absurd is
+host_denoted File (host.Opaque name) is parts own text = absurd is
+host_denoted Other (host.Opaque name) is parts own text =
+    rw (own, text) (ap (λ s. Some (host.Opaque s)) (encoded-ascii name is.ascii))
+
+-- ---- the whole
+
+module _ (scheme : List ℕ) (value : Host) (port : Option ℕ) (segments : List (List ℕ)) (query fragment : Option (List ℕ))
+    (is : IsUrlScheme scheme) (host_is : IsUrlHost Wide (scheme_class scheme) (Some value)) (stable : IsStableHost value)
+    (port_is : IsUrlPort scheme (Some value) port) (small : MayBePortNumber port)
+    (path_is : IsUrlPath (scheme_class scheme) (Some value) (Segments segments))
+    (query_is : IsUrlQuery (scheme_class scheme) query) (fragment_is : IsUrlFragment fragment) where
+  abbrev parts : Parts
+  parts = authority_parts scheme value port segments query fragment
+
+  abbrev url : Url
+  url = url_of scheme (Some value) port (Segments segments) query fragment
+
+  read : IsHostRead (serial_host value)
+  read = host_read (scheme_class scheme) value host_is stable
+
+  fits : PortFits (scheme_class scheme) scheme value port
+  fits = port_fits scheme value port port_is small
+
+  slashed : MayBePathSlashed segments (serial_segments segments)
+  slashed = path_slashed segments (path_segments (scheme_class scheme) value segments path_is)
+
+  above : list_all is_unremoved
+      (slash ∷ slash ∷ ((serial_host value ++ written_behind colon (option_map decimal port)) ++ serial_segments segments))
+      ≡ true
+  above =
+      unremoved_append (slash ∷ slash ∷ (serial_host value ++ written_behind colon (option_map decimal port)))
+      (serial_segments segments)
+      (unremoved_authority (serial_host value) (option_map decimal port) read.read.above fits.text)
+      (path_above segments (serial_segments segments) slashed)
+
+  silent : Silent None (written parts) parts
+  silent = record {
+    cut =
+        cut_of_parts None (written parts) parts true refl is.spelled (λ none. absurd (false≢true (sym none)))
+        (authority_fits (scheme_class scheme) (serial_host value) (option_map decimal port) (serial_segments segments)
+        read.word fits.text (host_cut (scheme_class scheme) value port read fits.taken)
+        (path_behind segments (serial_segments segments) slashed))
+        (query_units (scheme_class scheme) query query_is);
+    kept =
+        kept_text (written parts) scheme
+        (slash ∷ slash ∷ ((serial_host value ++ written_behind colon (option_map decimal port)) ++ serial_segments segments))
+        query fragment is.spelled above (query_units (scheme_class scheme) query query_is)
+        (fragment_units fragment fragment_is) (written_with_authority parts scheme (serial_host value) refl refl);
+    scheme = is.spelled;
+    against = refl;
+    form = (takes (scheme_class scheme) scheme value port segments query fragment host_is stable fits, slashed);
+    query = query_units (scheme_class scheme) query query_is;
+    fragment = fragment_units fragment fragment_is;
+  }
+
+  written_text : written parts ≡ serial url
+  unfolding serial
+  written_text =
+      written_with_authority parts scheme (serial_host value) refl refl
+      ∙ ap (λ xs. scheme ++ colon ∷ slash ∷ slash ∷ (((serial_host value ++ xs) ++ serial_segments segments) ++ tail query fragment))
+      (port_written port)
+      ∙ ap (λ xs. scheme ++ colon ∷ slash ∷ slash ∷ xs)
+      (append_assoc (serial_host value ++ serial_port port) (serial_segments segments) (tail query fragment))
+
+  denoted : denote None parts ≡ url
+  unfolding denote
+  denoted = λ i. record {
+    scheme = lowercase-scheme scheme is i;
+    host = host_denoted (scheme_class scheme) value host_is parts refl refl i;
+    port = port;
+    path = Segments (path_denoted (scheme_class scheme) value segments path_is i);
+    query = denoted_query-own (scheme_class scheme) SchemeAuthority query refl query_is i;
+    fragment = encoded-fragment fragment fragment_is i;
+  }
+
+  -- the parser is silent on the text of a URL with a host
+  pub authority_read : IsSilentOn url
+  authority_read = record { parts = parts; silent = silent; written = written_text; denoted = denoted }
