@@ -2,3 +2,4 @@
 pub mod StepCosts
 pub mod StepsFewer
 pub mod RunsEnded
+pub mod BoundTaken

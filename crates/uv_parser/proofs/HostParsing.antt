@@ -7,5 +7,7 @@ pub mod Ipv6ReadersTaken
 pub mod Ipv6TurnsTaken
 pub mod Ipv6Taken
 pub mod Ipv4ParserLemmas
+pub mod Ipv4Taken
 pub mod HostParserLemmas
 pub mod HostsParsed
+pub mod OtherHostsTaken

@@ -1,5 +1,5 @@
 -- The host parser, after the URL Standard, section 3.5, ended at its first validation error.
-use Rattle.std.specs.Prelude.{◌≡◌, ℕ, ◌-◌, Bool, true, false, ◌&&◌, ◌||◌, ◌==◌, nat_le, List, [], ◌∷◌, length, take, slice_index, chars, encode_utf8_all, Option, Some, None, option_map, option_and_then, if◌then◌else◌}
+use Rattle.std.specs.Prelude.{◌≡◌, ◌↔◌, ◌⊎◌, ℕ, ◌-◌, Bool, true, false, ◌&&◌, ◌||◌, ◌==◌, nat_le, List, [], ◌∷◌, length, take, slice_index, chars, encode_utf8_all, Option, Some, None, option_map, option_and_then, if◌then◌else◌}
 use Rattle.std.specs.List.{list_any}
 use Rattle.std.specs.Str.{is_utf8}
 use Rattle.percent_encoding.specs.Percent.{percent_decode}
@@ -82,3 +82,16 @@ OpaqueHostsAreParsed = (text : List ℕ) → IsOpaqueHost text → parse_host fa
 -- the empty text is parsed, for a URL that isn't special, as the empty host
 abbrev pub EmptyHostIsParsed : Type 0
 EmptyHostIsParsed = parse_host false [] ≡ Some Empty
+
+-- What is written as the host of a URL that isn't special: nothing, which is the empty host, or an IPv6 text in
+-- brackets, or an opaque-host string without brackets, which is the opaque host that it encodes.
+abbrev pub IsTakenOtherHost : List ℕ → Host → Type 0
+IsTakenOtherHost text value =
+    ((text ≡ []) × (value ≡ Empty))
+    ⊎ (((pieces : List ℕ) × IsBracketedIpv6 text pieces × (value ≡ V6 pieces))
+    ⊎ (IsOpaqueHost text × (value ≡ Opaque (encoded false text))))
+
+-- for a URL that isn't special the host parser takes these texts alone, each as its host
+abbrev pub OtherHostsAreTaken : Type 0
+OtherHostsAreTaken =
+    (text : List ℕ) (value : Host) → (parse_host false text ≡ Some value) ↔ IsTakenOtherHost text value

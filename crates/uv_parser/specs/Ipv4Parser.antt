@@ -1,5 +1,5 @@
 -- The IPv4 parser (URL Standard, section 3.5), ended at its first validation error: four shortest decimal numbers.
-use Rattle.std.specs.Prelude.{◌≡◌, ℕ, zero, suc, ◌+◌, ◌*◌, ◌==◌, List, [], ◌∷◌, Option, Some, None, option_and_then, if◌then◌else◌}
+use Rattle.std.specs.Prelude.{◌≡◌, ◌↔◌, ℕ, zero, suc, ◌+◌, ◌*◌, ◌==◌, List, [], ◌∷◌, Option, Some, None, option_and_then, if◌then◌else◌}
 use Rattle.uv_model.specs.Hosts.Address.{IsIpv4}
 use Rattle.uv_model.specs.Ascii.{full_stop}
 use Rattle.uv_parser.specs.Ipv6Parser.{read_digits}
@@ -20,3 +20,7 @@ parse_ipv4 text = option_and_then (λ (n, rest). read_rest 3 n rest) (read_digit
 -- the law: on an IPv4 text the parser gives exactly its value
 abbrev pub Ipv4TextsAreParsed : Type 0
 Ipv4TextsAreParsed = (text : List ℕ) (value : ℕ) → IsIpv4 text value → parse_ipv4 text ≡ Some value
+
+-- the law: the parser gives a value on the IPv4 texts alone, and exactly theirs
+abbrev pub Ipv4ParserTakesIpv4Texts : Type 0
+Ipv4ParserTakesIpv4Texts = (text : List ℕ) (value : ℕ) → (parse_ipv4 text ≡ Some value) ↔ IsIpv4 text value

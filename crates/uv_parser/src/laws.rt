@@ -1,6 +1,6 @@
 //! Laws over the URL parser, each as the clause of a function that does nothing.
-ghost use Rattle.uv_parser.specs.HostParser.{DomainsAreParsed, EmptyHostIsParsed, Ipv4HostsAreParsed, Ipv6HostsAreParsed, OpaqueHostsAreParsed};
-ghost use Rattle.uv_parser.specs.Ipv4Parser.{Ipv4TextsAreParsed};
+ghost use Rattle.uv_parser.specs.HostParser.{DomainsAreParsed, EmptyHostIsParsed, Ipv4HostsAreParsed, Ipv6HostsAreParsed, OpaqueHostsAreParsed, OtherHostsAreTaken};
+ghost use Rattle.uv_parser.specs.Ipv4Parser.{Ipv4ParserTakesIpv4Texts, Ipv4TextsAreParsed};
 ghost use Rattle.uv_parser.specs.Ipv6Parser.{Ipv6ParserTakesIpv6Texts, Ipv6TextsAreParsed};
 ghost use Rattle.uv_parser.specs.Laws.Silence.{FileTextsRunSilently, OpaqueTextsRunSilently, OtherTextsRunSilently, SpecialTextsRunSilently};
 ghost use Rattle.uv_parser.specs.Rows.AddressParsers.{AddressParserRows};
@@ -53,6 +53,12 @@ pub fn ipv4_texts_are_parsed()
     ensures { Ipv4TextsAreParsed }
 {}
 
+/// The IPv4 parser takes the IPv4 texts alone: where it gives a value, the text is an IPv4 text of this value (URL
+/// Standard, section 3.5).
+pub fn ipv4_parser_takes_ipv4_texts()
+    ensures { Ipv4ParserTakesIpv4Texts }
+{}
+
 /// On every IPv6 text the IPv6 parser gives exactly the text's eight pieces (URL Standard, section 3.5).
 pub fn ipv6_texts_are_parsed()
     ensures { Ipv6TextsAreParsed }
@@ -96,6 +102,12 @@ pub fn opaque_hosts_are_parsed()
 /// For a URL that isn't special the host parser makes of the empty text the empty host (URL Standard, section 3.5).
 pub fn empty_host_is_parsed()
     ensures { EmptyHostIsParsed }
+{}
+
+/// For a URL that isn't special the host parser takes nothing but the empty text, an IPv6 text in brackets and an
+/// opaque-host string without brackets, each as its host (URL Standard, section 3.5).
+pub fn other_hosts_are_taken()
+    ensures { OtherHostsAreTaken }
 {}
 
 /// What the parser machine does on one text for each way in which it stops or is done (URL Standard, section 4.4).

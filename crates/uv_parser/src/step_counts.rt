@@ -1,6 +1,6 @@
 //! Laws on how many steps the URL parser takes, each as the clause of a function that does nothing.
 ghost use Rattle.uv_parser.specs.Rows.StepCounts.{StepCountRows};
-ghost use Rattle.uv_parser.specs.Laws.StepCounts.{RunsEnd, RunsKeepTheirEnd, TextsAreDecidedSoon};
+ghost use Rattle.uv_parser.specs.Laws.StepCounts.{BoundIsTaken, RunsEnd, RunsKeepTheirEnd, TextsAreDecidedSoon};
 
 /// Against every base and without one the run of every text, valid or not, has ended after `2n + 5` steps, where `n` is
 /// the number of its code points: it is done, or it has stopped (URL Standard, section 4.4).
@@ -17,6 +17,12 @@ pub fn runs_keep_their_end()
 /// where the parser's grammar takes the text with parts, and else it has stopped.
 pub fn texts_are_decided_soon()
     ensures { TextsAreDecidedSoon }
+{}
+
+/// No smaller bound holds: of each length from four on there is a text whose run, against `http://h/`, hasn't ended
+/// after `2n + 4` steps.
+pub fn bound_is_taken()
+    ensures { BoundIsTaken }
 {}
 
 /// Runs of texts that take exactly `2n + 5` steps.

@@ -207,7 +207,7 @@ pub record TakesFour (i : ℕ) (text : List ℕ) (r : List ℕ × ℕ) : Type 0 
   pub two_more : r.1 ≡ i + 2
 
 -- four numbers, each but the first behind a full stop, up to the end
-four_spelled : (a b c d : ℕ) (text first second third fourth : List ℕ) → text ≡ decimal a ++ first
+pub four_spelled : (a b c d : ℕ) (text first second third fourth : List ℕ) → text ≡ decimal a ++ first
     → first ≡ codes "." ++ (decimal b ++ second) → second ≡ codes "." ++ (decimal c ++ third)
     → third ≡ codes "." ++ (decimal d ++ fourth) → fourth ≡ []
     → text ≡ decimal a ++ codes "." ++ decimal b ++ codes "." ++ decimal c ++ codes "." ++ decimal d

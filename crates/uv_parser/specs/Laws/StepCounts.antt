@@ -1,13 +1,14 @@
 -- How many steps a run of the URL parser takes (URL Standard, section 4.4), on valid texts and on all others: twice as
 -- many as the text has code points and five more at most, and on some text exactly so many.
-use Rattle.std.specs.Prelude.{◌≡◌, ℕ, ◌+◌, ◌*◌, ◌≤◌, List, length, Option}
+use Rattle.std.specs.Prelude.{◌≡◌, ℕ, ◌+◌, ◌*◌, ◌≤◌, List, length, Option, Some}
 use Rattle.uv_parser.specs.SilentTexts.{IsDecidedWithin}
+use Rattle.uv_parser.specs.Rows.References.{root_base}
 use Rattle.uv_parser.specs.Run.{Outcome, Done, Stopped, Going, run}
 use Rattle.uv_model.specs.declared.profile.Profile.TheVariants.{Wide}
 use Rattle.uv_model.specs.Records.Url.{Url}
 use Rattle.uv_model.specs.Records.WellFormed.{MayBeWellFormed}
 
--- the bound, which the run of `//h` against `http://h/` takes whole
+-- the bound, which some runs take whole
 abbrev pub least_step_bound : List ℕ → ℕ
 least_step_bound text = 2 * length text + 5
 
@@ -31,3 +32,8 @@ RunsKeepTheirEnd = (base : Option Url) (text : List ℕ) (steps : ℕ) → least
 abbrev pub TextsAreDecidedSoon : Type 0
 TextsAreDecidedSoon = (base : Option Url) (text : List ℕ) (steps : ℕ) → MayBeWellFormed Wide base
     → least_step_bound text ≤ steps → IsDecidedWithin steps base text
+
+-- Against `http://h/` there is a text of each length from four on whose run hasn't ended one step before the bound.
+abbrev pub BoundIsTaken : Type 0
+BoundIsTaken = (more : ℕ) → (text : List ℕ) × (length text ≡ more + 4)
+    × ¬ (IsEnded (run (Some root_base) text (2 * length text + 4)))
