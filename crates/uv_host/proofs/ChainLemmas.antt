@@ -13,6 +13,8 @@ use Rattle.idna.specs.Display.{IsPlain}
 use Rattle.idna.specs.Labels.{is_full_stop, labels_of}
 use Rattle.idna.specs.Validity.{passes_hyphens}
 use Rattle.uv_model.specs.Ascii.{full_stop, hyphen}
+use Rattle.uv_model.specs.declared.profile.Profile.{Profile}
+use Rattle.uv_model.specs.declared.profile.Profile.TheVariants.{Standard}
 use Rattle.uv_model.specs.Hosts.Domain.{IsForm, has_lengths, is_form_code_point, without_root}
 use Rattle.uv_host.specs.PlainNames.{goes_on, is_chain, is_sign}
 use Rattle.uv_host.proofs.PlainLemmas.{plain_ascii, plain_from_form, plain_is_form}
@@ -21,11 +23,11 @@ chain_parts : (signed : Bool) (c : ℕ) (rest : List ℕ) → is_chain signed (c
     → (goes_on signed c ≡ true) × (is_chain (is_sign c) rest ≡ true)
 chain_parts signed c rest h = and_parts (goes_on signed c) (is_chain (is_sign c) rest) h
 
-form_byte : (signed : Bool) (c : ℕ) → goes_on signed c ≡ true → is_form_code_point c ≡ true
+form_byte : (signed : Bool) (c : ℕ) → goes_on signed c ≡ true → is_form_code_point Standard c ≡ true
 form_byte true c h = grind (arith, nat_tests)
 form_byte false c h = grind (arith, nat_tests)
 
-pub chain_form : (signed : Bool) (text : List ℕ) → is_chain signed text ≡ true → list_all is_form_code_point text ≡ true
+pub chain_form : (signed : Bool) (text : List ℕ) → is_chain signed text ≡ true → list_all (is_form_code_point Standard) text ≡ true
 chain_form signed [] h = refl
 chain_form signed (c ∷ rest) h =
     let parts = chain_parts signed c rest h in
@@ -165,8 +167,9 @@ chain_plain name h =
     (all_pass (length name) (labels_of name) (from_first (length name) (labels_of name) (chain_labels false name h)))
 
 -- a name of at most 63 code points is its own form
-pub chain_is_form : (name : List ℕ) → IsUtf8 name → is_chain false name ≡ true → length name ≤ 63 → IsForm (chars name) name
-chain_is_form name utf8 h few = plain_is_form name utf8 (chain_plain name h) (chain_lengths name h few)
+pub chain_is_form : (profile : Profile) (name : List ℕ) → IsUtf8 name → is_chain false name ≡ true → length name ≤ 63
+    → IsForm profile (chars name) name
+chain_is_form profile name utf8 h few = plain_is_form profile name utf8 (chain_plain name h) (chain_lengths name h few)
 
 -- and ASCII
 pub chain_ascii : (name : List ℕ) → is_chain false name ≡ true → IsAscii name

@@ -1,5 +1,5 @@
 -- A plain name is its own form at both settings.
-use Rattle.std.proofs.Common.{◌≡◌, ℕ, ◌<◌, ◌≢◌, true, false, List, Some, chars, IsUtf8, get_or, length, inl, inr, refl, sym, ap, ◌∙◌, arith}
+use Rattle.std.proofs.Common.{◌≡◌, ℕ, ◌<◌, ◌≢◌, true, false, List, Some, chars, encode_utf8_all, IsUtf8, get_or, length, inl, inr, refl, sym, ap, ◌∙◌, arith}
 use Rattle.std.specs.Prelude.{All}
 use Rattle.std.specs.Str.{IsAscii}
 use Rattle.std.specs.List.{list_all}
@@ -13,18 +13,20 @@ use Rattle.std.proofs.lemmas.Str.{chars-IsAscii, encodes-chars}
 use Rattle.idna.specs.declared.deny_list.TheConstants.AsciiDenyList.{STD3, EMPTY}
 use Rattle.idna.specs.declared.options.Hyphens.TheVariants.{Allow, Check}
 use Rattle.idna.specs.declared.options.DnsLength.TheVariants.{Ignore}
-use Rattle.idna.specs.Uts46.{to_ascii}
+use Rattle.idna.specs.Uts46.{domain_to_ascii, to_ascii}
 use Rattle.idna.specs.Display.{IsPlain}
 use Rattle.idna.specs.Labels.{labels_of}
 use Rattle.idna.specs.Validity.{hyphen, is_valid_char, passes_hyphens}
 use Rattle.idna.specs.AsciiDenyList.{may_be_denied}
 use Rattle.idna.proofs.Uts46Lemmas.{has_ace_prefix-passes, list_all-passes_hyphens, to_ascii-plain}
 use Rattle.idna.proofs.ValidityLemmas.{denies-EMPTY, denies-STD3, denies-may_be_denied, is_valid_char-ascii}
+use Rattle.uv_model.specs.declared.profile.Profile.{Profile}
+use Rattle.uv_model.specs.declared.profile.Profile.TheVariants.{Standard, Wide}
 use Rattle.uv_model.specs.Hosts.Domain.{HasNoForm, IsForm, has_lengths, has_permitted, is_form_code_point, is_permitted, strict_form}
-use Rattle.uv_model.proofs.Hosts.DomainLemmas.{IsForm-from, no_lengths}
+use Rattle.uv_model.proofs.Hosts.DomainLemmas.{IsForm-from, no_parsed_lengths, wide_form, wide_text}
 use Rattle.uv_host.specs.Domains.{is_simple}
 
-valid_byte : (b : ℕ) → is_form_code_point b ≡ true → (b < 128) × (is_valid_char STD3 b ≡ true)
+valid_byte : (b : ℕ) → is_form_code_point Standard b ≡ true → (b < 128) × (is_valid_char STD3 b ≡ true)
 valid_byte b h =
     let small : b < 128 = grind (arith, nat_tests) in
     let lower : is_ascii_uppercase b ≡ false = grind (arith, nat_tests) in
@@ -43,12 +45,12 @@ plain_from_simple name h =
           (All-weaker (λ b. is_simple b ≡ true) (λ b. b ≢ hyphen) (λ b e. grind (arith, nat_tests)) name all);
     }
 
-pub plain_from_form : (name : List ℕ) → list_all is_form_code_point name ≡ true
+pub plain_from_form : (name : List ℕ) → list_all (is_form_code_point Standard) name ≡ true
     → list_all (passes_hyphens Check) (labels_of name) ≡ true → IsPlain STD3 Check name
 plain_from_form name h placed = record {
   valid =
-      All-weaker (λ b. is_form_code_point b ≡ true) (λ b. (b < 128) × (is_valid_char STD3 b ≡ true)) valid_byte name
-      (AllPass-from_list_all is_form_code_point name h);
+      All-weaker (λ b. is_form_code_point Standard b ≡ true) (λ b. (b < 128) × (is_valid_char STD3 b ≡ true)) valid_byte name
+      (AllPass-from_list_all (is_form_code_point Standard) name h);
   placed = placed;
 }
 
@@ -75,18 +77,18 @@ plain_parsed name p = record {
       (AllPass-from_list_all (passes_hyphens Check) (labels_of name) p.placed));
 }
 
-plain_permitted_byte : (b : ℕ) → (b < 128) × (is_valid_char STD3 b ≡ true) → is_permitted b ≡ true
+plain_permitted_byte : (b : ℕ) → (b < 128) × (is_valid_char STD3 b ≡ true) → is_permitted Standard b ≡ true
 plain_permitted_byte b h =
     let strict = sym (is_valid_char-ascii STD3 b h.0) ∙ h.1 in
     let denied = denies-STD3 b in
     let small = h.0 in
     grind (arith, nat_tests)
 
-pub plain_permitted : (name : List ℕ) → IsPlain STD3 Check name → has_permitted name ≡ true
+pub plain_permitted : (name : List ℕ) → IsPlain STD3 Check name → has_permitted Standard name ≡ true
 unfolding has_permitted
 plain_permitted name p =
-    list_all-from_AllPass is_permitted name
-    (All-weaker (λ b. (b < 128) × (is_valid_char STD3 b ≡ true)) (λ b. is_permitted b ≡ true) plain_permitted_byte name
+    list_all-from_AllPass (is_permitted Standard) name
+    (All-weaker (λ b. (b < 128) × (is_valid_char STD3 b ≡ true)) (λ b. is_permitted Standard b ≡ true) plain_permitted_byte name
     p.valid)
 
 ascii_bytes : (name : List ℕ) → All (λ b. (b < 128) × (is_valid_char STD3 b ≡ true)) name → (i : ℕ) → get_or name i 0 < 128
@@ -106,17 +108,34 @@ plain_chars name p = chars-IsAscii name (ascii_bytes name p.valid)
 plain_strict : (name : List ℕ) → IsUtf8 name → IsPlain STD3 Check name → strict_form (chars name) ≡ Some name
 plain_strict name utf8 p = ap (to_ascii STD3 Check Ignore) (encodes-chars name utf8) ∙ to_ascii-plain STD3 Check name p
 
-pub permitted_plain : (name : List ℕ) → IsPlain STD3 Check name → has_permitted (chars name) ≡ true
-permitted_plain name p = ap has_permitted (plain_chars name p) ∙ plain_permitted name p
+standard_permitted : (name : List ℕ) → IsPlain STD3 Check name → has_permitted Standard (chars name) ≡ true
+standard_permitted name p = ap (has_permitted Standard) (plain_chars name p) ∙ plain_permitted name p
+
+pub permitted_plain : (profile : Profile) (name : List ℕ) → IsPlain STD3 Check name
+    → has_permitted profile (chars name) ≡ true
+permitted_plain Standard name p = standard_permitted name p
+permitted_plain Wide name p = wide_text (chars name) (standard_permitted name p)
+
+plain_to_ascii : (name : List ℕ) → IsUtf8 name → IsPlain STD3 Check name
+    → domain_to_ascii EMPTY (encode_utf8_all (chars name)) ≡ Some name
+plain_to_ascii name utf8 p =
+    ap (to_ascii EMPTY Allow Ignore) (encodes-chars name utf8) ∙ to_ascii-plain EMPTY Allow name (plain_parsed name p)
 
 -- a plain name of the right lengths is its own form
-pub plain_is_form : (name : List ℕ) → IsUtf8 name → IsPlain STD3 Check name → has_lengths name ≡ true
-    → IsForm (chars name) name
-plain_is_form name utf8 p lengths =
-    IsForm-from (chars name) name (permitted_plain name p) (plain_strict name utf8 p) lengths
-    (ap (to_ascii EMPTY Allow Ignore) (encodes-chars name utf8) ∙ to_ascii-plain EMPTY Allow name (plain_parsed name p))
+standard_is_form : (name : List ℕ) → IsUtf8 name → IsPlain STD3 Check name → has_lengths name ≡ true
+    → IsForm Standard (chars name) name
+standard_is_form name utf8 p lengths =
+    IsForm-from (chars name) name (standard_permitted name p) (plain_strict name utf8 p) lengths
+    (plain_to_ascii name utf8 p)
+
+-- in each profile
+pub plain_is_form : (profile : Profile) (name : List ℕ) → IsUtf8 name → IsPlain STD3 Check name
+    → has_lengths name ≡ true → IsForm profile (chars name) name
+plain_is_form Standard name utf8 p lengths = standard_is_form name utf8 p lengths
+plain_is_form Wide name utf8 p lengths = wide_form (chars name) name (standard_is_form name utf8 p lengths)
 
 -- and another has none
-pub plain_no_form : (name : List ℕ) → IsUtf8 name → IsPlain STD3 Check name → has_lengths name ≡ false
-    → HasNoForm (chars name)
-plain_no_form name utf8 p wrong = no_lengths (chars name) name (plain_strict name utf8 p) wrong
+pub plain_no_form : (profile : Profile) (name : List ℕ) → IsUtf8 name → IsPlain STD3 Check name
+    → has_lengths name ≡ false → HasNoForm profile (chars name)
+plain_no_form profile name utf8 p wrong =
+    no_parsed_lengths profile (chars name) name (plain_to_ascii name utf8 p) wrong

@@ -14,7 +14,7 @@ use idna::uts46::{DnsLength, Hyphens, Uts46, verify_dns_length};
 use idna::{AsciiDenyList, Errors};
 use std::alloc::{AllocError, Global};
 use std::borrow::CowStr;
-use uv_model::ends_in_number;
+use uv_model::{Profile, ends_in_number, is_domain_mark};
 
 /// What a text is as the domain of a special URL.
 #[derive(Debug, Drop)]
@@ -27,21 +27,22 @@ pub enum DomainAnswer {
     Not,
 }
 
-/// Whether the text is a valid domain, and its ASCII form (URL Standard, section 3.3): ToASCII with the strict settings
-/// of UTS #46 and ToASCII with those of the URL parser give the same form, its labels have 1 to 63 code points and the
-/// whole 1 to 253, and it doesn't end in a number. A text with an ASCII code point other than a letter, a digit, `-`
-/// and `.` is none, and that takes no memory. The error is want of memory.
-pub fn domain(alloc: Global, text: &str) -> Result<DomainAnswer, AllocError>
-    ensures answer { IfOk result (IsAnswer (chars text.now)) }
-    ensures refused { spec.has_permitted (chars text.now) ≡ false → result ≡ Ok DomainAnswer.Not }
+/// Whether the text is a valid domain of the profile, and its ASCII form (URL Standard, section 3.3): ToASCII with the
+/// settings of the URL parser gives the form, its labels have 1 to 63 code points and the whole 1 to 253, and it doesn't
+/// end in a number. By the standard profile ToASCII with the strict settings of UTS #46 gives the same form; by the wide
+/// profile the form holds letters, digits, `-`, `.` and `_` alone. A text with an ASCII code point other than these, or
+/// by the standard profile with `_`, is none, and that takes no memory. The error is want of memory.
+pub fn domain(alloc: Global, text: &str, profile: Profile) -> Result<DomainAnswer, AllocError>
+    ensures answer { IfOk result (IsAnswer profile (chars text.now)) }
+    ensures refused { spec.has_permitted profile (chars text.now) ≡ false → result ≡ Ok DomainAnswer.Not }
 {
     if is_plain(text.as_bytes()) {
-        return plain_domain(alloc, text);
+        return plain_domain(alloc, text, profile);
     }
-    if !has_permitted(text) {
+    if !has_permitted(text, profile) {
         return Ok(DomainAnswer::Not);
     }
-    let Some(form) = form_of(alloc, text)? else {
+    let Some(form) = form_of(alloc, text, profile)? else {
         return Ok(DomainAnswer::Not);
     };
     if is_number(form.as_str()) {
@@ -56,7 +57,7 @@ pub fn domain(alloc: Global, text: &str) -> Result<DomainAnswer, AllocError>
 fn is_plain(name: &[u8]) -> bool
     ensures { IsTrue result → IsPlain AsciiDenyList.STD3 Hyphens.Check name.now }
 {
-    is_simple(name) || (is_form(name) && has_placed_hyphens(name))
+    is_simple(name) || (is_form(name, Profile::Standard) && has_placed_hyphens(name))
 }
 
 /// Lower-case letters, digits and full stops.
@@ -72,17 +73,17 @@ fn is_simple_byte(b: u8) -> bool
     b.is_ascii_lowercase() || (b.is_ascii_digit() || b == b'.')
 }
 
-/// Lower-case letters, digits, hyphens and full stops.
-fn is_form(name: &[u8]) -> bool
-    ensures { result ≡ list_all spec.is_form_code_point name.now }
+/// Lower-case letters, digits and the marks of a domain.
+fn is_form(name: &[u8], profile: Profile) -> bool
+    ensures { result ≡ list_all (spec.is_form_code_point profile) name.now }
 {
-    name.iter().all(|b| is_form_byte(*b))
+    name.iter().all(|b| is_form_byte(*b, profile))
 }
 
-fn is_form_byte(b: u8) -> bool
-    ensures { result ≡ spec.is_form_code_point b }
+fn is_form_byte(b: u8, profile: Profile) -> bool
+    ensures { result ≡ spec.is_form_code_point profile b }
 {
-    b.is_ascii_lowercase() || (b.is_ascii_digit() || (b == b'-' || b == b'.'))
+    b.is_ascii_lowercase() || (b.is_ascii_digit() || is_domain_mark(char::from(b), profile))
 }
 
 /// Whether no label begins or ends with a hyphen, or has two as its third and fourth bytes.
@@ -107,10 +108,10 @@ fn is_hyphen_at(label: &[u8], at: usize) -> bool
     at < label.len() && label[at] == b'-'
 }
 
-/// The answer on a plain name, which is its own form where it has the lengths.
-fn plain_domain(alloc: Global, name: &str) -> Result<DomainAnswer, AllocError>
+/// The answer on a plain name, which is its own form in each profile where it has the lengths.
+fn plain_domain(alloc: Global, name: &str, profile: Profile) -> Result<DomainAnswer, AllocError>
     requires { IsPlain AsciiDenyList.STD3 Hyphens.Check name.now }
-    ensures { IfOk result (IsAnswer (chars name.now)) }
+    ensures { IfOk result (IsAnswer profile (chars name.now)) }
 {
     if !has_lengths(name) {
         return Ok(DomainAnswer::Not);
@@ -121,26 +122,38 @@ fn plain_domain(alloc: Global, name: &str) -> Result<DomainAnswer, AllocError>
     Ok(DomainAnswer::Ascii(String::from_str(alloc, name)?))
 }
 
-/// Whether all ASCII code points of the text are letters, digits, `-` and `.`.
+/// Whether all ASCII code points of the text are letters, digits and marks of a domain.
 #[tactic(auto, unfolding(uv_model::specs::Hosts::Domain::has_permitted))]
-fn has_permitted(text: &str) -> bool
-    ensures { result ≡ spec.has_permitted (chars text.now) }
+fn has_permitted(text: &str, profile: Profile) -> bool
+    ensures { result ≡ spec.has_permitted profile (chars text.now) }
 {
-    text.chars().all(is_permitted)
+    text.chars().all(|c| is_permitted(c, profile))
 }
 
-/// A code point beyond ASCII, a letter, a digit, `-` or `.`.
-fn is_permitted(c: char) -> bool
-    ensures { result ≡ spec.is_permitted c }
+/// A code point beyond ASCII, a letter, a digit or a mark of a domain.
+fn is_permitted(c: char, profile: Profile) -> bool
+    ensures { result ≡ spec.is_permitted profile c }
 {
-    !c.is_ascii() || c.is_ascii_alphanumeric() || c == '-' || c == '.'
+    !c.is_ascii() || c.is_ascii_alphanumeric() || is_domain_mark(c, profile)
 }
 
 /// The form of a permitted text, if it has one.
-fn form_of(alloc: Global, text: &str) -> Result<Option<CowStr<'_>>, AllocError>
-    requires { spec.has_permitted (chars text.now) ≡ true }
-    ensures { IfOk result (λ answer. MatchOption answer (spec.HasNoForm (chars text.now))
-        (λ form. spec.IsForm (chars text.now) (cow_str_bytes form))) }
+fn form_of(alloc: Global, text: &str, profile: Profile) -> Result<Option<CowStr<'_>>, AllocError>
+    requires { spec.has_permitted profile (chars text.now) ≡ true }
+    ensures { IfOk result (λ answer. MatchOption answer (spec.HasNoForm profile (chars text.now))
+        (λ form. spec.IsForm profile (chars text.now) (cow_str_bytes form))) }
+{
+    match profile {
+        Profile::Standard => standard_form(alloc, text),
+        Profile::Wide => wide_form(alloc, text),
+    }
+}
+
+/// The form that the strict settings and those of the URL parser give, if there is one with the lengths.
+fn standard_form(alloc: Global, text: &str) -> Result<Option<CowStr<'_>>, AllocError>
+    requires { spec.has_permitted Profile.Standard (chars text.now) ≡ true }
+    ensures { IfOk result (λ answer. MatchOption answer (spec.HasNoForm Profile.Standard (chars text.now))
+        (λ form. spec.IsForm Profile.Standard (chars text.now) (cow_str_bytes form))) }
 {
     let Some(form) = ascii_form(alloc, text, AsciiDenyList::STD3, Hyphens::Check)? else {
         return Ok(None);
@@ -152,6 +165,25 @@ fn form_of(alloc: Global, text: &str) -> Result<Option<CowStr<'_>>, AllocError>
         return Ok(None);
     };
     if is_same(form.as_str(), parsed.as_str()) {
+        Ok(Some(form))
+    } else {
+        Ok(None)
+    }
+}
+
+/// The form that the settings of the URL parser give, if it has the lengths and the code points of a domain alone.
+fn wide_form(alloc: Global, text: &str) -> Result<Option<CowStr<'_>>, AllocError>
+    requires { spec.has_permitted Profile.Wide (chars text.now) ≡ true }
+    ensures { IfOk result (λ answer. MatchOption answer (spec.HasNoForm Profile.Wide (chars text.now))
+        (λ form. spec.IsForm Profile.Wide (chars text.now) (cow_str_bytes form))) }
+{
+    let Some(form) = ascii_form(alloc, text, AsciiDenyList::EMPTY, Hyphens::Allow)? else {
+        return Ok(None);
+    };
+    if !has_lengths(form.as_str()) {
+        return Ok(None);
+    }
+    if is_form(form.as_str().as_bytes(), Profile::Wide) {
         Ok(Some(form))
     } else {
         Ok(None)

@@ -1,6 +1,7 @@
 //! Plain names: letters and digits with single marks between them.
 ghost use Rattle.std.specs.Prelude.{◌≡◌, IfSome, IsTrue, chars, false, true};
 ghost use Rattle.uv_host.specs.PlainNames.{IsChainFront, goes_on, is_chain, is_sign};
+ghost use Rattle.uv_model.specs.declared.profile.Profile.{Profile};
 ghost use Rattle.uv_model.specs.Hosts.Domain as spec;
 
 use crate::domains::is_number;
@@ -45,11 +46,11 @@ fn is_sign(b: u8) -> bool
     SIGNS[b as usize] != 0
 }
 
-/// Whether such a name is a valid domain (URL Standard, section 3.3), which is its own ASCII form. Where the answer is
-/// no, that says nothing.
+/// Whether such a name is in each profile a valid domain (URL Standard, section 3.3), which is its own ASCII form. Where
+/// the answer is no, that says nothing.
 pub fn is_plain_domain(name: &str) -> bool
     requires { is_chain false name.now ≡ true }
-    ensures { IsTrue result → spec.IsDomain (chars name.now) name.now }
+    ensures { (profile : Profile) → IsTrue result → spec.IsDomain profile (chars name.now) name.now }
 {
     if name.len() > 63 || is_number(name) {
         return false;

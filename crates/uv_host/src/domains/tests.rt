@@ -55,7 +55,11 @@ fn gives_forms(rt: HostRuntime) -> Result<(), Fail> {
         ("a\u{94D}\u{200C}b", "xn--ab-fsf604u"),
         ("a\u{94D}\u{200D}b", "xn--ab-fsf014u"),
     ] {
-        assert_eq!(rt; shown(&domain(rt.alloc(), text)?), form, "{text}");
+        assert_eq!(rt;
+            shown(&domain(rt.alloc(), text, Profile::Standard)?),
+            form,
+            "{text}"
+        );
     }
     Ok(())
 }
@@ -66,23 +70,33 @@ fn gives_forms_of_right_to_left_labels(rt: HostRuntime) -> Result<(), Fail> {
         \u{5DE}\u{5D3}\u{5D1}\u{5E8}\u{5D9}\u{5DD}\u{5E2}\u{5D1}\u{5E8}\u{5D9}\u{5EA}";
     // RFC 3492, section 7.1, the Hebrew sample, alone and beside a label of RFC 5893, section 2, rules 5 and 6
     let form = "xn--4dbcagdahymbxekheh6e0a7fei0b";
-    assert_eq!(rt; shown(&domain(rt.alloc(), hebrew)?), form);
+    assert_eq!(rt;
+        shown(&domain(rt.alloc(), hebrew, Profile::Standard)?),
+        form
+    );
     let beside = format!(in rt.alloc(); "example.{hebrew}")?;
     let beside_form = format!(in rt.alloc(); "example.{form}")?;
     assert_eq!(rt;
-        shown(&domain(rt.alloc(), beside.as_str())?),
+        shown(&domain(rt.alloc(), beside.as_str(), Profile::Standard)?),
         beside_form.as_str()
     );
     // RFC 5893, section 2, rule 1: beside a right-to-left label none begins with a digit
     let digit = format!(in rt.alloc(); "1.{hebrew}")?;
-    assert_eq!(rt; shown(&domain(rt.alloc(), digit.as_str())?), "(not)");
+    assert_eq!(rt;
+        shown(&domain(rt.alloc(), digit.as_str(), Profile::Standard)?),
+        "(not)"
+    );
     for (text, form) in [
         // UTS #46 test file
         ("\u{E0}.\u{5D0}\u{308}", "xn--0ca.xn--ssa73l"),
         ("0\u{E0}.\u{5D0}", "(not)"),
         ("\u{E0}\u{5D0}", "(not)"),
     ] {
-        assert_eq!(rt; shown(&domain(rt.alloc(), text)?), form, "{text}");
+        assert_eq!(rt;
+            shown(&domain(rt.alloc(), text, Profile::Standard)?),
+            form,
+            "{text}"
+        );
     }
     Ok(())
 }
@@ -98,7 +112,11 @@ fn refuses_numbers(rt: HostRuntime) -> Result<(), Fail> {
         // Unicode chart FF00: U+FF11 is a wide digit one
         "\u{FF11}.2.3.4",
     ] {
-        assert_eq!(rt; shown(&domain(rt.alloc(), text)?), "(number)", "{text}");
+        assert_eq!(rt;
+            shown(&domain(rt.alloc(), text, Profile::Standard)?),
+            "(number)",
+            "{text}"
+        );
     }
     Ok(())
 }
@@ -132,7 +150,46 @@ fn refuses_texts(rt: HostRuntime) -> Result<(), Fail> {
         "a\u{200C}b",
         "a\u{200D}b",
     ] {
-        assert_eq!(rt; shown(&domain(rt.alloc(), text)?), "(not)", "{text}");
+        assert_eq!(rt;
+            shown(&domain(rt.alloc(), text, Profile::Standard)?),
+            "(not)",
+            "{text}"
+        );
+    }
+    Ok(())
+}
+
+// The same texts by the wide profile: with `_`, with hyphens wherever they stand, and what stays refused.
+#[test]
+fn gives_wide_forms(rt: HostRuntime) -> Result<(), Fail> {
+    for (text, form) in [
+        ("EXAMPLE.com", "example.com"),
+        ("b\u{FC}cher.example", "xn--bcher-kva.example"),
+        ("a_b", "a_b"),
+        ("A_B.example", "a_b.example"),
+        ("_", "_"),
+        ("-a", "-a"),
+        ("a-", "a-"),
+        ("ab--c", "ab--c"),
+        // Unicode chart FF00: U+FF3F is a wide low line
+        ("a\u{FF3F}b", "a_b"),
+        ("1.2.3", "(number)"),
+        ("a_b.1", "(number)"),
+        ("a..b", "(not)"),
+        ("a%62", "(not)"),
+        ("\u{AD}", "(not)"),
+        ("a=\u{338}", "(not)"),
+        // Unicode chart FF00: U+FF0B is a wide plus sign
+        ("a\u{FF0B}b", "(not)"),
+        ("xn--a.pt", "(not)"),
+        (A63, A63),
+        (A64, "(not)"),
+    ] {
+        assert_eq!(rt;
+            shown(&domain(rt.alloc(), text, Profile::Wide)?),
+            form,
+            "{text}"
+        );
     }
     Ok(())
 }
@@ -143,22 +200,28 @@ fn counts_code_points(rt: HostRuntime) -> Result<(), Fail> {
         (A61.len(), A62.len(), A63.len(), A64.len()),
         (61, 62, 63, 64)
     );
-    assert_eq!(rt; shown(&domain(rt.alloc(), A63)?), A63);
-    assert_eq!(rt; shown(&domain(rt.alloc(), A64)?), "(not)");
+    assert_eq!(rt; shown(&domain(rt.alloc(), A63, Profile::Standard)?), A63);
+    assert_eq!(rt;
+        shown(&domain(rt.alloc(), A64, Profile::Standard)?),
+        "(not)"
+    );
     let longest = format!(in rt.alloc(); "{A63}.{A63}.{A63}.{A61}")?;
     assert_eq!(rt; longest.len(), 253);
     assert_eq!(rt;
-        shown(&domain(rt.alloc(), longest.as_str())?),
+        shown(&domain(rt.alloc(), longest.as_str(), Profile::Standard)?),
         longest.as_str()
     );
     let with_root = format!(in rt.alloc(); "{longest}.")?;
     assert_eq!(rt;
-        shown(&domain(rt.alloc(), with_root.as_str())?),
+        shown(&domain(rt.alloc(), with_root.as_str(), Profile::Standard)?),
         with_root.as_str()
     );
     let longer = format!(in rt.alloc(); "{A63}.{A63}.{A63}.{A62}")?;
     assert_eq!(rt; longer.len(), 254);
-    assert_eq!(rt; shown(&domain(rt.alloc(), longer.as_str())?), "(not)");
+    assert_eq!(rt;
+        shown(&domain(rt.alloc(), longer.as_str(), Profile::Standard)?),
+        "(not)"
+    );
     Ok(())
 }
 
@@ -184,13 +247,13 @@ fn take_all(alloc: Global, held: &mut Vec<Vec<u8>>) {
 fn refuses_without_memory(rt: HostRuntime) -> Result<(), AllocError> {
     let mut held = Vec::with_capacity(rt.alloc(), 400_000)?;
     take_all(rt.alloc(), &mut held);
-    let upper = domain(rt.alloc(), "EXAMPLE.com");
-    let underscore = domain(rt.alloc(), "a_b");
-    let escaped = domain(rt.alloc(), "a%62");
+    let upper = domain(rt.alloc(), "EXAMPLE.com", Profile::Standard);
+    let underscore = domain(rt.alloc(), "a_b", Profile::Standard);
+    let escaped = domain(rt.alloc(), "a%62", Profile::Wide);
     drop(held);
     assert!(rt; upper.is_err(), "memory was found");
     assert!(rt; matches!(underscore, Ok(DomainAnswer::Not)));
     assert!(rt; matches!(escaped, Ok(DomainAnswer::Not)));
-    assert!(rt; domain(rt.alloc(), "EXAMPLE.com").is_ok());
+    assert!(rt; domain(rt.alloc(), "EXAMPLE.com", Profile::Standard).is_ok());
     Ok(())
 }

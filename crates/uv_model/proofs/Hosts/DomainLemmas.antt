@@ -202,7 +202,7 @@ pub wide_letter : (c : ℕ) → is_form_code_point Standard c ≡ true → is_fo
 wide_letter c h = grind (arith, nat_tests)
 
 -- a text of permitted code points
-wide_text : (text : List ℕ) → has_permitted Standard text ≡ true → has_permitted Wide text ≡ true
+pub wide_text : (text : List ℕ) → has_permitted Standard text ≡ true → has_permitted Wide text ≡ true
 unfolding has_permitted
 wide_text [] h = refl
 wide_text (c ∷ rest) h =
@@ -210,7 +210,7 @@ wide_text (c ∷ rest) h =
     and_from _ _ (wide_permitted c parts.0) (wide_text rest parts.1)
 
 -- a form of the standard profile is one of the wide profile
-wide_form : (text form : List ℕ) → IsForm Standard text form → IsForm Wide text form
+pub wide_form : (text form : List ℕ) → IsForm Standard text form → IsForm Wide text form
 wide_form text form is = record {
   permitted = wide_text text is.permitted;
   parsed = is.parsed;

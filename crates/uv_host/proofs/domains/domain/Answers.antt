@@ -11,9 +11,9 @@ pub is_number-requires : goal.is_number-requires
 is_number-requires c =
     let text = chars c.args.text.now in
     let form = cow_str_bytes c.in-Some.form in
-    let is : IsForm text form = rw c.in-Some.is at c.in_ok-form.ensures in
-    rw c.as_str.ensures.value (IsAscii-form text form is)
+    let is : IsForm c.args.profile text form = rw c.in-Some.is at c.in_ok-form.ensures in
+    rw c.as_str.ensures.value (IsAscii-form c.args.profile text form is)
 
 pub returns-then-is_plain-clause-refused : goal.returns-then-is_plain-clause-refused
 returns-then-is_plain-clause-refused c =
-    λ wrong. absurd (false≢true (sym wrong ∙ permitted_plain c.args.text.now (rw c.as_bytes.ensures.value at (c.is_plain.ensures c.if-is_plain.true))))
+    λ wrong. absurd (false≢true (sym wrong ∙ permitted_plain c.args.profile c.args.text.now (rw c.as_bytes.ensures.value at (c.is_plain.ensures c.if-is_plain.true))))

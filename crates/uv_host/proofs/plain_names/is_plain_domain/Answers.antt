@@ -7,7 +7,7 @@ pub is_number-requires : goal.is_number-requires
 is_number-requires c = chain_ascii c.args.name.now c.requires
 
 pub returns : goal.returns
-returns c = λ yes. (
-  chain_is_form c.args.name.now c.utf8.name c.requires c.if-name-gt63.false,
+returns c = λ profile yes. (
+  chain_is_form profile c.args.name.now c.utf8.name c.requires c.if-name-gt63.false,
   sym c.is_number.ensures ∙ c.if-is_number.false,
 )

@@ -1,12 +1,13 @@
--- The form of a text: what the two calls of ToASCII, the lengths and the comparison say.
+-- The form of a text by the standard profile: what the two calls of ToASCII, the lengths and the comparison say.
 use Rattle.std.proofs.Common.{chars, encode_utf8_all, ◌≡◌, ◌≢◌, true, false, option_map, Some, sym, ap, ◌∙◌}
 use Rattle.std.specs.Cow.{cow_str_bytes}
 use Rattle.std.proofs.lemmas.Bool.{false≢true}
 use Rattle.idna.specs.declared.deny_list.TheConstants.AsciiDenyList.{EMPTY}
 use Rattle.idna.specs.Uts46.{domain_to_ascii}
+use Rattle.uv_model.specs.declared.profile.Profile.TheVariants.{Standard}
 use Rattle.uv_model.specs.Hosts.Domain.{has_lengths, strict_form}
 use Rattle.uv_model.proofs.Hosts.DomainLemmas.{IsForm-from, not_strict, no_lengths, not_parsed, other_parsed}
-use Rattle.uv_host.proofs.domains.form_of.Goals as goal
+use Rattle.uv_host.proofs.domains.standard_form.Goals as goal
 
 pub returns-in_default : goal.returns-in_default
 returns-in_default c = not_strict _ (sym c.in_ok-form.ensures ∙ ap (option_map cow_str_bytes) c.in_default.is)
@@ -22,7 +23,7 @@ returns-then-not-has_lengths c =
     no_lengths text form strict wrong
 
 pub returns-in_default-2 : goal.returns-in_default-2
-returns-in_default-2 c = not_parsed _ (sym c.in_ok-parsed.ensures ∙ ap (option_map cow_str_bytes) c.in_default-2.is)
+returns-in_default-2 c = not_parsed Standard _ (sym c.in_ok-parsed.ensures ∙ ap (option_map cow_str_bytes) c.in_default-2.is)
 
 pub returns-then-is_same : goal.returns-then-is_same
 returns-then-is_same c =
