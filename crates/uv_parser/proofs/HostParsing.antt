@@ -11,3 +11,4 @@ pub mod Ipv4Taken
 pub mod HostParserLemmas
 pub mod HostsParsed
 pub mod OtherHostsTaken
+pub mod OtherHosts

@@ -1,5 +1,6 @@
 -- The laws of the parser's silence.
 pub mod Silence
 pub mod ValidTexts
+pub mod OtherHosts
 pub mod StepCounts
 pub mod RoundTrip

@@ -2,6 +2,7 @@
 ghost use Rattle.uv_parser.specs.HostParser.{DomainsAreParsed, EmptyHostIsParsed, Ipv4HostsAreParsed, Ipv6HostsAreParsed, OpaqueHostsAreParsed, OtherHostsAreTaken};
 ghost use Rattle.uv_parser.specs.Ipv4Parser.{Ipv4ParserTakesIpv4Texts, Ipv4TextsAreParsed};
 ghost use Rattle.uv_parser.specs.Ipv6Parser.{Ipv6ParserTakesIpv6Texts, Ipv6TextsAreParsed};
+ghost use Rattle.uv_parser.specs.Laws.OtherHosts.{SilentOtherHostsAreValid};
 ghost use Rattle.uv_parser.specs.Laws.Silence.{FileTextsRunSilently, OpaqueTextsRunSilently, OtherTextsRunSilently, SpecialTextsRunSilently};
 ghost use Rattle.uv_parser.specs.Rows.AddressParsers.{AddressParserRows};
 ghost use Rattle.uv_parser.specs.Rows.Denotation.{DenotationRows};
@@ -108,6 +109,12 @@ pub fn empty_host_is_parsed()
 /// opaque-host string without brackets, each as its host (URL Standard, section 3.5).
 pub fn other_hosts_are_taken()
     ensures { OtherHostsAreTaken }
+{}
+
+/// As the host of a URL of class Other the URL parser is silent exactly on what is valid there: an opaque-host string,
+/// an IPv6 text in brackets, or nothing (URL Standard, sections 3.4 and 4.4).
+pub fn silent_other_hosts_are_valid()
+    ensures { SilentOtherHostsAreValid }
 {}
 
 /// What the parser machine does on one text for each way in which it stops or is done (URL Standard, section 4.4).

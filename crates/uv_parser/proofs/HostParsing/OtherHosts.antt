@@ -1,0 +1,63 @@
+-- The parser is silent on the valid hosts of URLs of class Other alone.
+use Rattle.std.proofs.Common.{◌≡◌, ℕ, true, false, ◌==◌, List, [], ◌∷◌, Option, Some, None, refl, sym, ap, subst, inl, inr}
+use Rattle.std.specs.List.{list_all}
+use Rattle.std.proofs.lemmas.Bool.{and_parts}
+use Rattle.uv_model.specs.declared.host.Host.{Host}
+use Rattle.uv_model.specs.declared.host.Host.TheVariants.{Domain, V4, V6, Opaque, Empty}
+use Rattle.uv_model.specs.Ascii.{at_sign}
+use Rattle.uv_model.specs.Encoding.{encoded}
+use Rattle.uv_parser.specs.HostParser.{IsTakenOtherHost}
+use Rattle.uv_parser.specs.Laws.OtherHosts.{IsSilentOtherHost, IsValidOtherHost, SilentOtherHostsAreValid}
+use Rattle.uv_parser.specs.SilentTexts.{own_value}
+use Rattle.uv_model.specs.Path.{is_without}
+use Rattle.uv_model.specs.Valid.{IsOpaqueHostText}
+use Rattle.uv_parser.proofs.Loops.AuthorityLoops.{is_authority_letter, letter}
+use Rattle.uv_parser.proofs.Loops.HostTextsRead.{read_ipv6, read_opaque}
+use Rattle.uv_parser.proofs.HostParsing.OtherHostsTaken.{other_hosts_are_taken}
+
+-- what is read as an authority has no `@`
+no_at_sign : (text : List ℕ) → list_all (is_authority_letter true) text ≡ true → is_without at_sign text ≡ true
+no_at_sign [] letters = refl
+no_at_sign (c ∷ rest) letters =
+    let parts = and_parts (is_authority_letter true c) (list_all (is_authority_letter true) rest) letters in
+    let other : (c == at_sign) ≡ false = (letter true c parts.0).no_at_sign in
+    rw other (no_at_sign rest parts.1)
+
+-- a host that is taken is valid
+valid_host : (text : List ℕ) (value : Host) → IsTakenOtherHost text value → IsValidOtherHost text (own_value value)
+valid_host text value (inl (nothing, empty)) = inr (nothing, ap own_value empty)
+valid_host text value (inr (inl (pieces, bracketed, valued))) =
+    inl (subst (λ (host : Option Host). IsOpaqueHostText text host) (sym (ap own_value valued)) bracketed)
+valid_host text value (inr (inr (opaque, valued))) =
+    inl (subst (λ (host : Option Host). IsOpaqueHostText text host) (sym (ap own_value valued)) opaque)
+
+-- so is one on which the parser is silent
+silent_is_valid : (text : List ℕ) (host : Option Host) → IsSilentOtherHost text host → IsValidOtherHost text host
+silent_is_valid text host (value, without, parsed, valued) =
+    subst (λ (host : Option Host). IsValidOtherHost text host) (sym valued)
+    (valid_host text value ((other_hosts_are_taken text value).0 parsed))
+
+-- on a valid host the parser is silent
+valid_is_silent : (text : List ℕ) (host : Option Host) → IsValidOtherHost text host → IsSilentOtherHost text host
+valid_is_silent text host (inr (nothing, empty)) =
+    (Empty, rw nothing refl, (other_hosts_are_taken text Empty).1 (inl (nothing, refl)), empty)
+valid_is_silent text (Some (V6 pieces)) (inl is) = (
+  V6 pieces,
+  no_at_sign text (read_ipv6 text pieces is).as_host.letters,
+  (other_hosts_are_taken text (V6 pieces)).1 (inr (inl (pieces, is, refl))),
+  refl,
+)
+valid_is_silent text (Some (Domain form)) (inl is) = absurd is
+valid_is_silent text (Some (V4 value)) (inl is) = absurd is
+valid_is_silent text (Some (Opaque other)) (inl is) = absurd is
+valid_is_silent text (Some Empty) (inl is) = absurd is
+valid_is_silent text None (inl is) = (
+  Opaque (encoded false text),
+  no_at_sign text (read_opaque text is).as_host.letters,
+  (other_hosts_are_taken text (Opaque (encoded false text))).1 (inr (inr (is, refl))),
+  refl,
+)
+
+-- the two are one
+pub silent_other_hosts_are_valid : SilentOtherHostsAreValid
+silent_other_hosts_are_valid text host = (silent_is_valid text host, valid_is_silent text host)
