@@ -5,5 +5,6 @@ pub mod Loops
 pub mod Silence
 pub mod Decided
 pub mod Done
+pub mod Differences
 pub mod Counting
 pub mod RoundTrip

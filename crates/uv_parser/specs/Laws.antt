@@ -2,5 +2,6 @@
 pub mod Silence
 pub mod ValidTexts
 pub mod OtherHosts
+pub mod Differences
 pub mod StepCounts
 pub mod RoundTrip

@@ -1,4 +1,5 @@
 //! Laws of the texts on which the URL parser is silent, each as the clause of a function that does nothing.
+ghost use Rattle.uv_parser.specs.Laws.Differences.{SilentTextsAreValidOrDiffer};
 ghost use Rattle.uv_parser.specs.Laws.ValidTexts.{SilentPartsAreUnique, ValidTextsAreSilent, ValidTextsRunSilently};
 
 /// The parser's grammar takes every valid text, against every base and none, with the same parts (URL Standard,
@@ -17,4 +18,11 @@ pub fn valid_texts_run_silently()
 /// each part (URL Standard, section 4.4).
 pub fn parts_of_a_silent_text_are_unique()
     ensures { SilentPartsAreUnique }
+{}
+
+/// Every text on which the parser is silent is valid with the same parts, or it has a difference with a name: a foreign
+/// host, an empty first segment behind an authority, a drive letter behind a host, or an empty authority of a file URL
+/// with no path; and with a difference it has no valid parts (URL Standard, sections 4.3 and 4.4).
+pub fn silent_texts_are_valid_or_differ()
+    ensures { SilentTextsAreValidOrDiffer }
 {}

@@ -45,7 +45,7 @@ digit_below : (c : ℕ) → is_ascii_hexdigit c ≡ true → digit_value c < 16
 digit_below c h = grind (arith, nat_tests)
 
 -- a code point of a value below 16 is a hex digit
-hex_digit : (c : ℕ) → digit_value c < 16 → is_ascii_hexdigit c ≡ true
+pub hex_digit : (c : ℕ) → digit_value c < 16 → is_ascii_hexdigit c ≡ true
 hex_digit c h = grind (arith, nat_tests)
 
 -- hex digits are digits of radix 16

@@ -224,11 +224,11 @@ path_start_alone setting cut none start bare place DriveAfterHost (kind, some, d
 path_start_alone setting cut none start bare place _ h = h
 
 -- what is judged has no complaint
-record IsFaultless (setting : Setting) (parts : Parts) : Type 0 where
-  host : (place : ℕ) (rule : Rule) → HostPartComplaint setting (texts_of parts) place rule → ⊥
-  port : (place : ℕ) (rule : Rule) → PortPartComplaint (texts_of parts) place rule → ⊥
-  start : (place : ℕ) (rule : Rule) → PathStartComplaint setting (texts_of parts) place rule → ⊥
-  units : IsUnits parts.path_text
+pub record IsFaultless (setting : Setting) (parts : Parts) : Type 0 where
+  pub host : (place : ℕ) (rule : Rule) → HostPartComplaint setting (texts_of parts) place rule → ⊥
+  pub port : (place : ℕ) (rule : Rule) → PortPartComplaint (texts_of parts) place rule → ⊥
+  pub start : (place : ℕ) (rule : Rule) → PathStartComplaint setting (texts_of parts) place rule → ⊥
+  pub units : IsUnits parts.path_text
 
 faultless_with : (setting : Setting) (parts : Parts) → FitsHostText setting parts parts.host_text
     → IsFaultless setting parts
@@ -265,7 +265,8 @@ reference_drive None (Some scheme) path none is kind host = absurd host
 reference_drive (Some url) None path none is kind host = is kind host
 reference_drive (Some url) (Some scheme) path none is kind host = absurd host
 
-faultless_form : (profile : Profile) (base : Option Url) (form : Form) (parts : Parts)
+-- in each form
+pub faultless_form : (profile : Profile) (base : Option Url) (form : Form) (parts : Parts)
     → FitsForm (setting_of profile base parts.scheme) form parts
     → FitsScheme (has_scheme form) parts.scheme → IsFaultless (setting_of profile base parts.scheme) parts
 faultless_form profile base SchemeAuthority parts is scheme =

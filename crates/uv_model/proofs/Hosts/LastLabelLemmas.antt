@@ -72,7 +72,7 @@ pub without_root-other : (front : List ℕ) (c : ℕ) → is_full_stop c ≡ fal
 without_root-other front c other = rw (last_of front c, other) refl
 
 -- a text is empty, or has a last code point
-from_end : (text : List ℕ) → (text ≡ []) ⊎ ((front : List ℕ) × (c : ℕ) × (text ≡ front ++ c ∷ []))
+pub from_end : (text : List ℕ) → (text ≡ []) ⊎ ((front : List ℕ) × (c : ℕ) × (text ≡ front ++ c ∷ []))
 from_end [] = inl refl
 from_end (c ∷ text) =
     elim (from_end text) [

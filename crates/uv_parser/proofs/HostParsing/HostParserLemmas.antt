@@ -47,7 +47,7 @@ percent_decode-plain (b ∷ bytes) none =
     ∙ ap (λ xs. b ∷ xs) (percent_decode-plain bytes (All-tail (λ x. x ≢ percent_sign) b bytes none))
 
 -- UTF-8 brings in no `%`
-no_percent-encoded : (text : List ℕ) → All (λ c. c ≢ percent_sign) text →
+pub no_percent-encoded : (text : List ℕ) → All (λ c. c ≢ percent_sign) text →
     All (λ b. b ≢ percent_sign) (encode_utf8_all text)
 no_percent-encoded text none = All-encoded (λ c. c ≢ percent_sign) (λ b high e. absurd (omega arith)) text none
 
@@ -58,7 +58,7 @@ chars-encoded text utf8 =
     ap chars (sym spelled) ∙ chars-encodes scalar scalars ∙ encodes_same scalar text spelled
 
 -- a text of scalar values without `%` is read back as it is
-percent_decoded-plain : (text : List ℕ) → All (λ c. c ≢ percent_sign) text → is_utf8 (encode_utf8_all text) ≡ true →
+pub percent_decoded-plain : (text : List ℕ) → All (λ c. c ≢ percent_sign) text → is_utf8 (encode_utf8_all text) ≡ true →
     percent_decoded text ≡ Some text
 percent_decoded-plain text none utf8 =
     let same = percent_decode-plain (encode_utf8_all text) (no_percent-encoded text none) in
@@ -110,7 +110,7 @@ not_bracket profile c rest h = first profile (and_parts (is_permitted profile c)
     first Wide permitted = grind (arith, nat_tests)
 
 -- a permitted text has no `%`
-no_percent-permitted : (profile : Profile) (text : List ℕ) → has_permitted profile text ≡ true →
+pub no_percent-permitted : (profile : Profile) (text : List ℕ) → has_permitted profile text ≡ true →
     All (λ c. c ≢ percent_sign) text
 unfolding has_permitted
 no_percent-permitted profile text h =

@@ -1,7 +1,7 @@
 -- What the host parser makes of a valid host text: its value, and the parser machine reads the whole text.
-use Rattle.std.proofs.Common.{◌≡◌, ℕ, suc, true, false, ◌==◌, List, [], ◌∷◌, length, Option, Some, None, refl, ne_eqb, arith}
+use Rattle.std.proofs.Common.{◌≡◌, ◌≢◌, ℕ, suc, true, false, ◌==◌, List, [], ◌∷◌, length, Option, Some, None, refl, sym, ap, ◌∙◌, ne_eqb, arith}
 use Rattle.std.specs.List.{list_all}
-use Rattle.std.proofs.lemmas.Bool.{and_parts, and_left, and_right}
+use Rattle.std.proofs.lemmas.Bool.{and_parts, and_left, and_right, true≢false}
 use Rattle.uv_parser.proofs.Running.Unremoved.{is_unremoved}
 use Rattle.uv_model.specs.declared.profile.Profile.{Profile}
 use Rattle.uv_model.specs.declared.host.Host.{Host}
@@ -29,8 +29,13 @@ unfolding parse_host
 parsed_some [] value parsed = absurd cc
 parsed_some (c ∷ rest) value parsed = has_some (c ∷ rest) c rest refl
 
+-- so it is another text than the empty one
+pub parsed_not_empty : (text : List ℕ) (value : Host) → parse_host true text ≡ Some value → text ≢ []
+parsed_not_empty text value parsed nothing =
+    true≢false (sym (ap (λ t. length t == 0) nothing) ∙ parsed_some text value parsed)
+
 -- a host text that is read whole holds no `@`
-read_without_at : (cs : List ℕ) → list_all (is_authority_letter true) cs ≡ true → is_without at_sign cs ≡ true
+pub read_without_at : (cs : List ℕ) → list_all (is_authority_letter true) cs ≡ true → is_without at_sign cs ≡ true
 read_without_at [] is = refl
 read_without_at (c ∷ cs) is =
     let parts = and_parts (is_authority_letter true c) (list_all (is_authority_letter true) cs) is in

@@ -1,27 +1,15 @@
 -- The parser is silent on the valid hosts of URLs of class Other alone.
-use Rattle.std.proofs.Common.{◌≡◌, ℕ, true, false, ◌==◌, List, [], ◌∷◌, Option, Some, None, refl, sym, ap, subst, inl, inr}
-use Rattle.std.specs.List.{list_all}
-use Rattle.std.proofs.lemmas.Bool.{and_parts}
+use Rattle.std.proofs.Common.{◌≡◌, ℕ, false, List, [], Option, Some, None, refl, sym, ap, subst, inl, inr}
 use Rattle.uv_model.specs.declared.host.Host.{Host}
 use Rattle.uv_model.specs.declared.host.Host.TheVariants.{Domain, V4, V6, Opaque, Empty}
-use Rattle.uv_model.specs.Ascii.{at_sign}
 use Rattle.uv_model.specs.Encoding.{encoded}
 use Rattle.uv_parser.specs.HostParser.{IsTakenOtherHost}
 use Rattle.uv_parser.specs.Laws.OtherHosts.{IsSilentOtherHost, IsValidOtherHost, SilentOtherHostsAreValid}
 use Rattle.uv_parser.specs.SilentTexts.{own_value}
-use Rattle.uv_model.specs.Path.{is_without}
 use Rattle.uv_model.specs.Valid.{IsOpaqueHostText}
-use Rattle.uv_parser.proofs.Loops.AuthorityLoops.{is_authority_letter, letter}
+use Rattle.uv_parser.proofs.HostParsing.HostsParsed.{read_without_at}
 use Rattle.uv_parser.proofs.Loops.HostTextsRead.{read_ipv6, read_opaque}
 use Rattle.uv_parser.proofs.HostParsing.OtherHostsTaken.{other_hosts_are_taken}
-
--- what is read as an authority has no `@`
-no_at_sign : (text : List ℕ) → list_all (is_authority_letter true) text ≡ true → is_without at_sign text ≡ true
-no_at_sign [] letters = refl
-no_at_sign (c ∷ rest) letters =
-    let parts = and_parts (is_authority_letter true c) (list_all (is_authority_letter true) rest) letters in
-    let other : (c == at_sign) ≡ false = (letter true c parts.0).no_at_sign in
-    rw other (no_at_sign rest parts.1)
 
 -- a host that is taken is valid
 valid_host : (text : List ℕ) (value : Host) → IsTakenOtherHost text value → IsValidOtherHost text (own_value value)
@@ -43,7 +31,7 @@ valid_is_silent text host (inr (nothing, empty)) =
     (Empty, rw nothing refl, (other_hosts_are_taken text Empty).1 (inl (nothing, refl)), empty)
 valid_is_silent text (Some (V6 pieces)) (inl is) = (
   V6 pieces,
-  no_at_sign text (read_ipv6 text pieces is).as_host.letters,
+  read_without_at text (read_ipv6 text pieces is).letters,
   (other_hosts_are_taken text (V6 pieces)).1 (inr (inl (pieces, is, refl))),
   refl,
 )
@@ -53,7 +41,7 @@ valid_is_silent text (Some (Opaque other)) (inl is) = absurd is
 valid_is_silent text (Some Empty) (inl is) = absurd is
 valid_is_silent text None (inl is) = (
   Opaque (encoded false text),
-  no_at_sign text (read_opaque text is).as_host.letters,
+  read_without_at text (read_opaque text is).letters,
   (other_hosts_are_taken text (Opaque (encoded false text))).1 (inr (inr (is, refl))),
   refl,
 )

@@ -36,7 +36,7 @@ bracket_is_some [] is = absurd (false≢true is)
 bracket_is_some (c ∷ text) is = omega arith
 
 -- behind `[` an IPv6 text and `]` are taken
-bracketed_taken : (inner : List ℕ) (value : Host) → parse_bracketed inner ≡ Some value
+pub bracketed_taken : (inner : List ℕ) (value : Host) → parse_bracketed inner ≡ Some value
     → (pieces : List ℕ) × IsBracketedIpv6 (left_bracket ∷ inner) pieces × (value ≡ V6 pieces)
 bracketed_taken inner value e =
     let closed = fails_where_false (slice_index inner (length inner - 1) == right_bracket) e in

@@ -1,7 +1,6 @@
 -- The parts of a text on which the parser is silent are unique: each follows from the texts into which the text is cut.
-use Rattle.std.proofs.Common.{◌≡◌, ℕ, true, false, ◌==◌, List, [], Option, Some, None, length, refl, sym, ap, ◌∙◌, inl, inr, ◌⊎◌}
+use Rattle.std.proofs.Common.{◌≡◌, ℕ, true, false, List, [], Option, Some, None, refl, sym, ap, ◌∙◌, inl, inr, ◌⊎◌}
 use Rattle.std.specs.Prelude.{IsSome}
-use Rattle.std.proofs.lemmas.Bool.{true≢false}
 use Rattle.uv_model.specs.declared.host.Host.{Host}
 use Rattle.uv_model.specs.declared.host.Host.TheVariants.{Empty}
 use Rattle.uv_model.specs.declared.scheme.Class.{Class}
@@ -17,7 +16,7 @@ use Rattle.uv_model.specs.Scheme.{default_port}
 use Rattle.uv_model.specs.Records.Url.{Url}
 use Rattle.uv_model.specs.Valid.{FitsScheme, HasNoAuthority, port_given, scheme_in}
 use Rattle.uv_model.proofs.Cuts.CutLemmas.{cut_is_computed}
-use Rattle.uv_parser.proofs.HostParsing.HostsParsed.{parsed_some}
+use Rattle.uv_parser.proofs.HostParsing.HostsParsed.{parsed_not_empty}
 use Rattle.uv_model.proofs.Cuts.UniqueParts.{absolute_segments, alone_form, authority_form, form_of, joined_segments, no_port, relative_form, relative_segments, same_parts, segments_behind, segments_of}
 
 -- ---- the host
@@ -37,11 +36,6 @@ same_host parsed a b is is' = same_value (sym is ∙ is')
     same_value : {x y : Host} → Some x ≡ Some y → x ≡ y
     same_value e = cc
 
--- the empty text is no host of a file URL
-taken_not_empty : (text : List ℕ) (value : Host) → IsTakenFileHost text value → text ≡ [] → ⊥
-taken_not_empty text value is nothing =
-    true≢false (sym (ap (λ t. length t == 0) nothing) ∙ parsed_some text is.host is.parsed)
-
 -- so a host text has one host
 one_taken_host : (kind : Class) (text : Option (List ℕ)) (host other : Option Host) → HasTakenHost kind text host
     → HasTakenHost kind text other → host ≡ other
@@ -52,9 +46,9 @@ one_taken_host File (Some text) host other (inl (a, is, e)) (inl (b, is', e')) =
     let same = same_host (parse_host true text) is.host is'.host is.parsed is'.parsed in
     e ∙ (ap Some (is.valued ∙ (ap file_host same ∙ sym is'.valued)) ∙ sym e')
 one_taken_host File (Some text) host other (inl (a, is, e)) (inr (nothing, e')) =
-    absurd (taken_not_empty text a is nothing)
+    absurd (parsed_not_empty text is.host is.parsed nothing)
 one_taken_host File (Some text) host other (inr (nothing, e)) (inl (b, is', e')) =
-    absurd (taken_not_empty text b is' nothing)
+    absurd (parsed_not_empty text is'.host is'.parsed nothing)
 one_taken_host File (Some text) host other (inr (nothing, e)) (inr (nothing', e')) = e ∙ sym e'
 one_taken_host Other (Some text) host other (a, is, e) (b, is', e') =
     e ∙ (ap own_value (same_host (parse_host false text) a b is is') ∙ sym e')

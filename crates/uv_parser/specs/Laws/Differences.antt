@@ -1,0 +1,88 @@
+-- Where the texts on which the URL parser (URL Standard, section 4.4) is silent are no valid URL strings (sections 3.4
+-- and 4.3): the differences, each by its name, and the law that there are no others.
+use Rattle.std.specs.Prelude.{◌≡◌, ◌≢◌, ℕ, ◌⊎◌, true, false, List, [], Option, Some, IsSome}
+use Rattle.uv_model.specs.declared.profile.Profile.TheVariants.{Standard}
+use Rattle.uv_model.specs.declared.host.Host.{Host}
+use Rattle.uv_model.specs.declared.host.Host.TheVariants.{Domain, V4}
+use Rattle.uv_model.specs.declared.scheme.Class.TheVariants.{File, Other}
+use Rattle.uv_model.specs.Hosts.Address.{IsIpv4}
+use Rattle.uv_model.specs.Complaints.Complaint.{HasHost}
+use Rattle.uv_model.specs.Cut.{class_in, starts_with_two_slashes}
+use Rattle.uv_model.specs.Hosts.Domain.{has_lengths, has_permitted, strict_form}
+use Rattle.uv_parser.specs.HostParser.{parse_host}
+use Rattle.uv_parser.specs.SilentTexts.{Silent}
+use Rattle.uv_model.specs.Parts.{Parts}
+use Rattle.uv_model.specs.Path.{starts_with_drive}
+use Rattle.uv_model.specs.Records.Url.{Url}
+use Rattle.uv_model.specs.Valid.{Valid}
+
+-- ---- the host of a special URL or of a file URL
+
+-- an ASCII code point of the text is no letter, digit, hyphen or full stop, as `_` or the `%` of an escape (section 3.4)
+abbrev pub HasForeignCodePoint : List ℕ → Type 0
+HasForeignCodePoint text = has_permitted Standard text ≡ false
+
+-- ToASCII at the strict settings doesn't give the form, as where a label begins with a hyphen, or where a code point is
+-- mapped to a foreign one (section 3.4; UTS #46, section 4)
+abbrev pub LacksStrictForm : List ℕ → List ℕ → Type 0
+LacksStrictForm text form = strict_form text ≢ Some form
+
+-- a label of the form is empty or too long, or the whole form is (UTS #46, section 4)
+abbrev pub HasWrongLengths : List ℕ → Type 0
+HasWrongLengths form = has_lengths form ≡ false
+
+-- the text, of which an address is made, is no IPv4 text itself: it is mapped to one (section 3.5)
+abbrev pub IsMappedToIpv4 : List ℕ → Type 0
+IsMappedToIpv4 text = (value : ℕ) → ¬ (IsIpv4 text value)
+
+-- what a text with this host can have that a valid host text hasn't; an IPv6 text in brackets has nothing
+abbrev pub HostDiffers : List ℕ → Host → Type 0
+HostDiffers text (Domain form) = HasForeignCodePoint text ⊎ (LacksStrictForm text form ⊎ HasWrongLengths form)
+HostDiffers text (V4 value) = IsMappedToIpv4 text
+HostDiffers text _ = ⊥
+
+-- The host parser takes the host text of a special URL or of a file URL, which is no valid host text.
+pub record HasForeignHost (base : Option Url) (parts : Parts) : Type 0 where
+  pub kind : class_in base parts.scheme ≢ Other
+  pub text : List ℕ
+  pub given : parts.host_text ≡ Some text
+  pub host : Host
+  pub parsed : parse_host true text ≡ Some host
+  pub differs : HostDiffers text host
+
+-- ---- the path
+
+-- behind an authority the path begins with an empty segment, so with `//` (section 4.3, path-absolute-URL string)
+abbrev pub HasEmptyFirstSegment : Parts → Type 0
+HasEmptyFirstSegment parts = IsSome parts.host_text × (starts_with_two_slashes parts.path_text ≡ true)
+
+-- a file URL's path begins with a drive letter behind a host: the text's, or without a scheme and an authority the base's
+-- (section 4.3, path-absolute-non-Windows-file-URL string)
+abbrev pub HasDriveBehindHost : Option Url → Parts → Type 0
+HasDriveBehindHost base parts =
+    (class_in base parts.scheme ≡ File) × HasHost base parts.scheme parts.host_text
+    × (starts_with_drive parts.path_text ≡ true)
+
+-- nothing follows the `//` of a file URL before its query and its fragment (section 4.3, scheme-relative-file-URL string)
+abbrev pub HasEmptyAuthority : Option Url → Parts → Type 0
+HasEmptyAuthority base parts =
+    (class_in base parts.scheme ≡ File) × (parts.host_text ≡ Some []) × (parts.path_text ≡ [])
+
+-- ---- the law
+
+-- a difference of the two grammars
+abbrev pub Differs : Option Url → Parts → Type 0
+Differs base parts =
+    HasForeignHost base parts
+    ⊎ (HasEmptyFirstSegment parts ⊎ (HasDriveBehindHost base parts ⊎ HasEmptyAuthority base parts))
+
+-- A text on which the parser is silent is valid with the same parts, or it has a difference, and then it has no valid
+-- parts.
+pub record IsValidOrDiffers (base : Option Url) (text : List ℕ) (parts : Parts) : Type 0 where
+  pub either : Valid Standard base text parts ⊎ Differs base parts
+  pub never_both : Differs base parts → (other : Parts) → ¬ (Valid Standard base text other)
+
+-- every text on which the parser is silent, against every base and none, is valid exactly where it has no difference
+abbrev pub SilentTextsAreValidOrDiffer : Type 0
+SilentTextsAreValidOrDiffer =
+    (base : Option Url) (text : List ℕ) (parts : Parts) → Silent base text parts → IsValidOrDiffers base text parts
