@@ -192,18 +192,18 @@ no_scheme_alone text none =
     ]
 
 -- a host and a port that are those of the class
-pub splits_host : (kind : Class) (authority host : List ℕ) (port : Option (List ℕ)) → host ≡ host_cut kind authority
-    → port ≡ port_cut kind authority → SplitsHost kind authority host port
-splits_host kind authority host port is_host is_port =
-    rw (is_host, is_port) (record { joined = written_host_cut kind authority; host = host_cut-is kind authority })
+pub splits_host : (class : Class) (authority host : List ℕ) (port : Option (List ℕ)) → host ≡ host_cut class authority
+    → port ≡ port_cut class authority → SplitsHost class authority host port
+splits_host class authority host port is_host is_port =
+    rw (is_host, is_port) (record { joined = written_host_cut class authority; host = host_cut-is class authority })
 
 -- the class isn't File
-pub splits_before_port : (kind : Class) (authority host : List ℕ) (port : Option (List ℕ))
-    → ((kind ≡ Special) ⊎ (kind ≡ Other)) → host ≡ host_before false authority
-    → port ≡ port_behind false authority → SplitsHost kind authority host port
-splits_before_port kind authority host port (inl same) is_host is_port =
+pub splits_before_port : (class : Class) (authority host : List ℕ) (port : Option (List ℕ))
+    → ((class ≡ Special) ⊎ (class ≡ Other)) → host ≡ host_before false authority
+    → port ≡ port_behind false authority → SplitsHost class authority host port
+splits_before_port class authority host port (inl same) is_host is_port =
     rw same (splits_host Special authority host port is_host is_port)
-splits_before_port kind authority host port (inr same) is_host is_port =
+splits_before_port class authority host port (inr same) is_host is_port =
     rw same (splits_host Other authority host port is_host is_port)
 
 -- a text whose front before the first `:` is no scheme is a rest alone

@@ -22,9 +22,9 @@ use Rattle.uv_model.proofs.Texts.MarkLemmas.{is_without-cons, is_without-parts}
 use Rattle.uv_model.proofs.Complaints.UnitComplaintLemmas.{units_uncomplained}
 use Rattle.uv_model.proofs.Cuts.ValidCutLemmas.{written_as_cut}
 use Rattle.uv_grammar.specs.Built.{built, form_of, form_with, pieces, segments_in, segments_of}
-use Rattle.uv_grammar.specs.HostAnswer.{FitsHost}
-use Rattle.uv_grammar.specs.Later.{FromPathStart}
-use Rattle.uv_grammar.specs.PartAnswers.{FitsHostPart, FitsPortPart}
+use Rattle.uv_grammar.specs.HostValues.{FitsHost}
+use Rattle.uv_grammar.specs.PartComplaints.{BehindAuthority}
+use Rattle.uv_grammar.specs.PartValues.{FitsHostPart, FitsPortPart}
 use Rattle.uv_grammar.proofs.SegmentLemmas.{path_absolute, path_relative, relative_path}
 
 -- ---- what the absence of complaints says
@@ -46,7 +46,7 @@ no_complaint_units start (Some text) none =
     (λ place rule h. none (start + place) rule (record { inner = place; moved = refl; holds = h }))
 
 -- from no complaint to what it says
-quiet : (base : Option Url) (cut : Cut) → IsLeast (FromPathStart base cut) None → IsQuiet base cut
+quiet : (base : Option Url) (cut : Cut) → IsLeast (BehindAuthority base cut) None → IsQuiet base cut
 quiet base cut none = record {
   one_slash = elim (cases_Bool (starts_with_two_slashes cut.path_text)) [
     | inl two ↦
@@ -373,7 +373,7 @@ base_fits (Some url) text cut host port is started = elim (scheme_or_none cut.sc
 -- complaint.
 pub valid_built : (base : Option Url) (text : List ℕ) (cut : Cut) (host : Option Host) (port : Option ℕ)
     → IsCut base text cut → IsStarted base text cut → FitsHostPart base cut host → FitsPortPart base cut port
-    → IsLeast (FromPathStart base cut) None → Valid base text (built cut host port)
+    → IsLeast (BehindAuthority base cut) None → Valid base text (built cut host port)
 valid_built base text cut host port is started fits_host fits_port silent =
     let q = quiet base cut silent in
     record {

@@ -27,9 +27,10 @@ use Rattle.uv_model.specs.Valid.{IsFileHostText, IsHostText}
 use Rattle.uv_model.proofs.Addresses.AddressUniqueness.{ipv4_no_bracket, bracketed_bracket}
 use Rattle.uv_model.proofs.Hosts.DomainLemmas.{domain_no_number}
 use Rattle.uv_model.proofs.Complaints.RefusalLemmas.{IsLeast-like}
-use Rattle.uv_grammar.specs.declared.host.HostAnswer.{HostAnswer}
-use Rattle.uv_grammar.specs.declared.host.HostAnswer.TheVariants.{Valid, Refused}
-use Rattle.uv_grammar.specs.HostAnswer.{IsHeldAnswer, IsHostAnswer, file_host}
+use Rattle.uv_grammar.specs.declared.judged.Judged.{Judged}
+use Rattle.uv_grammar.specs.declared.judged.Judged.TheVariants.{Valid, Refused}
+use Rattle.uv_grammar.specs.HostValues.{FitsHost, FitsSomeHost, without_localhost}
+use Rattle.uv_grammar.specs.Judged.{IsJudged}
 
 -- ---- the empty host
 
@@ -39,7 +40,7 @@ nothing_at zero c rest same = cc
 nothing_at (suc place) c rest same = cc
 
 -- an empty text violates no rule by what it holds
-pub nothing_held : (kind : Class) (place : ℕ) (rule : Rule) → HeldHostComplaint kind [] place rule → ⊥
+pub nothing_held : (class : Class) (place : ℕ) (rule : Rule) → HeldHostComplaint class [] place rule → ⊥
 nothing_held Special place HostDomain h = h.0.0.some refl
 nothing_held Special place HostNumber h = h.0.0.some refl
 nothing_held Special place HostIpv6 h = false≢true h.0.bracket
@@ -54,66 +55,66 @@ nothing_held Other place Percent h = nothing_at place percent_sign h.1.rest h.1.
 nothing_held Other place _ h = absurd h
 
 -- the rules of an empty host are that of a missing one
-pub empty_rule : (kind : Class) (port_text : Option (List ℕ)) (path_text : List ℕ) (place : ℕ) (rule : Rule)
-    → HostComplaint kind [] port_text path_text place rule
-    → (rule ≡ HostMissing) × LacksHost kind [] port_text path_text × (place ≡ 0)
-empty_rule kind port_text path_text place HostMissing h = (refl, h.0, h.1)
-empty_rule kind port_text path_text place rule h = absurd (nothing_held kind place rule h)
+pub empty_rule : (class : Class) (port_text : Option (List ℕ)) (path_text : List ℕ) (place : ℕ) (rule : Rule)
+    → HostComplaint class [] port_text path_text place rule
+    → (rule ≡ HostMissing) × LacksHost class [] port_text path_text × (place ≡ 0)
+empty_rule class port_text path_text place HostMissing h = (refl, h.0, h.1)
+empty_rule class port_text path_text place rule h = absurd (nothing_held class place rule h)
 
 -- a missing host
-pub missing_host : (kind : Class) (port_text : Option (List ℕ)) (path_text : List ℕ)
-    → LacksHost kind [] port_text path_text
-    → IsLeast (HostComplaint kind [] port_text path_text) (Some (record { place = 0; rule = HostMissing }))
-missing_host kind port_text path_text lacks = record {
+pub missing_host : (class : Class) (port_text : Option (List ℕ)) (path_text : List ℕ)
+    → LacksHost class [] port_text path_text
+    → IsLeast (HostComplaint class [] port_text path_text) (Some (record { place = 0; rule = HostMissing }))
+missing_host class port_text path_text lacks = record {
   stands = (lacks, refl);
   first = λ place rule h. omega arith;
-  lowest = λ rule h. let e = (empty_rule kind port_text path_text 0 rule h).0 in rw e (le_refl 4);
+  lowest = λ rule h. let e = (empty_rule class port_text path_text 0 rule h).0 in rw e (le_refl 4);
 }
 
 -- an empty host that may be so
-pub empty_silent : (kind : Class) (port_text : Option (List ℕ)) (path_text : List ℕ)
-    → ¬ (LacksHost kind [] port_text path_text)
-    → IsLeast (HostComplaint kind [] port_text path_text) None
-empty_silent kind port_text path_text not place rule h = not (empty_rule kind port_text path_text place rule h).1
+pub empty_silent : (class : Class) (port_text : Option (List ℕ)) (path_text : List ℕ)
+    → ¬ (LacksHost class [] port_text path_text)
+    → IsLeast (HostComplaint class [] port_text path_text) None
+empty_silent class port_text path_text not place rule h = not (empty_rule class port_text path_text place rule h).1
 
 -- ---- a host that isn't empty
 
 -- what it holds violates no rule of a missing host
-held_not_missing : (kind : Class) (text : List ℕ) (place : ℕ) → HeldHostComplaint kind text place HostMissing → ⊥
+held_not_missing : (class : Class) (text : List ℕ) (place : ℕ) → HeldHostComplaint class text place HostMissing → ⊥
 held_not_missing Special text place h = h.0
 held_not_missing File text place h = h.0
 held_not_missing Other text place h = h
 
-lacks_nothing : (kind : Class) (text : List ℕ) (port_text : Option (List ℕ)) (path_text : List ℕ) → text ≢ []
-    → LacksHost kind text port_text path_text → ⊥
+lacks_nothing : (class : Class) (text : List ℕ) (port_text : Option (List ℕ)) (path_text : List ℕ) → text ≢ []
+    → LacksHost class text port_text path_text → ⊥
 lacks_nothing Special text port_text path_text some h = some h
 lacks_nothing File text port_text path_text some h = some h.0
 lacks_nothing Other text port_text path_text some h = some h.0
 
-held_to : (kind : Class) (text : List ℕ) (port_text : Option (List ℕ)) (path_text : List ℕ) (place : ℕ) (rule : Rule)
-    → HeldHostComplaint kind text place rule → HostComplaint kind text port_text path_text place rule
-held_to kind text port_text path_text place HostMissing h = absurd (held_not_missing kind text place h)
-held_to kind text port_text path_text place _ h = h
+pub held_to : (class : Class) (text : List ℕ) (port_text : Option (List ℕ)) (path_text : List ℕ) (place : ℕ) (rule : Rule)
+    → HeldHostComplaint class text place rule → HostComplaint class text port_text path_text place rule
+held_to class text port_text path_text place HostMissing h = absurd (held_not_missing class text place h)
+held_to class text port_text path_text place _ h = h
 
-held_from : (kind : Class) (text : List ℕ) (port_text : Option (List ℕ)) (path_text : List ℕ) → text ≢ []
+pub held_from : (class : Class) (text : List ℕ) (port_text : Option (List ℕ)) (path_text : List ℕ) → text ≢ []
     → (place : ℕ) (rule : Rule)
-    → HostComplaint kind text port_text path_text place rule → HeldHostComplaint kind text place rule
-held_from kind text port_text path_text some place HostMissing h =
-    absurd (lacks_nothing kind text port_text path_text some h.0)
-held_from kind text port_text path_text some place _ h = h
+    → HostComplaint class text port_text path_text place rule → HeldHostComplaint class text place rule
+held_from class text port_text path_text some place HostMissing h =
+    absurd (lacks_nothing class text port_text path_text some h.0)
+held_from class text port_text path_text some place _ h = h
 
 -- the answer on what a host holds is the answer on the host
-pub held_answer : (kind : Class) (text : List ℕ) (port_text : Option (List ℕ)) (path_text : List ℕ) → text ≢ []
-    → (answer : HostAnswer)
-    → IsHeldAnswer kind text answer → IsHostAnswer kind text port_text path_text answer
-held_answer kind text port_text path_text some (Valid host) is = (
+pub held_answer : (class : Class) (text : List ℕ) (port_text : Option (List ℕ)) (path_text : List ℕ) → text ≢ []
+    → (answer : Judged (Option Host)) → IsJudged (FitsSomeHost class text) (HeldHostComplaint class text) answer
+    → IsJudged (FitsHost class text port_text path_text) (HostComplaint class text port_text path_text) answer
+held_answer class text port_text path_text some (Valid host) is = (
   inl (some, is.0),
-  IsLeast-like (HeldHostComplaint kind text) (HostComplaint kind text port_text path_text)
-      (held_to kind text port_text path_text) (held_from kind text port_text path_text some) None is.1,
+  IsLeast-like (HeldHostComplaint class text) (HostComplaint class text port_text path_text)
+      (held_to class text port_text path_text) (held_from class text port_text path_text some) None is.1,
 )
-held_answer kind text port_text path_text some (Refused refusal) is =
-    IsLeast-like (HeldHostComplaint kind text) (HostComplaint kind text port_text path_text)
-    (held_to kind text port_text path_text) (held_from kind text port_text path_text some) (Some refusal) is
+held_answer class text port_text path_text some (Refused refusal) is =
+    IsLeast-like (HeldHostComplaint class text) (HostComplaint class text port_text path_text)
+    (held_to class text port_text path_text) (held_from class text port_text path_text some) (Some refusal) is
 
 -- ---- the host strings of special and file URLs
 
@@ -169,7 +170,7 @@ fault_least text rule h = record {
 }
 
 -- the host that a file URL has
-pub file_host_fits : (text : List ℕ) (host : Host) → IsHostText text host → IsFileHostText text (file_host host)
+pub file_host_fits : (text : List ℕ) (host : Host) → IsHostText text host → IsFileHostText text (without_localhost host)
 file_host_fits text (Domain form) is = elim (cases_Bool (bytes_eq form (codes "localhost"))) [
   | inl same ↦ rw same (subst (λ (f : List ℕ). IsDomain text f) ((bytes_eq-Decides form (codes "localhost")).0 same) is)
   | inr other ↦
@@ -186,19 +187,19 @@ file_host_fits text Empty is = absurd is
 
 -- ---- answers on host strings
 
--- the answer of a special URL
-pub special_answer : (text : List ℕ) (host : Host) → IsHostText text host
-    → IsHeldAnswer Special text (Valid (Some host))
-special_answer text host is = (is, λ place rule h. valid_text_silent text host rule is h.0)
+-- the answer on a valid host string
+pub text_answer : (text : List ℕ) (host : Host) → IsHostText text host
+    → IsJudged (IsHostText text) (HeldHostComplaint Special text) (Valid host)
+text_answer text host is = (is, λ place rule h. valid_text_silent text host rule is h.0)
 
 -- the answer of a file URL
 pub file_answer : (text : List ℕ) (host : Host) → IsHostText text host
-    → IsHeldAnswer File text (Valid (Some (file_host host)))
+    → IsJudged (FitsSomeHost File text) (HeldHostComplaint File text) (Valid (Some (without_localhost host)))
 file_answer text host is = (file_host_fits text host is, λ place rule h. valid_text_silent text host rule is h.0)
 
 -- the answer of any other URL on an IPv6 text in brackets
 pub bracketed_answer : (text pieces : List ℕ) → IsBracketedIpv6 text pieces
-    → IsHeldAnswer Other text (Valid (Some (V6 pieces)))
+    → IsJudged (FitsSomeHost Other text) (HeldHostComplaint Other text) (Valid (Some (V6 pieces)))
 bracketed_answer text pieces is = (is, silent)
   where
     silent : (place : ℕ) (rule : Rule) → HeldHostComplaint Other text place rule → ⊥

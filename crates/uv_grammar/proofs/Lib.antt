@@ -1,11 +1,14 @@
 pub mod AuthorityLemmas
 pub mod BuiltLemmas
 pub mod HostLemmas
+pub mod PartFaultLemmas
 pub mod PartLemmas
 pub mod PieceLemmas
 pub mod PlainLinkLemmas
 pub mod PortLemmas
+pub mod ScanLemmas
 pub mod SegmentLemmas
+pub mod SettingLemmas
 pub mod SliceLemmas
 pub mod TestLemmas
 pub mod VerdictLemmas

@@ -7,8 +7,7 @@ use Rattle.uv_model.specs.Scheme.{default_port}
 use Rattle.uv_model.specs.Records.Url.{Url}
 use Rattle.uv_model.specs.Valid.{IsPortText, port_given, scheme_or}
 use Rattle.uv_model.proofs.Complaints.RefusedLemmas.{least_of_port}
-use Rattle.uv_grammar.specs.PartAnswers.{FitsPortPart, without_default}
-use Rattle.uv_grammar.specs.PortAnswer.{port_number}
+use Rattle.uv_grammar.specs.PartValues.{FitsPort, FitsPortPart, port_number, without_default}
 use Rattle.uv_grammar.proofs.PortLemmas.{port_silent}
 
 -- the port that a text gives is its number, unless that is the default
@@ -19,11 +18,10 @@ given_number scheme (digit ∷ rest) = refl
 
 -- a valid port is the part of the text
 pub valid_port : (base : Option Url) (cut : Cut) (host_text port_text : List ℕ) (number value : Option ℕ)
-    → cut.host_text ≡ Some host_text → cut.port_text ≡ Some port_text → IsPortText port_text
-    → number ≡ port_number port_text
+    → cut.host_text ≡ Some host_text → cut.port_text ≡ Some port_text → FitsPort port_text number
     → value ≡ without_default (default_port (scheme_or base cut.scheme)) number
     → FitsPortPart base cut value × IsLeast (PortPartComplaint cut) None
-valid_port base cut host_text port_text number value host port is numbered given = (
+valid_port base cut host_text port_text number value host port (is, numbered) given = (
   rw (host, port) (
     is,
     given ∙ (ap (without_default (default_port (scheme_or base cut.scheme))) numbered

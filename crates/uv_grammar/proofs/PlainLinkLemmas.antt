@@ -29,14 +29,13 @@ use Rattle.uv_model.proofs.Texts.MarkLemmas.{is_without-append, is_without-more,
 use Rattle.uv_model.proofs.SchemeLemmas.{is_ascii-scheme}
 use Rattle.uv_model.proofs.Complaints.UnitComplaintLemmas.{no_complaint-faultless}
 use Rattle.uv_text.specs.Fronts.{AreAsciiUnits, HasUnitFront}
-use Rattle.uv_grammar.specs.declared.checker.Verdict.TheVariants.{Yes}
 use Rattle.uv_grammar.specs.Built.{built}
-use Rattle.uv_grammar.specs.Later.{FromPathStart}
-use Rattle.uv_grammar.specs.PartAnswers.{FitsHostPart}
+use Rattle.uv_grammar.specs.PartComplaints.{BehindAuthority}
+use Rattle.uv_grammar.specs.PartValues.{FitsHostPart}
 use Rattle.uv_grammar.specs.PlainLinks.{HasAsciiFront, IsFrontCut, IsNameCut, IsPartCut, IsPathCut, IsSpecialCut, IsSpecialFront, MayBeUnits}
 use Rattle.uv_grammar.specs.Verdict.{IsAccepted}
 use Rattle.uv_grammar.proofs.TestLemmas.{list_all_weaker}
-use Rattle.uv_grammar.proofs.VerdictLemmas.{verdict_of_cut}
+use Rattle.uv_grammar.proofs.VerdictLemmas.{accepted}
 use Rattle.uv_host.specs.PlainNames.{IsChainFront}
 use Rattle.uv_host.proofs.ChainLemmas.{chain_form}
 
@@ -202,7 +201,7 @@ part_silent start (Some text) place rule units h = no_complaint-faultless text u
 
 plain_silent : (base : Option Url) (text scheme name form path : List ℕ) (query fragment : Option (List ℕ))
     → IsPlainLink text scheme name form path query fragment → (place : ℕ) (rule : Rule)
-    → FromPathStart base (plain_cut scheme name path query fragment) place rule → ⊥
+    → BehindAuthority base (plain_cut scheme name path query fragment) place rule → ⊥
 plain_silent base text scheme name form path query fragment l place rule (inl h) =
     plain_path_start base scheme name path query fragment h.inner rule l.special.special l.path_cut.single h.holds
 plain_silent base text scheme name form path query fragment l place rule (inr (inl h)) =
@@ -231,8 +230,8 @@ pub plain_accepted : (base : Option Url) (text scheme name form path : List ℕ)
 plain_accepted base text scheme name form path query fragment same l =
     let own = own_form name form l.named.domain same in
     let cut = plain_cut scheme name path query fragment in
-    verdict_of_cut base text cut (plain_is_cut base text scheme name form path query fragment own l)
-    (plain_started base text scheme name path query fragment) (Yes (built cut (Some (Domain form)) None))
+    accepted base text cut (plain_is_cut base text scheme name form path query fragment own l)
+    (plain_started base text scheme name path query fragment) (built cut (Some (Domain form)) None)
     (record {
       host = Some (Domain form);
       port = None;

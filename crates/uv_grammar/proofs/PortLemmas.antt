@@ -9,14 +9,17 @@ use Rattle.std.proofs.lemmas.Bool.{and_parts, cases_Bool, cases_lt, false≢true
 use Rattle.std.proofs.lemmas.Bool.Decides.{nat_tests}
 use Rattle.std.proofs.lemmas.Str.Parse.{IsDigitsTest, IsNumeralModel, numerals_by_value, parse_digits}
 use Rattle.std.proofs.Math.Nat.{le_refl}
+use Rattle.uv_model.specs.declared.rule.Refusal.{Refusal}
 use Rattle.uv_model.specs.declared.rule.Rule.{Rule}
 use Rattle.uv_model.specs.declared.rule.Rule.TheVariants.{PortDigit, PortRange}
 use Rattle.uv_model.specs.Complaints.Complaint.{HasForeignDigit, IsTooLarge, PortComplaint}
 use Rattle.uv_model.specs.Complaints.Refusal.{IsLeast}
 use Rattle.uv_model.specs.Complaints.Rule.{rule_number}
 use Rattle.uv_model.specs.Valid.{IsPortText}
+use Rattle.uv_model.proofs.Complaints.RefusalLemmas.{IsLeast-like}
 use Rattle.uv_model.proofs.Texts.AsciiLemmas.{IsAscii-from_test, chars-from_IsAscii}
-use Rattle.uv_grammar.specs.PortAnswer.{port_number}
+use Rattle.uv_grammar.specs.PartValues.{port_number}
+use Rattle.uv_grammar.specs.Scan.{DigitComplaint}
 use Rattle.uv_grammar.proofs.TestLemmas.{list_all_weaker}
 
 one_more : (n : ℕ) → suc n ≡ 1 + n
@@ -52,7 +55,7 @@ foreign_first (c ∷ rest) (suc place) h = elim (cases_Bool (is_ascii_digit c)) 
 ]
 
 -- digits alone
-digits_only : (text : List ℕ) (place : ℕ) → list_all is_ascii_digit text ≡ true → HasForeignDigit text place → ⊥
+pub digits_only : (text : List ℕ) (place : ℕ) → list_all is_ascii_digit text ≡ true → HasForeignDigit text place → ⊥
 digits_only [] zero digits h = let e : [] ≡ h.code_point ∷ h.rest = h.here in cc
 digits_only [] (suc place) digits h = let e : [] ≡ h.code_point ∷ h.rest = h.here in cc
 digits_only (c ∷ rest) zero digits h =
@@ -62,20 +65,38 @@ digits_only (c ∷ rest) (suc place) digits h =
     digits_only rest place (and_parts (is_ascii_digit c) (list_all is_ascii_digit rest) digits).1
     (record { code_point = h.code_point; rest = h.rest; here = h.here; foreign = h.foreign })
 
--- the least complaint of a port that isn't digits alone
+-- the least code point that isn't a digit
 pub foreign_least : (text : List ℕ) → list_all is_ascii_digit text ≡ false
-    → IsLeast (PortComplaint text) (Some (record { place = prefix_len is_ascii_digit text; rule = PortDigit }))
+    → IsLeast (DigitComplaint text) (Some (record { place = prefix_len is_ascii_digit text; rule = PortDigit }))
 foreign_least text other = record { stands = foreign_here text other; first = first; lowest = lowest }
   where
-    first : (place : ℕ) (rule : Rule) → PortComplaint text place rule → prefix_len is_ascii_digit text ≤ place
+    first : (place : ℕ) (rule : Rule) → DigitComplaint text place rule → prefix_len is_ascii_digit text ≤ place
     first place PortDigit h = foreign_first text place h
-    first place PortRange h = absurd (false≢true (sym other ∙ h.0.digits))
     first place _ h = absurd h
 
-    lowest : (rule : Rule) → PortComplaint text (prefix_len is_ascii_digit text) rule → 9 ≤ rule_number rule
+    lowest : (rule : Rule) → DigitComplaint text (prefix_len is_ascii_digit text) rule → 9 ≤ rule_number rule
     lowest PortDigit h = le_refl 9
-    lowest PortRange h = omega arith
     lowest _ h = absurd h
+
+-- digits alone have none
+pub digits_silent : (text : List ℕ) → list_all is_ascii_digit text ≡ true → IsLeast (DigitComplaint text) None
+digits_silent text digits place PortDigit h = digits_only text place digits h
+digits_silent text digits place _ h = absurd h
+
+-- such a code point is the least complaint of a port
+pub port_least : (text : List ℕ) (refusal : Refusal) → IsLeast (DigitComplaint text) (Some refusal)
+    → IsLeast (PortComplaint text) (Some refusal)
+port_least text refusal least =
+    IsLeast-like (DigitComplaint text) (PortComplaint text) to from (Some refusal) least
+  where
+    to : (place : ℕ) (rule : Rule) → DigitComplaint text place rule → PortComplaint text place rule
+    to place PortDigit h = h
+    to place _ h = absurd h
+
+    from : (place : ℕ) (rule : Rule) → PortComplaint text place rule → DigitComplaint text place rule
+    from place PortDigit h = h
+    from place PortRange h = absurd (digits_silent text h.0.digits refusal.place refusal.rule least.stands)
+    from place _ h = absurd h
 
 -- the least complaint of digits that denote too much
 pub large_least : (text : List ℕ) → IsTooLarge text

@@ -1,22 +1,21 @@
 -- From the verdict on a cut text to the verdict on the text.
-use Rattle.std.proofs.Common.{◌≡◌, ℕ, ◌<◌, ◌^◌, List, length, Option, Some, arith, ap, sym, subst}
+use Rattle.std.proofs.Common.{◌≡◌, ℕ, ◌<◌, ◌^◌, List, length, Option, Some, None, arith, ap, sym, subst}
 use Rattle.std.specs.Str.{chars, IsUtf8}
 use Rattle.std.proofs.lemmas.Str.{encodes-chars, length-le-encodes}
 use Rattle.uv_model.specs.declared.rule.Refusal.{Refusal}
-use Rattle.uv_model.specs.Complaints.Complaint.{Complaint, IsStarted}
+use Rattle.uv_model.specs.Complaints.Complaint.{Complaint, HostPartComplaint, IsStarted, PortPartComplaint, StartComplaint}
 use Rattle.uv_model.specs.Cut.{Cut, IsCut, written_cut}
 use Rattle.uv_model.specs.Parts.{Parts, written}
 use Rattle.uv_model.specs.Complaints.Refusal.{IsLeast}
 use Rattle.uv_model.specs.Records.Url.{Url}
 use Rattle.uv_model.specs.Valid.{Valid}
+use Rattle.uv_model.proofs.Complaints.ComplaintPlaces.{complaint_within}
 use Rattle.uv_model.proofs.Complaints.ComplaintsExcludeParts.{faultless}
 use Rattle.uv_model.proofs.Cuts.UniqueParts.{parts_are_unique}
-use Rattle.uv_model.proofs.Complaints.RefusedLemmas.{least_of_parts}
-use Rattle.uv_grammar.specs.declared.checker.Verdict.{Verdict}
-use Rattle.uv_grammar.specs.declared.checker.Verdict.TheVariants.{Yes, No}
+use Rattle.uv_model.proofs.Complaints.RefusedLemmas.{host_passes, host_refuses, least_of_parts, port_passes, port_refuses, refused_at_start}
 use Rattle.uv_grammar.specs.Laws.{PartsAreTheText}
-use Rattle.uv_grammar.specs.Later.{IsCountable}
-use Rattle.uv_grammar.specs.Verdict.{IsCutVerdict, IsRefused, IsVerdict}
+use Rattle.uv_grammar.specs.PartComplaints.{BehindAuthority, IsCountable}
+use Rattle.uv_grammar.specs.Verdict.{IsAccepted, IsBuilt, IsRefused}
 use Rattle.uv_grammar.proofs.BuiltLemmas.{valid_built}
 
 -- a text that a slice holds is countable
@@ -28,18 +27,47 @@ countable bytes cut utf8 small same =
     let whole = ap length same in
     omega arith
 
--- the least complaint excludes all parts
+-- the least complaint excludes all parts, and stands within the text
 pub refused : (base : Option Url) (text : List ℕ) (refusal : Refusal) → IsLeast (Complaint base text) (Some refusal)
     → IsRefused base text refusal
 refused base text refusal least = record {
   least = least;
+  within = complaint_within base text refusal.place refusal.rule least.stands;
   none = faultless base text refusal.place refusal.rule least.stands;
 }
 
--- the verdict on a text whose start violates no rule
-pub verdict_of_cut : (base : Option Url) (text : List ℕ) (cut : Cut) → IsCut base text cut → IsStarted base text cut
-    → (verdict : Verdict) → IsCutVerdict base cut verdict → IsVerdict base text verdict
-verdict_of_cut base text cut is started (Yes parts) h =
+-- a text that is refused by its start
+pub refused_start : (base : Option Url) (text : List ℕ) (cut : Cut) (refusal : Refusal) → IsCut base text cut
+    → IsLeast (StartComplaint base text cut) (Some refusal) → IsRefused base text refusal
+refused_start base text cut refusal is least = refused base text refusal (refused_at_start base text cut refusal is least)
+
+-- a text that is refused by its host
+pub refused_host : (base : Option Url) (text : List ℕ) (cut : Cut) (refusal : Refusal) → IsCut base text cut
+    → IsStarted base text cut → IsLeast (HostPartComplaint base cut) (Some refusal) → IsRefused base text refusal
+refused_host base text cut refusal is started least =
+    refused base text refusal
+    (least_of_parts base text cut (Some refusal) is started (host_refuses base cut refusal least))
+
+-- a text that is refused by its port
+pub refused_port : (base : Option Url) (text : List ℕ) (cut : Cut) (refusal : Refusal) → IsCut base text cut
+    → IsStarted base text cut → IsLeast (HostPartComplaint base cut) None
+    → IsLeast (PortPartComplaint cut) (Some refusal) → IsRefused base text refusal
+refused_port base text cut refusal is started host least =
+    refused base text refusal (least_of_parts base text cut (Some refusal) is started
+    (host_passes base cut (Some refusal) host (port_refuses base cut refusal least)))
+
+-- a text that is refused behind its authority
+pub refused_behind : (base : Option Url) (text : List ℕ) (cut : Cut) (refusal : Refusal) → IsCut base text cut
+    → IsStarted base text cut → IsLeast (HostPartComplaint base cut) None → IsLeast (PortPartComplaint cut) None
+    → IsLeast (BehindAuthority base cut) (Some refusal) → IsRefused base text refusal
+refused_behind base text cut refusal is started host port least =
+    refused base text refusal (least_of_parts base text cut (Some refusal) is started
+    (host_passes base cut (Some refusal) host (port_passes base cut (Some refusal) port least)))
+
+-- a text of valid parts
+pub accepted : (base : Option Url) (text : List ℕ) (cut : Cut) → IsCut base text cut → IsStarted base text cut
+    → (parts : Parts) → IsBuilt base cut parts → IsAccepted base text parts
+accepted base text cut is started parts h =
     let valid : Valid base text parts
     = subst (λ (p : Parts). Valid base text p) (sym h.built)
     (valid_built base text cut h.host h.port is started h.fits_host h.fits_port h.silent) in
@@ -48,8 +76,6 @@ verdict_of_cut base text cut is started (Yes parts) h =
       only = λ other again. parts_are_unique base text other parts again valid;
       silent = λ place rule complaint. faultless base text place rule complaint parts valid;
     }
-verdict_of_cut base text cut is started (No refusal) h =
-    refused base text refusal (least_of_parts base text cut (Some refusal) is started h)
 
 -- a valid text is its parts written out
 pub parts_written : PartsAreTheText

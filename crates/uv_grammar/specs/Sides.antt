@@ -2,9 +2,8 @@
 use Rattle.std.specs.Prelude.{◌≡◌, ◌≢◌, ℕ, ◌+◌, ◌<◌, true, false, List, [], ◌∷◌, ◌++◌, length, take, drop, slice_index, Option, Some, None}
 use Rattle.uv_model.specs.declared.scheme.Class.{Class}
 use Rattle.uv_model.specs.Ascii.{slash, colon}
-use Rattle.uv_model.specs.Cut.{IsSchemeCut, IsHostCut, host_before, port_behind}
-use Rattle.uv_model.specs.Scheme.{scheme_class}
-use Rattle.uv_model.specs.Parts.{written_behind, written_scheme}
+use Rattle.uv_model.specs.Cut.{IsAuthorityCut, IsSchemeCut, IsHostCut, host_before, port_behind}
+use Rattle.uv_model.specs.Parts.{written_authority, written_behind, written_scheme}
 use Rattle.uv_model.specs.Path.{is_without, starts_with_slash}
 
 -- the text is a scheme and `:`, where it begins with such, and the rest
@@ -25,9 +24,15 @@ pub record SplitsAuthority (text authority behind : List ℕ) : Type 0 where
   pub split : SplitsAtSlash rest authority behind
 
 -- the authority is a host, and `:` and a port where the host doesn't reach to its end
-pub record SplitsHost (kind : Class) (authority host_text : List ℕ) (port_text : Option (List ℕ)) : Type 0 where
+pub record SplitsHost (class : Class) (authority host_text : List ℕ) (port_text : Option (List ℕ)) : Type 0 where
   pub joined : authority ≡ host_text ++ written_behind colon port_text
-  pub host : IsHostCut kind host_text port_text
+  pub host : IsHostCut class host_text port_text
+
+-- the text is an authority of the class and a path, or a path alone
+pub record SplitsMiddle (class : Class) (text : List ℕ) (host_text port_text : Option (List ℕ)) (path_text : List ℕ)
+    : Type 0 where
+  pub joined : text ≡ written_authority host_text port_text ++ path_text
+  pub authority : IsAuthorityCut class host_text port_text path_text
 
 -- the place of the `:` of a port, which stands behind the host of an authority
 abbrev pub IsPortMark : List ℕ → Option ℕ → Type 0
@@ -35,8 +40,3 @@ IsPortMark text None = (host_before false text ≡ text) × (port_behind false t
 IsPortMark text (Some place) =
     (place < length text) × (slice_index text place ≡ colon) × (host_before false text ≡ take place text)
     × (port_behind false text ≡ Some (drop (place + 1) text))
-
--- the class of the scheme, where there is one
-abbrev pub IsKind : Class → Option (List ℕ) → Type 0
-IsKind kind None = Unit {0}
-IsKind kind (Some scheme) = kind ≡ scheme_class scheme

@@ -1,10 +1,10 @@
 -- The verdict on a text against a base, after the URL Standard, section 4.3.
-use Rattle.std.specs.Prelude.{◌≡◌, ℕ, List, Option, Some, None}
+use Rattle.std.specs.Prelude.{◌≡◌, ℕ, ◌≤◌, List, length, Option, Some, None}
 use Rattle.uv_grammar.specs.declared.checker.Verdict.{Verdict}
 use Rattle.uv_grammar.specs.declared.checker.Verdict.TheVariants.{Yes, No}
 use Rattle.uv_grammar.specs.Built.{built}
-use Rattle.uv_grammar.specs.Later.{FromHost, FromPathStart}
-use Rattle.uv_grammar.specs.PartAnswers.{FitsHostPart, FitsPortPart}
+use Rattle.uv_grammar.specs.PartComplaints.{BehindAuthority}
+use Rattle.uv_grammar.specs.PartValues.{FitsHostPart, FitsPortPart}
 use Rattle.uv_model.specs.declared.host.Host.{Host}
 use Rattle.uv_model.specs.declared.rule.Refusal.{Refusal}
 use Rattle.uv_model.specs.declared.rule.Rule.{Rule}
@@ -21,9 +21,10 @@ pub record IsAccepted (base : Option Url) (text : List ℕ) (parts : Parts) : Ty
   pub only : (other : Parts) → Valid base text other → other ≡ parts
   pub silent : (place : ℕ) (rule : Rule) → ¬ (Complaint base text place rule)
 
--- the refusal is the least complaint of the text, which is valid with no parts
+-- the refusal is the least complaint of the text, at a place up to its end, and the text is valid with no parts
 pub record IsRefused (base : Option Url) (text : List ℕ) (refusal : Refusal) : Type 0 where
   pub least : IsLeast (Complaint base text) (Some refusal)
+  pub within : refusal.place ≤ length text
   pub none : (parts : Parts) → ¬ (Valid base text parts)
 
 -- the verdict: the parts of a valid text, or the least complaint of one that isn't
@@ -31,7 +32,7 @@ abbrev pub IsVerdict : Option Url → List ℕ → Verdict → Type 0
 IsVerdict base text (Yes parts) = IsAccepted base text parts
 IsVerdict base text (No refusal) = IsRefused base text refusal
 
--- ---- verdicts on a cut text
+-- ---- parts of a cut text
 
 -- the parts are built from the cut, a valid host and a valid port, and no complaint of what follows them holds
 pub record IsBuilt (base : Option Url) (cut : Cut) (parts : Parts) : Type 0 where
@@ -40,9 +41,4 @@ pub record IsBuilt (base : Option Url) (cut : Cut) (parts : Parts) : Type 0 wher
   pub built : parts ≡ built cut host port
   pub fits_host : FitsHostPart base cut host
   pub fits_port : FitsPortPart base cut port
-  pub silent : IsLeast (FromPathStart base cut) None
-
--- the verdict on a cut text that begins well
-abbrev pub IsCutVerdict : Option Url → Cut → Verdict → Type 0
-IsCutVerdict base cut (Yes parts) = IsBuilt base cut parts
-IsCutVerdict base cut (No refusal) = IsLeast (FromHost base cut) (Some refusal)
+  pub silent : IsLeast (BehindAuthority base cut) None

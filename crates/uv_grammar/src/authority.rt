@@ -1,65 +1,60 @@
 //! The host and the port of a cut text.
-ghost use Rattle.std.specs.Prelude.{◌≡◌, IfOk, option_copied};
-ghost use Rattle.uv_model.specs.Scheme.{default_port};
-ghost use Rattle.uv_model.specs.Valid.{scheme_or};
-ghost use Rattle.uv_grammar.specs.Later.{IsCountable};
-ghost use Rattle.uv_grammar.specs.PartAnswers.{IsHostPart, IsPortPart, without_default};
-ghost use Rattle.uv_grammar.specs.Seen.{seen_option};
+ghost use Rattle.std.specs.Prelude.{◌≡◌, IfOk};
+ghost use Rattle.uv_model.specs.Complaints.Complaint.{HostPartComplaint, PortPartComplaint};
+ghost use Rattle.uv_grammar.specs.Judged.{IsJudged};
+ghost use Rattle.uv_grammar.specs.PartComplaints.{IsCountable};
+ghost use Rattle.uv_grammar.specs.PartValues.{FitsHostPart, FitsPortPart, without_default};
+ghost use Rattle.uv_grammar.specs.Setting.{IsSettingOf};
 
-use crate::cut::{Cut, kind_of};
-use crate::host::{HostAnswer, judge_host};
+use crate::cut::Cut;
+use crate::host::judge_host;
+use crate::judged::Judged;
 use crate::places::{host_place, port_place, refusal_behind};
-use crate::port::{PortAnswer, judge_port};
+use crate::port::judge_port;
+use crate::setting::Setting;
 use std::alloc::{AllocError, Global};
-use uv_model::{Record, default_port};
+use uv_model::Host;
 
 /// The host of a cut text, a refusal counted from the text's start. The error is want of memory.
 pub(crate) fn judge_host_part(
     alloc: Global,
     cut: &Cut,
-    base: Option<&Record>,
-) -> Result<HostAnswer, AllocError>
-    requires { IsCountable cut.now }
-    ensures { IfOk result (IsHostPart (option_copied base.entry) cut.now) }
+    setting: &Setting,
+) -> Result<Judged<Option<Host>>, AllocError>
+    requires count { IsCountable cut.now }
+    requires setting { IsSettingOf cut.now setting.now }
+    ensures { IfOk result
+        (IsJudged (FitsHostPart setting.now.base cut.now) (HostPartComplaint setting.now.base cut.now)) }
 {
     let Some(host_text) = cut.host_text else {
-        return Ok(HostAnswer::Valid(None));
+        return Ok(Judged::Valid(None));
     };
-    let kind = kind_of(cut, base);
-    match judge_host(alloc, kind, host_text, cut.port_text, cut.path_text)? {
-        HostAnswer::Valid(host) => Ok(HostAnswer::Valid(host)),
-        HostAnswer::Refused(refusal) => {
-            Ok(HostAnswer::Refused(refusal_behind(host_place(cut), refusal)))
-        }
+    match judge_host(
+        alloc,
+        setting.class,
+        host_text,
+        cut.port_text,
+        cut.path_text,
+    )? {
+        Judged::Valid(host) => Ok(Judged::Valid(host)),
+        Judged::Refused(refusal) => Ok(Judged::Refused(refusal_behind(host_place(cut), refusal))),
     }
 }
 
 /// The port of a cut text, a refusal counted from the text's start.
-pub(crate) fn judge_port_part(cut: &Cut, base: Option<&Record>) -> PortAnswer
-    requires { IsCountable cut.now }
-    ensures { IsPortPart (option_copied base.entry) cut.now result }
+pub(crate) fn judge_port_part(cut: &Cut, setting: &Setting) -> Judged<Option<u16>>
+    requires count { IsCountable cut.now }
+    requires setting { IsSettingOf cut.now setting.now }
+    ensures { IsJudged (FitsPortPart setting.now.base cut.now) (PortPartComplaint cut.now) result }
 {
     match (cut.host_text, cut.port_text) {
         (Some(host_text), Some(port_text)) => match judge_port(port_text) {
-            PortAnswer::Valid(number) => {
-                PortAnswer::Valid(without_default(default_against(base, cut.scheme), number))
-            }
-            PortAnswer::Refused(refusal) => {
-                PortAnswer::Refused(refusal_behind(port_place(cut, host_text), refusal))
+            Judged::Valid(number) => Judged::Valid(without_default(setting.default_port, number)),
+            Judged::Refused(refusal) => {
+                Judged::Refused(refusal_behind(port_place(cut, host_text), refusal))
             }
         },
-        _ => PortAnswer::Valid(None),
-    }
-}
-
-// The default port of a scheme, else of the base's scheme.
-fn default_against(base: Option<&Record>, scheme: Option<&str>) -> Option<u16>
-    ensures { result ≡ default_port (scheme_or (option_copied base.entry) (seen_option scheme.entry)) }
-{
-    match (scheme, base) {
-        (Some(scheme), _) => default_port(scheme),
-        (None, Some(base)) => default_port(base.scheme()),
-        (None, None) => None,
+        _ => Judged::Valid(None),
     }
 }
 

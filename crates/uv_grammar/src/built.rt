@@ -5,11 +5,11 @@ ghost use Rattle.uv_grammar.specs.Built.{built, form_of, form_with};
 ghost use Rattle.uv_grammar.specs.Form.{seen_form};
 ghost use Rattle.uv_grammar.specs.HeldHost.{held};
 
+use crate::beginnings::has_slash;
 use crate::cut::Cut;
 use crate::form::Form;
 use crate::held_host::HeldHost;
 use crate::parts::Parts;
-use crate::starts::has_slash;
 use uv_model::Host;
 
 /// The parts of a cut text.
@@ -19,14 +19,9 @@ pub(crate) fn build<'t>(cut: Cut<'t>, host: Option<Host>, port: Option<u16>) -> 
     let form = form_of(&cut);
     Parts {
         form,
-        scheme: cut.scheme,
-        host_text: cut.host_text,
+        cut,
         host: held(host),
-        port_text: cut.port_text,
         port,
-        path_text: cut.path_text,
-        query: cut.query,
-        fragment: cut.fragment,
     }
 }
 

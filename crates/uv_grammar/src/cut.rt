@@ -1,20 +1,21 @@
 //! The cut of a text into the texts of its parts, none of them judged.
 ghost use Rattle.std.specs.Prelude.{◌≡◌, MatchOption, false, option_copied};
 ghost use Rattle.std.specs.Str.{chars};
-ghost use Rattle.uv_model.specs.Cut.{IsCut, class_in, host_before, is_within, port_behind, starts_with_two_slashes};
+ghost use Rattle.uv_model.specs.Cut.{IsCut, host_before, is_within, port_behind, starts_with_two_slashes};
 ghost use Rattle.uv_grammar.specs.Seen.{seen, seen_option};
-ghost use Rattle.uv_grammar.specs.Sides.{IsPortMark, SplitsAuthority, SplitsHost, SplitsScheme};
+ghost use Rattle.uv_grammar.specs.Setting.{setting_of};
+ghost use Rattle.uv_grammar.specs.Sides.{IsPortMark, SplitsAuthority, SplitsHost, SplitsMiddle, SplitsScheme};
 
+use crate::beginnings::is_scheme_text;
 use crate::marks::{behind_slash, split_at_mark, split_at_slash};
-use crate::starts::is_scheme_text;
+use crate::setting::Setting;
 use std::marker::Model;
-use uv_model::{Class, Record, class_of};
+use uv_model::{Class, Record};
 use uv_text::lacks_byte;
 
 /// The texts of the parts of a text.
 #[derive(Drop)]
 pub(crate) struct Cut<'t> {
-    pub(crate) kind: Class,
     pub(crate) scheme: Option<&'t str>,
     pub(crate) host_text: Option<&'t str>,
     pub(crate) port_text: Option<&'t str>,
@@ -26,7 +27,6 @@ pub(crate) struct Cut<'t> {
 impl<'t> Model for Cut<'t> {
     ghost use Rattle.uv_model.specs.Cut.{Cut};
     ghost use Rattle.uv_grammar.specs.Seen.{seen, seen_option};
-    ghost use Rattle.uv_grammar.specs.Sides.{IsKind};
 
     ghost Value = { Cut };
 
@@ -38,61 +38,39 @@ impl<'t> Model for Cut<'t> {
       query = seen_option c.query;
       fragment = seen_option c.fragment;
     } };
-
-    ghost invariant = { λ c. IsKind c.kind (seen_option c.scheme) };
 }
 
-/// The cut of a text against a base.
-pub(crate) fn cut_text<'t>(text: &'t str, base: Option<&Record>) -> Cut<'t>
-    ensures { IsCut (option_copied base.entry) (chars text.now) result }
+/// The cut of a text against a base, and what the text is read against.
+pub(crate) fn cut_text<'t, 'b>(text: &'t str, base: Option<&'b Record>) -> (Cut<'t>, Setting<'b>)
+    ensures cut { IsCut (option_copied base.entry) (chars text.now) result.0 }
+    ensures setting { result.1 ≡ setting_of (option_copied base.entry) result.0.scheme }
 {
     let (front, fragment) = split_at_mark(text, '#');
     let (start, query) = split_at_mark(front, '?');
     let (scheme, middle) = split_scheme(start);
-    let kind = class_against(base, scheme);
-    match split_authority(middle) {
+    let setting = Setting::of(base, scheme);
+    let (host_text, port_text, path_text) = split_middle(middle, setting.class);
+    let cut = Cut {
+        scheme,
+        host_text,
+        port_text,
+        path_text,
+        query,
+        fragment,
+    };
+    (cut, setting)
+}
+
+// The texts of the host and the port, where there is an authority, and of the path.
+fn split_middle<'t>(text: &'t str, class: Class) -> (Option<&'t str>, Option<&'t str>, &'t str)
+    ensures { SplitsMiddle class (chars text.now) (seen_option result.0) (seen_option result.1) (seen result.2) }
+{
+    match split_authority(text) {
         Some((authority, path_text)) => {
-            let (host_text, port_text) = split_host(authority, kind);
-            Cut {
-                kind,
-                scheme,
-                host_text: Some(host_text),
-                port_text,
-                path_text,
-                query,
-                fragment,
-            }
+            let (host_text, port_text) = split_host(authority, class);
+            (Some(host_text), port_text, path_text)
         }
-        None => Cut {
-            kind,
-            scheme,
-            host_text: None,
-            port_text: None,
-            path_text: middle,
-            query,
-            fragment,
-        },
-    }
-}
-
-/// The class of a scheme, else of the base's scheme, else `Other`.
-pub(crate) fn class_against(base: Option<&Record>, scheme: Option<&str>) -> Class
-    ensures { result ≡ class_in (option_copied base.entry) (seen_option scheme.entry) }
-{
-    match (scheme, base) {
-        (Some(scheme), _) => class_of(scheme),
-        (None, Some(base)) => class_of(base.scheme()),
-        (None, None) => Class::Other,
-    }
-}
-
-/// The class of a cut text's scheme, else of the base's scheme, else `Other`.
-pub(crate) fn kind_of(cut: &Cut, base: Option<&Record>) -> Class
-    ensures { result ≡ class_in (option_copied base.entry) cut.now.scheme }
-{
-    match cut.scheme {
-        Some(_) => cut.kind,
-        None => class_against(base, None),
+        None => (None, None, text),
     }
 }
 
@@ -127,10 +105,10 @@ fn split_authority<'t>(text: &'t str) -> Option<(&'t str, &'t str)>
 }
 
 // The host of an authority and the text of its port, by the class.
-fn split_host<'t>(authority: &'t str, kind: Class) -> (&'t str, Option<&'t str>)
-    ensures { SplitsHost kind (chars authority.now) (seen result.0) (seen_option result.1) }
+fn split_host<'t>(authority: &'t str, class: Class) -> (&'t str, Option<&'t str>)
+    ensures { SplitsHost class (chars authority.now) (seen result.0) (seen_option result.1) }
 {
-    match kind {
+    match class {
         Class::File => (authority, None),
         Class::Special | Class::Other => split_port(authority),
     }

@@ -1,98 +1,89 @@
 //! The host of a text, judged by its class.
 ghost use Rattle.std.specs.Prelude.{◌≡◌, ◌≢◌, IfOk, [], codes, true};
 ghost use Rattle.std.specs.Str.{bytes_eq, chars};
-ghost use Rattle.uv_grammar.specs.HostAnswer.{IsHeldAnswer, IsHostAnswer, IsTextAnswer, file_host};
+ghost use Rattle.uv_model.specs.Complaints.Complaint.{HeldHostComplaint, HostComplaint};
 ghost use Rattle.uv_model.specs.Hosts.OpaqueHost.{starts_with_bracket};
+ghost use Rattle.uv_model.specs.Valid.{IsHostText};
+ghost use Rattle.uv_grammar.specs.HostValues.{FitsHost, FitsSomeHost, without_localhost};
+ghost use Rattle.uv_grammar.specs.Judged.{IsJudged};
 ghost use Rattle.uv_grammar.specs.Seen.{seen_option};
 
-use crate::starts::{has_bracket, has_slash};
+use crate::beginnings::{has_bracket, has_slash};
+use crate::judged::Judged;
 use std::alloc::{AllocError, Global};
 use uv_host::{DomainAnswer, bracketed_ipv6, domain, ipv4, opaque_fault};
 use uv_model::{Class, Host, Refusal, Rule, Text};
 
-/// What the text of a host is.
-#[derive(Drop)]
-pub(crate) enum HostAnswer {
-    /// A valid host, with its value where it isn't an opaque host.
-    Valid(Option<Host>),
-    /// The least refusal of the host, its place counted in code points from the host's start.
-    Refused(Refusal),
-}
-
-/// What the text of a host of a special or a file URL is.
-#[derive(Drop)]
-pub(crate) enum TextAnswer {
-    /// A valid host string, with its value.
-    Value(Host),
-    /// The rule that the text violates.
-    Fault(Rule),
-}
-
-/// The host, judged by its class, beside the port and the path that follow it. The error is want of memory.
+/// The host, judged by its class, beside the port and the path that follow it, with its value where it isn't an opaque
+/// host. A refusal's place is counted in code points from the host's start. The error is want of memory.
 pub(crate) fn judge_host(
     alloc: Global,
-    kind: Class,
+    class: Class,
     host_text: &str,
     port_text: Option<&str>,
     path_text: &str,
-) -> Result<HostAnswer, AllocError>
-    ensures { IfOk result
-        (IsHostAnswer kind (chars host_text.now) (seen_option port_text.entry) (chars path_text.now)) }
+) -> Result<Judged<Option<Host>>, AllocError>
+    ensures { IfOk result (IsJudged
+        (FitsHost class (chars host_text.now) (seen_option port_text.entry) (chars path_text.now))
+        (HostComplaint class (chars host_text.now) (seen_option port_text.entry) (chars path_text.now))) }
 {
     if host_text.is_empty() {
-        return Ok(empty_host(kind, port_text, path_text));
+        return Ok(judge_empty_host(class, port_text, path_text));
     }
-    match kind {
-        Class::Special => special_host(alloc, host_text),
-        Class::File => file_host(alloc, host_text),
-        Class::Other => Ok(other_host(host_text)),
+    match class {
+        Class::Special => judge_special_host(alloc, host_text),
+        Class::File => judge_file_host(alloc, host_text),
+        Class::Other => Ok(judge_opaque_host(host_text)),
     }
 }
 
 // An empty host.
-fn empty_host(kind: Class, port_text: Option<&str>, path_text: &str) -> HostAnswer
-    ensures { IsHostAnswer kind [] (seen_option port_text.entry) (chars path_text.now) result }
+fn judge_empty_host(class: Class, port_text: Option<&str>, path_text: &str) -> Judged<Option<Host>>
+    ensures { IsJudged (FitsHost class [] (seen_option port_text.entry) (chars path_text.now))
+        (HostComplaint class [] (seen_option port_text.entry) (chars path_text.now)) result }
 {
-    let is_missing = match kind {
+    let is_missing = match class {
         Class::Special => true,
         Class::File => !has_slash(path_text),
         Class::Other => port_text.is_some(),
     };
     if is_missing {
-        HostAnswer::Refused(Refusal {
+        Judged::Refused(Refusal {
             place: 0,
             rule: Rule::HostMissing,
         })
     } else {
-        HostAnswer::Valid(Some(Host::Empty))
+        Judged::Valid(Some(Host::Empty))
     }
 }
 
 // The host of a special URL, which isn't empty.
-fn special_host(alloc: Global, text: &str) -> Result<HostAnswer, AllocError>
+fn judge_special_host(alloc: Global, text: &str) -> Result<Judged<Option<Host>>, AllocError>
     requires { chars text.now ≢ [] }
-    ensures { IfOk result (IsHeldAnswer Class.Special (chars text.now)) }
+    ensures { IfOk result (IsJudged (FitsSomeHost Class.Special (chars text.now))
+        (HeldHostComplaint Class.Special (chars text.now))) }
 {
-    match text_host(alloc, text)? {
-        TextAnswer::Value(host) => Ok(HostAnswer::Valid(Some(host))),
-        TextAnswer::Fault(rule) => Ok(HostAnswer::Refused(Refusal { place: 0, rule })),
+    match judge_host_text(alloc, text)? {
+        Judged::Valid(host) => Ok(Judged::Valid(Some(host))),
+        Judged::Refused(refusal) => Ok(Judged::Refused(refusal)),
     }
 }
 
 // The host of a file URL, which isn't empty.
-fn file_host(alloc: Global, text: &str) -> Result<HostAnswer, AllocError>
+fn judge_file_host(alloc: Global, text: &str) -> Result<Judged<Option<Host>>, AllocError>
     requires { chars text.now ≢ [] }
-    ensures { IfOk result (IsHeldAnswer Class.File (chars text.now)) }
+    ensures { IfOk result (IsJudged (FitsSomeHost Class.File (chars text.now))
+        (HeldHostComplaint Class.File (chars text.now))) }
 {
-    match text_host(alloc, text)? {
-        TextAnswer::Value(host) => Ok(HostAnswer::Valid(Some(without_localhost(host)))),
-        TextAnswer::Fault(rule) => Ok(HostAnswer::Refused(Refusal { place: 0, rule })),
+    match judge_host_text(alloc, text)? {
+        Judged::Valid(host) => Ok(Judged::Valid(Some(without_localhost(host)))),
+        Judged::Refused(refusal) => Ok(Judged::Refused(refusal)),
     }
 }
 
 // The empty host in place of the domain `localhost`.
 fn without_localhost(host: Host) -> Host
-    ensures { result ≡ file_host host }
+    ensures { result ≡ without_localhost host }
 {
     match host {
         Host::Domain(form) => {
@@ -113,44 +104,53 @@ fn is_localhost(form: &str) -> bool
 }
 
 // The host string of a special or a file URL, which isn't empty.
-fn text_host(alloc: Global, text: &str) -> Result<TextAnswer, AllocError>
+fn judge_host_text(alloc: Global, text: &str) -> Result<Judged<Host>, AllocError>
     requires { chars text.now ≢ [] }
-    ensures { IfOk result (IsTextAnswer (chars text.now)) }
+    ensures { IfOk result (IsJudged (IsHostText (chars text.now))
+        (HeldHostComplaint Class.Special (chars text.now))) }
 {
     if has_bracket(text) {
-        return Ok(bracketed_host(text));
+        return Ok(judge_bracketed_host(text));
     }
     if let Some(value) = ipv4(text) {
-        return Ok(TextAnswer::Value(Host::V4(value)));
+        return Ok(Judged::Valid(Host::V4(value)));
     }
     match domain(alloc, text)? {
-        DomainAnswer::Ascii(form) => Ok(TextAnswer::Value(Host::Domain(Text::of(form)))),
-        DomainAnswer::Number => Ok(TextAnswer::Fault(Rule::HostNumber)),
-        DomainAnswer::Not => Ok(TextAnswer::Fault(Rule::HostDomain)),
+        DomainAnswer::Ascii(form) => Ok(Judged::Valid(Host::Domain(Text::of(form)))),
+        DomainAnswer::Number => Ok(Judged::Refused(at_start(Rule::HostNumber))),
+        DomainAnswer::Not => Ok(Judged::Refused(at_start(Rule::HostDomain))),
     }
 }
 
 // A host string that begins with `[`.
-fn bracketed_host(text: &str) -> TextAnswer
+fn judge_bracketed_host(text: &str) -> Judged<Host>
     requires { starts_with_bracket (chars text.now) ≡ true }
-    ensures { IsTextAnswer (chars text.now) result }
+    ensures { IsJudged (IsHostText (chars text.now)) (HeldHostComplaint Class.Special (chars text.now)) result }
 {
     match bracketed_ipv6(text) {
-        Some(pieces) => TextAnswer::Value(Host::V6(pieces)),
-        None => TextAnswer::Fault(Rule::HostIpv6),
+        Some(pieces) => Judged::Valid(Host::V6(pieces)),
+        None => Judged::Refused(at_start(Rule::HostIpv6)),
     }
 }
 
+// The refusal of a whole host by a rule.
+fn at_start(rule: Rule) -> Refusal
+    ensures { result ≡ (record { place = 0; rule = rule }) }
+{
+    Refusal { place: 0, rule }
+}
+
 // The host of any other URL, which isn't empty.
-fn other_host(text: &str) -> HostAnswer
+fn judge_opaque_host(text: &str) -> Judged<Option<Host>>
     requires { chars text.now ≢ [] }
-    ensures { IsHeldAnswer Class.Other (chars text.now) result }
+    ensures { IsJudged (FitsSomeHost Class.Other (chars text.now))
+        (HeldHostComplaint Class.Other (chars text.now)) result }
 {
     if let Some(refusal) = opaque_fault(text) {
-        return HostAnswer::Refused(refusal);
+        return Judged::Refused(refusal);
     }
     match bracketed_ipv6(text) {
-        Some(pieces) => HostAnswer::Valid(Some(Host::V6(pieces))),
-        None => HostAnswer::Valid(None),
+        Some(pieces) => Judged::Valid(Some(Host::V6(pieces))),
+        None => Judged::Valid(None),
     }
 }

@@ -1,23 +1,28 @@
 //! The checker of valid URL strings, and the parts of those that it takes (URL Standard, section 4.3).
 #![tactic(auto)]
 
+mod all_faults;
 mod authority;
+mod beginnings;
 mod built;
 mod checker;
 mod cut;
-mod faults;
 mod form;
 mod held_host;
 mod host;
+mod judged;
 pub mod laws;
 mod marks;
 mod parts;
 mod places;
 mod plain_links;
 mod port;
-mod starting;
-mod starts;
+mod scan;
+mod setting;
+mod start_rules;
+mod unit_faults;
 
+pub use all_faults::faults;
 pub use checker::{Verdict, check};
 pub use form::Form;
 pub use held_host::{AsciiText, HostRef};

@@ -7,6 +7,7 @@ ghost use Rattle.uv_grammar.specs.HeldHost.{referred};
 ghost use Rattle.uv_grammar.specs.Seen.{seen, seen_option};
 ghost use Rattle.uv_grammar.specs.Built.{left_segments, segments_in, segments_of};
 
+use crate::cut::Cut;
 use crate::form::Form;
 use crate::held_host::{HeldHost, HostRef};
 use crate::marks::{behind_slash, split_at_mark};
@@ -16,14 +17,9 @@ use std::marker::{Model, PhantomData};
 #[derive(Drop)]
 pub struct Parts<'t> {
     pub(crate) form: Form,
-    pub(crate) scheme: Option<&'t str>,
-    pub(crate) host_text: Option<&'t str>,
+    pub(crate) cut: Cut<'t>,
     pub(crate) host: Option<HeldHost<'t>>,
-    pub(crate) port_text: Option<&'t str>,
     pub(crate) port: Option<u16>,
-    pub(crate) path_text: &'t str,
-    pub(crate) query: Option<&'t str>,
-    pub(crate) fragment: Option<&'t str>,
 }
 
 impl<'t> Model for Parts<'t> {
@@ -31,22 +27,21 @@ impl<'t> Model for Parts<'t> {
     ghost use Rattle.std.specs.Prelude.{option_map};
     ghost use Rattle.uv_grammar.specs.Form.{seen_form};
     ghost use Rattle.uv_grammar.specs.HeldHost.{held};
-    ghost use Rattle.uv_grammar.specs.Seen.{seen, seen_option};
     ghost use Rattle.uv_grammar.specs.Built.{segments_in};
 
     ghost Value = { Parts };
 
     ghost view = { λ p. record {
       form = seen_form p.form;
-      scheme = seen_option p.scheme;
-      host_text = seen_option p.host_text;
+      scheme = p.cut.scheme;
+      host_text = p.cut.host_text;
       host = option_map held p.host;
-      port_text = seen_option p.port_text;
+      port_text = p.cut.port_text;
       port = p.port;
-      path_text = seen p.path_text;
-      segments = segments_in (seen_form p.form) (seen p.path_text);
-      query = seen_option p.query;
-      fragment = seen_option p.fragment;
+      path_text = p.cut.path_text;
+      segments = segments_in (seen_form p.form) p.cut.path_text;
+      query = p.cut.query;
+      fragment = p.cut.fragment;
     } };
 }
 
@@ -62,14 +57,14 @@ impl<'t> Parts<'t> {
     pub fn scheme(&self) -> Option<&'t str>
         ensures { seen_option result ≡ self.now.scheme }
     {
-        self.scheme
+        self.cut.scheme
     }
 
     /// The host's text, where there is an authority.
     pub fn host_text(&self) -> Option<&'t str>
         ensures { seen_option result ≡ self.now.host_text }
     {
-        self.host_text
+        self.cut.host_text
     }
 
     /// The host, where its value isn't its text: not for an opaque host.
@@ -86,7 +81,7 @@ impl<'t> Parts<'t> {
     pub fn port_text(&self) -> Option<&'t str>
         ensures { seen_option result ≡ self.now.port_text }
     {
-        self.port_text
+        self.cut.port_text
     }
 
     /// The port, where it isn't the scheme's default.
@@ -100,28 +95,28 @@ impl<'t> Parts<'t> {
     pub fn path_text(&self) -> &'t str
         ensures { seen result ≡ self.now.path_text }
     {
-        self.path_text
+        self.cut.path_text
     }
 
     /// The segments of the path: none of an opaque one, and none of an empty one.
     pub fn segments(&self) -> Segments<'_, 't>
         ensures { result ≡ self.now.segments }
     {
-        Segments::of(self.form, self.path_text)
+        Segments::of(self.form, self.cut.path_text)
     }
 
     /// The query, without its `?`.
     pub fn query(&self) -> Option<&'t str>
         ensures { seen_option result ≡ self.now.query }
     {
-        self.query
+        self.cut.query
     }
 
     /// The fragment, without its `#`.
     pub fn fragment(&self) -> Option<&'t str>
         ensures { seen_option result ≡ self.now.fragment }
     {
-        self.fragment
+        self.cut.fragment
     }
 }
 

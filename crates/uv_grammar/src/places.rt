@@ -4,10 +4,10 @@ ghost use Rattle.std.specs.Str.{chars};
 ghost use Rattle.uv_model.specs.Complaints.Complaint.{refusal_behind, slashes_place};
 ghost use Rattle.uv_model.specs.Cut.{fragment_place, host_place, path_place, port_place, query_place, scheme_end};
 ghost use Rattle.uv_model.specs.Parts.{written_authority};
-ghost use Rattle.uv_grammar.specs.Later.{IsCountable};
+ghost use Rattle.uv_grammar.specs.PartComplaints.{IsCountable};
 
+use crate::beginnings::has_slash;
 use crate::cut::Cut;
-use crate::starts::has_slash;
 use uv_model::Refusal;
 
 // How many code points the text has.

@@ -9,10 +9,11 @@ ghost use Rattle.uv_grammar.specs.PlainLinks.{HasAsciiFront, IsFrontCut, IsNameC
 ghost use Rattle.uv_grammar.specs.Seen.{seen, seen_option};
 ghost use Rattle.uv_grammar.specs.Verdict.{IsAccepted};
 
+use crate::beginnings::{has_slash, has_two_slashes};
+use crate::cut::Cut;
 use crate::form::Form;
 use crate::held_host::{AsciiText, HeldHost};
 use crate::parts::Parts;
-use crate::starts::{has_slash, has_two_slashes};
 use uv_host::{is_plain_domain, name_front};
 use uv_text::unit_front;
 
@@ -36,16 +37,19 @@ pub(crate) fn plain_link<'t>(text: &'t str) -> Option<Parts<'t>>
     if !rest.is_empty() {
         return None;
     }
-    Some(Parts {
-        form: Form::SchemeAuthority,
+    let cut = Cut {
         scheme: Some(scheme),
         host_text: Some(name),
-        host: Some(HeldHost::Plain(AsciiText::of(name))),
         port_text: None,
-        port: None,
         path_text,
         query,
         fragment,
+    };
+    Some(Parts {
+        form: Form::SchemeAuthority,
+        cut,
+        host: Some(HeldHost::Plain(AsciiText::of(name))),
+        port: None,
     })
 }
 

@@ -1,47 +1,54 @@
 //! The port of a text.
-ghost use Rattle.std.specs.Prelude.{◌≡◌, true};
+ghost use Rattle.std.specs.Prelude.{◌≡◌, IsNone, true};
 ghost use Rattle.std.specs.Char.{is_ascii_digit};
 ghost use Rattle.std.specs.List.{list_all, prefix_len};
 ghost use Rattle.std.specs.Str.{chars};
-ghost use Rattle.uv_grammar.specs.PortAnswer.{IsPortAnswer};
+ghost use Rattle.uv_model.specs.Complaints.Complaint.{PortComplaint};
+ghost use Rattle.uv_model.specs.Complaints.Refusal.{IsLeast};
+ghost use Rattle.uv_grammar.specs.Judged.{IsJudged};
+ghost use Rattle.uv_grammar.specs.PartValues.{FitsPort};
+ghost use Rattle.uv_grammar.specs.Scan.{DigitComplaint};
 
-use crate::starts::are_digits;
+use crate::beginnings::are_digits;
+use crate::judged::Judged;
 use uv_model::{Refusal, Rule};
 
-/// What the text of a port is.
-#[derive(Drop)]
-pub(crate) enum PortAnswer {
-    /// A URL-port string, with its number where it isn't empty.
-    Valid(Option<u16>),
-    /// The least refusal of the port, its place counted in code points from the port's start.
-    Refused(Refusal),
+/// The text of a port, judged (URL Standard, section 4.3), with its number where it isn't empty. A refusal's place is
+/// counted in code points from the port's start.
+pub(crate) fn judge_port(text: &str) -> Judged<Option<u16>>
+    ensures { IsJudged (FitsPort (chars text.now)) (PortComplaint (chars text.now)) result }
+{
+    match digit_fault(text) {
+        Some(refusal) => Judged::Refused(refusal),
+        None => judge_digits(text),
+    }
 }
 
-/// The text of a port, judged (URL Standard, section 4.3).
-pub(crate) fn judge_port(text: &str) -> PortAnswer
-    ensures { IsPortAnswer (chars text.now) result }
+/// The first code point of a text that is no digit.
+pub(crate) fn digit_fault(text: &str) -> Option<Refusal>
+    ensures least { IsLeast (DigitComplaint (chars text.now)) result }
+    ensures none { IsNone result → list_all is_ascii_digit (chars text.now) ≡ true }
 {
     if are_digits(text) {
-        judge_digits(text)
-    } else {
-        PortAnswer::Refused(Refusal {
-            place: digits_front(text),
-            rule: Rule::PortDigit,
-        })
+        return None;
     }
+    Some(Refusal {
+        place: digits_front(text),
+        rule: Rule::PortDigit,
+    })
 }
 
 // The text of a port that is digits alone.
-fn judge_digits(text: &str) -> PortAnswer
+fn judge_digits(text: &str) -> Judged<Option<u16>>
     requires { list_all is_ascii_digit (chars text.now) ≡ true }
-    ensures { IsPortAnswer (chars text.now) result }
+    ensures { IsJudged (FitsPort (chars text.now)) (PortComplaint (chars text.now)) result }
 {
     if text.is_empty() {
-        return PortAnswer::Valid(None);
+        return Judged::Valid(None);
     }
     match text.parse::<u16>() {
-        Ok(number) => PortAnswer::Valid(Some(number)),
-        Err(_) => PortAnswer::Refused(Refusal {
+        Ok(number) => Judged::Valid(Some(number)),
+        Err(_) => Judged::Refused(Refusal {
             place: 0,
             rule: Rule::PortRange,
         }),

@@ -4,5 +4,7 @@ pub mod ComplaintLemmas
 pub mod LeastLemmas
 pub mod RefusalLemmas
 pub mod RefusedLemmas
+pub mod AllComplaintsLemmas
+pub mod ComplaintPlaces
 pub mod FaultlessHosts
 pub mod ComplaintsExcludeParts

@@ -5,3 +5,4 @@ pub mod UnitComplaint
 pub mod OpaqueHostComplaint
 pub mod Complaint
 pub mod Refusal
+pub mod AllComplaints

@@ -255,7 +255,7 @@ path_start_begins setting cut = record {
 }
 
 -- the complaints of units of a text that begins at a place
-pub held_ends : (start : ℕ) (text : List ℕ) → Ends (Behind start (UnitComplaint text)) (start + length text) 13
+pub held_ends : (start : ℕ) (text : List ℕ) → Ends (Behind start (UnitComplaint text)) (start + length text) 0
 held_ends start text = record {
   by = λ place rule h.
       (let bounds = unit_complaint_bounds text h.inner rule h.holds in inl (omega (arith, h.moved)));
@@ -296,12 +296,12 @@ may_be_begins start None = record { from = λ place rule h. absurd h }
 may_be_begins start (Some text) = held_begins start text
 
 -- those of a query end before the fragment
-pub query_ends : (cut : Cut) → Ends (MayBeUnitComplaint (query_place cut) cut.query) (fragment_place cut) 13
+pub query_ends : (cut : Cut) → Ends (MayBeUnitComplaint (query_place cut) cut.query) (fragment_place cut) 0
 query_ends cut = go cut.scheme cut.host_text cut.port_text cut.path_text cut.query cut.fragment
   where
     go : (scheme host_text port_text : Option (List ℕ)) (path_text : List ℕ) (query fragment : Option (List ℕ))
         → Ends (MayBeUnitComplaint (query_place (cut_with scheme host_text port_text path_text query fragment)) query)
-        (fragment_place (cut_with scheme host_text port_text path_text query fragment)) 13
+        (fragment_place (cut_with scheme host_text port_text path_text query fragment)) 0
     go scheme host_text port_text path_text None fragment = record { by = λ place rule h. absurd h }
     go scheme host_text port_text path_text (Some query) fragment = record {
       by = λ place rule h.

@@ -23,14 +23,15 @@ pub record Begins (complaint : ℕ → Rule → Type 0) (start number : ℕ) : T
 -- a complaint of the one kind is refused before one of the other
 pub record Precedes (F G : ℕ → Rule → Type 0) : Type 0 where
   pub order : (place later : ℕ) (rule other : Rule) → F place rule → G later other
-      → (place < later) ⊎ ((place ≡ later) × (rule_number rule ≤ rule_number other))
+      → (place < later) ⊎ ((place ≡ later) × (rule_number rule < rule_number other))
 
 -- where the one kind ends before the other begins
-pub precedes : (F G : ℕ → Rule → Type 0) (place number : ℕ) → Ends F place number → Begins G place number → Precedes F G
-precedes F G middle number ends begins = record { order = order }
+pub precedes : (F G : ℕ → Rule → Type 0) (middle number larger : ℕ) → number < larger → Ends F middle number
+    → Begins G middle larger → Precedes F G
+precedes F G middle number larger less ends begins = record { order = order }
   where
     order : (place later : ℕ) (rule other : Rule) → F place rule → G later other
-        → (place < later) ⊎ ((place ≡ later) × (rule_number rule ≤ rule_number other))
+        → (place < later) ⊎ ((place ≡ later) × (rule_number rule < rule_number other))
     order place later rule other f g =
         let start = begins.from later other g in
         elim (ends.by place rule f) [
@@ -58,7 +59,7 @@ least_first F G refusal before least = record { stands = inl least.stands; first
     lowest rule (inl f) = least.lowest rule f
     lowest rule (inr g) = elim (before.order refusal.place refusal.place refusal.rule rule least.stands g) [
       | inl less ↦ absurd (omega arith)
-      | inr (same, number) ↦ number
+      | inr (same, number) ↦ omega arith
     ]
 
 -- where none of the first kind stands, the least of the second is the least of both

@@ -72,11 +72,11 @@ query_begins cut start le =
     (omega arith))
     (fragment_begins cut start (omega arith))
 
-one_at_most : (test : Bool) → (if test then 1 else 0) ≤ 1
+pub one_at_most : (test : Bool) → (if test then 1 else 0) ≤ 1
 one_at_most true = omega arith
 one_at_most false = omega arith
 
-second_slash_within : (text : List ℕ) → second_slash text ≤ length text
+pub second_slash_within : (text : List ℕ) → second_slash text ≤ length text
 second_slash_within [] = omega arith
 second_slash_within (c ∷ []) = omega arith
 second_slash_within (c ∷ d ∷ rest) =
@@ -104,33 +104,31 @@ port_all_begin setting cut =
 
 -- ---- each part before all that follow it
 
-query_first : (cut : Cut) → Precedes (OfQuery cut) (FromFragment cut)
+pub query_first : (cut : Cut) → Precedes (OfQuery cut) (FromFragment cut)
 query_first cut =
-    precedes (OfQuery cut) (FromFragment cut) (fragment_place cut) 13 (query_ends cut)
+    precedes (OfQuery cut) (FromFragment cut) (fragment_place cut) 0 13 (omega arith) (query_ends cut)
     (fragment_begins cut (fragment_place cut) (omega arith))
 
-path_first : (cut : Cut) → Precedes (OfPath cut) (FromQuery cut)
+pub path_first : (cut : Cut) → Precedes (OfPath cut) (FromQuery cut)
 path_first cut =
     let query = query_behind_path cut in
-    precedes (OfPath cut) (FromQuery cut) (path_place cut + length cut.path_text) 13
+    precedes (OfPath cut) (FromQuery cut) (path_place cut + length cut.path_text) 0 13 (omega arith)
     (held_ends (path_place cut) cut.path_text) (query_begins cut _ (omega arith))
 
-path_start_first : (setting : Setting) (cut : Cut) → Precedes (OfPathStart setting cut) (FromPath cut)
+pub path_start_first : (setting : Setting) (cut : Cut) → Precedes (OfPathStart setting cut) (FromPath cut)
 path_start_first setting cut =
-    precedes (OfPathStart setting cut) (FromPath cut) (path_place cut + second_slash cut.path_text) 12
-    (path_start_ends setting cut)
-    (begins_earlier (FromPath cut) _ 13 _ 12 (path_begins setting cut) (omega arith) (omega arith))
+    precedes (OfPathStart setting cut) (FromPath cut) (path_place cut + second_slash cut.path_text) 12 13 (omega arith)
+    (path_start_ends setting cut) (path_begins setting cut)
 
-port_first : (setting : Setting) (cut : Cut) → Precedes (PortPartComplaint cut) (FromPathStart setting cut)
+pub port_first : (setting : Setting) (cut : Cut) → Precedes (PortPartComplaint cut) (FromPathStart setting cut)
 port_first setting cut =
-    precedes (PortPartComplaint cut) (FromPathStart setting cut) (path_place cut) 10 (port_part_ends cut)
-    (begins_earlier (FromPathStart setting cut) _ 11 _ 10 (path_start_all_begin setting cut) (omega arith)
-    (omega arith))
+    precedes (PortPartComplaint cut) (FromPathStart setting cut) (path_place cut) 10 11 (omega arith) (port_part_ends cut)
+    (path_start_all_begin setting cut)
 
-host_first : (setting : Setting) (cut : Cut) → Precedes (HostPartComplaint setting cut) (FromPort setting cut)
+pub host_first : (setting : Setting) (cut : Cut) → Precedes (HostPartComplaint setting cut) (FromPort setting cut)
 host_first setting cut =
-    precedes (HostPartComplaint setting cut) (FromPort setting cut) (host_end cut) 4 (host_part_ends setting cut)
-    (begins_earlier (FromPort setting cut) _ 9 _ 4 (port_all_begin setting cut) (omega arith) (omega arith))
+    precedes (HostPartComplaint setting cut) (FromPort setting cut) (host_end cut) 4 9 (omega arith) (host_part_ends setting cut)
+    (port_all_begin setting cut)
 
 -- ---- the complaints of the whole text
 
@@ -140,20 +138,19 @@ Rest setting text cut place rule =
     (IsStarted setting text cut × JudgedComplaint setting cut place rule) ⊎ HeldComplaint cut place rule
 
 -- what the path, the query and the fragment hold begins no earlier than such a complaint stands
-held_begin : (cut : Cut) → Begins (FromPath cut) (slashes_place cut) 3
+held_begin : (cut : Cut) → Begins (FromPath cut) (slashes_place cut) 13
 held_begin cut =
     let few = one_at_most (starts_with_slash cut.path_text) in
     let query = query_behind_path cut in
-    begins_either (OfPath cut) (FromQuery cut) (slashes_place cut) 3
-    (begins_earlier (OfPath cut) _ 13 (slashes_place cut) 3 (path_held_after_slash (path_place cut) cut.path_text)
+    begins_either (OfPath cut) (FromQuery cut) (slashes_place cut) 13
+    (begins_earlier (OfPath cut) _ 13 (slashes_place cut) 13 (path_held_after_slash (path_place cut) cut.path_text)
     (omega arith) (omega arith))
-    (begins_earlier (FromQuery cut) (slashes_place cut) 13 (slashes_place cut) 3
-    (query_begins cut (slashes_place cut) (omega arith)) (omega arith) (omega arith))
+    (query_begins cut (slashes_place cut) (omega arith))
 
-start_before_held : (setting : Setting) (text : List ℕ) (cut : Cut)
+pub start_before_held : (setting : Setting) (text : List ℕ) (cut : Cut)
     → Precedes (StartComplaint setting text cut) (FromPath cut)
 start_before_held setting text cut =
-    precedes (StartComplaint setting text cut) (FromPath cut) (slashes_place cut) 3 (start_ends setting text cut)
+    precedes (StartComplaint setting text cut) (FromPath cut) (slashes_place cut) 3 13 (omega arith) (start_ends setting text cut)
     (held_begin cut)
 
 -- where a rule of the start is violated, its complaint comes first
@@ -163,20 +160,20 @@ start_first setting text cut = record { order = order }
   where
     order : (place later : ℕ) (rule other : Rule) → StartComplaint setting text cut place rule
         → Rest setting text cut later other
-        → (place < later) ⊎ ((place ≡ later) × (rule_number rule ≤ rule_number other))
+        → (place < later) ⊎ ((place ≡ later) × (rule_number rule < rule_number other))
     order place later rule other start (inl (started, judged)) = absurd (started place rule start)
     order place later rule other start (inr h) =
         (start_before_held setting text cut).order place later rule other start h
 
 -- without such a violation the complaints are those of the parts
-from_parts : (setting : Setting) (text : List ℕ) (cut : Cut) → IsStarted setting text cut → (place : ℕ) (rule : Rule)
+pub from_parts : (setting : Setting) (text : List ℕ) (cut : Cut) → IsStarted setting text cut → (place : ℕ) (rule : Rule)
     → FromHost setting cut place rule → ComplaintOf setting text cut place rule
 from_parts setting text cut started place rule (inl host) = inr (inl (started, inl host))
 from_parts setting text cut started place rule (inr (inl port)) = inr (inl (started, inr (inl port)))
 from_parts setting text cut started place rule (inr (inr (inl start))) = inr (inl (started, inr (inr start)))
 from_parts setting text cut started place rule (inr (inr (inr held))) = inr (inr held)
 
-to_parts : (setting : Setting) (text : List ℕ) (cut : Cut) → IsStarted setting text cut → (place : ℕ) (rule : Rule)
+pub to_parts : (setting : Setting) (text : List ℕ) (cut : Cut) → IsStarted setting text cut → (place : ℕ) (rule : Rule)
     → ComplaintOf setting text cut place rule → FromHost setting cut place rule
 to_parts setting text cut started place rule (inl start) = absurd (started place rule start)
 to_parts setting text cut started place rule (inr (inl (again, inl host))) = inl host

@@ -1,0 +1,34 @@
+-- The class of a scheme by its default port.
+use Rattle.std.proofs.Common.{◌≡◌, ℕ, List, true, false, Option, Some, None, refl, sym, ap, ◌∙◌, inl, inr}
+use Rattle.std.specs.Prelude.{codes}
+use Rattle.std.specs.Str.{bytes_eq}
+use Rattle.std.proofs.lemmas.Bool.{cases_Bool}
+use Rattle.std.proofs.lemmas.Option.{none-some}
+use Rattle.std.proofs.lemmas.Slice.Eq.{bytes_eq-Decides}
+use Rattle.uv_model.specs.declared.scheme.Class.TheVariants.{Special, File, Other}
+use Rattle.uv_model.specs.Scheme.{default_port, lowercase, port_beside, scheme_class, special_schemes}
+
+-- `file` has no default port
+file_without_port : (scheme : List ℕ) → bytes_eq (lowercase scheme) (codes "file") ≡ true → None ≡ default_port scheme
+unfolding default_port
+file_without_port scheme same =
+    ap (λ s. port_beside s special_schemes) (sym ((bytes_eq-Decides (lowercase scheme) (codes "file")).0 same))
+
+-- a scheme with a default port is special
+pub class_with_port : (scheme : List ℕ) (port : ℕ) → Some port ≡ default_port scheme → Special ≡ scheme_class scheme
+unfolding scheme_class
+class_with_port scheme port has = elim (cases_Bool (bytes_eq (lowercase scheme) (codes "file"))) [
+  | inl file ↦ absurd (none-some port (file_without_port scheme file ∙ sym has))
+  | inr other ↦ rw (other, sym has) refl
+]
+
+-- `file`
+pub class_of_file : (scheme : List ℕ) → bytes_eq (lowercase scheme) (codes "file") ≡ true → File ≡ scheme_class scheme
+unfolding scheme_class
+class_of_file scheme file = rw file refl
+
+-- any other scheme
+pub class_without_port : (scheme : List ℕ) → bytes_eq (lowercase scheme) (codes "file") ≡ false
+    → None ≡ default_port scheme → Other ≡ scheme_class scheme
+unfolding scheme_class
+class_without_port scheme other none = rw (other, sym none) refl

@@ -1,0 +1,27 @@
+-- Behind a fault the scan goes on.
+use Rattle.std.proofs.Common.{◌∙◌, ◌+◌, ◌++◌, ◌∷◌, [], ap, arith, length}
+use Rattle.std.specs.Str.{chars}
+use Rattle.std.proofs.lemmas.List.{length-drop}
+use Rattle.uv_grammar.proofs.ScanLemmas.{scan_begins, scan_ends, scan_goes_on, scan_within}
+use Rattle.uv_grammar.proofs.scan.push_scan.Goals as goal
+
+pub loop-refusal-smaller : goal.loop-refusal-smaller
+loop-refusal-smaller c =
+    let within = scan_within c.args.scan (chars c.loop-refusal.left.now) c.in-Some.refusal.place c.in-Some.refusal.rule
+    c.in-Some.ensures.stands in
+    let shorter = ap length c.behind_place-left.ensures
+    ∙ length-drop (c.in-Some.refusal.place + 1) (chars c.loop-refusal.left.now) in
+    omega arith
+
+pub loop-refusal-preserved : goal.loop-refusal-preserved
+loop-refusal-preserved c =
+    scan_goes_on c.args.scan c.args.start c.args.text.now c.args.found.now.items c.loop-refusal.found.items _
+    c.loop-refusal.here c.loop-refusal.left.now c.behind_place-left.result.now c.in-Some.refusal
+    c.loop-refusal.invariant c.behind_place-left.utf8 c.in-Some.ensures
+    (c.in_ok-push.ensures.items ∙ ap (λ r. c.loop-refusal.found.items ++ r ∷ []) c.refusal_behind.ensures)
+    c.behind_place-left.ensures
+
+pub returns : goal.returns
+returns c =
+    scan_ends c.args.scan c.args.start c.args.text.now c.args.found.now.items c.loop-refusal.found.items
+    c.loop-refusal.here c.loop-refusal.left.now c.loop-refusal.invariant c.in_default.ensures

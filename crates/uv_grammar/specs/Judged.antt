@@ -1,0 +1,17 @@
+-- What the judgement of a part says, after the order of URL Standard, section 4.3.
+use Rattle.std.specs.Prelude.{ℕ, Option, Some, None}
+use Rattle.uv_grammar.specs.declared.judged.Judged.{Judged}
+use Rattle.uv_grammar.specs.declared.judged.Judged.TheVariants.{Valid, Refused}
+use Rattle.uv_model.specs.declared.rule.Refusal.{Refusal}
+use Rattle.uv_model.specs.declared.rule.Rule.{Rule}
+use Rattle.uv_model.specs.Complaints.Refusal.{IsLeast}
+
+-- a value that fits where there is no complaint, and else the least complaint
+abbrev pub IsJudged : {A : Type 0} → (A → Type 0) → (ℕ → Rule → Type 0) → Judged A → Type 0
+IsJudged fits complaint (Valid value) = fits value × IsLeast complaint None
+IsJudged fits complaint (Refused refusal) = IsLeast complaint (Some refusal)
+
+-- the refusal of a part that isn't valid
+abbrev pub refusal_of : {A : Type 0} → Judged A → Option Refusal
+refusal_of (Valid value) = None
+refusal_of (Refused refusal) = Some refusal

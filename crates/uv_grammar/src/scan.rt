@@ -1,0 +1,92 @@
+//! Texts that are judged code point by code point.
+ghost use Rattle.std.specs.Prelude.{◌≡◌, ◌+◌, ◌<◌, ◌^◌, OnOk, drop, length};
+ghost use Rattle.std.specs.Str.{chars};
+ghost use Rattle.uv_model.specs.Complaints.Complaint.{Behind};
+ghost use Rattle.uv_model.specs.Complaints.Refusal.{IsLeast};
+ghost use Rattle.uv_grammar.specs.Faults.{AddsComplaints};
+ghost use Rattle.uv_grammar.specs.Scan.{HostUnitComplaint, ScanComplaint};
+
+use crate::beginnings::has_bracket;
+use crate::places::refusal_behind;
+use crate::port::digit_fault;
+use std::alloc::AllocError;
+use uv_host::opaque_fault;
+use uv_model::{Refusal, Rule, first_code_point};
+use uv_text::first_fault;
+
+/// What a text should consist of.
+#[derive(Clone, Copy)]
+pub(crate) enum Scan {
+    /// URL units.
+    Units,
+    /// What an opaque host without brackets may hold.
+    OpaqueHost,
+    /// Digits.
+    Digits,
+}
+
+/// Each fault of a text is pushed, where so many code points stand before the text. After an error some were.
+pub(crate) fn push_scan(
+    found: &mut Vec<Refusal>,
+    scan: Scan,
+    start: usize,
+    text: &str,
+) -> Result<(), AllocError>
+    requires { start + length (chars text.now) < 2 ^ 64 }
+    ensures { OnOk result
+        (AddsComplaints (Behind start (ScanComplaint scan (chars text.now))) found.old.items found.new.items) }
+{
+    let mut left = text;
+    let mut here = start;
+    while let Some(refusal) = next_fault(scan, left) {
+        found.push(refusal_behind(here, refusal))?;
+        here += refusal.place + 1;
+        left = behind_place(left, refusal.place);
+    }
+    Ok(())
+}
+
+// The first fault of a text.
+fn next_fault(scan: Scan, text: &str) -> Option<Refusal>
+    ensures { IsLeast (ScanComplaint scan (chars text.now)) result }
+{
+    match scan {
+        Scan::Units => first_fault(text),
+        Scan::OpaqueHost => host_fault(text),
+        Scan::Digits => digit_fault(text),
+    }
+}
+
+// The first code point that an opaque host can't hold there, brackets among them.
+fn host_fault(text: &str) -> Option<Refusal>
+    ensures { IsLeast (HostUnitComplaint (chars text.now)) result }
+{
+    if has_bracket(text) {
+        return Some(Refusal {
+            place: 0,
+            rule: Rule::HostCodePoint,
+        });
+    }
+    opaque_fault(text)
+}
+
+// What stands behind the code point at a place.
+fn behind_place(text: &str, place: usize) -> &str
+    ensures { chars result.now ≡ drop (place + 1) (chars text.now) }
+{
+    let mut left = behind_one(text);
+    for _ in 0..place {
+        left = behind_one(left);
+    }
+    left
+}
+
+// What stands behind the first code point, if there is one.
+fn behind_one(text: &str) -> &str
+    ensures { chars result.now ≡ drop 1 (chars text.now) }
+{
+    match first_code_point(text) {
+        Some((_, rest)) => rest,
+        None => text,
+    }
+}

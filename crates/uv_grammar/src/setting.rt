@@ -1,0 +1,75 @@
+//! What a text is read against.
+ghost use Rattle.std.specs.Prelude.{◌≡◌, option_copied};
+ghost use Rattle.std.specs.Str.{chars};
+ghost use Rattle.uv_model.specs.Scheme.{default_port, scheme_class};
+ghost use Rattle.uv_model.specs.Valid.{scheme_or};
+ghost use Rattle.uv_grammar.specs.Seen.{seen_option};
+ghost use Rattle.uv_grammar.specs.Setting.{setting_of};
+
+use std::marker::Model;
+use uv_model::{Class, Record, default_port, is_name};
+
+/// The base, and the class and the default port of the text's scheme, or else of the base's. A text's setting is made
+/// once and handed down.
+#[derive(Drop)]
+pub(crate) struct Setting<'b> {
+    pub(crate) base: Option<&'b Record>,
+    pub(crate) class: Class,
+    pub(crate) default_port: Option<u16>,
+}
+
+impl<'b> Model for Setting<'b> {
+    ghost use Rattle.std.specs.Prelude.{option_copied};
+    ghost use Rattle.uv_grammar.specs.Setting.{Setting};
+
+    ghost Value = { Setting };
+
+    ghost view = { λ s. record {
+      base = option_copied s.base;
+      class = s.class;
+      default_port = s.default_port;
+    } };
+}
+
+impl<'b> Setting<'b> {
+    /// The setting of a text with this scheme, or without one.
+    pub(crate) fn of(base: Option<&'b Record>, scheme: Option<&str>) -> Setting<'b>
+        ensures { result ≡ setting_of (option_copied base.entry) (seen_option scheme.entry) }
+    {
+        let scheme = scheme_against(base, scheme);
+        let default_port = default_port(scheme);
+        Setting {
+            base,
+            class: class_beside(scheme, default_port),
+            default_port,
+        }
+    }
+}
+
+// The scheme, or else the base's, or else nothing.
+fn scheme_against<'s>(base: Option<&'s Record>, scheme: Option<&'s str>) -> &'s str
+    ensures { chars result.now ≡ scheme_or (option_copied base.entry) (seen_option scheme.entry) }
+{
+    match (scheme, base) {
+        (Some(scheme), _) => scheme,
+        (None, Some(base)) => base.scheme(),
+        (None, None) => "",
+    }
+}
+
+// The class of a scheme with this default port.
+fn class_beside(scheme: &str, port: Option<u16>) -> Class
+    requires { port ≡ default_port (chars scheme.now) }
+    ensures { result ≡ scheme_class (chars scheme.now) }
+{
+    match port {
+        Some(_) => Class::Special,
+        None => {
+            if is_name(scheme, "file") {
+                Class::File
+            } else {
+                Class::Other
+            }
+        }
+    }
+}

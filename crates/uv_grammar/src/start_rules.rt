@@ -1,0 +1,146 @@
+//! The rules of the start of a text and of the start of a path.
+ghost use Rattle.std.specs.Prelude.{◌≡◌, ◌≢◌, ◌↔◌, IsSome, IsTrue, None, [], option_copied};
+ghost use Rattle.std.specs.Str.{chars};
+ghost use Rattle.uv_model.specs.Complaints.Complaint.{HasHost, PathStartComplaint, StartComplaint};
+ghost use Rattle.uv_model.specs.Cut.{class_in};
+ghost use Rattle.uv_model.specs.Complaints.Refusal.{IsLeast};
+ghost use Rattle.uv_model.specs.Scheme.{scheme_class};
+ghost use Rattle.uv_grammar.specs.PartComplaints.{IsCountable, OfPathStart};
+ghost use Rattle.uv_grammar.specs.Setting.{IsSettingOf};
+ghost use Rattle.uv_grammar.specs.StartRules.{base_fault};
+
+use crate::beginnings::{has_drive, has_number_sign, has_two_slashes};
+use crate::cut::Cut;
+use crate::places::{path_place, refusal_behind, slashes_place};
+use crate::setting::Setting;
+use uv_model::{Class, Host, Record, Refusal, Rule};
+
+/// The least refusal under which no host, port and start of a path is judged: a text without a scheme against no base
+/// or an opaque one, and a special scheme without `//`.
+pub(crate) fn start_fault(text: &str, cut: &Cut, setting: &Setting) -> Option<Refusal>
+    requires count { IsCountable cut.now }
+    requires setting { IsSettingOf cut.now setting.now }
+    ensures { IsLeast (StartComplaint setting.now.base (chars text.now) cut.now) result }
+{
+    match cut.scheme {
+        Some(_) => {
+            if lacks_slashes(cut, setting) {
+                Some(Refusal {
+                    place: slashes_place(cut),
+                    rule: Rule::TwoSlashes,
+                })
+            } else {
+                None
+            }
+        }
+        None => base_fault(text, setting.base),
+    }
+}
+
+// A special scheme has no authority.
+fn lacks_slashes(cut: &Cut, setting: &Setting) -> bool
+    requires some { IsSome cut.now.scheme }
+    requires setting { IsSettingOf cut.now setting.now }
+    ensures { IsTrue result ↔ ((class_in None cut.now.scheme ≢ Class.Other) × (cut.now.host_text ≡ None)) }
+{
+    match (setting.class, cut.host_text) {
+        (Class::Other, _) => false,
+        (_, None) => true,
+        (_, Some(_)) => false,
+    }
+}
+
+// The refusal of a text without a scheme.
+fn base_fault(text: &str, base: Option<&Record>) -> Option<Refusal>
+    ensures { result ≡ base_fault (option_copied base.entry) (chars text.now) }
+{
+    match base {
+        None => Some(Refusal {
+            place: 0,
+            rule: Rule::NoScheme,
+        }),
+        Some(record) => {
+            if record.is_opaque() && !has_number_sign(text) {
+                Some(Refusal {
+                    place: 0,
+                    rule: Rule::OpaqueBase,
+                })
+            } else {
+                None
+            }
+        }
+    }
+}
+
+/// The least refusal of the start of the path.
+pub(crate) fn path_start_fault(cut: &Cut, setting: &Setting) -> Option<Refusal>
+    requires count { IsCountable cut.now }
+    requires setting { IsSettingOf cut.now setting.now }
+    ensures { IsLeast (OfPathStart setting.now.base cut.now) result }
+{
+    match first_segment_fault(cut, setting) {
+        Some(refusal) => Some(refusal_behind(path_place(cut), refusal)),
+        None => None,
+    }
+}
+
+// The same, its place counted in code points from the path's start.
+fn first_segment_fault(cut: &Cut, setting: &Setting) -> Option<Refusal>
+    requires { IsSettingOf cut.now setting.now }
+    ensures { IsLeast (PathStartComplaint setting.now.base cut.now) result }
+{
+    if has_two_slashes(cut.path_text) {
+        return Some(Refusal {
+            place: 1,
+            rule: Rule::FirstSegmentEmpty,
+        });
+    }
+    if has_drive(cut.path_text) && keeps_drive_out(cut, setting) {
+        Some(Refusal {
+            place: 0,
+            rule: Rule::DriveAfterHost,
+        })
+    } else {
+        None
+    }
+}
+
+// A file URL has a host, so that no drive letter may begin its path.
+fn keeps_drive_out(cut: &Cut, setting: &Setting) -> bool
+    requires { IsSettingOf cut.now setting.now }
+    ensures { IsTrue result ↔ ((class_in setting.now.base cut.now.scheme ≡ Class.File)
+        × HasHost setting.now.base cut.now.scheme cut.now.host_text) }
+{
+    match setting.class {
+        Class::File => has_host(cut, setting.base),
+        Class::Special | Class::Other => false,
+    }
+}
+
+// There is a host in the text, or without a scheme and an authority in the base.
+fn has_host(cut: &Cut, base: Option<&Record>) -> bool
+    ensures { IsTrue result ↔ HasHost (option_copied base.entry) cut.now.scheme cut.now.host_text }
+{
+    match (cut.host_text, cut.scheme, base) {
+        (Some(host_text), _, _) => holds_any(host_text),
+        (None, None, Some(record)) => !is_empty_host(record.host()),
+        (None, _, _) => false,
+    }
+}
+
+// The text isn't empty.
+fn holds_any(text: &str) -> bool
+    ensures { IsTrue result ↔ (chars text.now ≢ []) }
+{
+    !text.is_empty()
+}
+
+// The host is the empty one.
+fn is_empty_host(host: Option<&Host>) -> bool
+    ensures { IsTrue result ↔ (option_copied host.entry ≡ Some Host.Empty) }
+{
+    match host {
+        Some(Host::Empty) => true,
+        _ => false,
+    }
+}

@@ -1,0 +1,70 @@
+//! The first faults of what the path, the query and the fragment of a cut text hold.
+ghost use Rattle.std.specs.Prelude.{◌+◌, ◌<◌, ◌^◌, length};
+ghost use Rattle.std.specs.Str.{chars};
+ghost use Rattle.uv_model.specs.Complaints.Refusal.{IsLeast};
+ghost use Rattle.uv_grammar.specs.PartComplaints.{BehindAuthority, IsCountable, OfFragment, OfPath, OfQuery};
+ghost use Rattle.uv_grammar.specs.Setting.{IsSettingOf};
+
+use crate::cut::Cut;
+use crate::places::{fragment_place, path_place, query_place, refusal_behind};
+use crate::setting::Setting;
+use crate::start_rules::path_start_fault;
+use uv_model::Refusal;
+use uv_text::first_fault;
+
+/// The least refusal of what stands behind the authority: the path with its start, the query and the fragment.
+pub(crate) fn fault_behind_authority(cut: &Cut, setting: &Setting) -> Option<Refusal>
+    requires count { IsCountable cut.now }
+    requires setting { IsSettingOf cut.now setting.now }
+    ensures { IsLeast (BehindAuthority setting.now.base cut.now) result }
+{
+    if let Some(refusal) = path_start_fault(cut, setting) {
+        return Some(refusal);
+    }
+    if let Some(refusal) = path_fault(cut) {
+        return Some(refusal);
+    }
+    if let Some(refusal) = query_fault(cut) {
+        return Some(refusal);
+    }
+    fragment_fault(cut)
+}
+
+// The least refusal of what the path holds.
+fn path_fault(cut: &Cut) -> Option<Refusal>
+    requires { IsCountable cut.now }
+    ensures { IsLeast (OfPath cut.now) result }
+{
+    match first_fault(cut.path_text) {
+        Some(refusal) => Some(refusal_behind(path_place(cut), refusal)),
+        None => None,
+    }
+}
+
+// The least refusal of the query.
+fn query_fault(cut: &Cut) -> Option<Refusal>
+    requires { IsCountable cut.now }
+    ensures { IsLeast (OfQuery cut.now) result }
+{
+    match cut.query {
+        Some(query) => match first_fault(query) {
+            Some(refusal) => Some(refusal_behind(query_place(cut), refusal)),
+            None => None,
+        },
+        None => None,
+    }
+}
+
+// The least refusal of the fragment.
+fn fragment_fault(cut: &Cut) -> Option<Refusal>
+    requires { IsCountable cut.now }
+    ensures { IsLeast (OfFragment cut.now) result }
+{
+    match cut.fragment {
+        Some(fragment) => match first_fault(fragment) {
+            Some(refusal) => Some(refusal_behind(fragment_place(cut), refusal)),
+            None => None,
+        },
+        None => None,
+    }
+}
