@@ -3,7 +3,7 @@ use Rattle.std.proofs.Common.{◌≡◌, ℕ, List, [], ◌∷◌, ◌++◌, Boo
 use Rattle.std.specs.Prelude.{◌&&◌}
 use Rattle.std.specs.Str.{chars, IsUtf8, IsAscii}
 use Rattle.std.proofs.lemmas.Str.{chars-append, chars-IsAscii, encodes-append, encodes-IsAscii, encodes-chars, IsUtf8-from_ascii}
-use Rattle.std.proofs.lemmas.Bool.{and_parts}
+use Rattle.std.proofs.lemmas.Bool.{and_parts, false≢true}
 use Rattle.std.proofs.lemmas.Bool.Decides.{nat_tests}
 use Rattle.std.specs.List.{list_all}
 use Rattle.std.specs.Char.{is_ascii, is_ascii_alphabetic, is_ascii_digit}
@@ -68,50 +68,33 @@ list_all_weaker p q weaker (x ∷ xs) passed =
     let parts = and_parts (p x) (list_all p xs) passed in
     and_true (weaker x parts.0) (list_all_weaker p q weaker xs parts.1)
 
--- `/` is the first code point where it is the first byte
-pub starts_with_slash-chars : (bytes : List ℕ) → IsUtf8 bytes
-    → starts_with_slash (chars bytes) ≡ starts_with_slash bytes
-starts_with_slash-chars bytes utf8 = front_test starts_with_slash passes bytes utf8
+-- a test of the first code point that only ASCII passes
+first_test : (test : List ℕ → Bool) → test [] ≡ false
+    → ((c : ℕ) (rest other : List ℕ) → test (c ∷ rest) ≡ true → (is_ascii c ≡ true) × (test (c ∷ other) ≡ true))
+    → (bytes : List ℕ) → IsUtf8 bytes → test (chars bytes) ≡ test bytes
+first_test test none one bytes utf8 = front_test test passes bytes utf8
   where
-    passes : (text : List ℕ) → starts_with_slash text ≡ true → PassesByFront starts_with_slash text
-    passes [] passed = absurd cc
+    passes : (text : List ℕ) → test text ≡ true → PassesByFront test text
+    passes [] passed = absurd (false≢true (sym none ∙ passed))
     passes (c ∷ rest) passed = record {
       front = c ∷ [];
       rest = rest;
       whole = refl;
-      ascii = IsAscii-from_test (c ∷ []) (grind (arith, nat_tests));
-      any = λ other. passed;
+      ascii = IsAscii-from_test (c ∷ []) (and_true (one c rest rest passed).0 refl);
+      any = λ other. (one c rest other passed).1;
     }
+
+-- `/` is the first code point where it is the first byte
+pub starts_with_slash-chars : (bytes : List ℕ) → IsUtf8 bytes → starts_with_slash (chars bytes) ≡ starts_with_slash bytes
+starts_with_slash-chars = first_test starts_with_slash refl (λ c rest other passed. (grind (arith, nat_tests), passed))
 
 -- `#` is the first code point where it is the first byte
-pub starts_with_number_sign-chars : (bytes : List ℕ) → IsUtf8 bytes
-    → starts_with_number_sign (chars bytes) ≡ starts_with_number_sign bytes
-starts_with_number_sign-chars bytes utf8 = front_test starts_with_number_sign passes bytes utf8
-  where
-    passes : (text : List ℕ) → starts_with_number_sign text ≡ true → PassesByFront starts_with_number_sign text
-    passes [] passed = absurd cc
-    passes (c ∷ rest) passed = record {
-      front = c ∷ [];
-      rest = rest;
-      whole = refl;
-      ascii = IsAscii-from_test (c ∷ []) (grind (arith, nat_tests));
-      any = λ other. passed;
-    }
+pub starts_with_number_sign-chars : (bytes : List ℕ) → IsUtf8 bytes → starts_with_number_sign (chars bytes) ≡ starts_with_number_sign bytes
+starts_with_number_sign-chars = first_test starts_with_number_sign refl (λ c rest other passed. (grind (arith, nat_tests), passed))
 
 -- `[` is the first code point where it is the first byte
-pub starts_with_bracket-chars : (bytes : List ℕ) → IsUtf8 bytes
-    → starts_with_bracket (chars bytes) ≡ starts_with_bracket bytes
-starts_with_bracket-chars bytes utf8 = front_test starts_with_bracket passes bytes utf8
-  where
-    passes : (text : List ℕ) → starts_with_bracket text ≡ true → PassesByFront starts_with_bracket text
-    passes [] passed = absurd cc
-    passes (c ∷ rest) passed = record {
-      front = c ∷ [];
-      rest = rest;
-      whole = refl;
-      ascii = IsAscii-from_test (c ∷ []) (grind (arith, nat_tests));
-      any = λ other. passed;
-    }
+pub starts_with_bracket-chars : (bytes : List ℕ) → IsUtf8 bytes → starts_with_bracket (chars bytes) ≡ starts_with_bracket bytes
+starts_with_bracket-chars = first_test starts_with_bracket refl (λ c rest other passed. (grind (arith, nat_tests), passed))
 
 -- `//` begins the code points where it begins the bytes
 pub starts_with_two_slashes-chars : (bytes : List ℕ) → IsUtf8 bytes

@@ -1,13 +1,15 @@
 //! Tests of the start of a text, and of schemes and digits.
-ghost use Rattle.std.specs.Prelude.{◌≡◌, ◌∷◌, []};
+ghost use Rattle.std.specs.Prelude.{◌≡◌};
 ghost use Rattle.std.specs.List.{list_all};
 ghost use Rattle.std.specs.Char.{is_ascii_digit};
 ghost use Rattle.std.specs.Str.{chars};
 ghost use Rattle.uv_model.specs.Complaints.Complaint.{starts_with_number_sign};
 ghost use Rattle.uv_model.specs.Cut.{starts_with_two_slashes};
 ghost use Rattle.uv_model.specs.Hosts.OpaqueHost.{starts_with_bracket};
-ghost use Rattle.uv_model.specs.Path.{is_drive_letter, starts_with_drive, starts_with_slash};
+ghost use Rattle.uv_model.specs.Path.{starts_with_drive, starts_with_slash};
 ghost use Rattle.uv_model.specs.Scheme.{is_scheme, is_scheme_code_point};
+
+use uv_model::is_drive_letter;
 
 /// Whether the text begins with `/`.
 pub(crate) fn has_slash(text: &str) -> bool
@@ -53,16 +55,10 @@ fn drive_first(bytes: &[u8]) -> bool
 {
     match bytes {
         [first, letter, mark, next, ..] => {
-            *first == b'/' && (is_drive_letter(*letter, *mark) && *next == b'/')
+            *first == b'/' && (is_drive_letter(&[*letter, *mark]) && *next == b'/')
         }
         _ => false,
     }
-}
-
-fn is_drive_letter(letter: u8, mark: u8) -> bool
-    ensures { result ≡ is_drive_letter (letter ∷ mark ∷ []) }
-{
-    letter.is_ascii_alphabetic() && (mark == b':' || mark == b'|')
 }
 
 /// Whether the text begins with `#`.

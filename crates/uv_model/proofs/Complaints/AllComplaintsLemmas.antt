@@ -87,11 +87,10 @@ pub lists_like : (F G : ℕ → Rule → Type 0) → ((place : ℕ) (rule : Rule
     → ((place : ℕ) (rule : Rule) → G place rule → F place rule) → (list : List Refusal) → ListsComplaints F list
     → ListsComplaints G list
 lists_like F G to from list is = record {
-  each = λ refusal.
-      (
-        λ h. to refusal.place refusal.rule ((is.each refusal).0 h),
-        λ h. (is.each refusal).1 (from refusal.place refusal.rule h),
-      );
+  each = λ refusal. (
+    λ h. to refusal.place refusal.rule ((is.each refusal).0 h),
+    λ h. (is.each refusal).1 (from refusal.place refusal.rule h),
+  );
   ordered = is.ordered;
 }
 
