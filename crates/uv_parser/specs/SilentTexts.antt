@@ -1,6 +1,6 @@
 -- The texts on which the URL parser (URL Standard, section 4.4) is silent, as a grammar: the standard's of section 4.3,
 -- with the parser's own conditions on a host, a path behind an authority and the authority of a file URL.
-use Rattle.std.specs.Prelude.{◌≡◌, ℕ, ◌⊎◌, false, true, List, [], ◌∷◌, Option, Some, None}
+use Rattle.std.specs.Prelude.{◌≡◌, ℕ, ◌⊎◌, false, true, List, [], Option, Some, None}
 use Rattle.uv_model.specs.declared.profile.Profile.TheVariants.{Standard, Wide}
 use Rattle.uv_model.specs.declared.scheme.Class.{Class}
 use Rattle.uv_model.specs.declared.scheme.Class.TheVariants.{Special, File, Other}

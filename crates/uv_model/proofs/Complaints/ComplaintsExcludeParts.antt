@@ -10,12 +10,11 @@ use Rattle.uv_model.specs.declared.rule.Rule.{Rule}
 use Rattle.uv_model.specs.declared.rule.Rule.TheVariants.{NoScheme, OpaqueBase, TwoSlashes, HostMissing, FirstSegmentEmpty, DriveAfterHost}
 use Rattle.uv_model.specs.Ascii.{slash}
 use Rattle.uv_model.specs.Path.{IsPathAbsolute, IsPathRelative, IsPathSlashed, starts_with_slash, starts_with_drive}
-use Rattle.uv_model.specs.Scheme.{scheme_class}
 use Rattle.uv_model.specs.Units.{IsUnits, is_url_code_point}
 use Rattle.uv_model.specs.Records.Url.{Url}
 use Rattle.uv_model.specs.Parts.{Form, SchemeAuthority, SchemePath, SchemeOpaque, Authority, PathAbsolute, PathRelative, NoPath, Parts, has_scheme, written}
 use Rattle.uv_model.specs.Setting.{Setting, setting_of}
-use Rattle.uv_model.specs.Valid.{Valid, MayBePathBehind, MayBePortText, MayBeUnits, FitsAuthority, FitsHostText, FitsForm, FitsScheme, FitsBase, FitsDrive, HasNoAuthority, scheme_in}
+use Rattle.uv_model.specs.Valid.{Valid, MayBePathBehind, MayBePortText, MayBeUnits, FitsAuthority, FitsHostText, FitsForm, FitsScheme, FitsBase, FitsDrive, HasNoAuthority}
 use Rattle.uv_model.specs.Cut.{Cut, texts_of, class_in, starts_with_two_slashes, query_place, fragment_place}
 use Rattle.uv_model.specs.Complaints.OpaqueHostComplaint.{OpaqueHostComplaint}
 use Rattle.uv_model.specs.Complaints.Complaint.{StartComplaint, HostTextComplaint, HostComplaint, PathStartComplaint, HasEmptyFirst, HostPartComplaint, PortPartComplaint, MayBeUnitComplaint, HasHost, ComplaintOf, Complaint, starts_with_number_sign, HasOpaquePath}

@@ -11,7 +11,7 @@ use Rattle.uv_model.specs.declared.path.UrlPath.TheVariants.{Segments}
 use Rattle.uv_model.specs.Records.Denote.{authority_host, authority_path}
 use Rattle.uv_model.specs.Encoding.{encoded}
 use Rattle.uv_model.specs.Parts.{Parts}
-use Rattle.uv_model.specs.Path.{MayBePathSlashed, AreSegments, IsPathSlashed, JoinsTo, walk}
+use Rattle.uv_model.specs.Path.{MayBePathSlashed, AreSegments, JoinsTo, walk}
 use Rattle.uv_model.specs.Scheme.{default_port, scheme_class}
 use Rattle.uv_model.specs.Setting.{Setting}
 use Rattle.uv_model.specs.Valid.{FitsAuthority, IsFileHostText, IsHostText, IsOpaqueHostText, is_default_port, port_given}

@@ -6,13 +6,11 @@ use Rattle.std.specs.List.{slice_split, join_with_byte}
 use Rattle.std.proofs.lemmas.List.Elements.{All-nil, All-cons}
 use Rattle.std.proofs.lemmas.List.Splits.{slice_split_none, slice_split_at}
 use Rattle.uv_model.specs.declared.profile.Profile.{Profile}
-use Rattle.uv_model.specs.declared.profile.Profile.TheVariants.{Standard, Wide}
 use Rattle.uv_model.specs.declared.scheme.Class.{Class}
 use Rattle.uv_model.specs.declared.scheme.Class.TheVariants.{Special, File, Other}
 use Rattle.uv_model.specs.declared.host.Host.{Host}
 use Rattle.uv_model.specs.Ascii.{slash}
-use Rattle.uv_model.specs.Path.{MayBePathSlashed, IsPathAbsolute, IsPathRelative, JoinsTo, AreSegments, is_without, starts_with_slash, IsPathSlashed}
-use Rattle.uv_model.specs.Records.Url.{Url}
+use Rattle.uv_model.specs.Path.{MayBePathSlashed, IsPathAbsolute, IsPathRelative, IsPathSlashed, JoinsTo, AreSegments, is_without, starts_with_slash}
 use Rattle.uv_model.specs.Parts.{Form, SchemeAuthority, SchemePath, SchemeOpaque, Authority, PathAbsolute, PathRelative, NoPath, Parts, has_scheme}
 use Rattle.uv_model.specs.Setting.{Setting, setting_of}
 use Rattle.uv_model.specs.Valid.{FitsAuthority, FitsHostText, HasNoAuthority, FitsForm, FitsScheme, port_given}

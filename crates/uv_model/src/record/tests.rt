@@ -1,6 +1,7 @@
 //! A record with every field, made, read and copied.
 
 use super::*;
+use crate::profile::Profile;
 use crate::text::TextList;
 use crate::well_formedness::well_formed;
 use std::test::Fail;

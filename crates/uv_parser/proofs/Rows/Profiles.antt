@@ -1,14 +1,12 @@
 -- The rows of specs/Rows/Profiles hold: each text by its parts, and what computes by computation.
-use Rattle.std.proofs.Common.{◌≡◌, ◌≢◌, ℕ, true, false, List, [], ◌∷◌, Option, Some, None, codes, refl, sym, subst, ◌∙◌, inl, inr}
-use Rattle.std.specs.List.{list_all, join_with_byte}
-use Rattle.std.specs.Prelude.{IsSome}
-use Rattle.std.proofs.lemmas.Bool.{false≢true, true≢false}
+use Rattle.std.proofs.Common.{◌≡◌, ◌≢◌, ℕ, true, false, List, [], ◌∷◌, Some, None, codes, refl, sym, subst, ◌∙◌, inl, inr}
+use Rattle.std.specs.List.{list_all}
+use Rattle.std.proofs.lemmas.Bool.{false≢true}
 use Rattle.std.proofs.lemmas.Option.{none-some}
 use Rattle.std.proofs.lemmas.List.Sums.{AllPass-from_list_all}
 use Rattle.uv_model.specs.declared.host.Host.TheVariants as host
 use Rattle.uv_model.specs.declared.profile.Profile.{Profile}
 use Rattle.uv_model.specs.declared.profile.Profile.TheVariants.{Standard, Wide}
-use Rattle.uv_model.specs.declared.rule.Rule.{Rule}
 use Rattle.uv_model.specs.declared.rule.Rule.TheVariants.{HostDomain, HostNumber, FirstSegmentEmpty, DriveAfterHost}
 use Rattle.uv_model.specs.Ascii.{slash, question_mark}
 use Rattle.uv_model.specs.Complaints.Complaint.{Complaint, ComplaintOf, HostTextComplaint, ShouldBeDomain}
@@ -17,9 +15,8 @@ use Rattle.uv_model.specs.Hosts.Domain.{IsDomain, IsNumberText, HasNoForm, has_l
 use Rattle.uv_parser.specs.Ipv4Parser.{parse_ipv4}
 use Rattle.uv_model.specs.Hosts.OpaqueHost.{starts_with_bracket}
 use Rattle.uv_model.specs.Parts.{written}
-use Rattle.uv_model.specs.Path.{AreSegments, IsPathSlashed, IsSegment, is_without}
-use Rattle.uv_parser.specs.Rows.Profiles.{IsWide, ProfileRows, WidePathRows, WideDomainRows, WideRefusalRows, WideReferenceRows, WideRecordRows, file_parts, http_parts, reference_parts}
-use Rattle.uv_parser.specs.Rows.References.{root_base}
+use Rattle.uv_model.specs.Path.{IsPathSlashed, IsSegment, is_without}
+use Rattle.uv_parser.specs.Rows.Profiles.{IsWide, ProfileRows, WideReferenceRows, WideRecordRows, file_parts, http_parts}
 use Rattle.uv_model.specs.Scheme.{scheme_class, default_port}
 use Rattle.uv_model.specs.Setting.{setting_of}
 use Rattle.uv_model.specs.Units.{is_faultless}

@@ -1,6 +1,6 @@
 -- Texts by which the profiles differ, and some on which they agree: valid parts, the URL that they denote, and
 -- complaints.
-use Rattle.std.specs.Prelude.{◌≡◌, ℕ, List, [], ◌∷◌, codes, Option, Some, None}
+use Rattle.std.specs.Prelude.{◌≡◌, ℕ, List, [], ◌∷◌, codes, Some, None}
 use Rattle.uv_model.specs.declared.host.Host.{Host}
 use Rattle.uv_model.specs.declared.host.Host.TheVariants as host
 use Rattle.uv_model.specs.declared.profile.Profile.TheVariants.{Standard, Wide}
@@ -11,7 +11,6 @@ use Rattle.uv_model.specs.Parts.{SchemeAuthority, Authority, Parts}
 use Rattle.uv_parser.specs.Rows.{listed}
 use Rattle.uv_parser.specs.Rows.References.{root_base}
 use Rattle.uv_model.specs.Records.Serialize.{serial}
-use Rattle.uv_model.specs.Records.Url.{Url}
 use Rattle.uv_model.specs.Valid.{Valid}
 use Rattle.uv_model.specs.Records.WellFormed.{WellFormed}
 
