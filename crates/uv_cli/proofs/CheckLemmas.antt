@@ -1,14 +1,12 @@
--- What a check says: the parser's silence by the class of the scheme, and the base by its text.
-use Rattle.std.proofs.Common.{◌≡◌, ℕ, true, List, Option}
+-- What a check says against the URL of the base, and the runs of the parser on the base's text and the text.
+use Rattle.std.proofs.Common.{ℕ, List, Option, Some, None, chars}
 use Rattle.std.specs.Borrow.{Bor}
-use Rattle.uv_model.specs.Parts.{Parts, has_scheme}
-use Rattle.uv_parser.specs.Laws.Silence.{RunsSilently}
+use Rattle.uv_model.specs.Records.Denote.{denote}
 use Rattle.uv_model.specs.Records.Url.{Url}
-use Rattle.uv_model.specs.Valid as valid
-use Rattle.uv_parser.proofs.Silence.ValidSilent.{scheme_runs_silently}
+use Rattle.uv_resolve.proofs.RunLemmas.{runs_to_its_record}
 use Rattle.uv_cli.specs.declared.check.CheckEnd.{CheckEnd}
 use Rattle.uv_cli.specs.declared.check.CheckEnd.TheVariants.{Valid, Refused, BaseRefused}
-use Rattle.uv_cli.specs.Check.{HasWritten, IsBase, WritesWhole}
+use Rattle.uv_cli.specs.Check.{HasWritten, IsBase, RunsAgainst, WritesWhole}
 
 -- the whole that was written against the URL of the base
 pub written_against : (base : Option (Bor (List ℕ))) (url : Option Url) (text : List ℕ) (old new : Option (List ℕ))
@@ -18,7 +16,11 @@ written_against base url text old new Valid is written = (url, is, written)
 written_against base url text old new Refused is written = (url, is, written)
 written_against base url text old new (BaseRefused refusal) is written = absurd written.says
 
--- the parser is silent on each valid text with a scheme
-pub scheme_silent : (base : Option Url) (text : List ℕ) (parts : Parts) → valid.Valid base text parts
-    → has_scheme parts.form ≡ true → RunsSilently base text parts
-scheme_silent base text parts valid has = scheme_runs_silently base text parts valid has
+-- the parser runs to the records of the base's text and of the text
+pub runs_against : (base : Option (Bor (List ℕ))) (text : List ℕ) → RunsAgainst base text
+runs_against None text = runs_to_its_record None text tt
+runs_against (Some base) text = (
+  runs_to_its_record None (chars base.now) tt,
+  λ parts valid.
+      runs_to_its_record (Some (denote None parts)) text (runs_to_its_record None (chars base.now) tt parts valid).1,
+)

@@ -1,4 +1,2 @@
 mod CheckLemmas
 mod ReportLemmas
-mod ResolverLemmas
-mod WalkLemmas

@@ -1,27 +1,25 @@
 -- What a check says of a text, and what it writes.
-use Rattle.std.specs.Prelude.{◌≡◌, ℕ, true, List, Option, Some, None, take}
+use Rattle.std.specs.Prelude.{◌≡◌, ℕ, List, Option, Some, None, take}
 use Rattle.std.specs.Borrow.{Bor}
 use Rattle.std.specs.Io.KnownBytes.{Appends}
 use Rattle.std.specs.Str.{chars}
 use Rattle.uv_model.specs.declared.rule.Refusal.{Refusal}
 use Rattle.uv_model.specs.Records.Denote.{denote}
-use Rattle.uv_model.specs.Parts.{Parts, has_scheme}
+use Rattle.uv_model.specs.Parts.{Parts}
 use Rattle.uv_parser.specs.Laws.Silence.{RunsSilently}
 use Rattle.uv_model.specs.Records.Url.{Url}
 use Rattle.uv_model.specs.Valid.{Valid}
 use Rattle.uv_grammar.specs.Verdict.{IsRefused}
+use Rattle.uv_resolve.specs.Resolve.{RunsToItsRecord}
 use Rattle.uv_cli.specs.declared.check.CheckEnd.{CheckEnd}
 use Rattle.uv_cli.specs.declared.check.CheckEnd.TheVariants as check
-use Rattle.uv_cli.specs.declared.check.Answer.{Answer}
-use Rattle.uv_cli.specs.declared.check.Answer.TheVariants as answer
 use Rattle.uv_cli.specs.CheckText.{check_text, refused_text}
 
 -- What a check says of a text against a URL as base, and how it ends: the lines of the URL that the text denotes, or
--- the line of its refusal. On a text with a scheme the URL parser is silent, and gives the URL that is denoted.
+-- the line of its refusal. On a valid text the URL parser is silent, and gives the URL that is denoted.
 abbrev pub Says : Option Url → List ℕ → CheckEnd → List ℕ → Type 0
 Says base text check.Valid whole =
-    (parts : Parts) × Valid base text parts × (has_scheme parts.form ≡ true → RunsSilently base text parts)
-    × (whole ≡ check_text (denote base parts))
+    (parts : Parts) × Valid base text parts × RunsSilently base text parts × (whole ≡ check_text (denote base parts))
 Says base text check.Refused whole =
     (refusal : Refusal) × IsRefused base text refusal × (whole ≡ refused_text refusal)
 Says base text (check.BaseRefused refusal) whole = ⊥
@@ -61,8 +59,10 @@ HasWritten base text end old new = (url : Option Url) × IsBase base url × Writ
 abbrev pub HasWrittenFront : Option (Bor (List ℕ)) → List ℕ → Option (List ℕ) → Option (List ℕ) → Type 0
 HasWrittenFront base text old new = (url : Option Url) × IsBase base url × WritesFront url text old new
 
--- the text denotes the record against the base, or is refused
-abbrev pub IsAnswer : Option Url → List ℕ → Answer → Type 0
-IsAnswer base text (answer.Url url) =
-    (parts : Parts) × Valid base text parts × (url ≡ denote base parts)
-IsAnswer base text (answer.No refusal) = IsRefused base text refusal
+-- the parser runs to the record of the text where it is valid, alone or against the URL that the base's text denotes,
+-- and to the record of the base's text where that is valid alone
+abbrev pub RunsAgainst : Option (Bor (List ℕ)) → List ℕ → Type 0
+RunsAgainst None text = RunsToItsRecord None text
+RunsAgainst (Some base) text =
+    RunsToItsRecord None (chars base.now)
+    × ((parts : Parts) → Valid None (chars base.now) parts → RunsToItsRecord (Some (denote None parts)) text)

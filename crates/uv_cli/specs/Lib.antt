@@ -1,4 +1,3 @@
 pub mod Check
 pub mod CheckText
 pub mod Statuses
-pub mod Walk

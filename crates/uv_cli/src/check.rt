@@ -1,15 +1,13 @@
 //! The check of one text, alone or against a base.
 ghost use Rattle.std.specs.Prelude.{◌≡◌, ◌+◌, ◌-◌, ◌^◌, ◌<◌, ℕ, List, Option, Some, None, IfOk, OnOk, OnErr, chars, option_copied, string_bytes, take};
 ghost use Rattle.std.specs.Io.KnownBytes.{Appends};
-ghost use Rattle.uv_model.specs.Records.WellFormed.{MayBeWellFormed};
-ghost use Rattle.uv_cli.specs.Check.{HasWritten, HasWrittenFront, IsAnswer, Says, WritesFront, WritesWhole};
+ghost use Rattle.uv_cli.specs.Check.{HasWritten, HasWrittenFront, RunsAgainst, Says, WritesFront, WritesWhole};
 
 use crate::fault::CliFault;
 use crate::report::{check_lines, refused_line};
-use crate::resolver::denoted;
 use std::alloc::{AllocError, Global};
-use uv_grammar::{Verdict, check};
 use uv_model::{DeviceFault, Record, Refusal, Sink, write_whole};
+use uv_resolve::{ResolveFault, resolve};
 
 /// How a check ends.
 #[derive(Clone, Copy, Debug, PartialEq, Eq)]
@@ -26,6 +24,7 @@ pub enum CheckEnd {
 ///
 /// The base is resolved alone, before the text is looked at. A fault of memory leaves the output as it was; a fault
 /// of a write leaves a beginning of what was to be written.
+#[tactic(auto, using(crate::proofs::CheckLemmas::runs_against))]
 pub fn run_check<S: Sink>(
     alloc: Global,
     text: &str,
@@ -41,13 +40,15 @@ pub fn run_check<S: Sink>(
     ensures front { result ≡ Err CliFault.Write → HasWrittenFront base.entry (chars text.now)
         (S.contents out.old) (S.contents out.new) }
     ensures failed { result ≡ Err CliFault.Write → S.failed out.new ≡ S.failed out.old + 1 }
+    ensures runs { RunsAgainst base.entry (chars text.now) }
 {
     let Some(base) = base else {
         return check_against(alloc, text, None, out);
     };
-    match answer_of(alloc, base, None)? {
-        Answer::Url(base) => check_against(alloc, text, Some(&base), out),
-        Answer::No(refusal) => Ok(CheckEnd::BaseRefused(refusal)),
+    match resolve(alloc, base, None) {
+        Ok(base) => check_against(alloc, text, Some(&base), out),
+        Err(ResolveFault::Refused(refusal)) => Ok(CheckEnd::BaseRefused(refusal)),
+        Err(ResolveFault::Memory(_)) => Err(CliFault::Memory),
     }
 }
 
@@ -58,8 +59,7 @@ fn check_against<S: Sink>(
     base: Option<&Record>,
     out: &mut S,
 ) -> Result<CheckEnd, CliFault>
-    requires can_fail { S.failed out.old < 2 ^ 64 - 1 }
-    requires base { MayBeWellFormed (option_copied base) }
+    requires { S.failed out.old < 2 ^ 64 - 1 }
     ensures written { IfOk result (λ end. WritesWhole (option_copied base.entry) (chars text.now) end
         (S.contents out.old) (S.contents out.new)) }
     ensures memory { result ≡ Err CliFault.Memory → out.new ≡ out.old }
@@ -76,30 +76,14 @@ fn check_against<S: Sink>(
 
 // What a check says of a text against a record as base, and how it ends.
 fn said(alloc: Global, text: &str, base: Option<&Record>) -> Result<(CheckEnd, String), AllocError>
-    requires { MayBeWellFormed (option_copied base) }
     ensures { IfOk result (λ r.
         Says (option_copied base.entry) (chars text.now) r.0 (string_bytes r.1)) }
 {
-    match answer_of(alloc, text, base)? {
-        Answer::Url(url) => Ok((CheckEnd::Valid, check_lines(alloc, &url)?)),
-        Answer::No(refusal) => Ok((CheckEnd::Refused, refused_line(alloc, refusal)?)),
-    }
-}
-
-/// What a text denotes against a base, or why it is refused.
-#[derive(Drop)]
-enum Answer {
-    Url(Record),
-    No(Refusal),
-}
-
-// The record that a text denotes against a base, or its refusal.
-fn answer_of(alloc: Global, text: &str, base: Option<&Record>) -> Result<Answer, AllocError>
-    requires { MayBeWellFormed (option_copied base) }
-    ensures { IfOk result (IsAnswer (option_copied base.entry) (chars text.now)) }
-{
-    match check(alloc, text, base)? {
-        Verdict::Yes(parts) => Ok(Answer::Url(denoted(alloc, &parts, base)?)),
-        Verdict::No(refusal) => Ok(Answer::No(refusal)),
+    match resolve(alloc, text, base) {
+        Ok(url) => Ok((CheckEnd::Valid, check_lines(alloc, &url)?)),
+        Err(ResolveFault::Refused(refusal)) => {
+            Ok((CheckEnd::Refused, refused_line(alloc, refusal)?))
+        }
+        Err(ResolveFault::Memory(error)) => Err(error),
     }
 }

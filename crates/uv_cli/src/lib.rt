@@ -5,8 +5,6 @@ mod check;
 mod fault;
 pub mod program;
 mod report;
-mod resolver;
-mod walker;
 mod words;
 
 pub use check::{CheckEnd, run_check};

@@ -69,6 +69,16 @@ impl<'t> HeldHost<'t> {
             HeldHost::Plain(name) => HostRef::Domain(AsciiText::of(name.as_str())),
         }
     }
+
+    /// The host given back, copied only where it is a slice of the text. The error is want of memory.
+    pub(crate) fn into_host(self, alloc: Global) -> Result<Host, AllocError>
+        ensures { IfOk result (λ host. host ≡ held self.entry) }
+    {
+        match self {
+            HeldHost::Made(host) => Ok(host),
+            HeldHost::Plain(name) => Ok(Host::Domain(name.copy(alloc)?)),
+        }
+    }
 }
 
 /// A host, lent.

@@ -1,5 +1,5 @@
 //! The parts of a valid URL string.
-ghost use Rattle.std.specs.Prelude.{◌≡◌, ℕ, List, option_map};
+ghost use Rattle.std.specs.Prelude.{◌≡◌, ℕ, List, IfOk, option_map};
 ghost use Rattle.std.specs.Str.{chars};
 ghost use Rattle.std.specs.Iterator.{YieldsFirstBy, item_count};
 ghost use Rattle.uv_grammar.specs.Form.{seen_form};
@@ -11,7 +11,9 @@ use crate::cut::Cut;
 use crate::form::Form;
 use crate::held_host::{HeldHost, HostRef};
 use crate::marks::{behind_slash, split_at_mark};
+use std::alloc::{AllocError, Global};
 use std::marker::{Model, PhantomData};
+use uv_model::Host;
 
 /// The parts of a valid URL string, as slices of it, and the values of its host and port.
 #[derive(Drop)]
@@ -74,6 +76,16 @@ impl<'t> Parts<'t> {
         match &self.host {
             Some(host) => Some(host.lent()),
             None => None,
+        }
+    }
+
+    /// The same host given back, copied only where it is a slice of the text. The error is want of memory.
+    pub fn into_host(self, alloc: Global) -> Result<Option<Host>, AllocError>
+        ensures { IfOk result (λ host. host ≡ self.entry.host) }
+    {
+        match self.host {
+            Some(host) => Ok(Some(host.into_host(alloc)?)),
+            None => Ok(None),
         }
     }
 

@@ -3,7 +3,6 @@ ghost use Rattle.uv_parser.specs.HostParser.{DomainsAreParsed, EmptyHostIsParsed
 ghost use Rattle.uv_parser.specs.Ipv4Parser.{Ipv4ParserTakesIpv4Texts, Ipv4TextsAreParsed};
 ghost use Rattle.uv_parser.specs.Ipv6Parser.{Ipv6ParserTakesIpv6Texts, Ipv6TextsAreParsed};
 ghost use Rattle.uv_parser.specs.Laws.OtherHosts.{SilentOtherHostsAreValid};
-ghost use Rattle.uv_parser.specs.Laws.Silence.{FileTextsRunSilently, OpaqueTextsRunSilently, OtherTextsRunSilently, SpecialTextsRunSilently};
 ghost use Rattle.uv_parser.specs.Rows.AddressParsers.{AddressParserRows};
 ghost use Rattle.uv_parser.specs.Rows.Denotation.{DenotationRows};
 ghost use Rattle.uv_parser.specs.Rows.File.{FileRows};
@@ -18,30 +17,6 @@ ghost use Rattle.uv_parser.specs.Rows.References.{ReferenceRows};
 ghost use Rattle.uv_parser.specs.Rows.SilentRefusals.{SilentRefusalRows};
 ghost use Rattle.uv_parser.specs.Rows.Special.{SpecialRows};
 ghost use Rattle.uv_parser.specs.SilentTexts.{TextsAreDecided};
-
-/// On every valid text of either profile with an opaque path, against every base and none, the URL parser runs to its
-/// end with no validation error and no failure, and gives exactly the URL that the text's parts denote (URL Standard,
-/// section 4.4).
-pub fn opaque_texts_run_silently()
-    ensures { OpaqueTextsRunSilently }
-{}
-
-/// On every valid text of either profile with a scheme of class Other, against every base and none, the URL parser runs
-/// to its end with no validation error and no failure, and gives exactly the URL that the text's parts denote (URL
-/// Standard, section 4.4).
-pub fn other_texts_run_silently()
-    ensures { OtherTextsRunSilently }
-{}
-
-/// The same on every valid text with a scheme of class Special (URL Standard, section 4.4).
-pub fn special_texts_run_silently()
-    ensures { SpecialTextsRunSilently }
-{}
-
-/// The same on every valid text with a scheme of class File (URL Standard, section 4.4).
-pub fn file_texts_run_silently()
-    ensures { FileTextsRunSilently }
-{}
 
 /// The run of the parser machine on a text is done, with the URL that the parts denote, exactly where the parser's
 /// grammar takes the text with parts, and else it stops; within the bound on its steps.

@@ -14,7 +14,7 @@ use Rattle.uv_parser.specs.SilentTexts.{Takes, TakesForm, TakesHostText}
 use Rattle.uv_model.specs.Parts.{Form, SchemeAuthority, SchemePath, SchemeOpaque, Authority, PathAbsolute, PathRelative, NoPath, Parts, has_scheme, written, written_scheme, written_authority}
 use Rattle.uv_model.specs.Path.{IsPathAbsolute, IsPathRelative, MayBePathSlashed}
 use Rattle.uv_parser.specs.Run.{first_removed}
-use Rattle.uv_parser.specs.Laws.Silence.{FileTextsRunSilently, OpaqueTextsRunSilently, OtherTextsRunSilently, RunsSilently, SpecialTextsRunSilently}
+use Rattle.uv_parser.specs.Laws.Silence.{RunsSilently}
 use Rattle.uv_parser.specs.Laws.ValidTexts.{ValidTextsAreSilent, ValidTextsRunSilently}
 use Rattle.uv_model.specs.Setting.{scheme_or, setting_of}
 use Rattle.uv_model.specs.Records.Url.{Url}
@@ -277,19 +277,3 @@ scheme_runs_silently profile base text parts valid has =
     let (scheme, named, is) = scheme_there parts.scheme
     (subst (λ (b : Bool). FitsScheme b parts.scheme) has valid.scheme) in
     scheme_done base text scheme parts parts.form (valid_is_silent profile base text parts valid) refl named
-
--- with an opaque path
-pub opaque_silent : OpaqueTextsRunSilently
-opaque_silent profile base text parts valid form = scheme_runs_silently profile base text parts valid (ap has_scheme form)
-
--- with a scheme of class Other
-pub other_silent : OtherTextsRunSilently
-other_silent profile base text parts valid has other = scheme_runs_silently profile base text parts valid has
-
--- of class Special
-pub special_silent : SpecialTextsRunSilently
-special_silent profile base text parts valid has special = scheme_runs_silently profile base text parts valid has
-
--- of class File
-pub file_silent : FileTextsRunSilently
-file_silent profile base text parts valid has file = scheme_runs_silently profile base text parts valid has

@@ -5,12 +5,12 @@ use Rattle.uv_cli.specs.Check.{IsBase, WritesWhole}
 use Rattle.uv_cli.proofs.CheckLemmas.{written_against}
 use Rattle.uv_cli.proofs.check.run_check.Goals as goal
 
-pub returns-in-Url-clause-written : goal.returns-in-Url-clause-written
-returns-in-Url-clause-written g c =
-    let (parts, valid, denoted) = rw c.in-Url.is at c.in_ok-base.ensures in
-    let base : IsBase c.args.base (Some c.in-Url.base) = rw c.in-Some.is (parts, valid, ap Some denoted) in
-    IfOk-weaker c.check_against-in-Url.result
-    (λ end. WritesWhole (Some c.in-Url.base) (chars c.args.text.now) end (g.S.Sink.contents c.args.out.now)
-    (g.S.Sink.contents c.check_against-in-Url.new.out))
+pub returns-in-Ok-clause-written : goal.returns-in-Ok-clause-written
+returns-in-Ok-clause-written g c =
+    let (parts, valid, denoted) = rw c.in-Ok.is at c.resolve.ensures.resolved in
+    let base : IsBase c.args.base (Some c.in-Ok.base) = rw c.in-Some.is (parts, valid, ap Some denoted) in
+    IfOk-weaker c.check_against-in-Ok.result
+    (λ end. WritesWhole (Some c.in-Ok.base) (chars c.args.text.now) end (g.S.Sink.contents c.args.out.now)
+    (g.S.Sink.contents c.check_against-in-Ok.new.out))
     _ (λ end written. written_against c.args.base _ (chars c.args.text.now) _ _ end base written)
-    c.check_against-in-Url.ensures.written
+    c.check_against-in-Ok.ensures.written

@@ -1,0 +1,3 @@
+mod RecordLemmas
+pub mod RunLemmas
+mod WalkLemmas

@@ -1,0 +1,16 @@
+//! The record that a valid URL string denotes, which is the one that the URL parser makes of it (URL Standard, section
+//! 4.4).
+#![tactic(auto)]
+
+mod fault;
+pub mod laws;
+mod paths;
+mod records;
+mod resolver;
+mod walker;
+
+pub use fault::ResolveFault;
+pub use resolver::resolve;
+
+#[cfg(test)]
+mod tests;

@@ -1,0 +1,211 @@
+//! The record that the parts of a valid text denote, after the URL Standard, section 4.4.
+ghost use Rattle.std.specs.Prelude.{◌≡◌, ℕ, List, IfOk, None, false, chars, option_copied, option_map, string_bytes};
+ghost use Rattle.std.specs.Str.{IsAscii};
+ghost use Rattle.uv_model.specs.Records.Denote as spec;
+ghost use Rattle.uv_model.specs.Encoding.{encoded};
+ghost use Rattle.uv_model.specs.Scheme.{lowercase, scheme_class};
+ghost use Rattle.uv_model.specs.Valid.{scheme_in, Valid};
+ghost use Rattle.uv_model.specs.Records.WellFormed.{WellFormed};
+ghost use Rattle.uv_grammar.specs.Seen.{seen_option};
+
+use crate::paths::path_of;
+use std::alloc::{AllocError, Global};
+use uv_grammar::{Form, Parts};
+use uv_model::{Class, Host, Record, Text, class_of};
+use uv_text::encode;
+
+/// The record that the parts denote against the base.
+pub(crate) fn denoted(
+    alloc: Global,
+    parts: Parts<'_>,
+    base: Option<&Record>,
+) -> Result<Record, AllocError>
+    requires valid { (text : List ℕ) × Valid (option_copied base) text parts }
+    requires well_formed { WellFormed (spec.denote (option_copied base) parts) }
+    ensures { IfOk result (λ url. url ≡ spec.denote (option_copied base.entry) parts.entry) }
+{
+    let class = class_in(&parts, base);
+    let scheme = scheme_of(alloc, &parts, base)?;
+    let port = port_of(&parts, base);
+    let path = path_of(alloc, class, &parts, base)?;
+    let query = query_of(alloc, class, &parts, base)?;
+    let fragment = fragment_of(alloc, &parts)?;
+    let host = host_of(alloc, parts, base)?;
+    Ok(Record::make(scheme, host, port, path, query, fragment))
+}
+
+// The class of the text's scheme, else of the base's.
+fn class_in(parts: &Parts<'_>, base: Option<&Record>) -> Class
+    ensures { result ≡ scheme_class (scheme_in (option_copied base.entry) parts.now) }
+{
+    match parts.scheme() {
+        Some(scheme) => class_of(scheme),
+        None => base_class(base),
+    }
+}
+
+fn base_class(base: Option<&Record>) -> Class
+    ensures { result ≡ scheme_class (spec.denoted_scheme (option_copied base.entry) None) }
+{
+    match base {
+        Some(base) => class_of(base.scheme()),
+        None => Class::Other,
+    }
+}
+
+fn scheme_of(alloc: Global, parts: &Parts<'_>, base: Option<&Record>) -> Result<String, AllocError>
+    requires { (text : List ℕ) × Valid (option_copied base) text parts.now }
+    ensures { IfOk result (λ scheme.
+        string_bytes scheme ≡ spec.denoted_scheme (option_copied base.entry) parts.now.scheme) }
+{
+    match parts.scheme() {
+        Some(scheme) => lowered(alloc, scheme),
+        None => base_scheme(alloc, base),
+    }
+}
+
+fn lowered(alloc: Global, scheme: &str) -> Result<String, AllocError>
+    requires { IsAscii (chars scheme.now) }
+    ensures { IfOk result (λ text. string_bytes text ≡ lowercase (chars scheme.now)) }
+{
+    scheme.to_ascii_lowercase(alloc)
+}
+
+fn base_scheme(alloc: Global, base: Option<&Record>) -> Result<String, AllocError>
+    ensures { IfOk result (λ scheme.
+        string_bytes scheme ≡ spec.denoted_scheme (option_copied base.entry) None) }
+{
+    match base {
+        Some(base) => String::from_str(alloc, base.scheme()),
+        None => Ok(String::new(alloc)),
+    }
+}
+
+// The host of the authority, taken from the parts, else a copy of the base's.
+fn host_of(
+    alloc: Global,
+    parts: Parts<'_>,
+    base: Option<&Record>,
+) -> Result<Option<Host>, AllocError>
+    ensures { IfOk result (λ host.
+        host ≡ spec.denoted_host (option_copied base.entry) parts.entry.form parts.entry) }
+{
+    match parts.form() {
+        Form::SchemeAuthority | Form::Authority => authority_host(alloc, parts),
+        Form::SchemePath | Form::SchemeOpaque => Ok(None),
+        Form::PathAbsolute | Form::PathRelative | Form::NoPath => base_host(alloc, base),
+    }
+}
+
+fn authority_host(alloc: Global, parts: Parts<'_>) -> Result<Option<Host>, AllocError>
+    ensures { IfOk result (λ host. host ≡ spec.authority_host parts.entry) }
+{
+    let text = parts.host_text();
+    match parts.into_host(alloc)? {
+        Some(host) => Ok(Some(host)),
+        None => opaque_host(alloc, text),
+    }
+}
+
+fn opaque_host(alloc: Global, text: Option<&str>) -> Result<Option<Host>, AllocError>
+    ensures { IfOk result (λ host.
+        host ≡ option_map (λ t. Host.Opaque (encoded false t)) (seen_option text.entry)) }
+{
+    match text {
+        Some(text) => Ok(Some(Host::Opaque(Text::of(encode(alloc, text, false)?)))),
+        None => Ok(None),
+    }
+}
+
+fn base_host(alloc: Global, base: Option<&Record>) -> Result<Option<Host>, AllocError>
+    ensures { IfOk result (λ host. host ≡ spec.base_host (option_copied base.entry)) }
+{
+    let Some(base) = base else {
+        return Ok(None);
+    };
+    match base.host() {
+        Some(host) => Ok(Some(host.copy(alloc)?)),
+        None => Ok(None),
+    }
+}
+
+fn port_of(parts: &Parts<'_>, base: Option<&Record>) -> Option<u16>
+    ensures { result ≡ spec.denoted_port (option_copied base.entry) parts.now.form parts.now }
+{
+    match parts.form() {
+        Form::SchemeAuthority | Form::Authority => parts.port(),
+        Form::SchemePath | Form::SchemeOpaque => None,
+        Form::PathAbsolute | Form::PathRelative | Form::NoPath => base_port(base),
+    }
+}
+
+fn base_port(base: Option<&Record>) -> Option<u16>
+    ensures { result ≡ spec.base_port (option_copied base.entry) }
+{
+    match base {
+        Some(base) => base.port(),
+        None => None,
+    }
+}
+
+// The text's query, else in a reference without a path the base's.
+fn query_of(
+    alloc: Global,
+    class: Class,
+    parts: &Parts<'_>,
+    base: Option<&Record>,
+) -> Result<Option<String>, AllocError>
+    ensures { IfOk result (λ query. option_map (λ s. string_bytes s) query
+        ≡ spec.denoted_query (option_copied base.entry) class parts.now.form parts.now.query) }
+{
+    match (parts.query(), parts.form()) {
+        (Some(query), _) => encoded_text(alloc, Some(query), quotes(class)),
+        (None, Form::NoPath) => base_query(alloc, base),
+        (None, _) => Ok(None),
+    }
+}
+
+// In a query of a URL of class Special or File `'` is encoded too.
+fn quotes(class: Class) -> bool
+    ensures { result ≡ spec.quotes class }
+{
+    match class {
+        Class::Special | Class::File => true,
+        Class::Other => false,
+    }
+}
+
+fn base_query(alloc: Global, base: Option<&Record>) -> Result<Option<String>, AllocError>
+    ensures { IfOk result (λ query. option_map (λ s. string_bytes s) query
+        ≡ spec.base_query (option_copied base.entry)) }
+{
+    let Some(base) = base else {
+        return Ok(None);
+    };
+    match base.query() {
+        Some(query) => Ok(Some(String::from_str(alloc, query)?)),
+        None => Ok(None),
+    }
+}
+
+// The text's fragment, never the base's.
+fn fragment_of(alloc: Global, parts: &Parts<'_>) -> Result<Option<String>, AllocError>
+    ensures { IfOk result (λ fragment. option_map (λ s. string_bytes s) fragment
+        ≡ option_map (encoded false) parts.now.fragment) }
+{
+    encoded_text(alloc, parts.fragment(), false)
+}
+
+fn encoded_text(
+    alloc: Global,
+    text: Option<&str>,
+    quote: bool,
+) -> Result<Option<String>, AllocError>
+    ensures { IfOk result (λ out. option_map (λ s. string_bytes s) out
+        ≡ option_map (encoded quote) (seen_option text.entry)) }
+{
+    match text {
+        Some(text) => Ok(Some(encode(alloc, text, quote)?)),
+        None => Ok(None),
+    }
+}

@@ -1,0 +1,25 @@
+//! The record of a text, alone or against a base.
+ghost use Rattle.std.specs.Prelude.{option_copied};
+ghost use Rattle.std.specs.Str.{chars};
+ghost use Rattle.uv_resolve.specs.Resolve.{IsResolved, RunsToItsRecord};
+
+use crate::fault::ResolveFault;
+use crate::laws::valid_text_runs_to_its_record;
+use crate::records::denoted;
+use std::alloc::Global;
+use uv_grammar::{Verdict, check};
+use uv_model::Record;
+
+/// The record that a text denotes, alone or against a base (URL Standard, sections 4.3 and 4.4).
+///
+/// A text that isn't a valid URL string is refused before any growth for the record.
+pub fn resolve(alloc: Global, text: &str, base: Option<&Record>) -> Result<Record, ResolveFault>
+    ensures resolved { IsResolved (option_copied base.entry) (chars text.now) result }
+    ensures runs { RunsToItsRecord (option_copied base.entry) (chars text.now) }
+{
+    valid_text_runs_to_its_record(text, base);
+    match check(alloc, text, base)? {
+        Verdict::Yes(parts) => Ok(denoted(alloc, parts, base)?),
+        Verdict::No(refusal) => Err(ResolveFault::Refused(refusal)),
+    }
+}

@@ -1,0 +1,79 @@
+//! Records that take much memory, or memory in each place where one may: while there is some, none is wanted.
+
+use super::*;
+
+const LONG: usize = 100_000;
+
+// A front, and then a piece so many times.
+fn repeated(alloc: Global, front: &str, piece: &str, count: usize) -> Result<String, Fail> {
+    let mut text = String::from_str(alloc, front)?;
+    for _ in 0..count {
+        text.push_str(piece)?;
+    }
+    Ok(text)
+}
+
+// Long opaque paths, segments, queries and fragments, where each code point becomes six.
+#[test]
+fn resolves_long_texts(rt: HostRuntime) -> Result<(), Fail> {
+    for front in ["urn:", "http://h/", "http://h/?", "http://h/#", "foo://"] {
+        let text = repeated(rt.alloc(), front, "\u{E9}", LONG)?;
+        let want = repeated(rt.alloc(), front, "%C3%A9", LONG)?;
+        let found = answer(rt.alloc(), text.as_str(), None)?;
+        assert!(rt; found.as_str() == want.as_str(), "behind {front}");
+    }
+    Ok(())
+}
+
+#[test]
+fn resolves_many_segments(rt: HostRuntime) -> Result<(), Fail> {
+    let text = repeated(rt.alloc(), "http://h", "/a", LONG)?;
+    let found = answer(rt.alloc(), text.as_str(), None)?;
+    assert!(rt; found.as_str() == text.as_str());
+    let relative = repeated(rt.alloc(), "", "../", LONG - 1)?;
+    let found = answer(rt.alloc(), relative.as_str(), Some(text.as_str()))?;
+    assert_eq!(rt; found.as_str(), "http://h/");
+    Ok(())
+}
+
+// Each kind of host in the text, alone and against a base, and in the base.
+#[test]
+fn resolves_each_kind_of_host(rt: HostRuntime) -> Result<(), Fail> {
+    for (scheme, host) in [
+        ("http:", "//h"),
+        ("http:", "//xn--bcher-kva.example"),
+        ("http:", "//192.168.0.1"),
+        ("http:", "//[1:2::8]"),
+        ("file:", "//h"),
+        ("file:", "//"),
+        ("foo:", "//h"),
+        ("foo:", "//"),
+        ("foo:", "//[1:2::8]"),
+        ("foo:", ""),
+    ] {
+        let whole = format!(in rt.alloc(); "{scheme}{host}/a/b?q")?;
+        let sibling = format!(in rt.alloc(); "{scheme}{host}/a/c")?;
+        let found = answer(rt.alloc(), "c", Some(whole.as_str()))?;
+        assert_eq!(rt; found.as_str(), sibling.as_str());
+        let reference = format!(in rt.alloc(); "{host}/a/b?q")?;
+        let base = format!(in rt.alloc(); "{scheme}//g/x")?;
+        let found = answer(rt.alloc(), reference.as_str(), Some(base.as_str()))?;
+        if host.is_empty() {
+            let kept = format!(in rt.alloc(); "{scheme}//g/a/b?q")?;
+            assert_eq!(rt; found.as_str(), kept.as_str());
+        } else {
+            assert_eq!(rt; found.as_str(), whole.as_str());
+        }
+    }
+    Ok(())
+}
+
+// A long text that is refused at its end.
+#[test]
+fn refuses_a_long_text(rt: HostRuntime) -> Result<(), Fail> {
+    let mut text = repeated(rt.alloc(), "http://h/", "a/", LONG)?;
+    text.push_str(" ")?;
+    let found = answer(rt.alloc(), text.as_str(), None)?;
+    assert_eq!(rt; found.as_str(), "refused 200009 code-point");
+    Ok(())
+}
