@@ -3,6 +3,7 @@ use Rattle.std.specs.Prelude.{◌≡◌, ℕ, List, Option, Some, None, take}
 use Rattle.std.specs.Borrow.{Bor}
 use Rattle.std.specs.Io.KnownBytes.{Appends}
 use Rattle.std.specs.Str.{chars}
+use Rattle.uv_model.specs.declared.profile.Profile.{Profile}
 use Rattle.uv_model.specs.declared.rule.Refusal.{Refusal}
 use Rattle.uv_model.specs.Records.Denote.{denote}
 use Rattle.uv_model.specs.Parts.{Parts}
@@ -17,52 +18,52 @@ use Rattle.uv_cli.specs.CheckText.{check_text, refused_text}
 
 -- What a check says of a text against a URL as base, and how it ends: the lines of the URL that the text denotes, or
 -- the line of its refusal. On a valid text the URL parser is silent, and gives the URL that is denoted.
-abbrev pub Says : Option Url → List ℕ → CheckEnd → List ℕ → Type 0
-Says base text check.Valid whole =
-    (parts : Parts) × Valid base text parts × RunsSilently base text parts × (whole ≡ check_text (denote base parts))
-Says base text check.Refused whole =
-    (refusal : Refusal) × IsRefused base text refusal × (whole ≡ refused_text refusal)
-Says base text (check.BaseRefused refusal) whole = ⊥
+abbrev pub Says : Profile → Option Url → List ℕ → CheckEnd → List ℕ → Type 0
+Says profile base text check.Valid whole =
+    (parts : Parts) × Valid profile base text parts × RunsSilently base text parts × (whole ≡ check_text (denote base parts))
+Says profile base text check.Refused whole =
+    (refusal : Refusal) × IsRefused profile base text refusal × (whole ≡ refused_text refusal)
+Says profile base text (check.BaseRefused refusal) whole = ⊥
 
 -- the base: none, or the URL that its text denotes alone
-abbrev pub IsBase : Option (Bor (List ℕ)) → Option Url → Type 0
-IsBase None base = base ≡ None
-IsBase (Some text) base = (parts : Parts) × Valid None (chars text.now) parts × (base ≡ Some (denote None parts))
+abbrev pub IsBase : Profile → Option (Bor (List ℕ)) → Option Url → Type 0
+IsBase profile None base = base ≡ None
+IsBase profile (Some text) base = (parts : Parts) × Valid profile None (chars text.now) parts × (base ≡ Some (denote None parts))
 
 -- the base's text is refused alone by this refusal
-abbrev pub IsBaseRefused : Option (Bor (List ℕ)) → Refusal → Type 0
-IsBaseRefused None refusal = ⊥
-IsBaseRefused (Some text) refusal = IsRefused None (chars text.now) refusal
+abbrev pub IsBaseRefused : Profile → Option (Bor (List ℕ)) → Refusal → Type 0
+IsBaseRefused profile None refusal = ⊥
+IsBaseRefused profile (Some text) refusal = IsRefused profile None (chars text.now) refusal
 
 -- the whole of what is said of the text was written
-pub record WritesWhole (base : Option Url) (text : List ℕ) (end : CheckEnd) (old new : Option (List ℕ))
+pub record WritesWhole (profile : Profile) (base : Option Url) (text : List ℕ) (end : CheckEnd) (old new : Option (List ℕ))
     : Type 0 where
   pub whole : List ℕ
-  pub says : Says base text end whole
+  pub says : Says profile base text end whole
   pub wrote : Appends old new whole
 
 -- a front of what is said of the text was written
-pub record WritesFront (base : Option Url) (text : List ℕ) (old new : Option (List ℕ)) : Type 0 where
+pub record WritesFront (profile : Profile) (base : Option Url) (text : List ℕ) (old new : Option (List ℕ)) : Type 0 where
   pub end : CheckEnd
   pub whole : List ℕ
-  pub says : Says base text end whole
+  pub says : Says profile base text end whole
   pub count : ℕ
   pub wrote : Appends old new (take count whole)
 
 -- what is said of the text against the base's text was written, or the base is refused
 abbrev pub HasWritten
-    : Option (Bor (List ℕ)) → List ℕ → CheckEnd → Option (List ℕ) → Option (List ℕ) → Type 0
-HasWritten base text (check.BaseRefused refusal) old new = IsBaseRefused base refusal
-HasWritten base text end old new = (url : Option Url) × IsBase base url × WritesWhole url text end old new
+    : Profile → Option (Bor (List ℕ)) → List ℕ → CheckEnd → Option (List ℕ) → Option (List ℕ) → Type 0
+HasWritten profile base text (check.BaseRefused refusal) old new = IsBaseRefused profile base refusal
+HasWritten profile base text end old new = (url : Option Url) × IsBase profile base url × WritesWhole profile url text end old new
 
 -- a front of what is said of the text against the base's text was written
-abbrev pub HasWrittenFront : Option (Bor (List ℕ)) → List ℕ → Option (List ℕ) → Option (List ℕ) → Type 0
-HasWrittenFront base text old new = (url : Option Url) × IsBase base url × WritesFront url text old new
+abbrev pub HasWrittenFront : Profile → Option (Bor (List ℕ)) → List ℕ → Option (List ℕ) → Option (List ℕ) → Type 0
+HasWrittenFront profile base text old new = (url : Option Url) × IsBase profile base url × WritesFront profile url text old new
 
 -- the parser runs to the record of the text where it is valid, alone or against the URL that the base's text denotes,
 -- and to the record of the base's text where that is valid alone
-abbrev pub RunsAgainst : Option (Bor (List ℕ)) → List ℕ → Type 0
-RunsAgainst None text = RunsToItsRecord None text
-RunsAgainst (Some base) text =
-    RunsToItsRecord None (chars base.now)
-    × ((parts : Parts) → Valid None (chars base.now) parts → RunsToItsRecord (Some (denote None parts)) text)
+abbrev pub RunsAgainst : Profile → Option (Bor (List ℕ)) → List ℕ → Type 0
+RunsAgainst profile None text = RunsToItsRecord profile None text
+RunsAgainst profile (Some base) text =
+    RunsToItsRecord profile None (chars base.now)
+    × ((parts : Parts) → Valid profile None (chars base.now) parts → RunsToItsRecord profile (Some (denote None parts)) text)

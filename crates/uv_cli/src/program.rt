@@ -8,7 +8,8 @@ use crate::words::{CheckJob, job_in};
 use std::io::{ErrorKind, Write};
 use std::rt::Env;
 use std::{env, io};
-use uv_model::{Refusal, ToWriter};
+
+use uv_model::{Profile, Refusal, ToWriter};
 
 /// How a run of the program ends.
 #[derive(Clone, Copy, Debug, PartialEq, Eq)]
@@ -79,7 +80,7 @@ fn done<R: Print + AllocGlobal>(rt: &R, words: &[&str]) -> End {
 // Checks a text, writes to standard output and flushes it.
 fn checked<R: Print + AllocGlobal>(rt: &R, job: &CheckJob<'_>) -> Result<CheckEnd, CliFault> {
     let mut out = ToWriter::new(io::writer(rt));
-    let end = run_check(rt.alloc(), job.text, job.base, &mut out)?;
+    let end = run_check(rt.alloc(), job.text, job.base, Profile::Standard, &mut out)?;
     match out.into_writer().flush() {
         Ok(()) => Ok(end),
         Err(_) => Err(CliFault::Write),

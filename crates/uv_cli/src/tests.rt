@@ -8,12 +8,12 @@ use crate::words::job_in;
 use std::alloc::Global;
 use std::process::Abort;
 use std::test::Fail;
-use uv_model::{DeviceFault, Refusal, Rule, Sink, ToWriter};
+use uv_model::{DeviceFault, Profile, Refusal, Rule, Sink, ToWriter};
 
 // How a check ends, and what it writes.
 fn written(alloc: Global, text: &str, base: Option<&str>) -> Result<(CheckEnd, Vec<u8>), CliFault> {
     let mut out = ToWriter::new(Vec::new(alloc));
-    let end = run_check(alloc, text, base, &mut out)?;
+    let end = run_check(alloc, text, base, Profile::Standard, &mut out)?;
     Ok((end, out.into_writer()))
 }
 
@@ -461,7 +461,7 @@ fn tells_a_failed_write(rt: HostRuntime) -> Result<(), Fail> {
     let whole = "valid\nscheme urn\nopaque a\n".len();
     for (room, fails) in [(0, true), (1, true), (whole - 1, true), (whole, false)] {
         let mut out = Narrow { room, failures: 0 };
-        let answer = run_check(rt.alloc(), "urn:a", None, &mut out);
+        let answer = run_check(rt.alloc(), "urn:a", None, Profile::Standard, &mut out);
         assert_eq!(rt; answer == Err(CliFault::Write), fails, "at {room}");
         assert_eq!(rt; out.failures() == 1, fails, "at {room}");
     }

@@ -2,6 +2,7 @@
 use Rattle.std.proofs.Common.{◌≡◌, ℕ, Bool, true, false, List, Option, Some, refl}
 use Rattle.std.specs.Prelude.{option_map}
 use Rattle.std.specs.Str.{IsAscii}
+use Rattle.uv_model.specs.declared.profile.Profile.{Profile}
 use Rattle.uv_model.specs.declared.scheme.Class.{Class}
 use Rattle.uv_model.specs.declared.host.Host.{Host}
 use Rattle.uv_model.specs.declared.path.UrlPath.{UrlPath}
@@ -20,9 +21,9 @@ fits_some true scheme fits = fits
 fits_some false scheme fits = absurd cc
 
 -- the scheme of a valid text is ASCII
-pub scheme_is_ascii : (base : Option Url) (text : List ℕ) (parts : Parts) (scheme : List ℕ)
-    → Valid base text parts → parts.scheme ≡ Some scheme → IsAscii scheme
-scheme_is_ascii base text parts scheme valid here =
+pub scheme_is_ascii : (profile : Profile) (base : Option Url) (text : List ℕ) (parts : Parts) (scheme : List ℕ)
+    → Valid profile base text parts → parts.scheme ≡ Some scheme → IsAscii scheme
+scheme_is_ascii profile base text parts scheme valid here =
     let fits : FitsScheme (has_scheme parts.form) (Some scheme) = rw (← here) valid.scheme in
     IsAscii-from_test scheme (is_ascii-scheme scheme (fits_some (has_scheme parts.form) scheme fits))
 

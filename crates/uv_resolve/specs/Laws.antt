@@ -1,5 +1,7 @@
 -- The agreement of the URL parser (URL Standard, section 4.4) with what valid texts denote, by the form of the text.
 use Rattle.std.specs.Prelude.{◌≡◌, ℕ, true, List, Option, Some}
+use Rattle.uv_model.specs.declared.profile.Profile.{Profile}
+use Rattle.uv_model.specs.declared.profile.Profile.TheVariants.{Wide}
 use Rattle.uv_model.specs.declared.scheme.Class.{Class}
 use Rattle.uv_model.specs.declared.scheme.Class.TheVariants.{Special, File, Other}
 use Rattle.uv_model.specs.Parts.{Form, SchemeOpaque, Authority, PathAbsolute, PathRelative, NoPath, Parts, has_scheme}
@@ -11,17 +13,17 @@ use Rattle.uv_model.specs.Records.WellFormed.{WellFormed}
 
 -- ---- texts with a scheme
 
--- the parser is silent on each valid text with an opaque path, and gives the URL that its parts denote
+-- the parser is silent on each valid text of either profile with an opaque path, and gives the URL that its parts denote
 abbrev pub OpaqueTextsRunSilently : Type 0
 OpaqueTextsRunSilently =
-    (base : Option Url) (text : List ℕ) (parts : Parts)
-    → Valid base text parts → parts.form ≡ SchemeOpaque → RunsSilently base text parts
+    (profile : Profile) (base : Option Url) (text : List ℕ) (parts : Parts)
+    → Valid profile base text parts → parts.form ≡ SchemeOpaque → RunsSilently base text parts
 
 -- the same with a scheme of this class
 abbrev pub TextsOfClassRunSilently : Class → Type 0
 TextsOfClassRunSilently class =
-    (base : Option Url) (text : List ℕ) (parts : Parts)
-    → Valid base text parts → has_scheme parts.form ≡ true → scheme_class (scheme_in base parts) ≡ class
+    (profile : Profile) (base : Option Url) (text : List ℕ) (parts : Parts)
+    → Valid profile base text parts → has_scheme parts.form ≡ true → scheme_class (scheme_in base parts) ≡ class
     → RunsSilently base text parts
 
 -- the same with a scheme of class Other
@@ -42,8 +44,8 @@ FileTextsRunSilently = TextsOfClassRunSilently File
 -- denote
 abbrev pub ReferencesRunSilently : Form → Type 0
 ReferencesRunSilently form =
-    (base : Url) (text : List ℕ) (parts : Parts)
-    → WellFormed base → Valid (Some base) text parts → parts.form ≡ form → RunsSilently (Some base) text parts
+    (profile : Profile) (base : Url) (text : List ℕ) (parts : Parts) → WellFormed Wide base
+    → Valid profile (Some base) text parts → parts.form ≡ form → RunsSilently (Some base) text parts
 
 -- the same where the text begins with an authority
 abbrev pub AuthoritiesRunSilently : Type 0

@@ -5,13 +5,13 @@ ghost use Rattle.std.specs.Str.{chars};
 ghost use Rattle.uv_resolve.specs.Laws.{AuthoritiesRunSilently, FileTextsRunSilently, OpaqueTextsRunSilently, OtherTextsRunSilently, PathsAbsoluteRunSilently, PathsRelativeRunSilently, SpecialTextsRunSilently, TextsWithoutPathRunSilently};
 ghost use Rattle.uv_resolve.specs.Resolve.{RunsToItsRecord};
 
-use uv_model::Record;
+use uv_model::{Profile, Record};
 
 /// On a text that is valid, alone or against a record as base, the URL parser runs to its end with no validation error
-/// and no failure, in at most 3n + 16 steps where the text has n code points, and gives exactly the URL that the text's
-/// parts denote, which is well formed (URL Standard, section 4.4).
-pub fn valid_text_runs_to_its_record(text: &str, base: Option<&Record>)
-    ensures { RunsToItsRecord (option_copied base.entry) (chars text.now) }
+/// and no failure, in at most 2n + 5 steps (so in at most 3n + 16) where the text has n code points, and gives exactly the
+/// URL that the text's parts denote, which is well formed (URL Standard, section 4.4).
+pub fn valid_text_runs_to_its_record(text: &str, base: Option<&Record>, profile: Profile)
+    ensures { RunsToItsRecord profile (option_copied base.entry) (chars text.now) }
 {
     match base {
         Some(base) => {

@@ -3,7 +3,7 @@ ghost use Rattle.std.specs.Prelude.{◌≡◌, ◌∷◌, [], ℕ, List, IfOk, I
 ghost use Rattle.uv_model.specs.Records.Denote as spec;
 ghost use Rattle.uv_model.specs.Encoding.{encoded};
 ghost use Rattle.uv_model.specs.Path as path_spec;
-ghost use Rattle.uv_model.specs.Valid.{Valid};
+ghost use Rattle.uv_resolve.specs.Resolve.{HaveValidText};
 
 use crate::walker::{shorten, walk};
 use std::alloc::{AllocError, Global};
@@ -20,7 +20,7 @@ pub(crate) fn path_of(
     parts: &Parts<'_>,
     base: Option<&Record>,
 ) -> Result<UrlPath, AllocError>
-    requires { (text : List ℕ) × Valid (option_copied base) text parts.now }
+    requires { HaveValidText (option_copied base) parts.now }
     ensures { IfOk result (λ path.
         path ≡ spec.denoted_path (option_copied base.entry) class parts.now.form parts.now) }
 {

@@ -4,14 +4,15 @@ ghost use Rattle.std.specs.Str.{IsAscii};
 ghost use Rattle.uv_model.specs.Records.Denote as spec;
 ghost use Rattle.uv_model.specs.Encoding.{encoded};
 ghost use Rattle.uv_model.specs.Scheme.{lowercase, scheme_class};
-ghost use Rattle.uv_model.specs.Valid.{scheme_in, Valid};
+ghost use Rattle.uv_model.specs.Valid.{scheme_in};
 ghost use Rattle.uv_model.specs.Records.WellFormed.{WellFormed};
+ghost use Rattle.uv_resolve.specs.Resolve.{HaveValidText};
 ghost use Rattle.uv_grammar.specs.Seen.{seen_option};
 
 use crate::paths::path_of;
 use std::alloc::{AllocError, Global};
 use uv_grammar::{Form, Parts};
-use uv_model::{Class, Host, Record, Text, class_of};
+use uv_model::{Class, Host, Profile, Record, Text, class_of};
 use uv_text::encode;
 
 /// The record that the parts denote against the base.
@@ -20,8 +21,8 @@ pub(crate) fn denoted(
     parts: Parts<'_>,
     base: Option<&Record>,
 ) -> Result<Record, AllocError>
-    requires valid { (text : List ℕ) × Valid (option_copied base) text parts }
-    requires well_formed { WellFormed (spec.denote (option_copied base) parts) }
+    requires valid { HaveValidText (option_copied base) parts }
+    requires well_formed { WellFormed Profile.Wide (spec.denote (option_copied base) parts) }
     ensures { IfOk result (λ url. url ≡ spec.denote (option_copied base.entry) parts.entry) }
 {
     let class = class_in(&parts, base);
@@ -54,7 +55,7 @@ fn base_class(base: Option<&Record>) -> Class
 }
 
 fn scheme_of(alloc: Global, parts: &Parts<'_>, base: Option<&Record>) -> Result<String, AllocError>
-    requires { (text : List ℕ) × Valid (option_copied base) text parts.now }
+    requires { HaveValidText (option_copied base) parts.now }
     ensures { IfOk result (λ scheme.
         string_bytes scheme ≡ spec.denoted_scheme (option_copied base.entry) parts.now.scheme) }
 {

@@ -8,17 +8,22 @@ use crate::laws::valid_text_runs_to_its_record;
 use crate::records::denoted;
 use std::alloc::Global;
 use uv_grammar::{Verdict, check};
-use uv_model::Record;
+use uv_model::{Profile, Record};
 
-/// The record that a text denotes, alone or against a base (URL Standard, sections 4.3 and 4.4).
+/// The record that a text denotes by the profile, alone or against a base (URL Standard, sections 4.3 and 4.4).
 ///
-/// A text that isn't a valid URL string is refused before any growth for the record.
-pub fn resolve(alloc: Global, text: &str, base: Option<&Record>) -> Result<Record, ResolveFault>
-    ensures resolved { IsResolved (option_copied base.entry) (chars text.now) result }
-    ensures runs { RunsToItsRecord (option_copied base.entry) (chars text.now) }
+/// A text that isn't a valid URL string of the profile is refused before any growth for the record.
+pub fn resolve(
+    alloc: Global,
+    text: &str,
+    base: Option<&Record>,
+    profile: Profile,
+) -> Result<Record, ResolveFault>
+    ensures resolved { IsResolved profile (option_copied base.entry) (chars text.now) result }
+    ensures runs { RunsToItsRecord profile (option_copied base.entry) (chars text.now) }
 {
-    valid_text_runs_to_its_record(text, base);
-    match check(alloc, text, base)? {
+    valid_text_runs_to_its_record(text, base, profile);
+    match check(alloc, text, base, profile)? {
         Verdict::Yes(parts) => Ok(denoted(alloc, parts, base)?),
         Verdict::No(refusal) => Err(ResolveFault::Refused(refusal)),
     }

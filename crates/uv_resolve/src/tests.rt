@@ -5,7 +5,7 @@ use crate::{ResolveFault, resolve};
 use std::alloc::{AllocError, Global};
 use std::process::Abort;
 use std::test::Fail;
-use uv_model::{Host, Record, Refusal, Rule, UrlPath};
+use uv_model::{Host, Profile, Record, Refusal, Rule, UrlPath};
 
 mod absolute;
 mod fields;
@@ -14,7 +14,7 @@ mod references;
 
 // The text of the record that a text denotes against a record as base, or the words of its fault.
 fn answer_against(alloc: Global, text: &str, base: Option<&Record>) -> Result<String, Fail> {
-    match resolve(alloc, text, base) {
+    match resolve(alloc, text, base, Profile::Standard) {
         Ok(record) => Ok(record.text(alloc)?),
         Err(fault) => Ok(fault.to_string(alloc)?),
     }
@@ -25,7 +25,7 @@ fn answer(alloc: Global, text: &str, base: Option<&str>) -> Result<String, Fail>
     let Some(base) = base else {
         return answer_against(alloc, text, None);
     };
-    let base = resolve(alloc, base, None)?;
+    let base = resolve(alloc, base, None, Profile::Standard)?;
     answer_against(alloc, text, Some(&base))
 }
 

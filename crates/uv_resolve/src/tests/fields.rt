@@ -42,7 +42,7 @@ fn has_fields(
     text: &str,
     (scheme, host, port, path): (&str, &str, Option<u16>, &str),
 ) -> Result<(), Fail> {
-    let record = resolve(rt.alloc(), text, None)?;
+    let record = resolve(rt.alloc(), text, None, Profile::Standard)?;
     let found = host_words(rt.alloc(), record.host())?;
     let walked = path_words(rt.alloc(), record.path())?;
     assert_eq!(rt; record.scheme(), scheme, "the scheme of {text}");
@@ -97,8 +97,8 @@ fn gives_the_fields(rt: HostRuntime) -> Result<(), Fail> {
 // A text with a scheme is resolved on its own, whatever the base is.
 #[test]
 fn forgets_the_base_of_a_text_with_a_scheme(rt: HostRuntime) -> Result<(), Fail> {
-    let base = resolve(rt.alloc(), "file:///C:/d/f", None)?;
-    let record = resolve(rt.alloc(), "C:/x", Some(&base))?;
+    let base = resolve(rt.alloc(), "file:///C:/d/f", None, Profile::Standard)?;
+    let record = resolve(rt.alloc(), "C:/x", Some(&base), Profile::Standard)?;
     assert_eq!(rt; record.scheme(), "c");
     assert!(rt; record.host().is_none());
     assert_eq!(rt; path_words(rt.alloc(), record.path())?.as_str(), "(x)");
@@ -114,7 +114,7 @@ fn tells_empty_from_absent(rt: HostRuntime) -> Result<(), Fail> {
         ("http://h/#", None, Some("")),
         ("http://h/?#", Some(""), Some("")),
     ] {
-        let record = resolve(rt.alloc(), text, None)?;
+        let record = resolve(rt.alloc(), text, None, Profile::Standard)?;
         assert_eq!(rt; record.query(), query, "the query of {text}");
         assert_eq!(rt; record.fragment(), fragment, "the fragment of {text}");
     }

@@ -6,4 +6,4 @@ use Rattle.uv_cli.proofs.check.said.Goals as goal
 pub returns-in_ok-check_lines-in-Ok : goal.returns-in_ok-check_lines-in-Ok
 returns-in_ok-check_lines-in-Ok c =
     let (parts, valid, denoted) = rw c.in-Ok.is at c.resolve.ensures.resolved in
-    (parts, valid, (c.resolve.ensures.runs parts valid).0, c.in_ok-check_lines-in-Ok.ensures ∙ ap check_text denoted)
+    (parts, valid, (c.resolve.ensures.runs parts valid).runs, c.in_ok-check_lines-in-Ok.ensures ∙ ap check_text denoted)

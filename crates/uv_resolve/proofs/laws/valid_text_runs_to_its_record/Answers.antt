@@ -5,7 +5,7 @@ use Rattle.uv_resolve.proofs.laws.valid_text_runs_to_its_record.Goals as goal
 
 pub returns-in-Some : goal.returns-in-Some
 returns-in-Some c =
-    rw c.in-Some.is (runs_to_its_record (Some _) (chars c.args.text.now) c.path.ensures.well_formed)
+    rw c.in-Some.is (runs_to_its_record c.args.profile (Some _) (chars c.args.text.now) c.path.ensures.well_formed)
 
 pub returns-in-None : goal.returns-in-None
-returns-in-None c = rw c.in-None.is (runs_to_its_record None (chars c.args.text.now) tt)
+returns-in-None c = rw c.in-None.is (runs_to_its_record c.args.profile None (chars c.args.text.now) tt)

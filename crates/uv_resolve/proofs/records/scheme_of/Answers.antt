@@ -6,6 +6,6 @@ use Rattle.uv_resolve.proofs.records.scheme_of.Goals as goal
 
 pub lowered-requires : goal.lowered-requires
 lowered-requires c =
-    let (text, valid) = c.requires in
-    scheme_is_ascii _ text c.args.parts.now (seen c.in-Some.scheme) valid
+    let (profile, text, valid) = c.requires in
+    scheme_is_ascii profile _ text c.args.parts.now (seen c.in-Some.scheme) valid
     (sym c.scheme.ensures ∙ ap seen_option c.in-Some.is)
