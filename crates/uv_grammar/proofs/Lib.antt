@@ -12,3 +12,4 @@ pub mod SettingLemmas
 pub mod SliceLemmas
 pub mod TestLemmas
 pub mod VerdictLemmas
+pub mod PlainUnitLemmas

@@ -1,5 +1,5 @@
 -- A link of plain parts is valid with them.
-use Rattle.std.proofs.Common.{◌≡◌, ◌≢◌, ℕ, ◌<◌, Bool, true, false, ◌==◌, List, [], ◌∷◌, ◌++◌, length, take, drop, Option, Some, None, refl, sym, ap, ◌∙◌, subst, inl, inr, arith, append_assoc, append-nil, eqb-true, lt-ltb}
+use Rattle.std.proofs.Common.{get_or, ◌≤◌, ◌≡◌, ◌≢◌, ℕ, ◌<◌, Bool, true, false, ◌==◌, List, [], ◌∷◌, ◌++◌, length, take, drop, Option, Some, None, refl, sym, ap, ◌∙◌, subst, inl, inr, arith, append_assoc, append-nil, eqb-true, lt-ltb}
 use Rattle.std.specs.Prelude.{codes}
 use Rattle.std.specs.Char.{is_ascii, is_ascii_alphabetic}
 use Rattle.std.specs.List.{list_all}
@@ -28,12 +28,15 @@ use Rattle.uv_model.proofs.Hosts.DomainLemmas.{IsAscii-form}
 use Rattle.uv_model.proofs.Texts.MarkLemmas.{is_without-append, is_without-more, has_mark}
 use Rattle.uv_model.proofs.SchemeLemmas.{is_ascii-scheme}
 use Rattle.uv_model.proofs.Complaints.UnitComplaintLemmas.{no_complaint-faultless}
-use Rattle.uv_text.specs.Fronts.{AreAsciiUnits, HasUnitFront}
+use Rattle.uv_text.specs.Class.{HoldsUrlBytes, HasHexDigits}
+use Rattle.uv_text.specs.Splits.{IsUnitSplit}
+use Rattle.uv_grammar.specs.declared.checker.Verdict.TheVariants.{Yes}
 use Rattle.uv_grammar.specs.Built.{built}
 use Rattle.uv_grammar.specs.PartComplaints.{BehindAuthority}
 use Rattle.uv_grammar.specs.PartValues.{FitsHostPart}
 use Rattle.uv_grammar.specs.PlainLinks.{HasAsciiFront, IsFrontCut, IsNameCut, IsPartCut, IsPathCut, IsSpecialCut, IsSpecialFront, MayBeUnits}
 use Rattle.uv_grammar.specs.Verdict.{IsAccepted}
+use Rattle.uv_grammar.proofs.PlainUnitLemmas.{split_joined, url_units}
 use Rattle.uv_grammar.proofs.TestLemmas.{list_all_weaker}
 use Rattle.uv_grammar.proofs.VerdictLemmas.{accepted}
 use Rattle.uv_host.specs.PlainNames.{IsChainFront}
@@ -315,18 +318,14 @@ special_cut bytes scheme behind none rest end is a b =
       special = ap scheme_class a.code_points ∙ is.special;
     }
 
--- the bytes of units are ASCII
-pub units_ascii : (q : Bool) (bytes : List ℕ) (end : ℕ) → HasUnitFront q bytes end → HasAsciiFront bytes end
-units_ascii q bytes end is = (is.0, is.1.ascii)
-
 -- the cut behind a front
 pub cut_joined : (bytes front rest : List ℕ) (end : ℕ) → IsFrontCut bytes end front rest → chars bytes ≡ chars front ++ chars rest
 cut_joined bytes front rest end cut = cut.joined ∙ ap (λ s. s ++ chars rest) (sym cut.code_points)
 
--- the units of a front
-pub cut_units : (q : Bool) (bytes front rest : List ℕ) (end : ℕ) → HasUnitFront q bytes end → IsFrontCut bytes end front rest
-    → AreAsciiUnits q (chars front)
-cut_units q bytes front rest end is cut = subst (λ (s : List ℕ). AreAsciiUnits q s) (sym cut.code_points) is.1
+-- a list that begins with a number is it and a rest
+pub first_byte : (mark : ℕ) (bytes : List ℕ) → 1 ≤ length bytes → get_or bytes 0 0 ≡ mark → bytes ≡ mark ∷ drop 1 bytes
+first_byte mark [] some first = absurd (omega arith)
+first_byte mark (b ∷ bytes) some first = ap (λ n. n ∷ bytes) first
 
 -- a text that doesn't begin with a mark, and one that does
 pub no_part : (mark : ℕ) (text : List ℕ) → IsPartCut mark text None text
@@ -335,15 +334,16 @@ no_part mark text = record { joined = refl; units = tt }
 pub byte_ascii : (mark : ℕ) (bytes : List ℕ) → mark < 128 → bytes ≡ mark ∷ drop 1 bytes → HasAsciiFront bytes 1
 byte_ascii mark bytes small same = rw same (omega arith, rw (lt-ltb mark 128 small) refl)
 
-pub some_part : (mark : ℕ) (bytes none behind front rest : List ℕ) (end : ℕ) → bytes ≡ mark ∷ drop 1 bytes
-    → IsFrontCut bytes 1 none behind → HasUnitFront true behind end → IsFrontCut behind end front rest
+pub some_part : (mark : ℕ) (bytes none behind front rest : List ℕ) (ranges : List (ℕ × ℕ)) → bytes ≡ mark ∷ drop 1 bytes
+    → IsFrontCut bytes 1 none behind → HoldsUrlBytes ranges → HasHexDigits ranges
+    → IsUnitSplit ranges (chars behind) (chars front) (chars rest)
     → IsPartCut mark (chars bytes) (Some (chars front)) (chars rest)
-some_part mark bytes none behind front rest end same a is b = record {
+some_part mark bytes none behind front rest ranges same a holds digits cut = record {
   joined =
       a.joined
       ∙ ap (λ s. s ++ chars behind) (ap (take 1) same)
-      ∙ ap (λ s. mark ∷ s) (cut_joined behind front rest end b);
-  units = cut_units true behind front rest end is b;
+      ∙ ap (λ s. mark ∷ s) (split_joined ranges (chars behind) (chars front) (chars rest) cut);
+  units = url_units ranges (chars behind) (chars front) (chars rest) holds digits cut;
 }
 
 -- the bytes of a scheme are ASCII

@@ -1,16 +1,16 @@
 -- The cuts of the links that people write, after the URL Standard, sections 3.4 and 4.3.
-use Rattle.std.specs.Prelude.{◌≡◌, ◌≢◌, ℕ, ◌≤◌, true, false, List, [], ◌∷◌, ◌++◌, length, take, drop, Option, Some, None}
+use Rattle.std.specs.Prelude.{◌≡◌, ◌≢◌, ℕ, ◌≤◌, Bool, true, false, List, [], ◌∷◌, ◌++◌, length, take, drop, Option, Some, None}
 use Rattle.std.specs.Char.{is_ascii}
 use Rattle.std.specs.List.{list_all}
 use Rattle.std.specs.Str.{chars}
-use Rattle.uv_text.specs.Fronts.{AreAsciiUnits}
 use Rattle.uv_model.specs.declared.scheme.Class.TheVariants.{Special}
-use Rattle.uv_model.specs.Ascii.{slash, colon}
+use Rattle.uv_model.specs.Ascii.{colon, number_sign, question_mark, slash}
 use Rattle.uv_model.specs.Cut.{starts_with_two_slashes}
 use Rattle.uv_model.specs.Hosts.Domain.{IsDomain}
 use Rattle.uv_model.specs.Parts.{written_behind}
-use Rattle.uv_model.specs.Path.{starts_with_slash}
+use Rattle.uv_model.specs.Path.{is_without, starts_with_slash}
 use Rattle.uv_model.specs.Scheme.{is_scheme, scheme_class}
+use Rattle.uv_model.specs.Units.{is_faultless}
 
 -- the front of so many bytes is ASCII
 abbrev pub HasAsciiFront : List ℕ → ℕ → Type 0
@@ -42,17 +42,23 @@ pub record IsNameCut (text name form rest : List ℕ) : Type 0 where
   pub joined : text ≡ name ++ rest
   pub domain : IsDomain name form
 
+-- URL units, which hold no `#`, and a `?` only where it is asked for
+pub record AreUnits (has_question_marks : Bool) (text : List ℕ) : Type 0 where
+  pub units : is_faultless text ≡ true
+  pub no_number_sign : is_without number_sign text ≡ true
+  pub no_question_mark : has_question_marks ≡ false → is_without question_mark text ≡ true
+
 -- the text is a path of units, empty or behind `/`, and a rest
 pub record IsPathCut (text path rest : List ℕ) : Type 0 where
   pub joined : text ≡ path ++ rest
-  pub units : AreAsciiUnits false path
+  pub units : AreUnits false path
   pub slashed : path ≢ [] → starts_with_slash path ≡ true
   pub single : starts_with_two_slashes path ≡ false
 
 -- units, where there are any
 abbrev pub MayBeUnits : Option (List ℕ) → Type 0
 MayBeUnits None = Unit {0}
-MayBeUnits (Some text) = AreAsciiUnits true text
+MayBeUnits (Some text) = AreUnits true text
 
 -- the text is units behind the mark, where it begins with it, and a rest
 pub record IsPartCut (mark : ℕ) (text : List ℕ) (part : Option (List ℕ)) (rest : List ℕ) : Type 0 where

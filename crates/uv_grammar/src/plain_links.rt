@@ -1,6 +1,6 @@
 //! The links that people write, judged at one pass: a special scheme, a plain domain, and a path, a query and a
-//! fragment of ASCII.
-ghost use Rattle.std.specs.Prelude.{◌≡◌, ◌≢◌, ◌++◌, ◌<◌, [], false, true, Option, IfSome, IsTrue, drop, length};
+//! fragment of URL units. All others are judged by their parts.
+ghost use Rattle.std.specs.Prelude.{◌≡◌, ◌≢◌, ◌++◌, ◌∷◌, ◌<◌, [], false, true, Option, IfSome, IsTrue, drop, length};
 ghost use Rattle.std.specs.Str.{chars};
 ghost use Rattle.uv_model.specs.Cut.{starts_with_two_slashes};
 ghost use Rattle.uv_model.specs.Path.{starts_with_slash};
@@ -15,10 +15,10 @@ use crate::form::Form;
 use crate::held_host::{AsciiText, HeldHost};
 use crate::parts::Parts;
 use uv_host::{is_plain_domain, name_front};
-use uv_text::unit_front;
+use uv_text::{ByteClass, split_units};
 
 /// The parts of a link that is plain: a special scheme in lower case, `://`, a domain that is its own ASCII form, and
-/// a path, a query and a fragment of ASCII. Against any base it is valid with these parts. Where there are none, that
+/// a path, a query and a fragment of URL units. Against any base it is valid with these parts. Where there are none, that
 /// says nothing.
 pub(crate) fn plain_link<'t>(text: &'t str) -> Option<Parts<'t>>
     ensures { IfSome result (λ parts. (base : Option Url) → IsAccepted base (chars text.now) parts) }
@@ -91,6 +91,16 @@ fn has_front(bytes: &[u8], front: &[u8]) -> bool
     bytes.starts_with(front)
 }
 
+// Whether the first byte is this one.
+fn begins_with(bytes: &[u8], mark: u8) -> bool
+    ensures { IsTrue result → bytes.now ≡ mark ∷ drop 1 bytes.now }
+{
+    match bytes {
+        [first, ..] => *first == mark,
+        [] => false,
+    }
+}
+
 // A plain domain, and what follows it.
 fn split_name<'t>(text: &'t str) -> Option<(&'t str, &'t str)>
     ensures { IfSome result (λ r. IsNameCut (chars text.now) (seen r.0) r.0.now (seen r.1)) }
@@ -110,7 +120,8 @@ fn split_name<'t>(text: &'t str) -> Option<(&'t str, &'t str)>
 fn split_path<'t>(text: &'t str) -> Option<(&'t str, &'t str)>
     ensures { IfSome result (λ r. IsPathCut (chars text.now) (seen r.0) (seen r.1)) }
 {
-    let (path_text, rest) = split_front(text, unit_front(text.as_bytes(), false));
+    let class = ByteClass::path();
+    let (path_text, rest) = split_units(text, &class);
     if begins_path(path_text) {
         Some((path_text, rest))
     } else {
@@ -134,11 +145,12 @@ fn split_part<'t>(text: &'t str, mark: u8) -> (Option<&'t str>, &'t str)
     requires { mark < 128 }
     ensures { IsPartCut mark (chars text.now) (seen_option result.0) (seen result.1) }
 {
-    if !has_front(text.as_bytes(), &[mark]) {
+    if !begins_with(text.as_bytes(), mark) {
         return (None, text);
     }
     let (_, behind) = split_front(text, 1);
-    let (part, rest) = split_front(behind, unit_front(behind.as_bytes(), true));
+    let class = ByteClass::url();
+    let (part, rest) = split_units(behind, &class);
     (Some(part), rest)
 }
 

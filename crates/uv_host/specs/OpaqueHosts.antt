@@ -8,6 +8,10 @@ use Rattle.uv_model.specs.Ascii.{percent_sign}
 use Rattle.uv_model.specs.Hosts.OpaqueHost.{is_forbidden_host, IsOpaqueHost}
 use Rattle.uv_model.specs.Units.{is_url_code_point, starts_with_two_hex}
 
+-- the rule that a code point violates where no unit of an opaque host begins
+abbrev pub host_rule : ℕ → Rule
+host_rule c = if c == percent_sign then Percent else HostCodePoint
+
 -- the rule that a code point violates, by what follows it
 abbrev pub host_fault : ℕ → List ℕ → Option Rule
 host_fault c rest =

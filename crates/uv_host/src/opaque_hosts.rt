@@ -1,14 +1,13 @@
 //! Opaque hosts (URL Standard, sections 3.2 and 3.4).
-ghost use Rattle.std.specs.Prelude.{◌≡◌, ◌↔◌, true, None, chars, length};
+ghost use Rattle.std.specs.Prelude.{◌≡◌, ◌↔◌, true, None, chars};
 ghost use Rattle.uv_model.specs.Hosts.OpaqueHost as spec;
 ghost use Rattle.uv_model.specs.Complaints.OpaqueHostComplaint.{OpaqueHostComplaint};
 ghost use Rattle.uv_model.specs.Complaints.Refusal.{IsLeast};
-ghost use Rattle.uv_host.specs.OpaqueHosts.{host_fault, first_host_fault, IsOpaqueHostOrEmpty};
+ghost use Rattle.uv_host.specs.OpaqueHosts.{first_host_fault, host_rule, IsOpaqueHostOrEmpty};
 
 use crate::addresses::bracketed_ipv6;
-use uv_model::{
-    Refusal, Rule, first_code_point, is_forbidden_host, is_url_code_point, starts_with_two_hex,
-};
+use uv_model::{Refusal, Rule, first_code_point};
+use uv_text::{ByteClass, count_code_points, split_units};
 
 /// What is wrong with the text of an opaque host: the least place, in code points from the text's start, and there the
 /// least rule. `None` for an empty text, an IPv6 text in brackets and an opaque host (URL Standard, section 3.4).
@@ -52,44 +51,32 @@ fn bracket_fault(text: &str) -> Option<Refusal>
 fn first_fault(text: &str) -> Option<Refusal>
     ensures { result ≡ first_host_fault 0 (chars text.now) }
 {
-    let mut left = text;
-    while let Some((c, rest)) = first_code_point(left) {
-        if let Some(rule) = fault_at(c, rest) {
-            let place = count_code_points(text) - count_code_points(left);
-            return Some(Refusal { place, rule });
-        }
-        left = rest;
+    let class = ByteClass::opaque_host();
+    let (front, rest) = split_units(text, &class);
+    match first_code_point(rest) {
+        Some((c, _)) => Some(Refusal {
+            place: count_code_points(front),
+            rule: host_rule(c),
+        }),
+        None => None,
     }
-    None
 }
 
-/// The number of code points of a text.
-fn count_code_points(text: &str) -> usize
-    ensures { result ≡ length (chars text.now) }
-{
-    text.chars().count()
-}
-
-/// The rule that a code point violates, by what follows it.
-fn fault_at(c: char, rest: &str) -> Option<Rule>
-    ensures { result ≡ host_fault c (chars rest.now) }
+/// The rule that a code point violates where no unit of an opaque host begins.
+fn host_rule(c: char) -> Rule
+    ensures { result ≡ host_rule c }
 {
     if c == '%' {
-        if starts_with_two_hex(rest) {
-            None
-        } else {
-            Some(Rule::Percent)
-        }
-    } else if is_forbidden_host(c) || !is_url_code_point(c) {
-        Some(Rule::HostCodePoint)
+        Rule::Percent
     } else {
-        None
+        Rule::HostCodePoint
     }
 }
 
 #[cfg(test)]
 mod tests {
     use super::*;
+    use std::test::Fail;
 
     #[test]
     fn judges_opaque_hosts(rt: HostRuntime) {
@@ -109,6 +96,20 @@ mod tests {
                 "of {text}"
             );
         }
+    }
+
+    #[test]
+    fn counts_the_place_behind_a_long_front(rt: HostRuntime) -> Result<(), Fail> {
+        let letters = "a".repeat(rt.alloc(), 64)?;
+        let text = format!(in rt.alloc(); "{letters}^")?;
+        assert_eq!(rt;
+            opaque_fault(text.as_str()),
+            Some(Refusal {
+                place: 64,
+                rule: Rule::HostCodePoint
+            })
+        );
+        Ok(())
     }
 
     #[test]

@@ -1,18 +1,22 @@
 -- The first fault that is found from code point to code point is the least complaint of units.
-use Rattle.std.proofs.Common.{◌≡◌, ℕ, zero, suc, ◌+◌, ◌≤◌, true, false, List, [], ◌∷◌, Option, Some, None, refl, sym, ap, ◌∙◌, subst, inl, inr, arith, add-one}
-use Rattle.std.specs.Prelude.{IsNone, ◌↔◌}
-use Rattle.std.proofs.lemmas.Bool.{cases_Bool, false≢true}
-use Rattle.std.proofs.lemmas.Option.{none-some}
+use Rattle.std.proofs.Common.{◌≡◌, ℕ, zero, suc, ◌+◌, ◌≤◌, ◌==◌, Bool, true, false, ◌&&◌, ◌||◌, List, [], ◌∷◌, drop, Option, Some, None, refl, sym, ap, ◌∙◌, subst, inl, inr, arith, lt-ltb, le-ltb, ne_eqb}
+use Rattle.std.specs.Prelude.{IsNone, ◌↔◌, nat_le}
+use Rattle.std.specs.Char.{is_ascii}
+use Rattle.std.proofs.lemmas.Bool.{cases_Bool, cases_eq, cases_lt, false≢true}
+use Rattle.std.proofs.lemmas.Bool.Decides.{nat_tests}
 use Rattle.uv_model.specs.declared.rule.Rule.{Rule}
 use Rattle.uv_model.specs.declared.rule.Refusal.{Refusal}
 use Rattle.uv_model.specs.Complaints.Complaint.{Behind}
 use Rattle.uv_model.specs.Complaints.Refusal.{IsLeast}
 use Rattle.uv_model.specs.Complaints.Rule.{rule_number}
 use Rattle.uv_model.specs.Complaints.UnitComplaint.{UnitComplaint, unit_rule}
-use Rattle.uv_model.specs.Units.{IsUnits, is_unit_at}
+use Rattle.uv_model.specs.Ascii.{percent_sign}
+use Rattle.uv_model.specs.Units.{IsUnits, is_unit_at, is_url_code_point}
 use Rattle.uv_model.proofs.Complaints.RefusalLemmas.{IsLeast-like}
 use Rattle.uv_model.proofs.Complaints.UnitComplaintLemmas.{UnitComplaint-earlier, UnitComplaint-here, UnitComplaint-later, UnitComplaint-nil, UnitComplaint-said, no_complaint-units, units_uncomplained}
-use Rattle.uv_text.specs.Faults.{fault_from, violated}
+use Rattle.uv_text.specs.Class.{HoldsUrlBytes, in_class}
+use Rattle.uv_text.specs.Faults.{fault_from}
+use Rattle.uv_text.specs.Splits.{begins_unit, unit_length}
 
 -- the faults of a text whose first code point stands at the place
 abbrev From : ℕ → List ℕ → ℕ → Rule → Type 0
@@ -88,29 +92,60 @@ none_in_units text (Some refusal) is = (
   λ units. absurd (no_complaint-units text units refusal.place refusal.rule is.stands),
 )
 
--- ---- one turn of the scan
+-- ---- the cut behind the units
 
--- a code point that violates a rule is the first fault
-pub fault_from-found : (start c : ℕ) (rest : List ℕ) (rule : Rule) → violated c rest ≡ Some rule
-    → fault_from start (c ∷ rest) ≡ Some (record { place = start; rule = rule })
-fault_from-found start c rest rule is =
+-- the first code point of a rest, as the fault at the place
+abbrev pub fault_at : ℕ → List ℕ → Option Refusal
+fault_at place [] = None
+fault_at place (c ∷ rest) = Some (record { place = place; rule = unit_rule c })
+
+-- `%` is no URL code point
+no_percent_unit : (is_ascii percent_sign && is_url_code_point percent_sign) ≡ false
+unfolding is_url_code_point
+no_percent_unit = refl
+
+or_false : (x : Bool) → (x || false) ≡ x
+or_false true = refl
+or_false false = refl
+
+-- a unit of the class is one of the grammar
+begins_url : (ranges : List (ℕ × ℕ)) → HoldsUrlBytes ranges → (c : ℕ) (rest : List ℕ)
+    → begins_unit ranges c rest ≡ is_unit_at c rest
+unfolding is_unit_at
+begins_url ranges holds c rest =
+    elim (cases_eq c percent_sign) [
+      | inl same ↦
+          let none : in_class ranges percent_sign ≡ false = holds percent_sign ∙ no_percent_unit in
+          rw same (rw none refl)
+      | inr other ↦
+          let no_percent : (c == percent_sign) ≡ false = ne_eqb c percent_sign other in
+          rw (no_percent, holds c) (either c)
+    ]
+  where
+    either : (c : ℕ) → (is_ascii c && is_url_code_point c || nat_le 128 c && is_url_code_point c) ≡ is_url_code_point c
+    either c =
+        elim (cases_lt c 128) [
+          | inl small ↦
+              let below : nat_le 128 c ≡ false = grind (arith, nat_tests, small) in
+              rw (lt-ltb c 128 small, below) (or_false (is_url_code_point c))
+          | inr large ↦
+              let beyond : nat_le 128 c ≡ true = grind (arith, nat_tests, large) in
+              rw (le-ltb c 128 large, beyond) refl
+        ]
+
+-- the first fault is the code point behind the units, at the place that counts them
+pub fault_behind : (ranges : List (ℕ × ℕ)) → HoldsUrlBytes ranges → (place : ℕ) (text : List ℕ)
+    → fault_from place text ≡ fault_at (place + unit_length ranges text) (drop (unit_length ranges text) text)
+fault_behind ranges holds place [] = refl
+fault_behind ranges holds place (c ∷ rest) =
     elim (cases_Bool (is_unit_at c rest)) [
       | inl unit ↦
-          let none : violated c rest ≡ None = rw unit in
-          absurd (none-some rule (sym none ∙ is))
+          let begins = begins_url ranges holds c rest ∙ unit in
+          let next : suc place + unit_length ranges rest ≡ place + suc (unit_length ranges rest) = omega arith in
+          let more = fault_behind ranges holds (suc place) rest in
+          let behind = drop (unit_length ranges rest) rest in
+          rw (unit, begins) (more ∙ ap (λ p. fault_at p behind) next)
       | inr fault ↦
-          let some : violated c rest ≡ Some (unit_rule c) = rw fault in
-          let same : unit_rule c ≡ rule = cc (some, is) in
-          rw fault (ap (λ r. Some (record { place = start; rule = r })) same)
-    ]
-
--- behind a code point that violates none the scan goes on
-pub fault_from-passed : (start c : ℕ) (rest : List ℕ) → violated c rest ≡ None
-    → fault_from start (c ∷ rest) ≡ fault_from (start + 1) rest
-fault_from-passed start c rest is =
-    elim (cases_Bool (is_unit_at c rest)) [
-      | inl unit ↦ rw (unit, add-one) refl
-      | inr fault ↦
-          let some : violated c rest ≡ Some (unit_rule c) = rw fault in
-          absurd (none-some (unit_rule c) (sym is ∙ some))
+          let stops = begins_url ranges holds c rest ∙ fault in
+          rw (fault, stops) (ap (λ p. Some (record { place = p; rule = unit_rule c })) (omega arith))
     ]

@@ -1,35 +1,27 @@
 -- Look-ups by the halves of bytes, lane by lane.
-use Rattle.std.proofs.Common.{◌≡◌, ℕ, zero, suc, ◌-◌, Bool, true, ◌&&◌, inl, inr, subst, eq-zero-or-pos, ◌+◌, ◌*◌, ◌/◌, ◌^◌, ◌%◌, ◌<◌, ◌≤◌, T, eqb, cond, false, [], ◌∷◌, List, length, map, get_or, take, drop, ◌++◌, replicate, bit_and, refl, sym, ap, ◌∙◌, arith, w8, Fits, eqb→eq}
+use Rattle.std.proofs.Common.{◌≡◌, ℕ, zero, suc, Bool, inl, inr, ◌+◌, ◌*◌, ◌/◌, ◌^◌, ◌%◌, ◌<◌, ◌≤◌, eqb, cond, false, [], ◌∷◌, List, length, map, get_or, take, drop, ◌++◌, replicate, bit_and, refl, sym, ap, ◌∙◌, arith, w8, Fits}
 use Rattle.std.proofs.lemmas.List.{get_or-map, length-map, ext_get_or}
 use Rattle.std.proofs.lemmas.Nat.{and_le_r}
 use Rattle.std.proofs.lemmas.Simd.{Each1-all, Each1-weaker, Each1-zip2, Each2-splat, Each1-get_or, below_from_Fits, length-zip2, swz_l, SwzOk, SwzOk-from_below, length-swz_l, get_or-swz_l_below, bitmask_splat, map-map, zip2_of_maps}
 use Rattle.std.specs.List.{prefix_len}
 use Rattle.std.proofs.lemmas.Bool.{cases_Bool}
-use lib.Ieee.Fits.{and_l, and_r}
 use lib.Lanes.{zip2, Each1, mask_l, top}
+use Rattle.std.specs.Prelude.{slice_index}
+use Rattle.uv_text.specs.Rows.{StandsTwice}
 
--- a test of each number below a bound, that computes
-abbrev pub all_below : (ℕ → Bool) → ℕ → Bool
-all_below p zero = true
-all_below p (suc n) = p n && all_below p n
-
-every_below : (p : ℕ → Bool) (n : ℕ) → T (all_below p n) → (i : ℕ) → i < n → T (p i)
-every_below p zero h i l = absurd (omega arith)
-every_below p (suc n) h i l =
-    elim (eq-zero-or-pos (n - i)) [
-      | inl z ↦ let e : n ≡ i = omega arith in subst (λ x. T (p x)) e (and_l _ _ h)
-      | inr g ↦ every_below p n (and_r (p n) _ h) i (omega arith)
-    ]
-
+-- 32 bytes
 abbrev pub IsBlock : List ℕ → Type 0
 IsBlock v = (length v ≡ 32) × Each1 (Fits w8) v
 
+-- a shift to the right
 abbrev pub down : ℕ → ℕ → ℕ
 down a b = a / 2 ^ b
 
+-- a lane is a byte
 lane_fits : (v : List ℕ) (i : ℕ) → i < length v → Each1 (Fits w8) v → get_or v i 0 < 256
 lane_fits v i lt fits = Each1-get_or (λ a. a < 256) v i 0 lt (below_from_Fits w8 v fits)
 
+-- the high halves are places in a table of sixteen
 pub high_ok : (v : List ℕ) → IsBlock v → SwzOk w8 16 32 0 (zip2 down v (replicate 32 4))
 high_ok v fits =
     let small = Each1-weaker (λ a. a < 256) (λ a. a / 16 < 16) (λ a h. omega arith) v (below_from_Fits w8 v fits.1) in
@@ -37,6 +29,7 @@ high_ok v fits =
     (omega (arith, length-zip2 down v (replicate 32 4) fits.0))
     (Each1-zip2 down (λ j. j < 16) v (replicate 32 4) (Each2-splat (λ a b. down a b < 16) v 32 4 small))
 
+-- and so are the low halves
 pub low_ok : (v : List ℕ) → IsBlock v → SwzOk w8 16 32 0 (zip2 bit_and v (replicate 32 15))
 low_ok v fits =
     let small = Each1-all (λ a. bit_and a 15 < 16) (λ a. omega (arith, and_le_r a 15)) v in
@@ -44,24 +37,22 @@ low_ok v fits =
     (omega (arith, length-zip2 bit_and v (replicate 32 15) fits.0))
     (Each1-zip2 bit_and (λ j. j < 16) v (replicate 32 15) (Each2-splat (λ a b. bit_and a b < 16) v 32 15 small))
 
--- a table of two copies of a row, read at places below 16
-pub looked_up : (t s : List ℕ) (g : ℕ → ℕ) (v js : List ℕ) → IsBlock v → js ≡ map g v
-    → ((x : ℕ) → x < 256 → g x < 16)
-    → T (all_below (λ i. all_below (λ j. eqb (get_or t (16 * ((0 + i) / 16) + j) 0) (get_or s j 0)) 16) 32)
-    → swz_l w8 16 t 0 js ≡ map (λ x. get_or s (g x) 0) v
-looked_up t s g v js fits e small copies =
+-- a table of sixteen that stands twice, read at places below 16
+pub looked_up : (table lanes : List ℕ) (g : ℕ → ℕ) (v js : List ℕ) → StandsTwice table lanes → IsBlock v → js ≡ map g v
+    → ((x : ℕ) → x < 256 → g x < 16) → swz_l w8 16 lanes 0 js ≡ map (λ x. slice_index table (g x)) v
+looked_up table lanes g v js stands fits e small =
     let long : length js ≡ 32 = ap length e ∙ length-map v g ∙ fits.0 in
-    ext_get_or 0 _ _ (length-swz_l w8 16 t 0 js ∙ long ∙ sym (length-map v (λ x. get_or s (g x) 0) ∙ fits.0)) (λ i h.
-    let lt : i < 32 = omega (arith, length-swz_l w8 16 t 0 js) in
+    ext_get_or 0 _ _ (length-swz_l w8 16 lanes 0 js ∙ long ∙ sym (length-map v (λ x. slice_index table (g x)) ∙ fits.0))
+    (λ i h.
+    let lt : i < 32 = omega (arith, length-swz_l w8 16 lanes 0 js) in
     let within : i < length v = omega (arith, fits.0) in
     let is : get_or js i 0 ≡ g (get_or v i 0) = ap (λ l. get_or l i 0) e ∙ get_or-map g v i 0 0 within in
     let below : get_or js i 0 < 16 = omega (arith, small (get_or v i 0) (lane_fits v i within fits.1)) in
-    let row
-    =
-    every_below (λ a. all_below (λ j. eqb (get_or t (16 * ((0 + a) / 16) + j) 0) (get_or s j 0)) 16) 32 copies i lt in
-    get_or-swz_l_below w8 16 t 0 js i (omega arith) below
-    ∙ eqb→eq _ _ (every_below (λ j. eqb (get_or t (16 * ((0 + i) / 16) + j) 0) (get_or s j 0)) 16 row (get_or js i 0) below)
-    ∙ ap (λ k. get_or s k 0) is ∙ sym (get_or-map (λ x. get_or s (g x) 0) v i 0 0 within))
+    let place = 16 * ((0 + i) / 16) + get_or js i 0 in
+    let row : place % 16 ≡ get_or js i 0 = omega arith in
+    get_or-swz_l_below w8 16 lanes 0 js i (omega arith) below
+    ∙ stands.each place (omega arith) ∙ ap (λ k. slice_index table k) (row ∙ is)
+    ∙ sym (get_or-map (λ x. slice_index table (g x)) v i 0 0 within))
 
 -- the lanes whose row lacks their bit
 pub outside_is : (f g : ℕ → ℕ) (v rows bits : List ℕ) → length v ≡ 32 → rows ≡ map f v → bits ≡ map g v
@@ -109,9 +100,9 @@ module _ (p : ℕ → Bool) where
   front_before [] ys none = none
   front_before (x ∷ xs) ys none = ap (λ k. cond (p x) (1 + k) 0) (front_before xs ys none)
 
--- zeros pass no test that refuses zero
-pub front_of_zeros : (p : ℕ → Bool) (n k : ℕ) → p 0 ≡ false → prefix_len p (drop k (replicate n 0)) ≡ 0
-front_of_zeros p zero zero refused = refl
-front_of_zeros p zero (suc k) refused = refl
-front_of_zeros p (suc n) zero refused = rw refused refl
-front_of_zeros p (suc n) (suc k) refused = front_of_zeros p n k refused
+-- what fills a load up passes no test that refuses it
+pub front_of_fill : (p : ℕ → Bool) (x n k : ℕ) → p x ≡ false → prefix_len p (drop k (replicate n x)) ≡ 0
+front_of_fill p x zero zero refused = refl
+front_of_fill p x zero (suc k) refused = refl
+front_of_fill p x (suc n) zero refused = rw refused refl
+front_of_fill p x (suc n) (suc k) refused = front_of_fill p x n k refused

@@ -1,8 +1,9 @@
 -- Classes of ASCII bytes, given by ranges.
-use Rattle.std.specs.Prelude.{◌≡◌, ℕ, List, Bool, not, ◌&&◌, ◌||◌, length, nat_le, nat_lt}
-use Rattle.std.specs.Char.{is_ascii}
+use Rattle.std.specs.Prelude.{◌≡◌, ℕ, List, Bool, true, not, ◌&&◌, ◌||◌, length, ◌==◌, nat_le, nat_lt}
+use Rattle.std.specs.Char.{is_ascii, is_ascii_hexdigit}
 use Rattle.std.specs.List.{list_any}
 use Rattle.uv_model.specs.Hosts.OpaqueHost.{is_forbidden_host}
+use Rattle.uv_model.specs.Ascii.{question_mark}
 use Rattle.uv_model.specs.Units.{is_url_code_point}
 
 -- the byte is in the range, from its first byte to its last
@@ -25,7 +26,16 @@ is_refused ranges = nat_lt 12 (length ranges) || list_any is_wide ranges
 abbrev pub HoldsUrlBytes : List (ℕ × ℕ) → Type 0
 HoldsUrlBytes ranges = (byte : ℕ) → in_class ranges byte ≡ (is_ascii byte && is_url_code_point byte)
 
+-- the class holds exactly the ASCII URL code points but `?`
+abbrev pub HoldsPathBytes : List (ℕ × ℕ) → Type 0
+HoldsPathBytes ranges =
+    (byte : ℕ) → in_class ranges byte ≡ (is_ascii byte && (is_url_code_point byte && not (byte == question_mark)))
+
 -- the class holds exactly the ASCII URL code points that aren't forbidden host code points
 abbrev pub HoldsOpaqueHostBytes : List (ℕ × ℕ) → Type 0
 HoldsOpaqueHostBytes ranges =
     (byte : ℕ) → in_class ranges byte ≡ (is_ascii byte && (is_url_code_point byte && not (is_forbidden_host byte)))
+
+-- the class has the hex digits, so that those behind a `%` of a percent-encoded byte are in it
+abbrev pub HasHexDigits : List (ℕ × ℕ) → Type 0
+HasHexDigits ranges = (byte : ℕ) → is_ascii_hexdigit byte ≡ true → in_class ranges byte ≡ true

@@ -1,22 +1,11 @@
 -- The first fault of a text that should be URL units, found from code point to code point.
-use Rattle.std.specs.Prelude.{◌≡◌, ◌+◌, length, ℕ, suc, List, [], ◌∷◌, Option, Some, None, if◌then◌else◌}
-use Rattle.uv_model.specs.declared.rule.Rule.{Rule}
+use Rattle.std.specs.Prelude.{ℕ, suc, List, [], ◌∷◌, Option, Some, None, if◌then◌else◌}
 use Rattle.uv_model.specs.declared.rule.Refusal.{Refusal}
 use Rattle.uv_model.specs.Complaints.UnitComplaint.{unit_rule}
 use Rattle.uv_model.specs.Units.{is_unit_at}
-
--- the rule that a code point violates before what follows it, or none
-abbrev pub violated : ℕ → List ℕ → Option Rule
-violated c rest = if is_unit_at c rest then None else Some (unit_rule c)
 
 -- the first fault of a text whose first code point stands at the place
 abbrev pub fault_from : ℕ → List ℕ → Option Refusal
 fault_from place [] = None
 fault_from place (c ∷ rest) =
     if is_unit_at c rest then fault_from (suc place) rest else Some (record { place = place; rule = unit_rule c })
-
--- the rest stands behind a front that has no fault
-pub record PassesFront (text rest : List ℕ) : Type 0 where
-  pub front : ℕ
-  pub counted : length text ≡ front + length rest
-  pub silent : (place : ℕ) → fault_from place text ≡ fault_from (place + front) rest

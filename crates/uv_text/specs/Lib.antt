@@ -1,4 +1,4 @@
 pub mod Class
 pub mod Faults
-pub mod Fronts
-pub mod Lanes
+pub mod Rows
+pub mod Splits

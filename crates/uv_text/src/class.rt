@@ -1,8 +1,10 @@
 //! Classes of ASCII bytes, and the run of a class at the front of a text.
-ghost use Rattle.std.specs.Prelude.{◌≡◌, ◌<◌, ◌≤◌, IfSome, IsTrue, false, is_none, length};
 ghost use Rattle.std.specs.List.{list_any, prefix_len};
-ghost use Rattle.uv_text.specs.Class.{HoldsOpaqueHostBytes, HoldsUrlBytes, in_class, is_refused, is_wide, within};
+ghost use Rattle.std.specs.Prelude.{◌≡◌, ◌+◌, ◌<◌, ◌≤◌, ℕ, IfSome, IsTrue, false, if◌then◌else◌, is_none, length, true};
+ghost use Rattle.uv_text.specs.Class.{HasHexDigits, HoldsOpaqueHostBytes, HoldsPathBytes, HoldsUrlBytes, in_class, is_refused, is_wide, within};
+ghost use Rattle.uv_text.specs.Rows.{HoldClass, row_holding};
 
+use crate::lanes::row_run;
 use std::marker::Model;
 
 /// A set of ASCII bytes: those within one of at most 12 ranges. Contracts see the ranges.
@@ -10,22 +12,26 @@ use std::marker::Model;
 pub struct ByteClass {
     kept: [(u8, u8); 12],
     count: usize,
+    // The same set by the two halves of a byte: at the low half, a bit for each high half.
+    rows: [u8; 16],
 }
 
 impl Model for ByteClass {
     ghost use Rattle.std.specs.Prelude.{◌≡◌, ◌≤◌, ℕ, List, take, false};
     ghost use Rattle.std.specs.List.{list_any};
     ghost use Rattle.uv_text.specs.Class.{is_wide};
+    ghost use Rattle.uv_text.specs.Rows.{HoldClass};
 
     ghost Value = { List (ℕ × ℕ) };
 
     ghost view = { λ c. take c.count c.kept };
 
-    ghost invariant = { λ c. (c.count ≤ 12) × (list_any is_wide (take c.count c.kept) ≡ false) };
+    ghost invariant = { λ c. (c.count ≤ 12) × (list_any is_wide (take c.count c.kept) ≡ false)
+        × HoldClass c.rows (take c.count c.kept) };
 }
 
 // The ASCII URL code points.
-const URL_RANGES: [(u8, u8); 8] = [
+const URL_RANGES: [(u8, u8); 12] = [
     (b'!', b'!'),
     (b'$', b'$'),
     (b'&', b';'),
@@ -34,10 +40,38 @@ const URL_RANGES: [(u8, u8); 8] = [
     (b'_', b'_'),
     (b'a', b'z'),
     (b'~', b'~'),
+    (0, 0),
+    (0, 0),
+    (0, 0),
+    (0, 0),
+];
+
+const URL_ROWS: [u8; 16] = [
+    184, 252, 248, 248, 252, 248, 252, 252, 252, 252, 252, 92, 84, 92, 212, 124,
+];
+
+// The ASCII URL code points but `?`.
+const PATH_RANGES: [(u8, u8); 12] = [
+    (b'!', b'!'),
+    (b'$', b'$'),
+    (b'&', b';'),
+    (b'=', b'='),
+    (b'@', b'Z'),
+    (b'_', b'_'),
+    (b'a', b'z'),
+    (b'~', b'~'),
+    (0, 0),
+    (0, 0),
+    (0, 0),
+    (0, 0),
+];
+
+const PATH_ROWS: [u8; 16] = [
+    184, 252, 248, 248, 252, 248, 252, 252, 252, 252, 252, 92, 84, 92, 212, 116,
 ];
 
 // The ASCII URL code points but `/`, `:`, `?` and `@`.
-const OPAQUE_HOST_RANGES: [(u8, u8); 10] = [
+const OPAQUE_HOST_RANGES: [(u8, u8); 12] = [
     (b'!', b'!'),
     (b'$', b'$'),
     (b'&', b'.'),
@@ -48,6 +82,12 @@ const OPAQUE_HOST_RANGES: [(u8, u8); 10] = [
     (b'_', b'_'),
     (b'a', b'z'),
     (b'~', b'~'),
+    (0, 0),
+    (0, 0),
+];
+
+const OPAQUE_HOST_ROWS: [u8; 16] = [
+    168, 252, 248, 248, 252, 248, 252, 252, 252, 252, 244, 92, 84, 92, 212, 112,
 ];
 
 impl ByteClass {
@@ -65,16 +105,38 @@ impl ByteClass {
 
     /// The ASCII URL code points (URL Standard, section 4.3), of which paths, queries and fragments consist.
     pub fn url() -> ByteClass
-        ensures { HoldsUrlBytes result }
+        ensures bytes { HoldsUrlBytes result }
+        ensures digits { HasHexDigits result }
     {
-        ByteClass::holding(&URL_RANGES)
+        ByteClass {
+            kept: URL_RANGES,
+            count: 8,
+            rows: URL_ROWS,
+        }
+    }
+
+    /// The ASCII URL code points but `?` (URL Standard, section 4.3), of which a path consists that a query may follow.
+    pub fn path() -> ByteClass
+        ensures bytes { HoldsPathBytes result }
+        ensures digits { HasHexDigits result }
+    {
+        ByteClass {
+            kept: PATH_RANGES,
+            count: 8,
+            rows: PATH_ROWS,
+        }
     }
 
     /// The ASCII URL code points that an opaque host may hold (URL Standard, sections 3.2 and 3.4).
     pub fn opaque_host() -> ByteClass
-        ensures { HoldsOpaqueHostBytes result }
+        ensures bytes { HoldsOpaqueHostBytes result }
+        ensures digits { HasHexDigits result }
     {
-        ByteClass::holding(&OPAQUE_HOST_RANGES)
+        ByteClass {
+            kept: OPAQUE_HOST_RANGES,
+            count: 10,
+            rows: OPAQUE_HOST_ROWS,
+        }
     }
 
     // The class of ranges that are known to be few and within ASCII.
@@ -88,6 +150,7 @@ impl ByteClass {
         ByteClass {
             kept,
             count: ranges.len(),
+            rows: rows_holding(ranges),
         }
     }
 
@@ -96,7 +159,7 @@ impl ByteClass {
         ensures value { result ≡ in_class self.now byte }
         ensures ascii { IsTrue result → byte < 128 }
     {
-        self.kept[..self.count].iter().any(|r| is_within(*r, byte))
+        is_in(&self.kept[..self.count], byte)
     }
 }
 
@@ -107,6 +170,13 @@ fn has_wide(ranges: &[(u8, u8)]) -> bool
     ranges.iter().any(|r| r.0 > 127 || r.1 > 127)
 }
 
+// Whether the byte is in one of the ranges.
+fn is_in(ranges: &[(u8, u8)], byte: u8) -> bool
+    ensures { result ≡ in_class ranges.now byte }
+{
+    ranges.iter().any(|r| is_within(*r, byte))
+}
+
 // Whether the byte is in the range.
 fn is_within(range: (u8, u8), byte: u8) -> bool
     ensures { result ≡ within range byte }
@@ -114,20 +184,53 @@ fn is_within(range: (u8, u8), byte: u8) -> bool
     range.0 <= byte && byte <= range.1
 }
 
-/// The length of the longest front whose bytes are all in the class.
-pub fn unit_run(bytes: &[u8], class: &ByteClass) -> usize
-    ensures { result ≡ prefix_len (in_class class.now) bytes.now }
+// The rows of a class, by which a byte is found by its two halves.
+fn rows_holding(ranges: &[(u8, u8)]) -> [u8; 16]
+    requires { list_any is_wide ranges.now ≡ false }
+    ensures { HoldClass result ranges.now }
 {
-    let mut run = 0;
-    while run < bytes.len() && class.has(bytes[run]) {
-        run += 1;
+    let mut rows = [0; 16];
+    for low in 0..16u8 {
+        rows[low as usize] = row_holding(ranges, low);
     }
-    run
+    rows
+}
+
+// The row at a low half: the bit of each high half with which it is a byte of the class.
+fn row_holding(ranges: &[(u8, u8)], low: u8) -> u8
+    requires { low < 16 }
+    ensures { result ≡ row_holding ranges.now low }
+{
+    bit_holding(ranges, low, 1)
+        | bit_holding(ranges, 0x10 + low, 2)
+        | bit_holding(ranges, 0x20 + low, 4)
+        | bit_holding(ranges, 0x30 + low, 8)
+        | bit_holding(ranges, 0x40 + low, 16)
+        | bit_holding(ranges, 0x50 + low, 32)
+        | bit_holding(ranges, 0x60 + low, 64)
+        | bit_holding(ranges, 0x70 + low, 128)
+}
+
+// The bit, where the byte is in the class.
+fn bit_holding(ranges: &[(u8, u8)], byte: u8, bit: u8) -> u8
+    ensures { result ≡ if in_class ranges.now byte then bit else 0 }
+{
+    if is_in(ranges, byte) { bit } else { 0 }
+}
+
+/// The length of the longest front whose bytes are all in the class, which are ASCII. It is found 32 bytes a turn.
+#[inline]
+pub fn unit_run(bytes: &[u8], class: &ByteClass) -> usize
+    ensures run { result ≡ prefix_len (in_class class.now) bytes.now }
+    ensures ascii { (byte : ℕ) → in_class class.now byte ≡ true → byte < 128 }
+{
+    row_run(bytes, &class.rows)
 }
 
 #[cfg(test)]
 mod tests {
     use super::*;
+    use std::process::Abort;
 
     #[test]
     fn refuses_thirteen_ranges_and_wide_bounds(rt: HostRuntime) {
@@ -168,6 +271,64 @@ mod tests {
         assert_eq!(rt; unit_run(b"a.b;c=d_e~f:80", &host), 11);
         for mark in [b'/', b':', b'?', b'@', b'[', b'%', b'^', b'|'] {
             assert_eq!(rt; unit_run(&[b'h', mark, b'h'], &host), 1);
+        }
+    }
+
+    // Checks the run against a plain count, with each byte at each place of a front of so many bytes.
+    fn counts_plainly(rt: &impl Abort, class: &ByteClass, held: &[bool; 256], length: usize)
+        requires { length ≤ 97 }
+    {
+        let mut bytes = [b'a'; 97];
+        for place in 0..length {
+            for byte in 0..=255u8 {
+                bytes[place] = byte;
+                let front = &bytes[..length];
+                let plain = front.iter().take_while(|b| held[**b as usize]).count();
+                assert_eq!(rt;
+                    unit_run(front, class),
+                    plain,
+                    "of {byte} at {place} of {length}"
+                );
+            }
+            bytes[place] = b'a';
+        }
+    }
+
+    // The bytes that a class has.
+    fn held_bytes(class: &ByteClass) -> [bool; 256] {
+        let mut held = [false; 256];
+        for byte in 0..=255u8 {
+            held[byte as usize] = class.has(byte);
+        }
+        held
+    }
+
+    // The same at every length up to 97.
+    fn counts_plainly_at_every_length(rt: &impl Abort, class: &ByteClass) {
+        let held = held_bytes(class);
+        for length in 0..98usize {
+            counts_plainly(rt, class, &held, length);
+        }
+    }
+
+    #[test]
+    fn counts_units_as_a_plain_loop(rt: HostRuntime) {
+        counts_plainly_at_every_length(&rt, &ByteClass::url());
+    }
+
+    #[test]
+    fn counts_bytes_of_opaque_hosts_as_a_plain_loop(rt: HostRuntime) {
+        counts_plainly_at_every_length(&rt, &ByteClass::opaque_host());
+    }
+
+    #[test]
+    fn counts_bytes_of_ranges_as_a_plain_loop(rt: HostRuntime) {
+        let Some(class) = ByteClass::of(&[(0, 0), (b'a', b'c'), (127, 127)]) else {
+            panic!(rt; "no class");
+        };
+        let held = held_bytes(&class);
+        for length in [1, 31, 32, 33, 65usize] {
+            counts_plainly(&rt, &class, &held, length);
         }
     }
 }

@@ -1,75 +1,41 @@
 //! The first fault of a text that should be URL units.
-ghost use Rattle.std.specs.Prelude.{◌≡◌, ◌↔◌, IsNone, length};
+ghost use Rattle.std.specs.Prelude.{◌≡◌, ◌↔◌, IsNone};
 ghost use Rattle.std.specs.Str.{chars};
 ghost use Rattle.uv_model.specs.Complaints.Refusal.{IsLeast};
+ghost use Rattle.uv_model.specs.Complaints.UnitComplaint as spec;
 ghost use Rattle.uv_model.specs.Complaints.UnitComplaint.{UnitComplaint};
-ghost use Rattle.uv_model.specs.Units.{IsUnits, starts_with_two_hex};
-ghost use Rattle.uv_text.specs.Faults.{PassesFront, violated};
+ghost use Rattle.uv_model.specs.Units.{IsUnits};
 
-use crate::lanes::url_run;
-use uv_model::{Refusal, Rule, first_code_point, is_url_code_point};
+use crate::class::ByteClass;
+use crate::splits::{count_code_points, split_units};
+use uv_model::{Refusal, Rule, first_code_point};
 
 /// The first code point that is no URL code point and begins no percent-encoded byte (URL Standard, section 4.3), with
-/// the rule that it violates: `CodePoint`, or at a `%` `Percent`. `None` where the text is URL units.
+/// the rule that it violates: `CodePoint`, or at a `%` `Percent`. `None` where the text is URL units. The place is in
+/// code points from the text's start.
 pub fn first_fault(text: &str) -> Option<Refusal>
     ensures least { IsLeast (UnitComplaint (chars text.now)) result }
     ensures none { IsNone result ↔ IsUnits (chars text.now) }
 {
-    let mut left = behind_run(text);
-    while let Some((c, rest)) = first_code_point(left) {
-        if let Some(rule) = unit_fault(c, rest) {
-            let place = count_code_points(text) - count_code_points(left);
-            return Some(Refusal { place, rule });
-        }
-        left = behind_run(rest);
-    }
-    None
-}
-
-// What stands behind the longest front of ASCII URL code points.
-fn behind_run(text: &str) -> &str
-    ensures { PassesFront (chars text.now) (chars result.now) }
-{
-    if may_stop(text.as_bytes()) {
-        return text;
-    }
-    let run = url_run(text.as_bytes());
-    &text[run..]
-}
-
-// Whether the first byte is beyond ASCII or `%`, or there is none, so that a look at one code point is cheaper.
-fn may_stop(bytes: &[u8]) -> bool {
-    match bytes {
-        [first, ..] => *first >= 128 || *first == b'%',
-        [] => true,
+    let class = ByteClass::url();
+    let (front, rest) = split_units(text, &class);
+    match first_code_point(rest) {
+        Some((c, _)) => Some(Refusal {
+            place: count_code_points(front),
+            rule: unit_rule(c),
+        }),
+        None => None,
     }
 }
 
-// How many code points the text has.
-fn count_code_points(text: &str) -> usize
-    ensures { result ≡ length (chars text.now) }
-{
-    text.chars().count()
-}
-
-// The rule that a code point violates before the rest of the text.
-fn unit_fault(c: char, rest: &str) -> Option<Rule>
-    ensures { result ≡ violated c (chars rest.now) }
+// The rule that a code point violates where no unit begins.
+fn unit_rule(c: char) -> Rule
+    ensures { result ≡ spec.unit_rule c }
 {
     if c == '%' {
-        (!starts_with_two_hex(rest.as_bytes())).then_some(Rule::Percent)
+        Rule::Percent
     } else {
-        (!is_url_code_point(c)).then_some(Rule::CodePoint)
-    }
-}
-
-// Whether the bytes begin with two hex digits.
-pub(crate) fn starts_with_two_hex(bytes: &[u8]) -> bool
-    ensures { result ≡ starts_with_two_hex bytes.now }
-{
-    match bytes {
-        [high, low, ..] => high.is_ascii_hexdigit() && low.is_ascii_hexdigit(),
-        _ => false,
+        Rule::CodePoint
     }
 }
 
@@ -124,5 +90,16 @@ mod tests {
         assert_eq!(rt; first_fault("\u{10FFFD}"), None);
         assert_eq!(rt; first_fault("\u{9F}"), at(0, Rule::CodePoint));
         assert_eq!(rt; first_fault("\u{A0}"), None);
+    }
+
+    #[test]
+    fn counts_the_place_behind_a_long_front(rt: HostRuntime) -> Result<(), Fail> {
+        let letters = "a".repeat(rt.alloc(), 100)?;
+        let text = format!(in rt.alloc(); "{letters} ")?;
+        assert_eq!(rt; first_fault(text.as_str()), at(100, Rule::CodePoint));
+        let letters = "\u{E9}".repeat(rt.alloc(), 40)?;
+        let text = format!(in rt.alloc(); "{letters}%4")?;
+        assert_eq!(rt; first_fault(text.as_str()), at(40, Rule::Percent));
+        Ok(())
     }
 }

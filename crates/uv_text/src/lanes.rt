@@ -1,43 +1,50 @@
-//! Runs of bytes of a class, 32 at a time.
+//! Fronts of bytes by lanes, 32 bytes a turn: the longest whose bytes are all in a class, and searches that find none.
 ghost use Rattle.std.specs.Prelude.{◌≡◌, ◌<◌, ◌≤◌, IsTrue, chars, length, map, true};
-ghost use Rattle.uv_model.specs.Path.{is_without};
 ghost use Rattle.std.specs.List.{prefix_len};
-ghost use Rattle.uv_text.specs.Lanes.{high_bit, is_passed, low_byte};
+ghost use Rattle.uv_model.specs.Path.{is_without};
+ghost use Rattle.uv_text.specs.Rows.{StandsTwice, high_bit, is_in_rows, row_at};
 
 use std::simd::prelude::*;
 
-// The ASCII URL code points but `?`: at the low half of a byte, a bit for each high half.
-const URL_ROWS: [u8; 32] = [
-    184, 252, 248, 248, 252, 248, 252, 252, 252, 252, 252, 92, 84, 92, 212, 116, 184, 252, 248,
-    248, 252, 248, 252, 252, 252, 252, 252, 92, 84, 92, 212, 116,
-];
+// At the high half of a byte, its bit in a row.
+const HIGH_BITS: [u8; 16] = [1, 2, 4, 8, 16, 32, 64, 128, 0, 0, 0, 0, 0, 0, 0, 0];
 
-// At the high half of a byte, its bit.
-const BITS: [u8; 32] = [
-    1, 2, 4, 8, 16, 32, 64, 128, 0, 0, 0, 0, 0, 0, 0, 0, 1, 2, 4, 8, 16, 32, 64, 128, 0, 0, 0, 0,
-    0, 0, 0, 0,
-];
+// A byte that no class of ASCII bytes has.
+const BEYOND_ASCII: u8 = 128;
 
+// A table of sixteen in each half of a load.
 #[inline(always)]
-fn rows_of(v: u8x32) -> u8x32
-    ensures { result ≡ map low_byte v }
+fn twice(table: &[u8; 16]) -> u8x32
+    ensures { StandsTwice table.now result }
 {
-    u8x32::from_array(URL_ROWS).swizzle_dyn_within::<16>(v & u8x32::splat(15))
+    u8x16::from_slice(table).swizzle([
+        0, 1, 2, 3, 4, 5, 6, 7, 8, 9, 10, 11, 12, 13, 14, 15, 0, 1, 2, 3, 4, 5, 6, 7, 8, 9, 10, 11,
+        12, 13, 14, 15,
+    ])
 }
 
+// The rows of the low halves.
+#[inline(always)]
+fn rows_of(rows: &[u8; 16], v: u8x32) -> u8x32
+    ensures { result ≡ map (row_at rows.now) v }
+{
+    twice(rows).swizzle_dyn_within::<16>(v & u8x32::splat(15))
+}
+
+// The bits of the high halves.
 #[inline(always)]
 fn bits_of(v: u8x32) -> u8x32
     ensures { result ≡ map high_bit v }
 {
-    u8x32::from_array(BITS).swizzle_dyn_within::<16>(v >> u8x32::splat(4))
+    twice(&HIGH_BITS).swizzle_dyn_within::<16>(v >> u8x32::splat(4))
 }
 
-// How many lanes, from the first, are ASCII URL code points but `?`.
+// How many lanes, from the first, are in the rows.
 #[inline(always)]
-fn url_lanes(v: u8x32) -> usize
-    ensures { result ≡ prefix_len is_passed v }
+fn lane_run(v: u8x32, rows: &[u8; 16]) -> usize
+    ensures { result ≡ prefix_len (is_in_rows rows.now) v }
 {
-    let outside = (rows_of(v) & bits_of(v))
+    let outside = (rows_of(rows, v) & bits_of(v))
         .simd_eq(u8x32::splat(0))
         .to_bitmask();
     if outside == 0 {
@@ -47,30 +54,31 @@ fn url_lanes(v: u8x32) -> usize
     }
 }
 
-// The same of at most 32 bytes.
+// The same of at most 32 bytes, by one load that is filled up.
 #[inline(always)]
-fn url_rest(rest: &[u8]) -> usize
+fn rest_run(rest: &[u8], rows: &[u8; 16]) -> usize
     requires { length rest.now ≤ 32 }
-    ensures { result ≡ prefix_len is_passed rest.now }
+    ensures { result ≡ prefix_len (is_in_rows rows.now) rest.now }
 {
-    let mut block = [0; 32];
+    let mut block = [BEYOND_ASCII; 32];
     block[..rest.len()].copy_from_slice(rest);
-    url_lanes(u8x32::from_array(block))
+    lane_run(u8x32::from_array(block), rows)
 }
 
-/// The length of the longest front of ASCII URL code points but `?`.
-pub(crate) fn url_run(bytes: &[u8]) -> usize
-    ensures { result ≡ prefix_len is_passed bytes.now }
+/// The length of the longest front whose bytes are all in the rows.
+#[inline(always)]
+pub(crate) fn row_run(bytes: &[u8], rows: &[u8; 16]) -> usize
+    ensures { result ≡ prefix_len (is_in_rows rows.now) bytes.now }
 {
     let mut run = 0;
     while bytes.len() - run > 32 {
-        let ahead = url_lanes(u8x32::from_slice(&bytes[run..]));
+        let ahead = lane_run(u8x32::from_slice(&bytes[run..]), rows);
         run += ahead;
         if ahead < 32 {
             return run;
         }
     }
-    run + url_rest(&bytes[run..])
+    run + rest_run(&bytes[run..], rows)
 }
 
 /// Whether the search for a byte finds none; where it finds one, that says nothing.

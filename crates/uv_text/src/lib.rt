@@ -4,11 +4,11 @@
 mod class;
 mod escapes;
 mod faults;
-mod fronts;
 mod lanes;
+mod splits;
 
 pub use class::{ByteClass, unit_run};
 pub use escapes::encode;
 pub use faults::first_fault;
-pub use fronts::unit_front;
 pub use lanes::{lacks_byte, lacks_mark};
+pub use splits::{count_code_points, split_units};

@@ -225,7 +225,9 @@ fn counts_code_points(rt: HostRuntime) -> Result<(), Fail> {
     Ok(())
 }
 
-/// Takes all the memory that there is, down to blocks of eight bytes.
+/// Takes all the memory that there is, down to blocks of eight bytes. An allocator keeps what was freed by its size, so
+/// every small size is asked for, and not the powers of two alone. Under `rt try` this takes too little: its tests run
+/// with an allocator that has set room aside for each size.
 fn take_all(alloc: Global, held: &mut Vec<Vec<u8>>) {
     let mut size = 1usize << 46;
     for _ in 0..400_000u32 {
@@ -238,7 +240,7 @@ fn take_all(alloc: Global, held: &mut Vec<Vec<u8>>) {
                     break;
                 }
             }
-            Err(_) => size /= 2,
+            Err(_) => size = if size > 4096 { size / 2 } else { size - 8 },
         }
     }
 }

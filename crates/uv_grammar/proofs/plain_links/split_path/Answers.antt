@@ -1,23 +1,16 @@
 -- Units that begin a path, and what follows them.
-use Rattle.std.proofs.Common.{ℕ, List, false, subst}
-use Rattle.uv_text.specs.Fronts.{HasUnitFront}
-use Rattle.uv_grammar.proofs.PlainLinkLemmas.{cut_joined, cut_units, units_ascii}
+use Rattle.std.specs.Str.{chars}
+use Rattle.uv_grammar.proofs.PlainUnitLemmas.{path_units, split_joined}
 use Rattle.uv_grammar.proofs.plain_links.split_path.Goals as goal
-
-pub split_front-requires : goal.split_front-requires
-split_front-requires c =
-    units_ascii false c.args.text.now c.unit_front.result
-    (subst (λ (s : List ℕ). HasUnitFront false s c.unit_front.result) c.as_bytes.ensures.value c.unit_front.ensures)
 
 pub returns-then-begins_path : goal.returns-then-begins_path
 returns-then-begins_path c = record {
   joined =
-      cut_joined c.args.text.now c.split_front.result.0.now c.split_front.result.1.now c.unit_front.result
-      c.split_front.ensures;
+      split_joined c.path-class.result (chars c.args.text.now) (chars c.split_units.result.0.now)
+      (chars c.split_units.result.1.now) c.split_units.ensures;
   units =
-      cut_units false c.args.text.now c.split_front.result.0.now c.split_front.result.1.now c.unit_front.result
-      (subst (λ (s : List ℕ). HasUnitFront false s c.unit_front.result) c.as_bytes.ensures.value c.unit_front.ensures)
-      c.split_front.ensures;
+      path_units c.path-class.result (chars c.args.text.now) (chars c.split_units.result.0.now)
+      (chars c.split_units.result.1.now) c.path-class.ensures.bytes c.path-class.ensures.digits c.split_units.ensures;
   slashed = c.begins_path.ensures.slashed c.if-begins_path.true;
   single = c.begins_path.ensures.single c.if-begins_path.true;
 }

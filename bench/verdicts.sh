@@ -1,0 +1,94 @@
+#!/usr/bin/env bash
+# Verdicts on a million mixed links: this checker, Ada's can_parse and Rust's crate `url`, whichever are at hand, a run
+# of each in turn for so many rounds. It prints the least processor time a link, reading taken off, the ratios to Ada,
+# and how many verdicts differ from ours: the others say whether a text parses, and this checker whether it is valid.
+# Usage: bench/verdicts.sh [--ada FOLDER] [--links FILE | --seed SEED] [--count COUNT] [--kind KIND] [--rounds ROUNDS]
+set -euo pipefail
+top=$(dirname "$(dirname "$(realpath "$0")")")
+ada='' links='' seed=1 count=1000000 kind='' rounds=5
+while (($# > 1)); do
+    case $1 in
+        --ada) ada=$2 ;;
+        --links) links=$(realpath "$2") ;;
+        --seed) seed=$2 ;;
+        --count) count=$2 ;;
+        --kind) kind=$2 ;;
+        --rounds) rounds=$2 ;;
+        *) echo "unknown word: $1"; exit 2 ;;
+    esac
+    shift 2
+done
+(($# == 0)) || { echo "a word without its value: $1"; exit 2; }
+room=$(mktemp -d)
+trap 'rm -rf "$room"' EXIT
+driver=$top/crates/bench_check/out/bench_check
+[ -x "$driver" ] || (cd "$top/crates/bench_check" && rt run -- check 1 <stdin >&2)
+if [ -z "$links" ]; then
+    links=$room/links
+    python3 "$top/bench/links.py" "$count" "$seed" $kind >"$links"
+fi
+lines=$(grep -c . "$links")
+[ "$lines" -gt 0 ] || { echo 'no links'; exit 2; }
+
+declare -A program
+program[ours]=$driver
+names=(ours)
+if [ -n "$ada" ] && command -v g++ >/dev/null; then
+    g++ -std=c++20 -O2 -I"$ada/include" -I"$ada/src" -o "$room/ada" "$top/bench/peers/ada.cpp" "$ada/src/ada.cpp"
+    program[ada]=$room/ada
+    names+=(ada)
+else
+    echo 'without Ada: give the folder of a release by --ada, and have g++'
+fi
+if command -v cargo >/dev/null && [ -d /usr/share/cargo/registry ] && ls /usr/share/cargo/registry | grep -q '^url-'; then
+    mkdir -p "$room/url/src" "$room/url/.cargo"
+    cp "$top/bench/peers/url.rs" "$room/url/src/main.rs"
+    printf '[package]\nname = "peer"\nversion = "0.1.0"\nedition = "2021"\n[dependencies]\nurl = "2"\n' >"$room/url/Cargo.toml"
+    printf '[source.crates-io]\nreplace-with = "debian"\n[source.debian]\ndirectory = "/usr/share/cargo/registry"\n' \
+        >"$room/url/.cargo/config.toml"
+    if (cd "$room/url" && cargo build --release --offline --quiet) 2>"$room/cargo"; then
+        program[url]=$room/url/target/release/peer
+        names+=(url)
+    else
+        echo "without url: $(tail -n 1 "$room/cargo")"
+    fi
+else
+    echo "without url: install cargo and Debian's librust-url-dev"
+fi
+
+# passes PROGRAM MODE : the processor time of one run with five passes, in microseconds
+passes() {
+    local TIMEFORMAT=%U+%S
+    { time "$1" "$2" 5 <"$links" >"$room/said"; } 2>&1 | awk -F+ '{ print int(($1 + $2) * 1000000) }'
+}
+
+declare -A whole reading
+for ((round = 0; round < rounds; round++)); do
+    for name in "${names[@]}"; do
+        spent=$(passes "${program[$name]}" check)
+        read=$(passes "${program[$name]}" read)
+        if [ -z "${whole[$name]:-}" ] || ((spent < whole[$name])); then whole[$name]=$spent; fi
+        if [ -z "${reading[$name]:-}" ] || ((read < reading[$name])); then reading[$name]=$read; fi
+    done
+done
+
+echo "$lines links, least of $rounds rounds of 5 passes"
+for name in "${names[@]}"; do
+    cost=$(awk -v w="${whole[$name]}" -v r="${reading[$name]}" -v n="$lines" 'BEGIN { printf "%.1f", (w - r) * 1000 / n / 5 }')
+    line="$name: $cost ns a link"
+    if [ "$name" = ada ]; then adas=$cost; fi
+    costs+=("$name $cost")
+    "${program[$name]}" verdicts <"$links" | tr -d '\n' | fold -w 1 >"$room/$name.verdicts"
+    [ "$(grep -c . "$room/$name.verdicts")" = "$lines" ] || { echo "$name gave no verdict on some links"; exit 1; }
+    if [ "$name" != ours ]; then
+        line+=", $(paste "$room/ours.verdicts" "$room/$name.verdicts" | awk '$1 != $2 && $2 == 1 { n++ } END { print n + 0 }')"
+        line+=" parse that aren't valid, $(paste "$room/ours.verdicts" "$room/$name.verdicts" | awk '$1 != $2 && $2 == 0 { n++ } END { print n + 0 }')"
+        line+=" are valid that don't parse"
+    fi
+    echo "$line"
+done
+if [ -n "${adas:-}" ]; then
+    for cost in "${costs[@]}"; do
+        awk -v n="${cost% *}" -v c="${cost#* }" -v a="$adas" 'BEGIN { printf "%s to Ada: %.2f\n", n, c / a }'
+    done
+fi

@@ -1,0 +1,226 @@
+-- Fronts of URL units: parts of them by runs, by escapes and by code points beyond ASCII, and the cut behind the whole.
+use Rattle.std.proofs.Common.{◌≡◌, ℕ, zero, suc, ◌+◌, ◌-◌, ◌<◌, ◌≤◌, ◌==◌, true, false, List, [], ◌∷◌, ◌++◌, length, take, drop, refl, sym, ap, ◌∙◌, subst, inl, inr, arith, lit<, ne_eqb}
+use Rattle.std.specs.Prelude.{nat_le, slice_range}
+use Rattle.std.specs.Char.{is_ascii_hexdigit}
+use Rattle.std.specs.List.{prefix_len}
+use Rattle.std.specs.Str.{chars, IsUtf8, IsCharBoundary}
+use Rattle.std.proofs.Math.Seq.{take-append_seam}
+use Rattle.std.proofs.Math.Utf8.{encodes}
+use Rattle.std.proofs.lemmas.Bool.{and_parts, cases_Bool, false≢true}
+use Rattle.std.proofs.lemmas.Bool.Decides.{nat_tests}
+use Rattle.std.proofs.lemmas.List.{drop-drop, length-append, length-drop, take-append-drop}
+use Rattle.std.proofs.lemmas.Str.{chars-append, chars-IsAscii, chars-nil, chars_from_encodes, encode_ascii, encodes-append, encodes-chars, IsCharBoundary-after_ascii, IsCharBoundary-at_seam, IsUtf8-drop, IsUtf8-from_ascii, IsUtf8-take}
+use Rattle.std.proofs.lemmas.Str.Ascii.{IsAscii-cons}
+use Rattle.uv_model.specs.Ascii.{percent_sign}
+use Rattle.uv_model.specs.Units.{is_url_code_point, starts_with_two_hex}
+use Rattle.uv_text.specs.Class.{in_class}
+use Rattle.uv_text.specs.Splits.{PassesMarks, PassesUnits, begins_mark, begins_unit, starts_in, starts_with_mark, unit_length}
+
+-- ---- parts of a front
+
+module _ (ranges : List (ℕ × ℕ)) where
+  -- nothing is a part
+  pub passes_nothing : (text : List ℕ) → PassesUnits ranges text text
+  passes_nothing text = record { passed = 0; inside = omega arith; is_rest = refl; further = omega arith }
+
+  -- a part and then another
+  pub passes_on : (text behind rest : List ℕ) → PassesUnits ranges text behind → PassesUnits ranges behind rest
+      → PassesUnits ranges text rest
+  passes_on text behind rest a b =
+      let left = ap length a.is_rest ∙ length-drop a.passed text in
+      record {
+        passed = a.passed + b.passed;
+        inside = omega (arith, a.inside, b.inside, left);
+        is_rest = b.is_rest ∙ ap (drop b.passed) a.is_rest ∙ drop-drop b.passed a.passed text;
+        further = omega (arith, a.further, b.further);
+      }
+
+  -- a code point more
+  passes_one : (c : ℕ) (text rest : List ℕ) → begins_unit ranges c text ≡ true → PassesUnits ranges text rest
+      → PassesUnits ranges (c ∷ text) rest
+  passes_one c text rest begins more = record {
+    passed = suc more.passed;
+    inside = omega (arith, more.inside);
+    is_rest = more.is_rest;
+    further = rw begins (omega (arith, more.further));
+  }
+
+  -- where no more of it comes, it ends
+  pub unit_length-stop : (rest : List ℕ) → starts_in ranges rest ≡ false → starts_with_mark rest ≡ false
+      → unit_length ranges rest ≡ 0
+  unit_length-stop [] class mark = refl
+  unit_length-stop (c ∷ rest) class mark = rw (class, mark) refl
+
+  -- a part behind which no more comes is the whole front
+  pub passes_all : (text rest : List ℕ) → PassesUnits ranges text rest → starts_in ranges rest ≡ false
+      → starts_with_mark rest ≡ false → rest ≡ drop (unit_length ranges text) text
+  passes_all text rest part class mark =
+      let none = unit_length-stop rest class mark in
+      let whole : part.passed ≡ unit_length ranges text = omega (arith, part.further, none) in
+      part.is_rest ∙ ap (λ n. drop n text) whole
+
+  -- the front is a part of the text
+  pub unit_length-le : (text : List ℕ) → unit_length ranges text ≤ length text
+  unit_length-le [] = omega arith
+  unit_length-le (c ∷ rest) =
+      elim (cases_Bool (begins_unit ranges c rest)) [
+        | inl begins ↦ rw begins (omega (arith, unit_length-le rest))
+        | inr stops ↦ rw stops (omega arith)
+      ]
+
+  -- what begins a unit by itself does so with any class
+  mark_begins : (c : ℕ) (rest : List ℕ) → begins_mark c rest ≡ true → begins_unit ranges c rest ≡ true
+  mark_begins c rest mark =
+      elim (cases_Bool (in_class ranges c)) [
+        | inl here ↦ rw here refl
+        | inr other ↦ rw (other, mark) refl
+      ]
+
+  -- a code point of the class is in the front
+  class_begins : (c : ℕ) (rest : List ℕ) → in_class ranges c ≡ true → begins_unit ranges c rest ≡ true
+  class_begins c rest here = rw here refl
+
+-- ---- a run of bytes of the class
+
+-- the code points of a text that begins with an ASCII byte
+chars-ascii_first : (c : ℕ) (ys : List ℕ) → c < 128 → chars (c ∷ ys) ≡ c ∷ chars ys
+chars-ascii_first c ys small =
+    let one = IsAscii-cons c [] small (λ i. lit< tt) in
+    chars-append (c ∷ []) ys (IsUtf8-from_ascii (c ∷ []) one) ∙ ap (λ s. s ++ chars ys) (chars-IsAscii (c ∷ []) one)
+
+-- behind so many bytes of the class the text goes on with none
+pub record PassesRun (ranges : List (ℕ × ℕ)) (bytes : List ℕ) (run : ℕ) : Type 0 where
+  pub inside : run ≤ length bytes
+  pub utf8 : IsUtf8 (drop run bytes)
+  pub passes : PassesUnits ranges (chars bytes) (chars (drop run bytes))
+  pub stops : starts_in ranges (chars (drop run bytes)) ≡ false
+
+module _ (ranges : List (ℕ × ℕ)) (ascii : (byte : ℕ) → in_class ranges byte ≡ true → byte < 128) where
+  -- a text whose first byte isn't in the class begins with no code point of it
+  starts_in-chars : (bytes : List ℕ) → IsUtf8 bytes → prefix_len (in_class ranges) bytes ≡ 0
+      → starts_in ranges (chars bytes) ≡ false
+  starts_in-chars [] u none = rw chars-nil refl
+  starts_in-chars (b ∷ bytes) u none =
+      elim (cases_Bool (starts_in ranges (chars (b ∷ bytes)))) [
+        | inl here ↦ absurd (no_first (chars (b ∷ bytes)) (encodes-chars (b ∷ bytes) u) here)
+        | inr other ↦ other
+      ]
+    where
+      no_first : (text : List ℕ) → encodes text ≡ b ∷ bytes → starts_in ranges text ≡ true → ⊥
+      no_first [] spelled here = false≢true here
+      no_first (c ∷ rest) spelled here =
+          let small = ascii c here in
+          let first : encodes (c ∷ rest) ≡ c ∷ encodes rest = ap (λ s. s ++ encodes rest) (encode_ascii c small) in
+          let same : c ≡ b = cc (first, spelled) in
+          let one : prefix_len (in_class ranges) (b ∷ bytes) ≡ 1 + prefix_len (in_class ranges) bytes = rw (← same, here) refl in
+          omega (arith, one, none)
+
+  pub run_passes : (bytes : List ℕ) (run : ℕ) → IsUtf8 bytes → run ≡ prefix_len (in_class ranges) bytes
+      → PassesRun ranges bytes run
+  run_passes bytes zero u is = record {
+    inside = omega arith;
+    utf8 = u;
+    passes = passes_nothing ranges (chars bytes);
+    stops = starts_in-chars bytes u (sym is);
+  }
+  run_passes [] (suc run) u is = absurd (omega (arith, is))
+  run_passes (b ∷ bytes) (suc run) u is =
+      elim (cases_Bool (in_class ranges b)) [
+        | inl here ↦
+            let small = ascii b here in
+            let tail : IsUtf8 bytes = IsUtf8-drop (b ∷ bytes) 1 u (IsCharBoundary-after_ascii (b ∷ bytes) 0 u (omega arith) small) in
+            let less : suc run ≡ 1 + prefix_len (in_class ranges) bytes = rw here at is in
+            let more = run_passes bytes run tail (omega (arith, less)) in
+            record {
+              inside = omega (arith, more.inside);
+              utf8 = more.utf8;
+              passes = rw (chars-ascii_first b bytes small)
+                  (passes_one ranges b (chars bytes) (chars (drop run bytes))
+                  (class_begins ranges b (chars bytes) here) more.passes);
+              stops = more.stops;
+            }
+        | inr other ↦
+            let none : suc run ≡ 0 = rw other at is in
+            absurd (omega (arith, none))
+      ]
+
+-- ---- one escape, or one code point beyond ASCII
+
+-- what stands behind an escape
+pub record PassesEscape (bytes rest : List ℕ) : Type 0 where
+  pub inside : 2 ≤ length rest
+  pub utf8 : IsUtf8 (drop 2 rest)
+  pub passes : PassesMarks (chars bytes) (chars (drop 2 rest))
+  pub shorter : length (chars (drop 2 rest)) < length (chars bytes)
+
+pub escape_passes : (bytes rest : List ℕ) → IsUtf8 rest → chars bytes ≡ percent_sign ∷ chars rest
+    → starts_with_two_hex rest ≡ true → PassesEscape bytes rest
+escape_passes bytes [] u first hex = absurd (false≢true hex)
+escape_passes bytes (high ∷ []) u first hex = absurd (false≢true hex)
+escape_passes bytes (high ∷ low ∷ rest) u first hex =
+    let both = and_parts (is_ascii_hexdigit high) (is_ascii_hexdigit low) hex in
+    let small_high : high < 128 = grind (arith, nat_tests, both.0) in
+    let small_low : low < 128 = grind (arith, nat_tests, both.1) in
+    let one : IsUtf8 (low ∷ rest) = IsUtf8-drop (high ∷ low ∷ rest) 1 u (IsCharBoundary-after_ascii (high ∷ low ∷ rest) 0 u (omega arith) small_high) in
+    let two : IsUtf8 rest = IsUtf8-drop (low ∷ rest) 1 one (IsCharBoundary-after_ascii (low ∷ rest) 0 one (omega arith) small_low) in
+    let text : chars bytes ≡ percent_sign ∷ high ∷ low ∷ chars rest =
+    first
+    ∙ ap (λ s. percent_sign ∷ s) (chars-ascii_first high (low ∷ rest) small_high ∙ ap (λ s. high ∷ s) (chars-ascii_first low rest small_low)) in
+    record {
+      inside = omega arith;
+      utf8 = two;
+      passes = λ ranges digits. rw text
+          (passes_one ranges percent_sign (high ∷ low ∷ chars rest) (chars rest)
+          (mark_begins ranges percent_sign (high ∷ low ∷ chars rest) hex)
+          (passes_one ranges high (low ∷ chars rest) (chars rest) (class_begins ranges high (low ∷ chars rest) (digits high both.0))
+          (passes_one ranges low (chars rest) (chars rest) (class_begins ranges low (chars rest) (digits low both.1))
+          (passes_nothing ranges (chars rest)))));
+      shorter = rw text (omega arith);
+    }
+
+-- a code point beyond ASCII
+pub beyond_passes : (text rest : List ℕ) (c : ℕ) → text ≡ c ∷ rest → 128 ≤ c → is_url_code_point c ≡ true
+    → PassesMarks text rest
+beyond_passes text rest c first high is = λ ranges digits.
+    rw first (passes_one ranges c rest rest (mark_begins ranges c rest (mark c rest high is)) (passes_nothing ranges rest))
+  where
+    mark : (c : ℕ) (rest : List ℕ) → 128 ≤ c → is_url_code_point c ≡ true → begins_mark c rest ≡ true
+    mark c rest high is =
+        let no_percent : (c == percent_sign) ≡ false = ne_eqb c percent_sign (λ same. omega (arith, same, high)) in
+        let beyond : nat_le 128 c ≡ true = grind (arith, nat_tests, high) in
+        rw (no_percent, beyond, is) refl
+
+-- ---- the cut
+
+-- a slice from the start
+pub front_slice : (bytes : List ℕ) (n : ℕ) → slice_range bytes 0 n ≡ take n bytes
+front_slice bytes n = ap (λ k. take k bytes) (omega arith)
+
+-- the slices behind and before the cut
+pub record IsByteSplit (bytes rest : List ℕ) (n : ℕ) : Type 0 where
+  pub inside : length rest ≤ length bytes
+  pub boundary : IsCharBoundary bytes (length bytes - length rest)
+  pub front : chars (take (length bytes - length rest) bytes) ≡ take n (chars bytes)
+
+pub split_bytes : (bytes rest : List ℕ) (n : ℕ) → IsUtf8 bytes → IsUtf8 rest → chars rest ≡ drop n (chars bytes)
+    → IsByteSplit bytes rest n
+split_bytes bytes rest n u v is =
+    let front = encodes (take n (chars bytes)) in
+    let spelled : bytes ≡ front ++ rest =
+    sym (encodes-chars bytes u)
+    ∙ ap encodes (sym (take-append-drop n (chars bytes)))
+    ∙ encodes-append (take n (chars bytes)) (drop n (chars bytes))
+    ∙ ap (λ s. front ++ encodes s) (sym is)
+    ∙ ap (λ s. front ++ s) (encodes-chars rest v) in
+    let long : length bytes ≡ length front + length rest = ap length spelled ∙ length-append front rest in
+    let end : length bytes - length rest ≡ length front = omega (arith, long) in
+    let seam : IsCharBoundary bytes (length front) = IsCharBoundary-at_seam bytes front rest spelled v in
+    let cut : take (length front) bytes ≡ front = ap (take (length front)) spelled ∙ take-append_seam front rest in
+    let text : IsUtf8 front = subst IsUtf8 cut (IsUtf8-take bytes (length front) u seam) in
+    record {
+      inside = omega (arith, long);
+      boundary = subst (IsCharBoundary bytes) (sym end) seam;
+      front =
+          ap (λ k. chars (take k bytes)) end ∙ ap chars cut
+          ∙ sym (chars_from_encodes (take n (chars bytes)) front text refl);
+    }

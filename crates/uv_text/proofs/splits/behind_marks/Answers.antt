@@ -1,0 +1,18 @@
+-- One more.
+use Rattle.std.proofs.Common.{arith, rules}
+use Rattle.std.specs.Str.{chars}
+use Rattle.uv_text.proofs.SplitsLemmas.{passes_on}
+use Rattle.uv_text.proofs.splits.behind_marks.Goals as goal
+
+pub loop-behind-preserved : goal.loop-behind-preserved
+loop-behind-preserved c =
+    let text = chars c.args.text.now in
+    let rest = chars c.loop-behind.rest.now in
+    let behind = chars c.in-Some.behind.now in
+    record {
+      is_text = search rules;
+      passes = λ ranges digits.
+          passes_on ranges text rest behind (c.loop-behind.invariant.passes ranges digits)
+          (c.in-Some.ensures.passes ranges digits);
+      shorter = omega (arith, c.loop-behind.invariant.shorter, c.in-Some.ensures.shorter);
+    }

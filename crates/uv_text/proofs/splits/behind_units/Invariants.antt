@@ -1,0 +1,17 @@
+-- What is left stands behind a part of the front, and begins with no code point of the class.
+use Rattle.std.proofs.Common.{◌≡◌, false, length}
+use denote.Text.{Utf8}
+use denote.Shadow.{shadow}
+use Rattle.std.specs.Str.{chars}
+use Rattle.uv_text.specs.Splits.{PassesUnits, starts_in}
+use Rattle.uv_text.proofs.splits.behind_units.Given as goal
+
+abbrev pub invariant-loop-behind : goal.invariant-loop-behind
+invariant-loop-behind l = record {
+  is_text : shadow (Utf8 l.rest);
+  passes : PassesUnits l.class (chars l.fn.text) (chars l.rest);
+  stops : starts_in l.class (chars l.rest) ≡ false;
+}
+
+abbrev pub decreases-loop-behind : goal.decreases-loop-behind
+decreases-loop-behind l = length (chars l.rest)

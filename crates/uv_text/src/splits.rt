@@ -1,0 +1,117 @@
+//! A text cut behind its longest front of URL units, by lanes where it is ASCII.
+ghost use Rattle.std.specs.Prelude.{◌≡◌, ◌<◌, IfSome, MatchOption, false, drop, length};
+ghost use Rattle.std.specs.Str.{chars};
+ghost use Rattle.uv_model.specs.Units as units;
+ghost use Rattle.uv_text.specs.Class.{HasHexDigits};
+ghost use Rattle.uv_text.specs.Splits.{IsUnitSplit, PassesMarks, PassesUnits, starts_in, starts_with_mark, unit_length};
+
+use crate::class::{ByteClass, unit_run};
+use uv_model::{first_code_point, is_url_code_point};
+
+/// The longest front in which each code point is of the class, begins a percent-encoded byte or is a URL code point
+/// beyond ASCII (URL Standard, section 4.3), and what follows it. The class has the hex digits.
+pub fn split_units<'t>(text: &'t str, class: &ByteClass) -> (&'t str, &'t str)
+    requires { HasHexDigits class.now }
+    ensures { IsUnitSplit class.now (chars text.now) (chars result.0.now) (chars result.1.now) }
+{
+    let rest = behind_units(text, class);
+    (&text[..text.len() - rest.len()], rest)
+}
+
+// What follows the front.
+fn behind_units<'t>(text: &'t str, class: &ByteClass) -> &'t str
+    requires { HasHexDigits class.now }
+    ensures { chars result.now ≡ drop (unit_length class.now (chars text.now)) (chars text.now) }
+{
+    let mut rest = behind_run(text, class);
+    while let Some(behind) = behind_marks(rest) {
+        rest = behind_run(behind, class);
+    }
+    rest
+}
+
+// What stands behind the longest front of bytes of the class.
+fn behind_run<'t>(text: &'t str, class: &ByteClass) -> &'t str
+    ensures passes { PassesUnits class.now (chars text.now) (chars result.now) }
+    ensures stops { starts_in class.now (chars result.now) ≡ false }
+{
+    let run = unit_run(text.as_bytes(), class);
+    &text[run..]
+}
+
+// What stands behind a run of escapes and URL code points beyond ASCII, where the text begins with one: they come in
+// runs, so each is passed without a look at the 32 bytes behind it.
+fn behind_marks(text: &str) -> Option<&str>
+    ensures passes { MatchOption result (starts_with_mark (chars text.now) ≡ false)
+        (λ rest. PassesMarks (chars text.now) (chars rest.now)) }
+    ensures shorter { IfSome result (λ rest. length (chars rest.now) < length (chars text.now)) }
+{
+    let mut rest = behind_mark(text)?;
+    while let Some(behind) = behind_mark(rest) {
+        rest = behind;
+    }
+    Some(rest)
+}
+
+// What stands behind one of them.
+fn behind_mark(text: &str) -> Option<&str>
+    ensures passes { MatchOption result (starts_with_mark (chars text.now) ≡ false)
+        (λ rest. PassesMarks (chars text.now) (chars rest.now)) }
+    ensures shorter { IfSome result (λ rest. length (chars rest.now) < length (chars text.now)) }
+{
+    let (c, rest) = first_code_point(text)?;
+    if c == '%' {
+        if starts_with_two_hex(rest.as_bytes()) {
+            Some(&rest[2..])
+        } else {
+            None
+        }
+    } else if !c.is_ascii() && is_url_code_point(c) {
+        Some(rest)
+    } else {
+        None
+    }
+}
+
+// Whether the bytes begin with two hex digits.
+fn starts_with_two_hex(bytes: &[u8]) -> bool
+    ensures { result ≡ units.starts_with_two_hex bytes.now }
+{
+    match bytes {
+        [high, low, ..] => high.is_ascii_hexdigit() && low.is_ascii_hexdigit(),
+        _ => false,
+    }
+}
+
+/// How many code points a text has.
+pub fn count_code_points(text: &str) -> usize
+    ensures { result ≡ length (chars text.now) }
+{
+    text.chars().count()
+}
+
+#[cfg(test)]
+mod tests {
+    use super::*;
+
+    #[test]
+    fn cuts_behind_the_units_of_a_class(rt: HostRuntime) {
+        for (text, path, query) in [
+            ("", 0, 0),
+            ("/a/b?c#d", 4, 6),
+            ("/%41%zz", 4, 4),
+            ("/a%4", 2, 2),
+            ("/a b", 2, 2),
+            ("/\u{E9}\u{20AC}%C3%A9?\u{FFFE}", 12, 13),
+        ] {
+            let (front, rest) = split_units(text, &ByteClass::path());
+            assert_eq!(rt; front, &text[..path], "of {text}");
+            assert_eq!(rt; rest, &text[path..], "of {text}");
+            assert_eq!(rt;
+                split_units(text, &ByteClass::url()).0,
+                &text[..query],
+                "of {text}"
+            );
+        }
+    }
+}
