@@ -3,6 +3,7 @@
 
 mod check;
 mod fault;
+mod links;
 pub mod program;
 mod report;
 mod words;

@@ -4,19 +4,20 @@ ghost use Rattle.uv_cli.specs.Statuses.{status_of};
 
 use crate::check::{CheckEnd, run_check};
 use crate::fault::CliFault;
-use crate::words::{CheckJob, job_in};
+use crate::links::listed;
+use crate::words::{CheckJob, job_in, links_job_in};
 use std::io::{ErrorKind, Write};
 use std::rt::Env;
 use std::{env, io};
-
+use uv_links::LinkFault;
 use uv_model::{Profile, Refusal, ToWriter};
 
 /// How a run of the program ends.
 #[derive(Clone, Copy, Debug, PartialEq, Eq)]
 pub enum End {
-    /// The text is valid.
+    /// The text is valid, or every line of the list is ok.
     Valid,
-    /// The text is refused.
+    /// The text is refused, or a line of the list isn't ok.
     Refused,
     /// The words of the command line are refused.
     Words,
@@ -24,28 +25,31 @@ pub enum End {
     BaseRefused(Refusal),
     /// A growth was refused, or a write or a flush failed.
     Fault(CliFault),
+    /// The run over a list stopped.
+    Stopped(LinkFault),
 }
 
-/// The exit status: 0 where the text is valid, 1 where it is refused, 2 where the words or the base are, 3 for a fault.
+/// The exit status: 0 where the text is valid or every line ok, 1 where one is refused or differs, 2 where the words or
+/// the base are refused or the base differs, 3 for any other fault.
 pub fn status(end: End) -> u8
     ensures { result ≡ status_of end }
 {
     match end {
         End::Valid => 0,
         End::Refused => 1,
-        End::Words | End::BaseRefused(_) => 2,
-        End::Fault(_) => 3,
+        End::Words | End::BaseRefused(_) | End::Stopped(LinkFault::BaseDiffers) => 2,
+        End::Fault(_) | End::Stopped(_) => 3,
     }
 }
 
 /// Runs the program on the words of the runtime, and gives its exit status.
-pub fn run<R: Env + Print + Eprint + AllocGlobal>(rt: &R) -> u8 {
+pub fn run<R: Env + Input + Print + Eprint + AllocGlobal>(rt: &R) -> u8 {
     let end = ended(rt);
     told(rt, end);
     status(end)
 }
 
-fn ended<R: Env + Print + AllocGlobal>(rt: &R) -> End {
+fn ended<R: Env + Input + Print + AllocGlobal>(rt: &R) -> End {
     let words: Vec<String> = match env::args(rt) {
         Ok(words) => match words.collect(rt.alloc()) {
             Ok(words) => words,
@@ -65,7 +69,10 @@ fn ended<R: Env + Print + AllocGlobal>(rt: &R) -> End {
 }
 
 // Does what the words behind the program's name ask for.
-fn done<R: Print + AllocGlobal>(rt: &R, words: &[&str]) -> End {
+fn done<R: Input + Print + AllocGlobal>(rt: &R, words: &[&str]) -> End {
+    if let Some(job) = links_job_in(words) {
+        return listed(rt, job.base);
+    }
     let Some(job) = job_in(words) else {
         return End::Words;
     };
@@ -94,6 +101,7 @@ fn told<R: Eprint>(rt: &R, end: End) {
         End::Words => rt.eprintln("words"),
         End::BaseRefused(refusal) => base_told(rt, refusal),
         End::Fault(fault) => rt.eprintln(fault),
+        End::Stopped(fault) => rt.eprintln(fault),
     };
 }
 

@@ -1,4 +1,4 @@
-//! The words of the command line: `check [--base TEXT | --base=TEXT] [--] TEXT`.
+//! The words of the command line: `check [--base TEXT | --base=TEXT] [--] TEXT`, and `links [--base TEXT | --base=TEXT]`.
 
 /// What the words ask for: a check of a text, alone or against a base.
 #[derive(Clone, Copy, Debug)]
@@ -18,6 +18,28 @@ pub(crate) fn job_in<'w>(words: &[&'w str]) -> Option<CheckJob<'w>> {
     let (base, rest) = base_in(rest);
     let text = text_in(rest)?;
     Some(CheckJob { text, base })
+}
+
+/// What the words ask for: a report on the lines of standard input, alone or against a base.
+#[derive(Clone, Copy, Debug)]
+pub(crate) struct LinksJob<'w> {
+    pub(crate) base: Option<&'w str>,
+}
+
+/// What the words behind the program's name ask for where they begin with `links`, or nothing where they are refused.
+pub(crate) fn links_job_in<'w>(words: &[&'w str]) -> Option<LinksJob<'w>> {
+    let [command, rest @ ..] = words else {
+        return None;
+    };
+    if *command != "links" {
+        return None;
+    }
+    let (base, rest) = base_in(rest);
+    if rest.is_empty() {
+        Some(LinksJob { base })
+    } else {
+        None
+    }
 }
 
 // The base, in one word or in two, and the words behind it.

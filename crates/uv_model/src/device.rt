@@ -1,12 +1,33 @@
-//! Devices that take bytes: what the outputs of this product are written to.
+//! Devices: what the inputs of this product are read from, and what its outputs are written to.
 ghost use Rattle.std.specs.Prelude.{◌≡◌, ℕ, List, Option, OnOk, OnErr, length, take, ◌+◌, ◌-◌, ◌^◌, ◌<◌};
-ghost use Rattle.std.specs.Io.{WritesAtMost};
-ghost use Rattle.std.specs.Io.KnownBytes.{Appends, WriteAppends};
-ghost use Rattle.uv_model.specs.Device.{write_failures};
+ghost use Rattle.std.specs.Io.{ReadsAtMost, WritesAtMost};
+ghost use Rattle.std.specs.Io.KnownBytes.{Appends, ReadConsumes, WriteAppends};
+ghost use Rattle.uv_model.specs.Device.{read_failures, write_failures};
 
 /// A read or a write failed, or a write took nothing of a piece that had bytes.
 #[derive(Clone, Copy, Debug, PartialEq, Eq)]
 pub struct DeviceFault;
+
+/// What gives bytes.
+pub trait Source {
+    // The bytes still to come, where the device tells them.
+    ghost remaining: { Self → Option (List ℕ) };
+
+    // How many reads have failed.
+    ghost failed: { Self → ℕ };
+
+    /// Puts the next bytes at the front of the piece, and says how many they are. On a piece that has room 0 is the
+    /// end: no byte is to come. An error gives none and leaves what is to come as it was.
+    fn read(&mut self, into: &mut [u8]) -> Result<usize, DeviceFault>
+        requires { failed self.old < 2 ^ 64 - 1 }
+        ensures bound { ReadsAtMost result into.new }
+        ensures bytes { ReadConsumes (remaining self.old) (remaining self.new) result into.new }
+        ensures count { failed self.new ≡ failed self.old + read_failures result };
+
+    /// How many reads have failed: those that answered an error.
+    fn failures(&self) -> u64
+        ensures { result ≡ failed self.now };
+}
 
 /// What takes bytes.
 pub trait Sink {

@@ -1,0 +1,9 @@
+pub mod Fault
+pub mod Judgement
+pub mod Limits
+pub mod Lines
+pub mod Outcome
+pub mod Progress
+pub mod Report
+pub mod Run
+pub mod Second

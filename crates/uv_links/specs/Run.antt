@@ -1,0 +1,100 @@
+-- What a run has written, and what its faults leave.
+use Rattle.std.specs.Prelude.{◌≡◌, ℕ, ◌-◌, ◌^◌, ◌≤◌, ◌<◌, ◌⊎◌, List, [], Option, length, take}
+use Rattle.std.specs.Io.KnownBytes.{Appends, Keeps}
+use Rattle.uv_links.specs.declared.counts.Counts.{Counts}
+use Rattle.uv_links.specs.declared.fault.LinkFault.{LinkFault}
+use Rattle.uv_links.specs.declared.fault.LinkFault.TheVariants.{Memory, Read, Write, Overflow, BaseDiffers, TooManyLines, Endless}
+use Rattle.uv_links.specs.declared.progress.Progress.{Progress}
+use Rattle.uv_links.specs.Lines.{closed_lines, lines_of}
+use Rattle.uv_links.specs.Progress.{Stands}
+use Rattle.uv_links.specs.Report.{ListSetting, IsReport, IsReportOfFirst}
+use Rattle.uv_links.specs.Second.{AgreesOnBase}
+
+-- the whole report on the bytes was written, on no more lines than may come, and these are its counts
+pub record Reports (setting : ListSetting) (most : ℕ) (old : Option (List ℕ)) (read : List ℕ) (counts : Counts)
+    (new : Option (List ℕ)) : Type 0 where
+  pub text : List ℕ
+  pub report : IsReport setting read text counts
+  pub wrote : Appends old new text
+  pub few : length (lines_of read) ≤ most
+
+-- the report's lines on so many of the first lines were written
+pub record WroteFirst (setting : ListSetting) (old : Option (List ℕ)) (read : List ℕ) (count : ℕ) (new : Option (List ℕ))
+    : Type 0 where
+  pub text : List ℕ
+  pub report : IsReportOfFirst setting read count text
+  pub wrote : Appends old new text
+
+-- a text is the whole report, or its lines on some of the first lines
+abbrev pub IsReportOrFirst : ListSetting → List ℕ → List ℕ → Type 0
+IsReportOrFirst setting read text =
+    ((counts : Counts) × IsReport setting read text counts)
+    ⊎ ((count : ℕ) × (count ≤ length (lines_of read)) × IsReportOfFirst setting read count text)
+
+-- a beginning of it was written, perhaps cut within a line
+pub record WroteFront (setting : ListSetting) (old : Option (List ℕ)) (read : List ℕ) (new : Option (List ℕ)) : Type 0 where
+  pub text : List ℕ
+  pub report : IsReportOrFirst setting read text
+  pub front : ℕ
+  pub wrote : Appends old new (take front text)
+
+-- The report's lines on the first lines were written, and no line of counts. They are lines that an LF has ended, but
+-- for a last one without LF where no byte is left to come.
+abbrev pub WroteLines : ListSetting → Option (List ℕ) → List ℕ → Type 0 → Option (List ℕ) → Type 0
+WroteLines setting old read at_end new =
+    (count : ℕ) × (count ≤ length (lines_of read)) × ((count ≤ length (closed_lines read)) ⊎ at_end)
+    × WroteFirst setting old read count new
+
+-- What a fault of a run leaves, when these bytes were read.
+abbrev pub Leaves : LinkFault → ListSetting → ℕ → Option (List ℕ) → List ℕ → Type 0 → Option (List ℕ) → Type 0
+Leaves Memory setting most old read at_end new = WroteLines setting old read at_end new
+Leaves Overflow setting most old read at_end new = WroteLines setting old read at_end new
+Leaves Read setting most old read at_end new = WroteFirst setting old read (length (closed_lines read)) new
+Leaves Write setting most old read at_end new = WroteFront setting old read new
+Leaves BaseDiffers setting most old read at_end new = (read ≡ []) × Keeps old new × ¬ (AgreesOnBase setting.base)
+Leaves TooManyLines setting most old read at_end new =
+    WroteFirst setting old read most new × (most < length (lines_of read))
+Leaves Endless setting most old read at_end new =
+    WroteFirst setting old read (length (closed_lines read)) new × (2 ^ 64 - 1 ≤ length read)
+
+-- how many failed reads and writes a fault stands for
+abbrev pub reads_failed : LinkFault → ℕ
+reads_failed Read = 1
+reads_failed _ = 0
+
+abbrev pub writes_failed : LinkFault → ℕ
+writes_failed Write = 1
+writes_failed _ = 0
+
+-- before the first piece nothing has come, and nothing waits to be written
+pub record IsNew (p : Progress) : Type 0 where
+  pub begun : p.begun.items ≡ []
+  pub text : p.text.items ≡ []
+  pub counts : p.counts ≡ record { lines = 0; ok = 0; bad = 0; differs = 0 }
+
+-- between two pieces nothing waits to be written
+pub record At (old : Option (List ℕ)) (read : List ℕ) (p : Progress) (new : Option (List ℕ)) : Type 0 where
+  pub written : List ℕ
+  pub wrote : Appends old new written
+  pub stands : Stands written read p
+  pub none : p.text.items ≡ []
+
+-- what a fault leaves while a piece is passed on
+abbrev pub PassFault : LinkFault → ListSetting → ℕ → Option (List ℕ) → List ℕ → Option (List ℕ) → Type 0
+PassFault Write setting most old read new = WroteFront setting old read new
+PassFault Memory setting most old read new =
+    (count : ℕ) × (count ≤ length (closed_lines read)) × WroteFirst setting old read count new
+PassFault Overflow setting most old read new =
+    (count : ℕ) × (count ≤ length (closed_lines read)) × WroteFirst setting old read count new
+PassFault TooManyLines setting most old read new =
+    WroteFirst setting old read most new × (most < length (lines_of read))
+PassFault _ setting most old read new = ⊥
+
+-- and at the end of the list
+abbrev pub FinishFault : LinkFault → ListSetting → Option (List ℕ) → List ℕ → Option (List ℕ) → Type 0
+FinishFault Write setting old read new = WroteFront setting old read new
+FinishFault Memory setting old read new =
+    (count : ℕ) × (count ≤ length (lines_of read)) × WroteFirst setting old read count new
+FinishFault Overflow setting old read new =
+    (count : ℕ) × (count ≤ length (lines_of read)) × WroteFirst setting old read count new
+FinishFault _ setting old read new = ⊥

@@ -1,0 +1,128 @@
+//! The judgement of a line.
+ghost use Rattle.std.specs.Prelude.{◌≡◌, ◌≤◌, IfOk, IfErr, Some, length, option_copied};
+ghost use Rattle.std.specs.Str.{IsUtf8};
+ghost use Rattle.uv_model.specs.Records.Serialize.{serial};
+ghost use Rattle.uv_links.specs.Fault.{IsBaseFault, IsWantOfRoom};
+ghost use Rattle.uv_links.specs.Judgement.{judged_said};
+ghost use Rattle.uv_links.specs.Report.{IsSaid};
+ghost use Rattle.uv_links.specs.Second.{AgreesOnBase, IsReadAs, second_base};
+
+use crate::fault::LinkFault;
+use crate::judgement::Judgement;
+use crate::second::read_as;
+use std::alloc::Global;
+use std::marker::Model;
+use std::str::from_utf8;
+use url::Url;
+use uv_model::{Profile, Record};
+use uv_resolve::{ResolveFault, resolve};
+
+/// What the lines are judged against: the profile, the base, the base as the second parser reads it, and how many bytes a line may
+/// have.
+#[derive(Drop)]
+pub(crate) struct Judge<'b> {
+    profile: Profile,
+    base: Option<&'b Record>,
+    second: Option<Url>,
+    line_bytes: usize,
+}
+
+impl<'b> Model for Judge<'b> {
+    ghost use Rattle.std.specs.Prelude.{◌≡◌, ◌≤◌, option_copied};
+    ghost use Rattle.uv_links.specs.Report.{ListSetting};
+    ghost use Rattle.uv_links.specs.Second.{second_base};
+
+    ghost Value = { ListSetting };
+
+    ghost view = { λ j. record { profile = j.profile; base = option_copied j.base; line_bytes = j.line_bytes } };
+
+    ghost invariant = { λ j. (j.second ≡ second_base (option_copied j.base)) × (j.line_bytes ≤ 65536) };
+}
+
+impl<'b> Judge<'b> {
+    /// The judge of lines against a base, whose text is compared with the second parser first.
+    pub(crate) fn new(
+        alloc: Global,
+        base: Option<&'b Record>,
+        line_bytes: usize,
+        profile: Profile,
+    ) -> Result<Judge<'b>, LinkFault>
+        requires { line_bytes ≤ 65536 }
+        ensures setting { IfOk result (λ j.
+            j ≡ record { profile = profile; base = option_copied base.entry; line_bytes = line_bytes }) }
+        ensures agrees { IfOk result (λ _. AgreesOnBase (option_copied base.entry)) }
+        ensures fault { IfErr result (IsBaseFault (option_copied base.entry)) }
+    {
+        let second = match base {
+            Some(record) => Some(agreed(alloc, record)?),
+            None => None,
+        };
+        Ok(Judge {
+            profile,
+            base,
+            second,
+            line_bytes,
+        })
+    }
+
+    /// How many bytes a line may have.
+    pub(crate) fn line_bytes(&self) -> usize
+        ensures value { result ≡ self.now.line_bytes }
+        ensures most { result ≤ 65536 }
+    {
+        self.line_bytes
+    }
+
+    /// What is said of a line.
+    pub(crate) fn judge(&self, alloc: Global, line: &[u8]) -> Result<Judgement, LinkFault>
+        ensures said { IfOk result (λ j. IsSaid self.now line.now (judged_said j)) }
+        ensures room { IfErr result IsWantOfRoom }
+    {
+        if line.len() > self.line_bytes {
+            return Ok(Judgement::TooLong);
+        }
+        match from_utf8(line) {
+            Ok(text) => self.judge_text(alloc, text),
+            Err(_) => Ok(Judgement::NotUtf8),
+        }
+    }
+
+    // What is said of a line that isn't too long and is UTF-8.
+    fn judge_text(&self, alloc: Global, text: &str) -> Result<Judgement, LinkFault>
+        requires { length text.now ≤ self.now.line_bytes }
+        ensures said { IfOk result (λ j. IsSaid self.now text.now (judged_said j)) }
+        ensures room { IfErr result IsWantOfRoom }
+    {
+        match resolve(alloc, text, self.base, self.profile) {
+            Ok(record) => match self.same(alloc, text, &record)? {
+                Some(url) => Ok(Judgement::Same(url)),
+                None => Ok(Judgement::Differs),
+            },
+            Err(ResolveFault::Refused(refusal)) => Ok(Judgement::Refused(refusal)),
+            Err(ResolveFault::Memory(_)) => Err(LinkFault::Memory),
+        }
+    }
+
+    // The second parser's URL of a text, where it has the record's text.
+    fn same(&self, alloc: Global, text: &str, record: &Record) -> Result<Option<Url>, LinkFault>
+        ensures same { IfOk result (λ url.
+            IsReadAs (second_base self.now.base) text.now (serial record.now) url) }
+        ensures room { IfErr result IsWantOfRoom }
+    {
+        let written = record.text(alloc)?;
+        read_as(alloc, self.second.as_ref(), text, written.as_str())
+    }
+}
+
+// The base as the second parser reads its text, where it reads it as that text.
+fn agreed(alloc: Global, base: &Record) -> Result<Url, LinkFault>
+    ensures base { IfOk result (λ url. second_base (Some base.now) ≡ Some url) }
+    ensures agrees { IfOk result (λ _. AgreesOnBase (Some base.now)) }
+    ensures fault { IfErr result (IsBaseFault (Some base.now)) }
+{
+    let written = base.text(alloc)?;
+    match read_as(alloc, None, written.as_str(), written.as_str())? {
+        Some(url) => Ok(url),
+        None => Err(LinkFault::BaseDiffers),
+    }
+}

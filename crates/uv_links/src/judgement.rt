@@ -1,0 +1,39 @@
+//! What is said of a line, with the URL whose text is reported.
+ghost use Rattle.std.specs.Prelude.{◌≡◌};
+ghost use Rattle.uv_links.specs.Judgement.{judged_said};
+ghost use Rattle.uv_links.specs.Outcome.{said_of};
+
+use crate::outcome::Outcome;
+use url::Url;
+use uv_model::Refusal;
+
+/// What is said of a line.
+#[derive(Drop)]
+pub(crate) enum Judgement {
+    /// It is accepted, and the second parser's URL, which is this one, has the record's text.
+    Same(Url),
+    /// It is refused.
+    Refused(Refusal),
+    /// It isn't UTF-8.
+    NotUtf8,
+    /// It has more bytes than a line may have.
+    TooLong,
+    /// It is accepted, and the second parser reads it as another text, or refuses it.
+    Differs,
+}
+
+impl Judgement {
+    /// The same as an outcome.
+    #[tactic(auto, unfolding(crate::specs::Second::second_serial))]
+    pub(crate) fn outcome(&self) -> Outcome<'_>
+        ensures { said_of result ≡ judged_said self.now }
+    {
+        match self {
+            Judgement::Same(url) => Outcome::Good(url.as_str()),
+            Judgement::Refused(refusal) => Outcome::Bad(*refusal),
+            Judgement::NotUtf8 => Outcome::NotUtf8,
+            Judgement::TooLong => Outcome::TooLong,
+            Judgement::Differs => Outcome::Differs,
+        }
+    }
+}

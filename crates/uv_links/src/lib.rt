@@ -1,0 +1,24 @@
+//! Lists of links: each line judged, and each accepted one compared with a second parser.
+#![tactic(auto)]
+
+mod counts;
+mod ending;
+mod fault;
+mod judge;
+mod judgement;
+mod limits;
+mod outcome;
+mod passing;
+mod progress;
+mod run;
+mod second;
+mod taking;
+
+pub use counts::Counts;
+pub use fault::LinkFault;
+pub use limits::LinkLimits;
+pub use outcome::{Outcome, line_text};
+pub use run::run_links;
+
+#[cfg(test)]
+mod tests;

@@ -1,0 +1,53 @@
+//! The second parser: what the crate `url` makes of a text.
+ghost use Rattle.std.specs.Prelude.{◌≡◌, IfOk, IfErr, option_copied};
+ghost use Rattle.url.specs.Parser.{Gives, parse_url};
+ghost use Rattle.uv_links.specs.Fault.{IsWantOfRoom};
+ghost use Rattle.uv_links.specs.Second.{IsReadAs, parsed};
+
+use crate::fault::LinkFault;
+use std::alloc::Global;
+use url::{ParseError, ParseResult, Url};
+
+/// The URL that the second parser makes of a text, alone or against a base, where the URL's text is the written one.
+#[tactic(auto, unfolding(crate::specs::Second::second_serial, crate::specs::Second::text_against))]
+pub(crate) fn read_as(
+    alloc: Global,
+    base: Option<&Url>,
+    text: &str,
+    written: &str,
+) -> Result<Option<Url>, LinkFault>
+    ensures url { IfOk result (IsReadAs (option_copied base.entry) text.now written.now) }
+    ensures room { IfErr result IsWantOfRoom }
+{
+    let Some(url) = second_url(alloc, base, text)? else {
+        return Ok(None);
+    };
+    if url.as_str() == written {
+        Ok(Some(url))
+    } else {
+        Ok(None)
+    }
+}
+
+// The URL that the second parser makes of a text, alone or against a base; none where it refuses the text.
+fn second_url(alloc: Global, base: Option<&Url>, text: &str) -> Result<Option<Url>, LinkFault>
+    ensures url { IfOk result (λ url. url ≡ parsed (parse_url (option_copied base.entry) text.now)) }
+    ensures room { IfErr result IsWantOfRoom }
+{
+    match parse(alloc, base, text) {
+        Ok(url) => Ok(Some(url)),
+        Err(ParseError::OutOfMemory) => Err(LinkFault::Memory),
+        Err(ParseError::Overflow) => Err(LinkFault::Overflow),
+        Err(_) => Ok(None),
+    }
+}
+
+// The second parser's answer.
+fn parse(alloc: Global, base: Option<&Url>, text: &str) -> ParseResult<Url>
+    ensures { Gives result (parse_url (option_copied base.entry) text.now) }
+{
+    match base {
+        Some(base) => base.join(text),
+        None => Url::parse(alloc, text),
+    }
+}

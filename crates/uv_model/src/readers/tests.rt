@@ -1,0 +1,74 @@
+//! Readers as sources, through the bound: bytes in pieces, the end, and a read that fails between two that don't.
+ghost use Rattle.std.specs.Prelude.{◌≡◌, ◌^◌, ◌<◌, ◌+◌, ◌-◌, None};
+
+use super::*;
+use std::alloc::Global;
+use std::io;
+use std::test::Fail;
+
+// A reader that fails at its second call, and before and behind it gives one byte.
+#[derive(Drop)]
+struct Faltering {
+    calls: u8,
+}
+
+impl Read for Faltering {
+    fn read(&mut self, buf: &mut [u8]) -> io::Result<usize> {
+        self.calls = self.calls.saturating_add(1);
+        if self.calls == 2 {
+            return Err(io::ErrorKind::BrokenPipe.into());
+        }
+        match buf.split_first_mut() {
+            Some((first, _)) => {
+                *first = b'a';
+                Ok(1)
+            }
+            None => Ok(0),
+        }
+    }
+}
+
+// What one read of a piece of two bytes gives, through the bound.
+fn given<S: Source>(alloc: Global, source: &mut S) -> Result<Option<Vec<u8>>, Fail>
+    requires { S.failed source.old < 2 ^ 64 - 1 }
+    ensures { S.failed source.new < S.failed source.old + 2 }
+{
+    let mut piece = [0; 2];
+    match source.read(&mut piece) {
+        Ok(count) => Ok(Some(piece[..count].to_vec(alloc)?)),
+        Err(DeviceFault) => Ok(None),
+    }
+}
+
+#[test]
+fn reads_a_slice_to_its_end(rt: HostRuntime) -> Result<(), Fail> {
+    let text: &[u8] = b"abc";
+    let mut source = FromReader::new(text);
+    let wanted: [&[u8]; 3] = [b"ab", b"c", b""];
+    for want in wanted {
+        let bytes = given(rt.alloc(), &mut source)?.ok_or("a read failed")?;
+        assert_eq!(rt; bytes.as_slice(), want);
+    }
+    assert_eq!(rt; source.failures(), 0);
+    Ok(())
+}
+
+#[test]
+fn counts_a_failed_read(rt: HostRuntime) -> Result<(), Fail> {
+    let mut source = FromReader::new(Faltering { calls: 0 });
+    let first = given(rt.alloc(), &mut source)?;
+    assert_eq!(rt;
+        first.as_ref().map(|bytes| bytes.as_slice()),
+        Some(&b"a"[..])
+    );
+    let second = given(rt.alloc(), &mut source)?;
+    assert!(rt; second.is_none());
+    assert_eq!(rt; source.failures(), 1);
+    let third = given(rt.alloc(), &mut source)?;
+    assert_eq!(rt;
+        third.as_ref().map(|bytes| bytes.as_slice()),
+        Some(&b"a"[..])
+    );
+    assert_eq!(rt; source.into_reader().calls, 3);
+    Ok(())
+}
