@@ -57,7 +57,7 @@ fn reports_lists_written_out(rt: HostRuntime) -> Result<(), Fail> {
 
 #[test]
 fn stops_behind_the_last_line_that_may_come(rt: HostRuntime) -> Result<(), Fail> {
-    let base = resolve(rt.alloc(), "http://h/", None)?;
+    let base = resolve(rt.alloc(), "http://h/", None, Profile::Standard)?;
     let one = LinkLimits::new(3, 1).ok_or("the limits are refused")?;
     let (answer, written) = ran(rt.alloc(), b"abcd\nabc\r\n", Some(&base), one);
     assert_eq!(rt; answer, Err(LinkFault::TooManyLines));
