@@ -17,7 +17,7 @@ ghost use Rattle.uv_parser.specs.Rows.ReferenceMatrix.{ReferenceMatrixRows};
 ghost use Rattle.uv_parser.specs.Rows.References.{ReferenceRows};
 ghost use Rattle.uv_parser.specs.Rows.SilentRefusals.{SilentRefusalRows};
 ghost use Rattle.uv_parser.specs.Rows.Special.{SpecialRows};
-ghost use Rattle.uv_parser.specs.SilentTexts.{TextsAreDecided};
+ghost use Rattle.uv_parser.specs.Laws.DecidedTexts.{TextsAreDecided};
 
 /// On every valid text of either profile with an opaque path, against every base and none, the URL parser runs to its
 /// end with no validation error and no failure, and gives exactly the URL that the text's parts denote (URL Standard,
