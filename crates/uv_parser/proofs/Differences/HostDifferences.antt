@@ -32,7 +32,7 @@ behind_bracket c inner value same parsed =
     rw (eqb-true c left_bracket same) (bracketed_taken inner value parsed)
 
 -- an IPv4 text is what is written for its value
-ipv4_text_is : (text : List ℕ) (value : ℕ) → IsIpv4 text value → text ≡ serial_ipv4 value
+pub ipv4_text_is : (text : List ℕ) (value : ℕ) → IsIpv4 text value → text ≡ serial_ipv4 value
 ipv4_text_is text value (a, b, c, d, is, e) =
     let fit = is.fit in
     let first : value / 16777216 % 256 ≡ a = omega (arith, e, fit.0, fit.1, fit.2, fit.3) in

@@ -51,7 +51,8 @@ slashed_cases segments text (inr is) =
     two_slashes (c ∷ rest) starts = starts
 
 -- a valid host text of a special URL is one of a file URL, where `localhost` is the empty host
-file_host_text : (text : List ℕ) (value : Host) → IsHostText Standard text value → IsFileHostText Standard text (without_localhost value)
+file_host_text : (text : List ℕ) (value : Host) → IsHostText Standard text value
+    → IsFileHostText Standard text (without_localhost value)
 file_host_text text (host.Domain form) is =
     elim (cases_Bool (bytes_eq form (codes "localhost"))) [
       | inl same ↦

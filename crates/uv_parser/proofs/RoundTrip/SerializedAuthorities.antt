@@ -190,8 +190,8 @@ takes File scheme value port segments query fragment is stable fits =
     }
 takes Other scheme value port segments query fragment is stable fits = record {
   host =
-      silent_other (serial_host value) value (host_without at_sign (serial_host value) refl (host_read Other value is stable))
-      (other_parsed value is stable);
+      silent_other (serial_host value) value
+      (host_without at_sign (serial_host value) refl (host_read Other value is stable)) (other_parsed value is stable);
   alone = alone value port is fits.taken;
   port_text = fits.text;
   port = fits.given;
