@@ -1,6 +1,7 @@
 -- Valid URL strings of each profile and their parts, after the URL Standard, sections 3.4 and 4.3.
 use Rattle.std.specs.Prelude.{◌≡◌, ◌≢◌, ℕ, ◌≤◌, ◌⊎◌, Bool, true, false, ◌&&◌, ◌||◌, ◌==◌, List, [], ◌∷◌, codes, Option, Some, None, IsSome, if◌then◌else◌}
 use Rattle.std.specs.List.{list_all}
+use Rattle.std.specs.Str.{bytes_eq}
 use Rattle.std.specs.Char.{is_ascii_digit}
 use Rattle.std.specs.Str.Parse.{digits_value}
 use Rattle.uv_model.specs.declared.profile.Profile.{Profile}
@@ -38,6 +39,11 @@ IsFileHostText profile text (V4 value) = IsIpv4 text value
 IsFileHostText profile text (V6 pieces) = IsBracketedIpv6 text pieces
 IsFileHostText profile text (Opaque host) = ⊥
 IsFileHostText profile text Empty = IsDomain profile text (codes "localhost")
+
+-- the host of a file URL that a host becomes: the domain `localhost` is the empty host (section 4.4)
+abbrev pub without_localhost : Host → Host
+without_localhost (Domain form) = if bytes_eq form (codes "localhost") then Empty else Domain form
+without_localhost host = host
 
 -- a valid opaque-host string: IPv6 in brackets, which alone has a value, or units
 abbrev pub IsOpaqueHostText : List ℕ → Option Host → Type 0

@@ -14,5 +14,6 @@ pub mod Profiles
 pub mod ReferenceMatrix
 pub mod References
 pub mod SilentRefusals
+pub mod SilentDifferences
 pub mod Special
 pub mod StepCounts

@@ -1,4 +1,5 @@
 -- The laws of the parser's silence.
+pub mod DecidedTexts
 pub mod Silence
 pub mod ValidTexts
 pub mod OtherHosts

@@ -18,6 +18,7 @@ use Rattle.uv_model.specs.Path.{is_drive_letter, is_normalized_drive_letter, is_
 use Rattle.uv_model.specs.Scheme.{is_scheme_code_point, scheme_class, default_port}
 use Rattle.uv_model.specs.Units.{is_unit_at}
 use Rattle.uv_model.specs.Records.Url.{Url, is_opaque}
+use Rattle.uv_model.specs.Valid.{without_localhost}
 
 -- ---- what the machine is
 
@@ -373,20 +374,15 @@ file_slash_row base h rest = if begins slash rest then onward FileHostState h el
     without_host None = again PathState h
     without_host (Some url) = again PathState (with_kept_drive (list_in url.path) rest (with_host url.host h))
 
--- `localhost` is the empty host
-abbrev pub file_host : Host → Host
-file_host (host.Domain form) = if bytes_eq form (codes "localhost") then host.Empty else host.Domain form
-file_host value = value
-
--- `\` stops. A delimiter ends the host, which is no drive letter, and may be empty: path start state, again. Any other
--- code point goes into the buffer.
+-- `\` stops. A delimiter ends the host, which is no drive letter, and may be empty, and `localhost` is the empty host:
+-- path start state, again. Any other code point goes into the buffer.
 abbrev pub file_host_at : Held → Sight → Turn
 file_host_at h (another c) = if c == backslash then stop else onward FileHostState (put c h)
 file_host_at h _ =
     if is_drive_letter h.buffer then stop
     else (if length h.buffer == 0 then again PathStartState (with_host (Some host.Empty) h)
     else with_parsed (parse_host true h.buffer)
-    (λ value. again PathStartState (emptied (with_host (Some (file_host value)) h))))
+    (λ value. again PathStartState (emptied (with_host (Some (without_localhost value)) h))))
 
 -- A special URL goes to the path state, past a `/`. Any other goes there past a `/` or before another code point; `?`
 -- and `#` begin query and fragment, and the end is done.

@@ -20,6 +20,7 @@ pub mod Profiles
 pub mod ReferenceMatrix
 pub mod References
 pub mod SilentRefusals
+pub mod SilentDifferences
 pub mod Special
 pub mod StepCounts
 

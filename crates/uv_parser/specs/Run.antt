@@ -1,7 +1,8 @@
 -- Runs of the machine, after the URL Standard, section 4.4: the test before the first step, one step, and many.
-use Rattle.std.specs.Prelude.{ℕ, zero, suc, ◌+◌, ◌*◌, Bool, true, false, ◌||◌, ◌==◌, nat_le, List, [], ◌∷◌, length, drop, Option, Some, None, if◌then◌else◌}
+use Rattle.std.specs.Prelude.{ℕ, zero, suc, ◌+◌, ◌*◌, List, [], ◌∷◌, length, drop, Option, Some, None}
 use Rattle.uv_model.specs.Records.Url.{Url}
 use Rattle.uv_parser.specs.Machine.{State, SchemeStartState, Held, Turn, onward, again, from_place, stop, turn, empty_held}
+use Rattle.uv_parser.specs.Removed.{first_removed}
 
 -- a state, the pointer's place, and what is held
 pub record Machine : Type 0 where
@@ -35,26 +36,6 @@ run_from base text (Stopped p) (suc k) = Stopped p
 run_from base text (Going m) (suc k) = run_from base text (step base text m) k
 
 -- ---- before the first step
-
--- a tab, LF or CR
-abbrev pub is_tab_or_newline : ℕ → Bool
-is_tab_or_newline c = (c == 0x09) || ((c == 0x0A) || (c == 0x0D))
-
--- a code point that the standard removes: a tab or newline, or at the text's first or last place a C0 control or a
--- space
-abbrev pub is_removed : Bool → ℕ → Bool
-is_removed at_border c = is_tab_or_newline c || (if at_border then nat_le c 0x20 else false)
-
--- the least place behind the first where a code point is removed
-abbrev pub removed_behind : ℕ → List ℕ → Option ℕ
-removed_behind p [] = None
-removed_behind p (c ∷ []) = if is_removed true c then Some p else None
-removed_behind p (c ∷ d ∷ rest) = if is_removed false c then Some p else removed_behind (p + 1) (d ∷ rest)
-
--- the least place where a code point is removed
-unfoldable pub first_removed : List ℕ → Option ℕ
-first_removed [] = None
-first_removed (c ∷ rest) = if is_removed true c then Some 0 else removed_behind 1 rest
 
 -- the run stops there, or begins
 abbrev pub first_outcome : Option ℕ → Outcome

@@ -1,24 +1,21 @@
 -- The texts on which the URL parser (URL Standard, section 4.4) is silent, as a grammar: the standard's of section 4.3,
 -- with the parser's own conditions on a host, a path behind an authority and the authority of a file URL.
 use Rattle.std.specs.Prelude.{◌≡◌, ℕ, ◌⊎◌, false, true, List, [], Option, Some, None}
-use Rattle.uv_model.specs.declared.profile.Profile.TheVariants.{Standard, Wide}
+use Rattle.uv_model.specs.declared.profile.Profile.TheVariants.{Standard}
 use Rattle.uv_model.specs.declared.scheme.Class.{Class}
 use Rattle.uv_model.specs.declared.scheme.Class.TheVariants.{Special, File, Other}
 use Rattle.uv_model.specs.declared.host.Host.{Host}
-use Rattle.uv_model.specs.declared.host.Host.TheVariants.{Empty, Opaque}
+use Rattle.uv_model.specs.declared.host.Host.TheVariants.{Empty}
 use Rattle.uv_model.specs.Ascii.{at_sign, backslash}
 use Rattle.uv_model.specs.Cut.{IsCut, texts_of}
 use Rattle.uv_parser.specs.HostParser.{parse_host}
-use Rattle.uv_parser.specs.Machine.{file_host}
 use Rattle.uv_model.specs.Parts.{Form, SchemeAuthority, Authority, PathAbsolute, Parts, has_scheme}
-use Rattle.uv_model.specs.Path.{MayBePathSlashed, IsPathAbsolute, IsPathSlashed, is_drive_letter, is_without}
-use Rattle.uv_model.specs.Records.Denote.{denote}
-use Rattle.uv_parser.specs.Run.{Done, Stopped, first_removed, run, step_bound}
+use Rattle.uv_model.specs.Path.{MayBePathSlashed, IsPathAbsolute, is_drive_letter, is_without}
+use Rattle.uv_parser.specs.Removed.{first_removed}
 use Rattle.uv_model.specs.Records.Url.{Url}
 use Rattle.uv_model.specs.Scheme.{default_port, scheme_class}
 use Rattle.uv_model.specs.Setting.{setting_of}
-use Rattle.uv_model.specs.Records.WellFormed.{MayBeWellFormed}
-use Rattle.uv_model.specs.Valid.{FitsBase, FitsForm, FitsScheme, HasNoAuthority, MayBePortText, MayBeUnits, port_given, scheme_in}
+use Rattle.uv_model.specs.Valid.{FitsBase, FitsForm, FitsScheme, HasNoAuthority, IsOpaqueHostText, MayBePortText, MayBeUnits, port_given, scheme_in, without_localhost}
 
 -- ---- what follows `//`
 
@@ -34,7 +31,7 @@ pub record IsTakenFileHost (text : List ℕ) (value : Host) : Type 0 where
   pub no_backslash : is_without backslash text ≡ true
   pub host : Host
   pub parsed : parse_host true text ≡ Some host
-  pub valued : value ≡ file_host host
+  pub valued : value ≡ without_localhost host
 
 -- a special URL
 pub record TakesSpecial (scheme host_text : List ℕ) (parts : Parts) : Type 0 where
@@ -51,17 +48,13 @@ pub record TakesFile (host_text : List ℕ) (parts : Parts) : Type 0 where
   pub host : ((value : Host) × IsTakenFileHost host_text value × (parts.host ≡ Some value))
       ⊎ ((host_text ≡ []) × (parts.host ≡ Some Empty))
 
--- an opaque host has its text alone, and each other host its value
-abbrev pub own_value : Host → Option Host
-own_value (Opaque text) = None
-own_value value = Some value
+-- the host of any other URL: an opaque-host string or an IPv6 text in brackets, or nothing, which is the empty host
+abbrev pub IsValidOtherHost : List ℕ → Option Host → Type 0
+IsValidOtherHost text host = IsOpaqueHostText text host ⊎ ((text ≡ []) × (host ≡ Some Empty))
 
--- any other URL: no `@`, what the host parser takes, and no port behind an empty host
+-- any other URL: a valid host, and no port behind an empty one
 pub record TakesOther (scheme host_text : List ℕ) (parts : Parts) : Type 0 where
-  pub value : Host
-  pub no_at_sign : is_without at_sign host_text ≡ true
-  pub parsed : parse_host false host_text ≡ Some value
-  pub valued : parts.host ≡ own_value value
+  pub host : IsValidOtherHost host_text parts.host
   pub alone : host_text ≡ [] → parts.port_text ≡ None
   pub port_text : MayBePortText parts.port_text
   pub port : parts.port ≡ port_given (default_port scheme) parts.port_text
@@ -102,21 +95,3 @@ pub record Silent (base : Option Url) (text : List ℕ) (parts : Parts) : Type 0
   pub form : TakesForm base parts.form parts
   pub query : MayBeUnits parts.query
   pub fragment : MayBeUnits parts.fragment
-
--- ---- the law
-
--- Within so many steps the run of a text ends with the URL that the parts denote exactly where the parser's grammar
--- takes the text with parts, and else it stops.
-pub record IsDecidedWithin (steps : ℕ) (base : Option Url) (text : List ℕ) : Type 0 where
-  pub silent : (parts : Parts) → Silent base text parts → run base text steps ≡ Done (denote base parts)
-  pub only : (url : Url) → run base text steps ≡ Done url
-      → (parts : Parts) × Silent base text parts × (url ≡ denote base parts)
-  pub ended : ((parts : Parts) × Silent base text parts) ⊎ ((place : ℕ) × (run base text steps ≡ Stopped place))
-
--- it is decided within the bound on its steps
-abbrev pub IsDecided : Option Url → List ℕ → Type 0
-IsDecided base text = IsDecidedWithin (step_bound text) base text
-
--- against each well-formed base, and without a base, each text is decided
-abbrev pub TextsAreDecided : Type 0
-TextsAreDecided = (base : Option Url) (text : List ℕ) → MayBeWellFormed Wide base → IsDecided base text

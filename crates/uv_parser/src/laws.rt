@@ -16,7 +16,7 @@ ghost use Rattle.uv_parser.specs.Rows.ReferenceMatrix.{ReferenceMatrixRows};
 ghost use Rattle.uv_parser.specs.Rows.References.{ReferenceRows};
 ghost use Rattle.uv_parser.specs.Rows.SilentRefusals.{SilentRefusalRows};
 ghost use Rattle.uv_parser.specs.Rows.Special.{SpecialRows};
-ghost use Rattle.uv_parser.specs.SilentTexts.{TextsAreDecided};
+ghost use Rattle.uv_parser.specs.Laws.DecidedTexts.{TextsAreDecided};
 
 /// The run of the parser machine on a text is done, with the URL that the parts denote, exactly where the parser's
 /// grammar takes the text with parts, and else it stops; within the bound on its steps.

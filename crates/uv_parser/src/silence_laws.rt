@@ -1,5 +1,6 @@
 //! Laws of the texts on which the URL parser is silent, each as the clause of a function that does nothing.
 ghost use Rattle.uv_parser.specs.Laws.Differences.{SilentTextsAreValidOrDiffer};
+ghost use Rattle.uv_parser.specs.Rows.SilentDifferences.{SilentDifferenceRows};
 ghost use Rattle.uv_parser.specs.Laws.ValidTexts.{SilentPartsAreUnique, ValidTextsAreSilent, ValidTextsRunSilently};
 
 /// The parser's grammar takes every valid text, against every base and none, with the same parts (URL Standard,
@@ -25,4 +26,10 @@ pub fn parts_of_a_silent_text_are_unique()
 /// with no path; and with a difference it has no valid parts (URL Standard, sections 4.3 and 4.4).
 pub fn silent_texts_are_valid_or_differ()
     ensures { SilentTextsAreValidOrDiffer }
+{}
+
+/// On each of these texts the parser is silent, its parts have the difference that is named, and it has no valid parts
+/// (URL Standard, sections 4.3 and 4.4).
+pub fn silent_difference_rows()
+    ensures { SilentDifferenceRows }
 {}

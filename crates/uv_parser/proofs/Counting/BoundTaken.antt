@@ -11,7 +11,8 @@ use Rattle.uv_model.specs.Ascii.{slash, colon}
 use Rattle.uv_parser.specs.HostParser.{parse_host}
 use Rattle.uv_parser.specs.Machine.{Held, end, emptied, empty_held, port_in, put, with_host, with_more, with_port, with_scheme, AuthorityState, HostState, PathState, PortState, SchemeStartState}
 use Rattle.uv_parser.specs.Rows.References.{root_base}
-use Rattle.uv_parser.specs.Run.{Outcome, first_outcome, first_removed, removed_behind, run, run_from}
+use Rattle.uv_parser.specs.Run.{Outcome, first_outcome, run, run_from}
+use Rattle.uv_parser.specs.Removed.{first_removed, removed_behind}
 use Rattle.uv_parser.specs.Laws.StepCounts.{BoundIsTaken, IsEnded}
 use Rattle.uv_model.specs.Records.Url.{Url}
 use Rattle.uv_parser.proofs.Loops.AuthorityLoops.{authority_law, host_row_port, is_authority_letter, port_law, port_row_end}

@@ -8,7 +8,8 @@ use Rattle.uv_model.specs.Ascii.{slash}
 use Rattle.uv_parser.specs.Machine.{Turn, onward, again, from_place, stop, turn, begins, SchemeStartState, empty_held}
 use Rattle.uv_model.specs.Parts.{Parts}
 use Rattle.uv_parser.specs.SilentTexts.{Silent}
-use Rattle.uv_parser.specs.Run.{Machine, Outcome, Done, Stopped, Going, first_outcome, first_removed, settle, step, run, run_from, step_bound}
+use Rattle.uv_parser.specs.Run.{Machine, Outcome, Done, Stopped, Going, first_outcome, settle, step, run, run_from, step_bound}
+use Rattle.uv_parser.specs.Removed.{first_removed}
 use Rattle.uv_parser.specs.Laws.StepCounts.{IsEnded, RunsEnd, RunsKeepTheirEnd, TextsAreDecidedSoon, least_step_bound}
 use Rattle.uv_model.specs.Records.Url.{Url}
 use Rattle.uv_parser.proofs.Done.DecidedBases.{texts_are_decided}

@@ -5,7 +5,8 @@ use Rattle.uv_model.specs.declared.host.Host.{Host}
 use Rattle.uv_model.specs.declared.host.Host.TheVariants as host
 use Rattle.uv_model.specs.Ascii.{slash, question_mark, number_sign, backslash}
 use Rattle.uv_parser.specs.HostParser.{parse_host}
-use Rattle.uv_parser.specs.Machine.{Held, Sight, end, slash_mark, query_mark, fragment_mark, another, sight, turn, onward, stop, again, FileHostState, PathStartState, file_host, file_host_at, emptied, put, with_host, with_more}
+use Rattle.uv_parser.specs.Machine.{Held, Sight, end, slash_mark, query_mark, fragment_mark, another, sight, turn, onward, stop, again, FileHostState, PathStartState, file_host_at, emptied, put, with_host, with_more}
+use Rattle.uv_model.specs.Valid.{without_localhost}
 use Rattle.uv_parser.specs.SilentTexts.{IsTakenFileHost}
 use Rattle.uv_model.specs.Path.{is_drive_letter, is_without}
 use Rattle.uv_model.specs.Records.Url.{Url}
@@ -99,10 +100,10 @@ module _ (base : Option Url) where
                     (stops_after base law
                     (stops_here base
                     (λ p. none_row held (sight rest) ends no_drive (has_some text c cs refl) missing))))
-                | inr (value, parsed) ↦ elim (next (emptied (with_host (Some (file_host value)) held)) refl) [
+                | inr (value, parsed) ↦ elim (next (emptied (with_host (Some (without_localhost value)) held)) refl) [
                   | inl fine ↦ inl (
                     inl (
-                      file_host value,
+                      without_localhost value,
                       record {
                         no_drive = no_drive;
                         no_backslash = none;

@@ -10,7 +10,7 @@ use Rattle.uv_parser.specs.Machine.{Held, OpaquePathState, SchemeState, with_mor
 use Rattle.uv_model.specs.Parts.{Parts, SchemeOpaque}
 use Rattle.uv_parser.specs.SilentTexts.{Silent}
 use Rattle.uv_model.specs.Path.{starts_with_slash}
-use Rattle.uv_parser.specs.Run.{first_removed}
+use Rattle.uv_parser.specs.Removed.{first_removed}
 use Rattle.uv_model.specs.Scheme.{lowercase, scheme_class}
 use Rattle.uv_model.specs.Units.{is_faultless}
 use Rattle.uv_model.specs.Records.Url.{Url}

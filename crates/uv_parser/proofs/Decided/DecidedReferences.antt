@@ -10,15 +10,17 @@ use Rattle.uv_model.specs.Ascii.{slash, colon, backslash, question_mark, number_
 use Rattle.uv_model.specs.Cut.{Cut, IsCut, IsHostCut, starts_with_two_slashes}
 use Rattle.uv_parser.specs.Machine.{Held, State, with_fragment, begins, begins_drive, turn, stop, again, AuthorityState, FileSlashState, FileState, NoSchemeState, PathState, RelativeSlashState, RelativeState, SpecialAuthorityIgnoreSlashesState, empty_held, is_file, is_special, with_base, with_base_host, with_file_base, with_kept_drive, list_in, with_host, with_opaque_base, with_query, with_scheme, shortened}
 use Rattle.uv_model.specs.Parts.{Form, Parts, Authority, PathAbsolute, PathRelative, NoPath, written_authority, written_behind}
-use Rattle.uv_parser.specs.SilentTexts.{Silent, Takes, own_value}
+use Rattle.uv_parser.specs.SilentTexts.{Silent, Takes}
+use Rattle.uv_parser.specs.Laws.OtherHosts.{own_value}
 use Rattle.uv_model.specs.Path.{starts_with_slash}
-use Rattle.uv_parser.specs.Run.{first_removed}
+use Rattle.uv_parser.specs.Removed.{first_removed}
 use Rattle.uv_model.specs.Scheme.{default_port, scheme_class}
 use Rattle.uv_model.specs.Records.Url.{Url, is_opaque}
 use Rattle.uv_model.specs.Valid.{port_given, starts_with_scheme}
 use Rattle.uv_model.proofs.Cuts.SchemesIgnoreBases.{cut_with_scheme}
 use Rattle.uv_model.proofs.Complaints.ComplaintLemmas.{cut_with}
 use Rattle.uv_model.proofs.Cuts.CutLemmas.{cut_is_computed}
+use Rattle.uv_parser.proofs.HostParsing.OtherHosts.{silent_other}
 use Rattle.uv_parser.proofs.Decided.CutTexts.{HasMarks, cut_text, marks}
 use Rattle.uv_parser.proofs.Decided.DecidedAuthority.{IsUnended, authority_decided, letters_no_at_sign, letters_no_backslash}
 use Rattle.uv_parser.proofs.Decided.DecidedFile.{FileHostFits, file_host_decided}
@@ -488,10 +490,7 @@ module _ (url : Url) (text host_text : List ℕ) (port_text : Option (List ℕ))
             (port_given (default_port url.scheme) port_text) path (segments_behind path) query fragment in
             let takes : Takes Other url.scheme host_text parts
             = record {
-              value = taken.value;
-              no_at_sign = letters_no_at_sign false host_text letters;
-              parsed = taken.parsed;
-              valued = refl;
+              host = silent_other host_text taken.value (letters_no_at_sign false host_text letters) taken.parsed;
               alone = taken.alone;
               port_text = taken.port_text;
               port = refl;

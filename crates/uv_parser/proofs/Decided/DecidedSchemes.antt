@@ -9,13 +9,15 @@ use Rattle.uv_model.specs.Ascii.{slash, colon, backslash, question_mark, number_
 use Rattle.uv_model.specs.Cut.{IsCut, IsHostCut, starts_with_two_slashes}
 use Rattle.uv_parser.specs.Machine.{begins, begins_two_slashes, has_same_scheme, sight, AuthorityState, FileHostState, FileSlashState, FileState, PathOrAuthorityState, SchemeState, SpecialAuthorityIgnoreSlashesState, SpecialAuthoritySlashesState, SpecialRelativeOrAuthorityState, empty_held, with_more}
 use Rattle.uv_model.specs.Parts.{Parts, SchemeAuthority, SchemePath, written_behind}
-use Rattle.uv_parser.specs.SilentTexts.{Silent, Takes, own_value}
+use Rattle.uv_parser.specs.SilentTexts.{Silent, Takes}
+use Rattle.uv_parser.specs.Laws.OtherHosts.{own_value}
 use Rattle.uv_model.specs.Path.{MayBePathSlashed, is_without, starts_with_slash}
-use Rattle.uv_parser.specs.Run.{first_removed}
+use Rattle.uv_parser.specs.Removed.{first_removed}
 use Rattle.uv_model.specs.Scheme.{default_port, lowercase, scheme_class}
 use Rattle.uv_model.specs.Units.{is_faultless, is_unit_at}
 use Rattle.uv_model.specs.Records.Url.{Url}
 use Rattle.uv_model.specs.Valid.{FitsBase, port_given}
+use Rattle.uv_parser.proofs.HostParsing.OtherHosts.{silent_other}
 use Rattle.uv_parser.proofs.Loops.AuthorityLoops.{IsDelimiter}
 use Rattle.uv_model.proofs.Complaints.ComplaintLemmas.{cut_with}
 use Rattle.uv_parser.proofs.Decided.CutTexts.{HasMarks, marks, scheme_text}
@@ -275,10 +277,7 @@ module _ (base : Option Url) (text scheme host_text : List ℕ) (port_text : Opt
             (port_given (default_port scheme) port_text) in
             let takes : Takes Other scheme host_text parts
             = record {
-              value = taken.value;
-              no_at_sign = letters_no_at_sign false host_text letters;
-              parsed = taken.parsed;
-              valued = refl;
+              host = silent_other host_text taken.value (letters_no_at_sign false host_text letters) taken.parsed;
               alone = taken.alone;
               port_text = taken.port_text;
               port = refl;

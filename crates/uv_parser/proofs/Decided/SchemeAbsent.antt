@@ -4,7 +4,8 @@ use Rattle.std.specs.Char.{is_ascii_alphabetic, to_ascii_lowercase}
 use Rattle.std.proofs.lemmas.Bool.{cases_Bool, true≢false}
 use Rattle.uv_model.specs.Ascii.{colon}
 use Rattle.uv_parser.specs.Machine.{Held, State, NoSchemeState, SchemeStartState, SchemeState, turn, again, onward, from_place, emptied, empty_held, put}
-use Rattle.uv_parser.specs.Run.{Done, first_outcome, first_removed, run, run_from, settle, step, step_bound}
+use Rattle.uv_parser.specs.Run.{Done, first_outcome, run, run_from, settle, step, step_bound}
+use Rattle.uv_parser.specs.Removed.{first_removed}
 use Rattle.uv_model.specs.Scheme.{is_scheme_code_point}
 use Rattle.uv_model.specs.Records.Url.{Url}
 use Rattle.uv_model.specs.Valid.{goes_on_to_colon, starts_with_scheme}

@@ -1,9 +1,9 @@
 -- A host text that the host parser takes is a valid one, or it has a difference with a name.
-use Rattle.std.proofs.Common.{◌≡◌, ◌≢◌, ℕ, ◌+◌, ◌-◌, ◌/◌, ◌%◌, ◌<◌, ◌^◌, true, false, not, ◌==◌, ◌⊎◌, List, [], ◌∷◌, ◌++◌, length, Option, Some, None, encode_utf8_all, refl, sym, ap, subst, ◌∙◌, inl, inr, arith, length-append, take_at}
+use Rattle.std.proofs.Common.{◌≡◌, ◌≢◌, ℕ, ◌/◌, ◌%◌, ◌<◌, ◌^◌, true, false, ◌==◌, ◌⊎◌, List, [], ◌∷◌, length, Option, Some, None, encode_utf8_all, sym, ap, subst, ◌∙◌, inl, inr, arith}
 use Rattle.std.specs.Prelude.{option_map, option_and_then}
-use Rattle.std.specs.List.{list_all, list_any}
+use Rattle.std.specs.List.{list_any}
 use Rattle.std.specs.Str.{bytes_eq, is_utf8}
-use Rattle.std.proofs.lemmas.Bool.{cases_Bool, cases_lt, eqb-true, false≢true, and_parts, and_from}
+use Rattle.std.proofs.lemmas.Bool.{cases_Bool, cases_lt, eqb-true, false≢true}
 use Rattle.std.proofs.lemmas.Option.{none-some, same_Some, option_and_then_some}
 use Rattle.std.proofs.lemmas.Slice.Eq.{bytes_eq-Decides}
 use Rattle.uv_model.specs.declared.profile.Profile.TheVariants.{Standard}
@@ -14,14 +14,13 @@ use Rattle.uv_model.specs.Ascii.{left_bracket}
 use Rattle.uv_model.specs.Hosts.Domain.{ends_in_number, has_lengths, has_permitted, parser_form, strict_form, IsDomain}
 use Rattle.uv_parser.specs.HostParser.{host_of_form, is_forbidden_domain, parse_bracketed, parse_domain, parse_host, percent_decoded}
 use Rattle.uv_parser.specs.Ipv4Parser.{parse_ipv4}
-use Rattle.uv_parser.specs.SilentTexts.{own_value}
 use Rattle.uv_model.specs.Records.Serialize.{serial_ipv4}
 use Rattle.uv_parser.specs.Laws.Differences.{HostDiffers}
-use Rattle.uv_model.specs.Valid.{IsHostText, IsOpaqueHostText}
+use Rattle.uv_model.specs.Valid.{IsHostText}
 use Rattle.uv_model.proofs.Hosts.DomainLemmas.{IsForm-from, parser_form-is}
 use Rattle.uv_parser.proofs.HostParsing.HostParserLemmas.{ipv4_hosts_are_parsed, no_percent-encoded, no_percent-permitted, percent_decode-plain, percent_decoded-plain}
 use Rattle.uv_model.proofs.Addresses.AddressesReadBack.{ipv4_written}
-use Rattle.uv_parser.proofs.HostParsing.OtherHostsTaken.{bracketed_taken, other_hosts_are_taken}
+use Rattle.uv_parser.proofs.HostParsing.OtherHostsTaken.{bracketed_taken}
 
 -- ---- addresses
 
@@ -33,7 +32,7 @@ behind_bracket c inner value same parsed =
     rw (eqb-true c left_bracket same) (bracketed_taken inner value parsed)
 
 -- an IPv4 text is what is written for its value
-ipv4_text_is : (text : List ℕ) (value : ℕ) → IsIpv4 text value → text ≡ serial_ipv4 value
+pub ipv4_text_is : (text : List ℕ) (value : ℕ) → IsIpv4 text value → text ≡ serial_ipv4 value
 ipv4_text_is text value (a, b, c, d, is, e) =
     let fit = is.fit in
     let first : value / 16777216 % 256 ≡ a = omega (arith, e, fit.0, fit.1, fit.2, fit.3) in
@@ -180,15 +179,3 @@ host_not_differs text (host.V4 value) is mapped = mapped value is
 host_not_differs text (host.V6 pieces) is none = none
 host_not_differs text (host.Opaque other) is none = none
 host_not_differs text host.Empty is none = none
-
--- ---- the host of any other URL
-
--- what the parser takes is a valid opaque-host string, where it isn't empty
-pub opaque_host_taken : (text : List ℕ) (value : Host) → parse_host false text ≡ Some value
-    → ((text ≡ []) × (value ≡ host.Empty)) ⊎ IsOpaqueHostText text (own_value value)
-opaque_host_taken text value parsed =
-    elim ((other_hosts_are_taken text value).0 parsed) [
-      | inl nothing ↦ inl nothing
-      | inr (inl (pieces, is, v)) ↦ rw v (inr is)
-      | inr (inr (is, v)) ↦ rw v (inr is)
-    ]

@@ -13,18 +13,17 @@ use Rattle.uv_model.specs.declared.scheme.Class.TheVariants.{Special, File, Othe
 use Rattle.uv_model.specs.Ascii.{slash}
 use Rattle.uv_model.specs.Complaints.Complaint.{HasHost}
 use Rattle.uv_model.specs.Cut.{class_in, starts_with_two_slashes}
-use Rattle.uv_parser.specs.Machine.{file_host}
-use Rattle.uv_parser.specs.SilentTexts.{IsTakenFileHost, Silent, Takes, TakesFile, TakesForm, TakesHostText, own_value}
+use Rattle.uv_parser.specs.SilentTexts.{IsTakenFileHost, Silent, Takes, TakesFile, TakesForm, TakesHostText}
 use Rattle.uv_model.specs.Parts.{Form, SchemeAuthority, SchemePath, SchemeOpaque, Authority, PathAbsolute, PathRelative, NoPath, Parts, has_scheme}
 use Rattle.uv_model.specs.Path.{MayBePathSlashed, starts_with_drive, starts_with_slash}
 use Rattle.uv_model.specs.Scheme.{scheme_class}
 use Rattle.uv_parser.specs.Laws.Differences.{Differs, HasDriveBehindHost, HasEmptyAuthority, HasForeignHost, SilentTextsAreValidOrDiffer}
 use Rattle.uv_model.specs.Setting.{setting_of}
 use Rattle.uv_model.specs.Records.Url.{Url}
-use Rattle.uv_model.specs.Valid.{FitsAuthority, FitsDrive, FitsForm, FitsHostText, FitsScheme, IsFileHostText, IsHostText, IsOpaqueHostText, MayBePathBehind, Valid, scheme_in}
+use Rattle.uv_model.specs.Valid.{FitsAuthority, FitsDrive, FitsForm, FitsHostText, FitsScheme, IsFileHostText, IsHostText, MayBePathBehind, Valid, scheme_in, without_localhost}
 use Rattle.uv_model.proofs.Complaints.FaultlessHosts.{file_host_is_host, host_not_empty}
 use Rattle.uv_model.proofs.Complaints.ComplaintsExcludeParts.{faultless_form}
-use Rattle.uv_parser.proofs.Differences.HostDifferences.{host_not_differs, host_or_differs, opaque_host_taken}
+use Rattle.uv_parser.proofs.Differences.HostDifferences.{host_not_differs, host_or_differs}
 use Rattle.uv_parser.proofs.HostParsing.HostsParsed.{host_taken, parsed_not_empty}
 use Rattle.uv_parser.proofs.Silence.SilentParts.{silent_parts_are_unique}
 use Rattle.uv_model.proofs.Cuts.ValidCutLemmas.{written_as_cut}
@@ -52,7 +51,8 @@ slashed_cases segments text (inr is) =
     two_slashes (c ∷ rest) starts = starts
 
 -- a valid host text of a special URL is one of a file URL, where `localhost` is the empty host
-file_host_text : (text : List ℕ) (value : Host) → IsHostText Standard text value → IsFileHostText Standard text (file_host value)
+file_host_text : (text : List ℕ) (value : Host) → IsHostText Standard text value
+    → IsFileHostText Standard text (without_localhost value)
 file_host_text text (host.Domain form) is =
     elim (cases_Bool (bytes_eq form (codes "localhost"))) [
       | inl same ↦
@@ -136,12 +136,9 @@ authority_or_differs base File host_text parts kind given takes path = by_host t
     by_host (inl (value, is, valued)) = file_or_differs base host_text parts value kind given takes path is valued
     by_host (inr (empty, valued)) = by_path path empty valued
 authority_or_differs base Other host_text parts kind given takes path =
-    elim (opaque_host_taken host_text takes.value takes.parsed) [
-      | inl (nothing, empty) ↦
-          inl (inr (nothing, takes.valued ∙ ap own_value empty, takes.alone nothing), takes.port, path)
-      | inr is ↦
-          let text_is : IsOpaqueHostText host_text parts.host = rw takes.valued is in
-          inl (inl (text_is, takes.port_text), takes.port, path)
+    elim takes.host [
+      | inl is ↦ inl (inl (is, takes.port_text), takes.port, path)
+      | inr (nothing, empty) ↦ inl (inr (nothing, empty, takes.alone nothing), takes.port, path)
     ]
 
 -- with a host text

@@ -3,13 +3,12 @@
 use Rattle.std.proofs.Common.{◌≡◌, ℕ, Bool, false, ◌⊎◌, List, Option, Some, None, sym, subst, ◌∙◌, inl, inr}
 use Rattle.uv_model.specs.Cut.{Cut, IsCut, texts_of}
 use Rattle.uv_model.specs.Parts.{Form, Parts, has_scheme}
-use Rattle.uv_parser.specs.SilentTexts.{IsDecided, Silent, TakesForm}
+use Rattle.uv_parser.specs.SilentTexts.{Silent, TakesForm}
+use Rattle.uv_parser.specs.Laws.DecidedTexts.{IsDecided}
 use Rattle.uv_parser.specs.Run.{Done, Stopped}
 use Rattle.uv_parser.specs.Laws.Silence.{RunsSilently}
 use Rattle.uv_model.specs.Records.Url.{Url}
-use Rattle.uv_model.specs.Valid.{FitsScheme, FitsForm, Valid}
-use Rattle.uv_model.specs.Setting.{setting_of}
-use Rattle.uv_model.proofs.Complaints.ComplaintLemmas.{cut_with}
+use Rattle.uv_model.specs.Valid.{FitsScheme}
 use Rattle.uv_model.proofs.Cuts.CutLemmas.{cut_is_computed}
 use Rattle.uv_parser.proofs.Running.RunsStopped.{RunStops}
 

@@ -6,8 +6,9 @@ use Rattle.uv_model.specs.Cut.{IsSchemeCut, texts_of, written_middle}
 use Rattle.uv_model.specs.Parts.{Parts, written_authority, written_scheme}
 use Rattle.uv_model.specs.Ascii.{colon}
 use Rattle.uv_model.specs.Scheme.{is_scheme}
-use Rattle.uv_parser.specs.SilentTexts.{IsDecided, Silent}
-use Rattle.uv_parser.specs.Run.{first_removed}
+use Rattle.uv_parser.specs.SilentTexts.{Silent}
+use Rattle.uv_parser.specs.Laws.DecidedTexts.{IsDecided}
+use Rattle.uv_parser.specs.Removed.{first_removed}
 use Rattle.uv_model.specs.Valid.{starts_with_scheme}
 use Rattle.uv_parser.proofs.Done.Decided.{is_decided}
 use Rattle.uv_parser.proofs.Done.DecidedTexts.{scheme_texts_are_decided}

@@ -14,7 +14,8 @@ use Rattle.uv_model.specs.declared.path.UrlPath.TheVariants.{Opaque, Segments}
 use Rattle.uv_model.specs.Ascii.{number_sign}
 use Rattle.uv_parser.specs.Machine.{empty_held, is_file, with_opaque_base}
 use Rattle.uv_model.specs.Parts.{Form, Parts, SchemeAuthority, SchemePath, SchemeOpaque, Authority, PathAbsolute, PathRelative, NoPath, has_scheme}
-use Rattle.uv_parser.specs.SilentTexts.{IsDecided, Silent}
+use Rattle.uv_parser.specs.SilentTexts.{Silent}
+use Rattle.uv_parser.specs.Laws.DecidedTexts.{IsDecided}
 use Rattle.uv_model.specs.Scheme.{lowercase, scheme_class}
 use Rattle.uv_parser.specs.Laws.Silence.{RunsSilently}
 use Rattle.uv_model.specs.Records.Url.{Url, is_opaque}

@@ -2,21 +2,20 @@
 -- denote.
 use Rattle.std.proofs.Common.{◌≡◌, ℕ, Bool, true, false, ◌==◌, ◌&&◌, ◌⊎◌, List, [], ◌∷◌, ◌++◌, length, Option, Some, None, refl, sym, ap, subst, ◌∙◌, inl, inr, arith}
 use Rattle.std.specs.List.{list_all}
-use Rattle.std.proofs.lemmas.Bool.{and_from, and_left, and_parts, and_right, cases_Bool, true≢false}
+use Rattle.std.proofs.lemmas.Bool.{and_from, and_left, and_parts, and_right, true≢false}
 use Rattle.uv_model.specs.declared.host.Host.{Host}
 use Rattle.uv_model.specs.declared.host.Host.TheVariants as host
 use Rattle.uv_model.specs.declared.scheme.Class.{Class}
 use Rattle.uv_model.specs.declared.scheme.Class.TheVariants.{Special, File, Other}
-use Rattle.uv_model.specs.Ascii.{slash, colon, left_bracket, right_bracket, question_mark, number_sign, at_sign, backslash}
+use Rattle.uv_model.specs.Ascii.{slash, colon, question_mark, number_sign, at_sign, backslash}
 use Rattle.uv_model.specs.Cut.{EndsAtPort, IsAuthorityCut, IsHostCut, class_in, is_within, is_within_at_end}
 use Rattle.uv_model.specs.Records.Denote.{authority_host}
 use Rattle.uv_model.specs.Encoding.{encoded}
-use Rattle.uv_parser.specs.HostParser.{is_faultless_host, parse_bracketed, parse_host}
-use Rattle.uv_parser.specs.Ipv6Parser.{parse_ipv6}
-use Rattle.std.specs.Prelude.{◌-◌, slice_index, take, option_map}
+use Rattle.uv_parser.specs.HostParser.{parse_host}
 use Rattle.uv_parser.specs.Machine.{is_special}
 use Rattle.uv_model.specs.Parts.{Form, Parts, SchemeAuthority, has_scheme, written_authority, written_behind}
-use Rattle.uv_parser.specs.SilentTexts.{own_value, IsTakenFileHost, Silent, Takes, TakesAuthority, TakesFile, TakesHostText, TakesOther, TakesSpecial}
+use Rattle.uv_parser.specs.SilentTexts.{IsTakenFileHost, Silent, Takes, TakesAuthority, TakesFile, TakesHostText, TakesOther, TakesSpecial}
+use Rattle.uv_parser.specs.Laws.OtherHosts.{own_value}
 use Rattle.uv_model.specs.Path.{MayBePathSlashed, is_without}
 use Rattle.uv_model.specs.Scheme.{is_scheme, lowercase, scheme_class}
 use Rattle.uv_parser.specs.Laws.Silence.{RunsSilently}
@@ -30,6 +29,8 @@ use Rattle.uv_parser.proofs.Decided.CutTexts.{marks}
 use Rattle.uv_parser.proofs.Done.Decided.{takes_form}
 use Rattle.uv_parser.proofs.Loops.FileHosts.{IsFileRead}
 use Rattle.uv_parser.proofs.HostParsing.HostsParsed.{has_some, parsed_some}
+use Rattle.uv_parser.proofs.HostParsing.OtherHosts.{silent_other_hosts_are_valid}
+use Rattle.uv_parser.proofs.HostParsing.OtherHostsTaken.{other_hosts_are_taken}
 use Rattle.uv_model.proofs.Texts.MarkLemmas.{is_without-parts}
 use Rattle.uv_parser.proofs.Loops.SchemeStretch.{scheme_there}
 use Rattle.uv_parser.proofs.Silence.SilentAuthority.{HasParsed, authority_runs, is_special_scheme, not_special, other_starts, special_some, special_starts, valued_some}
@@ -189,32 +190,21 @@ special_done base text parts silent form special =
 
 -- the opaque host that the parser gives is the encoded text
 opaque_encoded : (text other : List ℕ) → parse_host false text ≡ Some (host.Opaque other) → other ≡ encoded false text
-unfolding parse_host
-opaque_encoded [] other parsed = absurd cc
-opaque_encoded (c ∷ rest) other parsed =
-    elim (cases_Bool (c == left_bracket)) [
-      | inl same ↦ absurd (no_bracketed rest other (rw same at parsed))
-      | inr plain ↦
-          elim (cases_Bool (is_faultless_host (c ∷ rest))) [
-            | inl fine ↦ let e : Some (host.Opaque (encoded false (c ∷ rest))) ≡ Some (host.Opaque other)
-                = rw (plain, fine) at parsed in cc
-            | inr fault ↦ let e : None ≡ Some (host.Opaque other) = rw (plain, fault) at parsed in absurd (none_some _ e)
-          ]
+opaque_encoded text other parsed =
+    elim ((other_hosts_are_taken text (host.Opaque other)).0 parsed) [
+      | inl (nothing, empty) ↦ absurd (empty_no_opaque empty)
+      | inr (inl (pieces, is, valued)) ↦ absurd (pieces_no_opaque pieces valued)
+      | inr (inr (is, valued)) ↦ same_text (encoded false text) valued
     ]
   where
-    none_some : (value : Host) → None ≡ Some value → ⊥
-    none_some value e = cc
+    empty_no_opaque : host.Opaque other ≡ host.Empty → ⊥
+    empty_no_opaque e = cc
 
-    no_pieces : (o : Option (List ℕ)) (other : List ℕ) → option_map host.V6 o ≡ Some (host.Opaque other) → ⊥
-    no_pieces None other e = cc
-    no_pieces (Some pieces) other e = cc
+    pieces_no_opaque : (pieces : List ℕ) → host.Opaque other ≡ host.V6 pieces → ⊥
+    pieces_no_opaque pieces e = cc
 
-    no_bracketed : (inner other : List ℕ) → parse_bracketed inner ≡ Some (host.Opaque other) → ⊥
-    no_bracketed inner other e =
-        elim (cases_Bool (slice_index inner (length inner - 1) == right_bracket)) [
-          | inl closed ↦ no_pieces (parse_ipv6 (take (length inner - 1) inner)) other (rw closed at e)
-          | inr ajar ↦ let e : None ≡ Some (host.Opaque other) = rw ajar at e in none_some _ e
-        ]
+    same_text : (one : List ℕ) → host.Opaque other ≡ host.Opaque one → other ≡ one
+    same_text one e = cc
 
 -- the parser's host is the denoted one
 other_valued : (parts : Parts) (host_text : List ℕ) (value : Host) → parts.host_text ≡ Some host_text
@@ -235,40 +225,44 @@ other_some (c ∷ rest) (Some port) ends alone = inr (has_some (c ∷ rest) c re
 
 -- host, port and path of an authority of class Other are parsed as they are denoted
 pub other_has : (base : Option Url) (parts : Parts) (scheme host_text : List ℕ)
-    → (is : IsNamed base parts Other scheme host_text) → HasParsed parts scheme host_text is.takes.value
+    → IsNamed base parts Other scheme host_text → (value : Host) × HasParsed parts scheme host_text value
 other_has base parts scheme host_text is =
     let takes : TakesOther scheme host_text parts = is.takes in
+    let (value, no_at_sign, host_parsed, valued) = (silent_other_hosts_are_valid host_text parts.host).1 takes.host in
     let plain = not_special scheme is.of_kind in
     let letters = letters_from (is_special (lowercase scheme)) host_text is.no_slash is.no_question_mark
-    is.no_number_sign takes.no_at_sign (λ same. absurd (true≢false (sym same ∙ plain))) in
+    is.no_number_sign no_at_sign (λ same. absurd (true≢false (sym same ∙ plain))) in
     let ends : EndsAtPort host_text parts.port_text = is.host_cut in
-    let parsed : IsParsed scheme host_text parts.port_text takes.value
+    let parsed : IsParsed scheme host_text parts.port_text value
     = record {
       read = record {
         letters = letters;
         read = reads_from (is_special (lowercase scheme)) false host_text parts.port_text
             (ends_from_start host_text parts.port_text ends) letters;
       };
-      parsed = rw plain takes.parsed;
+      parsed = rw plain host_parsed;
       stands = and_right (length host_text == 0) _ plain;
       some = other_some host_text parts.port_text ends takes.alone;
       port = takes.port_text;
-    } in
-    record {
-      parsed = parsed;
-      valued = other_valued parts host_text takes.value is.given takes.parsed takes.valued;
-      port = takes.port;
-      path = is.path;
-    }
+    } in (
+      value,
+      record {
+        parsed = parsed;
+        valued = other_valued parts host_text value is.given host_parsed valued;
+        port = takes.port;
+        path = is.path;
+      },
+    )
 
 -- an authority of class Other
 pub other_done : (base : Option Url) (text : List ℕ) (parts : Parts) → Silent base text parts
     → parts.form ≡ SchemeAuthority → scheme_class (scheme_in base parts) ≡ Other → RunsSilently base text parts
 other_done base text parts silent form other =
     let (scheme, host_text, spelled, named, is) = is_named base text parts Other silent form other in
-    authority_runs base parts scheme host_text is.takes.value text (silent.cut.whole ∙ sym (written_as_cut parts))
-    silent.query silent.fragment silent.kept form spelled named is.given (other_has base parts scheme host_text is)
-    (other_starts base parts scheme host_text is.takes.value is.of_kind)
+    let (value, has) = other_has base parts scheme host_text is in
+    authority_runs base parts scheme host_text value text (silent.cut.whole ∙ sym (written_as_cut parts))
+    silent.query silent.fragment silent.kept form spelled named is.given has
+    (other_starts base parts scheme host_text value is.of_kind)
 
 -- ---- class File
 

@@ -95,8 +95,8 @@ module _ (url : Url) (text : List ℕ) (parts : Parts) (is : Silent (Some url) t
       (takes_form (Some url) text parts Authority is form) kind_in (ap (scheme_or (Some url)) none) in
       let plain : is_file url.scheme ≡ false = rw other refl in
       let kind : is_special url.scheme ≡ false = rw other refl in
-      authority_reference host_text named.takes.value form named.given
-      (other_has (Some url) parts url.scheme host_text named)
+      let (value, has) = other_has (Some url) parts url.scheme host_text named in
+      authority_reference host_text value form named.given has
       (λ k u ends.
       ends_within (Some url) (omega arith)
       (ends_again (Some url) {s₁ = RelativeState} {h₁ = empty_held} (λ p. rw (not_opaque, plain) refl)

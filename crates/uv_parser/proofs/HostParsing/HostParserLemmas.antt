@@ -13,19 +13,18 @@ use Rattle.std.proofs.lemmas.Str.Ascii.{IsAscii-from_all}
 use Rattle.std.proofs.NetLemmas.Alphabet.{IsDigitOrDot}
 use Rattle.percent_encoding.specs.Percent.{percent_decode}
 use Rattle.percent_encoding.proofs.PercentLemmas.{percent_decode-nil, percent_decode_not_percent}
-use Rattle.idna.specs.declared.deny_list.TheConstants.AsciiDenyList.{STD3, EMPTY}
+use Rattle.idna.specs.declared.deny_list.TheConstants.AsciiDenyList.{EMPTY}
 use Rattle.idna.specs.declared.options.DnsLength.TheVariants.{Ignore}
-use Rattle.idna.specs.declared.options.Hyphens.TheVariants.{Check, Allow}
-use Rattle.idna.specs.Uts46.{process_utf8, domain_to_ascii}
+use Rattle.idna.specs.declared.options.Hyphens.TheVariants.{Allow}
+use Rattle.idna.specs.Uts46.{process_utf8}
 use Rattle.idna.specs.Validity.{has_ace_prefix}
-use Rattle.idna.proofs.Uts46Lemmas.{to_ascii-invalid, domain_to_ascii-alphanumeric}
-use Rattle.idna.specs.Labels.{is_full_stop}
+use Rattle.idna.proofs.Uts46Lemmas.{to_ascii-invalid}
 use Rattle.uv_model.specs.declared.profile.Profile.{Profile}
 use Rattle.uv_model.specs.declared.profile.Profile.TheVariants.{Standard, Wide}
 use Rattle.uv_model.specs.declared.host.Host.TheVariants.{Domain, V4, Opaque}
 use Rattle.uv_model.specs.Hosts.Address.{IsIpv4}
 use Rattle.uv_model.specs.Ascii.{percent_sign, full_stop, left_bracket, right_bracket}
-use Rattle.uv_model.specs.Hosts.Domain.{is_permitted, has_permitted, is_form_code_point, has_lengths, strict_form, parser_form, IsForm, IsDomain, is_digits, ends_in_number}
+use Rattle.uv_model.specs.Hosts.Domain.{is_permitted, has_permitted, is_form_code_point, has_lengths, parser_form, IsForm, IsDomain}
 use Rattle.uv_model.specs.Encoding.{encoded}
 use Rattle.uv_parser.specs.HostParser.{is_forbidden_domain, is_faultless_host, percent_decoded, parse_domain, parse_host, DomainsAreParsed, Ipv4HostsAreParsed, Ipv6HostsAreParsed, OpaqueHostsAreParsed, EmptyHostIsParsed}
 use Rattle.uv_model.specs.Hosts.OpaqueHost.{is_forbidden_host}

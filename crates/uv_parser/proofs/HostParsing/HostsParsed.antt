@@ -1,20 +1,19 @@
 -- What the host parser makes of a valid host text: its value, and the parser machine reads the whole text.
 use Rattle.std.proofs.Common.{◌≡◌, ◌≢◌, ℕ, suc, true, false, ◌==◌, List, [], ◌∷◌, length, Option, Some, None, refl, sym, ap, ◌∙◌, ne_eqb, arith}
 use Rattle.std.specs.List.{list_all}
-use Rattle.std.proofs.lemmas.Bool.{and_parts, and_left, and_right, true≢false}
+use Rattle.std.proofs.lemmas.Bool.{and_parts, true≢false}
 use Rattle.uv_parser.proofs.Running.Unremoved.{is_unremoved}
 use Rattle.uv_model.specs.declared.profile.Profile.{Profile}
 use Rattle.uv_model.specs.declared.host.Host.{Host}
 use Rattle.uv_model.specs.declared.host.Host.TheVariants as host
 use Rattle.uv_model.specs.Ascii.{at_sign}
-use Rattle.uv_model.specs.Encoding.{encoded}
 use Rattle.uv_parser.specs.HostParser.{parse_host}
-use Rattle.uv_parser.specs.SilentTexts.{IsTakenHost, own_value}
+use Rattle.uv_parser.specs.SilentTexts.{IsTakenHost}
 use Rattle.uv_model.specs.Path.{is_without}
 use Rattle.uv_model.specs.Valid.{IsHostText, IsOpaqueHostText}
 use Rattle.uv_parser.proofs.Loops.AuthorityLoops.{is_authority_letter, letter}
 use Rattle.uv_parser.proofs.Loops.FileHosts.{file_text}
-use Rattle.uv_parser.proofs.HostParsing.HostParserLemmas.{domains_are_parsed, ipv4_hosts_are_parsed, ipv6_hosts_are_parsed, opaque_hosts_are_parsed}
+use Rattle.uv_parser.proofs.HostParsing.HostParserLemmas.{domains_are_parsed, ipv4_hosts_are_parsed, ipv6_hosts_are_parsed}
 use Rattle.uv_parser.proofs.Loops.HostTextsRead.{IsReadWhole, read_domain, read_ipv4, read_ipv6, read_opaque}
 use Rattle.uv_model.proofs.Texts.MarkLemmas.{is_without-more}
 use Rattle.uv_parser.proofs.Running.Unremoved.{is_unremoved}
@@ -67,38 +66,22 @@ host_taken profile text (host.V6 pieces) is =
 host_taken profile text (host.Opaque other) is = absurd is
 host_taken profile text host.Empty is = absurd is
 
--- What the parser makes of the host text of a URL that isn't special, where an opaque host has its text alone.
-pub record IsTakenPlain (text : List ℕ) (given : Option Host) : Type 0 where
-  pub value : Host
-  pub no_at_sign : is_without at_sign text ≡ true
-  pub parsed : parse_host false text ≡ Some value
-  pub valued : given ≡ own_value value
+-- A host text isn't empty, and none of its code points is removed.
+pub record IsKept (text : List ℕ) : Type 0 where
   pub some : (length text == 0) ≡ false
   pub above : list_all is_unremoved text ≡ true
 
--- a valid opaque-host text is taken
-pub opaque_taken : (text : List ℕ) (given : Option Host) → IsOpaqueHostText text given → IsTakenPlain text given
-opaque_taken text (Some (host.V6 pieces)) is =
-    let read = read_ipv6 text pieces is in
-    record {
-      value = host.V6 pieces;
-      no_at_sign = read_without_at text read.letters;
-      parsed = ipv6_hosts_are_parsed false text pieces is;
-      valued = refl;
-      some = has_some text _ _ is.1;
-      above = read.above;
-    }
-opaque_taken text (Some (host.Domain form)) is = absurd is
-opaque_taken text (Some (host.V4 value)) is = absurd is
-opaque_taken text (Some (host.Opaque other)) is = absurd is
-opaque_taken text (Some host.Empty) is = absurd is
-opaque_taken text None is =
-    let read = read_opaque text is in
-    record {
-      value = host.Opaque (encoded false text);
-      no_at_sign = read_without_at text read.letters;
-      parsed = opaque_hosts_are_parsed text is;
-      valued = refl;
-      some = has_some text is.first is.rest is.some;
-      above = read.above;
-    }
+-- so is a valid opaque-host string
+pub opaque_kept : (text : List ℕ) (given : Option Host) → IsOpaqueHostText text given → IsKept text
+opaque_kept text (Some (host.V6 pieces)) is = record {
+  some = has_some text _ _ is.1;
+  above = (read_ipv6 text pieces is).above;
+}
+opaque_kept text (Some (host.Domain form)) is = absurd is
+opaque_kept text (Some (host.V4 value)) is = absurd is
+opaque_kept text (Some (host.Opaque other)) is = absurd is
+opaque_kept text (Some host.Empty) is = absurd is
+opaque_kept text None is = record {
+  some = has_some text is.first is.rest is.some;
+  above = (read_opaque text is).above;
+}

@@ -1,11 +1,13 @@
 -- The parser is silent on the valid hosts of URLs of class Other alone.
-use Rattle.std.proofs.Common.{◌≡◌, ℕ, false, List, [], Option, Some, None, refl, sym, ap, subst, inl, inr}
+use Rattle.std.proofs.Common.{◌≡◌, ℕ, true, false, List, Option, Some, None, refl, sym, ap, subst, inl, inr}
 use Rattle.uv_model.specs.declared.host.Host.{Host}
 use Rattle.uv_model.specs.declared.host.Host.TheVariants.{Domain, V4, V6, Opaque, Empty}
+use Rattle.uv_model.specs.Ascii.{at_sign}
 use Rattle.uv_model.specs.Encoding.{encoded}
-use Rattle.uv_parser.specs.HostParser.{IsTakenOtherHost}
-use Rattle.uv_parser.specs.Laws.OtherHosts.{IsSilentOtherHost, IsValidOtherHost, SilentOtherHostsAreValid}
-use Rattle.uv_parser.specs.SilentTexts.{own_value}
+use Rattle.uv_model.specs.Path.{is_without}
+use Rattle.uv_parser.specs.HostParser.{IsTakenOtherHost, parse_host}
+use Rattle.uv_parser.specs.Laws.OtherHosts.{IsSilentOtherHost, SilentOtherHostsAreValid, own_value}
+use Rattle.uv_parser.specs.SilentTexts.{IsValidOtherHost}
 use Rattle.uv_model.specs.Valid.{IsOpaqueHostText}
 use Rattle.uv_parser.proofs.HostParsing.HostsParsed.{read_without_at}
 use Rattle.uv_parser.proofs.Loops.HostTextsRead.{read_ipv6, read_opaque}
@@ -49,3 +51,8 @@ valid_is_silent text None (inl is) = (
 -- the two are one
 pub silent_other_hosts_are_valid : SilentOtherHostsAreValid
 silent_other_hosts_are_valid text host = (silent_is_valid text host, valid_is_silent text host)
+
+-- what the host parser makes of a text without `@` is a valid host
+pub silent_other : (text : List ℕ) (value : Host) → is_without at_sign text ≡ true → parse_host false text ≡ Some value
+    → IsValidOtherHost text (own_value value)
+silent_other text value without parsed = silent_is_valid text (own_value value) (value, without, parsed, refl)

@@ -15,11 +15,11 @@ use Rattle.uv_model.specs.declared.scheme.Class.TheVariants.{File}
 use Rattle.uv_model.specs.Ascii.{backslash, colon, left_bracket, number_sign, question_mark, right_bracket, slash, vertical_bar}
 use Rattle.uv_model.specs.Hosts.Domain.{is_permitted, has_permitted}
 use Rattle.uv_parser.specs.HostParser.{parse_host}
-use Rattle.uv_parser.specs.Machine.{Held, Sight, end, slash_mark, query_mark, fragment_mark, another, again, FileHostState, PathStartState, file_host, file_host_at, put, with_more, with_host, emptied}
+use Rattle.uv_parser.specs.Machine.{Held, Sight, end, slash_mark, query_mark, fragment_mark, another, again, FileHostState, PathStartState, file_host_at, put, with_more, with_host, emptied}
 use Rattle.uv_model.specs.Path.{is_drive_letter, is_without}
 use Rattle.uv_model.specs.Scheme.{default_port, lowercase, scheme_class}
 use Rattle.uv_model.specs.Records.Url.{Url}
-use Rattle.uv_model.specs.Valid.{IsFileHostText}
+use Rattle.uv_model.specs.Valid.{IsFileHostText, without_localhost}
 use Rattle.uv_parser.proofs.Loops.AuthorityLoops.{IsDelimiter, is_authority_letter, letter}
 use Rattle.uv_parser.proofs.HostParsing.HostParserLemmas.{domains_are_parsed, ipv4_hosts_are_parsed, ipv6_hosts_are_parsed}
 use Rattle.uv_model.proofs.Texts.MarkLemmas.{is_without-more}
@@ -73,7 +73,7 @@ file_text (c ∷ cs) is =
 -- a host that is parsed ends at a delimiter
 pub file_host_row : (value : Host) (h : Held) (s : Sight) → IsDelimiter s → is_drive_letter h.buffer ≡ false
     → (length h.buffer == 0) ≡ false → parse_host true h.buffer ≡ Some value
-    → file_host_at h s ≡ again PathStartState (emptied (with_host (Some (file_host value)) h))
+    → file_host_at h s ≡ again PathStartState (emptied (with_host (Some (without_localhost value)) h))
 file_host_row value h end is drive some parsed = rw (drive, some, parsed) refl
 file_host_row value h slash_mark is drive some parsed = rw (drive, some, parsed) refl
 file_host_row value h query_mark is drive some parsed = rw (drive, some, parsed) refl
@@ -120,7 +120,7 @@ pub record IsFileParsed (text : List ℕ) (value : Host) : Type 0 where
   pub parsed_value : Host
   pub read : IsReadWhole text
   pub parsed : parse_host true text ≡ Some parsed_value
-  pub made : file_host parsed_value ≡ value
+  pub made : without_localhost parsed_value ≡ value
   pub drive : is_drive_letter text ≡ false
 
 -- The same of a host text of which the file host state reads each code point.
@@ -128,7 +128,7 @@ pub record IsFileRead (text : List ℕ) (value : Host) : Type 0 where
   pub parsed_value : Host
   pub letters : IsFileText text
   pub parsed : parse_host true text ≡ Some parsed_value
-  pub made : file_host parsed_value ≡ value
+  pub made : without_localhost parsed_value ≡ value
   pub drive : is_drive_letter text ≡ false
 
 -- a host with a text

@@ -8,7 +8,6 @@ use Rattle.std.proofs.lemmas.Bool.Decides.{nat_tests}
 use Rattle.std.proofs.lemmas.List.Folds.{list_all-append}
 use Rattle.uv_model.specs.Hosts.Address.{IsFourNumbers, IsIpv4, IsGroupList, IsSide, IsIpv6, IsBracketedIpv6}
 use Rattle.uv_model.specs.Ascii.{colon, full_stop, left_bracket, right_bracket}
-use Rattle.uv_model.specs.Cut.{is_within, is_within_at_end, is_port_mark}
 use Rattle.uv_model.specs.declared.profile.Profile.{Profile}
 use Rattle.uv_model.specs.declared.profile.Profile.TheVariants.{Standard, Wide}
 use Rattle.uv_model.specs.Hosts.Domain.{is_permitted, has_permitted, IsDomain}

@@ -1,17 +1,15 @@
 -- The parser machine from the end of an authority on: the path, by the class of the scheme, the query and the fragment.
 use Rattle.std.proofs.Common.{◌≡◌, ℕ, ◌+◌, true, List, [], ◌∷◌, ◌++◌, length, Option, Some, None, refl, ap, ◌∙◌, inl, inr, arith}
 use Rattle.std.specs.List.{join_with_byte}
-use Rattle.uv_model.specs.declared.profile.Profile.{Profile}
-use Rattle.uv_model.specs.declared.profile.Profile.TheVariants.{Standard, Wide}
 use Rattle.uv_model.specs.declared.scheme.Class.{Class}
 use Rattle.uv_model.specs.declared.scheme.Class.TheVariants.{Special, File, Other}
 use Rattle.uv_model.specs.Ascii.{slash}
 use Rattle.uv_model.specs.Records.Denote.{authority_path}
 use Rattle.uv_model.specs.Encoding.{encoded}
-use Rattle.uv_model.specs.Path.{MayBePathSlashed, AreSegments, IsPathAbsolute, IsPathRelative, IsPathSlashed, JoinsTo, is_single_dot, is_double_dot, walk}
+use Rattle.uv_model.specs.Path.{MayBePathSlashed, AreSegments, IsPathRelative, IsPathSlashed, JoinsTo, is_single_dot, is_double_dot, walk}
 use Rattle.uv_model.specs.Scheme.{scheme_class}
 use Rattle.uv_model.specs.Records.Url.{Url}
-use Rattle.uv_model.specs.Valid.{IsPathBehind, MayBePathBehind, MayBeUnits}
+use Rattle.uv_model.specs.Valid.{MayBeUnits}
 use Rattle.uv_parser.specs.Machine.{Held, turn, again, sight, path_start_at, PathStartState, PathState}
 use Rattle.uv_parser.proofs.Running.Steps.{Ends, ends_step, ends_again, ends_within}
 use Rattle.uv_parser.proofs.Loops.PathLoops.{walking, path_ends}

@@ -17,7 +17,7 @@ use Rattle.uv_parser.specs.Laws.RoundTrip.{DenotedUrlsAreReadBack, IsReadBack, I
 use Rattle.uv_parser.specs.Run.{Done, run, step_bound}
 use Rattle.uv_model.specs.Scheme.{scheme_class}
 use Rattle.uv_model.specs.Records.Url.{Url}
-use Rattle.uv_model.specs.Valid.{FitsAuthority, FitsForm, FitsHostText, Valid, scheme_in}
+use Rattle.uv_model.specs.Valid.{FitsAuthority, FitsForm, FitsHostText, Valid}
 use Rattle.uv_model.specs.Records.WellFormed.{IsUrlHost, IsUrlPort, WellFormed, may_be_empty, takes_port}
 use Rattle.uv_parser.proofs.Done.DecidedBases.{texts_are_decided}
 use Rattle.uv_model.proofs.Records.DenotedRecords.{denoted_records_are_well_formed}

@@ -14,7 +14,8 @@ use Rattle.uv_model.specs.Ascii.{slash, colon, at_sign}
 use Rattle.uv_model.specs.Cut.{IsHostCut}
 use Rattle.uv_model.specs.Records.Denote.{authority_host, authority_path, denote}
 use Rattle.uv_model.specs.Parts.{Parts, SchemeAuthority, written, written_behind}
-use Rattle.uv_parser.specs.SilentTexts.{Silent, Takes, own_value}
+use Rattle.uv_parser.specs.SilentTexts.{Silent, Takes}
+use Rattle.uv_parser.specs.Laws.OtherHosts.{own_value}
 use Rattle.uv_parser.specs.Laws.RoundTrip.{IsStableHost, MayBePortNumber}
 use Rattle.uv_model.specs.Scheme.{default_port, scheme_class}
 use Rattle.uv_model.specs.Records.Serialize.{serial, serial_host, serial_port, serial_segments}
@@ -22,6 +23,7 @@ use Rattle.uv_model.specs.Records.Url.{Url}
 use Rattle.uv_model.specs.Valid.{MayBePortText, port_given}
 use Rattle.uv_model.specs.Records.WellFormed.{AreUrlSegments, IsUrlFragment, IsUrlHost, IsUrlPath, IsUrlPort, IsUrlQuery, IsUrlScheme, takes_port}
 use Rattle.uv_model.proofs.Paths.PathLemmas.{IsUnits-join}
+use Rattle.uv_parser.proofs.HostParsing.OtherHosts.{silent_other}
 use Rattle.uv_parser.proofs.RoundTrip.SerializedHosts.{IsHostRead, file_taken, host_read, host_without, other_parsed, special_taken}
 use Rattle.uv_parser.proofs.RoundTrip.SerializedPaths.{IsSilentOn, denoted_query-own, lowercase-scheme, url_of}
 use Rattle.uv_parser.proofs.RoundTrip.SerializedTexts.{AreSegments-url, encoded-ascii, encoded-fragment, fragment_units, port_given-decimal, port_text-decimal, query_units, serial_segments-joined, walk-kept}
@@ -187,10 +189,9 @@ takes File scheme value port segments query fragment is stable fits =
       ];
     }
 takes Other scheme value port segments query fragment is stable fits = record {
-  value = value;
-  no_at_sign = host_without at_sign (serial_host value) refl (host_read Other value is stable);
-  parsed = other_parsed value is stable;
-  valued = refl;
+  host =
+      silent_other (serial_host value) value
+      (host_without at_sign (serial_host value) refl (host_read Other value is stable)) (other_parsed value is stable);
   alone = alone value port is fits.taken;
   port_text = fits.text;
   port = fits.given;

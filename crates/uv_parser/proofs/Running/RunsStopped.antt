@@ -2,7 +2,8 @@
 use Rattle.std.proofs.Common.{◌≡◌, ℕ, ◌+◌, ◌*◌, ◌≤◌, ◌⊎◌, List, ◌∷◌, ◌++◌, length, Option, Some, None, refl, ap, ◌∙◌, inl, inr, length-append, arith, true}
 use Rattle.uv_model.specs.Ascii.{colon}
 use Rattle.uv_parser.specs.Machine.{SchemeStartState, SchemeState, empty_held, with_more}
-use Rattle.uv_parser.specs.Run.{Stopped, run, step_bound, first_removed, first_outcome, run_from}
+use Rattle.uv_parser.specs.Run.{Stopped, run, step_bound, first_outcome, run_from}
+use Rattle.uv_parser.specs.Removed.{first_removed}
 use Rattle.uv_model.specs.Scheme.{is_scheme, lowercase}
 use Rattle.uv_model.specs.Records.Url.{Url}
 use Rattle.uv_parser.proofs.Loops.SchemeStretch.{scheme_stretch}

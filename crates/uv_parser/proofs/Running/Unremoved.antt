@@ -12,7 +12,7 @@ use Rattle.uv_model.specs.Parts.{written_behind}
 use Rattle.uv_model.specs.Scheme.{is_scheme, is_scheme_code_point}
 use Rattle.uv_model.specs.Units.{is_url_code_point, is_unit_at, is_faultless}
 use Rattle.uv_model.specs.Valid.{MayBeUnits}
-use Rattle.uv_parser.specs.Run.{is_removed, removed_behind, first_removed}
+use Rattle.uv_parser.specs.Removed.{is_removed, removed_behind, first_removed}
 use Rattle.uv_model.proofs.Texts.UnitsLemmas.{is_faultless-units}
 
 -- a code point above U+0020, which is never removed

@@ -2,23 +2,17 @@
 use Rattle.uv_model.specs.Path.{MayBePathSlashed}
 use Rattle.std.proofs.Common.{◌≡◌, ℕ, suc, ◌+◌, true, false, ◌||◌, ◌==◌, List, [], ◌∷◌, ◌++◌, length, Option, Some, None, refl, sym, ap, ◌∙◌, inl, inr, append_assoc, length-append, arith}
 use Rattle.std.specs.List.{list_all}
-use Rattle.std.specs.Char.{is_ascii_digit}
-use Rattle.uv_model.specs.Valid.{MayBePortText}
-use Rattle.uv_model.proofs.Paths.SlashedPaths.{slashed_or_none}
 use Rattle.std.proofs.lemmas.Bool.Decides.{nat_tests}
 use Rattle.uv_parser.specs.HostParser.{parse_host}
 use Rattle.std.proofs.lemmas.Bool.{true≢false, and_parts, cases_Bool}
 use Rattle.uv_model.specs.declared.host.Host.{Host}
-use Rattle.uv_model.specs.declared.host.Host.TheVariants as host
-use Rattle.uv_model.specs.declared.profile.Profile.{Profile}
-use Rattle.uv_model.specs.declared.scheme.Class.{Class}
 use Rattle.uv_model.specs.declared.scheme.Class.TheVariants.{Special, Other}
 use Rattle.uv_model.specs.declared.path.UrlPath.TheVariants.{Segments}
 use Rattle.uv_model.specs.Ascii.{slash, backslash, colon}
 use Rattle.uv_model.specs.Records.Denote.{authority_host, authority_path}
 use Rattle.uv_parser.specs.Machine.{begins, has_same_scheme, SpecialAuthorityIgnoreSlashesState, SpecialAuthoritySlashesState, SpecialRelativeOrAuthorityState, AuthorityState, PathOrAuthorityState, SchemeState, empty_held, is_special, with_more}
 use Rattle.uv_model.specs.Parts.{Parts, SchemeAuthority, written, written_behind}
-use Rattle.uv_parser.specs.Run.{first_removed}
+use Rattle.uv_parser.specs.Removed.{first_removed}
 use Rattle.uv_model.specs.Scheme.{default_port, is_scheme, lowercase, scheme_class}
 use Rattle.uv_parser.specs.Laws.Silence.{RunsSilently}
 use Rattle.uv_model.specs.Records.Url.{Url}

@@ -3,20 +3,17 @@ use Rattle.uv_model.specs.Path.{MayBePathSlashed}
 use Rattle.std.proofs.Common.{◌≡◌, ℕ, suc, ◌+◌, true, List, ◌∷◌, ◌++◌, length, codes, Option, Some, None, refl, sym, ap, ◌∙◌, append_assoc, append-nil, length-append, arith}
 use Rattle.uv_model.specs.declared.host.Host.{Host}
 use Rattle.uv_model.specs.declared.host.Host.TheVariants as host
-use Rattle.uv_model.specs.declared.scheme.Class.TheVariants.{File, Other}
-use Rattle.uv_model.specs.declared.profile.Profile.{Profile}
-use Rattle.uv_model.specs.declared.scheme.Class.{Class}
+use Rattle.uv_model.specs.declared.scheme.Class.TheVariants.{File}
 use Rattle.uv_model.specs.declared.path.UrlPath.TheVariants.{Segments}
 use Rattle.uv_model.specs.Ascii.{slash, colon}
 use Rattle.uv_model.specs.Records.Denote.{authority_path}
 use Rattle.uv_parser.specs.Machine.{Held, Sight, end, slash_mark, query_mark, fragment_mark, another, sight, again, FileHostState, FileSlashState, FileState, PathStartState, SchemeState, file_host_at, empty_held, with_host, with_more, with_scheme}
 use Rattle.uv_model.specs.Parts.{Parts, SchemeAuthority, written, written_behind}
-use Rattle.uv_parser.specs.Run.{first_removed}
+use Rattle.uv_parser.specs.Removed.{first_removed}
 use Rattle.uv_model.specs.Scheme.{is_scheme, lowercase, scheme_class}
 use Rattle.uv_parser.specs.Laws.Silence.{RunsSilently}
 use Rattle.uv_model.specs.Records.Url.{Url}
-use Rattle.uv_model.specs.Valid.{MayBeUnits, FitsAuthority, FitsForm, FitsScheme, HasAuthority, IsFileAuthority, Valid, scheme_in}
-use Rattle.uv_model.specs.Setting.{Setting, scheme_or, setting_of}
+use Rattle.uv_model.specs.Valid.{MayBeUnits}
 use Rattle.uv_parser.proofs.Loops.AuthorityEnds.{delimits}
 use Rattle.uv_parser.proofs.Loops.AuthorityLoops.{IsDelimiter}
 use Rattle.uv_parser.proofs.Loops.FileHosts.{IsFileRead, file_class, file_host_law, file_host_row, file_scheme}

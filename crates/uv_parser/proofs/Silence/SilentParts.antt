@@ -7,16 +7,17 @@ use Rattle.uv_model.specs.declared.scheme.Class.{Class}
 use Rattle.uv_model.specs.declared.scheme.Class.TheVariants.{Special, File, Other}
 use Rattle.uv_model.specs.Cut.{Cut, class_in, texts_of}
 use Rattle.uv_parser.specs.HostParser.{parse_host}
-use Rattle.uv_parser.specs.Machine.{file_host}
-use Rattle.uv_parser.specs.SilentTexts.{IsTakenFileHost, Takes, TakesForm, TakesHostText, own_value}
+use Rattle.uv_parser.specs.SilentTexts.{IsTakenFileHost, IsValidOtherHost, Takes, TakesForm, TakesHostText}
+use Rattle.uv_parser.specs.Laws.OtherHosts.{own_value}
 use Rattle.uv_model.specs.Parts.{Form, SchemeAuthority, SchemePath, SchemeOpaque, Authority, PathAbsolute, PathRelative, NoPath, Parts, has_scheme}
 use Rattle.uv_model.specs.Path.{MayBePathSlashed, starts_with_slash}
 use Rattle.uv_parser.specs.Laws.ValidTexts.{SilentPartsAreUnique}
 use Rattle.uv_model.specs.Scheme.{default_port}
 use Rattle.uv_model.specs.Records.Url.{Url}
-use Rattle.uv_model.specs.Valid.{FitsScheme, HasNoAuthority, port_given, scheme_in}
+use Rattle.uv_model.specs.Valid.{FitsScheme, HasNoAuthority, port_given, scheme_in, without_localhost}
 use Rattle.uv_model.proofs.Cuts.CutLemmas.{cut_is_computed}
 use Rattle.uv_parser.proofs.HostParsing.HostsParsed.{parsed_not_empty}
+use Rattle.uv_parser.proofs.HostParsing.OtherHosts.{silent_other_hosts_are_valid}
 use Rattle.uv_model.proofs.Cuts.UniqueParts.{absolute_segments, alone_form, authority_form, form_of, joined_segments, no_port, relative_form, relative_segments, same_parts, segments_behind, segments_of}
 
 -- ---- the host
@@ -27,7 +28,7 @@ HasTakenHost kind None host = host ≡ None
 HasTakenHost Special (Some text) host = (value : Host) × (parse_host true text ≡ Some value) × (host ≡ Some value)
 HasTakenHost File (Some text) host =
     ((value : Host) × IsTakenFileHost text value × (host ≡ Some value)) ⊎ ((text ≡ []) × (host ≡ Some Empty))
-HasTakenHost Other (Some text) host = (value : Host) × (parse_host false text ≡ Some value) × (host ≡ own_value value)
+HasTakenHost Other (Some text) host = IsValidOtherHost text host
 
 -- the host parser makes one host of a text
 same_host : (parsed : Option Host) (a b : Host) → parsed ≡ Some a → parsed ≡ Some b → a ≡ b
@@ -44,14 +45,16 @@ one_taken_host Special (Some text) host other (a, is, e) (b, is', e') =
     e ∙ (ap Some (same_host (parse_host true text) a b is is') ∙ sym e')
 one_taken_host File (Some text) host other (inl (a, is, e)) (inl (b, is', e')) =
     let same = same_host (parse_host true text) is.host is'.host is.parsed is'.parsed in
-    e ∙ (ap Some (is.valued ∙ (ap file_host same ∙ sym is'.valued)) ∙ sym e')
+    e ∙ (ap Some (is.valued ∙ (ap without_localhost same ∙ sym is'.valued)) ∙ sym e')
 one_taken_host File (Some text) host other (inl (a, is, e)) (inr (nothing, e')) =
     absurd (parsed_not_empty text is.host is.parsed nothing)
 one_taken_host File (Some text) host other (inr (nothing, e)) (inl (b, is', e')) =
     absurd (parsed_not_empty text is'.host is'.parsed nothing)
 one_taken_host File (Some text) host other (inr (nothing, e)) (inr (nothing', e')) = e ∙ sym e'
-one_taken_host Other (Some text) host other (a, is, e) (b, is', e') =
-    e ∙ (ap own_value (same_host (parse_host false text) a b is is') ∙ sym e')
+one_taken_host Other (Some text) host other is is' =
+    let (a, without, parsed, e) = (silent_other_hosts_are_valid text host).1 is in
+    let (b, without', parsed', e') = (silent_other_hosts_are_valid text other).1 is' in
+    e ∙ (ap own_value (same_host (parse_host false text) a b parsed parsed') ∙ sym e')
 
 -- ---- what the texts of a silent text denote
 
@@ -82,7 +85,7 @@ taken_by_class File scheme host_text parts is path = record {
   segments = slashed_segments parts.segments parts.path_text path;
 }
 taken_by_class Other scheme host_text parts is path = record {
-  host = (is.value, is.parsed, is.valued);
+  host = is.host;
   port = is.port;
   segments = slashed_segments parts.segments parts.path_text path;
 }

@@ -10,7 +10,8 @@ use Rattle.uv_model.specs.Records.Denote.{denote, denoted_host, denoted_path, de
 use Rattle.uv_model.specs.Encoding.{encoded}
 use Rattle.uv_parser.specs.Machine.{Held, is_special, SchemeStartState, SchemeState, with_more, empty_held}
 use Rattle.uv_model.specs.Parts.{Form, Parts, SchemeAuthority, SchemePath, SchemeOpaque, Authority, PathAbsolute, PathRelative, NoPath, has_scheme, written}
-use Rattle.uv_parser.specs.Run.{Done, first_removed, run, step_bound}
+use Rattle.uv_parser.specs.Run.{Done, run, step_bound}
+use Rattle.uv_parser.specs.Removed.{first_removed}
 use Rattle.uv_model.specs.Scheme.{is_scheme, lowercase, scheme_class}
 use Rattle.uv_parser.specs.Laws.Silence.{RunsSilently}
 use Rattle.uv_model.specs.Records.Url.{Url}

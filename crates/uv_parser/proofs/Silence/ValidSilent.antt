@@ -4,7 +4,6 @@ use Rattle.std.specs.List.{list_all}
 use Rattle.std.specs.Char.{is_ascii_digit}
 use Rattle.std.proofs.lemmas.Bool.{true≢false, and_parts, and_from}
 use Rattle.std.proofs.lemmas.Bool.Decides.{nat_tests}
-use Rattle.uv_model.specs.declared.host.Host.TheVariants as host
 use Rattle.uv_model.specs.declared.profile.Profile.{Profile}
 use Rattle.uv_model.specs.declared.scheme.Class.{Class}
 use Rattle.uv_model.specs.declared.scheme.Class.TheVariants.{Special, File, Other}
@@ -13,17 +12,21 @@ use Rattle.uv_model.specs.Cut.{class_in}
 use Rattle.uv_parser.specs.SilentTexts.{Takes, TakesForm, TakesHostText}
 use Rattle.uv_model.specs.Parts.{Form, SchemeAuthority, SchemePath, SchemeOpaque, Authority, PathAbsolute, PathRelative, NoPath, Parts, has_scheme, written, written_scheme, written_authority}
 use Rattle.uv_model.specs.Path.{IsPathAbsolute, IsPathRelative, MayBePathSlashed}
+<<<<<<< HEAD
 use Rattle.uv_parser.specs.Run.{first_removed}
 use Rattle.uv_parser.specs.Laws.Silence.{RunsSilently}
+=======
+use Rattle.uv_parser.specs.Removed.{first_removed}
+use Rattle.uv_parser.specs.Laws.Silence.{FileTextsRunSilently, OpaqueTextsRunSilently, OtherTextsRunSilently, RunsSilently, SpecialTextsRunSilently}
+>>>>>>> parser2
 use Rattle.uv_parser.specs.Laws.ValidTexts.{ValidTextsAreSilent, ValidTextsRunSilently}
 use Rattle.uv_model.specs.Setting.{scheme_or, setting_of}
 use Rattle.uv_model.specs.Records.Url.{Url}
-use Rattle.uv_model.specs.Valid.{FitsAuthority, FitsForm, FitsHostText, FitsScheme, HasNoAuthority, MayBePortText, Valid, scheme_in}
+use Rattle.uv_model.specs.Valid.{FitsAuthority, FitsForm, FitsHostText, FitsScheme, HasNoAuthority, MayBePortText, Valid}
 use Rattle.uv_parser.proofs.Done.DecidedBases.{texts_are_decided}
 use Rattle.uv_parser.proofs.Done.DecidedTexts.{scheme_done}
 use Rattle.uv_parser.proofs.Loops.FileHosts.{file_parsed, file_text}
-use Rattle.uv_parser.proofs.HostParsing.HostParserLemmas.{empty_host_is_parsed}
-use Rattle.uv_parser.proofs.HostParsing.HostsParsed.{host_taken, opaque_taken}
+use Rattle.uv_parser.proofs.HostParsing.HostsParsed.{host_taken, opaque_kept}
 use Rattle.uv_model.proofs.Paths.JoinedSegments.{faultless_joined, faultless_path}
 use Rattle.uv_model.proofs.Paths.SlashedPaths.{slashed_behind, slashed_or_none}
 use Rattle.uv_parser.proofs.Loops.SchemeStretch.{scheme_there}
@@ -87,27 +90,21 @@ taken_by_class File profile base scheme host_text parts (no_text, none, inr (emp
   path = inr (slashed_behind profile parts.segments parts.path_text path);
 }
 taken_by_class Other profile base scheme host_text parts (inl (is, port_text), port, path) =
-    let taken = opaque_taken host_text parts.host is in
+    let read = opaque_kept host_text parts.host is in
     record {
       takes = record {
-        value = taken.value;
-        no_at_sign = taken.no_at_sign;
-        parsed = taken.parsed;
-        valued = taken.valued;
-        alone = λ empty. absurd (true≢false (sym (ap (λ t. length t == 0) empty) ∙ taken.some));
+        host = inl is;
+        alone = λ empty. absurd (true≢false (sym (ap (λ t. length t == 0) empty) ∙ read.some));
         port_text = port_text;
         port = port;
       };
-      above = taken.above;
+      above = read.above;
       port_text = port_text;
       path = slashed_or_none profile parts.segments parts.path_text path;
     }
 taken_by_class Other profile base scheme host_text parts (inr (empty, valued, no_text), port, path) = record {
   takes = record {
-    value = host.Empty;
-    no_at_sign = rw empty refl;
-    parsed = rw empty empty_host_is_parsed;
-    valued = valued;
+    host = inr (empty, valued);
     alone = λ same. no_text;
     port_text = rw no_text tt;
     port = port;

@@ -1,7 +1,7 @@
 -- How many steps a run of the URL parser takes (URL Standard, section 4.4), on valid texts and on all others: twice as
 -- many as the text has code points and five more at most, and on some text exactly so many.
 use Rattle.std.specs.Prelude.{◌≡◌, ℕ, ◌+◌, ◌*◌, ◌≤◌, List, length, Option, Some}
-use Rattle.uv_parser.specs.SilentTexts.{IsDecidedWithin}
+use Rattle.uv_parser.specs.Laws.DecidedTexts.{IsDecidedWithin}
 use Rattle.uv_parser.specs.Rows.References.{root_base}
 use Rattle.uv_parser.specs.Run.{Outcome, Done, Stopped, Going, run}
 use Rattle.uv_model.specs.declared.profile.Profile.TheVariants.{Wide}
