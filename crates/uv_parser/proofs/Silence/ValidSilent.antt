@@ -12,13 +12,8 @@ use Rattle.uv_model.specs.Cut.{class_in}
 use Rattle.uv_parser.specs.SilentTexts.{Takes, TakesForm, TakesHostText}
 use Rattle.uv_model.specs.Parts.{Form, SchemeAuthority, SchemePath, SchemeOpaque, Authority, PathAbsolute, PathRelative, NoPath, Parts, has_scheme, written, written_scheme, written_authority}
 use Rattle.uv_model.specs.Path.{IsPathAbsolute, IsPathRelative, MayBePathSlashed}
-<<<<<<< HEAD
-use Rattle.uv_parser.specs.Run.{first_removed}
-use Rattle.uv_parser.specs.Laws.Silence.{RunsSilently}
-=======
 use Rattle.uv_parser.specs.Removed.{first_removed}
-use Rattle.uv_parser.specs.Laws.Silence.{FileTextsRunSilently, OpaqueTextsRunSilently, OtherTextsRunSilently, RunsSilently, SpecialTextsRunSilently}
->>>>>>> parser2
+use Rattle.uv_parser.specs.Laws.Silence.{RunsSilently}
 use Rattle.uv_parser.specs.Laws.ValidTexts.{ValidTextsAreSilent, ValidTextsRunSilently}
 use Rattle.uv_model.specs.Setting.{scheme_or, setting_of}
 use Rattle.uv_model.specs.Records.Url.{Url}
