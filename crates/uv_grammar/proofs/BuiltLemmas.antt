@@ -3,12 +3,14 @@ use Rattle.std.proofs.Common.{◌≡◌, ◌≢◌, ℕ, List, [], ◌∷◌, �
 use Rattle.std.specs.Prelude.{◌⊎◌, ◌+◌, IsSome, is_some}
 use Rattle.std.proofs.lemmas.Bool.{cases_Bool, false≢true}
 use Rattle.uv_model.specs.declared.host.Host.{Host}
+use Rattle.uv_model.specs.declared.profile.Profile.{Profile}
+use Rattle.uv_model.specs.declared.profile.Profile.TheVariants.{Standard, Wide}
 use Rattle.uv_model.specs.declared.rule.Rule.{Rule}
 use Rattle.uv_model.specs.declared.rule.Rule.TheVariants.{NoScheme, OpaqueBase, TwoSlashes, FirstSegmentEmpty, DriveAfterHost}
 use Rattle.uv_model.specs.declared.scheme.Class.{Class}
 use Rattle.uv_model.specs.declared.scheme.Class.TheVariants.{Special, File, Other}
 use Rattle.uv_model.specs.Ascii.{number_sign, question_mark}
-use Rattle.uv_model.specs.Complaints.Complaint.{HasHost, MayBeUnitComplaint, IsStarted, starts_with_number_sign}
+use Rattle.uv_model.specs.Complaints.Complaint.{HasEmptyFirst, HasHost, MayBeUnitComplaint, IsStarted, starts_with_number_sign}
 use Rattle.uv_model.specs.Cut.{Cut, IsCut, IsHostCut, IsSchemeCut, class_in, path_place, query_place, fragment_place, starts_with_two_slashes, written_front, written_middle, written_start}
 use Rattle.uv_model.specs.Parts.{Form, NoPath, Parts, PathAbsolute, PathRelative, SchemeOpaque, SchemePath, has_scheme, written_authority, written_behind, written_scheme}
 use Rattle.uv_model.specs.Path.{IsPathAbsolute, IsPathRelative, is_without, starts_with_drive, starts_with_slash}
@@ -16,7 +18,8 @@ use Rattle.uv_model.specs.Complaints.Refusal.{IsLeast}
 use Rattle.uv_model.specs.Scheme.{scheme_class}
 use Rattle.uv_model.specs.Units.{IsUnits}
 use Rattle.uv_model.specs.Records.Url.{Url, is_opaque}
-use Rattle.uv_model.specs.Valid.{FitsAuthority, FitsBase, FitsDrive, FitsForm, HasAuthority, HasNoAuthority, IsOpaqueHostText, IsOpaquePath, FitsScheme, MayBePathAbsolute, MayBePortText, MayBeUnits, Valid, port_given, scheme_in, scheme_or, starts_with_scheme}
+use Rattle.uv_model.specs.Setting.{Setting, setting_of}
+use Rattle.uv_model.specs.Valid.{FitsAuthority, FitsBase, FitsDrive, FitsForm, HasAuthority, HasNoAuthority, IsOpaqueHostText, IsOpaquePath, FitsScheme, IsPathBehind, MayBePathBehind, MayBePortText, MayBeUnits, Valid, port_given, starts_with_scheme}
 use Rattle.uv_model.proofs.Complaints.ComplaintLemmas.{cut_with}
 use Rattle.uv_model.proofs.Texts.MarkLemmas.{is_without-cons, is_without-parts}
 use Rattle.uv_model.proofs.Complaints.UnitComplaintLemmas.{units_uncomplained}
@@ -25,14 +28,14 @@ use Rattle.uv_grammar.specs.Built.{built, form_of, form_with, pieces, segments_i
 use Rattle.uv_grammar.specs.HostValues.{FitsHost}
 use Rattle.uv_grammar.specs.PartComplaints.{BehindAuthority}
 use Rattle.uv_grammar.specs.PartValues.{FitsHostPart, FitsPortPart}
-use Rattle.uv_grammar.proofs.SegmentLemmas.{path_absolute, path_relative, relative_path}
+use Rattle.uv_grammar.proofs.SegmentLemmas.{path_absolute, path_relative, path_slashed, relative_path}
 
 -- ---- what the absence of complaints says
 
 -- the path's start, the path, the query and the fragment have no complaint
-record IsQuiet (base : Option Url) (cut : Cut) : Type 0 where
-  one_slash : starts_with_two_slashes cut.path_text ≡ false
-  drive : class_in base cut.scheme ≡ File → HasHost base cut.scheme cut.host_text
+record IsQuiet (setting : Setting) (cut : Cut) : Type 0 where
+  first : HasEmptyFirst setting.profile cut.path_text → ⊥
+  drive : setting.class ≡ File → HasHost setting.base cut.scheme cut.host_text
       → starts_with_drive cut.path_text ≡ false
   path : IsUnits cut.path_text
   query : MayBeUnits cut.query
@@ -46,14 +49,11 @@ no_complaint_units start (Some text) none =
     (λ place rule h. none (start + place) rule (record { inner = place; moved = refl; holds = h }))
 
 -- from no complaint to what it says
-quiet : (base : Option Url) (cut : Cut) → IsLeast (BehindAuthority base cut) None → IsQuiet base cut
-quiet base cut none = record {
-  one_slash = elim (cases_Bool (starts_with_two_slashes cut.path_text)) [
-    | inl two ↦
-        absurd (none (path_place cut + 1) FirstSegmentEmpty
-        (inl (record { inner = 1; moved = refl; holds = (two, refl) })))
-    | inr other ↦ other
-  ];
+quiet : (setting : Setting) (cut : Cut) → IsLeast (BehindAuthority setting cut) None → IsQuiet setting cut
+quiet setting cut none = record {
+  first = λ empty.
+      none (path_place cut + 1) FirstSegmentEmpty
+      (inl (record { inner = 1; moved = refl; holds = (empty, refl) }));
   drive = λ file host. elim (cases_Bool (starts_with_drive cut.path_text)) [
     | inl drive ↦
         absurd (none (path_place cut + 0) DriveAfterHost
@@ -76,31 +76,41 @@ path_without base text cut is =
 
 -- ---- paths
 
--- behind an authority the path is empty or absolute
-path_behind : (path : List ℕ) → (path ≢ [] → starts_with_slash path ≡ true) → starts_with_two_slashes path ≡ false
-    → IsUnits path
-    → is_without question_mark path ≡ true → MayBePathAbsolute (segments_of path) path
-path_behind [] start one units none = inl (refl, refl)
-path_behind (c ∷ rest) start one units none = inr (path_absolute (c ∷ rest) units none (start (λ e. cc)) one)
+-- a path that begins with one `/`, where the profile forbids another
+path_of : (profile : Profile) (path : List ℕ) → starts_with_slash path ≡ true
+    → (HasEmptyFirst profile path → ⊥) → IsUnits path → is_without question_mark path ≡ true
+    → IsPathBehind profile (segments_of path) path
+path_of Wide path start first units none = path_slashed path units none start
+path_of Standard path start first units none = elim (cases_Bool (starts_with_two_slashes path)) [
+  | inl two ↦ absurd (first two)
+  | inr one ↦ path_absolute path units none start one
+]
+
+-- behind an authority the path is empty or such a path
+path_behind : (profile : Profile) (path : List ℕ) → (path ≢ [] → starts_with_slash path ≡ true)
+    → (HasEmptyFirst profile path → ⊥) → IsUnits path → is_without question_mark path ≡ true
+    → MayBePathBehind profile (segments_of path) path
+path_behind profile [] start first units none = inl (refl, refl)
+path_behind profile (c ∷ rest) start first units none =
+    inr (path_of profile (c ∷ rest) (start (λ e. cc)) first units none)
 
 -- a path that begins with `/` isn't empty
-absolute_path : (segments : List (List ℕ)) (path : List ℕ) → MayBePathAbsolute segments path
-    → starts_with_slash path ≡ true
-    → IsPathAbsolute segments path
-absolute_path segments path (inl (empty, none)) start = absurd (false≢true (rw empty at start))
-absolute_path segments path (inr is) start = is
+slashed_path : (profile : Profile) (segments : List (List ℕ)) (path : List ℕ) → MayBePathBehind profile segments path
+    → starts_with_slash path ≡ true → IsPathBehind profile segments path
+slashed_path profile segments path (inl (empty, none)) start = absurd (false≢true (rw empty at start))
+slashed_path profile segments path (inr is) start = is
 
 -- ---- authorities
 
 -- a valid authority of the class
-authority_fits : (kind : Class) (scheme host_text : List ℕ) (parts : Parts) (host : Option Host) → parts.host ≡ host
-    → FitsHost kind host_text parts.port_text parts.path_text host → IsHostCut kind host_text parts.port_text
-    → MayBePortText parts.port_text → parts.port ≡ port_given scheme parts.port_text
-    → MayBePathAbsolute parts.segments parts.path_text
+authority_fits : (kind : Class) (setting : Setting) (host_text : List ℕ) (parts : Parts) (host : Option Host) → parts.host ≡ host
+    → FitsHost setting.profile kind host_text parts.port_text parts.path_text host → IsHostCut kind host_text parts.port_text
+    → MayBePortText parts.port_text → parts.port ≡ port_given setting.default_port parts.port_text
+    → MayBePathBehind setting.profile parts.segments parts.path_text
     → (kind ≡ File → host_text ≢ [] → starts_with_drive parts.path_text ≡ false)
-    → FitsAuthority kind scheme host_text parts
-authority_fits Special scheme host_text parts None same (inl (some, fits)) cut port_text port path drive = absurd fits
-authority_fits Special scheme host_text parts (Some value) same (inl (some, fits)) cut port_text port path drive =
+    → FitsAuthority kind setting host_text parts
+authority_fits Special setting host_text parts None same (inl (some, fits)) cut port_text port path drive = absurd fits
+authority_fits Special setting host_text parts (Some value) same (inl (some, fits)) cut port_text port path drive =
     record {
       value = value;
       host = fits;
@@ -109,55 +119,55 @@ authority_fits Special scheme host_text parts (Some value) same (inl (some, fits
       port = port;
       path = path;
     }
-authority_fits Special scheme host_text parts host same (inr (empty, is, may)) cut port_text port path drive =
+authority_fits Special setting host_text parts host same (inr (empty, is, may)) cut port_text port path drive =
     absurd may
-authority_fits File scheme host_text parts None same (inl (some, fits)) cut port_text port path drive = absurd fits
-authority_fits File scheme host_text parts (Some value) same (inl (some, fits)) cut port_text port path drive =
-    (cut, port ∙ ap (port_given scheme) cut, inl (value, fits, same, path, drive refl some))
-authority_fits File scheme host_text parts host same (inr (empty, is, may)) cut port_text port path drive = (
+authority_fits File setting host_text parts None same (inl (some, fits)) cut port_text port path drive = absurd fits
+authority_fits File setting host_text parts (Some value) same (inl (some, fits)) cut port_text port path drive =
+    (cut, port ∙ ap (port_given setting.default_port) cut, inl (value, fits, same, path, drive refl some))
+authority_fits File setting host_text parts host same (inr (empty, is, may)) cut port_text port path drive = (
   cut,
-  port ∙ ap (port_given scheme) cut,
-  inr (empty, same ∙ is, absolute_path parts.segments parts.path_text path may),
+  port ∙ ap (port_given setting.default_port) cut,
+  inr (empty, same ∙ is, slashed_path setting.profile parts.segments parts.path_text path may),
 )
-authority_fits Other scheme host_text parts host same (inl (some, fits)) cut port_text port path drive =
+authority_fits Other setting host_text parts host same (inl (some, fits)) cut port_text port path drive =
     (inl (subst (λ (h : Option Host). IsOpaqueHostText host_text h) (sym same) fits, port_text), port, path)
-authority_fits Other scheme host_text parts host same (inr (empty, is, may)) cut port_text port path drive =
+authority_fits Other setting host_text parts host same (inr (empty, is, may)) cut port_text port path drive =
     (inr (empty, same ∙ is, may), port, path)
 
 -- a valid port behind a host, or none
-record IsPort (scheme : List ℕ) (port_text : Option (List ℕ)) (port : Option ℕ) : Type 0 where
+record IsPort (default : Option ℕ) (port_text : Option (List ℕ)) (port : Option ℕ) : Type 0 where
   may : MayBePortText port_text
-  given : port ≡ port_given scheme port_text
+  given : port ≡ port_given default port_text
 
-port_facts : (base : Option Url) (scheme : Option (List ℕ)) (host_text : List ℕ) (port_text : Option (List ℕ))
+port_facts : (setting : Setting) (scheme : Option (List ℕ)) (host_text : List ℕ) (port_text : Option (List ℕ))
     (path : List ℕ)
     (query fragment : Option (List ℕ)) (port : Option ℕ)
-    → FitsPortPart base (cut_with scheme (Some host_text) port_text path query fragment) port
-    → IsPort (scheme_or base scheme) port_text port
-port_facts base scheme host_text None path query fragment port fits = record { may = tt; given = fits }
-port_facts base scheme host_text (Some port_text) path query fragment port fits =
+    → FitsPortPart setting (cut_with scheme (Some host_text) port_text path query fragment) port
+    → IsPort setting.default_port port_text port
+port_facts setting scheme host_text None path query fragment port fits = record { may = tt; given = fits }
+port_facts setting scheme host_text (Some port_text) path query fragment port fits =
     record { may = fits.0; given = fits.1 }
 
 -- an authority fits the form of the text
-has_authority : (base : Option Url) (text : List ℕ) (scheme : Option (List ℕ)) (host_text : List ℕ)
+has_authority : (profile : Profile) (base : Option Url) (text : List ℕ) (scheme : Option (List ℕ)) (host_text : List ℕ)
     (port_text : Option (List ℕ))
     (path : List ℕ) (query fragment : Option (List ℕ)) (host : Option Host) (port : Option ℕ)
     → IsCut base text (cut_with scheme (Some host_text) port_text path query fragment)
-    → FitsHostPart base (cut_with scheme (Some host_text) port_text path query fragment) host
-    → FitsPortPart base (cut_with scheme (Some host_text) port_text path query fragment) port
-    → IsQuiet base (cut_with scheme (Some host_text) port_text path query fragment)
+    → FitsHostPart (setting_of profile base scheme) (cut_with scheme (Some host_text) port_text path query fragment) host
+    → FitsPortPart (setting_of profile base scheme) (cut_with scheme (Some host_text) port_text path query fragment) port
+    → IsQuiet (setting_of profile base scheme) (cut_with scheme (Some host_text) port_text path query fragment)
     → is_without question_mark path ≡ true
     → (built (cut_with scheme (Some host_text) port_text path query fragment) host port).segments ≡ segments_of path
-    → HasAuthority base (built (cut_with scheme (Some host_text) port_text path query fragment) host port)
-has_authority base text scheme host_text port_text path query fragment host port is fits_host fits_port q none
+    → HasAuthority (setting_of profile base scheme) (built (cut_with scheme (Some host_text) port_text path query fragment) host port)
+has_authority profile base text scheme host_text port_text path query fragment host port is fits_host fits_port q none
     segments =
-    let p = port_facts base scheme host_text port_text path query fragment port fits_port in
-    authority_fits (class_in base scheme) (scheme_or base scheme) host_text
+    let p = port_facts (setting_of profile base scheme) scheme host_text port_text path query fragment port fits_port in
+    authority_fits (class_in base scheme) (setting_of profile base scheme) host_text
     (built (cut_with scheme
     (Some host_text) port_text path query fragment) host port) host refl fits_host is.authority.2
     p.may p.given
-    (subst (λ (s : List (List ℕ)). MayBePathAbsolute s path) (sym segments)
-    (path_behind path is.authority.1 q.one_slash q.path none))
+    (subst (λ (s : List (List ℕ)). MayBePathBehind profile s path) (sym segments)
+    (path_behind profile path is.authority.1 q.first q.path none))
     (λ file some. q.drive file some)
 
 -- ---- texts without an authority
@@ -177,10 +187,10 @@ class_cases Special = inr (λ same. cc)
 class_cases File = inr (λ same. cc)
 
 -- a scheme without an authority is of class Other
-other_scheme : (base : Option Url) (text scheme : List ℕ) (port_text : Option (List ℕ)) (path : List ℕ)
-    (query fragment : Option (List ℕ)) → IsStarted base text (cut_with (Some scheme) None port_text path query fragment)
+other_scheme : (profile : Profile) (base : Option Url) (text scheme : List ℕ) (port_text : Option (List ℕ)) (path : List ℕ)
+    (query fragment : Option (List ℕ)) → IsStarted (setting_of profile base (Some scheme)) text (cut_with (Some scheme) None port_text path query fragment)
     → scheme_class scheme ≡ Other
-other_scheme base text scheme port_text path query fragment started = elim (class_cases (scheme_class scheme)) [
+other_scheme profile base text scheme port_text path query fragment started = elim (class_cases (scheme_class scheme)) [
   | inl other ↦ other
   | inr kind ↦ absurd (started _ TwoSlashes ((refl, kind, refl), refl))
 ]
@@ -193,24 +203,24 @@ fits_drive (Some url) path drive = drive
 
 -- ---- forms that a test of the path decides
 
-absolute_form : (base : Option Url) (parts : Parts) → parts.form ≡ PathAbsolute → HasNoAuthority parts
-    → IsPathAbsolute parts.segments parts.path_text → FitsDrive base parts.path_text → FitsForm base parts.form parts
-absolute_form base parts form a b d = subst (λ (f : Form). FitsForm base f parts) (sym form) (a, b, d)
+absolute_form : (setting : Setting) (parts : Parts) → parts.form ≡ PathAbsolute → HasNoAuthority parts
+    → IsPathAbsolute parts.segments parts.path_text → FitsDrive setting.base parts.path_text → FitsForm setting parts.form parts
+absolute_form setting parts form a b d = subst (λ (f : Form). FitsForm setting f parts) (sym form) (a, b, d)
 
-relative_form : (base : Option Url) (parts : Parts) → parts.form ≡ PathRelative → HasNoAuthority parts
+relative_form : (setting : Setting) (parts : Parts) → parts.form ≡ PathRelative → HasNoAuthority parts
     → IsPathRelative parts.segments parts.path_text → parts.path_text ≢ [] → starts_with_scheme parts.path_text ≡ false
-    → FitsForm base parts.form parts
-relative_form base parts form a b d e = subst (λ (f : Form). FitsForm base f parts) (sym form) (a, b, d, e)
+    → FitsForm setting parts.form parts
+relative_form setting parts form a b d e = subst (λ (f : Form). FitsForm setting f parts) (sym form) (a, b, d, e)
 
-path_form : (base : Option Url) (parts : Parts) → parts.form ≡ SchemePath → HasNoAuthority parts
-    → scheme_class (scheme_in base parts) ≡ Other → IsPathAbsolute parts.segments parts.path_text
-    → FitsForm base parts.form parts
-path_form base parts form a b d = subst (λ (f : Form). FitsForm base f parts) (sym form) (a, b, d)
+path_form : (setting : Setting) (parts : Parts) → parts.form ≡ SchemePath → HasNoAuthority parts
+    → setting.class ≡ Other → IsPathAbsolute parts.segments parts.path_text
+    → FitsForm setting parts.form parts
+path_form setting parts form a b d = subst (λ (f : Form). FitsForm setting f parts) (sym form) (a, b, d)
 
-opaque_form : (base : Option Url) (parts : Parts) → parts.form ≡ SchemeOpaque → HasNoAuthority parts
-    → scheme_class (scheme_in base parts) ≡ Other → IsOpaquePath parts.path_text → parts.segments ≡ []
-    → FitsForm base parts.form parts
-opaque_form base parts form a b d e = subst (λ (f : Form). FitsForm base f parts) (sym form) (a, b, d, e)
+opaque_form : (setting : Setting) (parts : Parts) → parts.form ≡ SchemeOpaque → HasNoAuthority parts
+    → setting.class ≡ Other → IsOpaquePath parts.path_text → parts.segments ≡ []
+    → FitsForm setting parts.form parts
+opaque_form setting parts form a b d e = subst (λ (f : Form). FitsForm setting f parts) (sym form) (a, b, d, e)
 
 -- the segments of a known form
 known_segments : (form other : Form) (path : List ℕ) (P : List (List ℕ) → Type 0) → form ≡ other
@@ -221,78 +231,78 @@ known_segments form other path P same holds = subst (λ (f : Form). P (segments_
 -- ---- the parts of the theorem
 
 -- what is known of a cut whose parts are built
-record IsSound (base : Option Url) (text : List ℕ) (cut : Cut) (host : Option Host) (port : Option ℕ) : Type 0 where
+record IsSound (profile : Profile) (base : Option Url) (text : List ℕ) (cut : Cut) (host : Option Host) (port : Option ℕ) : Type 0 where
   is : IsCut base text cut
-  started : IsStarted base text cut
-  fits_host : FitsHostPart base cut host
-  fits_port : FitsPortPart base cut port
-  quiet : IsQuiet base cut
+  started : IsStarted (setting_of profile base cut.scheme) text cut
+  fits_host : FitsHostPart (setting_of profile base cut.scheme) cut host
+  fits_port : FitsPortPart (setting_of profile base cut.scheme) cut port
+  quiet : IsQuiet (setting_of profile base cut.scheme) cut
   none : is_without question_mark cut.path_text ≡ true
 
 -- a scheme and a path
-scheme_path_fits : (base : Option Url) (text scheme : List ℕ) (port_text : Option (List ℕ)) (path : List ℕ)
+scheme_path_fits : (profile : Profile) (base : Option Url) (text scheme : List ℕ) (port_text : Option (List ℕ)) (path : List ℕ)
     (query fragment : Option (List ℕ)) (host : Option Host) (port : Option ℕ)
-    → IsSound base text (cut_with (Some scheme) None port_text path query fragment) host port
-    → FitsForm base (form_with true false path)
+    → IsSound profile base text (cut_with (Some scheme) None port_text path query fragment) host port
+    → FitsForm (setting_of profile base (Some scheme)) (form_with true false path)
     (built (cut_with (Some scheme) None port_text path query fragment) host port)
-scheme_path_fits base text scheme port_text path query fragment host port s =
+scheme_path_fits profile base text scheme port_text path query fragment host port s =
     let a = no_authority base text (Some scheme) port_text path query fragment host port s.is s.fits_host s.fits_port in
-    let other = other_scheme base text scheme port_text path query fragment s.started in
+    let other = other_scheme profile base text scheme port_text path query fragment s.started in
     elim (cases_Bool (starts_with_slash path)) [
       | inl start ↦
           let form : form_with true false path ≡ SchemePath = rw start refl in
-          path_form base _ form a other
+          path_form (setting_of profile base (Some scheme)) _ form a other
           (known_segments (form_with true false path) SchemePath path (λ l. IsPathAbsolute l path) form
-          (path_absolute path s.quiet.path s.none start s.quiet.one_slash))
+          (path_absolute path s.quiet.path s.none start s.is.authority.1))
       | inr start ↦
           let form : form_with true false path ≡ SchemeOpaque = rw start refl in
-          opaque_form base _ form a other (pieces path, path_relative path s.quiet.path s.none start)
+          opaque_form (setting_of profile base (Some scheme)) _ form a other (pieces path, path_relative path s.quiet.path s.none start)
           (ap (λ f. segments_in f path) form)
     ]
 
 -- a path alone
-reference_fits : (base : Option Url) (text : List ℕ) (port_text : Option (List ℕ)) (c : ℕ) (rest : List ℕ)
+reference_fits : (profile : Profile) (base : Option Url) (text : List ℕ) (port_text : Option (List ℕ)) (c : ℕ) (rest : List ℕ)
     (query fragment : Option (List ℕ)) (host : Option Host) (port : Option ℕ)
-    → IsSound base text (cut_with None None port_text (c ∷ rest) query fragment) host port
-    → FitsForm base (form_with false false (c ∷ rest))
+    → IsSound profile base text (cut_with None None port_text (c ∷ rest) query fragment) host port
+    → FitsForm (setting_of profile base None) (form_with false false (c ∷ rest))
     (built (cut_with None None port_text (c ∷ rest) query fragment) host port)
-reference_fits base text port_text c rest query fragment host port s =
+reference_fits profile base text port_text c rest query fragment host port s =
     let path : List ℕ = c ∷ rest in
     let a = no_authority base text None port_text path query fragment host port s.is s.fits_host s.fits_port in
     let some : path ≢ [] = λ same. cc in
     elim (cases_Bool (starts_with_slash path)) [
       | inl start ↦
           let form : form_with false false path ≡ PathAbsolute = rw start refl in
-          absolute_form base _ form a
+          absolute_form (setting_of profile base None) _ form a
           (known_segments (form_with false false path) PathAbsolute path (λ l. IsPathAbsolute l path) form
-          (path_absolute path s.quiet.path s.none start s.quiet.one_slash))
+          (path_absolute path s.quiet.path s.none start s.is.authority.1))
           (fits_drive base path s.quiet.drive)
       | inr start ↦
           let form : form_with false false path ≡ PathRelative = rw start refl in
-          relative_form base _ form a
+          relative_form (setting_of profile base None) _ form a
           (known_segments (form_with false false path) PathRelative path (λ l. IsPathRelative l path) form
           (relative_path path some s.quiet.path s.none start))
           some s.is.scheme
     ]
 
 -- the parts fit the form
-form_fits : (base : Option Url) (text : List ℕ) (scheme host_text port_text : Option (List ℕ)) (path : List ℕ)
+form_fits : (profile : Profile) (base : Option Url) (text : List ℕ) (scheme host_text port_text : Option (List ℕ)) (path : List ℕ)
     (query fragment : Option (List ℕ)) (host : Option Host) (port : Option ℕ)
-    → IsSound base text (cut_with scheme host_text port_text path query fragment) host port
-    → FitsForm base (form_with (is_some scheme) (is_some host_text) path)
+    → IsSound profile base text (cut_with scheme host_text port_text path query fragment) host port
+    → FitsForm (setting_of profile base scheme) (form_with (is_some scheme) (is_some host_text) path)
     (built (cut_with scheme host_text port_text path query fragment) host port)
-form_fits base text (Some scheme) (Some host_text) port_text path query fragment host port s =
-    has_authority base text (Some scheme) host_text port_text path query fragment host port
+form_fits profile base text (Some scheme) (Some host_text) port_text path query fragment host port s =
+    has_authority profile base text (Some scheme) host_text port_text path query fragment host port
     s.is s.fits_host s.fits_port s.quiet s.none refl
-form_fits base text None (Some host_text) port_text path query fragment host port s =
-    has_authority base text None host_text port_text path query fragment host port
+form_fits profile base text None (Some host_text) port_text path query fragment host port s =
+    has_authority profile base text None host_text port_text path query fragment host port
     s.is s.fits_host s.fits_port s.quiet s.none refl
-form_fits base text (Some scheme) None port_text path query fragment host port s =
-    scheme_path_fits base text scheme port_text path query fragment host port s
-form_fits base text None None port_text [] query fragment host port s =
+form_fits profile base text (Some scheme) None port_text path query fragment host port s =
+    scheme_path_fits profile base text scheme port_text path query fragment host port s
+form_fits profile base text None None port_text [] query fragment host port s =
     (no_authority base text None port_text [] query fragment host port s.is s.fits_host s.fits_port, refl, refl)
-form_fits base text None None port_text (c ∷ rest) query fragment host port s =
-    reference_fits base text port_text c rest query fragment host port s
+form_fits profile base text None None port_text (c ∷ rest) query fragment host port s =
+    reference_fits profile base text port_text c rest query fragment host port s
 
 -- a form with a scheme has one
 scheme_fits : (scheme host_text : Option (List ℕ)) (path middle : List ℕ) → IsSchemeCut scheme middle
@@ -351,10 +361,10 @@ scheme_or_none None = inr refl
 scheme_or_none (Some scheme) = inl refl
 
 -- a text without a scheme fits its base
-base_fits : (base : Option Url) (text : List ℕ) (cut : Cut) (host : Option Host) (port : Option ℕ) → IsCut base text cut
-    → IsStarted base text cut → FitsBase base (built cut host port)
-base_fits None text cut host port is started = scheme_there cut.scheme (λ none. started 0 NoScheme (none, refl, refl))
-base_fits (Some url) text cut host port is started = elim (scheme_or_none cut.scheme) [
+base_fits : (profile : Profile) (base : Option Url) (text : List ℕ) (cut : Cut) (host : Option Host) (port : Option ℕ) → IsCut base text cut
+    → IsStarted (setting_of profile base cut.scheme) text cut → FitsBase base (built cut host port)
+base_fits profile None text cut host port is started = scheme_there cut.scheme (λ none. started 0 NoScheme (none, refl, refl))
+base_fits profile (Some url) text cut host port is started = elim (scheme_or_none cut.scheme) [
   | inl some ↦ inl some
   | inr none ↦ elim (cases_Bool (is_opaque url.path)) [
     | inr other ↦ inr (inl other)
@@ -371,16 +381,16 @@ base_fits (Some url) text cut host port is started = elim (scheme_or_none cut.sc
 
 -- The parts built from a cut are valid where its start, its host and its port are, and nothing behind them has a
 -- complaint.
-pub valid_built : (base : Option Url) (text : List ℕ) (cut : Cut) (host : Option Host) (port : Option ℕ)
-    → IsCut base text cut → IsStarted base text cut → FitsHostPart base cut host → FitsPortPart base cut port
-    → IsLeast (BehindAuthority base cut) None → Valid base text (built cut host port)
-valid_built base text cut host port is started fits_host fits_port silent =
-    let q = quiet base cut silent in
+pub valid_built : (profile : Profile) (base : Option Url) (text : List ℕ) (cut : Cut) (host : Option Host) (port : Option ℕ)
+    → IsCut base text cut → IsStarted (setting_of profile base cut.scheme) text cut → FitsHostPart (setting_of profile base cut.scheme) cut host → FitsPortPart (setting_of profile base cut.scheme) cut port
+    → IsLeast (BehindAuthority (setting_of profile base cut.scheme) cut) None → Valid profile base text (built cut host port)
+valid_built profile base text cut host port is started fits_host fits_port silent =
+    let q = quiet (setting_of profile base cut.scheme) cut silent in
     record {
       whole = is.whole ∙ sym (written_as_cut (built cut host port));
       scheme = scheme_fits cut.scheme cut.host_text cut.path_text (written_middle cut) is.scheme;
-      against = base_fits base text cut host port is started;
-      form = form_fits base text cut.scheme cut.host_text cut.port_text cut.path_text cut.query cut.fragment host port
+      against = base_fits profile base text cut host port is started;
+      form = form_fits profile base text cut.scheme cut.host_text cut.port_text cut.path_text cut.query cut.fragment host port
           (record {
             is = is;
             started = started;

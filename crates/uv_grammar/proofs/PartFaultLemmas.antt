@@ -1,9 +1,11 @@
 -- The complaints of the start, the host, the port and the path's start: one at most, or one of each code point.
-use Rattle.std.proofs.Common.{◌≡◌, ◌≢◌, ℕ, ◌⊎◌, List, [], ◌∷◌, ◌++◌, Bool, true, false, not, Option, Some, None, inl, inr, arith, refl, sym, ap, ◌∙◌, subst, ◌==◌, eqb-true}
+use Rattle.std.proofs.Common.{◌≡◌, ◌≢◌, ℕ, ◌⊎◌, List, [], ◌∷◌, ◌++◌, true, false, not, Option, Some, inl, inr, refl, sym, ap, ◌∙◌, subst, ◌==◌, eqb-true}
 use Rattle.std.specs.Prelude.{◌<◌, ◌+◌, is_some}
 use Rattle.std.specs.Char.{is_ascii_digit, is_ascii_alphabetic}
 use Rattle.std.specs.List.{list_all}
 use Rattle.std.proofs.lemmas.Bool.{and_parts, cases_Bool, false≢true}
+use Rattle.uv_model.specs.declared.profile.Profile.{Profile}
+use Rattle.uv_model.specs.declared.profile.Profile.TheVariants.{Standard, Wide}
 use Rattle.uv_model.specs.declared.rule.Rule.{Rule}
 use Rattle.uv_model.specs.declared.rule.Rule.TheVariants.{NoScheme, OpaqueBase, TwoSlashes, HostMissing, HostIpv6, HostCodePoint, Percent, PortDigit, PortRange, FirstSegmentEmpty, DriveAfterHost}
 use Rattle.uv_model.specs.declared.rule.Refusal.{Refusal}
@@ -11,14 +13,15 @@ use Rattle.uv_model.specs.declared.scheme.Class.{Class}
 use Rattle.uv_model.specs.declared.scheme.Class.TheVariants.{Special, File, Other}
 use Rattle.uv_model.specs.Ascii.{slash}
 use Rattle.uv_model.specs.Complaints.AllComplaints.{AreFaults, ListsComplaints}
-use Rattle.uv_model.specs.Complaints.Complaint.{Behind, Complaint, ComplaintOf, HasOpaquePath, HeldComplaint, HeldHostComplaint, HostComplaint, HostPartComplaint, IsStarted, JudgedComplaint, PathStartComplaint, PortComplaint, PortPartComplaint, StartComplaint}
-use Rattle.uv_model.specs.Cut.{Cut, IsCut, class_in, host_place, path_place, port_place, starts_with_two_slashes}
+use Rattle.uv_model.specs.Complaints.Complaint.{Behind, Complaint, ComplaintOf, HasEmptyFirst, HasOpaquePath, HeldComplaint, HeldHostComplaint, HostComplaint, HostPartComplaint, IsStarted, JudgedComplaint, PathStartComplaint, PortComplaint, PortPartComplaint, StartComplaint}
+use Rattle.uv_model.specs.Cut.{Cut, IsCut, host_place, path_place, port_place}
 use Rattle.uv_model.specs.Hosts.OpaqueHost.{starts_with_bracket}
 use Rattle.uv_model.specs.Parts.{Parts}
 use Rattle.uv_model.specs.Path.{is_drive_letter, starts_with_drive}
 use Rattle.uv_model.specs.Complaints.Refusal.{IsLeast}
 use Rattle.uv_model.specs.Complaints.Rule.{rule_number}
 use Rattle.uv_model.specs.Records.Url.{Url}
+use Rattle.uv_model.specs.Setting.{Setting, setting_of}
 use Rattle.uv_model.specs.Valid as valid
 use Rattle.uv_model.proofs.Complaints.AllComplaintsLemmas.{contains_here, lists_least, lists_like}
 use Rattle.uv_model.proofs.Cuts.CutLemmas.{cut_is_computed}
@@ -32,7 +35,7 @@ use Rattle.uv_grammar.specs.declared.judged.Judged.TheVariants.{Valid, Refused}
 use Rattle.uv_grammar.specs.Judged.{IsJudged, refusal_of}
 use Rattle.uv_grammar.specs.PartComplaints.{OfFragment, OfPath, OfPathStart, OfQuery}
 use Rattle.uv_grammar.specs.Scan.{DigitComplaint, HostUnitComplaint}
-use Rattle.uv_grammar.proofs.HostLemmas.{empty_rule, held_from, held_to, one_rule}
+use Rattle.uv_grammar.proofs.HostLemmas.{empty_rule, held_from, one_rule}
 use Rattle.uv_grammar.proofs.PortLemmas.{digits_only}
 use Rattle.uv_grammar.proofs.ScanLemmas.{HasOneAtMost, adds_both, adds_fault, adds_like}
 
@@ -45,34 +48,35 @@ behind_one_at_most start F only place other rule second h k =
     (h.moved ∙ (ap (λ n. start + n) same.0 ∙ sym k.moved), same.1)
 
 -- the rules of the start exclude each other
-start_one_at_most : (base : Option Url) (text : List ℕ) (cut : Cut) → HasOneAtMost (StartComplaint base text cut)
-start_one_at_most base text cut place other NoScheme NoScheme h k = (h.2 ∙ sym k.2, refl)
-start_one_at_most base text cut place other OpaqueBase OpaqueBase h k = (h.3 ∙ sym k.3, refl)
-start_one_at_most base text cut place other TwoSlashes TwoSlashes h k = (h.1 ∙ sym k.1, refl)
-start_one_at_most base text cut place other NoScheme OpaqueBase h k =
+start_one_at_most : (setting : Setting) (text : List ℕ) (cut : Cut) → HasOneAtMost (StartComplaint setting text cut)
+start_one_at_most setting text cut place other NoScheme NoScheme h k = (h.2 ∙ sym k.2, refl)
+start_one_at_most setting text cut place other OpaqueBase OpaqueBase h k = (h.3 ∙ sym k.3, refl)
+start_one_at_most setting text cut place other TwoSlashes TwoSlashes h k = (h.1 ∙ sym k.1, refl)
+start_one_at_most setting text cut place other NoScheme OpaqueBase h k =
     absurd (subst (λ (b : Option Url). HasOpaquePath b) h.1 k.1)
-start_one_at_most base text cut place other OpaqueBase NoScheme h k =
+start_one_at_most setting text cut place other OpaqueBase NoScheme h k =
     absurd (subst (λ (b : Option Url). HasOpaquePath b) k.1 h.1)
-start_one_at_most base text cut place other NoScheme TwoSlashes h k =
+start_one_at_most setting text cut place other NoScheme TwoSlashes h k =
     absurd (false≢true (sym (ap is_some h.0) ∙ k.0.0))
-start_one_at_most base text cut place other TwoSlashes NoScheme h k =
+start_one_at_most setting text cut place other TwoSlashes NoScheme h k =
     absurd (false≢true (sym (ap is_some k.0) ∙ h.0.0))
-start_one_at_most base text cut place other OpaqueBase TwoSlashes h k =
+start_one_at_most setting text cut place other OpaqueBase TwoSlashes h k =
     absurd (false≢true (sym (ap is_some h.0) ∙ k.0.0))
-start_one_at_most base text cut place other TwoSlashes OpaqueBase h k =
+start_one_at_most setting text cut place other TwoSlashes OpaqueBase h k =
     absurd (false≢true (sym (ap is_some k.0) ∙ h.0.0))
-start_one_at_most base text cut place other NoScheme _ h k = absurd k
-start_one_at_most base text cut place other OpaqueBase _ h k = absurd k
-start_one_at_most base text cut place other TwoSlashes _ h k = absurd k
-start_one_at_most base text cut place other _ second h k = absurd h
+start_one_at_most setting text cut place other NoScheme _ h k = absurd k
+start_one_at_most setting text cut place other OpaqueBase _ h k = absurd k
+start_one_at_most setting text cut place other TwoSlashes _ h k = absurd k
+start_one_at_most setting text cut place other _ second h k = absurd h
 
--- a path that begins with `//` begins with no drive letter
-no_drive : (path : List ℕ) → starts_with_two_slashes path ≡ true → starts_with_drive path ≡ true → ⊥
-no_drive [] two drive = false≢true two
-no_drive (a ∷ []) two drive = false≢true two
-no_drive (a ∷ b ∷ []) two drive = false≢true drive
-no_drive (a ∷ b ∷ c ∷ []) two drive = false≢true drive
-no_drive (a ∷ b ∷ c ∷ d ∷ rest) two drive =
+-- a path whose first segment is empty begins with no drive letter
+no_drive : (profile : Profile) (path : List ℕ) → HasEmptyFirst profile path → starts_with_drive path ≡ true → ⊥
+no_drive Wide path two drive = two
+no_drive Standard [] two drive = false≢true two
+no_drive Standard (a ∷ []) two drive = false≢true two
+no_drive Standard (a ∷ b ∷ []) two drive = false≢true drive
+no_drive Standard (a ∷ b ∷ c ∷ []) two drive = false≢true drive
+no_drive Standard (a ∷ b ∷ c ∷ d ∷ rest) two drive =
     let is : b ≡ slash = eqb-true b slash (and_parts (a == slash) (b == slash) two).1 in
     let letter = (and_parts (is_drive_letter (b ∷ c ∷ [])) (d == slash) (and_parts (a == slash) _ drive).1).0 in
     let alphabetic = (and_parts (is_ascii_alphabetic b) _ letter).0 in
@@ -82,14 +86,14 @@ no_drive (a ∷ b ∷ c ∷ d ∷ rest) two drive =
     not_alphabetic = refl
 
 -- the rules of the path's start exclude each other
-pub path_start_one_at_most : (base : Option Url) (cut : Cut) → HasOneAtMost (OfPathStart base cut)
-path_start_one_at_most base cut = behind_one_at_most (path_place cut) (PathStartComplaint base cut) only
+pub path_start_one_at_most : (setting : Setting) (cut : Cut) → HasOneAtMost (OfPathStart setting cut)
+path_start_one_at_most setting cut = behind_one_at_most (path_place cut) (PathStartComplaint setting cut) only
   where
-    only : HasOneAtMost (PathStartComplaint base cut)
+    only : HasOneAtMost (PathStartComplaint setting cut)
     only place other FirstSegmentEmpty FirstSegmentEmpty h k = (h.1 ∙ sym k.1, refl)
     only place other DriveAfterHost DriveAfterHost h k = (h.3 ∙ sym k.3, refl)
-    only place other FirstSegmentEmpty DriveAfterHost h k = absurd (no_drive cut.path_text h.0 k.2)
-    only place other DriveAfterHost FirstSegmentEmpty h k = absurd (no_drive cut.path_text k.0 h.2)
+    only place other FirstSegmentEmpty DriveAfterHost h k = absurd (no_drive setting.profile cut.path_text h.0 k.2)
+    only place other DriveAfterHost FirstSegmentEmpty h k = absurd (no_drive setting.profile cut.path_text k.0 h.2)
     only place other FirstSegmentEmpty _ h k = absurd k
     only place other DriveAfterHost _ h k = absurd k
     only place other _ second h k = absurd h
@@ -97,16 +101,16 @@ path_start_one_at_most base cut = behind_one_at_most (path_place cut) (PathStart
 -- ---- the host
 
 -- a host that isn't judged code point by code point violates one rule
-host_one_at_most : (class : Class) (text : List ℕ) (port_text : Option (List ℕ)) (path_text : List ℕ)
-    → is_scanned class text ≡ false → HasOneAtMost (HostComplaint class text port_text path_text)
-host_one_at_most class [] port_text path_text whole place other rule second h k =
-    let one = empty_rule class port_text path_text place rule h in
-    let two = empty_rule class port_text path_text other second k in
+host_one_at_most : (profile : Profile) (class : Class) (text : List ℕ) (port_text : Option (List ℕ)) (path_text : List ℕ)
+    → is_scanned class text ≡ false → HasOneAtMost (HostComplaint profile class text port_text path_text)
+host_one_at_most profile class [] port_text path_text whole place other rule second h k =
+    let one = empty_rule profile class port_text path_text place rule h in
+    let two = empty_rule profile class port_text path_text other second k in
     (one.2 ∙ sym two.2, one.0 ∙ sym two.0)
-host_one_at_most class (c ∷ rest) port_text path_text whole place other rule second h k =
+host_one_at_most profile class (c ∷ rest) port_text path_text whole place other rule second h k =
     held class whole place other rule second
-    (held_from class (c ∷ rest) port_text path_text some place rule h)
-    (held_from class (c ∷ rest) port_text path_text some other second k)
+    (held_from profile class (c ∷ rest) port_text path_text some place rule h)
+    (held_from profile class (c ∷ rest) port_text path_text some other second k)
   where
     some : (c ∷ rest) ≢ []
     some same = cc
@@ -117,11 +121,11 @@ host_one_at_most class (c ∷ rest) port_text path_text whole place other rule s
       | inr other ↦ absurd (false≢true (sym none ∙ ap not other))
     ]
 
-    held : (class : Class) → is_scanned class (c ∷ rest) ≡ false → HasOneAtMost (HeldHostComplaint class (c ∷ rest))
+    held : (class : Class) → is_scanned class (c ∷ rest) ≡ false → HasOneAtMost (HeldHostComplaint profile class (c ∷ rest))
     held Special none place other rule second h k =
-        (h.1 ∙ sym k.1, one_rule (c ∷ rest) rule second h.0 k.0)
+        (h.1 ∙ sym k.1, one_rule profile (c ∷ rest) rule second h.0 k.0)
     held File none place other rule second h k =
-        (h.1 ∙ sym k.1, one_rule (c ∷ rest) rule second h.0 k.0)
+        (h.1 ∙ sym k.1, one_rule profile (c ∷ rest) rule second h.0 k.0)
     held Other none place other HostIpv6 HostIpv6 h k = (h.1 ∙ sym k.1, refl)
     held Other none place other HostCodePoint second h k = absurd (false≢true (sym h.0 ∙ bracketed none))
     held Other none place other Percent second h k = absurd (false≢true (sym h.0 ∙ bracketed none))
@@ -131,31 +135,31 @@ host_one_at_most class (c ∷ rest) port_text path_text whole place other rule s
     held Other none place other _ second h k = absurd h
 
 -- the fault of such a host is all that is added
-pub host_fault_adds : (base : Option Url) (cut : Cut) (class : Class) (host_text : List ℕ) (before after : List Refusal)
-    (fault : Option Refusal) → cut.host_text ≡ Some host_text → class ≡ class_in base cut.scheme
-    → is_scanned class host_text ≡ false → IsLeast (HostPartComplaint base cut) fault
-    → after ≡ before ++ fault_list fault → AddsComplaints (HostPartComplaint base cut) before after
-host_fault_adds base cut class host_text before after fault is same whole least joined =
-    adds_fault (HostPartComplaint base cut) before after fault only least joined
+pub host_fault_adds : (setting : Setting) (cut : Cut) (class : Class) (host_text : List ℕ) (before after : List Refusal)
+    (fault : Option Refusal) → cut.host_text ≡ Some host_text → class ≡ setting.class
+    → is_scanned class host_text ≡ false → IsLeast (HostPartComplaint setting cut) fault
+    → after ≡ before ++ fault_list fault → AddsComplaints (HostPartComplaint setting cut) before after
+host_fault_adds setting cut class host_text before after fault is same whole least joined =
+    adds_fault (HostPartComplaint setting cut) before after fault only least joined
   where
-    only : HasOneAtMost (HostPartComplaint base cut)
+    only : HasOneAtMost (HostPartComplaint setting cut)
     only = rw is (behind_one_at_most (host_place cut) _
-        (host_one_at_most (class_in base cut.scheme) host_text cut.port_text cut.path_text
+        (host_one_at_most setting.profile setting.class host_text cut.port_text cut.path_text
         (ap (λ k. is_scanned k host_text) (sym same) ∙ whole)))
 
 -- the faults of a host that is judged code point by code point are all that is added
-pub host_scan_adds : (base : Option Url) (cut : Cut) (class : Class) (host_text : List ℕ) (before after : List Refusal)
-    → cut.host_text ≡ Some host_text → class ≡ class_in base cut.scheme → is_scanned class host_text ≡ true
+pub host_scan_adds : (setting : Setting) (cut : Cut) (class : Class) (host_text : List ℕ) (before after : List Refusal)
+    → cut.host_text ≡ Some host_text → class ≡ setting.class → is_scanned class host_text ≡ true
     → AddsComplaints (Behind (host_place cut) (HostUnitComplaint host_text)) before after
-    → AddsComplaints (HostPartComplaint base cut) before after
-host_scan_adds base cut class host_text before after is same scanned adds =
+    → AddsComplaints (HostPartComplaint setting cut) before after
+host_scan_adds setting cut class host_text before after is same scanned adds =
     rw is (adds_like (Behind (host_place cut) (HostUnitComplaint host_text))
-    (Behind (host_place cut) (HostComplaint (class_in base cut.scheme) host_text cut.port_text cut.path_text))
-    (λ place rule h. record { inner = h.inner; moved = h.moved; holds = to (class_in base cut.scheme) host_text here h.inner rule h.holds })
-    (λ place rule h. record { inner = h.inner; moved = h.moved; holds = from (class_in base cut.scheme) host_text here h.inner rule h.holds })
+    (Behind (host_place cut) (HostComplaint setting.profile setting.class host_text cut.port_text cut.path_text))
+    (λ place rule h. record { inner = h.inner; moved = h.moved; holds = to setting.class host_text here h.inner rule h.holds })
+    (λ place rule h. record { inner = h.inner; moved = h.moved; holds = from setting.class host_text here h.inner rule h.holds })
     before after adds)
   where
-    here : is_scanned (class_in base cut.scheme) host_text ≡ true
+    here : is_scanned setting.class host_text ≡ true
     here = ap (λ k. is_scanned k host_text) (sym same) ∙ scanned
 
     no_bracket : (c : ℕ) (rest : List ℕ) → not (starts_with_bracket (c ∷ rest)) ≡ true
@@ -166,7 +170,7 @@ host_scan_adds base cut class host_text before after is same scanned adds =
     ]
 
     to : (class : Class) (text : List ℕ) → is_scanned class text ≡ true → (place : ℕ) (rule : Rule)
-        → HostUnitComplaint text place rule → HostComplaint class text cut.port_text cut.path_text place rule
+        → HostUnitComplaint text place rule → HostComplaint setting.profile class text cut.port_text cut.path_text place rule
     to Special text tested place rule h = absurd (false≢true tested)
     to File text tested place rule h = absurd (false≢true tested)
     to Other [] tested place rule h = absurd (false≢true tested)
@@ -175,7 +179,7 @@ host_scan_adds base cut class host_text before after is same scanned adds =
     to Other (c ∷ rest) tested place _ h = absurd h
 
     from : (class : Class) (text : List ℕ) → is_scanned class text ≡ true → (place : ℕ) (rule : Rule)
-        → HostComplaint class text cut.port_text cut.path_text place rule → HostUnitComplaint text place rule
+        → HostComplaint setting.profile class text cut.port_text cut.path_text place rule → HostUnitComplaint text place rule
     from Special text tested place rule h = absurd (false≢true tested)
     from File text tested place rule h = absurd (false≢true tested)
     from Other [] tested place rule h = absurd (false≢true tested)
@@ -237,19 +241,19 @@ judged_least fits complaint (Valid value) is = is.1
 judged_least fits complaint (Refused refusal) is = is
 
 -- the host, the port and the path's start
-pub judged_adds : (base : Option Url) (cut : Cut) (a b c d : List Refusal)
-    → AddsComplaints (HostPartComplaint base cut) a b → AddsComplaints (PortPartComplaint cut) b c
-    → AddsComplaints (OfPathStart base cut) c d → AddsComplaints (JudgedComplaint base cut) a d
-judged_adds base cut a b c d host port start =
-    adds_both (HostPartComplaint base cut) (Either (PortPartComplaint cut) (OfPathStart base cut)) a b d
-    (record { order = λ place later rule other h k. (host_first base cut).order place later rule other h (onward later other k) })
+pub judged_adds : (setting : Setting) (cut : Cut) (a b c d : List Refusal)
+    → AddsComplaints (HostPartComplaint setting cut) a b → AddsComplaints (PortPartComplaint cut) b c
+    → AddsComplaints (OfPathStart setting cut) c d → AddsComplaints (JudgedComplaint setting cut) a d
+judged_adds setting cut a b c d host port start =
+    adds_both (HostPartComplaint setting cut) (Either (PortPartComplaint cut) (OfPathStart setting cut)) a b d
+    (record { order = λ place later rule other h k. (host_first setting cut).order place later rule other h (onward later other k) })
     host
-    (adds_both (PortPartComplaint cut) (OfPathStart base cut) b c d
-    (record { order = λ place later rule other h k. (port_first base cut).order place later rule other h (inl k) })
+    (adds_both (PortPartComplaint cut) (OfPathStart setting cut) b c d
+    (record { order = λ place later rule other h k. (port_first setting cut).order place later rule other h (inl k) })
     port start)
   where
-    onward : (place : ℕ) (rule : Rule) → Either (PortPartComplaint cut) (OfPathStart base cut) place rule
-        → FromPort base cut place rule
+    onward : (place : ℕ) (rule : Rule) → Either (PortPartComplaint cut) (OfPathStart setting cut) place rule
+        → FromPort setting cut place rule
     onward place rule (inl h) = inl h
     onward place rule (inr h) = inr (inl h)
 
@@ -261,80 +265,84 @@ held_adds cut a b c d path query fragment =
     (adds_both (OfQuery cut) (OfFragment cut) b c d (query_first cut) query fragment)
 
 -- a text whose start violates a rule
-pub start_adds : (base : Option Url) (text : List ℕ) (cut : Cut) (refusal : Refusal) (before after : List Refusal)
-    → IsLeast (StartComplaint base text cut) (Some refusal) → after ≡ before ++ fault_list (Some refusal)
-    → AddsComplaints (FirstComplaint base text cut) before after
-start_adds base text cut refusal before after least joined =
-    adds_like (StartComplaint base text cut) (FirstComplaint base text cut) (λ place rule h. inl h) from before after
-    (adds_fault (StartComplaint base text cut) before after (Some refusal) (start_one_at_most base text cut) least joined)
+pub start_adds : (setting : Setting) (text : List ℕ) (cut : Cut) (refusal : Refusal) (before after : List Refusal)
+    → IsLeast (StartComplaint setting text cut) (Some refusal) → after ≡ before ++ fault_list (Some refusal)
+    → AddsComplaints (FirstComplaint setting text cut) before after
+start_adds setting text cut refusal before after least joined =
+    adds_like (StartComplaint setting text cut) (FirstComplaint setting text cut) (λ place rule h. inl h) from before after
+    (adds_fault (StartComplaint setting text cut) before after (Some refusal) (start_one_at_most setting text cut) least joined)
   where
-    from : (place : ℕ) (rule : Rule) → FirstComplaint base text cut place rule → StartComplaint base text cut place rule
+    from : (place : ℕ) (rule : Rule) → FirstComplaint setting text cut place rule → StartComplaint setting text cut place rule
     from place rule (inl h) = h
     from place rule (inr (started, h)) = absurd (started refusal.place refusal.rule least.stands)
 
 -- and one whose start violates none
-pub started_adds : (base : Option Url) (text : List ℕ) (cut : Cut) (before after : List Refusal)
-    → IsStarted base text cut → AddsComplaints (JudgedComplaint base cut) before after
-    → AddsComplaints (FirstComplaint base text cut) before after
-started_adds base text cut before after started adds =
-    adds_like (JudgedComplaint base cut) (FirstComplaint base text cut) (λ place rule h. inr (started, h)) from
+pub started_adds : (setting : Setting) (text : List ℕ) (cut : Cut) (before after : List Refusal)
+    → IsStarted setting text cut → AddsComplaints (JudgedComplaint setting cut) before after
+    → AddsComplaints (FirstComplaint setting text cut) before after
+started_adds setting text cut before after started adds =
+    adds_like (JudgedComplaint setting cut) (FirstComplaint setting text cut) (λ place rule h. inr (started, h)) from
     before after adds
   where
-    from : (place : ℕ) (rule : Rule) → FirstComplaint base text cut place rule → JudgedComplaint base cut place rule
+    from : (place : ℕ) (rule : Rule) → FirstComplaint setting text cut place rule → JudgedComplaint setting cut place rule
     from place rule (inl h) = absurd (started place rule h)
     from place rule (inr (again, h)) = h
 
 -- the first complaints stand before those of what the path, the query and the fragment hold
-first_before_held : (base : Option Url) (text : List ℕ) (cut : Cut)
-    → Precedes (FirstComplaint base text cut) (HeldComplaint cut)
-first_before_held base text cut = record { order = order }
+first_before_held : (setting : Setting) (text : List ℕ) (cut : Cut)
+    → Precedes (FirstComplaint setting text cut) (HeldComplaint cut)
+first_before_held setting text cut = record { order = order }
   where
-    order : (place later : ℕ) (rule other : Rule) → FirstComplaint base text cut place rule
+    order : (place later : ℕ) (rule other : Rule) → FirstComplaint setting text cut place rule
         → HeldComplaint cut later other
         → (place < later) ⊎ ((place ≡ later) × (rule_number rule < rule_number other))
-    order place later rule other (inl start) held = (start_before_held base text cut).order place later rule other start held
+    order place later rule other (inl start) held = (start_before_held setting text cut).order place later rule other start held
     order place later rule other (inr (started, inl host)) held =
-        (host_first base cut).order place later rule other host (inr (inr held))
+        (host_first setting cut).order place later rule other host (inr (inr held))
     order place later rule other (inr (started, inr (inl port))) held =
-        (port_first base cut).order place later rule other port (inr held)
+        (port_first setting cut).order place later rule other port (inr held)
     order place later rule other (inr (started, inr (inr start))) held =
-        (path_start_first base cut).order place later rule other start held
+        (path_start_first setting cut).order place later rule other start held
 
 -- a list with no refusal, where there is no complaint
-no_faults : (base : Option Url) (text : List ℕ) (found : List Refusal)
-    → ListsComplaints (Complaint base text) found → (parts : Parts) → valid.Valid base text parts → found ≡ []
-no_faults base text [] lists parts fits = refl
-no_faults base text (refusal ∷ rest) lists parts fits =
-    absurd (faultless base text refusal.place refusal.rule ((lists.each refusal).0 (contains_here refusal rest)) parts fits)
+no_faults : (profile : Profile) (base : Option Url) (text : List ℕ) (found : List Refusal)
+    → ListsComplaints (Complaint profile base text) found → (parts : Parts) → valid.Valid profile base text parts → found ≡ []
+no_faults profile base text [] lists parts fits = refl
+no_faults profile base text (refusal ∷ rest) lists parts fits =
+    absurd (faultless profile base text refusal.place refusal.rule ((lists.each refusal).0 (contains_here refusal rest)) parts fits)
 
 -- all the complaints of a text
-pub all_faults : (base : Option Url) (text : List ℕ) (cut : Cut) (first found : List Refusal) → IsCut base text cut
-    → AddsComplaints (FirstComplaint base text cut) [] first → AddsComplaints (HeldComplaint cut) first found
-    → AreFaults base text found
+pub all_faults : (profile : Profile) (base : Option Url) (text : List ℕ) (cut : Cut) (setting : Setting)
+    (first found : List Refusal)
+    → IsCut base text cut → setting ≡ setting_of profile base cut.scheme
+    → AddsComplaints (FirstComplaint setting text cut) [] first → AddsComplaints (HeldComplaint cut) first found
+    → AreFaults profile base text found
 unfolding Complaint
-all_faults base text cut first found is one two =
-    let F = Either (FirstComplaint base text cut) (HeldComplaint cut) in
-    let both = adds_both (FirstComplaint base text cut) (HeldComplaint cut) [] first found
-    (first_before_held base text cut) one two in
-    let of_cut : ListsComplaints (ComplaintOf base text cut) found
-    = subst (λ (l : List Refusal). ListsComplaints (ComplaintOf base text cut) l) (sym both.joined)
-    (lists_like F (ComplaintOf base text cut) to from both.added both.lists) in
-    let lists : ListsComplaints (Complaint base text) found
-    = subst (λ (c : Cut). ListsComplaints (ComplaintOf base text c) found) (cut_is_computed base text cut is) of_cut in
+all_faults profile base text cut setting first found is made one two =
+    let F = Either (FirstComplaint setting text cut) (HeldComplaint cut) in
+    let both = adds_both (FirstComplaint setting text cut) (HeldComplaint cut) [] first found
+    (first_before_held setting text cut) one two in
+    let of_cut : ListsComplaints (ComplaintOf setting text cut) found
+    = subst (λ (l : List Refusal). ListsComplaints (ComplaintOf setting text cut) l) (sym both.joined)
+    (lists_like F (ComplaintOf setting text cut) to from both.added both.lists) in
+    let lists : ListsComplaints (Complaint profile base text) found
+    = subst (λ (c : Cut). ListsComplaints (ComplaintOf (setting_of profile base c.scheme) text c) found)
+    (cut_is_computed base text cut is)
+    (subst (λ (s : Setting). ListsComplaints (ComplaintOf s text cut) found) made of_cut) in
     record {
       lists = lists;
-      least = lists_least (Complaint base text) found lists;
-      none = no_faults base text found lists;
+      least = lists_least (Complaint profile base text) found lists;
+      none = no_faults profile base text found lists;
     }
   where
-    to : (place : ℕ) (rule : Rule) → Either (FirstComplaint base text cut) (HeldComplaint cut) place rule
-        → ComplaintOf base text cut place rule
+    to : (place : ℕ) (rule : Rule) → Either (FirstComplaint setting text cut) (HeldComplaint cut) place rule
+        → ComplaintOf setting text cut place rule
     to place rule (inl (inl start)) = inl start
     to place rule (inl (inr judged)) = inr (inl judged)
     to place rule (inr held) = inr (inr held)
 
-    from : (place : ℕ) (rule : Rule) → ComplaintOf base text cut place rule
-        → Either (FirstComplaint base text cut) (HeldComplaint cut) place rule
+    from : (place : ℕ) (rule : Rule) → ComplaintOf setting text cut place rule
+        → Either (FirstComplaint setting text cut) (HeldComplaint cut) place rule
     from place rule (inl start) = inl (inl start)
     from place rule (inr (inl judged)) = inl (inr judged)
     from place rule (inr (inr held)) = inr held

@@ -12,17 +12,20 @@ use Rattle.std.proofs.lemmas.Option.{none-some}
 use Rattle.std.proofs.lemmas.Str.{chars-append, chars-IsAscii, IsUtf8-from_ascii, IsCharBoundary-from_take}
 use Rattle.std.proofs.Math.Seq.{take-append_seam, drop-append_seam}
 use Rattle.uv_model.specs.declared.host.Host.TheVariants.{Domain}
+use Rattle.uv_model.specs.declared.profile.Profile.{Profile}
+use Rattle.uv_model.specs.declared.profile.Profile.TheVariants.{Standard, Wide}
 use Rattle.uv_model.specs.declared.rule.Rule.{Rule}
 use Rattle.uv_model.specs.declared.rule.Rule.TheVariants.{NoScheme, OpaqueBase, TwoSlashes, FirstSegmentEmpty, DriveAfterHost}
 use Rattle.uv_model.specs.declared.scheme.Class.TheVariants.{Special}
 use Rattle.uv_model.specs.Ascii.{slash, colon, question_mark, number_sign}
-use Rattle.uv_model.specs.Complaints.Complaint.{IsStarted, PathStartComplaint, MayBeUnitComplaint}
+use Rattle.uv_model.specs.Complaints.Complaint.{HasEmptyFirst, IsStarted, PathStartComplaint, MayBeUnitComplaint}
 use Rattle.uv_model.specs.Cut.{Cut, IsCut, EndsAtPort, IsHostCut, written_cut, written_start, starts_with_two_slashes}
 use Rattle.uv_model.specs.Hosts.Domain.{IsDomain, is_form_code_point}
 use Rattle.uv_model.specs.Parts.{written_behind}
 use Rattle.uv_model.specs.Path.{is_without}
 use Rattle.uv_model.specs.Scheme.{default_port, is_scheme, is_scheme_code_point, scheme_class}
 use Rattle.uv_model.specs.Records.Url.{Url}
+use Rattle.uv_model.specs.Setting.{Setting, setting_of}
 use Rattle.uv_model.proofs.Texts.AsciiLemmas.{IsAscii-from_test}
 use Rattle.uv_model.proofs.Hosts.DomainLemmas.{IsAscii-form}
 use Rattle.uv_model.proofs.Texts.MarkLemmas.{is_without-append, is_without-more, has_mark}
@@ -69,8 +72,8 @@ scheme_without mark fails (c ∷ rest) is =
     without_foreign is_scheme_code_point mark fails (c ∷ rest) (and_from _ _ (letter_in_scheme c parts.0) parts.1)
 
 -- the name of a domain that is its own form
-form_each : (name form : List ℕ) → IsDomain name form → list_all is_form_code_point form ≡ true
-form_each name form is = list_all-from_AllPass is_form_code_point form is.0.letters
+form_each : (name form : List ℕ) → IsDomain Standard name form → list_all (is_form_code_point Standard) form ≡ true
+form_each name form is = list_all-from_AllPass (is_form_code_point Standard) form is.0.letters
 
 -- ---- the cut
 
@@ -123,8 +126,8 @@ pub record IsPlainLink (text scheme name form path : List ℕ) (query fragment :
   pub query_cut : IsPartCut question_mark tail query end
   pub fragment_cut : IsPartCut number_sign end fragment []
 
-own_form : (name form : List ℕ) → IsDomain name form → chars form ≡ name → name ≡ form
-own_form name form is same = sym same ∙ chars-IsAscii form (IsAscii-form name form is.0)
+own_form : (name form : List ℕ) → IsDomain Standard name form → chars form ≡ name → name ≡ form
+own_form name form is same = sym same ∙ chars-IsAscii form (IsAscii-form Standard name form is.0)
 
 start_joined : (scheme middle query fragment : List ℕ)
     → (((scheme ++ colon ∷ []) ++ (slash ∷ slash ∷ middle)) ++ query) ++ fragment
@@ -156,92 +159,101 @@ plain_is_cut : (base : Option Url) (text scheme name form path : List ℕ) (quer
     → IsPlainLink text scheme name form path query fragment
     → IsCut base text (plain_cut scheme name path query fragment)
 plain_is_cut base text scheme name form path query fragment own l =
-    let each : list_all is_form_code_point name ≡ true = ap (list_all is_form_code_point) own ∙ form_each name form l.named.domain in
+    let each : list_all (is_form_code_point Standard) name ≡ true
+    = ap (list_all (is_form_code_point Standard)) own ∙ form_each name form (l.named.domain Standard) in
     record {
       whole = plain_whole text scheme name form path query fragment l;
       front =
           is_without-append number_sign (written_start (plain_cut scheme name path query fragment)) (written_behind question_mark query)
           (start_without number_sign scheme name path refl refl
           (scheme_without number_sign refl scheme l.special.named)
-          (without_foreign is_form_code_point number_sign refl name each)
+          (without_foreign (is_form_code_point Standard) number_sign refl name each)
           l.path_cut.units.no_number_sign)
           (part_without query l.query_cut.units);
       start =
           start_without question_mark scheme name path refl refl
           (scheme_without question_mark refl scheme l.special.named)
-          (without_foreign is_form_code_point question_mark refl name each)
+          (without_foreign (is_form_code_point Standard) question_mark refl name each)
           (l.path_cut.units.no_question_mark refl);
       scheme = l.special.named;
       authority = (
-        is_without-append slash name [] (without_foreign is_form_code_point slash refl name each) refl,
+        is_without-append slash name [] (without_foreign (is_form_code_point Standard) slash refl name each) refl,
         l.path_cut.slashed,
         subst (λ k. IsHostCut k name None) (sym l.special.special)
-            (ends_alone name (without_foreign is_form_code_point colon refl name each)),
+            (ends_alone name (without_foreign (is_form_code_point Standard) colon refl name each)),
       );
     }
 
 -- ---- the rules
 
-plain_started : (base : Option Url) (text scheme name path : List ℕ) (query fragment : Option (List ℕ))
-    → IsStarted base text (plain_cut scheme name path query fragment)
-plain_started base text scheme name path query fragment place NoScheme h = none-some scheme (sym h.0)
-plain_started base text scheme name path query fragment place OpaqueBase h = none-some scheme (sym h.0)
-plain_started base text scheme name path query fragment place TwoSlashes h = none-some name (sym h.0.2)
-plain_started base text scheme name path query fragment place _ h = absurd h
+plain_started : (setting : Setting) (text scheme name path : List ℕ) (query fragment : Option (List ℕ))
+    → IsStarted setting text (plain_cut scheme name path query fragment)
+plain_started setting text scheme name path query fragment place NoScheme h = none-some scheme (sym h.0)
+plain_started setting text scheme name path query fragment place OpaqueBase h = none-some scheme (sym h.0)
+plain_started setting text scheme name path query fragment place TwoSlashes h = none-some name (sym h.0.2)
+plain_started setting text scheme name path query fragment place _ h = absurd h
 
-plain_path_start : (base : Option Url) (scheme name path : List ℕ) (query fragment : Option (List ℕ)) (place : ℕ) (rule : Rule)
-    → scheme_class scheme ≡ Special → starts_with_two_slashes path ≡ false
-    → PathStartComplaint base (plain_cut scheme name path query fragment) place rule → ⊥
-plain_path_start base scheme name path query fragment place FirstSegmentEmpty special single h =
-    false≢true (sym single ∙ h.0)
-plain_path_start base scheme name path query fragment place DriveAfterHost special single h = cc (special, h.0)
-plain_path_start base scheme name path query fragment place _ special single h = absurd h
+no_empty_first : (profile : Profile) (path : List ℕ) → starts_with_two_slashes path ≡ false
+    → HasEmptyFirst profile path → ⊥
+no_empty_first Standard path single empty = false≢true (sym single ∙ empty)
+no_empty_first Wide path single empty = empty
+
+plain_path_start : (setting : Setting) (scheme name path : List ℕ) (query fragment : Option (List ℕ)) (place : ℕ)
+    (rule : Rule)
+    → setting.class ≡ Special → starts_with_two_slashes path ≡ false
+    → PathStartComplaint setting (plain_cut scheme name path query fragment) place rule → ⊥
+plain_path_start setting scheme name path query fragment place FirstSegmentEmpty special single h =
+    no_empty_first setting.profile path single h.0
+plain_path_start setting scheme name path query fragment place DriveAfterHost special single h = cc (special, h.0)
+plain_path_start setting scheme name path query fragment place _ special single h = absurd h
 
 part_silent : (start : ℕ) (part : Option (List ℕ)) (place : ℕ) (rule : Rule) → MayBeUnits part
     → MayBeUnitComplaint start part place rule → ⊥
 part_silent start None place rule units h = h
 part_silent start (Some text) place rule units h = no_complaint-faultless text units.units h.inner rule h.holds
 
-plain_silent : (base : Option Url) (text scheme name form path : List ℕ) (query fragment : Option (List ℕ))
-    → IsPlainLink text scheme name form path query fragment → (place : ℕ) (rule : Rule)
-    → BehindAuthority base (plain_cut scheme name path query fragment) place rule → ⊥
-plain_silent base text scheme name form path query fragment l place rule (inl h) =
-    plain_path_start base scheme name path query fragment h.inner rule l.special.special l.path_cut.single h.holds
-plain_silent base text scheme name form path query fragment l place rule (inr (inl h)) =
+plain_silent : (setting : Setting) (text scheme name form path : List ℕ) (query fragment : Option (List ℕ))
+    → setting.class ≡ Special → IsPlainLink text scheme name form path query fragment → (place : ℕ) (rule : Rule)
+    → BehindAuthority setting (plain_cut scheme name path query fragment) place rule → ⊥
+plain_silent setting text scheme name form path query fragment special l place rule (inl h) =
+    plain_path_start setting scheme name path query fragment h.inner rule special l.path_cut.single h.holds
+plain_silent setting text scheme name form path query fragment special l place rule (inr (inl h)) =
     no_complaint-faultless path l.path_cut.units.units h.inner rule h.holds
-plain_silent base text scheme name form path query fragment l place rule (inr (inr (inl h))) =
+plain_silent setting text scheme name form path query fragment special l place rule (inr (inr (inl h))) =
     part_silent _ query place rule l.query_cut.units h
-plain_silent base text scheme name form path query fragment l place rule (inr (inr (inr h))) =
+plain_silent setting text scheme name form path query fragment special l place rule (inr (inr (inr h))) =
     part_silent _ fragment place rule l.fragment_cut.units h
 
 -- a domain has a code point
-some_name : (name form : List ℕ) → name ≡ form → IsDomain name form → name ≢ []
+some_name : (name form : List ℕ) → name ≡ form → IsDomain Standard name form → name ≢ []
 some_name name form own is none =
     let lengths = is.0.lengths in
     false≢true (rw (sym own ∙ none) at lengths)
 
-plain_host : (base : Option Url) (scheme name form path : List ℕ) (query fragment : Option (List ℕ)) → name ≡ form
-    → scheme_class scheme ≡ Special → IsDomain name form
-    → FitsHostPart base (plain_cut scheme name path query fragment) (Some (Domain form))
-plain_host base scheme name form path query fragment own special is =
-    rw special (inl (some_name name form own is, is))
+plain_host : (setting : Setting) (scheme name form path : List ℕ) (query fragment : Option (List ℕ)) → name ≡ form
+    → setting.class ≡ Special → ((profile : Profile) → IsDomain profile name form)
+    → FitsHostPart setting (plain_cut scheme name path query fragment) (Some (Domain form))
+plain_host setting scheme name form path query fragment own special is =
+    rw special (inl (some_name name form own (is Standard), is setting.profile))
 
 -- a plain link is valid with its parts
-pub plain_accepted : (base : Option Url) (text scheme name form path : List ℕ) (query fragment : Option (List ℕ)) → chars form ≡ name
-    → IsPlainLink text scheme name form path query fragment
-    → IsAccepted base text (built (plain_cut scheme name path query fragment) (Some (Domain form)) None)
-plain_accepted base text scheme name form path query fragment same l =
-    let own = own_form name form l.named.domain same in
+pub plain_accepted : (profile : Profile) (base : Option Url) (text scheme name form path : List ℕ)
+    (query fragment : Option (List ℕ))
+    → chars form ≡ name → IsPlainLink text scheme name form path query fragment
+    → IsAccepted profile base text (built (plain_cut scheme name path query fragment) (Some (Domain form)) None)
+plain_accepted profile base text scheme name form path query fragment same l =
+    let own = own_form name form (l.named.domain Standard) same in
     let cut = plain_cut scheme name path query fragment in
-    accepted base text cut (plain_is_cut base text scheme name form path query fragment own l)
-    (plain_started base text scheme name path query fragment) (built cut (Some (Domain form)) None)
+    let setting = setting_of profile base (Some scheme) in
+    accepted profile base text cut setting (plain_is_cut base text scheme name form path query fragment own l) refl
+    (plain_started setting text scheme name path query fragment) (built cut (Some (Domain form)) None)
     (record {
       host = Some (Domain form);
       port = None;
       built = refl;
-      fits_host = plain_host base scheme name form path query fragment own l.special.special l.named.domain;
+      fits_host = plain_host setting scheme name form path query fragment own l.special.special l.named.domain;
       fits_port = refl;
-      silent = plain_silent base text scheme name form path query fragment l;
+      silent = plain_silent setting text scheme name form path query fragment l.special.special l;
     })
 
 -- ---- fronts
@@ -353,7 +365,7 @@ scheme_ascii bytes end is = (is.inside, is_ascii-scheme (take end bytes) is.sche
 -- the bytes of a plain name are ASCII
 pub name_ascii : (bytes : List ℕ) (end : ℕ) → IsChainFront bytes end → HasAsciiFront bytes end
 name_ascii bytes end is =
-    (is.0, list_all_weaker is_form_code_point is_ascii small (take end bytes) (chain_form false (take end bytes) is.1))
+    (is.0, list_all_weaker (is_form_code_point Standard) is_ascii small (take end bytes) (chain_form false (take end bytes) is.1))
   where
-    small : (c : ℕ) → is_form_code_point c ≡ true → is_ascii c ≡ true
+    small : (c : ℕ) → is_form_code_point Standard c ≡ true → is_ascii c ≡ true
     small c h = grind (arith, nat_tests)

@@ -1,5 +1,5 @@
 -- Texts that are judged code point by code point, and lists to which complaints are added.
-use Rattle.std.proofs.Common.{◌≡◌, ◌≢◌, ℕ, ◌+◌, ◌-◌, ◌<◌, ◌≤◌, ◌⊎◌, List, [], ◌∷◌, ◌++◌, true, false, Option, Some, None, length, drop, inl, inr, arith, refl, sym, ap, ◌∙◌, subst, append_assoc, append-nil}
+use Rattle.std.proofs.Common.{◌≡◌, ◌≢◌, ℕ, ◌+◌, ◌<◌, ◌≤◌, ◌⊎◌, List, [], ◌∷◌, ◌++◌, true, false, Option, Some, None, length, drop, inl, inr, arith, refl, sym, ap, ◌∙◌, subst, append_assoc, append-nil}
 use Rattle.std.specs.Str.{chars, IsUtf8}
 use Rattle.std.proofs.lemmas.Bool.{false≢true}
 use Rattle.std.proofs.lemmas.List.{drop-drop, length-drop}
@@ -8,11 +8,11 @@ use Rattle.uv_model.specs.declared.rule.Refusal.{Refusal}
 use Rattle.uv_model.specs.declared.rule.Rule.TheVariants.{CodePoint, HostCodePoint, HostIpv6, Percent, PortDigit}
 use Rattle.uv_model.specs.Complaints.AllComplaints.{ListsComplaints}
 use Rattle.uv_model.specs.Ascii.{percent_sign}
-use Rattle.uv_model.specs.Complaints.Complaint.{Behind, HasForeignDigit, refusal_behind}
+use Rattle.uv_model.specs.Complaints.Complaint.{Behind, refusal_behind}
 use Rattle.uv_model.specs.Hosts.OpaqueHost.{is_forbidden_host, starts_with_bracket}
-use Rattle.uv_model.specs.Complaints.OpaqueHostComplaint.{HasForeignHostCodePoint, OpaqueHostComplaint}
+use Rattle.uv_model.specs.Complaints.OpaqueHostComplaint.{OpaqueHostComplaint}
 use Rattle.uv_model.specs.Complaints.Refusal.{IsLeast}
-use Rattle.uv_model.specs.Complaints.UnitComplaint.{HasBarePercent, HasForeignCodePoint, UnitComplaint}
+use Rattle.uv_model.specs.Complaints.UnitComplaint.{HasBarePercent, UnitComplaint}
 use Rattle.uv_model.specs.Units.{is_url_code_point}
 use Rattle.uv_model.proofs.Complaints.AllComplaintsLemmas.{IsScan, lists_both, lists_like, lists_none, lists_one, lists_scan}
 use Rattle.uv_model.proofs.Complaints.ComplaintLemmas.{within_text}

@@ -6,7 +6,7 @@ use Rattle.std.proofs.lemmas.Bool.{and_parts, cases_Bool, false≢true}
 use Rattle.std.proofs.lemmas.List.Splits.{join_with_byte-slice_split}
 use Rattle.uv_model.specs.Ascii.{question_mark, slash}
 use Rattle.uv_model.specs.Cut.{starts_with_two_slashes}
-use Rattle.uv_model.specs.Path.{AreSegments, IsPathAbsolute, IsPathRelative, IsSegment, is_without, starts_with_slash}
+use Rattle.uv_model.specs.Path.{AreSegments, IsPathAbsolute, IsPathRelative, IsPathSlashed, IsSegment, JoinsTo, is_without, starts_with_slash}
 use Rattle.uv_model.specs.Units.{IsUnits, is_faultless, is_unit_at}
 use Rattle.uv_model.proofs.Texts.MarkLemmas.{is_without-cons, is_without-more}
 use Rattle.uv_model.proofs.Texts.UnitsLemmas.{IsUnits-faultless, IsUnits-nil, is_faultless-units, is_unit_at-mark}
@@ -78,22 +78,40 @@ pieces_segments (c ∷ rest) units none =
       | inr other ↦ rw other (segment_more c rest (splits_first rest) other without.0 parts.0 later)
     ]
 
+-- the texts between the slashes of units without `?`, joined
+joined_pieces : (text : List ℕ) → IsUnits text → is_without question_mark text ≡ true → JoinsTo (pieces text) text
+joined_pieces text units none =
+    let s = splits_first text in
+    record {
+      first = s.first;
+      others = s.others;
+      some = s.is;
+      each = pieces_segments text (is_faultless-units text units) none;
+      joined = sym (join_with_byte-slice_split slash text);
+    }
+
 -- a path that doesn't begin with `/`
 pub path_relative : (text : List ℕ) → IsUnits text → is_without question_mark text ≡ true
     → starts_with_slash text ≡ false
     → IsPathRelative (pieces text) text
-path_relative text units none start =
-    let s = splits_first text in
-    record {
-      joins = record {
-        first = s.first;
-        others = s.others;
-        some = s.is;
-        each = pieces_segments text (is_faultless-units text units) none;
-        joined = sym (join_with_byte-slice_split slash text);
-      };
-      start = start;
-    }
+path_relative text units none start = record { joins = joined_pieces text units none; start = start }
+
+-- what follows the first code point of units is units
+units_behind : (c : ℕ) (rest : List ℕ) → IsUnits (c ∷ rest) → IsUnits rest
+units_behind c rest units =
+    IsUnits-faultless rest
+    (and_parts (is_unit_at c rest) (is_faultless rest) (is_faultless-units (c ∷ rest) units)).1
+
+-- a path that begins with `/`
+pub path_slashed : (text : List ℕ) → IsUnits text → is_without question_mark text ≡ true
+    → starts_with_slash text ≡ true → IsPathSlashed (segments_of text) text
+path_slashed [] units none start = absurd (false≢true start)
+path_slashed (c ∷ rest) units none start =
+    rw start (record {
+      behind = rest;
+      slashed = ap (λ x. x ∷ rest) (eqb-true c slash start);
+      joins = joined_pieces rest (units_behind c rest units) (is_without-cons question_mark c rest none).1;
+    })
 
 -- what follows one `/` doesn't begin with another
 one_slash : (c : ℕ) (rest : List ℕ) → c ≡ slash → starts_with_two_slashes (c ∷ rest) ≡ false
@@ -108,14 +126,10 @@ pub path_absolute : (text : List ℕ) → IsUnits text → is_without question_m
 path_absolute [] units none start two = absurd (false≢true start)
 path_absolute (c ∷ rest) units none start two =
     let first : c ≡ slash = eqb-true c slash start in
-    let behind : IsUnits rest
-    =
-    IsUnits-faultless rest
-    (and_parts (is_unit_at c rest) (is_faultless rest) (is_faultless-units (c ∷ rest) units)).1 in
     rw start (record {
       behind = rest;
       slashed = ap (λ x. x ∷ rest) first;
-      relative = path_relative rest behind (is_without-cons question_mark c rest none).1 (one_slash c rest first two);
+      relative = path_relative rest (units_behind c rest units) (is_without-cons question_mark c rest none).1 (one_slash c rest first two);
     })
 
 -- the segments of a path that isn't empty and doesn't begin with `/`

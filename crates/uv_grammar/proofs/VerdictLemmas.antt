@@ -2,17 +2,19 @@
 use Rattle.std.proofs.Common.{◌≡◌, ℕ, ◌<◌, ◌^◌, List, length, Option, Some, None, arith, ap, sym, subst}
 use Rattle.std.specs.Str.{chars, IsUtf8}
 use Rattle.std.proofs.lemmas.Str.{encodes-chars, length-le-encodes}
+use Rattle.uv_model.specs.declared.profile.Profile.{Profile}
 use Rattle.uv_model.specs.declared.rule.Refusal.{Refusal}
 use Rattle.uv_model.specs.Complaints.Complaint.{Complaint, HostPartComplaint, IsStarted, PortPartComplaint, StartComplaint}
 use Rattle.uv_model.specs.Cut.{Cut, IsCut, written_cut}
 use Rattle.uv_model.specs.Parts.{Parts, written}
 use Rattle.uv_model.specs.Complaints.Refusal.{IsLeast}
 use Rattle.uv_model.specs.Records.Url.{Url}
+use Rattle.uv_model.specs.Setting.{Setting, setting_of}
 use Rattle.uv_model.specs.Valid.{Valid}
 use Rattle.uv_model.proofs.Complaints.ComplaintPlaces.{complaint_within}
 use Rattle.uv_model.proofs.Complaints.ComplaintsExcludeParts.{faultless}
 use Rattle.uv_model.proofs.Cuts.UniqueParts.{parts_are_unique}
-use Rattle.uv_model.proofs.Complaints.RefusedLemmas.{host_passes, host_refuses, least_of_parts, port_passes, port_refuses, refused_at_start}
+use Rattle.uv_model.proofs.Complaints.RefusedLemmas.{FromHost, host_passes, host_refuses, least_of_parts, port_passes, port_refuses, refused_at_start}
 use Rattle.uv_grammar.specs.Laws.{PartsAreTheText}
 use Rattle.uv_grammar.specs.PartComplaints.{BehindAuthority, IsCountable}
 use Rattle.uv_grammar.specs.Verdict.{IsAccepted, IsBuilt, IsRefused}
@@ -28,56 +30,81 @@ countable bytes cut utf8 small same =
     omega arith
 
 -- the least complaint excludes all parts, and stands within the text
-pub refused : (base : Option Url) (text : List ℕ) (refusal : Refusal) → IsLeast (Complaint base text) (Some refusal)
-    → IsRefused base text refusal
-refused base text refusal least = record {
+pub refused : (profile : Profile) (base : Option Url) (text : List ℕ) (refusal : Refusal)
+    → IsLeast (Complaint profile base text) (Some refusal) → IsRefused profile base text refusal
+refused profile base text refusal least = record {
   least = least;
-  within = complaint_within base text refusal.place refusal.rule least.stands;
-  none = faultless base text refusal.place refusal.rule least.stands;
+  within = complaint_within profile base text refusal.place refusal.rule least.stands;
+  none = faultless profile base text refusal.place refusal.rule least.stands;
 }
 
 -- a text that is refused by its start
-pub refused_start : (base : Option Url) (text : List ℕ) (cut : Cut) (refusal : Refusal) → IsCut base text cut
-    → IsLeast (StartComplaint base text cut) (Some refusal) → IsRefused base text refusal
-refused_start base text cut refusal is least = refused base text refusal (refused_at_start base text cut refusal is least)
+pub refused_start : (profile : Profile) (base : Option Url) (text : List ℕ) (cut : Cut) (setting : Setting)
+    (refusal : Refusal)
+    → IsCut base text cut → setting ≡ setting_of profile base cut.scheme
+    → IsLeast (StartComplaint setting text cut) (Some refusal) → IsRefused profile base text refusal
+refused_start profile base text cut setting refusal is made least =
+    refused profile base text refusal
+    (refused_at_start profile base text cut refusal is
+    (subst (λ (s : Setting). IsLeast (StartComplaint s text cut) (Some refusal)) made least))
+
+-- a text whose start is valid is refused by its host, its port or what stands behind them
+refused_started : (profile : Profile) (base : Option Url) (text : List ℕ) (cut : Cut) (setting : Setting)
+    (refusal : Refusal)
+    → IsCut base text cut → setting ≡ setting_of profile base cut.scheme → IsStarted setting text cut
+    → IsLeast (FromHost setting cut) (Some refusal) → IsRefused profile base text refusal
+refused_started profile base text cut setting refusal is made started least =
+    refused profile base text refusal
+    (least_of_parts profile base text cut (Some refusal) is
+    (subst (λ (s : Setting). IsStarted s text cut) made started)
+    (subst (λ (s : Setting). IsLeast (FromHost s cut) (Some refusal)) made least))
 
 -- a text that is refused by its host
-pub refused_host : (base : Option Url) (text : List ℕ) (cut : Cut) (refusal : Refusal) → IsCut base text cut
-    → IsStarted base text cut → IsLeast (HostPartComplaint base cut) (Some refusal) → IsRefused base text refusal
-refused_host base text cut refusal is started least =
-    refused base text refusal
-    (least_of_parts base text cut (Some refusal) is started (host_refuses base cut refusal least))
+pub refused_host : (profile : Profile) (base : Option Url) (text : List ℕ) (cut : Cut) (setting : Setting)
+    (refusal : Refusal)
+    → IsCut base text cut → setting ≡ setting_of profile base cut.scheme → IsStarted setting text cut
+    → IsLeast (HostPartComplaint setting cut) (Some refusal) → IsRefused profile base text refusal
+refused_host profile base text cut setting refusal is made started least =
+    refused_started profile base text cut setting refusal is made started (host_refuses setting cut refusal least)
 
 -- a text that is refused by its port
-pub refused_port : (base : Option Url) (text : List ℕ) (cut : Cut) (refusal : Refusal) → IsCut base text cut
-    → IsStarted base text cut → IsLeast (HostPartComplaint base cut) None
-    → IsLeast (PortPartComplaint cut) (Some refusal) → IsRefused base text refusal
-refused_port base text cut refusal is started host least =
-    refused base text refusal (least_of_parts base text cut (Some refusal) is started
-    (host_passes base cut (Some refusal) host (port_refuses base cut refusal least)))
+pub refused_port : (profile : Profile) (base : Option Url) (text : List ℕ) (cut : Cut) (setting : Setting)
+    (refusal : Refusal)
+    → IsCut base text cut → setting ≡ setting_of profile base cut.scheme → IsStarted setting text cut
+    → IsLeast (HostPartComplaint setting cut) None → IsLeast (PortPartComplaint cut) (Some refusal)
+    → IsRefused profile base text refusal
+refused_port profile base text cut setting refusal is made started host least =
+    refused_started profile base text cut setting refusal is made started
+    (host_passes setting cut (Some refusal) host (port_refuses setting cut refusal least))
 
 -- a text that is refused behind its authority
-pub refused_behind : (base : Option Url) (text : List ℕ) (cut : Cut) (refusal : Refusal) → IsCut base text cut
-    → IsStarted base text cut → IsLeast (HostPartComplaint base cut) None → IsLeast (PortPartComplaint cut) None
-    → IsLeast (BehindAuthority base cut) (Some refusal) → IsRefused base text refusal
-refused_behind base text cut refusal is started host port least =
-    refused base text refusal (least_of_parts base text cut (Some refusal) is started
-    (host_passes base cut (Some refusal) host (port_passes base cut (Some refusal) port least)))
+pub refused_behind : (profile : Profile) (base : Option Url) (text : List ℕ) (cut : Cut) (setting : Setting)
+    (refusal : Refusal)
+    → IsCut base text cut → setting ≡ setting_of profile base cut.scheme → IsStarted setting text cut
+    → IsLeast (HostPartComplaint setting cut) None → IsLeast (PortPartComplaint cut) None
+    → IsLeast (BehindAuthority setting cut) (Some refusal) → IsRefused profile base text refusal
+refused_behind profile base text cut setting refusal is made started host port least =
+    refused_started profile base text cut setting refusal is made started
+    (host_passes setting cut (Some refusal) host (port_passes setting cut (Some refusal) port least))
 
 -- a text of valid parts
-pub accepted : (base : Option Url) (text : List ℕ) (cut : Cut) → IsCut base text cut → IsStarted base text cut
-    → (parts : Parts) → IsBuilt base cut parts → IsAccepted base text parts
-accepted base text cut is started parts h =
-    let valid : Valid base text parts
-    = subst (λ (p : Parts). Valid base text p) (sym h.built)
-    (valid_built base text cut h.host h.port is started h.fits_host h.fits_port h.silent) in
+pub accepted : (profile : Profile) (base : Option Url) (text : List ℕ) (cut : Cut) (setting : Setting)
+    → IsCut base text cut → setting ≡ setting_of profile base cut.scheme → IsStarted setting text cut
+    → (parts : Parts) → IsBuilt setting cut parts → IsAccepted profile base text parts
+accepted profile base text cut setting is made started parts built =
+    let h : IsBuilt (setting_of profile base cut.scheme) cut parts
+    = subst (λ (s : Setting). IsBuilt s cut parts) made built in
+    let valid : Valid profile base text parts
+    = subst (λ (p : Parts). Valid profile base text p) (sym h.built)
+    (valid_built profile base text cut h.host h.port is (subst (λ (s : Setting). IsStarted s text cut) made started)
+    h.fits_host h.fits_port h.silent) in
     record {
       valid = valid;
-      only = λ other again. parts_are_unique base text other parts again valid;
-      silent = λ place rule complaint. faultless base text place rule complaint parts valid;
+      only = λ other again. parts_are_unique profile base text other parts again valid;
+      silent = λ place rule complaint. faultless profile base text place rule complaint parts valid;
     }
 
 -- a valid text is its parts written out
 pub parts_written : PartsAreTheText
 unfolding written
-parts_written base text parts valid = valid.whole
+parts_written profile base text parts valid = valid.whole

@@ -5,7 +5,7 @@ use Rattle.uv_model.specs.declared.rule.Refusal.{Refusal}
 use Rattle.uv_model.specs.Complaints.AllComplaints.{ListsComplaints}
 use Rattle.uv_model.specs.Complaints.Complaint.{IsStarted, JudgedComplaint, StartComplaint}
 use Rattle.uv_model.specs.Cut.{Cut}
-use Rattle.uv_model.specs.Records.Url.{Url}
+use Rattle.uv_model.specs.Setting.{Setting}
 
 -- what is added to the list are exactly these complaints, each once, in their order
 pub record AddsComplaints (complaint : ℕ → Rule → Type 0) (before after : List Refusal) : Type 0 where
@@ -19,6 +19,7 @@ fault_list None = []
 fault_list (Some refusal) = refusal ∷ []
 
 -- those of the start, or where there are none, those of the host, the port and the path's start
-abbrev pub FirstComplaint : Option Url → List ℕ → Cut → ℕ → Rule → Type 0
-FirstComplaint base text cut place rule =
-    StartComplaint base text cut place rule ⊎ (IsStarted base text cut × JudgedComplaint base cut place rule)
+abbrev pub FirstComplaint : Setting → List ℕ → Cut → ℕ → Rule → Type 0
+FirstComplaint setting text cut place rule =
+    StartComplaint setting text cut place rule
+    ⊎ (IsStarted setting text cut × JudgedComplaint setting cut place rule)

@@ -3,6 +3,7 @@ use Rattle.std.specs.Prelude.{◌≡◌, ◌≢◌, ℕ, ◌⊎◌, Bool, true, 
 use Rattle.std.specs.Str.{bytes_eq}
 use Rattle.uv_model.specs.declared.host.Host.{Host}
 use Rattle.uv_model.specs.declared.host.Host.TheVariants.{Domain, Empty}
+use Rattle.uv_model.specs.declared.profile.Profile.{Profile}
 use Rattle.uv_model.specs.declared.scheme.Class.{Class}
 use Rattle.uv_model.specs.declared.scheme.Class.TheVariants.{Special, File, Other}
 use Rattle.uv_model.specs.Hosts.OpaqueHost.{starts_with_bracket}
@@ -15,12 +16,12 @@ without_localhost (Domain form) = if bytes_eq form (codes "localhost") then Empt
 without_localhost host = host
 
 -- a valid host that isn't empty, by the class, with the value that it gives: an opaque host gives none
-abbrev pub FitsSomeHost : Class → List ℕ → Option Host → Type 0
-FitsSomeHost Special text None = ⊥
-FitsSomeHost Special text (Some host) = IsHostText text host
-FitsSomeHost File text None = ⊥
-FitsSomeHost File text (Some host) = IsFileHostText text host
-FitsSomeHost Other text host = IsOpaqueHostText text host
+abbrev pub FitsSomeHost : Profile → Class → List ℕ → Option Host → Type 0
+FitsSomeHost profile Special text None = ⊥
+FitsSomeHost profile Special text (Some host) = IsHostText profile text host
+FitsSomeHost profile File text None = ⊥
+FitsSomeHost profile File text (Some host) = IsFileHostText profile text host
+FitsSomeHost profile Other text host = IsOpaqueHostText text host
 
 -- an empty host may stand before this path, or without a port
 abbrev pub MayBeEmpty : Class → Option (List ℕ) → List ℕ → Type 0
@@ -29,9 +30,9 @@ MayBeEmpty File port_text path_text = starts_with_slash path_text ≡ true
 MayBeEmpty Other port_text path_text = port_text ≡ None
 
 -- a valid host of the class, or an empty one
-abbrev pub FitsHost : Class → List ℕ → Option (List ℕ) → List ℕ → Option Host → Type 0
-FitsHost class text port_text path_text host =
-    ((text ≢ []) × FitsSomeHost class text host)
+abbrev pub FitsHost : Profile → Class → List ℕ → Option (List ℕ) → List ℕ → Option Host → Type 0
+FitsHost profile class text port_text path_text host =
+    ((text ≢ []) × FitsSomeHost profile class text host)
     ⊎ ((text ≡ []) × (host ≡ Some Empty) × MayBeEmpty class port_text path_text)
 
 -- the text of an opaque host that is neither empty nor in brackets, which is judged code point by code point

@@ -10,7 +10,6 @@ pub mod PartValues
 pub mod PlainLinks
 pub mod Scan
 pub mod Seen
-pub mod Setting
 pub mod Sides
 pub mod StartRules
 pub mod Verdict

@@ -1,19 +1,19 @@
 -- The values of the host and the port of a cut text, after the URL Standard, section 4.3.
-use Rattle.std.specs.Prelude.{◌≡◌, ℕ, List, [], ◌∷◌, Option, Some, None, if◌then◌else◌, ◌==◌, Bool, false}
+use Rattle.std.specs.Prelude.{◌≡◌, ℕ, List, [], ◌∷◌, Option, Some, None, if◌then◌else◌}
 use Rattle.std.specs.Str.Parse.{digits_value}
 use Rattle.uv_grammar.specs.HostValues.{FitsHost}
 use Rattle.uv_model.specs.declared.host.Host.{Host}
-use Rattle.uv_model.specs.Cut.{Cut, class_in}
-use Rattle.uv_model.specs.Records.Url.{Url}
-use Rattle.uv_model.specs.Valid.{IsPortText, port_given, scheme_or}
+use Rattle.uv_model.specs.Cut.{Cut}
+use Rattle.uv_model.specs.Setting.{Setting}
+use Rattle.uv_model.specs.Valid.{IsPortText, is_default, port_given}
 
 -- the host of a cut text: valid where there is an authority
-abbrev pub FitsHostPart : Option Url → Cut → Option Host → Type 0
-FitsHostPart base cut value = fits cut.host_text
+abbrev pub FitsHostPart : Setting → Cut → Option Host → Type 0
+FitsHostPart setting cut value = fits cut.host_text
   where
     fits : Option (List ℕ) → Type 0
     fits None = value ≡ None
-    fits (Some host_text) = FitsHost (class_in base cut.scheme) host_text cut.port_text cut.path_text value
+    fits (Some host_text) = FitsHost setting.profile setting.class host_text cut.port_text cut.path_text value
 
 -- the number of a port text, and none of an empty one
 abbrev pub port_number : List ℕ → Option ℕ
@@ -25,18 +25,13 @@ abbrev pub FitsPort : List ℕ → Option ℕ → Type 0
 FitsPort text number = IsPortText text × (number ≡ port_number text)
 
 -- the port of a cut text: valid where there is one behind a host
-abbrev pub FitsPortPart : Option Url → Cut → Option ℕ → Type 0
-FitsPortPart base cut value = fits cut.host_text cut.port_text
+abbrev pub FitsPortPart : Setting → Cut → Option ℕ → Type 0
+FitsPortPart setting cut value = fits cut.host_text cut.port_text
   where
     fits : Option (List ℕ) → Option (List ℕ) → Type 0
     fits (Some host_text) (Some port_text) =
-        IsPortText port_text × (value ≡ port_given (scheme_or base cut.scheme) (Some port_text))
+        IsPortText port_text × (value ≡ port_given setting.default_port (Some port_text))
     fits _ _ = value ≡ None
-
--- the port is the default
-abbrev pub is_default : Option ℕ → ℕ → Bool
-is_default None number = false
-is_default (Some default) number = number == default
 
 -- a port's number that isn't the default
 abbrev pub without_default : Option ℕ → Option ℕ → Option ℕ

@@ -3,6 +3,7 @@ use Rattle.std.specs.Prelude.{◌≡◌, ◌≢◌, ℕ, ◌≤◌, Bool, true, 
 use Rattle.std.specs.Char.{is_ascii}
 use Rattle.std.specs.List.{list_all}
 use Rattle.std.specs.Str.{chars}
+use Rattle.uv_model.specs.declared.profile.Profile.{Profile}
 use Rattle.uv_model.specs.declared.scheme.Class.TheVariants.{Special}
 use Rattle.uv_model.specs.Ascii.{colon, number_sign, question_mark, slash}
 use Rattle.uv_model.specs.Cut.{starts_with_two_slashes}
@@ -37,10 +38,10 @@ pub record IsSpecialCut (text scheme rest : List ℕ) : Type 0 where
   pub named : is_scheme scheme ≡ true
   pub special : scheme_class scheme ≡ Special
 
--- the text is a domain of this form, and a rest
+-- the text is by each profile a domain of this form, and a rest
 pub record IsNameCut (text name form rest : List ℕ) : Type 0 where
   pub joined : text ≡ name ++ rest
-  pub domain : IsDomain name form
+  pub domain : (profile : Profile) → IsDomain profile name form
 
 -- URL units, which hold no `#`, and a `?` only where it is asked for
 pub record AreUnits (has_question_marks : Bool) (text : List ℕ) : Type 0 where

@@ -6,7 +6,6 @@ ghost use Rattle.uv_model.specs.Complaints.Complaint.{HeldComplaint, HostPartCom
 ghost use Rattle.uv_grammar.specs.Faults.{AddsComplaints, FirstComplaint, fault_list};
 ghost use Rattle.uv_grammar.specs.HostValues.{is_scanned};
 ghost use Rattle.uv_grammar.specs.PartComplaints.{IsCountable, OfFragment, OfQuery};
-ghost use Rattle.uv_grammar.specs.Setting.{IsSettingOf};
 
 use crate::authority::{judge_host_part, judge_port_part};
 use crate::beginnings::{are_digits, has_bracket};
@@ -16,16 +15,21 @@ use crate::scan::{Scan, push_scan};
 use crate::setting::Setting;
 use crate::start_rules::{path_start_fault, start_fault};
 use std::alloc::{AllocError, Global};
-use uv_model::{Class, Record, Refusal};
+use uv_model::{Class, Profile, Record, Refusal};
 
-/// All that is wrong with a text, alone or against a base: each rule at each place where it is violated, once, by place
+/// All that is wrong with a text by the profile, alone or against a base: each rule at each place where it is violated, once, by place
 /// and at one place by the rule's number (URL Standard, section 4.3). The first is the refusal of `check`, and there is
 /// none exactly where `check` says yes. Where the start of the text violates a rule, as a special scheme without `//`,
 /// no host, no port and no start of a path is judged. The error is want of memory.
-pub fn faults(alloc: Global, text: &str, base: Option<&Record>) -> Result<Vec<Refusal>, AllocError>
-    ensures { IfOk result (λ found. AreFaults (option_copied base.entry) (chars text.now) found.items) }
+pub fn faults(
+    alloc: Global,
+    text: &str,
+    base: Option<&Record>,
+    profile: Profile,
+) -> Result<Vec<Refusal>, AllocError>
+    ensures { IfOk result (λ found. AreFaults profile (option_copied base.entry) (chars text.now) found.items) }
 {
-    let (cut, setting) = cut_text(text, base);
+    let (cut, setting) = cut_text(text, base, profile);
     let mut found = Vec::new(alloc);
     push_first_faults(alloc, &mut found, text, &cut, &setting)?;
     push_held_faults(&mut found, &cut)?;
@@ -40,9 +44,8 @@ fn push_first_faults(
     cut: &Cut,
     setting: &Setting,
 ) -> Result<(), AllocError>
-    requires count { IsCountable cut.now }
-    requires setting { IsSettingOf cut.now setting.now }
-    ensures { OnOk result (AddsComplaints (FirstComplaint setting.now.base (chars text.now) cut.now)
+    requires { IsCountable cut.now }
+    ensures { OnOk result (AddsComplaints (FirstComplaint setting.now (chars text.now) cut.now)
         found.old.items found.new.items) }
 {
     match start_fault(text, cut, setting) {
@@ -58,10 +61,9 @@ fn push_judged_faults(
     cut: &Cut,
     setting: &Setting,
 ) -> Result<(), AllocError>
-    requires count { IsCountable cut.now }
-    requires setting { IsSettingOf cut.now setting.now }
+    requires { IsCountable cut.now }
     ensures { OnOk result
-        (AddsComplaints (JudgedComplaint setting.now.base cut.now) found.old.items found.new.items) }
+        (AddsComplaints (JudgedComplaint setting.now cut.now) found.old.items found.new.items) }
 {
     push_host_faults(alloc, found, cut, setting)?;
     push_port_faults(found, cut, setting)?;
@@ -75,10 +77,9 @@ fn push_host_faults(
     cut: &Cut,
     setting: &Setting,
 ) -> Result<(), AllocError>
-    requires count { IsCountable cut.now }
-    requires setting { IsSettingOf cut.now setting.now }
+    requires { IsCountable cut.now }
     ensures { OnOk result
-        (AddsComplaints (HostPartComplaint setting.now.base cut.now) found.old.items found.new.items) }
+        (AddsComplaints (HostPartComplaint setting.now cut.now) found.old.items found.new.items) }
 {
     let Some(host_text) = cut.host_text else {
         return Ok(());
@@ -105,8 +106,7 @@ fn push_port_faults(
     cut: &Cut,
     setting: &Setting,
 ) -> Result<(), AllocError>
-    requires count { IsCountable cut.now }
-    requires setting { IsSettingOf cut.now setting.now }
+    requires { IsCountable cut.now }
     ensures { OnOk result (AddsComplaints (PortPartComplaint cut.now) found.old.items found.new.items) }
 {
     let Some(host_text) = cut.host_text else {

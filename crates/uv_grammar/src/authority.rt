@@ -4,7 +4,6 @@ ghost use Rattle.uv_model.specs.Complaints.Complaint.{HostPartComplaint, PortPar
 ghost use Rattle.uv_grammar.specs.Judged.{IsJudged};
 ghost use Rattle.uv_grammar.specs.PartComplaints.{IsCountable};
 ghost use Rattle.uv_grammar.specs.PartValues.{FitsHostPart, FitsPortPart, without_default};
-ghost use Rattle.uv_grammar.specs.Setting.{IsSettingOf};
 
 use crate::cut::Cut;
 use crate::host::judge_host;
@@ -21,10 +20,9 @@ pub(crate) fn judge_host_part(
     cut: &Cut,
     setting: &Setting,
 ) -> Result<Judged<Option<Host>>, AllocError>
-    requires count { IsCountable cut.now }
-    requires setting { IsSettingOf cut.now setting.now }
+    requires { IsCountable cut.now }
     ensures { IfOk result
-        (IsJudged (FitsHostPart setting.now.base cut.now) (HostPartComplaint setting.now.base cut.now)) }
+        (IsJudged (FitsHostPart setting.now cut.now) (HostPartComplaint setting.now cut.now)) }
 {
     let Some(host_text) = cut.host_text else {
         return Ok(Judged::Valid(None));
@@ -35,6 +33,7 @@ pub(crate) fn judge_host_part(
         host_text,
         cut.port_text,
         cut.path_text,
+        setting.profile,
     )? {
         Judged::Valid(host) => Ok(Judged::Valid(host)),
         Judged::Refused(refusal) => Ok(Judged::Refused(refusal_behind(host_place(cut), refusal))),
@@ -43,9 +42,8 @@ pub(crate) fn judge_host_part(
 
 /// The port of a cut text, a refusal counted from the text's start.
 pub(crate) fn judge_port_part(cut: &Cut, setting: &Setting) -> Judged<Option<u16>>
-    requires count { IsCountable cut.now }
-    requires setting { IsSettingOf cut.now setting.now }
-    ensures { IsJudged (FitsPortPart setting.now.base cut.now) (PortPartComplaint cut.now) result }
+    requires { IsCountable cut.now }
+    ensures { IsJudged (FitsPortPart setting.now cut.now) (PortPartComplaint cut.now) result }
 {
     match (cut.host_text, cut.port_text) {
         (Some(host_text), Some(port_text)) => match judge_port(port_text) {

@@ -12,7 +12,7 @@ use crate::plain_links::plain_link;
 use crate::start_rules::start_fault;
 use crate::unit_faults::fault_behind_authority;
 use std::alloc::{AllocError, Global};
-use uv_model::{Record, Refusal};
+use uv_model::{Profile, Record, Refusal};
 
 /// What a text is against a base.
 #[derive(Drop)]
@@ -23,18 +23,19 @@ pub enum Verdict<'t> {
     No(Refusal),
 }
 
-/// Whether a text is a valid URL string, alone or against a base (URL Standard, section 4.3), with its parts or its
-/// least refusal. The error is want of memory.
+/// Whether a text is a valid URL string by the profile, alone or against a base (URL Standard, section 4.3), with its
+/// parts or its least refusal. The error is want of memory.
 pub fn check<'t>(
     alloc: Global,
     text: &'t str,
     base: Option<&Record>,
+    profile: Profile,
 ) -> Result<Verdict<'t>, AllocError>
-    ensures { IfOk result (IsVerdict (option_copied base.entry) (chars text.now)) }
+    ensures { IfOk result (IsVerdict profile (option_copied base.entry) (chars text.now)) }
 {
     match plain_link(text) {
         Some(parts) => Ok(Verdict::Yes(parts)),
-        None => check_by_parts(alloc, text, base),
+        None => check_by_parts(alloc, text, base, profile),
     }
 }
 
@@ -43,10 +44,11 @@ fn check_by_parts<'t>(
     alloc: Global,
     text: &'t str,
     base: Option<&Record>,
+    profile: Profile,
 ) -> Result<Verdict<'t>, AllocError>
-    ensures { IfOk result (IsVerdict (option_copied base.entry) (chars text.now)) }
+    ensures { IfOk result (IsVerdict profile (option_copied base.entry) (chars text.now)) }
 {
-    let (cut, setting) = cut_text(text, base);
+    let (cut, setting) = cut_text(text, base, profile);
     if let Some(refusal) = start_fault(text, &cut, &setting) {
         return Ok(Verdict::No(refusal));
     }

@@ -2,15 +2,15 @@
 ghost use Rattle.std.specs.Prelude.{◌≡◌, MatchOption, false, option_copied};
 ghost use Rattle.std.specs.Str.{chars};
 ghost use Rattle.uv_model.specs.Cut.{IsCut, host_before, is_within, port_behind, starts_with_two_slashes};
+ghost use Rattle.uv_model.specs.Setting.{setting_of};
 ghost use Rattle.uv_grammar.specs.Seen.{seen, seen_option};
-ghost use Rattle.uv_grammar.specs.Setting.{setting_of};
 ghost use Rattle.uv_grammar.specs.Sides.{IsPortMark, SplitsAuthority, SplitsHost, SplitsMiddle, SplitsScheme};
 
 use crate::beginnings::is_scheme_text;
 use crate::marks::{behind_slash, split_at_mark, split_at_slash};
 use crate::setting::Setting;
 use std::marker::Model;
-use uv_model::{Class, Record};
+use uv_model::{Class, Profile, Record};
 use uv_text::lacks_byte;
 
 /// The texts of the parts of a text.
@@ -41,14 +41,18 @@ impl<'t> Model for Cut<'t> {
 }
 
 /// The cut of a text against a base, and what the text is read against.
-pub(crate) fn cut_text<'t, 'b>(text: &'t str, base: Option<&'b Record>) -> (Cut<'t>, Setting<'b>)
+pub(crate) fn cut_text<'t, 'b>(
+    text: &'t str,
+    base: Option<&'b Record>,
+    profile: Profile,
+) -> (Cut<'t>, Setting<'b>)
     ensures cut { IsCut (option_copied base.entry) (chars text.now) result.0 }
-    ensures setting { result.1 ≡ setting_of (option_copied base.entry) result.0.scheme }
+    ensures setting { result.1 ≡ setting_of profile (option_copied base.entry) result.0.scheme }
 {
     let (front, fragment) = split_at_mark(text, '#');
     let (start, query) = split_at_mark(front, '?');
     let (scheme, middle) = split_scheme(start);
-    let setting = Setting::of(base, scheme);
+    let setting = Setting::of(base, scheme, profile);
     let (host_text, port_text, path_text) = split_middle(middle, setting.class);
     let cut = Cut {
         scheme,

@@ -1,9 +1,11 @@
 //! The host of a text, judged by its class.
 ghost use Rattle.std.specs.Prelude.{◌≡◌, ◌≢◌, IfOk, [], codes, true};
 ghost use Rattle.std.specs.Str.{bytes_eq, chars};
+ghost use Rattle.uv_model.specs.declared.profile.Profile.{Profile};
 ghost use Rattle.uv_model.specs.Complaints.Complaint.{HeldHostComplaint, HostComplaint};
+ghost use Rattle.uv_model.specs.Complaints.OpaqueHostComplaint.{OpaqueHostComplaint};
 ghost use Rattle.uv_model.specs.Hosts.OpaqueHost.{starts_with_bracket};
-ghost use Rattle.uv_model.specs.Valid.{IsHostText};
+ghost use Rattle.uv_model.specs.Valid.{IsHostText, IsOpaqueHostText};
 ghost use Rattle.uv_grammar.specs.HostValues.{FitsHost, FitsSomeHost, without_localhost};
 ghost use Rattle.uv_grammar.specs.Judged.{IsJudged};
 ghost use Rattle.uv_grammar.specs.Seen.{seen_option};
@@ -12,7 +14,7 @@ use crate::beginnings::{has_bracket, has_slash};
 use crate::judged::Judged;
 use std::alloc::{AllocError, Global};
 use uv_host::{DomainAnswer, bracketed_ipv6, domain, ipv4, opaque_fault};
-use uv_model::{Class, Host, Refusal, Rule, Text};
+use uv_model::{Class, Host, Profile, Refusal, Rule, Text};
 
 /// The host, judged by its class, beside the port and the path that follow it, with its value where it isn't an opaque
 /// host. A refusal's place is counted in code points from the host's start. The error is want of memory.
@@ -22,25 +24,27 @@ pub(crate) fn judge_host(
     host_text: &str,
     port_text: Option<&str>,
     path_text: &str,
+    profile: Profile,
 ) -> Result<Judged<Option<Host>>, AllocError>
     ensures { IfOk result (IsJudged
-        (FitsHost class (chars host_text.now) (seen_option port_text.entry) (chars path_text.now))
-        (HostComplaint class (chars host_text.now) (seen_option port_text.entry) (chars path_text.now))) }
+        (FitsHost profile class (chars host_text.now) (seen_option port_text.entry) (chars path_text.now))
+        (HostComplaint profile class (chars host_text.now) (seen_option port_text.entry) (chars path_text.now))) }
 {
     if host_text.is_empty() {
         return Ok(judge_empty_host(class, port_text, path_text));
     }
     match class {
-        Class::Special => judge_special_host(alloc, host_text),
-        Class::File => judge_file_host(alloc, host_text),
+        Class::Special => judge_special_host(alloc, host_text, profile),
+        Class::File => judge_file_host(alloc, host_text, profile),
         Class::Other => Ok(judge_opaque_host(host_text)),
     }
 }
 
 // An empty host.
 fn judge_empty_host(class: Class, port_text: Option<&str>, path_text: &str) -> Judged<Option<Host>>
-    ensures { IsJudged (FitsHost class [] (seen_option port_text.entry) (chars path_text.now))
-        (HostComplaint class [] (seen_option port_text.entry) (chars path_text.now)) result }
+    ensures { (profile : Profile)
+        → IsJudged (FitsHost profile class [] (seen_option port_text.entry) (chars path_text.now))
+        (HostComplaint profile class [] (seen_option port_text.entry) (chars path_text.now)) result }
 {
     let is_missing = match class {
         Class::Special => true,
@@ -58,24 +62,32 @@ fn judge_empty_host(class: Class, port_text: Option<&str>, path_text: &str) -> J
 }
 
 // The host of a special URL, which isn't empty.
-fn judge_special_host(alloc: Global, text: &str) -> Result<Judged<Option<Host>>, AllocError>
+fn judge_special_host(
+    alloc: Global,
+    text: &str,
+    profile: Profile,
+) -> Result<Judged<Option<Host>>, AllocError>
     requires { chars text.now ≢ [] }
-    ensures { IfOk result (IsJudged (FitsSomeHost Class.Special (chars text.now))
-        (HeldHostComplaint Class.Special (chars text.now))) }
+    ensures { IfOk result (IsJudged (FitsSomeHost profile Class.Special (chars text.now))
+        (HeldHostComplaint profile Class.Special (chars text.now))) }
 {
-    match judge_host_text(alloc, text)? {
+    match judge_host_text(alloc, text, profile)? {
         Judged::Valid(host) => Ok(Judged::Valid(Some(host))),
         Judged::Refused(refusal) => Ok(Judged::Refused(refusal)),
     }
 }
 
 // The host of a file URL, which isn't empty.
-fn judge_file_host(alloc: Global, text: &str) -> Result<Judged<Option<Host>>, AllocError>
+fn judge_file_host(
+    alloc: Global,
+    text: &str,
+    profile: Profile,
+) -> Result<Judged<Option<Host>>, AllocError>
     requires { chars text.now ≢ [] }
-    ensures { IfOk result (IsJudged (FitsSomeHost Class.File (chars text.now))
-        (HeldHostComplaint Class.File (chars text.now))) }
+    ensures { IfOk result (IsJudged (FitsSomeHost profile Class.File (chars text.now))
+        (HeldHostComplaint profile Class.File (chars text.now))) }
 {
-    match judge_host_text(alloc, text)? {
+    match judge_host_text(alloc, text, profile)? {
         Judged::Valid(host) => Ok(Judged::Valid(Some(without_localhost(host)))),
         Judged::Refused(refusal) => Ok(Judged::Refused(refusal)),
     }
@@ -104,10 +116,10 @@ fn is_localhost(form: &str) -> bool
 }
 
 // The host string of a special or a file URL, which isn't empty.
-fn judge_host_text(alloc: Global, text: &str) -> Result<Judged<Host>, AllocError>
+fn judge_host_text(alloc: Global, text: &str, profile: Profile) -> Result<Judged<Host>, AllocError>
     requires { chars text.now ≢ [] }
-    ensures { IfOk result (IsJudged (IsHostText (chars text.now))
-        (HeldHostComplaint Class.Special (chars text.now))) }
+    ensures { IfOk result (IsJudged (IsHostText profile (chars text.now))
+        (HeldHostComplaint profile Class.Special (chars text.now))) }
 {
     if has_bracket(text) {
         return Ok(judge_bracketed_host(text));
@@ -115,7 +127,7 @@ fn judge_host_text(alloc: Global, text: &str) -> Result<Judged<Host>, AllocError
     if let Some(value) = ipv4(text) {
         return Ok(Judged::Valid(Host::V4(value)));
     }
-    match domain(alloc, text)? {
+    match domain(alloc, text, profile)? {
         DomainAnswer::Ascii(form) => Ok(Judged::Valid(Host::Domain(Text::of(form)))),
         DomainAnswer::Number => Ok(Judged::Refused(at_start(Rule::HostNumber))),
         DomainAnswer::Not => Ok(Judged::Refused(at_start(Rule::HostDomain))),
@@ -125,7 +137,8 @@ fn judge_host_text(alloc: Global, text: &str) -> Result<Judged<Host>, AllocError
 // A host string that begins with `[`.
 fn judge_bracketed_host(text: &str) -> Judged<Host>
     requires { starts_with_bracket (chars text.now) ≡ true }
-    ensures { IsJudged (IsHostText (chars text.now)) (HeldHostComplaint Class.Special (chars text.now)) result }
+    ensures { (profile : Profile) → IsJudged (IsHostText profile (chars text.now))
+        (HeldHostComplaint profile Class.Special (chars text.now)) result }
 {
     match bracketed_ipv6(text) {
         Some(pieces) => Judged::Valid(Host::V6(pieces)),
@@ -143,8 +156,7 @@ fn at_start(rule: Rule) -> Refusal
 // The host of any other URL, which isn't empty.
 fn judge_opaque_host(text: &str) -> Judged<Option<Host>>
     requires { chars text.now ≢ [] }
-    ensures { IsJudged (FitsSomeHost Class.Other (chars text.now))
-        (HeldHostComplaint Class.Other (chars text.now)) result }
+    ensures { IsJudged (IsOpaqueHostText (chars text.now)) (OpaqueHostComplaint (chars text.now)) result }
 {
     if let Some(refusal) = opaque_fault(text) {
         return Judged::Refused(refusal);

@@ -2,6 +2,7 @@
 //! fragment of URL units. All others are judged by their parts.
 ghost use Rattle.std.specs.Prelude.{◌≡◌, ◌≢◌, ◌++◌, ◌∷◌, ◌<◌, [], false, true, Option, IfSome, IsTrue, drop, length};
 ghost use Rattle.std.specs.Str.{chars};
+ghost use Rattle.uv_model.specs.declared.profile.Profile.{Profile};
 ghost use Rattle.uv_model.specs.Cut.{starts_with_two_slashes};
 ghost use Rattle.uv_model.specs.Path.{starts_with_slash};
 ghost use Rattle.uv_model.specs.Records.Url.{Url};
@@ -18,10 +19,11 @@ use uv_host::{is_plain_domain, name_front};
 use uv_text::{ByteClass, split_units};
 
 /// The parts of a link that is plain: a special scheme in lower case, `://`, a domain that is its own ASCII form, and
-/// a path, a query and a fragment of URL units. Against any base it is valid with these parts. Where there are none, that
-/// says nothing.
+/// a path, a query and a fragment of URL units. By each profile and against any base it is valid with these parts. Where
+/// there are none, that says nothing.
 pub(crate) fn plain_link<'t>(text: &'t str) -> Option<Parts<'t>>
-    ensures { IfSome result (λ parts. (base : Option Url) → IsAccepted base (chars text.now) parts) }
+    ensures { IfSome result (λ parts. (profile : Profile) (base : Option Url)
+        → IsAccepted profile base (chars text.now) parts) }
 {
     let Some((scheme, behind)) = split_special(text) else {
         return None;

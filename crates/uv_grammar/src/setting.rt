@@ -2,17 +2,17 @@
 ghost use Rattle.std.specs.Prelude.{◌≡◌, option_copied};
 ghost use Rattle.std.specs.Str.{chars};
 ghost use Rattle.uv_model.specs.Scheme.{default_port, scheme_class};
-ghost use Rattle.uv_model.specs.Valid.{scheme_or};
+ghost use Rattle.uv_model.specs.Setting.{scheme_or, setting_of};
 ghost use Rattle.uv_grammar.specs.Seen.{seen_option};
-ghost use Rattle.uv_grammar.specs.Setting.{setting_of};
 
 use std::marker::Model;
-use uv_model::{Class, Record, default_port, is_name};
+use uv_model::{Class, Profile, Record, default_port, is_name};
 
-/// The base, and the class and the default port of the text's scheme, or else of the base's. A text's setting is made
-/// once and handed down.
+/// The profile, the base, and the class and the default port of the text's scheme, or else of the base's. A text's
+/// setting is made once and handed down.
 #[derive(Drop)]
 pub(crate) struct Setting<'b> {
+    pub(crate) profile: Profile,
     pub(crate) base: Option<&'b Record>,
     pub(crate) class: Class,
     pub(crate) default_port: Option<u16>,
@@ -20,11 +20,12 @@ pub(crate) struct Setting<'b> {
 
 impl<'b> Model for Setting<'b> {
     ghost use Rattle.std.specs.Prelude.{option_copied};
-    ghost use Rattle.uv_grammar.specs.Setting.{Setting};
+    ghost use Rattle.uv_model.specs.Setting.{Setting};
 
     ghost Value = { Setting };
 
     ghost view = { λ s. record {
+      profile = s.profile;
       base = option_copied s.base;
       class = s.class;
       default_port = s.default_port;
@@ -33,12 +34,17 @@ impl<'b> Model for Setting<'b> {
 
 impl<'b> Setting<'b> {
     /// The setting of a text with this scheme, or without one.
-    pub(crate) fn of(base: Option<&'b Record>, scheme: Option<&str>) -> Setting<'b>
-        ensures { result ≡ setting_of (option_copied base.entry) (seen_option scheme.entry) }
+    pub(crate) fn of(
+        base: Option<&'b Record>,
+        scheme: Option<&str>,
+        profile: Profile,
+    ) -> Setting<'b>
+        ensures { result ≡ setting_of profile (option_copied base.entry) (seen_option scheme.entry) }
     {
         let scheme = scheme_against(base, scheme);
         let default_port = default_port(scheme);
         Setting {
+            profile,
             base,
             class: class_beside(scheme, default_port),
             default_port,

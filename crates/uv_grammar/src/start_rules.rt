@@ -1,26 +1,22 @@
 //! The rules of the start of a text and of the start of a path.
-ghost use Rattle.std.specs.Prelude.{◌≡◌, ◌≢◌, ◌↔◌, IsSome, IsTrue, None, [], option_copied};
+ghost use Rattle.std.specs.Prelude.{◌≡◌, ◌≢◌, ◌↔◌, IsTrue, None, [], option_copied};
 ghost use Rattle.std.specs.Str.{chars};
-ghost use Rattle.uv_model.specs.Complaints.Complaint.{HasHost, PathStartComplaint, StartComplaint};
-ghost use Rattle.uv_model.specs.Cut.{class_in};
+ghost use Rattle.uv_model.specs.Complaints.Complaint.{HasEmptyFirst, HasHost, PathStartComplaint, StartComplaint};
 ghost use Rattle.uv_model.specs.Complaints.Refusal.{IsLeast};
-ghost use Rattle.uv_model.specs.Scheme.{scheme_class};
 ghost use Rattle.uv_grammar.specs.PartComplaints.{IsCountable, OfPathStart};
-ghost use Rattle.uv_grammar.specs.Setting.{IsSettingOf};
 ghost use Rattle.uv_grammar.specs.StartRules.{base_fault};
 
 use crate::beginnings::{has_drive, has_number_sign, has_two_slashes};
 use crate::cut::Cut;
 use crate::places::{path_place, refusal_behind, slashes_place};
 use crate::setting::Setting;
-use uv_model::{Class, Host, Record, Refusal, Rule};
+use uv_model::{Class, Host, Profile, Record, Refusal, Rule};
 
 /// The least refusal under which no host, port and start of a path is judged: a text without a scheme against no base
 /// or an opaque one, and a special scheme without `//`.
 pub(crate) fn start_fault(text: &str, cut: &Cut, setting: &Setting) -> Option<Refusal>
-    requires count { IsCountable cut.now }
-    requires setting { IsSettingOf cut.now setting.now }
-    ensures { IsLeast (StartComplaint setting.now.base (chars text.now) cut.now) result }
+    requires { IsCountable cut.now }
+    ensures { IsLeast (StartComplaint setting.now (chars text.now) cut.now) result }
 {
     match cut.scheme {
         Some(_) => {
@@ -39,9 +35,7 @@ pub(crate) fn start_fault(text: &str, cut: &Cut, setting: &Setting) -> Option<Re
 
 // A special scheme has no authority.
 fn lacks_slashes(cut: &Cut, setting: &Setting) -> bool
-    requires some { IsSome cut.now.scheme }
-    requires setting { IsSettingOf cut.now setting.now }
-    ensures { IsTrue result ↔ ((class_in None cut.now.scheme ≢ Class.Other) × (cut.now.host_text ≡ None)) }
+    ensures { IsTrue result ↔ ((setting.now.class ≢ Class.Other) × (cut.now.host_text ≡ None)) }
 {
     match (setting.class, cut.host_text) {
         (Class::Other, _) => false,
@@ -74,9 +68,8 @@ fn base_fault(text: &str, base: Option<&Record>) -> Option<Refusal>
 
 /// The least refusal of the start of the path.
 pub(crate) fn path_start_fault(cut: &Cut, setting: &Setting) -> Option<Refusal>
-    requires count { IsCountable cut.now }
-    requires setting { IsSettingOf cut.now setting.now }
-    ensures { IsLeast (OfPathStart setting.now.base cut.now) result }
+    requires { IsCountable cut.now }
+    ensures { IsLeast (OfPathStart setting.now cut.now) result }
 {
     match first_segment_fault(cut, setting) {
         Some(refusal) => Some(refusal_behind(path_place(cut), refusal)),
@@ -86,10 +79,9 @@ pub(crate) fn path_start_fault(cut: &Cut, setting: &Setting) -> Option<Refusal>
 
 // The same, its place counted in code points from the path's start.
 fn first_segment_fault(cut: &Cut, setting: &Setting) -> Option<Refusal>
-    requires { IsSettingOf cut.now setting.now }
-    ensures { IsLeast (PathStartComplaint setting.now.base cut.now) result }
+    ensures { IsLeast (PathStartComplaint setting.now cut.now) result }
 {
-    if has_two_slashes(cut.path_text) {
+    if has_empty_first(cut.path_text, setting.profile) {
         return Some(Refusal {
             place: 1,
             rule: Rule::FirstSegmentEmpty,
@@ -105,10 +97,19 @@ fn first_segment_fault(cut: &Cut, setting: &Setting) -> Option<Refusal>
     }
 }
 
+// An empty segment that isn't the only one begins the path, where the profile forbids it.
+fn has_empty_first(path_text: &str, profile: Profile) -> bool
+    ensures { IsTrue result ↔ HasEmptyFirst profile (chars path_text.now) }
+{
+    match profile {
+        Profile::Standard => has_two_slashes(path_text),
+        Profile::Wide => false,
+    }
+}
+
 // A file URL has a host, so that no drive letter may begin its path.
 fn keeps_drive_out(cut: &Cut, setting: &Setting) -> bool
-    requires { IsSettingOf cut.now setting.now }
-    ensures { IsTrue result ↔ ((class_in setting.now.base cut.now.scheme ≡ Class.File)
+    ensures { IsTrue result ↔ ((setting.now.class ≡ Class.File)
         × HasHost setting.now.base cut.now.scheme cut.now.host_text) }
 {
     match setting.class {

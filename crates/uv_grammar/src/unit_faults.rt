@@ -3,7 +3,6 @@ ghost use Rattle.std.specs.Prelude.{◌+◌, ◌<◌, ◌^◌, length};
 ghost use Rattle.std.specs.Str.{chars};
 ghost use Rattle.uv_model.specs.Complaints.Refusal.{IsLeast};
 ghost use Rattle.uv_grammar.specs.PartComplaints.{BehindAuthority, IsCountable, OfFragment, OfPath, OfQuery};
-ghost use Rattle.uv_grammar.specs.Setting.{IsSettingOf};
 
 use crate::cut::Cut;
 use crate::places::{fragment_place, path_place, query_place, refusal_behind};
@@ -14,9 +13,8 @@ use uv_text::first_fault;
 
 /// The least refusal of what stands behind the authority: the path with its start, the query and the fragment.
 pub(crate) fn fault_behind_authority(cut: &Cut, setting: &Setting) -> Option<Refusal>
-    requires count { IsCountable cut.now }
-    requires setting { IsSettingOf cut.now setting.now }
-    ensures { IsLeast (BehindAuthority setting.now.base cut.now) result }
+    requires { IsCountable cut.now }
+    ensures { IsLeast (BehindAuthority setting.now cut.now) result }
 {
     if let Some(refusal) = path_start_fault(cut, setting) {
         return Some(refusal);

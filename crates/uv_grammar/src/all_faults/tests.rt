@@ -6,7 +6,7 @@ use std::process::Abort;
 use std::test::Fail;
 use uv_model::{Rule, Text, UrlPath, well_formed};
 
-// The faults of a text, alone or against a base, and that the first is the refusal.
+// The faults of a text by the standard profile, alone or against a base, and that the first is the refusal.
 fn sees(
     rt: &impl Abort,
     alloc: Global,
@@ -14,12 +14,24 @@ fn sees(
     base: Option<&Record>,
     wanted: &[(usize, Rule)],
 ) -> Result<(), Fail> {
-    let found = faults(alloc, text, base)?;
+    sees_by(rt, alloc, text, base, Profile::Standard, wanted)
+}
+
+// The same by a profile.
+fn sees_by(
+    rt: &impl Abort,
+    alloc: Global,
+    text: &str,
+    base: Option<&Record>,
+    profile: Profile,
+    wanted: &[(usize, Rule)],
+) -> Result<(), Fail> {
+    let found = faults(alloc, text, base, profile)?;
     assert_eq!(rt; found.len(), wanted.len(), "of {text}");
     for (refusal, (place, rule)) in found.iter().zip(wanted) {
         assert_eq!(rt; (refusal.place, refusal.rule), (*place, *rule), "of {text}");
     }
-    let first = match check(alloc, text, base)? {
+    let first = match check(alloc, text, base, profile)? {
         Verdict::Yes(_) => None,
         Verdict::No(refusal) => Some(refusal),
     };
@@ -30,7 +42,8 @@ fn sees(
 #[test]
 fn names_each_fault(rt: HostRuntime) -> Result<(), Fail> {
     sees(
-        &rt, rt.alloc(),
+        &rt,
+        rt.alloc(),
         "http://u@h/a b?%4",
         None,
         &[
@@ -40,13 +53,15 @@ fn names_each_fault(rt: HostRuntime) -> Result<(), Fail> {
         ],
     )?;
     sees(
-        &rt, rt.alloc(),
+        &rt,
+        rt.alloc(),
         "http:x y",
         None,
         &[(5, Rule::TwoSlashes), (6, Rule::CodePoint)],
     )?;
     sees(
-        &rt, rt.alloc(),
+        &rt,
+        rt.alloc(),
         "foo://a^:8x9y/",
         None,
         &[
@@ -64,7 +79,7 @@ fn names_each_fault(rt: HostRuntime) -> Result<(), Fail> {
 fn opaque_base(rt: HostRuntime) -> Result<Option<Record>, Fail> {
     let scheme = String::from_str(rt.alloc(), "urn")?;
     let path = UrlPath::Opaque(Text::of(String::from_str(rt.alloc(), "a")?));
-    if !well_formed(scheme.as_str(), None, None, &path, None, None) {
+    if !well_formed(scheme.as_str(), None, None, &path, None, None, Profile::Standard) {
         return Ok(None);
     }
     Ok(Some(Record::make(scheme, None, None, path, None, None)))
@@ -74,10 +89,23 @@ fn opaque_base(rt: HostRuntime) -> Result<Option<Record>, Fail> {
 fn judges_no_host_where_the_start_is_at_fault(rt: HostRuntime) -> Result<(), Fail> {
     let base = opaque_base(rt)?;
     assert!(rt; base.is_some());
-    sees(&rt, rt.alloc(), "//h%4/x", base.as_ref(), &[(0, Rule::OpaqueBase)])?;
-    sees(&rt, rt.alloc(), "#^", base.as_ref(), &[(1, Rule::CodePoint)])?;
     sees(
-        &rt, rt.alloc(),
+        &rt,
+        rt.alloc(),
+        "//h%4/x",
+        base.as_ref(),
+        &[(0, Rule::OpaqueBase)],
+    )?;
+    sees(
+        &rt,
+        rt.alloc(),
+        "#^",
+        base.as_ref(),
+        &[(1, Rule::CodePoint)],
+    )?;
+    sees(
+        &rt,
+        rt.alloc(),
         "//h^/a b",
         None,
         &[(0, Rule::NoScheme), (6, Rule::CodePoint)],
@@ -87,7 +115,8 @@ fn judges_no_host_where_the_start_is_at_fault(rt: HostRuntime) -> Result<(), Fai
 #[test]
 fn names_faults_of_each_part(rt: HostRuntime) -> Result<(), Fail> {
     sees(
-        &rt, rt.alloc(),
+        &rt,
+        rt.alloc(),
         "foo://[a:b//C|?^#%",
         None,
         &[
@@ -99,7 +128,8 @@ fn names_faults_of_each_part(rt: HostRuntime) -> Result<(), Fail> {
         ],
     )?;
     sees(
-        &rt, rt.alloc(),
+        &rt,
+        rt.alloc(),
         "foo://a[b]:99999/",
         None,
         &[
@@ -109,7 +139,8 @@ fn names_faults_of_each_part(rt: HostRuntime) -> Result<(), Fail> {
         ],
     )?;
     sees(
-        &rt, rt.alloc(),
+        &rt,
+        rt.alloc(),
         "http://h//%^",
         None,
         &[
@@ -118,4 +149,42 @@ fn names_faults_of_each_part(rt: HostRuntime) -> Result<(), Fail> {
             (11, Rule::CodePoint),
         ],
     )
+}
+
+#[test]
+fn names_faults_of_each_profile(rt: HostRuntime) -> Result<(), Fail> {
+    for (text, place, rule) in [
+        ("http://h//a", 9, Rule::FirstSegmentEmpty),
+        ("http://h//..", 9, Rule::FirstSegmentEmpty),
+        ("file:////a", 8, Rule::FirstSegmentEmpty),
+        ("file:////C:/..", 8, Rule::FirstSegmentEmpty),
+        ("http://a_b/", 7, Rule::HostDomain),
+        ("http://-a/", 7, Rule::HostDomain),
+        ("http://ab--c/", 7, Rule::HostDomain),
+    ] {
+        sees_by(&rt, rt.alloc(), text, None, Profile::Standard, &[(place, rule)])?;
+        sees_by(&rt, rt.alloc(), text, None, Profile::Wide, &[])?;
+    }
+    for (text, place, rule) in [
+        ("http://1.2.3/", 7, Rule::HostNumber),
+        ("http://\u{AD}/", 7, Rule::HostDomain),
+        ("http://a%62/", 7, Rule::HostDomain),
+        ("file://h/C:/x", 8, Rule::DriveAfterHost),
+    ] {
+        sees_by(&rt, rt.alloc(), text, None, Profile::Standard, &[(place, rule)])?;
+        sees_by(&rt, rt.alloc(), text, None, Profile::Wide, &[(place, rule)])?;
+    }
+    Ok(())
+}
+
+#[test]
+fn names_the_other_faults_of_a_wide_text(rt: HostRuntime) -> Result<(), Fail> {
+    let text = "http://a_b//c d";
+    let standard = [
+        (7, Rule::HostDomain),
+        (11, Rule::FirstSegmentEmpty),
+        (13, Rule::CodePoint),
+    ];
+    sees_by(&rt, rt.alloc(), text, None, Profile::Standard, &standard)?;
+    sees_by(&rt, rt.alloc(), text, None, Profile::Wide, &[(13, Rule::CodePoint)])
 }

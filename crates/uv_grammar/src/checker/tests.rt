@@ -6,6 +6,7 @@ use crate::form::Form;
 use crate::held_host::HostRef;
 use std::test::Fail;
 
+mod profiles;
 mod references;
 
 /// The name of a form.
@@ -83,9 +84,19 @@ fn parts_line(alloc: Global, parts: &Parts) -> Result<String, Fail> {
     Ok(line)
 }
 
-/// A verdict as one line.
+/// A verdict of the standard profile as one line.
 fn verdict_line(alloc: Global, text: &str, base: Option<&Record>) -> Result<String, Fail> {
-    match check(alloc, text, base)? {
+    profile_line(alloc, text, base, Profile::Standard)
+}
+
+/// The same by a profile.
+fn profile_line(
+    alloc: Global,
+    text: &str,
+    base: Option<&Record>,
+    profile: Profile,
+) -> Result<String, Fail> {
+    match check(alloc, text, base, profile)? {
         Verdict::Yes(parts) => parts_line(alloc, &parts),
         Verdict::No(refusal) => {
             let place = refusal.place;

@@ -1,5 +1,5 @@
 -- An empty host, and one that isn't.
-use Rattle.std.proofs.Common.{◌≡◌, ◌≢◌, ℕ, List, [], ◌∷◌, Bool, true, false, not, refl, sym, ap, ◌∙◌}
+use Rattle.std.proofs.Common.{◌≡◌, ◌≢◌, ℕ, List, [], ◌∷◌, not, refl, sym, ap, ◌∙◌}
 use Rattle.std.specs.Str.{chars}
 use Rattle.uv_model.specs.declared.scheme.Class.TheVariants.{Other}
 use Rattle.uv_model.specs.Hosts.OpaqueHost.{starts_with_bracket}

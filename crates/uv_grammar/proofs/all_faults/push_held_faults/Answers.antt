@@ -1,9 +1,8 @@
 -- The path, the query and the fragment, one after another.
-use Rattle.std.proofs.Common.{ℕ, List, ◌∙◌, ap, subst, sym}
-use Rattle.std.specs.Str.{chars}
+use Rattle.std.proofs.Common.{ℕ, List, ap, subst}
 use Rattle.std.proofs.lemmas.Result.{on_ok_weaker}
 use Rattle.uv_model.specs.Complaints.Complaint.{Behind}
-use Rattle.uv_model.specs.Cut.{Cut, path_place}
+use Rattle.uv_model.specs.Cut.{Cut}
 use Rattle.uv_model.specs.Complaints.UnitComplaint.{UnitComplaint}
 use Rattle.uv_grammar.specs.Faults.{AddsComplaints}
 use Rattle.uv_grammar.proofs.PartFaultLemmas.{held_adds}

@@ -1,26 +1,24 @@
 -- The faults of the host are all of its complaints.
-use Rattle.std.proofs.Common.{Some, ◌∙◌, ◌≡◌, ap, sym, subst, ℕ}
+use Rattle.std.proofs.Common.{◌∙◌, ap, sym, subst, ℕ}
 use Rattle.std.specs.Str.{chars}
-use Rattle.std.proofs.lemmas.Result.{IfOk-weaker, on_ok_weaker}
-use Rattle.uv_model.specs.declared.scheme.Class.{Class}
+use Rattle.std.proofs.lemmas.Result.{on_ok_weaker}
 use Rattle.uv_model.specs.Complaints.Complaint.{Behind, HostPartComplaint}
 use Rattle.uv_model.specs.Cut.{Cut}
 use Rattle.uv_grammar.specs.Faults.{AddsComplaints}
-use Rattle.uv_grammar.specs.HostValues.{is_scanned}
 use Rattle.uv_grammar.specs.PartValues.{FitsHostPart}
 use Rattle.uv_grammar.specs.Scan.{HostUnitComplaint}
 use Rattle.uv_grammar.specs.Seen.{seen_option}
-use Rattle.uv_grammar.specs.Setting.{Setting}
+use Rattle.uv_model.specs.Setting.{Setting}
 use Rattle.uv_grammar.proofs.PartFaultLemmas.{host_fault_adds, host_scan_adds, judged_least}
 use Rattle.uv_grammar.proofs.all_faults.push_host_faults.Goals as goal
 
 pub returns-then-is_scanned : goal.returns-then-is_scanned
 returns-then-is_scanned c =
     on_ok_weaker c.push_scan.result
-    (λ adds. host_scan_adds c.args.setting.now.base c.args.cut.now c.setting.inside.class
+    (λ adds. host_scan_adds c.args.setting.now c.args.cut.now c.setting.inside.class
     (chars c.in-Some.host_text.now) c.args.found.now.items c.push_scan.new.found.items
     (ap (λ (cut : Cut). cut.host_text) (sym c.cut.view_is) ∙ ap seen_option c.in-Some.is)
-    (ap (λ (s : Setting). s.class) c.setting.view_is ∙ ap (λ (s : Setting). s.class) c.requires.setting)
+    (ap (λ (s : Setting). s.class) c.setting.view_is)
     (sym c.is_scanned.ensures ∙ c.if-is_scanned.true)
     (subst (λ (n : ℕ). AddsComplaints (Behind n (HostUnitComplaint (chars c.in-Some.host_text.now)))
     c.args.found.now.items c.push_scan.new.found.items) c.host_place.ensures adds))
@@ -29,12 +27,12 @@ returns-then-is_scanned c =
 pub returns : goal.returns
 returns c =
     on_ok_weaker c.push_fault.result
-    (λ joined. host_fault_adds c.args.setting.now.base c.args.cut.now c.setting.inside.class
+    (λ joined. host_fault_adds c.args.setting.now c.args.cut.now c.setting.inside.class
     (chars c.in-Some.host_text.now) c.args.found.now.items c.push_fault.new.found.items c.into_refusal.result
     (ap (λ (cut : Cut). cut.host_text) (sym c.cut.view_is) ∙ ap seen_option c.in-Some.is)
-    (ap (λ (s : Setting). s.class) c.setting.view_is ∙ ap (λ (s : Setting). s.class) c.requires.setting)
+    (ap (λ (s : Setting). s.class) c.setting.view_is)
     (sym c.is_scanned.ensures ∙ c.if-is_scanned.false)
-    (rw c.into_refusal.ensures (judged_least (FitsHostPart c.args.setting.now.base c.args.cut.now)
-    (HostPartComplaint c.args.setting.now.base c.args.cut.now) c.in_ok-judge_host_part.field-0 c.in_ok-judge_host_part.ensures))
+    (rw c.into_refusal.ensures (judged_least (FitsHostPart c.args.setting.now c.args.cut.now)
+    (HostPartComplaint c.args.setting.now c.args.cut.now) c.in_ok-judge_host_part.field-0 c.in_ok-judge_host_part.ensures))
     joined)
     c.push_fault.ensures

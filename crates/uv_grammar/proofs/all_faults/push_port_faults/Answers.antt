@@ -1,5 +1,5 @@
 -- The faults of the port are all of its complaints.
-use Rattle.std.proofs.Common.{Some, ◌∙◌, ◌≡◌, ap, sym, subst, ℕ}
+use Rattle.std.proofs.Common.{◌∙◌, ap, sym, subst, ℕ}
 use Rattle.std.specs.Str.{chars}
 use Rattle.std.proofs.lemmas.Result.{on_ok_weaker}
 use Rattle.uv_model.specs.Complaints.Complaint.{Behind, PortPartComplaint}
@@ -31,7 +31,7 @@ returns c =
     (ap (λ (cut : Cut). cut.host_text) (sym c.cut.view_is) ∙ ap seen_option c.in-Some.is)
     (ap (λ (cut : Cut). cut.port_text) (sym c.cut.view_is) ∙ ap seen_option c.in-Some-port_text.is)
     (sym c.are_digits.ensures ∙ c.if-not-are_digits.false)
-    (rw c.into_refusal.ensures (judged_least (FitsPortPart c.args.setting.now.base c.args.cut.now)
+    (rw c.into_refusal.ensures (judged_least (FitsPortPart c.args.setting.now c.args.cut.now)
     (PortPartComplaint c.args.cut.now) c.judge_port_part.result c.judge_port_part.ensures))
     joined)
     c.push_fault.ensures

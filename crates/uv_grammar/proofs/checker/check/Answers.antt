@@ -3,4 +3,4 @@ use Rattle.std.specs.Prelude.{option_copied}
 use Rattle.uv_grammar.proofs.checker.check.Goals as goal
 
 pub returns-in-Some : goal.returns-in-Some
-returns-in-Some c = c.in-Some.ensures (option_copied c.args.base)
+returns-in-Some c = c.in-Some.ensures c.args.profile (option_copied c.args.base)

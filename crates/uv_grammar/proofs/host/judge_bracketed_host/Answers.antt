@@ -5,4 +5,4 @@ use Rattle.uv_grammar.proofs.HostLemmas.{text_answer}
 use Rattle.uv_grammar.proofs.host.judge_bracketed_host.Goals as goal
 
 pub returns-in-Some : goal.returns-in-Some
-returns-in-Some c = text_answer (chars c.args.text.now) (V6 c.in-Some.pieces) c.in-Some.ensures
+returns-in-Some c = λ profile. text_answer profile (chars c.args.text.now) (V6 c.in-Some.pieces) c.in-Some.ensures

@@ -6,7 +6,7 @@ use Rattle.uv_grammar.proofs.host.judge_file_host.Goals as goal
 pub returns-in-Valid : goal.returns-in-Valid
 returns-in-Valid c =
     rw c.without_localhost.ensures
-    (file_answer (chars c.args.text.now) c.in-Valid.host (rw c.in-Valid.is at c.in_ok-host.ensures).0)
+    (file_answer c.args.profile (chars c.args.text.now) c.in-Valid.host (rw c.in-Valid.is at c.in_ok-host.ensures).0)
 
 pub returns-in-Refused : goal.returns-in-Refused
 returns-in-Refused c = rw c.in-Refused.is at c.in_ok-host.ensures

@@ -12,7 +12,7 @@ use Rattle.uv_grammar.proofs.host.judge_host.Goals as goal
 
 pub returns-then-is_empty : goal.returns-then-is_empty
 returns-then-is_empty c =
-    rw (no_chars c.args.host_text.now (sym c.is_empty.ensures ∙ c.if-is_empty.true)) c.judge_empty_host.ensures
+    rw (no_chars c.args.host_text.now (sym c.is_empty.ensures ∙ c.if-is_empty.true)) (c.judge_empty_host.ensures c.args.profile)
 
 pub judge_special_host-requires : goal.judge_special_host-requires
 judge_special_host-requires c =
@@ -22,10 +22,10 @@ pub returns-in-Special : goal.returns-in-Special
 returns-in-Special c =
     let some = some_chars c.args.host_text.now c.utf8.host_text (sym c.is_empty.ensures ∙ c.if-is_empty.false) in
     rw c.in-Special.is (IfOk-weaker c.judge_special_host.result
-    (IsJudged (FitsSomeHost Special (chars c.args.host_text.now)) (HeldHostComplaint Special (chars c.args.host_text.now)))
-    (IsJudged (FitsHost Special (chars c.args.host_text.now) (seen_option c.args.port_text) (chars c.args.path_text.now))
-    (HostComplaint Special (chars c.args.host_text.now) (seen_option c.args.port_text) (chars c.args.path_text.now)))
-    (held_answer Special (chars c.args.host_text.now) (seen_option c.args.port_text) (chars c.args.path_text.now) some)
+    (IsJudged (FitsSomeHost c.args.profile Special (chars c.args.host_text.now)) (HeldHostComplaint c.args.profile Special (chars c.args.host_text.now)))
+    (IsJudged (FitsHost c.args.profile Special (chars c.args.host_text.now) (seen_option c.args.port_text) (chars c.args.path_text.now))
+    (HostComplaint c.args.profile Special (chars c.args.host_text.now) (seen_option c.args.port_text) (chars c.args.path_text.now)))
+    (held_answer c.args.profile Special (chars c.args.host_text.now) (seen_option c.args.port_text) (chars c.args.path_text.now) some)
     c.judge_special_host.ensures)
 
 pub judge_file_host-requires : goal.judge_file_host-requires
@@ -36,10 +36,10 @@ pub returns-in-File : goal.returns-in-File
 returns-in-File c =
     let some = some_chars c.args.host_text.now c.utf8.host_text (sym c.is_empty.ensures ∙ c.if-is_empty.false) in
     rw c.in-File.is (IfOk-weaker c.judge_file_host.result
-    (IsJudged (FitsSomeHost File (chars c.args.host_text.now)) (HeldHostComplaint File (chars c.args.host_text.now)))
-    (IsJudged (FitsHost File (chars c.args.host_text.now) (seen_option c.args.port_text) (chars c.args.path_text.now))
-    (HostComplaint File (chars c.args.host_text.now) (seen_option c.args.port_text) (chars c.args.path_text.now)))
-    (held_answer File (chars c.args.host_text.now) (seen_option c.args.port_text) (chars c.args.path_text.now) some)
+    (IsJudged (FitsSomeHost c.args.profile File (chars c.args.host_text.now)) (HeldHostComplaint c.args.profile File (chars c.args.host_text.now)))
+    (IsJudged (FitsHost c.args.profile File (chars c.args.host_text.now) (seen_option c.args.port_text) (chars c.args.path_text.now))
+    (HostComplaint c.args.profile File (chars c.args.host_text.now) (seen_option c.args.port_text) (chars c.args.path_text.now)))
+    (held_answer c.args.profile File (chars c.args.host_text.now) (seen_option c.args.port_text) (chars c.args.path_text.now) some)
     c.judge_file_host.ensures)
 
 pub judge_opaque_host-requires : goal.judge_opaque_host-requires
@@ -50,5 +50,5 @@ pub returns-in-Other : goal.returns-in-Other
 returns-in-Other c =
     let some = some_chars c.args.host_text.now c.utf8.host_text (sym c.is_empty.ensures ∙ c.if-is_empty.false) in
     rw c.in-Other.is
-    (held_answer Other (chars c.args.host_text.now) (seen_option c.args.port_text) (chars c.args.path_text.now) some
+    (held_answer c.args.profile Other (chars c.args.host_text.now) (seen_option c.args.port_text) (chars c.args.path_text.now) some
     c.judge_opaque_host.result c.judge_opaque_host.ensures)

@@ -1,6 +1,7 @@
 -- The parts of a plain link are those of its cut.
 use Rattle.std.proofs.Common.{ℕ, List, refl, subst, sym, ◌∙◌}
 use Rattle.std.specs.Str.{chars}
+use Rattle.uv_model.specs.declared.profile.Profile.TheVariants.{Standard}
 use Rattle.uv_model.specs.Ascii.{number_sign}
 use Rattle.uv_model.proofs.Hosts.DomainLemmas.{IsAscii-form}
 use Rattle.uv_grammar.specs.PlainLinks.{IsPartCut}
@@ -10,12 +11,12 @@ use Rattle.uv_grammar.proofs.PlainLinkLemmas.{plain_accepted}
 use Rattle.uv_grammar.proofs.plain_links.plain_link.Goals as goal
 
 pub of-requires : goal.of-requires
-of-requires c = IsAscii-form (seen c.in-Some-split_name.name) c.in-Some-split_name.name.now c.in-Some-split_name.ensures.domain.0
+of-requires c = IsAscii-form Standard (seen c.in-Some-split_name.name) c.in-Some-split_name.name.now (c.in-Some-split_name.ensures.domain Standard).0
 
 pub returns : goal.returns
-returns c = λ base.
+returns c = λ profile base.
     rw c.of.ensures
-    (plain_accepted base (chars c.args.text.now) (seen c.in-Some.scheme) (seen c.in-Some-split_name.name)
+    (plain_accepted profile base (chars c.args.text.now) (seen c.in-Some.scheme) (seen c.in-Some-split_name.name)
     c.in-Some-split_name.name.now (seen c.in-Some-split_path.path_text) (seen_option c.split_part.result.0)
     (seen_option c.split_part-2.result.0) refl
     (record {

@@ -19,5 +19,5 @@ returns-then-is_plain_domain c = record {
   joined =
       cut_joined c.args.text.now c.split_front.result.0.now c.split_front.result.1.now c.in-Some.end
       c.split_front.ensures;
-  domain = c.is_plain_domain.ensures c.if-is_plain_domain.true;
+  domain = λ profile. c.is_plain_domain.ensures profile c.if-is_plain_domain.true;
 }

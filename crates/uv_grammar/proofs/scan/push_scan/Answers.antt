@@ -2,7 +2,7 @@
 use Rattle.std.proofs.Common.{◌∙◌, ◌+◌, ◌++◌, ◌∷◌, [], ap, arith, length}
 use Rattle.std.specs.Str.{chars}
 use Rattle.std.proofs.lemmas.List.{length-drop}
-use Rattle.uv_grammar.proofs.ScanLemmas.{scan_begins, scan_ends, scan_goes_on, scan_within}
+use Rattle.uv_grammar.proofs.ScanLemmas.{scan_ends, scan_goes_on, scan_within}
 use Rattle.uv_grammar.proofs.scan.push_scan.Goals as goal
 
 pub loop-refusal-smaller : goal.loop-refusal-smaller

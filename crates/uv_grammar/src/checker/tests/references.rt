@@ -24,7 +24,7 @@ fn path_of(alloc: Global, segments: &[&str]) -> Result<UrlPath, Fail> {
 }
 
 // A base without a port and a fragment, none where it isn't well formed.
-fn base_of(
+pub(super) fn base_of(
     alloc: Global,
     scheme: &str,
     host: Option<Host>,
@@ -43,7 +43,7 @@ fn made(
     query: Option<&str>,
 ) -> Result<Option<Record>, Fail> {
     let scheme = String::from_str(alloc, scheme)?;
-    if !well_formed(scheme.as_str(), host.as_ref(), None, &path, query, None) {
+    if !well_formed(scheme.as_str(), host.as_ref(), None, &path, query, None, Profile::Standard) {
         return Ok(None);
     }
     let query = match query {
