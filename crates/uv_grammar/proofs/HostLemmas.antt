@@ -31,6 +31,7 @@ use Rattle.uv_grammar.specs.declared.judged.Judged.{Judged}
 use Rattle.uv_grammar.specs.declared.judged.Judged.TheVariants.{Valid, Refused}
 use Rattle.uv_grammar.specs.HostValues.{FitsHost, FitsSomeHost, without_localhost}
 use Rattle.uv_grammar.specs.Judged.{IsJudged}
+use Rattle.uv_grammar.specs.NoMemory.{HostTakesNoMemory, MakesNoForm}
 
 -- ---- the empty host
 
@@ -204,3 +205,12 @@ pub some_iff : (bytes : List ℕ) (is_empty : Bool) → IsUtf8 bytes → is_empt
     → IsTrue (not is_empty) ↔ (chars bytes ≢ [])
 some_iff bytes true utf8 is = (λ other. absurd (false≢true other), λ some. absurd (some (no_chars bytes (sym is))))
 some_iff bytes false utf8 is = (λ other. some_chars bytes utf8 (sym is), λ some. refl)
+
+-- ---- memory
+
+-- a host that isn't empty, in a class other than Other, takes no memory where no form is made of it
+pub makes_no_form : (profile : Profile) (class : Class) (text : List ℕ) → class ≢ Other → text ≢ []
+    → HostTakesNoMemory profile class text → MakesNoForm profile text
+makes_no_form profile class text special some (inl other) = absurd (special other)
+makes_no_form profile class text special some (inr (inl empty)) = absurd (some empty)
+makes_no_form profile class text special some (inr (inr none)) = none

@@ -1,11 +1,11 @@
 -- From the verdict on a cut text to the verdict on the text.
-use Rattle.std.proofs.Common.{◌≡◌, ℕ, ◌<◌, ◌^◌, List, length, Option, Some, None, arith, ap, sym, subst}
+use Rattle.std.proofs.Common.{◌≡◌, ℕ, ◌<◌, ◌^◌, List, length, Option, Some, None, arith, ap, sym, subst, inl, inr}
 use Rattle.std.specs.Str.{chars, IsUtf8}
 use Rattle.std.proofs.lemmas.Str.{encodes-chars, length-le-encodes}
 use Rattle.uv_model.specs.declared.profile.Profile.{Profile}
 use Rattle.uv_model.specs.declared.rule.Refusal.{Refusal}
 use Rattle.uv_model.specs.Complaints.Complaint.{Complaint, HostPartComplaint, IsStarted, PortPartComplaint, StartComplaint}
-use Rattle.uv_model.specs.Cut.{Cut, IsCut, written_cut}
+use Rattle.uv_model.specs.Cut.{Cut, IsCut, cut_of, written_cut}
 use Rattle.uv_model.specs.Parts.{Parts, written}
 use Rattle.uv_model.specs.Complaints.Refusal.{IsLeast}
 use Rattle.uv_model.specs.Records.Url.{Url}
@@ -13,9 +13,11 @@ use Rattle.uv_model.specs.Setting.{Setting, setting_of}
 use Rattle.uv_model.specs.Valid.{Valid}
 use Rattle.uv_model.proofs.Complaints.ComplaintPlaces.{complaint_within}
 use Rattle.uv_model.proofs.Complaints.ComplaintsExcludeParts.{faultless}
+use Rattle.uv_model.proofs.Cuts.CutLemmas.{cut_is_computed}
 use Rattle.uv_model.proofs.Cuts.UniqueParts.{parts_are_unique}
 use Rattle.uv_model.proofs.Complaints.RefusedLemmas.{FromHost, host_passes, host_refuses, least_of_parts, port_passes, port_refuses, refused_at_start}
 use Rattle.uv_grammar.specs.Laws.{PartsAreTheText}
+use Rattle.uv_grammar.specs.NoMemory.{HostPartTakesNoMemory, TakesNoMemory}
 use Rattle.uv_grammar.specs.PartComplaints.{BehindAuthority, IsCountable}
 use Rattle.uv_grammar.specs.Verdict.{IsAccepted, IsBuilt, IsRefused}
 use Rattle.uv_grammar.proofs.BuiltLemmas.{valid_built}
@@ -108,3 +110,17 @@ accepted profile base text cut setting is made started parts built =
 pub parts_written : PartsAreTheText
 unfolding written
 parts_written profile base text parts valid = valid.whole
+
+-- where no rule of the start is violated, a text that takes no memory has a host that takes none
+pub host_without_memory : (profile : Profile) (base : Option Url) (text : List ℕ) (cut : Cut) (setting : Setting)
+    → IsCut base text cut → setting ≡ setting_of profile base cut.scheme → IsStarted setting text cut
+    → TakesNoMemory (setting_of profile base (cut_of base text).scheme) text (cut_of base text)
+    → HostPartTakesNoMemory setting cut.host_text
+host_without_memory profile base text cut setting is made started h =
+    of_host (subst (λ (s : Setting). TakesNoMemory s text cut) (sym made)
+    (subst (λ (k : Cut). TakesNoMemory (setting_of profile base k.scheme) text k)
+    (sym (cut_is_computed base text cut is)) h))
+  where
+    of_host : TakesNoMemory setting text cut → HostPartTakesNoMemory setting cut.host_text
+    of_host (inl (place, rule, complaint)) = absurd (started place rule complaint)
+    of_host (inr host) = host

@@ -5,6 +5,7 @@ pub mod HeldHost
 pub mod HostValues
 pub mod Judged
 pub mod Laws
+pub mod NoMemory
 pub mod PartComplaints
 pub mod PartValues
 pub mod PlainLinks

@@ -1,7 +1,8 @@
 //! The host and the port of a cut text.
-ghost use Rattle.std.specs.Prelude.{◌≡◌, IfOk};
+ghost use Rattle.std.specs.Prelude.{◌≡◌, IfOk, IsOk};
 ghost use Rattle.uv_model.specs.Complaints.Complaint.{HostPartComplaint, PortPartComplaint};
 ghost use Rattle.uv_grammar.specs.Judged.{IsJudged};
+ghost use Rattle.uv_grammar.specs.NoMemory.{HostPartTakesNoMemory};
 ghost use Rattle.uv_grammar.specs.PartComplaints.{IsCountable};
 ghost use Rattle.uv_grammar.specs.PartValues.{FitsHostPart, FitsPortPart, without_default};
 
@@ -21,8 +22,9 @@ pub(crate) fn judge_host_part(
     setting: &Setting,
 ) -> Result<Judged<Option<Host>>, AllocError>
     requires { IsCountable cut.now }
-    ensures { IfOk result
+    ensures answer { IfOk result
         (IsJudged (FitsHostPart setting.now cut.now) (HostPartComplaint setting.now cut.now)) }
+    ensures memory { HostPartTakesNoMemory setting.now cut.now.host_text → IsOk result }
 {
     let Some(host_text) = cut.host_text else {
         return Ok(Judged::Valid(None));

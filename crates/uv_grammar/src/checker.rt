@@ -1,6 +1,9 @@
 //! The checker of valid URL strings.
-ghost use Rattle.std.specs.Prelude.{IfOk, option_copied};
+ghost use Rattle.std.specs.Prelude.{IfOk, IsOk, option_copied};
 ghost use Rattle.std.specs.Str.{chars};
+ghost use Rattle.uv_model.specs.Cut.{cut_of};
+ghost use Rattle.uv_model.specs.Setting.{setting_of};
+ghost use Rattle.uv_grammar.specs.NoMemory.{TakesNoMemory};
 ghost use Rattle.uv_grammar.specs.Verdict.{IsVerdict};
 
 use crate::authority::{judge_host_part, judge_port_part};
@@ -24,14 +27,16 @@ pub enum Verdict<'t> {
 }
 
 /// Whether a text is a valid URL string by the profile, alone or against a base (URL Standard, section 4.3), with its
-/// parts or its least refusal. The error is want of memory.
+/// parts or its least refusal. The error is want of memory, which is asked for where a domain's form is made alone.
 pub fn check<'t>(
     alloc: Global,
     text: &'t str,
     base: Option<&Record>,
     profile: Profile,
 ) -> Result<Verdict<'t>, AllocError>
-    ensures { IfOk result (IsVerdict profile (option_copied base.entry) (chars text.now)) }
+    ensures answer { IfOk result (IsVerdict profile (option_copied base.entry) (chars text.now)) }
+    ensures memory { let cut = cut_of (option_copied base.entry) (chars text.now) in
+        TakesNoMemory (setting_of profile (option_copied base.entry) cut.scheme) (chars text.now) cut → IsOk result }
 {
     match plain_link(text) {
         Some(parts) => Ok(Verdict::Yes(parts)),
@@ -46,7 +51,9 @@ fn check_by_parts<'t>(
     base: Option<&Record>,
     profile: Profile,
 ) -> Result<Verdict<'t>, AllocError>
-    ensures { IfOk result (IsVerdict profile (option_copied base.entry) (chars text.now)) }
+    ensures answer { IfOk result (IsVerdict profile (option_copied base.entry) (chars text.now)) }
+    ensures memory { let cut = cut_of (option_copied base.entry) (chars text.now) in
+        TakesNoMemory (setting_of profile (option_copied base.entry) cut.scheme) (chars text.now) cut → IsOk result }
 {
     let (cut, setting) = cut_text(text, base, profile);
     if let Some(refusal) = start_fault(text, &cut, &setting) {

@@ -1,5 +1,5 @@
 //! The host of a text, judged by its class.
-ghost use Rattle.std.specs.Prelude.{◌≡◌, ◌≢◌, IfOk, [], codes, true};
+ghost use Rattle.std.specs.Prelude.{◌≡◌, ◌≢◌, IfOk, IsOk, [], codes, true};
 ghost use Rattle.std.specs.Str.{bytes_eq, chars};
 ghost use Rattle.uv_model.specs.declared.profile.Profile.{Profile};
 ghost use Rattle.uv_model.specs.Complaints.Complaint.{HeldHostComplaint, HostComplaint};
@@ -8,6 +8,7 @@ ghost use Rattle.uv_model.specs.Hosts.OpaqueHost.{starts_with_bracket};
 ghost use Rattle.uv_model.specs.Valid.{IsHostText, IsOpaqueHostText};
 ghost use Rattle.uv_grammar.specs.HostValues.{FitsHost, FitsSomeHost, without_localhost};
 ghost use Rattle.uv_grammar.specs.Judged.{IsJudged};
+ghost use Rattle.uv_grammar.specs.NoMemory.{HostTakesNoMemory, MakesNoForm};
 ghost use Rattle.uv_grammar.specs.Seen.{seen_option};
 
 use crate::beginnings::{has_bracket, has_slash};
@@ -26,9 +27,10 @@ pub(crate) fn judge_host(
     path_text: &str,
     profile: Profile,
 ) -> Result<Judged<Option<Host>>, AllocError>
-    ensures { IfOk result (IsJudged
+    ensures answer { IfOk result (IsJudged
         (FitsHost profile class (chars host_text.now) (seen_option port_text.entry) (chars path_text.now))
         (HostComplaint profile class (chars host_text.now) (seen_option port_text.entry) (chars path_text.now))) }
+    ensures memory { HostTakesNoMemory profile class (chars host_text.now) → IsOk result }
 {
     if host_text.is_empty() {
         return Ok(judge_empty_host(class, port_text, path_text));
@@ -68,8 +70,9 @@ fn judge_special_host(
     profile: Profile,
 ) -> Result<Judged<Option<Host>>, AllocError>
     requires { chars text.now ≢ [] }
-    ensures { IfOk result (IsJudged (FitsSomeHost profile Class.Special (chars text.now))
+    ensures answer { IfOk result (IsJudged (FitsSomeHost profile Class.Special (chars text.now))
         (HeldHostComplaint profile Class.Special (chars text.now))) }
+    ensures memory { MakesNoForm profile (chars text.now) → IsOk result }
 {
     match judge_host_text(alloc, text, profile)? {
         Judged::Valid(host) => Ok(Judged::Valid(Some(host))),
@@ -84,8 +87,9 @@ fn judge_file_host(
     profile: Profile,
 ) -> Result<Judged<Option<Host>>, AllocError>
     requires { chars text.now ≢ [] }
-    ensures { IfOk result (IsJudged (FitsSomeHost profile Class.File (chars text.now))
+    ensures answer { IfOk result (IsJudged (FitsSomeHost profile Class.File (chars text.now))
         (HeldHostComplaint profile Class.File (chars text.now))) }
+    ensures memory { MakesNoForm profile (chars text.now) → IsOk result }
 {
     match judge_host_text(alloc, text, profile)? {
         Judged::Valid(host) => Ok(Judged::Valid(Some(without_localhost(host)))),
@@ -118,8 +122,9 @@ fn is_localhost(form: &str) -> bool
 // The host string of a special or a file URL, which isn't empty.
 fn judge_host_text(alloc: Global, text: &str, profile: Profile) -> Result<Judged<Host>, AllocError>
     requires { chars text.now ≢ [] }
-    ensures { IfOk result (IsJudged (IsHostText profile (chars text.now))
+    ensures answer { IfOk result (IsJudged (IsHostText profile (chars text.now))
         (HeldHostComplaint profile Class.Special (chars text.now))) }
+    ensures memory { MakesNoForm profile (chars text.now) → IsOk result }
 {
     if has_bracket(text) {
         return Ok(judge_bracketed_host(text));

@@ -79,7 +79,15 @@ fn names_each_fault(rt: HostRuntime) -> Result<(), Fail> {
 fn opaque_base(rt: HostRuntime) -> Result<Option<Record>, Fail> {
     let scheme = String::from_str(rt.alloc(), "urn")?;
     let path = UrlPath::Opaque(Text::of(String::from_str(rt.alloc(), "a")?));
-    if !well_formed(scheme.as_str(), None, None, &path, None, None, Profile::Standard) {
+    if !well_formed(
+        scheme.as_str(),
+        None,
+        None,
+        &path,
+        None,
+        None,
+        Profile::Standard,
+    ) {
         return Ok(None);
     }
     Ok(Some(Record::make(scheme, None, None, path, None, None)))
@@ -162,7 +170,14 @@ fn names_faults_of_each_profile(rt: HostRuntime) -> Result<(), Fail> {
         ("http://-a/", 7, Rule::HostDomain),
         ("http://ab--c/", 7, Rule::HostDomain),
     ] {
-        sees_by(&rt, rt.alloc(), text, None, Profile::Standard, &[(place, rule)])?;
+        sees_by(
+            &rt,
+            rt.alloc(),
+            text,
+            None,
+            Profile::Standard,
+            &[(place, rule)],
+        )?;
         sees_by(&rt, rt.alloc(), text, None, Profile::Wide, &[])?;
     }
     for (text, place, rule) in [
@@ -171,7 +186,14 @@ fn names_faults_of_each_profile(rt: HostRuntime) -> Result<(), Fail> {
         ("http://a%62/", 7, Rule::HostDomain),
         ("file://h/C:/x", 8, Rule::DriveAfterHost),
     ] {
-        sees_by(&rt, rt.alloc(), text, None, Profile::Standard, &[(place, rule)])?;
+        sees_by(
+            &rt,
+            rt.alloc(),
+            text,
+            None,
+            Profile::Standard,
+            &[(place, rule)],
+        )?;
         sees_by(&rt, rt.alloc(), text, None, Profile::Wide, &[(place, rule)])?;
     }
     Ok(())
@@ -186,5 +208,12 @@ fn names_the_other_faults_of_a_wide_text(rt: HostRuntime) -> Result<(), Fail> {
         (13, Rule::CodePoint),
     ];
     sees_by(&rt, rt.alloc(), text, None, Profile::Standard, &standard)?;
-    sees_by(&rt, rt.alloc(), text, None, Profile::Wide, &[(13, Rule::CodePoint)])
+    sees_by(
+        &rt,
+        rt.alloc(),
+        text,
+        None,
+        Profile::Wide,
+        &[(13, Rule::CodePoint)],
+    )
 }

@@ -33,6 +33,6 @@ returns c =
     (ap (λ (s : Setting). s.class) c.setting.view_is)
     (sym c.is_scanned.ensures ∙ c.if-is_scanned.false)
     (rw c.into_refusal.ensures (judged_least (FitsHostPart c.args.setting.now c.args.cut.now)
-    (HostPartComplaint c.args.setting.now c.args.cut.now) c.in_ok-judge_host_part.field-0 c.in_ok-judge_host_part.ensures))
+    (HostPartComplaint c.args.setting.now c.args.cut.now) c.in_ok-judge_host_part.field-0 c.in_ok-judge_host_part.ensures.answer))
     joined)
     c.push_fault.ensures

@@ -2,5 +2,5 @@
 use Rattle.std.specs.Prelude.{option_copied}
 use Rattle.uv_grammar.proofs.checker.check.Goals as goal
 
-pub returns-in-Some : goal.returns-in-Some
-returns-in-Some c = c.in-Some.ensures c.args.profile (option_copied c.args.base)
+pub returns-in-Some-clause-answer : goal.returns-in-Some-clause-answer
+returns-in-Some-clause-answer c = c.in-Some.ensures c.args.profile (option_copied c.args.base)

@@ -2,15 +2,16 @@
 use Rattle.std.proofs.Common.{arith}
 use Rattle.std.specs.Prelude.{option_copied}
 use Rattle.std.specs.Str.{chars}
-use Rattle.uv_grammar.proofs.VerdictLemmas.{accepted, countable, refused_behind, refused_host, refused_port, refused_start}
+use Rattle.std.proofs.lemmas.Bool.{false≢true}
+use Rattle.uv_grammar.proofs.VerdictLemmas.{accepted, countable, host_without_memory, refused_behind, refused_host, refused_port, refused_start}
 use Rattle.uv_grammar.proofs.checker.check_by_parts.Goals as goal
 
 pub start_fault-requires : goal.start_fault-requires
 start_fault-requires c =
     countable c.args.text.now c.cut_text-cut.result.0 c.utf8.text (omega arith) c.cut_text-cut.ensures.cut.whole
 
-pub returns-in-Some : goal.returns-in-Some
-returns-in-Some c =
+pub returns-in-Some-clause-answer : goal.returns-in-Some-clause-answer
+returns-in-Some-clause-answer c =
     refused_start c.args.profile (option_copied c.args.base) (chars c.args.text.now) c.cut_text-cut.result.0
     c.cut_text-cut.result.1 c.in-Some.refusal c.cut_text-cut.ensures.cut c.cut_text-cut.ensures.setting
     c.in-Some.ensures
@@ -19,43 +20,49 @@ pub judge_host_part-requires : goal.judge_host_part-requires
 judge_host_part-requires c =
     countable c.args.text.now c.cut_text-cut.result.0 c.utf8.text (omega arith) c.cut_text-cut.ensures.cut.whole
 
-pub returns-in-Refused : goal.returns-in-Refused
-returns-in-Refused c =
+pub returns-in-Refused-clause-answer : goal.returns-in-Refused-clause-answer
+returns-in-Refused-clause-answer c =
     refused_host c.args.profile (option_copied c.args.base) (chars c.args.text.now) c.cut_text-cut.result.0
     c.cut_text-cut.result.1 c.in-Refused.refusal c.cut_text-cut.ensures.cut c.cut_text-cut.ensures.setting
-    c.in_default.ensures (rw c.in-Refused.is at c.in_ok-host.ensures)
+    c.in_default.ensures (rw c.in-Refused.is at c.in_ok-host.ensures.answer)
 
 pub judge_port_part-requires : goal.judge_port_part-requires
 judge_port_part-requires c =
     countable c.args.text.now c.cut_text-cut.result.0 c.utf8.text (omega arith) c.cut_text-cut.ensures.cut.whole
 
-pub returns-in-Refused-judge_port_part : goal.returns-in-Refused-judge_port_part
-returns-in-Refused-judge_port_part c =
+pub returns-in-Refused-judge_port_part-clause-answer : goal.returns-in-Refused-judge_port_part-clause-answer
+returns-in-Refused-judge_port_part-clause-answer c =
     refused_port c.args.profile (option_copied c.args.base) (chars c.args.text.now) c.cut_text-cut.result.0
     c.cut_text-cut.result.1 c.in-Refused-judge_port_part.refusal c.cut_text-cut.ensures.cut
-    c.cut_text-cut.ensures.setting c.in_default.ensures (rw c.in-Valid.is at c.in_ok-host.ensures).1
+    c.cut_text-cut.ensures.setting c.in_default.ensures (rw c.in-Valid.is at c.in_ok-host.ensures.answer).1
     c.in-Refused-judge_port_part.ensures
 
 pub fault_behind_authority-requires : goal.fault_behind_authority-requires
 fault_behind_authority-requires c =
     countable c.args.text.now c.cut_text-cut.result.0 c.utf8.text (omega arith) c.cut_text-cut.ensures.cut.whole
 
-pub returns-in-Some-fault_behind_authority : goal.returns-in-Some-fault_behind_authority
-returns-in-Some-fault_behind_authority c =
+pub returns-in-Some-fault_behind_authority-clause-answer : goal.returns-in-Some-fault_behind_authority-clause-answer
+returns-in-Some-fault_behind_authority-clause-answer c =
     refused_behind c.args.profile (option_copied c.args.base) (chars c.args.text.now) c.cut_text-cut.result.0
     c.cut_text-cut.result.1 c.in-Some-fault_behind_authority.refusal c.cut_text-cut.ensures.cut
-    c.cut_text-cut.ensures.setting c.in_default.ensures (rw c.in-Valid.is at c.in_ok-host.ensures).1
+    c.cut_text-cut.ensures.setting c.in_default.ensures (rw c.in-Valid.is at c.in_ok-host.ensures.answer).1
     c.in-Valid-judge_port_part.ensures.1 c.in-Some-fault_behind_authority.ensures
 
-pub returns-in-None : goal.returns-in-None
-returns-in-None c =
+pub returns-in-None-clause-answer : goal.returns-in-None-clause-answer
+returns-in-None-clause-answer c =
     accepted c.args.profile (option_copied c.args.base) (chars c.args.text.now) c.cut_text-cut.result.0
     c.cut_text-cut.result.1 c.cut_text-cut.ensures.cut c.cut_text-cut.ensures.setting c.in_default.ensures
     c.build.result (record {
       host = c.in-Valid.host;
       port = c.in-Valid-judge_port_part.port;
       built = c.build.ensures;
-      fits_host = (rw c.in-Valid.is at c.in_ok-host.ensures).0;
+      fits_host = (rw c.in-Valid.is at c.in_ok-host.ensures.answer).0;
       fits_port = c.in-Valid-judge_port_part.ensures.0;
       silent = c.in-None.ensures;
     })
+
+pub returns-in_err-host-clause-memory : goal.returns-in_err-host-clause-memory
+returns-in_err-host-clause-memory c = λ h.
+    absurd (false≢true (c.in_err-host.ensures.memory
+    (host_without_memory c.args.profile (option_copied c.args.base) (chars c.args.text.now) c.cut_text-cut.result.0
+    c.cut_text-cut.result.1 c.cut_text-cut.ensures.cut c.cut_text-cut.ensures.setting c.in_default.ensures h)))

@@ -3,10 +3,10 @@ use Rattle.std.specs.Str.{chars}
 use Rattle.uv_grammar.proofs.HostLemmas.{file_answer}
 use Rattle.uv_grammar.proofs.host.judge_file_host.Goals as goal
 
-pub returns-in-Valid : goal.returns-in-Valid
-returns-in-Valid c =
+pub returns-in-Valid-clause-answer : goal.returns-in-Valid-clause-answer
+returns-in-Valid-clause-answer c =
     rw c.without_localhost.ensures
-    (file_answer c.args.profile (chars c.args.text.now) c.in-Valid.host (rw c.in-Valid.is at c.in_ok-host.ensures).0)
+    (file_answer c.args.profile (chars c.args.text.now) c.in-Valid.host (rw c.in-Valid.is at c.in_ok-host.ensures.answer).0)
 
-pub returns-in-Refused : goal.returns-in-Refused
-returns-in-Refused c = rw c.in-Refused.is at c.in_ok-host.ensures
+pub returns-in-Refused-clause-answer : goal.returns-in-Refused-clause-answer
+returns-in-Refused-clause-answer c = rw c.in-Refused.is at c.in_ok-host.ensures.answer

@@ -1,18 +1,29 @@
 -- The judgement of a host string.
+use Rattle.std.proofs.Common.{◌∙◌, sym, inl, inr}
+use Rattle.std.proofs.lemmas.Bool.{false≢true}
 use Rattle.std.specs.Str.{chars}
 use Rattle.std.specs.String.{string_bytes}
 use Rattle.uv_model.specs.declared.host.Host.TheVariants.{V4}
 use Rattle.uv_model.proofs.Hosts.DomainLemmas.{IsAscii-form}
+use Rattle.uv_grammar.specs.NoMemory.{MakesNoForm}
 use Rattle.uv_grammar.proofs.HostLemmas.{text_answer}
 use Rattle.uv_grammar.proofs.host.judge_host_text.Goals as goal
 
-pub returns-in-Some : goal.returns-in-Some
-returns-in-Some c = text_answer c.args.profile (chars c.args.text.now) (V4 c.in-Some.value) c.in-Some.ensures
+pub returns-in-Some-clause-answer : goal.returns-in-Some-clause-answer
+returns-in-Some-clause-answer c = text_answer c.args.profile (chars c.args.text.now) (V4 c.in-Some.value) c.in-Some.ensures
 
-pub returns-then-has_bracket : goal.returns-then-has_bracket
-returns-then-has_bracket c = c.judge_bracketed_host.ensures c.args.profile
+pub returns-then-has_bracket-clause-answer : goal.returns-then-has_bracket-clause-answer
+returns-then-has_bracket-clause-answer c = c.judge_bracketed_host.ensures c.args.profile
 
 pub of-requires : goal.of-requires
 of-requires c =
     IsAscii-form c.args.profile (chars c.args.text.now) (string_bytes c.in-Ascii.form)
     (rw c.in-Ascii.is at c.in_ok-form.ensures.answer).0
+
+pub returns-in_err-form-clause-memory : goal.returns-in_err-form-clause-memory
+returns-in_err-form-clause-memory c = λ h. absurd (some h)
+  where
+    some : MakesNoForm c.args.profile (chars c.args.text.now) → ⊥
+    some (inl bracket) = false≢true (sym c.if-has_bracket.false ∙ (c.has_bracket.ensures ∙ bracket))
+    some (inr (inl (value, is))) = c.in_default.ensures value is
+    some (inr (inr refused)) = let same = c.in_err-form.ensures.refused refused in cc

@@ -43,7 +43,15 @@ fn made(
     query: Option<&str>,
 ) -> Result<Option<Record>, Fail> {
     let scheme = String::from_str(alloc, scheme)?;
-    if !well_formed(scheme.as_str(), host.as_ref(), None, &path, query, None, Profile::Standard) {
+    if !well_formed(
+        scheme.as_str(),
+        host.as_ref(),
+        None,
+        &path,
+        query,
+        None,
+        Profile::Standard,
+    ) {
         return Ok(None);
     }
     let query = match query {

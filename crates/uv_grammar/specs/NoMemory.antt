@@ -1,0 +1,33 @@
+-- Texts that are judged without memory: those of whose host no form of a domain is made, after the URL Standard,
+-- sections 3.3 and 4.3.
+use Rattle.std.specs.Prelude.{◌≡◌, ℕ, ◌⊎◌, true, false, List, [], Option, Some, None}
+use Rattle.uv_model.specs.declared.profile.Profile.{Profile}
+use Rattle.uv_model.specs.declared.rule.Rule.{Rule}
+use Rattle.uv_model.specs.declared.scheme.Class.{Class}
+use Rattle.uv_model.specs.declared.scheme.Class.TheVariants.{Other}
+use Rattle.uv_model.specs.Complaints.Complaint.{StartComplaint}
+use Rattle.uv_model.specs.Cut.{Cut}
+use Rattle.uv_model.specs.Hosts.Address.{IsIpv4}
+use Rattle.uv_model.specs.Hosts.Domain.{has_permitted}
+use Rattle.uv_model.specs.Hosts.OpaqueHost.{starts_with_bracket}
+use Rattle.uv_model.specs.Setting.{Setting}
+
+-- the text begins with `[`, is an IPv4 text or has a code point that no domain of the profile holds
+abbrev pub MakesNoForm : Profile → List ℕ → Type 0
+MakesNoForm profile text =
+    (starts_with_bracket text ≡ true) ⊎ (((value : ℕ) × IsIpv4 text value) ⊎ (has_permitted profile text ≡ false))
+
+-- the class is Other, or the host is empty or such a text
+abbrev pub HostTakesNoMemory : Profile → Class → List ℕ → Type 0
+HostTakesNoMemory profile class text = (class ≡ Other) ⊎ ((text ≡ []) ⊎ MakesNoForm profile text)
+
+-- there is no host, or such a one
+abbrev pub HostPartTakesNoMemory : Setting → Option (List ℕ) → Type 0
+HostPartTakesNoMemory setting None = Unit {0}
+HostPartTakesNoMemory setting (Some text) = HostTakesNoMemory setting.profile setting.class text
+
+-- the start of the text violates a rule, so that no host is judged, or there is no host or such a one
+abbrev pub TakesNoMemory : Setting → List ℕ → Cut → Type 0
+TakesNoMemory setting text cut =
+    ((place : ℕ) × (rule : Rule) × StartComplaint setting text cut place rule)
+    ⊎ HostPartTakesNoMemory setting cut.host_text
