@@ -1,5 +1,5 @@
--- The serialized text of a URL is parsed as that URL: what it denotes, that the parser is silent on it, stable hosts, and the URLs
--- that the parser gives.
+-- The serialized text of a URL is parsed as that URL: what it denotes, that the parser is silent on it,
+-- stable hosts, and the URLs that the parser gives.
 pub mod SerializedTexts
 pub mod ParsedHosts
 pub mod SerializedHosts

@@ -65,7 +65,8 @@ denote_as base form parts =
     }
 
 -- what the forms differ in: all but the fragment, by the class that the text is read by
-pub record AreDenoted (profile : Profile) (base : Option Url) (kind : Class) (form : Form) (parts : Parts) : Type 0 where
+pub record AreDenoted (profile : Profile) (base : Option Url) (kind : Class) (form : Form) (parts : Parts) : Type 0
+  where
   pub scheme : IsUrlScheme (denoted_scheme base parts.scheme)
   pub host : IsUrlHost profile kind (denoted_host base form parts)
   pub port : IsUrlPort (denoted_scheme base parts.scheme) (denoted_host base form parts) (denoted_port base form parts)
@@ -73,8 +74,8 @@ pub record AreDenoted (profile : Profile) (base : Option Url) (kind : Class) (fo
   pub query : IsUrlQuery kind (denoted_query base kind form parts.query)
 
 -- the whole record
-pub WellFormed-denoted : (profile : Profile) (base : Option Url) (form : Form) (parts : Parts) → MayBeUnits parts.fragment
-    → AreDenoted profile base (scheme_class (scheme_in base parts)) form parts
+pub WellFormed-denoted : (profile : Profile) (base : Option Url) (form : Form) (parts : Parts)
+    → MayBeUnits parts.fragment → AreDenoted profile base (scheme_class (scheme_in base parts)) form parts
     → WellFormed profile (denote_as base form parts)
 WellFormed-denoted profile base form parts units are =
     let kind = scheme_class (scheme_in base parts) in

@@ -104,7 +104,8 @@ form_read text form value given e =
         | inr allowed ↦ elim (cases_Bool (ends_in_number form)) [
           | inl number ↦
               let (address, parsed, same) = mapped host.V4 (parse_ipv4 form) value (rw (some, allowed, number) at e) in
-              subst (λ v. IsReadableHost Special (Some v)) same (ipv4_small form address ((ipv4_texts_alone form address).0 parsed))
+              subst (λ v. IsReadableHost Special (Some v)) same
+              (ipv4_small form address ((ipv4_texts_alone form address).0 parsed))
           | inr name ↦
               let same : host.Domain form ≡ value
               = same_Some (host.Domain form) value (rw (some, allowed, name) at e) in

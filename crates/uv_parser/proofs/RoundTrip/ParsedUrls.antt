@@ -55,7 +55,8 @@ takes_port-special (host.Opaque text) is = absurd is
 takes_port-special host.Empty is = absurd is
 
 -- a parsed host is that of a file URL, with the empty host for `localhost`
-file_readable : (value : Host) → IsReadableSpecialHost (Some value) → IsReadableFileHost (Some (without_localhost value))
+file_readable : (value : Host) → IsReadableSpecialHost (Some value)
+    → IsReadableFileHost (Some (without_localhost value))
 file_readable (host.Domain form) is =
     elim (cases_Bool (bytes_eq form (codes "localhost"))) [
       | inl same ↦ rw same tt
@@ -179,7 +180,8 @@ with_authority base text form parts silent takes scheme other =
 
 -- where the grammar is the standard's, what is denoted is well formed and stable
 by_valid : (base : Option Url) (text : List ℕ) (form : Form) (parts : Parts) → MayBeWellFormed Wide base
-    → MayBeStable base → Silent base text parts → parts.form ≡ form → FitsForm (setting_of Standard base parts.scheme) form parts
+    → MayBeStable base → Silent base text parts → parts.form ≡ form
+    → FitsForm (setting_of Standard base parts.scheme) form parts
     → IsReadable (denote base parts)
 by_valid base text form parts well stable silent e fits =
     let valid = valid_from base text parts silent
@@ -188,7 +190,8 @@ by_valid base text form parts well stable silent e fits =
     (denoted_is_stable Standard base text parts stable valid)
 
 -- the scheme of a form without one is the base's
-base_scheme : (base : Option Url) (parts : Parts) → MayBeWellFormed Wide base → parts.scheme ≡ None → FitsBase base parts
+base_scheme : (base : Option Url) (parts : Parts) → MayBeWellFormed Wide base → parts.scheme ≡ None
+    → FitsBase base parts
     → IsUrlScheme (denoted_scheme base parts.scheme)
 base_scheme None parts well none against = absurd (false≢true (rw none at against))
 base_scheme (Some url) parts well none against = rw none well.scheme
