@@ -1,4 +1,6 @@
--- Lemmas on the texts of addresses: the library's grammar, one value to a text, what is written is read back.
+-- Lemmas on the texts of addresses: the library's grammar, one value to a text, what is written is read back,
+-- and sizes.
 pub mod AddressLemmas
 pub mod AddressUniqueness
 pub mod AddressesReadBack
+pub mod AddressSizes

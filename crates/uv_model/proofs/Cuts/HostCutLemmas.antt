@@ -93,7 +93,7 @@ without_bracket (c ∷ rest) none =
     rw outside (without_bracket rest parts.1)
 
 -- a text of which each code point passes a test that the marks and `[` fail
-word_passes : (test : ℕ → Bool) → test slash ≡ false → test question_mark ≡ false → test number_sign ≡ false
+pub word_passes : (test : ℕ → Bool) → test slash ≡ false → test question_mark ≡ false → test number_sign ≡ false
     → test colon ≡ false
     → test left_bracket ≡ false → (text : List ℕ) → list_all test text ≡ true → IsHostWord text
 word_passes test s q n c b text each =
@@ -111,7 +111,7 @@ word_passes test s q n c b text each =
     }
 
 -- a text of a domain's code points
-pub word_of_permitted : (profile : Profile) (text : List ℕ) → list_all (is_permitted profile) text ≡ true
+word_of_permitted : (profile : Profile) (text : List ℕ) → list_all (is_permitted profile) text ≡ true
     → IsHostWord text
 word_of_permitted Standard text permitted =
     word_passes (is_permitted Standard) refl refl refl refl refl text permitted

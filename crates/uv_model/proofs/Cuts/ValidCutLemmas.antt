@@ -14,7 +14,7 @@ use Rattle.uv_model.specs.Scheme.{is_scheme_code_point}
 use Rattle.uv_model.specs.Records.Url.{Url}
 use Rattle.uv_model.specs.Parts.{Form, SchemeAuthority, SchemePath, SchemeOpaque, Authority, PathAbsolute, PathRelative, NoPath, Parts, has_scheme, written, written_scheme, written_authority, written_behind}
 use Rattle.uv_model.specs.Setting.{Setting, setting_of}
-use Rattle.uv_model.specs.Valid.{Valid, IsHostText, IsFileHostText, IsOpaqueHostText, MayBePortText, MayBeUnits, FitsAuthority, FitsHostText, HasNoAuthority, FitsForm, FitsScheme, starts_with_scheme, scheme_in}
+use Rattle.uv_model.specs.Valid.{Valid, IsHostText, IsFileHostText, IsOpaqueHostText, MayBePortText, MayBeUnits, FitsAuthority, FitsHostText, HasNoAuthority, FitsForm, FitsScheme, starts_with_scheme}
 use Rattle.uv_model.specs.Cut.{IsSchemeCut, IsAuthorityCut, IsHostCut, texts_of, cut_of, starts_with_two_slashes, written_middle, written_start, written_cut, IsCut, class_in}
 use Rattle.uv_model.specs.Laws.Cuts.{ValidTextsAreCutIntoTheirParts}
 use Rattle.uv_model.proofs.Texts.MarkLemmas.{is_without-append, is_without-more}

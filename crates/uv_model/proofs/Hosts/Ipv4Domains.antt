@@ -1,5 +1,5 @@
 -- No IPv4 text is a domain: it ends in a number, and is its own form.
-use Rattle.std.proofs.Common.{◌≡◌, ◌≢◌, ℕ, zero, suc, ◌-◌, ◌^◌, ◌<◌, true, false, ◌||◌, List, [], ◌∷◌, ◌++◌, length, get_or, All, Some, decimal, codes, refl, sym, ap, ◌∙◌, inl, inr, arith, append_assoc, lt-ltb}
+use Rattle.std.proofs.Common.{◌≡◌, ◌≢◌, ℕ, zero, suc, ◌^◌, ◌<◌, true, false, ◌||◌, List, [], ◌∷◌, ◌++◌, length, get_or, All, Some, decimal, codes, refl, sym, ap, ◌∙◌, inl, inr, arith, append_assoc, lt-ltb}
 use Rattle.std.specs.Char.{digit_value, is_ascii_lowercase, is_ascii_digit}
 use Rattle.std.specs.List.{list_all}
 use Rattle.std.specs.Str.Parse.{AllDigits}
@@ -63,7 +63,7 @@ not_stop : (d : ℕ) → digit_value d < 10 → is_full_stop d ≡ false
 not_stop d h = grind (arith, nat_tests)
 
 -- a list of digits
-digits_list : (ds : List ℕ) → AllDigits 10 ds → list_all is_ascii_digit ds ≡ true
+pub digits_list : (ds : List ℕ) → AllDigits 10 ds → list_all is_ascii_digit ds ≡ true
 digits_list [] h = refl
 digits_list (d ∷ ds) h = rw (digit_byte d h.0) (digits_list ds h.1)
 

@@ -31,20 +31,20 @@ IsUrlScheme-lowercase scheme is =
     record { spelled = is_scheme-lowercase scheme is; lower = no_uppercase-lowercase scheme }
 
 -- a denoted scheme has the class of the scheme that the text is read by
-class-denoted : (base : Option Url) (parts : Parts) (scheme : Option (List ℕ)) → parts.scheme ≡ scheme
+pub class-denoted : (base : Option Url) (parts : Parts) (scheme : Option (List ℕ)) → parts.scheme ≡ scheme
     → scheme_class (scheme_in base parts) ≡ scheme_class (denoted_scheme base parts.scheme)
 class-denoted base parts (Some scheme) e = rw e (sym (scheme_class-lowercase scheme))
 class-denoted (Some url) parts None e = rw e refl
 class-denoted None parts None e = rw e refl
 
 -- the scheme of a form that has one
-IsUrlScheme-own : (base : Option Url) (scheme : Option (List ℕ)) → FitsScheme true scheme
+pub IsUrlScheme-own : (base : Option Url) (scheme : Option (List ℕ)) → FitsScheme true scheme
     → IsUrlScheme (denoted_scheme base scheme)
 IsUrlScheme-own base (Some scheme) fits = IsUrlScheme-lowercase scheme fits
 IsUrlScheme-own base None fits = absurd fits
 
 -- the query where the text has one, or the form another than the empty path
-IsUrlQuery-own : (base : Option Url) (kind : Class) (form : Form) (query : Option (List ℕ)) → MayBeUnits query
+pub IsUrlQuery-own : (base : Option Url) (kind : Class) (form : Form) (query : Option (List ℕ)) → MayBeUnits query
     → (form ≡ NoPath → query ≡ None → IsUrlQuery kind (denoted_query base kind NoPath None))
     → IsUrlQuery kind (denoted_query base kind form query)
 IsUrlQuery-own base kind form (Some query) units kept = IsUrlQuery-encoded kind query units
@@ -65,16 +65,17 @@ denote_as base form parts =
     }
 
 -- what the forms differ in: all but the fragment, by the class that the text is read by
-record AreDenoted (profile : Profile) (base : Option Url) (kind : Class) (form : Form) (parts : Parts) : Type 0 where
-  scheme : IsUrlScheme (denoted_scheme base parts.scheme)
-  host : IsUrlHost profile kind (denoted_host base form parts)
-  port : IsUrlPort (denoted_scheme base parts.scheme) (denoted_host base form parts) (denoted_port base form parts)
-  path : IsUrlPath kind (denoted_host base form parts) (denoted_path base kind form parts)
-  query : IsUrlQuery kind (denoted_query base kind form parts.query)
+pub record AreDenoted (profile : Profile) (base : Option Url) (kind : Class) (form : Form) (parts : Parts) : Type 0
+  where
+  pub scheme : IsUrlScheme (denoted_scheme base parts.scheme)
+  pub host : IsUrlHost profile kind (denoted_host base form parts)
+  pub port : IsUrlPort (denoted_scheme base parts.scheme) (denoted_host base form parts) (denoted_port base form parts)
+  pub path : IsUrlPath kind (denoted_host base form parts) (denoted_path base kind form parts)
+  pub query : IsUrlQuery kind (denoted_query base kind form parts.query)
 
 -- the whole record
-WellFormed-denoted : (profile : Profile) (base : Option Url) (form : Form) (parts : Parts) → MayBeUnits parts.fragment
-    → AreDenoted profile base (scheme_class (scheme_in base parts)) form parts
+pub WellFormed-denoted : (profile : Profile) (base : Option Url) (form : Form) (parts : Parts)
+    → MayBeUnits parts.fragment → AreDenoted profile base (scheme_class (scheme_in base parts)) form parts
     → WellFormed profile (denote_as base form parts)
 WellFormed-denoted profile base form parts units are =
     let kind = scheme_class (scheme_in base parts) in
@@ -119,14 +120,14 @@ opaque_well_formed profile base text parts valid form =
 -- ---- an authority
 
 -- the default port of a denoted scheme is that of the scheme that the text is read by
-default_port-denoted : (base : Option Url) (parts : Parts) (scheme : Option (List ℕ)) → parts.scheme ≡ scheme
+pub default_port-denoted : (base : Option Url) (parts : Parts) (scheme : Option (List ℕ)) → parts.scheme ≡ scheme
     → default_port (denoted_scheme base parts.scheme) ≡ default_port (scheme_in base parts)
 default_port-denoted base parts (Some scheme) e = rw e (default_port-lowercase scheme)
 default_port-denoted (Some url) parts None e = rw e refl
 default_port-denoted None parts None e = rw e refl
 
 -- schemes of one class and one default port have the same ports
-IsUrlPort-same : (scheme other : List ℕ) (host : Option Host) (port : Option ℕ)
+pub IsUrlPort-same : (scheme other : List ℕ) (host : Option Host) (port : Option ℕ)
     → scheme_class scheme ≡ scheme_class other
     → default_port scheme ≡ default_port other → IsUrlPort other host port → IsUrlPort scheme host port
 IsUrlPort-same scheme other host None class default is = tt
@@ -202,7 +203,7 @@ AreDenoted-path profile base parts scheme fits query =
 -- ---- references
 
 -- a reference has the base's scheme
-scheme-reference : (url : Url) (parts : Parts) → parts.scheme ≡ None
+pub scheme-reference : (url : Url) (parts : Parts) → parts.scheme ≡ None
     → denoted_scheme (Some url) parts.scheme ≡ url.scheme
 scheme-reference url parts e = rw e refl
 
@@ -249,7 +250,7 @@ AreUrlSegments-kept_drive File (drive ∷ others) (first ∷ rest) are =
     ]
 
 -- what a reference without an authority takes from its base
-AreDenoted-reference : (profile : Profile) (url : Url) (form : Form) (parts : Parts) → WellFormed profile url
+pub AreDenoted-reference : (profile : Profile) (url : Url) (form : Form) (parts : Parts) → WellFormed profile url
     → parts.scheme ≡ None
     → denoted_host (Some url) form parts ≡ url.host → denoted_port (Some url) form parts ≡ url.port
     → IsUrlPath (scheme_class url.scheme) url.host (denoted_path (Some url) (scheme_class url.scheme) form parts)
@@ -265,7 +266,7 @@ AreDenoted-reference profile url form parts base none host port path query =
     })
 
 -- the path of a path-absolute reference
-IsUrlPath-absolute : (profile : Profile) (url : Url) (parts : Parts) → WellFormed profile url
+pub IsUrlPath-absolute : (profile : Profile) (url : Url) (parts : Parts) → WellFormed profile url
     → IsPathAbsolute parts.segments parts.path_text
     → IsUrlPath (scheme_class url.scheme) url.host
     (denoted_path (Some url) (scheme_class url.scheme) PathAbsolute parts)

@@ -1,5 +1,5 @@
 -- A host text that the host parser takes is a valid one, or it has a difference with a name.
-use Rattle.std.proofs.Common.{◌≡◌, ◌≢◌, ℕ, ◌/◌, ◌%◌, ◌<◌, ◌^◌, true, false, ◌==◌, ◌⊎◌, List, [], ◌∷◌, length, Option, Some, None, encode_utf8_all, sym, ap, subst, ◌∙◌, inl, inr, arith}
+use Rattle.std.proofs.Common.{◌≡◌, ◌≢◌, ℕ, ◌/◌, ◌%◌, ◌^◌, true, false, ◌==◌, ◌⊎◌, List, [], ◌∷◌, length, Option, Some, None, encode_utf8_all, sym, ap, subst, ◌∙◌, inl, inr, arith}
 use Rattle.std.specs.Prelude.{option_map, option_and_then}
 use Rattle.std.specs.List.{list_any}
 use Rattle.std.specs.Str.{bytes_eq, is_utf8}
@@ -20,6 +20,7 @@ use Rattle.uv_model.specs.Valid.{IsHostText}
 use Rattle.uv_model.proofs.Hosts.DomainLemmas.{IsForm-from, parser_form-is}
 use Rattle.uv_parser.proofs.HostParsing.HostParserLemmas.{ipv4_hosts_are_parsed, no_percent-encoded, no_percent-permitted, percent_decode-plain, percent_decoded-plain}
 use Rattle.uv_model.proofs.Addresses.AddressesReadBack.{ipv4_written}
+use Rattle.uv_model.proofs.Addresses.AddressSizes.{ipv4_small}
 use Rattle.uv_parser.proofs.HostParsing.OtherHostsTaken.{bracketed_taken}
 
 -- ---- addresses
@@ -40,10 +41,6 @@ ipv4_text_is text value (a, b, c, d, is, e) =
     let third : value / 256 % 256 ≡ c = omega (arith, e, fit.0, fit.1, fit.2, fit.3) in
     let fourth : value % 256 ≡ d = omega (arith, e, fit.0, fit.1, fit.2, fit.3) in
     rw (first, second, third, fourth) is.spelled
-
--- its value is one of 32 bits
-ipv4_small : (text : List ℕ) (value : ℕ) → IsIpv4 text value → value < 2 ^ 32
-ipv4_small text value (a, b, c, d, is, e) = omega (arith, e, is.fit.0, is.fit.1, is.fit.2, is.fit.3)
 
 -- the text of which the parser makes an IPv4 address is one, or it is mapped to one
 ipv4_or_differs : (text : List ℕ) (value : ℕ) → parse_host true text ≡ Some (host.V4 value)

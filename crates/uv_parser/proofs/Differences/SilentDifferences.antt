@@ -209,19 +209,24 @@ form_or_differs base PathAbsolute parts named (none, path) =
 form_or_differs base PathRelative parts named takes = inl takes
 form_or_differs base NoPath parts named takes = inl takes
 
+-- where the form fits, the parts are valid
+pub valid_from : (base : Option Url) (text : List ℕ) (parts : Parts) → Silent base text parts
+    → FitsForm (setting_of Standard base parts.scheme) parts.form parts → Valid Standard base text parts
+valid_from base text parts silent fits = record {
+  whole = silent.cut.whole ∙ sym (written_as_cut parts);
+  scheme = silent.scheme;
+  against = silent.against;
+  form = fits;
+  query = silent.query;
+  fragment = silent.fragment;
+}
+
 -- what the parser is silent on is valid, or it differs
 valid_or_differs : (base : Option Url) (text : List ℕ) (parts : Parts) → Silent base text parts
     → Valid Standard base text parts ⊎ Differs base parts
 valid_or_differs base text parts silent =
     elim (form_or_differs base parts.form parts silent.scheme silent.form) [
-      | inl fits ↦ inl (record {
-        whole = silent.cut.whole ∙ sym (written_as_cut parts);
-        scheme = silent.scheme;
-        against = silent.against;
-        form = fits;
-        query = silent.query;
-        fragment = silent.fragment;
-      })
+      | inl fits ↦ inl (valid_from base text parts silent fits)
       | inr differs ↦ inr differs
     ]
 

@@ -207,7 +207,7 @@ opaque_encoded text other parsed =
     same_text one e = cc
 
 -- the parser's host is the denoted one
-other_valued : (parts : Parts) (host_text : List ℕ) (value : Host) → parts.host_text ≡ Some host_text
+pub other_valued : (parts : Parts) (host_text : List ℕ) (value : Host) → parts.host_text ≡ Some host_text
     → parse_host false host_text ≡ Some value → parts.host ≡ own_value value → Some value ≡ authority_host parts
 other_valued parts host_text (host.Domain form) given parsed e = rw e refl
 other_valued parts host_text (host.V4 value) given parsed e = rw e refl

@@ -88,7 +88,7 @@ no_drive_mark Standard mark is = grind (arith, nat_tests)
 no_drive_mark Wide mark is = grind (arith, nat_tests)
 
 -- a text of a domain's code points
-pub no_drive : (profile : Profile) (text : List ℕ) → list_all (is_permitted profile) text ≡ true
+no_drive : (profile : Profile) (text : List ℕ) → list_all (is_permitted profile) text ≡ true
     → is_drive_letter text ≡ false
 no_drive profile [] is = refl
 no_drive profile (c ∷ []) is = refl

@@ -74,10 +74,15 @@ plain_texts (c ∷ rest) permitted above =
     let second = and_parts (is_unremoved c) (list_all is_unremoved rest) above in
     and_from _ _ (plain_permitted c first.0 second.0) (plain_texts rest first.1 second.1)
 
+-- a text without a forbidden host code point is read
+pub read_allowed : (text : List ℕ) → list_all (λ c. not (is_forbidden_host c)) text ≡ true
+    → list_all is_unremoved text ≡ true → IsReadWhole text
+read_allowed text permitted above = read_plain text (plain_texts text permitted above)
+
 -- an opaque-host string is read
 pub read_opaque : (text : List ℕ) → IsOpaqueHost text → IsReadWhole text
 read_opaque text is =
-    read_plain text (plain_texts text is.permitted (unremoved_faultless text (is_faultless-units text is.units)))
+    read_allowed text is.permitted (unremoved_faultless text (is_faultless-units text is.units))
 
 -- a code point of a domain
 plain_domain : (profile : Profile) (c : ℕ) → is_permitted profile c ≡ true → is_plain c ≡ true
@@ -101,7 +106,7 @@ plain_domains profile (c ∷ rest) permitted =
     and_from _ _ (plain_domain profile c parts.0) (plain_domains profile rest parts.1)
 
 -- a text of a domain's code points is read
-pub read_permitted : (profile : Profile) (text : List ℕ) → list_all (is_permitted profile) text ≡ true
+read_permitted : (profile : Profile) (text : List ℕ) → list_all (is_permitted profile) text ≡ true
     → IsReadWhole text
 read_permitted profile text permitted = read_plain text (plain_domains profile text permitted)
 

@@ -3,7 +3,6 @@ use Rattle.std.proofs.Common.{◌≡◌, ℕ, true, List, [], ◌∷◌, ◌++�
 use Rattle.std.specs.Prelude.{option_map}
 use Rattle.std.specs.List.{list_all, join_with_byte}
 use Rattle.std.proofs.lemmas.Bool.{false≢true}
-use Rattle.uv_model.specs.declared.profile.Profile.TheVariants.{Wide}
 use Rattle.uv_model.specs.Path.{MayBePathSlashed}
 use Rattle.uv_model.specs.declared.scheme.Class.{Class}
 use Rattle.uv_model.specs.declared.scheme.Class.TheVariants.{Special, File, Other}
@@ -16,12 +15,12 @@ use Rattle.uv_model.specs.Records.Denote.{authority_host, authority_path, denote
 use Rattle.uv_model.specs.Parts.{Parts, SchemeAuthority, written, written_behind}
 use Rattle.uv_parser.specs.SilentTexts.{Silent, Takes}
 use Rattle.uv_parser.specs.Laws.OtherHosts.{own_value}
-use Rattle.uv_parser.specs.Laws.RoundTrip.{IsStableHost, MayBePortNumber}
+use Rattle.uv_parser.specs.Laws.RoundTrip.{IsReadableHost, MayBePortNumber}
 use Rattle.uv_model.specs.Scheme.{default_port, scheme_class}
 use Rattle.uv_model.specs.Records.Serialize.{serial, serial_host, serial_port, serial_segments}
 use Rattle.uv_model.specs.Records.Url.{Url}
 use Rattle.uv_model.specs.Valid.{MayBePortText, port_given}
-use Rattle.uv_model.specs.Records.WellFormed.{AreUrlSegments, IsUrlFragment, IsUrlHost, IsUrlPath, IsUrlPort, IsUrlQuery, IsUrlScheme, takes_port}
+use Rattle.uv_model.specs.Records.WellFormed.{AreUrlSegments, IsUrlFragment, IsUrlPath, IsUrlPort, IsUrlQuery, IsUrlScheme, takes_port}
 use Rattle.uv_model.proofs.Paths.PathLemmas.{IsUnits-join}
 use Rattle.uv_parser.proofs.HostParsing.OtherHosts.{silent_other}
 use Rattle.uv_parser.proofs.RoundTrip.SerializedHosts.{IsHostRead, file_taken, host_read, host_without, other_parsed, special_taken}
@@ -97,6 +96,7 @@ record PortFits (kind : Class) (scheme : List ℕ) (value : Host) (port : Option
   given : port ≡ port_given (default_port scheme) (option_map decimal port)
   taken : (port ≡ None) ⊎ (takes_port kind (Some value) ≡ true)
 
+-- the port of a URL with its text
 port_fits : (scheme : List ℕ) (value : Host) (port : Option ℕ) → IsUrlPort scheme (Some value) port
     → MayBePortNumber port → PortFits (scheme_class scheme) scheme value port
 port_fits scheme value None is small = record { text = tt; given = refl; taken = inl refl }
@@ -129,7 +129,7 @@ authority_parts scheme value port segments query fragment = record {
 }
 
 -- a host whose text is empty is the empty host
-empty_text : (value : Host) → IsUrlHost Wide Other (Some value) → serial_host value ≡ [] → value ≡ host.Empty
+empty_text : (value : Host) → IsReadableHost Other (Some value) → serial_host value ≡ [] → value ≡ host.Empty
 unfolding serial_host
 empty_text (host.Domain form) is nothing = absurd is
 empty_text (host.V4 value) is nothing = absurd is
@@ -138,7 +138,7 @@ empty_text (host.Opaque text) is nothing = absurd (let some = is.host.some in cc
 empty_text host.Empty is nothing = refl
 
 -- no port stands behind it
-alone : (value : Host) (port : Option ℕ) → IsUrlHost Wide Other (Some value)
+alone : (value : Host) (port : Option ℕ) → IsReadableHost Other (Some value)
     → (port ≡ None) ⊎ (takes_port Other (Some value) ≡ true) → serial_host value ≡ []
     → option_map decimal port ≡ None
 alone value port is (inl none) nothing = rw none refl
@@ -152,14 +152,15 @@ no_file_port value port (inl none) = none
 no_file_port value port (inr takes) = absurd (false≢true takes)
 
 -- each host but an opaque one is its own value
-own_file : (value : Host) → IsUrlHost Wide File (Some value) → own_value value ≡ Some value
+own_file : (value : Host) → IsReadableHost File (Some value) → own_value value ≡ Some value
 own_file (host.Domain form) is = refl
 own_file (host.V4 value) is = refl
 own_file (host.V6 pieces) is = refl
 own_file (host.Opaque text) is = absurd is
 own_file host.Empty is = refl
 
-own_special : (value : Host) → IsUrlHost Wide Special (Some value) → own_value value ≡ Some value
+-- so is each host of a special URL
+own_special : (value : Host) → IsReadableHost Special (Some value) → own_value value ≡ Some value
 own_special (host.Domain form) is = refl
 own_special (host.V4 value) is = refl
 own_special (host.V6 pieces) is = refl
@@ -168,30 +169,30 @@ own_special host.Empty is = absurd is
 
 -- the parser's grammar takes the host and the port
 takes : (kind : Class) (scheme : List ℕ) (value : Host) (port : Option ℕ) (segments : List (List ℕ))
-    (query fragment : Option (List ℕ)) → IsUrlHost Wide kind (Some value) → IsStableHost value
+    (query fragment : Option (List ℕ)) → IsReadableHost kind (Some value)
     → PortFits kind scheme value port
     → Takes kind scheme (serial_host value) (authority_parts scheme value port segments query fragment)
-takes Special scheme value port segments query fragment is stable fits = record {
+takes Special scheme value port segments query fragment is fits = record {
   value = value;
-  host = special_taken value is stable;
+  host = special_taken value is;
   valued = own_special value is;
   port_text = fits.text;
   port = fits.given;
 }
-takes File scheme value port segments query fragment is stable fits =
+takes File scheme value port segments query fragment is fits =
     let none = no_file_port value port fits.taken in
     record {
       no_port_text = rw none refl;
       no_port = none;
-      host = elim (file_taken value is stable) [
+      host = elim (file_taken value is) [
         | inl taken ↦ inl (value, taken, own_file value is)
         | inr (nothing, empty) ↦ inr (nothing, own_file value is ∙ ap Some empty)
       ];
     }
-takes Other scheme value port segments query fragment is stable fits = record {
+takes Other scheme value port segments query fragment is fits = record {
   host =
       silent_other (serial_host value) value
-      (host_without at_sign (serial_host value) refl (host_read Other value is stable)) (other_parsed value is stable);
+      (host_without at_sign (serial_host value) refl (host_read Other value is)) (other_parsed value is);
   alone = alone value port is fits.taken;
   port_text = fits.text;
   port = fits.given;
@@ -206,7 +207,7 @@ host_cut File value port read taken = rw (no_file_port value port taken) refl
 host_cut Other value port read taken = read.word.ends (option_map decimal port)
 
 -- the host of the parts is the URL's
-host_denoted : (kind : Class) (value : Host) → IsUrlHost Wide kind (Some value)
+host_denoted : (kind : Class) (value : Host) → IsReadableHost kind (Some value)
     → (parts : Parts) → parts.host ≡ own_value value → parts.host_text ≡ Some (serial_host value)
     → authority_host parts ≡ Some value
 unfolding serial_host
@@ -221,35 +222,47 @@ host_denoted Other (host.Opaque name) is parts own text =
 
 -- ---- the whole
 
-module _ (scheme : List ℕ) (value : Host) (port : Option ℕ) (segments : List (List ℕ)) (query fragment : Option (List ℕ))
-    (is : IsUrlScheme scheme) (host_is : IsUrlHost Wide (scheme_class scheme) (Some value)) (stable : IsStableHost value)
+module _ (scheme : List ℕ) (value : Host) (port : Option ℕ) (segments : List (List ℕ))
+    (query fragment : Option (List ℕ))
+    (is : IsUrlScheme scheme) (host_is : IsReadableHost (scheme_class scheme) (Some value))
     (port_is : IsUrlPort scheme (Some value) port) (small : MayBePortNumber port)
     (path_is : IsUrlPath (scheme_class scheme) (Some value) (Segments segments))
     (query_is : IsUrlQuery (scheme_class scheme) query) (fragment_is : IsUrlFragment fragment) where
+  -- the parts of its text
   abbrev parts : Parts
   parts = authority_parts scheme value port segments query fragment
 
+  -- the URL
   abbrev url : Url
   url = url_of scheme (Some value) port (Segments segments) query fragment
 
+  -- its host
   read : IsHostRead (serial_host value)
-  read = host_read (scheme_class scheme) value host_is stable
+  read = host_read (scheme_class scheme) value host_is
 
+  -- its port
   fits : PortFits (scheme_class scheme) scheme value port
   fits = port_fits scheme value port port_is small
 
+  -- its path
   slashed : MayBePathSlashed segments (serial_segments segments)
   slashed = path_slashed segments (path_segments (scheme_class scheme) value segments path_is)
 
-  above : list_all is_unremoved
-      (slash ∷ slash ∷ ((serial_host value ++ written_behind colon (option_map decimal port)) ++ serial_segments segments))
-      ≡ true
+  -- the authority and the path
+  abbrev middle : List ℕ
+  middle =
+      slash ∷ slash ∷ ((serial_host value ++ written_behind colon (option_map decimal port))
+      ++ serial_segments segments)
+
+  -- no code point of them is removed
+  above : list_all is_unremoved middle ≡ true
   above =
       unremoved_append (slash ∷ slash ∷ (serial_host value ++ written_behind colon (option_map decimal port)))
       (serial_segments segments)
       (unremoved_authority (serial_host value) (option_map decimal port) read.read.above fits.text)
       (path_above segments (serial_segments segments) slashed)
 
+  -- the parser is silent on these parts
   silent : Silent None (written parts) parts
   silent = record {
     cut =
@@ -259,26 +272,29 @@ module _ (scheme : List ℕ) (value : Host) (port : Option ℕ) (segments : List
         (path_behind segments (serial_segments segments) slashed))
         (query_units (scheme_class scheme) query query_is);
     kept =
-        kept_text (written parts) scheme
-        (slash ∷ slash ∷ ((serial_host value ++ written_behind colon (option_map decimal port)) ++ serial_segments segments))
-        query fragment is.spelled above (query_units (scheme_class scheme) query query_is)
-        (fragment_units fragment fragment_is) (written_with_authority parts scheme (serial_host value) refl refl);
+        kept_text (written parts) scheme middle query fragment is.spelled above
+        (query_units (scheme_class scheme) query query_is) (fragment_units fragment fragment_is)
+        (written_with_authority parts scheme (serial_host value) refl refl);
     scheme = is.spelled;
     against = refl;
-    form = (takes (scheme_class scheme) scheme value port segments query fragment host_is stable fits, slashed);
+    form = (takes (scheme_class scheme) scheme value port segments query fragment host_is fits, slashed);
     query = query_units (scheme_class scheme) query query_is;
     fragment = fragment_units fragment fragment_is;
   }
 
+  -- they are written as the URL is serialized
   written_text : written parts ≡ serial url
   unfolding serial
   written_text =
       written_with_authority parts scheme (serial_host value) refl refl
-      ∙ ap (λ xs. scheme ++ colon ∷ slash ∷ slash ∷ (((serial_host value ++ xs) ++ serial_segments segments) ++ tail query fragment))
+      ∙ ap
+      (λ xs. scheme ++ colon ∷ slash ∷ slash ∷ (((serial_host value ++ xs) ++ serial_segments segments)
+      ++ tail query fragment))
       (port_written port)
       ∙ ap (λ xs. scheme ++ colon ∷ slash ∷ slash ∷ xs)
       (append_assoc (serial_host value ++ serial_port port) (serial_segments segments) (tail query fragment))
 
+  -- and denote it
   denoted : denote None parts ≡ url
   unfolding denote
   denoted = λ i. record {

@@ -47,6 +47,7 @@ pub record IsSilentOn (url : Url) : Type 0 where
 
 -- ---- the scheme, the query and the fragment
 
+-- ASCII without upper case
 lower : (scheme : List ℕ) → list_all is_ascii scheme ≡ true
     → list_all (λ c. not (is_ascii_uppercase c)) scheme ≡ true
     → list_all (λ c. is_ascii c && not (is_ascii_uppercase c)) scheme ≡ true
@@ -95,6 +96,7 @@ silent_alone scheme parts named is none units valid takes = record {
   fragment = valid.fragment;
 }
 
+-- parts without a host and a port
 no_authority : {parts : Parts} → parts.host_text ≡ None → parts.host ≡ None → parts.port_text ≡ None
     → parts.port ≡ None → HasNoAuthority parts
 no_authority a b c d = record { host_text = a; host = b; port_text = c; port = d }
@@ -118,6 +120,7 @@ module _ (scheme : List ℕ) (query fragment : Option (List ℕ)) (is : IsUrlSch
     fragment = encoded-fragment fragment fragment_is i;
   }
 
+  -- they are the parts of a valid text
   opaque_valid : (text : List ℕ) → IsUrlOpaquePath text
       → Valid Wide None (written (opaque_parts scheme None text query fragment))
       (opaque_parts scheme None text query fragment)
@@ -143,7 +146,9 @@ module _ (scheme : List ℕ) (query fragment : Option (List ℕ)) (is : IsUrlSch
       let valid = opaque_valid text path in
       record {
         parts = parts;
-        silent = silent_alone scheme parts refl is.spelled refl (is_faultless-units text path.units.units) valid valid.form;
+        silent =
+            silent_alone scheme parts refl is.spelled refl (is_faultless-units text path.units.units) valid
+            valid.form;
         written = written_without_authority parts scheme refl refl
             ∙ sym (text_alone scheme text (Opaque text) query fragment refl);
         denoted = opaque_denoted text path;
@@ -238,6 +243,7 @@ faultless_absolute segments text path =
 module _ (scheme : List ℕ) (query fragment : Option (List ℕ)) (is : IsUrlScheme scheme)
     (other : scheme_class scheme ≡ Other) (query_is : IsUrlQuery (scheme_class scheme) query)
     (fragment_is : IsUrlFragment fragment) where
+  -- the parts of a URL with a path of segments denote it
   path_denoted : (segments : List (List ℕ)) → AreUrlSegments segments
       → denote None (path_parts scheme (shown segments) query fragment)
       ≡ url_of scheme None None (Segments segments) query fragment
@@ -251,6 +257,7 @@ module _ (scheme : List ℕ) (query fragment : Option (List ℕ)) (is : IsUrlSch
     fragment = encoded-fragment fragment fragment_is i;
   }
 
+  -- they are the parts of a valid text
   path_valid : (segments : List (List ℕ)) → IsPathAbsolute segments (serial_segments segments)
       → Valid Wide None (written (path_parts scheme segments query fragment)) (path_parts scheme segments query fragment)
   path_valid segments path = record {

@@ -3,8 +3,8 @@
 use Rattle.std.proofs.Common.{◌≡◌, ℕ, ◌<◌, ◌^◌, Bool, true, false, not, ◌&&◌, ◌==◌, List, [], ◌∷◌, ◌++◌, length, decimal, Option, Some, None, refl, sym, ap, ◌∙◌, append_assoc, append-nil, arith}
 use Rattle.std.specs.Prelude.{if◌then◌else◌, option_map}
 use Rattle.std.specs.List.{list_all, join_with_byte}
-use Rattle.std.specs.Char.{is_ascii, is_ascii_digit, digit_value}
-use Rattle.std.specs.Str.Parse.{AllDigits, digits_value}
+use Rattle.std.specs.Char.{is_ascii}
+use Rattle.std.specs.Str.Parse.{digits_value}
 use Rattle.std.proofs.lemmas.Bool.{and_parts, and_from}
 use Rattle.std.proofs.lemmas.Bool.Decides.{nat_tests}
 use Rattle.std.proofs.lemmas.Fmt.{decimal_is_IsNumeral}
@@ -19,6 +19,7 @@ use Rattle.uv_model.specs.Records.Serialize.{serial_segments}
 use Rattle.uv_model.specs.Valid.{IsPortText, MayBeUnits, is_default, is_default_port, port_given}
 use Rattle.uv_model.specs.Records.WellFormed.{AreUrlSegments, IsUrlSegment, IsUrlFragment, IsUrlQuery, is_ascii_text}
 use Rattle.uv_model.proofs.Texts.EncodingLemmas.{encoded_code_point-kept, is_kept}
+use Rattle.uv_model.proofs.Hosts.Ipv4Domains.{digits_list}
 
 -- ---- encoding
 
@@ -68,13 +69,14 @@ pub encoded-fragment : (fragment : Option (List ℕ)) → IsUrlFragment fragment
 encoded-fragment None is = refl
 encoded-fragment (Some fragment) is = ap Some (encoded-ascii fragment is.ascii)
 
--- both are units
+-- the query is units
 pub query_units : (kind : Class) (query : Option (List ℕ)) → IsUrlQuery kind query → MayBeUnits query
 query_units kind None is = tt
 query_units Special (Some query) is = is.0.units
 query_units File (Some query) is = is.0.units
 query_units Other (Some query) is = is.units
 
+-- the fragment is units
 pub fragment_units : (fragment : Option (List ℕ)) → IsUrlFragment fragment → MayBeUnits fragment
 fragment_units None is = tt
 fragment_units (Some fragment) is = is.units
@@ -125,15 +127,8 @@ port_given-decimal scheme port small other =
     let (numeral, value) = decimal_is_IsNumeral port (omega arith) in
     port_given-some (default_port scheme) (decimal port) port numeral.0 value other
 
-digit_byte : (d : ℕ) → digit_value d < 10 → is_ascii_digit d ≡ true
-digit_byte d h = grind (arith, nat_tests)
-
-digit_bytes : (digits : List ℕ) → AllDigits 10 digits → list_all is_ascii_digit digits ≡ true
-digit_bytes [] all = refl
-digit_bytes (d ∷ rest) all = and_from _ _ (digit_byte d all.0) (digit_bytes rest all.1)
-
 -- and those are a port text
 pub port_text-decimal : (port : ℕ) → port < 2 ^ 16 → IsPortText (decimal port)
 port_text-decimal port small =
     let (numeral, value) = decimal_is_IsNumeral port (omega arith) in
-    record { digits = digit_bytes (decimal port) numeral.1; range = omega (arith, value) }
+    record { digits = digits_list (decimal port) numeral.1; range = omega (arith, value) }

@@ -1,12 +1,9 @@
 -- The host and the port that a valid text denotes are stable: their texts are read as them.
-use Rattle.std.proofs.Common.{◌≡◌, ℕ, zero, suc, ◌-◌, ◌^◌, ◌<◌, ◌≤◌, Bool, true, false, List, [], ◌∷◌, ◌++◌, length, replicate, encode_utf8_all, Option, Some, None, sym, ◌∙◌, inl, inr, arith, length-append}
-use Rattle.std.specs.Prelude.{slice_index}
+use Rattle.std.proofs.Common.{◌≡◌, ℕ, true, List, [], ◌∷◌, encode_utf8_all, Option, Some, None, sym, ◌∙◌, inl, inr, arith}
 use Rattle.std.specs.List.{list_all}
 use Rattle.std.specs.Str.Parse.{digits_value}
 use Rattle.std.proofs.lemmas.Bool.{cases_Bool}
 use Rattle.std.proofs.lemmas.Bool.Decides.{nat_tests}
-use Rattle.std.proofs.lemmas.Int.Digits.{digits_value-lt}
-use Rattle.std.proofs.lemmas.List.{length-replicate}
 use Rattle.std.proofs.lemmas.List.Sums.{list_all-from_AllPass}
 use Rattle.std.proofs.lemmas.Str.{encodes-IsAscii}
 use Rattle.idna.proofs.Uts46Lemmas.{to_ascii_idem}
@@ -18,20 +15,19 @@ use Rattle.uv_model.specs.declared.profile.Profile.{Profile}
 use Rattle.uv_model.specs.declared.profile.Profile.TheVariants.{Standard, Wide}
 use Rattle.uv_model.specs.declared.host.Host.{Host}
 use Rattle.uv_model.specs.declared.host.Host.TheVariants as host
-use Rattle.uv_model.specs.Hosts.Address.{IsGroup, IsGroupList, IsIpv4, IsIpv6, IsSide}
 use Rattle.uv_model.specs.Records.Denote.{authority_host}
 use Rattle.uv_model.specs.Hosts.Domain.{IsDomain, IsForm, has_permitted, is_form_code_point, is_permitted, strict_form}
-use Rattle.uv_model.specs.Laws.Addresses.{IsAddress}
 use Rattle.uv_model.specs.Parts.{Parts}
 use Rattle.uv_parser.specs.Laws.RoundTrip.{IsStableHost, MayBePortNumber, MayBeStableHost}
 use Rattle.uv_model.specs.Valid.{IsFileHostText, IsHostText, IsOpaqueHostText, MayBePortText, is_default, port_given}
-use Rattle.uv_model.proofs.Addresses.AddressLemmas.{group_to}
+use Rattle.uv_model.proofs.Addresses.AddressSizes.{ipv4_small, ipv6_small}
 use Rattle.uv_model.proofs.Hosts.DomainLemmas.{IsAscii-form, IsForm-from, IsForm-wide, parser_form-is}
 use Rattle.uv_model.proofs.Cuts.HostCutLemmas.{passes-weaker}
 use Rattle.uv_parser.proofs.HostParsing.HostParserLemmas.{domains_are_parsed}
 
 -- ---- domains
 
+-- a form's code point is a domain's
 permitted_form : (profile : Profile) (c : ℕ) → is_form_code_point profile c ≡ true → is_permitted profile c ≡ true
 permitted_form Standard c is = grind (arith, nat_tests)
 permitted_form Wide c is = grind (arith, nat_tests)
@@ -65,76 +61,6 @@ domain_again profile text form (is, name) = (again profile is, name)
         IsForm-from form form (permitted Standard is) strict is.lengths (parsed Standard is)
     again Wide is = IsForm-wide form form (permitted Wide is) (parsed Wide is) (letters Wide is) is.lengths
 
--- ---- addresses
-
--- an IPv4 text has a value of 32 bits
-ipv4_small : (text : List ℕ) (value : ℕ) → IsIpv4 text value → value < 2 ^ 32
-ipv4_small text value (a, b, c, d, is, e) = omega (arith, is.fit.0, is.fit.1, is.fit.2, is.fit.3, e)
-
--- each piece has 16 bits
-record AreSmall (pieces : List ℕ) : Type 0 where
-  each : (k : ℕ) → slice_index pieces k < 2 ^ 16
-
-small_nil : AreSmall []
-small_nil = record { each = λ k. omega arith }
-
-small_cons : (p : ℕ) (pieces : List ℕ) → p < 2 ^ 16 → AreSmall pieces → AreSmall (p ∷ pieces)
-small_cons p pieces first rest = record { each = at }
-  where
-    at : (k : ℕ) → slice_index (p ∷ pieces) k < 2 ^ 16
-    at zero = first
-    at (suc k) = rest.each k
-
-small_append : (xs ys : List ℕ) → AreSmall xs → AreSmall ys → AreSmall (xs ++ ys)
-small_append [] ys first second = second
-small_append (x ∷ xs) ys first second =
-    small_cons x (xs ++ ys) (first.each 0) (small_append xs ys (record { each = λ k. first.each (suc k) }) second)
-
-small_zeros : (n : ℕ) → AreSmall (replicate n 0)
-small_zeros zero = small_nil
-small_zeros (suc n) = small_cons 0 (replicate n 0) (omega arith) (small_zeros n)
-
-sixteen_to : (n : ℕ) → n ≤ 4 → 16 ^ n ≤ 2 ^ 16
-sixteen_to zero few = omega arith
-sixteen_to (suc zero) few = omega arith
-sixteen_to (suc (suc zero)) few = omega arith
-sixteen_to (suc (suc (suc zero))) few = omega arith
-sixteen_to (suc (suc (suc (suc zero)))) few = omega arith
-sixteen_to (suc (suc (suc (suc (suc n))))) few = absurd (omega (arith, few))
-
--- a group writes a number of 16 bits
-group_small : (text : List ℕ) (piece : ℕ) → IsGroup text piece → piece < 2 ^ 16
-group_small text piece is =
-    let below = digits_value-lt 16 text (group_to text piece is).0.0.1 in
-    omega (arith, below, sixteen_to (length text) is.few, is.value)
-
-groups_small : (dotted : Bool) (text pieces : List ℕ) → IsGroupList dotted text pieces → AreSmall pieces
-groups_small dotted text [] is = absurd is
-groups_small dotted text (p ∷ []) is = small_cons p [] (group_small text p is) small_nil
-groups_small dotted text (p ∷ q ∷ rest) (inl (group, others, split, is, more)) =
-    small_cons p (q ∷ rest) (group_small group p is) (groups_small dotted others (q ∷ rest) more)
-groups_small dotted text (p ∷ q ∷ rest) (inr (allowed, none, (a, b, c, d, is, first, second))) =
-    rw none
-    (small_cons p (q ∷ []) (omega (arith, is.fit.0, is.fit.1, first))
-    (small_cons q [] (omega (arith, is.fit.2, is.fit.3, second)) small_nil))
-
-side_small : (dotted : Bool) (text pieces : List ℕ) → IsSide dotted text pieces → AreSmall pieces
-side_small dotted text pieces (inl (nothing, none)) = rw none small_nil
-side_small dotted text pieces (inr list) = groups_small dotted text pieces list
-
--- an IPv6 text has eight pieces of 16 bits
-ipv6_small : (text pieces : List ℕ) → IsIpv6 text pieces → IsAddress (host.V6 pieces)
-ipv6_small text pieces (inl (list, eight)) = (eight, (groups_small true text pieces list).each)
-ipv6_small text pieces (inr is) =
-    let left = side_small false is.left_text is.left is.left_groups in
-    let right = side_small true is.right_text is.right is.right_groups in
-    let zeros = small_zeros (8 - length is.left - length is.right) in
-    rw is.value (
-      simp (length-append, length-replicate) (omega (arith, is.room)),
-      (small_append (is.left ++ replicate (8 - length is.left - length is.right) 0) is.right
-          (small_append is.left (replicate (8 - length is.left - length is.right) 0) left zeros) right).each,
-    )
-
 -- ---- hosts
 
 -- a valid host string
@@ -146,8 +72,10 @@ host_stable profile text (host.Opaque name) is = absurd is
 host_stable profile text host.Empty is = absurd is
 
 -- one of a file URL
-pub file_host_stable : (profile : Profile) (text : List ℕ) (value : Host) → IsFileHostText profile text value → IsStableHost value
-file_host_stable profile text (host.Domain form) is = domains_are_parsed profile form form (domain_again profile text form is.0)
+pub file_host_stable : (profile : Profile) (text : List ℕ) (value : Host) → IsFileHostText profile text value
+    → IsStableHost value
+file_host_stable profile text (host.Domain form) is =
+    domains_are_parsed profile form form (domain_again profile text form is.0)
 file_host_stable profile text (host.V4 value) is = ipv4_small text value is
 file_host_stable profile text (host.V6 pieces) is = ipv6_small is.0 pieces is.2
 file_host_stable profile text (host.Opaque name) is = absurd is
