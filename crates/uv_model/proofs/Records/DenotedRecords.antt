@@ -67,11 +67,12 @@ denote_as base form parts =
 -- what the forms differ in: all but the fragment, by the class that the text is read by
 pub record AreDenoted (profile : Profile) (base : Option Url) (kind : Class) (form : Form) (parts : Parts) : Type 0
   where
-  pub scheme : IsUrlScheme (denoted_scheme base parts.scheme)
-  pub host : IsUrlHost profile kind (denoted_host base form parts)
-  pub port : IsUrlPort (denoted_scheme base parts.scheme) (denoted_host base form parts) (denoted_port base form parts)
-  pub path : IsUrlPath kind (denoted_host base form parts) (denoted_path base kind form parts)
-  pub query : IsUrlQuery kind (denoted_query base kind form parts.query)
+    pub scheme : IsUrlScheme (denoted_scheme base parts.scheme)
+    pub host : IsUrlHost profile kind (denoted_host base form parts)
+    pub port :
+        IsUrlPort (denoted_scheme base parts.scheme) (denoted_host base form parts) (denoted_port base form parts)
+    pub path : IsUrlPath kind (denoted_host base form parts) (denoted_path base kind form parts)
+    pub query : IsUrlQuery kind (denoted_query base kind form parts.query)
 
 -- the whole record
 pub WellFormed-denoted : (profile : Profile) (base : Option Url) (form : Form) (parts : Parts)
