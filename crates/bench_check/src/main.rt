@@ -7,6 +7,7 @@ use std::alloc::{AllocError, Global};
 use std::io::{self, Error, ErrorKind, Read};
 use std::{env, str};
 use uv_grammar::{Verdict, check};
+use uv_model::Profile;
 
 fn main(rt: HostRuntime) -> io::Result<()> {
     let words: Vec<String> = env::args(&rt)?.collect(rt.alloc())?;
@@ -53,7 +54,7 @@ fn texts_in<'b>(alloc: Global, bytes: &'b [u8]) -> Result<Vec<&'b str>, AllocErr
 fn count_valid(alloc: Global, texts: &[&str]) -> Result<usize, AllocError> {
     let mut valid = 0usize;
     for text in texts {
-        if let Verdict::Yes(_) = check(alloc, text, None)? {
+        if let Verdict::Yes(_) = check(alloc, text, None, Profile::Standard)? {
             valid = valid.saturating_add(1);
         }
     }
@@ -64,7 +65,7 @@ fn count_valid(alloc: Global, texts: &[&str]) -> Result<usize, AllocError> {
 fn verdicts_on(alloc: Global, texts: &[&str]) -> Result<String, AllocError> {
     let mut verdicts = String::new(alloc);
     for text in texts {
-        match check(alloc, text, None)? {
+        match check(alloc, text, None, Profile::Standard)? {
             Verdict::Yes(_) => verdicts.push('1')?,
             Verdict::No(_) => verdicts.push('0')?,
         }

@@ -36,13 +36,19 @@ pub fn run_links<R: Source, W: Sink>(
     ensures report { IfOk result (λ counts. (read : List ℕ)
         × Consumes (R.remaining reader.old) (R.remaining reader.new) read × IsAtEnd (R.remaining reader.new)
         × Reports (record {
-        profile = profile; base = option_copied base.entry; line_bytes = limits.line_bytes }) limits.lines
+          profile = profile;
+          base = option_copied base.entry;
+          line_bytes = limits.line_bytes;
+        }) limits.lines
         (W.contents writer.old) read counts (W.contents writer.new)) }
     ensures base { OnOk result (AgreesOnBase (option_copied base.entry)) }
     ensures fault { IfErr result (λ e. (read : List ℕ)
         × Consumes (R.remaining reader.old) (R.remaining reader.new) read
         × Leaves e (record {
-        profile = profile; base = option_copied base.entry; line_bytes = limits.line_bytes }) limits.lines
+          profile = profile;
+          base = option_copied base.entry;
+          line_bytes = limits.line_bytes;
+        }) limits.lines
         (W.contents writer.old) read (IsAtEnd (R.remaining reader.new)) (W.contents writer.new)) }
     ensures failed { IfErr result (λ e. (R.failed reader.new ≡ R.failed reader.old + reads_failed e)
         × (W.failed writer.new ≡ W.failed writer.old + writes_failed e)) }

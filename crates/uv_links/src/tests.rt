@@ -17,7 +17,14 @@ fn ran(
 ) -> (Result<Counts, LinkFault>, Vec<u8>) {
     let mut reader = FromReader::new(bytes);
     let mut writer = ToWriter::new(Vec::new(alloc));
-    let answer = run_links(alloc, &mut reader, &mut writer, base, limits, Profile::Standard);
+    let answer = run_links(
+        alloc,
+        &mut reader,
+        &mut writer,
+        base,
+        limits,
+        Profile::Standard,
+    );
     (answer, writer.into_writer())
 }
 
@@ -37,18 +44,35 @@ fn reports(
     let (answer, written) = ran(rt.alloc(), bytes, base.as_ref(), limits);
     let counts = answer?;
     assert_eq!(rt; written.as_slice(), wanted.0.as_bytes());
-    assert_eq!(rt; [counts.lines, counts.ok, counts.bad, counts.differs], wanted.1);
+    assert_eq!(rt;
+        [counts.lines, counts.ok, counts.bad, counts.differs],
+        wanted.1
+    );
     Ok(())
 }
 
 #[test]
 fn reports_lists_written_out(rt: HostRuntime) -> Result<(), Fail> {
     let base = Some("http://h/");
-    let against = "1 ok http://h/a\n2 ok http://h/\n3 bad 7 host-domain\nlinks 3 ok 2 bad 1 differs 0\n";
-    reports(&rt, b"a\n\nhttp://x_y/\n", base, 65_536, (against, [3, 2, 1, 0]))?;
-    let alone = "1 bad 0 no-scheme\n2 bad 0 not-utf8\n3 bad 0 no-scheme\nlinks 3 ok 0 bad 3 differs 0\n";
+    let against =
+        "1 ok http://h/a\n2 ok http://h/\n3 bad 7 host-domain\nlinks 3 ok 2 bad 1 differs 0\n";
+    reports(
+        &rt,
+        b"a\n\nhttp://x_y/\n",
+        base,
+        65_536,
+        (against, [3, 2, 1, 0]),
+    )?;
+    let alone =
+        "1 bad 0 no-scheme\n2 bad 0 not-utf8\n3 bad 0 no-scheme\nlinks 3 ok 0 bad 3 differs 0\n";
     reports(&rt, b"a\r\n\xff\nb", None, 65_536, (alone, [3, 0, 3, 0]))?;
-    reports(&rt, b"", None, 65_536, ("links 0 ok 0 bad 0 differs 0\n", [0, 0, 0, 0]))?;
+    reports(
+        &rt,
+        b"",
+        None,
+        65_536,
+        ("links 0 ok 0 bad 0 differs 0\n", [0, 0, 0, 0]),
+    )?;
     let short = "1 bad 0 line-too-long\n2 ok http://h/abc\nlinks 2 ok 1 bad 1 differs 0\n";
     reports(&rt, b"abcd\nabc\r\n", base, 3, (short, [2, 1, 1, 0]))?;
     let kept = "1 bad 10 code-point\nlinks 1 ok 0 bad 1 differs 0\n";
@@ -135,9 +159,19 @@ impl Source for Broken {
 // A line before a failed read is out, and neither the begun one nor the counts.
 #[test]
 fn tells_a_failed_read(rt: HostRuntime) {
-    let mut reader = Broken { reads: 0, failures: 0 };
+    let mut reader = Broken {
+        reads: 0,
+        failures: 0,
+    };
     let mut writer = ToWriter::new(Vec::new(rt.alloc()));
-    let answer = run_links(rt.alloc(), &mut reader, &mut writer, None, LinkLimits::standard(), Profile::Standard);
+    let answer = run_links(
+        rt.alloc(),
+        &mut reader,
+        &mut writer,
+        None,
+        LinkLimits::standard(),
+        Profile::Standard,
+    );
     assert_eq!(rt; answer, Err(LinkFault::Read));
     assert_eq!(rt; reader.failures(), 1);
     assert_eq!(rt; writer.into_writer().as_slice(), b"1 ok urn:a\n".as_slice());
@@ -179,7 +213,14 @@ fn tells_a_failed_write(rt: HostRuntime) {
         let bytes: &[u8] = b"urn:a\n";
         let mut reader = FromReader::new(bytes);
         let mut writer = Narrow { room, failures: 0 };
-        let answer = run_links(rt.alloc(), &mut reader, &mut writer, None, LinkLimits::standard(), Profile::Standard);
+        let answer = run_links(
+            rt.alloc(),
+            &mut reader,
+            &mut writer,
+            None,
+            LinkLimits::standard(),
+            Profile::Standard,
+        );
         assert_eq!(rt; answer == Err(LinkFault::Write), fails, "at {room}");
         assert_eq!(rt; writer.failures() == 1, fails, "at {room}");
     }

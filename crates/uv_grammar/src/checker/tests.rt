@@ -3,8 +3,8 @@
 
 use super::*;
 use crate::form::Form;
-use crate::held_host::HostRef;
 use std::test::Fail;
+use uv_model::Host;
 
 mod profiles;
 mod references;
@@ -23,23 +23,31 @@ fn form_name(form: Form) -> &'static str {
 }
 
 /// A kind of host and its value, an IPv6 address as its eight pieces in decimal.
-fn host_line(alloc: Global, host: Option<HostRef<'_>>) -> Result<String, Fail> {
+fn host_line(alloc: Global, host: Option<&Host>) -> Result<String, Fail> {
     Ok(match host {
         None => String::from_str(alloc, "-")?,
-        Some(HostRef::Domain(text)) => {
+        Some(Host::Domain(text)) => {
             let text = text.as_str();
             format!(in alloc; "domain {text}")?
         }
-        Some(HostRef::V4(value)) => format!(in alloc; "ipv4 {value}")?,
-        Some(HostRef::V6([a, b, c, d, e, f, g, h])) => {
+        Some(Host::V4(value)) => format!(in alloc; "ipv4 {value}")?,
+        Some(Host::V6([a, b, c, d, e, f, g, h])) => {
             format!(in alloc; "ipv6 {a} {b} {c} {d} {e} {f} {g} {h}")?
         }
-        Some(HostRef::Opaque(text)) => {
+        Some(Host::Opaque(text)) => {
             let text = text.as_str();
             format!(in alloc; "opaque {text}")?
         }
-        Some(HostRef::Empty) => String::from_str(alloc, "empty")?,
+        Some(Host::Empty) => String::from_str(alloc, "empty")?,
     })
+}
+
+/// The host of the parts, copied.
+fn host_of(alloc: Global, parts: &Parts) -> Result<Option<Host>, Fail> {
+    match parts.host() {
+        Some(host) => Ok(Some(host.copy(alloc)?)),
+        None => Ok(None),
+    }
 }
 
 /// The parts in their order: an absent text is left out, and each segment stands in parentheses.
@@ -50,7 +58,8 @@ fn parts_line(alloc: Global, parts: &Parts) -> Result<String, Fail> {
         line.push_str(part.as_str())?;
     }
     if let Some(text) = parts.host_text() {
-        let host = host_line(alloc, parts.host())?;
+        let host = host_of(alloc, parts)?;
+        let host = host_line(alloc, host.as_ref())?;
         let host = host.as_str();
         let part = format!(in alloc; " host {text} is {host}")?;
         line.push_str(part.as_str())?;

@@ -2,7 +2,7 @@
 //! section 4.3. Each expected line is worked out by hand from those rules, never from a run of this code.
 
 use super::*;
-use uv_model::{Host, Text, TextList, UrlPath, well_formed};
+use uv_model::{Text, TextList, UrlPath, well_formed};
 
 // An ASCII text, empty in place of any other.
 fn ascii(alloc: Global, text: &str) -> Result<Text, Fail> {
@@ -50,7 +50,7 @@ fn made(
         &path,
         query,
         None,
-        Profile::Standard,
+        Profile::Wide,
     ) {
         return Ok(None);
     }
