@@ -33,7 +33,7 @@ fn sample(alloc: Global) -> Result<Option<Record>, Fail> {
         &path,
         some_query,
         some_fragment,
-        Profile::Standard,
+        Profile::Wide,
     ) {
         return Ok(None);
     }
@@ -99,7 +99,7 @@ fn worked(alloc: Global) -> Result<Option<Record>, Fail> {
         &path,
         some_query,
         some_fragment,
-        Profile::Standard,
+        Profile::Wide,
     ) {
         return Ok(None);
     }

@@ -1,9 +1,10 @@
 //! Records and their texts, by the rules of sections 3.6 and 4.5 of the URL Standard.
+ghost use Rattle.std.specs.Prelude.{◌≡◌, IfOk, option_map, string_bytes};
 
 use crate::text::{Text, TextList};
 use crate::well_formedness::well_formed;
-use crate::{Host, Record, UrlPath};
-use std::alloc::Global;
+use crate::{Host, Profile, Record, UrlPath};
+use std::alloc::{AllocError, Global};
 use std::process::Abort;
 use std::test::Fail;
 
@@ -24,7 +25,10 @@ fn segments(alloc: Global, texts: &[&str]) -> Result<UrlPath, Fail> {
     Ok(UrlPath::Segments(TextList::of(items)))
 }
 
-fn owned(alloc: Global, text: Option<&str>) -> Result<Option<String>, Fail> {
+// The same text, owned.
+fn owned(alloc: Global, text: Option<&str>) -> Result<Option<String>, AllocError>
+    ensures { IfOk result (λ r. option_map string_bytes r ≡ option_map (λ t. t.now) text.entry) }
+{
     match text {
         Some(text) => Ok(Some(String::from_str(alloc, text)?)),
         None => Ok(None),
@@ -41,7 +45,15 @@ fn text_of(
     ends: (Option<&str>, Option<&str>),
 ) -> Result<Option<String>, Fail> {
     let (query, fragment) = ends;
-    if !well_formed(scheme, host.as_ref(), port, &path, query, fragment) {
+    if !well_formed(
+        scheme,
+        host.as_ref(),
+        port,
+        &path,
+        query,
+        fragment,
+        Profile::Wide,
+    ) {
         return Ok(None);
     }
     let scheme = String::from_str(alloc, scheme)?;
