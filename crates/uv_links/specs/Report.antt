@@ -80,12 +80,14 @@ abbrev pub ok_of : Said → ℕ
 ok_of (Same text) = 1
 ok_of _ = 0
 
+-- a line is bad where it is refused, not UTF-8 or too long
 abbrev pub bad_of : Said → ℕ
 bad_of (Refused refusal) = 1
 bad_of NotUtf8 = 1
 bad_of TooLong = 1
 bad_of _ = 0
 
+-- a line differs where the second parser doesn't give the text that it denotes
 abbrev pub differs_of : Said → ℕ
 differs_of Differs = 1
 differs_of _ = 0

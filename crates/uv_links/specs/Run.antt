@@ -62,6 +62,7 @@ abbrev pub reads_failed : LinkFault → ℕ
 reads_failed Read = 1
 reads_failed _ = 0
 
+-- the same of writes
 abbrev pub writes_failed : LinkFault → ℕ
 writes_failed Write = 1
 writes_failed _ = 0
