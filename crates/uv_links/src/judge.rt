@@ -103,13 +103,13 @@ impl<'b> Judge<'b> {
         }
     }
 
-    // The second parser's URL of a text, where it has the record's text.
-    fn same(&self, alloc: Global, text: &str, record: &Record) -> Result<Option<Url>, LinkFault>
+    // The second parser's URL of a text, where it has the text of the record that it denotes.
+    fn same(&self, alloc: Global, text: &str, denoted: &Record) -> Result<Option<Url>, LinkFault>
         ensures same { IfOk result (λ url.
-            IsReadAs (second_base self.now.base) text.now (serial record.now) url) }
+            IsReadAs (second_base self.now.base) text.now (serial denoted.now) url) }
         ensures room { IfErr result IsWantOfRoom }
     {
-        let written = record.text(alloc)?;
+        let written = denoted.text(alloc)?;
         read_as(alloc, self.second.as_ref(), text, written.as_str())
     }
 }
