@@ -24,12 +24,12 @@ use Rattle.uv_model.specs.Hosts.OpaqueHost.{IsOpaqueHost}
 use Rattle.uv_model.specs.Complaints.OpaqueHostComplaint.{OpaqueHostComplaint}
 use Rattle.uv_model.specs.Complaints.Refusal.{IsLeast}
 use Rattle.uv_model.specs.Complaints.Rule.{rule_number}
-use Rattle.uv_model.specs.Valid.{IsFileHostText, IsHostText, IsOpaqueHostText}
+use Rattle.uv_model.specs.Valid.{IsFileHostText, IsHostText, IsOpaqueHostText, without_localhost}
 use Rattle.uv_model.proofs.Complaints.FaultlessHosts.{host_text_faultless, opaque_host_faultless}
 use Rattle.uv_model.proofs.Complaints.RefusalLemmas.{IsLeast-like}
 use Rattle.uv_grammar.specs.declared.judged.Judged.{Judged}
 use Rattle.uv_grammar.specs.declared.judged.Judged.TheVariants.{Valid, Refused}
-use Rattle.uv_grammar.specs.HostValues.{FitsHost, FitsSomeHost, without_localhost}
+use Rattle.uv_grammar.specs.HostValues.{FitsHost, FitsSomeHost}
 use Rattle.uv_grammar.specs.Judged.{IsJudged}
 use Rattle.uv_grammar.specs.NoMemory.{HostTakesNoMemory, MakesNoForm}
 

@@ -1,19 +1,13 @@
 -- The values of valid hosts, after the URL Standard, sections 3.4 and 4.3.
-use Rattle.std.specs.Prelude.{◌≡◌, ◌≢◌, ℕ, ◌⊎◌, Bool, true, false, not, List, [], ◌∷◌, codes, Option, Some, None, if◌then◌else◌}
-use Rattle.std.specs.Str.{bytes_eq}
+use Rattle.std.specs.Prelude.{◌≡◌, ◌≢◌, ℕ, ◌⊎◌, Bool, true, false, not, List, [], ◌∷◌, Option, Some, None}
 use Rattle.uv_model.specs.declared.host.Host.{Host}
-use Rattle.uv_model.specs.declared.host.Host.TheVariants.{Domain, Empty}
+use Rattle.uv_model.specs.declared.host.Host.TheVariants.{Empty}
 use Rattle.uv_model.specs.declared.profile.Profile.{Profile}
 use Rattle.uv_model.specs.declared.scheme.Class.{Class}
 use Rattle.uv_model.specs.declared.scheme.Class.TheVariants.{Special, File, Other}
 use Rattle.uv_model.specs.Hosts.OpaqueHost.{starts_with_bracket}
 use Rattle.uv_model.specs.Path.{starts_with_slash}
 use Rattle.uv_model.specs.Valid.{IsFileHostText, IsHostText, IsOpaqueHostText}
-
--- the host of a file URL that a valid host string gives: the domain `localhost` is the empty host
-abbrev pub without_localhost : Host → Host
-without_localhost (Domain form) = if bytes_eq form (codes "localhost") then Empty else Domain form
-without_localhost host = host
 
 -- a valid host that isn't empty, by the class, with the value that it gives: an opaque host gives none
 abbrev pub FitsSomeHost : Profile → Class → List ℕ → Option Host → Type 0
