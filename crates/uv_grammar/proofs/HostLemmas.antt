@@ -1,15 +1,13 @@
 -- Lemmas on the complaints and the values of hosts.
-use Rattle.std.proofs.Common.{◌≡◌, ◌≢◌, ℕ, List, [], ◌∷◌, Bool, true, false, drop, refl, sym, ap, ◌∙◌, subst, inl, inr, arith, Option, Some, None, zero, suc, eqb-true}
+use Rattle.std.proofs.Common.{◌≡◌, ◌≢◌, ℕ, List, [], ◌∷◌, Bool, true, false, drop, refl, sym, ap, ◌∙◌, inl, inr, arith, Option, Some, None, zero, suc, eqb-true}
 use Rattle.std.proofs.Math.Nat.{le_refl}
-use Rattle.std.specs.Prelude.{codes, ◌==◌, ◌↔◌, IsTrue, length, not}
-use Rattle.std.specs.Str.{bytes_eq, chars, IsUtf8}
+use Rattle.std.specs.Prelude.{◌==◌, ◌↔◌, IsTrue, length, not}
+use Rattle.std.specs.Str.{chars, IsUtf8}
 use Rattle.std.proofs.lemmas.Str.{chars-nil, encodes-chars}
 use Rattle.std.proofs.Math.Utf8.{encodes}
-use Rattle.std.proofs.lemmas.Bool.{cases_Bool, false≢true}
-use Rattle.std.proofs.lemmas.Bool.Decides.{not_from_Decides}
-use Rattle.std.proofs.lemmas.Slice.Eq.{bytes_eq-Decides}
+use Rattle.std.proofs.lemmas.Bool.{false≢true}
 use Rattle.uv_model.specs.declared.host.Host.{Host}
-use Rattle.uv_model.specs.declared.host.Host.TheVariants.{Domain, V4, V6, Opaque, Empty}
+use Rattle.uv_model.specs.declared.host.Host.TheVariants.{V6}
 use Rattle.uv_model.specs.declared.profile.Profile.{Profile}
 use Rattle.uv_model.specs.declared.rule.Rule.{Rule}
 use Rattle.uv_model.specs.declared.rule.Rule.TheVariants.{HostMissing, HostDomain, HostNumber, HostIpv6, HostCodePoint, Percent}
@@ -18,13 +16,13 @@ use Rattle.uv_model.specs.declared.scheme.Class.TheVariants.{Special, File, Othe
 use Rattle.uv_host.specs.OpaqueHosts.{IsOpaqueHostOrEmpty}
 use Rattle.uv_model.specs.Hosts.Address.{IsBracketedIpv6}
 use Rattle.uv_model.specs.Complaints.Complaint.{HeldHostComplaint, HostComplaint, HostTextComplaint, LacksHost}
-use Rattle.uv_model.specs.Hosts.Domain.{IsDomain}
 use Rattle.uv_model.specs.Ascii.{percent_sign}
 use Rattle.uv_model.specs.Hosts.OpaqueHost.{IsOpaqueHost}
 use Rattle.uv_model.specs.Complaints.OpaqueHostComplaint.{OpaqueHostComplaint}
 use Rattle.uv_model.specs.Complaints.Refusal.{IsLeast}
 use Rattle.uv_model.specs.Complaints.Rule.{rule_number}
-use Rattle.uv_model.specs.Valid.{IsFileHostText, IsHostText, IsOpaqueHostText, without_localhost}
+use Rattle.uv_model.specs.Valid.{IsHostText, IsOpaqueHostText, without_localhost}
+use Rattle.uv_model.proofs.Hosts.FileHosts.{file_host_fits}
 use Rattle.uv_model.proofs.Complaints.FaultlessHosts.{host_text_faultless, opaque_host_faultless}
 use Rattle.uv_model.proofs.Complaints.RefusalLemmas.{IsLeast-like}
 use Rattle.uv_grammar.specs.declared.judged.Judged.{Judged}
@@ -144,22 +142,6 @@ fault_least profile text rule h = record {
   first = λ place other k. omega arith;
   lowest = λ other k. let e = one_rule profile text rule other h k.0 in rw e (le_refl (rule_number other));
 }
-
--- the host that a file URL has
-pub file_host_fits : (profile : Profile) (text : List ℕ) (host : Host) → IsHostText profile text host → IsFileHostText profile text (without_localhost host)
-file_host_fits profile text (Domain form) is = elim (cases_Bool (bytes_eq form (codes "localhost"))) [
-  | inl same ↦ rw same (subst (λ (f : List ℕ). IsDomain profile text f) ((bytes_eq-Decides form (codes "localhost")).0 same) is)
-  | inr other ↦
-      rw other (
-        is,
-        not_from_Decides (bytes_eq form (codes "localhost"))
-            (bytes_eq-Decides form (codes "localhost")) other,
-      )
-]
-file_host_fits profile text (V4 value) is = is
-file_host_fits profile text (V6 pieces) is = is
-file_host_fits profile text (Opaque host) is = absurd is
-file_host_fits profile text Empty is = absurd is
 
 -- ---- answers on host strings
 

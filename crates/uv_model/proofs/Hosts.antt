@@ -4,3 +4,4 @@ pub mod LastLabelLemmas
 pub mod Ipv4Domains
 pub mod StandardTexts
 pub mod HostUniqueness
+pub mod FileHosts

@@ -1,9 +1,7 @@
 -- A text on which the parser is silent is valid with the same parts exactly where it has none of the named differences.
-use Rattle.std.proofs.Common.{◌≡◌, ◌≢◌, ℕ, true, ◌⊎◌, List, [], ◌∷◌, codes, Option, Some, None, refl, sym, ap, subst, ◌∙◌, inl, inr}
-use Rattle.std.specs.Str.{bytes_eq}
+use Rattle.std.proofs.Common.{◌≡◌, ◌≢◌, ℕ, true, ◌⊎◌, List, [], ◌∷◌, Option, Some, None, refl, sym, ap, subst, ◌∙◌, inl, inr}
 use Rattle.std.proofs.lemmas.Bool.{cases_Bool, false≢true}
 use Rattle.std.proofs.lemmas.Option.{same_Some}
-use Rattle.std.proofs.lemmas.Slice.Eq.{bytes_eq-Decides}
 use Rattle.uv_model.specs.declared.profile.Profile.TheVariants.{Standard}
 use Rattle.uv_model.specs.declared.host.Host.{Host}
 use Rattle.uv_model.specs.declared.host.Host.TheVariants as host
@@ -20,7 +18,8 @@ use Rattle.uv_model.specs.Scheme.{scheme_class}
 use Rattle.uv_parser.specs.Laws.Differences.{Differs, HasDriveBehindHost, HasEmptyAuthority, HasForeignHost, SilentTextsAreValidOrDiffer}
 use Rattle.uv_model.specs.Setting.{setting_of}
 use Rattle.uv_model.specs.Records.Url.{Url}
-use Rattle.uv_model.specs.Valid.{FitsAuthority, FitsDrive, FitsForm, FitsHostText, FitsScheme, IsFileHostText, IsHostText, MayBePathBehind, Valid, scheme_in, without_localhost}
+use Rattle.uv_model.specs.Valid.{FitsAuthority, FitsDrive, FitsForm, FitsHostText, FitsScheme, IsFileHostText, IsHostText, MayBePathBehind, Valid, scheme_in}
+use Rattle.uv_model.proofs.Hosts.FileHosts.{file_host_fits}
 use Rattle.uv_model.proofs.Complaints.FaultlessHosts.{file_host_is_host, host_not_empty}
 use Rattle.uv_model.proofs.Complaints.ComplaintsExcludeParts.{faultless_form}
 use Rattle.uv_parser.proofs.Differences.HostDifferences.{host_not_differs, host_or_differs}
@@ -50,22 +49,6 @@ slashed_cases segments text (inr is) =
     two_slashes [] starts = absurd (false≢true starts)
     two_slashes (c ∷ rest) starts = starts
 
--- a valid host text of a special URL is one of a file URL, where `localhost` is the empty host
-file_host_text : (text : List ℕ) (value : Host) → IsHostText Standard text value
-    → IsFileHostText Standard text (without_localhost value)
-file_host_text text (host.Domain form) is =
-    elim (cases_Bool (bytes_eq form (codes "localhost"))) [
-      | inl same ↦
-          let e : form ≡ codes "localhost" = (bytes_eq-Decides form (codes "localhost")).0 same in
-          rw same (rw e at is)
-      | inr other ↦
-          rw other (is, λ e. false≢true (sym other ∙ (bytes_eq-Decides form (codes "localhost")).1 e))
-    ]
-file_host_text text (host.V4 value) is = is
-file_host_text text (host.V6 pieces) is = is
-file_host_text text (host.Opaque other) is = absurd is
-file_host_text text host.Empty is = absurd is
-
 -- what follows `//` in a URL of class File, where the host has a text
 file_or_differs : (base : Option Url) (host_text : List ℕ) (parts : Parts) (value : Host)
     → class_in base parts.scheme ≡ File → parts.host_text ≡ Some host_text → TakesFile host_text parts
@@ -82,7 +65,7 @@ file_or_differs base host_text parts value kind given takes path is valued =
         differs = differs;
       }))
       | inl valid ↦
-          let text_is : IsFileHostText Standard host_text value = rw is.valued (file_host_text host_text is.host valid) in
+          let text_is : IsFileHostText Standard host_text value = rw is.valued (file_host_fits Standard host_text is.host valid) in
           elim (cases_Bool (starts_with_drive parts.path_text)) [
             | inl drive ↦
                 let some = parsed_not_empty host_text is.host is.parsed in
