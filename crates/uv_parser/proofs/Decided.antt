@@ -5,6 +5,7 @@ pub mod DecidedOpaque
 pub mod DecidedPath
 pub mod DecidedAuthority
 pub mod DecidedFile
+pub mod AuthorityTexts
 pub mod DecidedSchemes
 pub mod SchemeAbsent
 pub mod DecidedReferences

@@ -1,31 +1,27 @@
 -- A text without a scheme, against a base: the parser is silent on it as its grammar says, or stops.
-use Rattle.std.proofs.Common.{◌≡◌, ℕ, suc, ◌+◌, ◌*◌, ◌≤◌, true, false, ◌||◌, ◌==◌, ◌⊎◌, List, [], ◌∷◌, ◌++◌, length, Option, Some, None, refl, sym, ap, subst, ◌∙◌, inl, inr, eqb-true, append_assoc, append-nil, length-append, arith}
+use Rattle.std.proofs.Common.{◌≡◌, ℕ, suc, ◌+◌, ◌*◌, ◌≤◌, true, false, ◌==◌, ◌⊎◌, List, [], ◌∷◌, ◌++◌, length, Option, Some, None, refl, sym, ap, subst, ◌∙◌, inl, inr, eqb-true, append_assoc, arith}
 use Rattle.std.specs.Prelude.{IsSome}
 use Rattle.std.proofs.lemmas.Bool.{cases_Bool, false≢true}
 use Rattle.uv_model.specs.declared.host.Host.{Host}
 use Rattle.uv_model.specs.declared.host.Host.TheVariants as host
 use Rattle.uv_model.specs.declared.scheme.Class.{Class}
 use Rattle.uv_model.specs.declared.scheme.Class.TheVariants.{Special, File, Other}
-use Rattle.uv_model.specs.Ascii.{slash, colon, backslash, question_mark, number_sign}
-use Rattle.uv_model.specs.Cut.{Cut, IsCut, IsHostCut, starts_with_two_slashes}
-use Rattle.uv_parser.specs.Machine.{Held, State, with_fragment, begins, begins_drive, turn, stop, again, AuthorityState, FileSlashState, FileState, NoSchemeState, PathState, RelativeSlashState, RelativeState, SpecialAuthorityIgnoreSlashesState, empty_held, is_file, is_special, with_base, with_base_host, with_file_base, with_kept_drive, list_in, with_host, with_opaque_base, with_query, with_scheme, shortened}
+use Rattle.uv_model.specs.Ascii.{slash, colon, question_mark, number_sign}
+use Rattle.uv_model.specs.Cut.{Cut, IsCut, starts_with_two_slashes}
+use Rattle.uv_parser.specs.Machine.{Held, State, with_fragment, begins, begins_drive, turn, stop, again, FileSlashState, FileState, NoSchemeState, PathState, RelativeSlashState, RelativeState, empty_held, is_file, is_special, with_base, with_base_host, with_file_base, with_kept_drive, list_in, with_host, with_opaque_base, with_query, with_scheme, shortened}
 use Rattle.uv_model.specs.Parts.{Form, Parts, Authority, PathAbsolute, PathRelative, NoPath, written_authority, written_behind}
-use Rattle.uv_parser.specs.SilentTexts.{Silent, Takes}
-use Rattle.uv_parser.specs.Laws.OtherHosts.{own_value}
+use Rattle.uv_parser.specs.SilentTexts.{Silent}
 use Rattle.uv_model.specs.Path.{starts_with_slash}
 use Rattle.uv_parser.specs.Removed.{first_removed}
-use Rattle.uv_model.specs.Scheme.{default_port, scheme_class}
+use Rattle.uv_model.specs.Scheme.{scheme_class}
 use Rattle.uv_model.specs.Records.Url.{Url, is_opaque}
-use Rattle.uv_model.specs.Valid.{port_given, starts_with_scheme}
+use Rattle.uv_model.specs.Valid.{starts_with_scheme}
 use Rattle.uv_model.proofs.Cuts.SchemesIgnoreBases.{cut_with_scheme}
 use Rattle.uv_model.proofs.Complaints.ComplaintLemmas.{cut_with}
 use Rattle.uv_model.proofs.Cuts.CutLemmas.{cut_is_computed}
-use Rattle.uv_parser.proofs.HostParsing.OtherHosts.{silent_other}
 use Rattle.uv_parser.proofs.Decided.CutTexts.{HasMarks, cut_text, marks}
-use Rattle.uv_parser.proofs.Decided.DecidedAuthority.{IsUnended, authority_decided, letters_no_at_sign, letters_no_backslash}
-use Rattle.uv_parser.proofs.Decided.DecidedFile.{FileHostFits, file_host_decided}
-use Rattle.uv_parser.proofs.Decided.DecidedPath.{AreFine, FreeOfMarks, path_decided, path_start_decided}
-use Rattle.uv_parser.proofs.Decided.DecidedSchemes.{SilentOrStops, delimits_path, kind_cases, segments_behind, slashed_path}
+use Rattle.uv_parser.proofs.Decided.DecidedPath.{AreFine, FreeOfMarks, path_decided}
+use Rattle.uv_parser.proofs.Decided.AuthorityTexts.{SilentOrStops, authority_silent_or_stops, held_behind_slashes, slashed_path, state_behind_slashes}
 use Rattle.uv_model.proofs.Texts.MarkLemmas.{is_without-cons}
 use Rattle.uv_model.proofs.Paths.PathPieces.{path_relative, pieces}
 use Rattle.uv_parser.proofs.Running.RunsStopped.{RunStops, place_cases, removed_stops}
@@ -369,35 +365,8 @@ module _ (url : Url) (text host_text : List ℕ) (port_text : Option (List ℕ))
     (query fragment : Option (List ℕ))
     (is : IsCut (Some url) text (cut_with None (Some host_text) port_text path query fragment))
     (kept : first_removed text ≡ None) (not_opaque : is_opaque url.path ≡ false) where
-  free_behind : FreeOfMarks path query
-  free_behind = free url text (Some host_text) port_text path query fragment is kept
-
   have_behind : HasMarks (slash ∷ slash ∷ (host_text ++ written_behind colon port_text)) path query
   have_behind = marks (Some url) text None (Some host_text) port_text path query fragment is
-
-  unended_reference : IsUnended (host_text ++ written_behind colon port_text)
-  unended_reference = record {
-    no_slash = is.authority.0;
-    no_question_mark = have_behind.authority_question_mark;
-    no_number_sign = have_behind.authority_number_sign;
-  }
-
-  -- with host and port taken and the rest fine the text is silent
-  reference_silent : (value : Option Host) (port : Option ℕ)
-      → Takes (scheme_class url.scheme) url.scheme host_text
-      (reference_parts Authority (Some host_text) value port_text port path (segments_behind path) query fragment)
-      → AreFine path query fragment
-      → Silent (Some url) text
-      (reference_parts Authority (Some host_text) value port_text port path (segments_behind path) query fragment)
-  reference_silent value port takes fine = record {
-    cut = is;
-    kept = kept;
-    scheme = refl;
-    against = inr (inl not_opaque);
-    form = (takes, slashed_path path fine.0 have_behind.path_question_mark is.authority.1);
-    query = fine.1;
-    fragment = fine.2;
-  }
 
   -- the whole text, and where it stops from the no scheme state on
   reference_authority_stops : (k : ℕ)
@@ -413,140 +382,55 @@ module _ (url : Url) (text host_text : List ℕ) (port_text : Option (List ℕ))
       reference_stops url text (Some host_text) port_text path query fragment is kept
       (slash ∷ slash ∷ (authority ++ (path ++ tail query fragment))) k whole (omega (arith, few)) stops
 
-  -- class Special
-  special_reference : scheme_class url.scheme ≡ Special → SilentOrStops (Some url) text
-  special_reference special =
-      let authority = host_text ++ written_behind colon port_text in
-      let rest = authority ++ (path ++ tail query fragment) in
-      let cut : IsHostCut Special host_text port_text
-      = subst (λ (k : Class). IsHostCut k host_text port_text) special is.authority.2 in
+  -- by the class of the base, from what follows `//` on
+  stops_behind : (kind : Class) → scheme_class url.scheme ≡ kind → (k : ℕ)
+      → k ≤ 2 * length ((host_text ++ written_behind colon port_text) ++ (path ++ tail query fragment)) + 12
+      → Stops (Some url) (state_behind_slashes kind) (held_behind_slashes kind (base_held url))
+      ((host_text ++ written_behind colon port_text) ++ (path ++ tail query fragment)) k
+      → RunStops (Some url) text
+  stops_behind Special special k few stops =
       let plain : is_file url.scheme ≡ false = rw special refl in
       let kind : is_special url.scheme ≡ true = rw special refl in
-      let start : (k : ℕ) → Stops (Some url) SpecialAuthorityIgnoreSlashesState (base_held url) rest k
-      → Stops (Some url) NoSchemeState empty_held (slash ∷ slash ∷ rest) (suc (suc (suc k)))
-      = λ k stops.
-      stops_again (Some url) {s₁ = RelativeState} {h₁ = empty_held} (λ p. rw (not_opaque, plain) refl)
+      reference_authority_stops (suc (suc (suc k))) (omega (arith, few))
+      (stops_again (Some url) {s₁ = RelativeState} {h₁ = empty_held} (λ p. rw (not_opaque, plain) refl)
       (stops_step (Some url) {s₁ = RelativeSlashState} {h₁ = base_held url} (λ p. refl)
-      (stops_step (Some url) (λ p. rw kind refl) stops)) in
-      let long = length-append authority (path ++ tail query fragment) in
-      elim (cases_Bool (begins slash rest || begins backslash rest)) [
-        | inl further ↦ inr
-            (reference_authority_stops 4 (omega arith) (start 1 (stops_here (Some url) (λ p. rw further refl))))
-        | inr none ↦
-            elim (authority_decided (Some url) (AreFine path query fragment) true host_text port_text
-            (path ++ tail query fragment) (base_held url) (length (path ++ tail query fragment) + 1)
-            kind cut unended_reference
-            (delimits_path path query fragment is.authority.1)
-            (λ g same. path_start_decided (Some url) path query fragment g free_behind is.authority.1)) [
-              | inl (letters, taken, fine) ↦
-                  let parts = reference_parts Authority (Some host_text) (Some taken.value) port_text
-                  (port_given (default_port url.scheme) port_text) path (segments_behind path) query fragment in
-                  let takes : Takes Special url.scheme host_text parts
-                  = record {
-                    value = taken.value;
-                    host = record {
-                      no_at_sign = letters_no_at_sign true host_text letters;
-                      no_backslash = letters_no_backslash host_text letters;
-                      parsed = taken.parsed;
-                    };
-                    valued = refl;
-                    port_text = taken.port_text;
-                    port = refl;
-                  } in
-                  inl (
-                    parts,
-                    reference_silent (Some taken.value) (port_given (default_port url.scheme) port_text)
-                        (subst (λ (k : Class). Takes k url.scheme host_text parts) (sym special) takes) fine,
-                  )
-              | inr stops ↦ inr
-                  (reference_authority_stops _ (omega (arith, long))
-                  (start _ (stops_again (Some url) (λ p. rw none refl) stops)))
-            ]
-      ]
-
-  -- class Other
-  other_reference : scheme_class url.scheme ≡ Other → SilentOrStops (Some url) text
-  other_reference other =
-      let authority = host_text ++ written_behind colon port_text in
-      let rest = authority ++ (path ++ tail query fragment) in
-      let cut : IsHostCut Other host_text port_text
-      = subst (λ (k : Class). IsHostCut k host_text port_text) other is.authority.2 in
+      (stops_step (Some url) (λ p. rw kind refl) stops)))
+  stops_behind File file k few stops =
+      let kind : is_file url.scheme ≡ true = rw file refl in
+      reference_authority_stops (suc (suc (suc k))) (omega (arith, few))
+      (stops_again (Some url) {s₁ = FileState} {h₁ = empty_held} (λ p. rw (not_opaque, kind) refl)
+      (stops_step (Some url) {s₁ = FileSlashState} {h₁ = file_held host.Empty} (λ p. refl)
+      (stops_step (Some url) (λ p. refl) stops)))
+  stops_behind Other other k few stops =
       let plain : is_file url.scheme ≡ false = rw other refl in
       let kind : is_special url.scheme ≡ false = rw other refl in
-      let start : (k : ℕ) → Stops (Some url) AuthorityState (base_held url) rest k
-      → Stops (Some url) NoSchemeState empty_held (slash ∷ slash ∷ rest) (suc (suc (suc k)))
-      = λ k stops.
-      stops_again (Some url) {s₁ = RelativeState} {h₁ = empty_held} (λ p. rw (not_opaque, plain) refl)
+      reference_authority_stops (suc (suc (suc k))) (omega (arith, few))
+      (stops_again (Some url) {s₁ = RelativeState} {h₁ = empty_held} (λ p. rw (not_opaque, plain) refl)
       (stops_step (Some url) {s₁ = RelativeSlashState} {h₁ = base_held url} (λ p. refl)
-      (stops_step (Some url) (λ p. rw kind refl) stops)) in
-      let long = length-append authority (path ++ tail query fragment) in
-      elim (authority_decided (Some url) (AreFine path query fragment) false host_text port_text
-      (path ++ tail query fragment) (base_held url) (length (path ++ tail query fragment) + 1)
-      kind cut unended_reference
-      (delimits_path path query fragment is.authority.1)
-      (λ g same. path_start_decided (Some url) path query fragment g free_behind is.authority.1)) [
-        | inl (letters, taken, fine) ↦
-            let parts = reference_parts Authority (Some host_text) (own_value taken.value) port_text
-            (port_given (default_port url.scheme) port_text) path (segments_behind path) query fragment in
-            let takes : Takes Other url.scheme host_text parts
-            = record {
-              host = silent_other host_text taken.value (letters_no_at_sign false host_text letters) taken.parsed;
-              alone = taken.alone;
-              port_text = taken.port_text;
-              port = refl;
-            } in
-            inl (
-              parts,
-              reference_silent (own_value taken.value) (port_given (default_port url.scheme) port_text)
-                  (subst (λ (k : Class). Takes k url.scheme host_text parts) (sym other) takes) fine,
-            )
-        | inr stops ↦ inr (reference_authority_stops _ (omega (arith, long)) (start _ stops))
-      ]
+      (stops_step (Some url) (λ p. rw kind refl) stops)))
 
-  -- class File
-  file_reference : scheme_class url.scheme ≡ File → SilentOrStops (Some url) text
-  file_reference file =
-      let cut : port_text ≡ None
-      = subst (λ (k : Class). IsHostCut k host_text port_text) file is.authority.2 in
-      let alone : host_text ++ written_behind colon port_text ≡ host_text
-      = ap (λ o. host_text ++ written_behind colon o) cut ∙ append-nil host_text in
-      let kind : is_file url.scheme ≡ true = rw file refl in
-      let rest = path ++ tail query fragment in
-      elim (file_host_decided (Some url) (AreFine path query fragment) host_text rest (file_held host.Empty)
-      (length rest + 1) (subst IsUnended alone unended_reference) (delimits_path path query fragment is.authority.1)
-      (λ g same. path_start_decided (Some url) path query fragment g free_behind is.authority.1)) [
-        | inl (fits, fine) ↦ taken cut fits fine
-        | inr stops ↦ inr
-            (reference_authority_stops (suc (suc (suc (length host_text + ((length rest + 1) + 1)))))
-            (rw alone (omega (arith, length-append host_text rest)))
-            (rw alone
-            (stops_again (Some url) {s₁ = FileState} {h₁ = empty_held} (λ p. rw (not_opaque, kind) refl)
-            (stops_step (Some url) {s₁ = FileSlashState} {h₁ = file_held host.Empty} (λ p. refl)
-            (stops_step (Some url) (λ p. refl) stops)))))
-      ]
-    where
-      taken : port_text ≡ None → FileHostFits host_text → AreFine path query fragment
-          → SilentOrStops (Some url) text
-      taken cut (inl (value, host)) fine =
-          let parts = reference_parts Authority (Some host_text) (Some value) port_text None path
-          (segments_behind path) query fragment in
-          let takes : Takes File url.scheme host_text parts
-          = record { no_port_text = cut; no_port = refl; host = inl (value, host, refl) } in
-          inl (
-            parts,
-            reference_silent (Some value) None
-                (subst (λ (k : Class). Takes k url.scheme host_text parts) (sym file) takes) fine,
-          )
-      taken cut (inr empty) fine =
-          let parts = reference_parts Authority (Some host_text) (Some host.Empty) port_text None path
-          (segments_behind path) query fragment in
-          let takes : Takes File url.scheme host_text parts
-          = record { no_port_text = cut; no_port = refl; host = inr (empty, refl) } in
-          inl (
-            parts,
-            reference_silent (Some host.Empty) None
-                (subst (λ (k : Class). Takes k url.scheme host_text parts) (sym file) takes) fine,
-          )
+  -- with an authority
+  with_authority : SilentOrStops (Some url) text
+  with_authority =
+      authority_silent_or_stops (Some url) text Authority None url.scheme (base_held url) refl
+      host_text port_text path query fragment
+      (record {
+        no_slash = is.authority.0;
+        no_question_mark = have_behind.authority_question_mark;
+        no_number_sign = have_behind.authority_number_sign;
+      })
+      is.authority.2 is.authority.1
+      (free url text (Some host_text) port_text path query fragment is kept)
+      stops_behind
+      (λ value port takes fine. record {
+        cut = is;
+        kept = kept;
+        scheme = refl;
+        against = inr (inl not_opaque);
+        form = (takes, slashed_path path fine.0 have_behind.path_question_mark is.authority.1);
+        query = fine.1;
+        fragment = fine.2;
+      })
 
 -- ---- the whole
 
@@ -572,9 +456,4 @@ reference_silent_or_stops url text host_text port_text path query fragment is =
           | inl file ↦ file_forms url text port_text query fragment segments kept file path is
           | inr plain ↦ relative_forms url text port_text query fragment segments kept plain path is
         ]
-    by_host (Some host) is kept segments =
-        elim (kind_cases (scheme_class url.scheme)) [
-          | inl special ↦ special_reference url text host port_text path query fragment is kept segments special
-          | inr (inl file) ↦ file_reference url text host port_text path query fragment is kept segments file
-          | inr (inr other) ↦ other_reference url text host port_text path query fragment is kept segments other
-        ]
+    by_host (Some host) is kept segments = with_authority url text host port_text path query fragment is kept segments

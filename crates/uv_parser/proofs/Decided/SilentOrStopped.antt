@@ -5,7 +5,8 @@ use Rattle.uv_model.specs.Records.Url.{Url}
 use Rattle.uv_model.proofs.Cuts.CutLemmas.{computed_is_cut}
 use Rattle.uv_parser.proofs.Done.DecidedAlone.{alone_stops}
 use Rattle.uv_parser.proofs.Decided.DecidedReferences.{no_scheme_cut, reference_silent_or_stops}
-use Rattle.uv_parser.proofs.Decided.DecidedSchemes.{SilentOrStops, scheme_silent_or_stops}
+use Rattle.uv_parser.proofs.Decided.AuthorityTexts.{SilentOrStops}
+use Rattle.uv_parser.proofs.Decided.DecidedSchemes.{scheme_silent_or_stops}
 
 by_scheme : (base : Option Url) (text : List ℕ) (cut : Cut) (scheme : Option (List ℕ)) → IsCut base text cut
     → cut.scheme ≡ scheme → SilentOrStops base text

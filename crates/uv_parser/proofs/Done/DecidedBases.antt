@@ -23,7 +23,7 @@ use Rattle.uv_model.specs.Valid.{FitsScheme}
 use Rattle.uv_model.specs.Records.WellFormed.{IsUrlPath, IsUrlPort, MayBeWellFormed, WellFormed, takes_port}
 use Rattle.uv_parser.proofs.Done.Decided.{is_decided, takes_form}
 use Rattle.uv_parser.proofs.Done.DecidedAlone.{texts_alone_are_decided}
-use Rattle.uv_parser.proofs.Decided.DecidedSchemes.{kind_cases}
+use Rattle.uv_parser.proofs.Decided.AuthorityTexts.{kind_cases}
 use Rattle.uv_parser.proofs.Done.DecidedTexts.{scheme_done}
 use Rattle.uv_parser.proofs.Done.DoneBases.{other_reference_done, special_reference_done}
 use Rattle.uv_parser.proofs.Done.DoneReferences.{absolute_done, no_path_done, path_text, reference_query, reference_runs, relative_done}

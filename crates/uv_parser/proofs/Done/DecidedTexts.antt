@@ -14,7 +14,8 @@ use Rattle.uv_model.specs.Valid.{scheme_in, starts_with_scheme}
 use Rattle.uv_model.proofs.Cuts.SchemesIgnoreBases.{cut_with_scheme}
 use Rattle.uv_model.proofs.Cuts.CutLemmas.{computed_is_cut}
 use Rattle.uv_parser.proofs.Done.Decided.{is_decided, no_scheme, same_cut}
-use Rattle.uv_parser.proofs.Decided.DecidedSchemes.{kind_cases, scheme_silent_or_stops}
+use Rattle.uv_parser.proofs.Decided.DecidedSchemes.{scheme_silent_or_stops}
+use Rattle.uv_parser.proofs.Decided.AuthorityTexts.{kind_cases}
 use Rattle.uv_parser.proofs.Done.DoneAuthority.{file_done, other_done, special_done}
 use Rattle.uv_parser.proofs.Silence.SilentOpaque.{opaque_done}
 use Rattle.uv_parser.proofs.Silence.SilentPath.{path_done}

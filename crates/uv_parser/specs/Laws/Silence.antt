@@ -1,13 +1,9 @@
 -- Runs of the URL parser (URL Standard, section 4.4) that end with no validation error and no failure.
-use Rattle.std.specs.Prelude.{◌≡◌, ℕ, true, List, Option}
-use Rattle.uv_model.specs.declared.profile.Profile.{Profile}
-use Rattle.uv_model.specs.declared.scheme.Class.TheVariants.{Special, File, Other}
-use Rattle.uv_model.specs.Scheme.{scheme_class}
+use Rattle.std.specs.Prelude.{◌≡◌, ℕ, List, Option}
 use Rattle.uv_model.specs.Records.Url.{Url}
-use Rattle.uv_model.specs.Parts.{Parts, SchemeOpaque, has_scheme}
+use Rattle.uv_model.specs.Parts.{Parts}
 use Rattle.uv_model.specs.Records.Denote.{denote}
 use Rattle.uv_parser.specs.Run.{Done, run, step_bound}
-use Rattle.uv_model.specs.Valid.{Valid, scheme_in}
 
 -- within the bound on its steps the run of the text ends with the URL that the parts denote
 abbrev pub RunsSilently : Option Url → List ℕ → Parts → Type 0

@@ -1,0 +1,228 @@
+-- A text with an authority, with a scheme or without one: the parser is silent on it as its grammar says, or stops. How a
+-- run comes to what follows `//` is a parameter, since there alone the two differ.
+use Rattle.std.proofs.Common.{◌≡◌, ◌≢◌, ℕ, ◌+◌, ◌*◌, ◌≤◌, true, false, ◌||◌, ◌⊎◌, List, [], ◌∷◌, ◌++◌, length, Option, Some, None, refl, sym, ap, subst, ◌∙◌, inl, inr, eqb-true, append-nil, length-append, arith}
+use Rattle.std.proofs.lemmas.Bool.{and_parts, cases_Bool}
+use Rattle.uv_model.specs.declared.host.Host.{Host}
+use Rattle.uv_model.specs.declared.host.Host.TheVariants as host
+use Rattle.uv_model.specs.declared.scheme.Class.{Class}
+use Rattle.uv_model.specs.declared.scheme.Class.TheVariants.{Special, File, Other}
+use Rattle.uv_model.specs.Ascii.{slash, colon, backslash, question_mark}
+use Rattle.uv_model.specs.Cut.{IsHostCut}
+use Rattle.uv_parser.specs.Machine.{Held, State, begins, is_special, sight, AuthorityState, FileHostState, SpecialAuthorityIgnoreSlashesState, emptied, with_brackets}
+use Rattle.uv_model.specs.Parts.{Form, Parts, written_behind}
+use Rattle.uv_parser.specs.SilentTexts.{Silent, Takes}
+use Rattle.uv_parser.specs.Laws.OtherHosts.{own_value}
+use Rattle.uv_model.specs.Path.{MayBePathSlashed, is_without, starts_with_slash}
+use Rattle.uv_model.specs.Scheme.{default_port, scheme_class}
+use Rattle.uv_model.specs.Units.{is_faultless, is_unit_at}
+use Rattle.uv_model.specs.Records.Url.{Url}
+use Rattle.uv_model.specs.Valid.{port_given}
+use Rattle.uv_parser.proofs.HostParsing.OtherHosts.{silent_other}
+use Rattle.uv_parser.proofs.Loops.AuthorityLoops.{IsDelimiter}
+use Rattle.uv_parser.proofs.Decided.DecidedAuthority.{IsUnended, authority_decided, letters_no_at_sign, letters_no_backslash}
+use Rattle.uv_parser.proofs.Decided.DecidedFile.{FileHostFits, file_host_decided}
+use Rattle.uv_parser.proofs.Decided.DecidedPath.{AreFine, FreeOfMarks, path_start_decided}
+use Rattle.uv_model.proofs.Texts.MarkLemmas.{is_without-cons}
+use Rattle.uv_model.proofs.Paths.PathPieces.{joins_pieces, pieces}
+use Rattle.uv_parser.proofs.Running.RunsStopped.{RunStops}
+use Rattle.uv_parser.proofs.Silence.SilentFile.{file_held}
+use Rattle.uv_parser.proofs.Running.Stopping.{Stops, stops_again, stops_here}
+use Rattle.uv_parser.proofs.Loops.Tails.{tail}
+
+-- What is to be shown of a text: it is silent with parts, or stops.
+abbrev pub SilentOrStops : Option Url → List ℕ → Type 0
+SilentOrStops base text = ((parts : Parts) × Silent base text parts) ⊎ RunStops base text
+
+-- a path that is empty or begins with `/` begins with a delimiter, also with a tail behind it
+pub delimits_path : (path : List ℕ) (query fragment : Option (List ℕ)) → (path ≢ [] → starts_with_slash path ≡ true)
+    → IsDelimiter (sight (path ++ tail query fragment))
+delimits_path [] (Some text) fragment start = tt
+delimits_path [] None (Some text) start = tt
+delimits_path [] None None start = tt
+delimits_path (c ∷ path) query fragment start =
+    let is : c ≡ slash = eqb-true c slash (start (λ same. cc)) in
+    rw is tt
+
+-- the segments of a path behind an authority
+abbrev pub segments_behind : List ℕ → List (List ℕ)
+segments_behind [] = []
+segments_behind (c ∷ rest) = pieces rest
+
+pub slashed_path : (path : List ℕ) → is_faultless path ≡ true → is_without question_mark path ≡ true
+    → (path ≢ [] → starts_with_slash path ≡ true) → MayBePathSlashed (segments_behind path) path
+slashed_path [] units none start = inl (refl, refl)
+slashed_path (c ∷ rest) units none start =
+    let is : c ≡ slash = eqb-true c slash (start (λ same. cc)) in
+    inr (record {
+      behind = rest;
+      slashed = ap (λ x. x ∷ rest) is;
+      joins = joins_pieces rest (and_parts (is_unit_at c rest) (is_faultless rest) units).1
+          (is_without-cons question_mark c rest none).1;
+    })
+
+pub kind_cases : (kind : Class) → (kind ≡ Special) ⊎ ((kind ≡ File) ⊎ (kind ≡ Other))
+kind_cases Special = inl refl
+kind_cases File = inr (inl refl)
+kind_cases Other = inr (inr refl)
+
+-- ---- what follows `//`
+
+-- the state in which a run reads what follows `//`
+abbrev pub state_behind_slashes : Class → State
+state_behind_slashes Special = SpecialAuthorityIgnoreSlashesState
+state_behind_slashes File = FileHostState
+state_behind_slashes Other = AuthorityState
+
+-- what it holds there
+abbrev pub held_behind_slashes : Class → Held → Held
+held_behind_slashes File h = file_held host.Empty
+held_behind_slashes kind h = with_brackets false (emptied h)
+
+-- the parts of a text with an authority, with the values of its host and its port
+abbrev pub authority_parts : Form → Option (List ℕ) → List ℕ → Option (List ℕ) → List ℕ → Option (List ℕ)
+    → Option (List ℕ) → Option Host → Option ℕ → Parts
+authority_parts form given host_text port_text path query fragment value port = record {
+  form = form;
+  scheme = given;
+  host_text = Some host_text;
+  host = value;
+  port_text = port_text;
+  port = port;
+  path_text = path;
+  segments = segments_behind path;
+  query = query;
+  fragment = fragment;
+}
+
+-- A text whose scheme is given, or is the base's: where its run stops from what follows `//` on, it stops, and with host
+-- and port taken and the rest fine it is silent.
+module _ (base : Option Url) (text : List ℕ) (form : Form) (given : Option (List ℕ)) (scheme : List ℕ) (h : Held)
+    (same : scheme_class h.url.scheme ≡ scheme_class scheme)
+    (host_text : List ℕ) (port_text : Option (List ℕ)) (path : List ℕ) (query fragment : Option (List ℕ))
+    (unended : IsUnended (host_text ++ written_behind colon port_text))
+    (cut : IsHostCut (scheme_class scheme) host_text port_text)
+    (slashed : path ≢ [] → starts_with_slash path ≡ true)
+    (free : FreeOfMarks path query)
+    (start : (kind : Class) → scheme_class scheme ≡ kind → (k : ℕ)
+    → k ≤ 2 * length ((host_text ++ written_behind colon port_text) ++ (path ++ tail query fragment)) + 12
+    → Stops base (state_behind_slashes kind) (held_behind_slashes kind h)
+    ((host_text ++ written_behind colon port_text) ++ (path ++ tail query fragment)) k
+    → RunStops base text)
+    (silent : (value : Option Host) (port : Option ℕ)
+    → Takes (scheme_class scheme) scheme host_text
+    (authority_parts form given host_text port_text path query fragment value port)
+    → AreFine path query fragment
+    → Silent base text (authority_parts form given host_text port_text path query fragment value port)) where
+  -- class Special
+  special_decided : scheme_class scheme ≡ Special → SilentOrStops base text
+  special_decided special =
+      let authority = host_text ++ written_behind colon port_text in
+      let rest = authority ++ (path ++ tail query fragment) in
+      let host_cut : IsHostCut Special host_text port_text
+      = subst (λ (k : Class). IsHostCut k host_text port_text) special cut in
+      let kind : is_special h.url.scheme ≡ true = rw (same, special) refl in
+      let long = length-append authority (path ++ tail query fragment) in
+      elim (cases_Bool (begins slash rest || begins backslash rest)) [
+        | inl further ↦ inr (start Special special 1 (omega arith) (stops_here base (λ p. rw further refl)))
+        | inr none ↦
+            elim (authority_decided base (AreFine path query fragment) true host_text port_text
+            (path ++ tail query fragment) h (length (path ++ tail query fragment) + 1) kind host_cut unended
+            (delimits_path path query fragment slashed)
+            (λ g e. path_start_decided base path query fragment g free slashed)) [
+              | inl (letters, taken, fine) ↦
+                  let port = port_given (default_port scheme) port_text in
+                  let parts = authority_parts form given host_text port_text path query fragment (Some taken.value) port in
+                  let takes : Takes Special scheme host_text parts
+                  = record {
+                    value = taken.value;
+                    host = record {
+                      no_at_sign = letters_no_at_sign true host_text letters;
+                      no_backslash = letters_no_backslash host_text letters;
+                      parsed = taken.parsed;
+                    };
+                    valued = refl;
+                    port_text = taken.port_text;
+                    port = refl;
+                  } in
+                  inl (
+                    parts,
+                    silent (Some taken.value) port
+                        (subst (λ (k : Class). Takes k scheme host_text parts) (sym special) takes) fine,
+                  )
+              | inr stops ↦ inr
+                  (start Special special _ (omega (arith, long)) (stops_again base (λ p. rw none refl) stops))
+            ]
+      ]
+
+  -- class Other
+  other_decided : scheme_class scheme ≡ Other → SilentOrStops base text
+  other_decided other =
+      let authority = host_text ++ written_behind colon port_text in
+      let host_cut : IsHostCut Other host_text port_text
+      = subst (λ (k : Class). IsHostCut k host_text port_text) other cut in
+      let kind : is_special h.url.scheme ≡ false = rw (same, other) refl in
+      let long = length-append authority (path ++ tail query fragment) in
+      elim (authority_decided base (AreFine path query fragment) false host_text port_text
+      (path ++ tail query fragment) h (length (path ++ tail query fragment) + 1) kind host_cut unended
+      (delimits_path path query fragment slashed)
+      (λ g e. path_start_decided base path query fragment g free slashed)) [
+        | inl (letters, taken, fine) ↦
+            let value = own_value taken.value in
+            let port = port_given (default_port scheme) port_text in
+            let parts = authority_parts form given host_text port_text path query fragment value port in
+            let takes : Takes Other scheme host_text parts
+            = record {
+              host = silent_other host_text taken.value (letters_no_at_sign false host_text letters) taken.parsed;
+              alone = taken.alone;
+              port_text = taken.port_text;
+              port = refl;
+            } in
+            inl (
+              parts,
+              silent value port (subst (λ (k : Class). Takes k scheme host_text parts) (sym other) takes) fine,
+            )
+        | inr stops ↦ inr (start Other other _ (omega (arith, long)) stops)
+      ]
+
+  -- class File
+  file_decided : scheme_class scheme ≡ File → SilentOrStops base text
+  file_decided file =
+      let no_port : port_text ≡ None = subst (λ (k : Class). IsHostCut k host_text port_text) file cut in
+      let alone : host_text ++ written_behind colon port_text ≡ host_text
+      = ap (λ o. host_text ++ written_behind colon o) no_port ∙ append-nil host_text in
+      let rest = path ++ tail query fragment in
+      elim (file_host_decided base (AreFine path query fragment) host_text rest (file_held host.Empty)
+      (length rest + 1) (subst IsUnended alone unended) (delimits_path path query fragment slashed)
+      (λ g e. path_start_decided base path query fragment g free slashed)) [
+        | inl (fits, fine) ↦ taken no_port fits fine
+        | inr stops ↦ inr
+            (start File file (length host_text + ((length rest + 1) + 1))
+            (rw alone (omega (arith, length-append host_text rest))) (rw alone stops))
+      ]
+    where
+      taken : port_text ≡ None → FileHostFits host_text → AreFine path query fragment → SilentOrStops base text
+      taken no_port (inl (value, fits)) fine =
+          let parts = authority_parts form given host_text port_text path query fragment (Some value) None in
+          let takes : Takes File scheme host_text parts
+          = record { no_port_text = no_port; no_port = refl; host = inl (value, fits, refl) } in
+          inl (
+            parts,
+            silent (Some value) None (subst (λ (k : Class). Takes k scheme host_text parts) (sym file) takes) fine,
+          )
+      taken no_port (inr empty) fine =
+          let parts = authority_parts form given host_text port_text path query fragment (Some host.Empty) None in
+          let takes : Takes File scheme host_text parts
+          = record { no_port_text = no_port; no_port = refl; host = inr (empty, refl) } in
+          inl (
+            parts,
+            silent (Some host.Empty) None (subst (λ (k : Class). Takes k scheme host_text parts) (sym file) takes) fine,
+          )
+
+  -- with an authority
+  pub authority_silent_or_stops : SilentOrStops base text
+  authority_silent_or_stops =
+      elim (kind_cases (scheme_class scheme)) [
+        | inl special ↦ special_decided special
+        | inr (inl file) ↦ file_decided file
+        | inr (inr other) ↦ other_decided other
+      ]
