@@ -1,5 +1,4 @@
--- The tools of a run: steps and their composition, stops, the bound, the test before the first step.
+-- The tools of a run: steps and their composition, its ends and stops, the bound, the test before the first step.
 pub mod Steps
-pub mod Stopping
 pub mod RunsStopped
 pub mod Unremoved

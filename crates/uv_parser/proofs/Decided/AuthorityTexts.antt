@@ -26,7 +26,7 @@ use Rattle.uv_model.proofs.Texts.MarkLemmas.{is_without-cons}
 use Rattle.uv_model.proofs.Paths.PathPieces.{joins_pieces, pieces}
 use Rattle.uv_parser.proofs.Running.RunsStopped.{RunStops}
 use Rattle.uv_parser.proofs.Silence.SilentFile.{file_held}
-use Rattle.uv_parser.proofs.Running.Stopping.{Stops, stops_again, stops_here}
+use Rattle.uv_parser.proofs.Running.Steps.{Stops, ends_again, stops_here}
 use Rattle.uv_parser.proofs.Loops.Tails.{tail}
 
 -- What is to be shown of a text: it is silent with parts, or stops.
@@ -150,7 +150,7 @@ module _ (base : Option Url) (text : List ℕ) (form : Form) (given : Option (Li
                         (subst (λ (k : Class). Takes k scheme host_text parts) (sym special) takes) fine,
                   )
               | inr stops ↦ inr
-                  (start Special special _ (omega (arith, long)) (stops_again base (λ p. rw none refl) stops))
+                  (start Special special _ (omega (arith, long)) (ends_again base (λ p. rw none refl) stops))
             ]
       ]
 

@@ -21,7 +21,7 @@ use Rattle.uv_parser.proofs.Done.DoneAuthority.{reads_from}
 use Rattle.uv_parser.proofs.Loops.FileHosts.{and_true-right}
 use Rattle.uv_parser.proofs.HostParsing.HostsParsed.{has_some}
 use Rattle.uv_model.proofs.Texts.MarkLemmas.{is_without-more, is_without-parts}
-use Rattle.uv_parser.proofs.Running.Stopping.{Stops, stops_again, stops_after, stops_here, stops_step, stops_within}
+use Rattle.uv_parser.proofs.Running.Steps.{Stops, ends_again, ends_after, stops_here, ends_step, ends_within}
 use Rattle.uv_model.proofs.Texts.UnitsAhead.{without_parts}
 
 -- a text without the three marks that end an authority
@@ -99,12 +99,12 @@ module _ (base : Option Url) where
       let (a, b, d, later) = unended_behind c cs is in
       elim (cases_Bool (is_ascii_digit c)) [
         | inl digit ↦
-            stops_step base (λ p. port_row_on base c (cs ++ rest) h p digit)
+            ends_step base (λ p. port_row_on base c (cs ++ rest) h p digit)
             (port_stops cs rest _ (rw digit at foreign) later)
         | inr other ↦
             let row : (p : ℕ) → turn base PortState p h (c ∷ (cs ++ rest)) ≡ stop
             = λ p. simp (a, b, d, other) refl in
-            stops_within base (omega arith) (stops_here base row)
+            ends_within base (omega arith) (stops_here base row)
       ]
 
   -- from the port on
@@ -115,22 +115,22 @@ module _ (base : Option Url) where
       elim (cases_Bool (list_all is_ascii_digit port)) [
         | inl digits ↦ elim (cases_lt 65535 (digits_value 10 port)) [
           | inl large ↦ inr
-              (stops_within base (omega arith)
-              (stops_after base (port_law base port rest (emptied h) digits)
+              (ends_within base (omega arith)
+              (ends_after base (port_law base port rest (emptied h) digits)
               (stops_here base
               (λ p. port_row_large (with_more port (emptied h)) (sight rest) ends
               (lt-ltb 65535 (digits_value 10 port) large)))))
           | inr small ↦ elim (next (with_port (port_in h.url.scheme port) (emptied h)) refl) [
             | inl fine ↦ inl (record { digits = digits; range = small }, fine)
             | inr stops ↦ inr
-                (stops_within base (omega arith)
-                (stops_after base (port_law base port rest (emptied h) digits)
-                (stops_again base
+                (ends_within base (omega arith)
+                (ends_after base (port_law base port rest (emptied h) digits)
+                (ends_again base
                 (λ p. port_row_end (with_more port (emptied h)) (sight rest) ends
                 (le-ltb 65535 (digits_value 10 port) small)) stops)))
           ]
         ]
-        | inr foreign ↦ inr (stops_within base (omega arith) (port_stops port rest (emptied h) foreign is))
+        | inr foreign ↦ inr (ends_within base (omega arith) (port_stops port rest (emptied h) foreign is))
       ]
 
   -- ---- the host
@@ -147,21 +147,21 @@ module _ (base : Option Url) where
       let law = host_law base special false host rest (emptied h) kind read in
       elim (cases_Bool ((length host == 0) && is_special h.url.scheme)) [
         | inl empty ↦ inr
-            (stops_within base (omega arith)
-            (stops_after base law (stops_here base (λ p. host_row_empty held (sight rest) ends empty))))
+            (ends_within base (omega arith)
+            (ends_after base law (stops_here base (λ p. host_row_empty held (sight rest) ends empty))))
         | inr some ↦ elim (host_cases (parse_host (is_special h.url.scheme) host)) [
           | inl none ↦ inr
-              (stops_within base (omega arith)
-              (stops_after base law (stops_here base (λ p. host_row_none held (sight rest) ends some none))))
+              (ends_within base (omega arith)
+              (ends_after base law (stops_here base (λ p. host_row_none held (sight rest) ends some none))))
           | inr (value, parsed) ↦ elim (next (emptied (with_host (Some value) held)) refl) [
             | inl fine ↦ inl (
               record { value = value; parsed = rw kind at parsed; alone = λ same. refl; port_text = tt },
               fine,
             )
             | inr stops ↦ inr
-                (stops_within base (omega arith)
-                (stops_after base law
-                (stops_again base (λ p. host_row_end value held (sight rest) ends some parsed) stops)))
+                (ends_within base (omega arith)
+                (ends_after base law
+                (ends_again base (λ p. host_row_end value held (sight rest) ends some parsed) stops)))
           ]
         ]
       ]
@@ -176,7 +176,7 @@ module _ (base : Option Url) where
       ⊎ Stops base HostState (with_brackets false (emptied h)) (host ++ (colon ∷ (port ++ rest)))
       (length host + (length port + (k + 2)))
   host_before_port A special [] port rest h k kind read closed is ends next =
-      inr (stops_within base (omega arith) (stops_here base (λ p. refl)))
+      inr (ends_within base (omega arith) (stops_here base (λ p. refl)))
   host_before_port A special (c ∷ cs) port rest h k kind read closed is ends next =
       let host = c ∷ cs in
       let held = with_more host (with_brackets (is_within_at_end false host) (emptied h)) in
@@ -186,7 +186,7 @@ module _ (base : Option Url) where
         | inl none ↦
             let row : (p : ℕ) → turn base HostState p held (colon ∷ (port ++ rest)) ≡ stop
             = λ p. rw (closed, some, none) refl in
-            inr (stops_within base (omega arith) (stops_after base law (stops_here base row)))
+            inr (ends_within base (omega arith) (ends_after base law (stops_here base row)))
         | inr (value, parsed) ↦
             elim (port_decided A port rest (with_host (Some value) held) k is ends next) [
               | inl fine ↦ inl (
@@ -194,9 +194,9 @@ module _ (base : Option Url) where
                 fine.1,
               )
               | inr stops ↦ inr
-                  (stops_within base (omega arith)
-                  (stops_after base law
-                  (stops_step base (λ p. host_row_port base value (port ++ rest) held p closed some parsed) stops)))
+                  (ends_within base (omega arith)
+                  (ends_after base law
+                  (ends_step base (λ p. host_row_port base value (port ++ rest) held p closed some parsed) stops)))
             ]
       ]
 
@@ -211,12 +211,12 @@ module _ (base : Option Url) where
       let (a, b, d, later) = unended_behind c cs is in
       elim (cases_Bool (is_authority_letter special c)) [
         | inl fine ↦
-            stops_step base (λ p. authority_row_on base special c (cs ++ rest) h p kind fine)
+            ends_step base (λ p. authority_row_on base special c (cs ++ rest) h p kind fine)
             (authority_stops special cs rest _ kind (rw fine at fault) later)
         | inr bad ↦
             let row : (p : ℕ) → turn base AuthorityState p h (c ∷ (cs ++ rest)) ≡ stop
             = λ p. simp (kind, a, b, d, stopping special c a b d bad) refl in
-            stops_within base (omega arith) (stops_here base row)
+            ends_within base (omega arith) (stops_here base row)
       ]
 
   -- from the authority on
@@ -238,12 +238,12 @@ module _ (base : Option Url) where
             elim (host_decided port ends is read next) [
               | inl fine ↦ inl (split.0, fine.0, fine.1)
               | inr stops ↦ inr
-                  (stops_within base (omega arith)
-                  (stops_after base
+                  (ends_within base (omega arith)
+                  (ends_after base
                   (authority_law base special authority rest (with_brackets false h) kind letters delimited) stops))
             ]
         | inr fault ↦ inr
-            (stops_within base (omega arith)
+            (ends_within base (omega arith)
             (authority_stops special authority rest (with_brackets false (emptied h)) kind fault is))
       ]
     where
@@ -256,7 +256,7 @@ module _ (base : Option Url) where
       host_decided None ends is read next =
           elim (host_alone A special host rest h k kind read delimited next) [
             | inl fine ↦ inl fine
-            | inr stops ↦ inr (rw append-nil (stops_within base (omega arith) stops))
+            | inr stops ↦ inr (rw append-nil (ends_within base (omega arith) stops))
           ]
       host_decided (Some port) ends is read next =
           let behind : IsUnended port
@@ -272,7 +272,7 @@ module _ (base : Option Url) where
             | inl fine ↦ inl fine
             | inr stops ↦ inr
                 (rw (append_assoc host (colon ∷ port) rest)
-                (stops_within base (omega (arith, length-append host (colon ∷ port))) stops))
+                (ends_within base (omega (arith, length-append host (colon ∷ port))) stops))
           ]
 
 -- letters of an authority hold no `@`

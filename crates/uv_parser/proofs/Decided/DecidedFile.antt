@@ -14,7 +14,7 @@ use Rattle.uv_parser.proofs.Loops.AuthorityLoops.{IsDelimiter}
 use Rattle.uv_parser.proofs.Decided.DecidedAuthority.{IsUnended, host_cases, unended_behind}
 use Rattle.uv_parser.proofs.Loops.FileHosts.{file_host_law, file_host_row}
 use Rattle.uv_parser.proofs.HostParsing.HostsParsed.{has_some}
-use Rattle.uv_parser.proofs.Running.Stopping.{Stops, stops_again, stops_after, stops_here, stops_step, stops_within}
+use Rattle.uv_parser.proofs.Running.Steps.{Stops, ends_again, ends_after, stops_here, ends_step, ends_within}
 
 -- ---- rows
 
@@ -63,9 +63,9 @@ module _ (base : Option Url) where
   file_host_stops (c ∷ cs) rest h has is =
       let (a, b, d, later) = unended_behind c cs is in
       elim (cases_Bool (c == backslash)) [
-        | inl here ↦ stops_within base (omega arith) (stops_here base (λ p. row_stop c (cs ++ rest) h p a b d here))
+        | inl here ↦ ends_within base (omega arith) (stops_here base (λ p. row_stop c (cs ++ rest) h p a b d here))
         | inr other ↦
-            stops_step base (λ p. row_on c (cs ++ rest) h p a b d other)
+            ends_step base (λ p. row_on c (cs ++ rest) h p a b d other)
             (file_host_stops cs rest _ (rw other at has) later)
       ]
 
@@ -77,7 +77,7 @@ module _ (base : Option Url) where
       elim (next (with_host (Some host.Empty) (emptied h)) refl) [
         | inl fine ↦ inl (inr refl, fine)
         | inr stops ↦ inr
-            (stops_within base (omega arith) (stops_again base (λ p. empty_row h (sight rest) ends) stops))
+            (ends_within base (omega arith) (ends_again base (λ p. empty_row h (sight rest) ends) stops))
       ]
   file_host_decided A (c ∷ cs) rest h k is ends next =
       let text = c ∷ cs in
@@ -92,12 +92,12 @@ module _ (base : Option Url) where
             }) in
             elim (cases_Bool (is_drive_letter text)) [
               | inl drive ↦ inr
-                  (stops_within base (omega arith)
-                  (stops_after base law (stops_here base (λ p. drive_row held (sight rest) ends drive))))
+                  (ends_within base (omega arith)
+                  (ends_after base law (stops_here base (λ p. drive_row held (sight rest) ends drive))))
               | inr no_drive ↦ elim (host_cases (parse_host true text)) [
                 | inl missing ↦ inr
-                    (stops_within base (omega arith)
-                    (stops_after base law
+                    (ends_within base (omega arith)
+                    (ends_after base law
                     (stops_here base
                     (λ p. none_row held (sight rest) ends no_drive (has_some text c cs refl) missing))))
                 | inr (value, parsed) ↦ elim (next (emptied (with_host (Some (without_localhost value)) held)) refl) [
@@ -115,13 +115,13 @@ module _ (base : Option Url) where
                     fine,
                   )
                   | inr stops ↦ inr
-                      (stops_within base (omega arith)
-                      (stops_after base law
-                      (stops_again base
+                      (ends_within base (omega arith)
+                      (ends_after base law
+                      (ends_again base
                       (λ p. file_host_row value held (sight rest) ends no_drive (has_some text c cs refl) parsed)
                       stops)))
                 ]
               ]
             ]
-        | inr has ↦ inr (stops_within base (omega arith) (file_host_stops text rest (emptied h) has is))
+        | inr has ↦ inr (ends_within base (omega arith) (file_host_stops text rest (emptied h) has is))
       ]

@@ -21,7 +21,7 @@ use Rattle.uv_parser.proofs.Loops.Looping.{opaque_path_law}
 use Rattle.uv_model.proofs.Paths.PathPieces.{path_relative, pieces}
 use Rattle.uv_parser.proofs.Running.RunsStopped.{RunStops, place_cases, removed_stops, scheme_stops}
 use Rattle.uv_parser.proofs.Loops.SchemeStretch.{scheme_held, colon_row}
-use Rattle.uv_parser.proofs.Running.Stopping.{Stops, stops_step, stops_after, stops_within}
+use Rattle.uv_parser.proofs.Running.Steps.{Stops, ends_step, ends_after, ends_within}
 use Rattle.uv_parser.proofs.Loops.StoppingLoops.{opaque_path_stops}
 use Rattle.uv_parser.proofs.Loops.Tails.{tail, no_slash_before_tail}
 use Rattle.uv_parser.proofs.Decided.TailsDecided.{PassesToTail, no_hex_tail, tail_decided}
@@ -70,13 +70,13 @@ module _ (base : Option Url) (scheme path : List ℕ) (query fragment : Option (
             have.query) [
               | inl both ↦ inl (units, both.0, both.1)
               | inr stops ↦ inr
-                  (stops_within base (omega (arith, length-append path (tail query fragment)))
-                  (stops_after base
+                  (ends_within base (omega (arith, length-append path (tail query fragment)))
+                  (ends_after base
                   (opaque_path_law base path (tail query fragment) [] (scheme_held scheme) units have.path_question_mark)
                   stops))
             ]
         | inr fault ↦ inr
-            (stops_within base (omega (arith, length-append path (tail query fragment)))
+            (ends_within base (omega (arith, length-append path (tail query fragment)))
             (opaque_path_stops base path (tail query fragment) (path_begun scheme) fault have.path_question_mark
             have.path_number_sign (no_hex_tail query fragment)))
       ]
@@ -90,7 +90,7 @@ module _ (base : Option Url) (scheme path : List ℕ) (query fragment : Option (
       elim path_decided [
         | inl fine ↦ inl fine
         | inr stops ↦ inr
-            (stops_step base
+            (ends_step base
             (λ p. colon_row base scheme (path ++ tail query fragment) p ∙ rw (other, no_slash) refl) stops)
       ]
 

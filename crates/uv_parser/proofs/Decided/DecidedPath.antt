@@ -10,8 +10,7 @@ use Rattle.uv_model.specs.Records.Url.{Url}
 use Rattle.uv_model.specs.Valid.{MayBeUnits}
 use Rattle.uv_parser.proofs.Loops.PathLoops.{path_row_on}
 use Rattle.uv_parser.proofs.Loops.PathStarts.{special_row}
-use Rattle.uv_parser.proofs.Running.Steps.{Reaches, reaches_none, onward_then}
-use Rattle.uv_parser.proofs.Running.Stopping.{Stops, stops_again, stops_after, stops_step, stops_within}
+use Rattle.uv_parser.proofs.Running.Steps.{Reaches, reaches_none, onward_then, Stops, ends_again, ends_after, ends_step, ends_within}
 use Rattle.uv_parser.proofs.Loops.StoppingLoops.{path_stops}
 use Rattle.uv_parser.proofs.Loops.Tails.{tail}
 use Rattle.uv_parser.proofs.Decided.TailsDecided.{MayBeWithoutNumberSign, PassesToTail, no_hex_tail, tail_decided}
@@ -76,11 +75,11 @@ module _ (base : Option Url) where
             elim (tail_decided base PathState through.0 query fragment (path_passes through.0) free.query) [
               | inl both ↦ inl (units, both.0, both.1)
               | inr stops ↦ inr
-                  (stops_within base (omega (arith, length-append path (tail query fragment)))
-                  (stops_after base through.1 stops))
+                  (ends_within base (omega (arith, length-append path (tail query fragment)))
+                  (ends_after base through.1 stops))
             ]
         | inr fault ↦ inr
-            (stops_within base (omega (arith, length-append path (tail query fragment)))
+            (ends_within base (omega (arith, length-append path (tail query fragment)))
             (path_stops base path (tail query fragment) h fault free.question_mark free.number_sign
             (no_hex_tail query fragment)))
       ]
@@ -95,8 +94,8 @@ module _ (base : Option Url) where
         | inl special ↦ elim (path_decided [] query fragment h free) [
           | inl fine ↦ inl fine
           | inr stops ↦ inr
-              (stops_within base (omega arith)
-              (stops_again base (λ p. rw special (special_row query fragment h)) stops))
+              (ends_within base (omega arith)
+              (ends_again base (λ p. rw special (special_row query fragment h)) stops))
         ]
         | inr plain ↦
             let passes : PassesToTail base PathStartState h
@@ -108,7 +107,7 @@ module _ (base : Option Url) where
             } in
             elim (tail_decided base PathStartState h query fragment passes free.query) [
               | inl both ↦ inl (refl, both.0, both.1)
-              | inr stops ↦ inr (stops_within base (omega arith) stops)
+              | inr stops ↦ inr (ends_within base (omega arith) stops)
             ]
       ]
   path_start_decided (c ∷ path) query fragment h free start =
@@ -119,5 +118,5 @@ module _ (base : Option Url) where
       = record { question_mark = question.1; number_sign = number.1; query = free.query } in
       elim (path_decided path query fragment h behind) [
         | inl fine ↦ inl (rw is (faultless_slash path fine.0), fine.1, fine.2)
-        | inr stops ↦ inr (rw is (stops_within base (omega arith) (stops_step base (λ p. refl) stops)))
+        | inr stops ↦ inr (rw is (ends_within base (omega arith) (ends_step base (λ p. refl) stops)))
       ]

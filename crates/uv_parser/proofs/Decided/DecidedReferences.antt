@@ -27,7 +27,7 @@ use Rattle.uv_model.proofs.Paths.PathPieces.{path_relative, pieces}
 use Rattle.uv_parser.proofs.Running.RunsStopped.{RunStops, place_cases, removed_stops}
 use Rattle.uv_parser.proofs.Decided.SchemeAbsent.{absent_stops}
 use Rattle.uv_parser.proofs.Silence.SilentFile.{file_held}
-use Rattle.uv_parser.proofs.Running.Stopping.{Stops, stops_again, stops_here, stops_step, stops_within}
+use Rattle.uv_parser.proofs.Running.Steps.{Stops, ends_again, stops_here, ends_step, ends_within}
 use Rattle.uv_parser.proofs.Loops.Tails.{no_slash_before_tail, tail}
 use Rattle.uv_parser.proofs.Decided.TailsDecided.{PassesToTail, fragment_decided, tail_decided}
 
@@ -130,7 +130,7 @@ opaque_base url text None port_text [] None (Some fragment) is kept opaque =
       | inr stops ↦ inr
           (reference_stops url text None port_text [] None (Some fragment) is kept _ _
           (reference_text url text None port_text [] None (Some fragment) is kept) (omega arith)
-          (stops_step (Some url) (λ p. rw opaque refl) stops))
+          (ends_step (Some url) (λ p. rw opaque refl) stops))
     ]
 
 -- ---- a base with a path of segments: texts without an authority
@@ -214,7 +214,7 @@ module _ (url : Url) (text : List ℕ) (port_text : Option (List ℕ)) (query fr
         | inr stops ↦ inr
             (reference_stops url text None port_text [] query fragment is kept _ _
             (reference_text url text None port_text [] query fragment is kept) (omega arith)
-            (stops_again (Some url) (λ p. row (tail query fragment) p) stops))
+            (ends_again (Some url) (λ p. row (tail query fragment) p) stops))
       ]
   path_forms s h row passes absolute relative (c ∷ path) is =
       let have = marks (Some url) text None None port_text (c ∷ path) query fragment is in
@@ -237,7 +237,7 @@ module _ (url : Url) (text : List ℕ) (port_text : Option (List ℕ)) (query fr
               | inr stops ↦ inr
                   (reference_stops url text None port_text (c ∷ path) query fragment is kept _ _
                   (reference_text url text None port_text (c ∷ path) query fragment is kept) (omega arith)
-                  (stops_again (Some url) (λ p. row ((c ∷ path) ++ tail query fragment) p) stops))
+                  (ends_again (Some url) (λ p. row ((c ∷ path) ++ tail query fragment) p) stops))
             ]
       ]
     where
@@ -261,7 +261,7 @@ module _ (url : Url) (text : List ℕ) (port_text : Option (List ℕ)) (query fr
             | inr stops ↦ inr
                 (reference_stops url text None port_text (slash ∷ path) query fragment is kept _ _
                 (reference_text url text None port_text (slash ∷ path) query fragment is kept) (omega arith)
-                (stops_again (Some url) (λ p. row (slash ∷ (path ++ tail query fragment)) p) stops))
+                (ends_again (Some url) (λ p. row (slash ∷ (path ++ tail query fragment)) p) stops))
           ]
 
       with_slash : (c : ℕ) → c ≡ slash
@@ -292,9 +292,9 @@ module _ (url : Url) (text : List ℕ) (port_text : Option (List ℕ)) (query fr
           elim (path_decided (Some url) behind query fragment (with_base_host url (base_held url)) free) [
             | inl fine ↦ inl fine
             | inr stops ↦ inr
-                (stops_within (Some url) (omega arith)
-                (stops_step (Some url) {s₁ = RelativeSlashState} {h₁ = base_held url} (λ p. refl)
-                (stops_again (Some url) (λ p. rw no_slash refl) stops)))
+                (ends_within (Some url) (omega arith)
+                (ends_step (Some url) {s₁ = RelativeSlashState} {h₁ = base_held url} (λ p. refl)
+                (ends_again (Some url) (λ p. rw no_slash refl) stops)))
           ]
 
       relative : (c : ℕ) (rest : List ℕ) → (c == slash) ≡ false → (c == question_mark) ≡ false
@@ -306,7 +306,7 @@ module _ (url : Url) (text : List ℕ) (port_text : Option (List ℕ)) (query fr
           (shortened (with_query None (with_base url (base_held url)))) free) [
             | inl fine ↦ inl fine
             | inr stops ↦ inr
-                (stops_within (Some url) (omega arith) (stops_again (Some url) (λ p. simp (a, b, d) refl) stops))
+                (ends_within (Some url) (omega arith) (ends_again (Some url) (λ p. simp (a, b, d) refl) stops))
           ]
 
   -- against a base of class File
@@ -333,9 +333,9 @@ module _ (url : Url) (text : List ℕ) (port_text : Option (List ℕ)) (query fr
           (with_kept_drive (list_in url.path) rest (with_host url.host (file_held host.Empty))) free) [
             | inl fine ↦ inl fine
             | inr stops ↦ inr
-                (stops_within (Some url) (omega arith)
-                (stops_step (Some url) {s₁ = FileSlashState} {h₁ = file_held host.Empty} (λ p. refl)
-                (stops_again (Some url) (λ p. rw (no_slash, file) refl) stops)))
+                (ends_within (Some url) (omega arith)
+                (ends_step (Some url) {s₁ = FileSlashState} {h₁ = file_held host.Empty} (λ p. refl)
+                (ends_again (Some url) (λ p. rw (no_slash, file) refl) stops)))
           ]
 
       relative : (c : ℕ) (rest : List ℕ) → (c == slash) ≡ false → (c == question_mark) ≡ false
@@ -347,7 +347,7 @@ module _ (url : Url) (text : List ℕ) (port_text : Option (List ℕ)) (query fr
             | inl drive ↦
                 let row : (p : ℕ) → turn (Some url) FileState p empty_held (c ∷ (rest ++ tail query fragment)) ≡ stop
                 = λ p. simp (file, a, b, d, drive) refl in
-                inr (stops_within (Some url) (omega arith) (stops_here (Some url) row))
+                inr (ends_within (Some url) (omega arith) (stops_here (Some url) row))
             | inr no_drive ↦
                 let h = shortened (with_query None (with_file_base url (file_held host.Empty))) in
                 let row : (p : ℕ) → turn (Some url) FileState p empty_held (c ∷ (rest ++ tail query fragment))
@@ -355,7 +355,7 @@ module _ (url : Url) (text : List ℕ) (port_text : Option (List ℕ)) (query fr
                 = λ p. simp (file, a, b, d, no_drive) refl in
                 elim (path_decided (Some url) (c ∷ rest) query fragment h free) [
                   | inl fine ↦ inl fine
-                  | inr stops ↦ inr (stops_within (Some url) (omega arith) (stops_again (Some url) row stops))
+                  | inr stops ↦ inr (ends_within (Some url) (omega arith) (ends_again (Some url) row stops))
                 ]
           ]
 
@@ -392,22 +392,22 @@ module _ (url : Url) (text host_text : List ℕ) (port_text : Option (List ℕ))
       let plain : is_file url.scheme ≡ false = rw special refl in
       let kind : is_special url.scheme ≡ true = rw special refl in
       reference_authority_stops (suc (suc (suc k))) (omega (arith, few))
-      (stops_again (Some url) {s₁ = RelativeState} {h₁ = empty_held} (λ p. rw (not_opaque, plain) refl)
-      (stops_step (Some url) {s₁ = RelativeSlashState} {h₁ = base_held url} (λ p. refl)
-      (stops_step (Some url) (λ p. rw kind refl) stops)))
+      (ends_again (Some url) {s₁ = RelativeState} {h₁ = empty_held} (λ p. rw (not_opaque, plain) refl)
+      (ends_step (Some url) {s₁ = RelativeSlashState} {h₁ = base_held url} (λ p. refl)
+      (ends_step (Some url) (λ p. rw kind refl) stops)))
   stops_behind File file k few stops =
       let kind : is_file url.scheme ≡ true = rw file refl in
       reference_authority_stops (suc (suc (suc k))) (omega (arith, few))
-      (stops_again (Some url) {s₁ = FileState} {h₁ = empty_held} (λ p. rw (not_opaque, kind) refl)
-      (stops_step (Some url) {s₁ = FileSlashState} {h₁ = file_held host.Empty} (λ p. refl)
-      (stops_step (Some url) (λ p. refl) stops)))
+      (ends_again (Some url) {s₁ = FileState} {h₁ = empty_held} (λ p. rw (not_opaque, kind) refl)
+      (ends_step (Some url) {s₁ = FileSlashState} {h₁ = file_held host.Empty} (λ p. refl)
+      (ends_step (Some url) (λ p. refl) stops)))
   stops_behind Other other k few stops =
       let plain : is_file url.scheme ≡ false = rw other refl in
       let kind : is_special url.scheme ≡ false = rw other refl in
       reference_authority_stops (suc (suc (suc k))) (omega (arith, few))
-      (stops_again (Some url) {s₁ = RelativeState} {h₁ = empty_held} (λ p. rw (not_opaque, plain) refl)
-      (stops_step (Some url) {s₁ = RelativeSlashState} {h₁ = base_held url} (λ p. refl)
-      (stops_step (Some url) (λ p. rw kind refl) stops)))
+      (ends_again (Some url) {s₁ = RelativeState} {h₁ = empty_held} (λ p. rw (not_opaque, plain) refl)
+      (ends_step (Some url) {s₁ = RelativeSlashState} {h₁ = base_held url} (λ p. refl)
+      (ends_step (Some url) (λ p. rw kind refl) stops)))
 
   -- with an authority
   with_authority : SilentOrStops (Some url) text

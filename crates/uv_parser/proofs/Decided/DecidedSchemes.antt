@@ -25,7 +25,7 @@ use Rattle.uv_model.proofs.Paths.PathPieces.{path_relative, pieces}
 use Rattle.uv_parser.proofs.Running.RunsStopped.{RunStops, place_cases, removed_stops, scheme_stops}
 use Rattle.uv_parser.proofs.Loops.SchemeStretch.{colon_row, scheme_held}
 use Rattle.uv_parser.proofs.Silence.SilentFile.{file_held}
-use Rattle.uv_parser.proofs.Running.Stopping.{Stops, stops_again, stops_here, stops_past_two, stops_step, stops_within}
+use Rattle.uv_parser.proofs.Running.Steps.{Stops, ends_again, stops_here, ends_past_two, ends_step, ends_within}
 use Rattle.uv_parser.proofs.Loops.Tails.{no_slash_before_tail, tail}
 
 -- ---- small facts of cuts
@@ -54,15 +54,15 @@ module _ (base : Option Url) (scheme : List ℕ) where
   special_slashes rest k special stops =
       elim (cases_Bool (has_same_scheme base (lowercase scheme))) [
         | inl same ↦
-            stops_within base (omega arith)
-            (stops_step base {s₁ = SpecialRelativeOrAuthorityState} {h₁ = scheme_held scheme}
+            ends_within base (omega arith)
+            (ends_step base {s₁ = SpecialRelativeOrAuthorityState} {h₁ = scheme_held scheme}
             (λ p. colon_row base scheme (slash ∷ slash ∷ rest) p ∙ rw (special, same) refl)
-            (stops_past_two base (λ p. refl) stops))
+            (ends_past_two base (λ p. refl) stops))
         | inr other ↦
-            stops_within base (omega arith)
-            (stops_step base {s₁ = SpecialAuthoritySlashesState} {h₁ = scheme_held scheme}
+            ends_within base (omega arith)
+            (ends_step base {s₁ = SpecialAuthoritySlashesState} {h₁ = scheme_held scheme}
             (λ p. colon_row base scheme (slash ∷ slash ∷ rest) p ∙ rw (special, other) refl)
-            (stops_past_two base (λ p. refl) stops))
+            (ends_past_two base (λ p. refl) stops))
       ]
 
   special_without : (rest : List ℕ) → scheme_class scheme ≡ Special → begins_two_slashes rest ≡ false
@@ -70,11 +70,11 @@ module _ (base : Option Url) (scheme : List ℕ) where
   special_without rest special none =
       elim (cases_Bool (has_same_scheme base (lowercase scheme))) [
         | inl same ↦
-            stops_step base {s₁ = SpecialRelativeOrAuthorityState} {h₁ = scheme_held scheme}
+            ends_step base {s₁ = SpecialRelativeOrAuthorityState} {h₁ = scheme_held scheme}
             (λ p. colon_row base scheme rest p ∙ rw (special, same) refl)
             (stops_here base (λ p. rw none refl))
         | inr other ↦
-            stops_step base {s₁ = SpecialAuthoritySlashesState} {h₁ = scheme_held scheme}
+            ends_step base {s₁ = SpecialAuthoritySlashesState} {h₁ = scheme_held scheme}
             (λ p. colon_row base scheme rest p ∙ rw (special, other) refl)
             (stops_here base (λ p. rw none refl))
       ]
@@ -89,18 +89,18 @@ module _ (base : Option Url) (scheme : List ℕ) where
       → Stops base SchemeState (with_more (lowercase scheme) empty_held) (colon ∷ slash ∷ slash ∷ rest)
       (suc (suc (suc k)))
   file_slashes rest k file stops =
-      stops_step base {s₁ = FileState} {h₁ = scheme_held scheme}
+      ends_step base {s₁ = FileState} {h₁ = scheme_held scheme}
       (λ p. colon_row base scheme (slash ∷ slash ∷ rest) p ∙ rw file refl)
-      (stops_step base {s₁ = FileSlashState} {h₁ = file_held host.Empty} (λ p. refl)
-      (stops_step base (λ p. refl) stops))
+      (ends_step base {s₁ = FileSlashState} {h₁ = file_held host.Empty} (λ p. refl)
+      (ends_step base (λ p. refl) stops))
 
   other_slashes : (rest : List ℕ) (k : ℕ) → scheme_class scheme ≡ Other
       → Stops base AuthorityState (scheme_held scheme) rest k
       → Stops base SchemeState (with_more (lowercase scheme) empty_held) (colon ∷ slash ∷ slash ∷ rest) (suc (suc k))
   other_slashes rest k other stops =
-      stops_past_two base {s₁ = PathOrAuthorityState} {h₁ = scheme_held scheme}
+      ends_past_two base {s₁ = PathOrAuthorityState} {h₁ = scheme_held scheme}
       (λ p. colon_row base scheme (slash ∷ slash ∷ rest) p ∙ rw other refl)
-      (stops_step base (λ p. refl) stops)
+      (ends_step base (λ p. refl) stops)
 
 -- ---- with an authority
 
@@ -238,9 +238,9 @@ module _ (base : Option Url) (text scheme : List ℕ) (port_text : Option (List 
         | inr stops ↦ inr
             (scheme_stops base text scheme (slash ∷ (behind ++ tail query fragment)) _ kept is.scheme
             (alone_text ∙ ap (λ xs. scheme ++ colon ∷ (xs ++ tail query fragment)) slashed) (omega arith)
-            (stops_past_two base {s₁ = PathOrAuthorityState} {h₁ = scheme_held scheme}
+            (ends_past_two base {s₁ = PathOrAuthorityState} {h₁ = scheme_held scheme}
             (λ p. colon_row base scheme (slash ∷ (behind ++ tail query fragment)) p ∙ rw other refl)
-            (stops_again base (λ p. rw no_slash refl) stops)))
+            (ends_again base (λ p. rw no_slash refl) stops)))
       ]
     where
       one_slash : (behind : List ℕ) → starts_with_two_slashes (slash ∷ behind) ≡ false → starts_with_slash behind ≡ false

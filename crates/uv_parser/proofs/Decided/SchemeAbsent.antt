@@ -10,8 +10,7 @@ use Rattle.uv_model.specs.Scheme.{is_scheme_code_point}
 use Rattle.uv_model.specs.Records.Url.{Url}
 use Rattle.uv_model.specs.Valid.{goes_on_to_colon, starts_with_scheme}
 use Rattle.uv_parser.proofs.Running.RunsStopped.{RunStops}
-use Rattle.uv_parser.proofs.Running.Steps.{Ends, Leads, at, drop_one, leads_none, leads_step, leads_then, leads_within, step_at}
-use Rattle.uv_parser.proofs.Running.Stopping.{Stops, leads_stopped_within}
+use Rattle.uv_parser.proofs.Running.Steps.{Ends, Leads, at, drop_one, leads_none, leads_step, leads_then, step_at, Stops, done_with, ended_within, stopped}
 
 -- Within so many steps the machine comes to the no scheme state at the first place.
 record ComesBack (base : Option Url) (text : List ℕ) (s : State) (p : ℕ) (h : Held) (most : ℕ) : Type 0 where
@@ -119,10 +118,10 @@ absent_stops base text k kept none few stops =
     let last = stops.goes text 0 refl in
     let leads = leads_then base text _ _ _ back.steps k back.leads last.1 in
     let within : back.steps + k ≤ step_bound text = omega (arith, back.few, few) in
+    let ended = ended_within base text stopped _ (back.steps + k) (step_bound text) within (last.0, leads) in
     record {
-      place = last.0;
-      stops = ap (λ o. run_from base text (first_outcome o) (step_bound text)) kept
-          ∙ leads_stopped_within base text _ last.0 (back.steps + k) (step_bound text) within leads;
+      place = ended.0;
+      stops = ap (λ o. run_from base text (first_outcome o) (step_bound text)) kept ∙ ended.1;
     }
 
 -- a text without a scheme that ends from the no scheme state on
@@ -135,4 +134,4 @@ absent_ends base text k url kept none few ends =
     let leads = leads_then base text _ _ _ back.steps k back.leads (ends.goes text 0 refl) in
     let within : back.steps + k ≤ step_bound text = omega (arith, back.few, few) in
     ap (λ o. run_from base text (first_outcome o) (step_bound text)) kept
-    ∙ leads_within base text _ url (back.steps + k) (step_bound text) within leads
+    ∙ ended_within base text (done_with url) _ (back.steps + k) (step_bound text) within leads

@@ -10,7 +10,7 @@ use Rattle.uv_model.specs.Records.Url.{Url}
 use Rattle.uv_model.specs.Valid.{MayBeUnits}
 use Rattle.uv_parser.specs.Machine.{State, Held, turn, to_query, to_fragment, QueryState, FragmentState, with_query, with_fragment, with_more, query_ended}
 use Rattle.uv_parser.proofs.Loops.Looping.{query_law}
-use Rattle.uv_parser.proofs.Running.Stopping.{Stops, stops_step, stops_after, stops_within}
+use Rattle.uv_parser.proofs.Running.Steps.{Stops, ends_step, ends_after, ends_within}
 use Rattle.uv_parser.proofs.Loops.StoppingLoops.{no_hex_first, query_stops, fragment_stops}
 use Rattle.uv_parser.proofs.Loops.Tails.{tail}
 use Rattle.uv_model.proofs.Texts.UnitsLemmas.{IsUnits-faultless}
@@ -51,12 +51,12 @@ module _ (base : Option Url) where
   tail_decided s h None (Some fragment) passes without =
       elim (fragment_decided fragment (with_fragment (Some []) passes.fragment_held)) [
         | inl units ↦ inl (tt, units)
-        | inr stops ↦ inr (stops_step base (λ p. passes.at_fragment p fragment) stops)
+        | inr stops ↦ inr (ends_step base (λ p. passes.at_fragment p fragment) stops)
       ]
   tail_decided s h (Some query) fragment passes without =
       elim (query_decided query fragment (with_query (Some []) passes.query_held) without) [
         | inl both ↦ inl both
-        | inr stops ↦ inr (stops_step base (λ p. passes.at_query p (query ++ written_behind number_sign fragment)) stops)
+        | inr stops ↦ inr (ends_step base (λ p. passes.at_query p (query ++ written_behind number_sign fragment)) stops)
       ]
     where
       first_mark : (fragment : Option (List ℕ)) → no_hex_first (written_behind number_sign fragment) ≡ true
@@ -72,9 +72,9 @@ module _ (base : Option Url) where
           elim (fragment_decided fragment (with_fragment (Some []) (query_ended (with_more query h)))) [
             | inl is ↦ inl (IsUnits-faultless query units, is)
             | inr stops ↦ inr
-                (stops_within base (omega (arith, length-append query (number_sign ∷ fragment)))
-                (stops_after base (query_law base query (number_sign ∷ fragment) h units)
-                (stops_step base (λ p. refl) stops)))
+                (ends_within base (omega (arith, length-append query (number_sign ∷ fragment)))
+                (ends_after base (query_law base query (number_sign ∷ fragment) h units)
+                (ends_step base (λ p. refl) stops)))
           ]
 
       query_decided : (query : List ℕ) (fragment : Option (List ℕ)) (h : Held) → is_without number_sign query ≡ true
@@ -85,7 +85,7 @@ module _ (base : Option Url) where
           elim (cases_Bool (is_faultless query)) [
             | inl units ↦ behind_query query fragment h units
             | inr fault ↦ inr
-                (stops_within base
+                (ends_within base
                 (omega (arith, length-append query (written_behind number_sign fragment)))
                 (query_stops base query (written_behind number_sign fragment) h fault without (first_mark fragment)))
           ]

@@ -14,7 +14,7 @@ use Rattle.uv_parser.proofs.Done.Decided.{is_decided}
 use Rattle.uv_parser.proofs.Done.DecidedTexts.{scheme_texts_are_decided}
 use Rattle.uv_parser.proofs.Running.RunsStopped.{RunStops, place_cases, removed_stops}
 use Rattle.uv_parser.proofs.Decided.SchemeAbsent.{absent_stops}
-use Rattle.uv_parser.proofs.Running.Stopping.{stops_here}
+use Rattle.uv_parser.proofs.Running.Steps.{stops_here}
 use Rattle.uv_parser.proofs.Decided.CutTexts.{cut_text}
 use Rattle.uv_model.proofs.Cuts.SchemeCutLemmas.{starts_with_written_scheme}
 use Rattle.uv_parser.proofs.Loops.Tails.{tail}

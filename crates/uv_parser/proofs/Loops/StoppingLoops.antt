@@ -11,7 +11,7 @@ use Rattle.uv_model.specs.Encoding.{encoded_code_point}
 use Rattle.uv_parser.specs.Machine.{Held, turn, onward, stop, PathState, OpaquePathState, QueryState, FragmentState, with_fragment, more_fragment}
 use Rattle.uv_parser.proofs.Loops.Looping.{opaque_row_on, query_row_on}
 use Rattle.uv_parser.proofs.Loops.PathLoops.{path_row_on}
-use Rattle.uv_parser.proofs.Running.Stopping.{Stops, stops_here, stops_step, stops_within}
+use Rattle.uv_parser.proofs.Running.Steps.{Stops, stops_here, ends_step, ends_within}
 use Rattle.uv_model.proofs.Texts.UnitsAhead.{without_parts}
 use Rattle.uv_model.proofs.Texts.UnitsLemmas.{is_unit_at-mark}
 
@@ -60,10 +60,10 @@ module _ (base : Option Url) where
       let same = unit_before c cs rest first in
       elim (cases_Bool (is_unit_at c cs)) [
         | inl unit ↦
-            stops_step base (λ p. query_row_on base c (cs ++ rest) h p (same ∙ unit))
+            ends_step base (λ p. query_row_on base c (cs ++ rest) h p (same ∙ unit))
             (query_stops cs rest _ (rw unit at fault) other.1 first)
         | inr bad ↦
-            stops_within base (omega arith)
+            ends_within base (omega arith)
             (stops_here base (λ p. query_row_fault c (cs ++ rest) h p other.0 (same ∙ bad)))
       ]
 
@@ -86,10 +86,10 @@ module _ (base : Option Url) where
       let same = unit_before c cs rest first in
       elim (cases_Bool (is_unit_at c cs)) [
         | inl unit ↦
-            stops_step base (λ p. fragment_row_on c (cs ++ rest) h p (same ∙ unit))
+            ends_step base (λ p. fragment_row_on c (cs ++ rest) h p (same ∙ unit))
             (fragment_stops cs rest _ (rw unit at fault) first)
         | inr bad ↦
-            stops_within base (omega arith)
+            ends_within base (omega arith)
             (stops_here base (λ p. fragment_row_fault c (cs ++ rest) h p (same ∙ bad)))
       ]
 
@@ -112,10 +112,10 @@ module _ (base : Option Url) where
       let same = unit_before c cs rest first in
       elim (cases_Bool (is_unit_at c cs)) [
         | inl unit ↦
-            stops_step base (λ p. opaque_row_on base c (cs ++ rest) h p question.0 (same ∙ unit))
+            ends_step base (λ p. opaque_row_on base c (cs ++ rest) h p question.0 (same ∙ unit))
             (opaque_path_stops cs rest _ (rw unit at fault) question.1 number.1 first)
         | inr bad ↦
-            stops_within base (omega arith)
+            ends_within base (omega arith)
             (stops_here base (λ p. opaque_row_fault c (cs ++ rest) h p number.0 (same ∙ bad)))
       ]
 
@@ -142,12 +142,12 @@ module _ (base : Option Url) where
             elim (cases_Bool (c == slash)) [
               | inl is ↦
                   rw (eqb-true c slash is)
-                  (stops_step base (λ p. refl) (path_stops cs rest _ later question.1 number.1 first))
+                  (ends_step base (λ p. refl) (path_stops cs rest _ later question.1 number.1 first))
               | inr other ↦
-                  stops_step base (λ p. path_row_on base c (cs ++ rest) h p other question.0 (same ∙ unit))
+                  ends_step base (λ p. path_row_on base c (cs ++ rest) h p other question.0 (same ∙ unit))
                   (path_stops cs rest _ later question.1 number.1 first)
             ]
         | inr bad ↦
-            stops_within base (omega arith)
+            ends_within base (omega arith)
             (stops_here base (λ p. path_row_fault c (cs ++ rest) h p number.0 (same ∙ bad)))
       ]

@@ -7,8 +7,7 @@ use Rattle.uv_parser.specs.Removed.{first_removed}
 use Rattle.uv_model.specs.Scheme.{is_scheme, lowercase}
 use Rattle.uv_model.specs.Records.Url.{Url}
 use Rattle.uv_parser.proofs.Loops.SchemeStretch.{scheme_stretch}
-use Rattle.uv_parser.proofs.Running.Steps.{leads_stopped}
-use Rattle.uv_parser.proofs.Running.Stopping.{Stops, stops_after, stops_within}
+use Rattle.uv_parser.proofs.Running.Steps.{leads_stopped, Stops, ends_after, ends_within}
 
 -- within the bound on its steps the run of the text stops
 pub record RunStops (base : Option Url) (text : List ℕ) : Type 0 where
@@ -34,7 +33,7 @@ pub start_stops : (base : Option Url) (text : List ℕ) (k : ℕ) → first_remo
     → Stops base SchemeStartState empty_held text k → RunStops base text
 unfolding run
 start_stops base text k kept few stops =
-    let last = (stops_within base few stops).goes text 0 refl in
+    let last = (ends_within base few stops).goes text 0 refl in
     record {
       place = last.0;
       stops = ap (λ o. run_from base text (first_outcome o) (step_bound text)) kept ∙ last.1;
@@ -48,4 +47,4 @@ scheme_stops base text scheme rest k kept named whole few stops =
     let few : length scheme + k ≤ step_bound (scheme ++ colon ∷ rest)
     = omega (arith, few, length-append scheme (colon ∷ rest)) in
     start_stops base text (length scheme + k) kept (rw whole few)
-    (rw whole (stops_after base (scheme_stretch base scheme (colon ∷ rest) named) stops))
+    (rw whole (ends_after base (scheme_stretch base scheme (colon ∷ rest) named) stops))

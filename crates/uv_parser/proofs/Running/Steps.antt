@@ -2,7 +2,7 @@
 -- steps to a bound on them. Each holds of every state, over any base and any text.
 use Rattle.std.proofs.Common.{◌≡◌, ℕ, zero, suc, ◌+◌, ◌-◌, ◌≤◌, List, [], ◌∷◌, Option, drop, refl, sym, ap, subst, ◌∙◌, drop-drop, zero-add, arith}
 use Rattle.uv_model.specs.Records.Url.{Url}
-use Rattle.uv_parser.specs.Machine.{State, Held, onward, again, from_place, turn}
+use Rattle.uv_parser.specs.Machine.{State, Held, onward, again, from_place, stop, turn}
 use Rattle.uv_parser.specs.Run.{Machine, Outcome, Done, Stopped, Going, settle, step, run_from}
 
 -- the machine goes on in this state, at this place, with this held
@@ -16,6 +16,16 @@ drop_one text p c rest e = sym (drop-drop 1 p text) ∙ ap (λ r. drop 1 r) e
 -- the rest from the place behind the next on
 pub drop_two : (text : List ℕ) (p c d : ℕ) (rest : List ℕ) → drop p text ≡ c ∷ d ∷ rest → drop (p + 2) text ≡ rest
 drop_two text p c d rest e = sym (drop-drop 2 p text) ∙ ap (λ r. drop 2 r) e
+
+-- how a run ends: with this URL, or stopped somewhere
+pub data Ending : Type 0 where
+  done_with : Url → Ending
+  stopped : Ending
+
+-- the outcome is such an end
+abbrev pub HasEnded : Ending → Outcome → Type 0
+HasEnded (done_with url) o = o ≡ Done url
+HasEnded stopped o = (place : ℕ) × (o ≡ Stopped place)
 
 -- ---- exact counts of steps
 
@@ -68,12 +78,18 @@ module _ (base : Option Url) (text : List ℕ) where
   pub leads_then : (from next to : Outcome) (j k : ℕ) → Leads from j next → Leads next k to → Leads from (j + k) to
   leads_then from next to j k first later = run_in_parts from j k ∙ (ap (λ o. run_from base text o k) first ∙ later)
 
-  -- a run that ends with a URL within a count of steps has ended with it at each higher count
-  pub leads_within : (from : Outcome) (url : Url) (j k : ℕ) → j ≤ k → Leads from j (Done url) → Leads from k (Done url)
-  leads_within from url j k within first =
+  -- a run that has ended stays there
+  leads_ended : (ending : Ending) (o : Outcome) (k : ℕ) → HasEnded ending o → HasEnded ending (run_from base text o k)
+  leads_ended (done_with url) o k e = ap (λ (x : Outcome). run_from base text x k) e ∙ leads_done url k
+  leads_ended stopped o k (q, e) = (q, ap (λ (x : Outcome). run_from base text x k) e ∙ leads_stopped q k)
+
+  -- a run that has ended within a count of steps has ended so at each higher count
+  pub ended_within : (ending : Ending) (from : Outcome) (j k : ℕ) → j ≤ k → HasEnded ending (run_from base text from j)
+      → HasEnded ending (run_from base text from k)
+  ended_within ending from j k within first =
       let count : j + (k - j) ≡ k = omega arith in
-      subst (λ (n : ℕ). Leads from n (Done url)) count
-      (leads_then from (Done url) (Done url) j (k - j) first (leads_done url (k - j)))
+      subst (λ (n : ℕ). HasEnded ending (run_from base text from n)) count
+      (subst (HasEnded ending) (sym (run_in_parts from j (k - j))) (leads_ended ending _ (k - j) first))
 
 -- ---- laws over the rest of a text
 
@@ -83,9 +99,17 @@ pub record Reaches (base : Option Url) (s : State) (h : Held) (before : List ℕ
   pub goes : (text : List ℕ) (p : ℕ) → drop p text ≡ before
       → (q : ℕ) × (drop q text ≡ after) × Leads base text (at s p h) n (at s' q h')
 
--- From a state with this rest, a run ends with this URL after so many steps, in each text and at each place.
-pub record Ends (base : Option Url) (s : State) (h : Held) (rest : List ℕ) (n : ℕ) (url : Url) : Type 0 where
-  pub goes : (text : List ℕ) (p : ℕ) → drop p text ≡ rest → Leads base text (at s p h) n (Done url)
+-- From a state with this rest, a run has ended so after so many steps, in each text and at each place.
+pub record EndsAs (base : Option Url) (s : State) (h : Held) (rest : List ℕ) (n : ℕ) (ending : Ending) : Type 0 where
+  pub goes : (text : List ℕ) (p : ℕ) → drop p text ≡ rest → HasEnded ending (run_from base text (at s p h) n)
+
+-- it is done with this URL
+abbrev pub Ends : Option Url → State → Held → List ℕ → ℕ → Url → Type 0
+Ends base s h rest n url = EndsAs base s h rest n (done_with url)
+
+-- it has stopped
+abbrev pub Stops : Option Url → State → Held → List ℕ → ℕ → Type 0
+Stops base s h rest n = EndsAs base s h rest n stopped
 
 module _ (base : Option Url) where
   -- no step stays where it is
@@ -154,51 +178,66 @@ module _ (base : Option Url) where
         leads_step base text _ 0 _ _ one (leads_none base text (Done h₁.url));
   }
 
+  -- a row that stops
+  pub stops_here : {s : State} {h : Held} {rest : List ℕ} → ((p : ℕ) → turn base s p h rest ≡ stop)
+      → Stops base s h rest 1
+  stops_here {s} {h} {rest} row = record {
+    goes = λ text p e.
+        let one : step base text (record { state = s; pointer = p; held = h }) ≡ Stopped p
+        = step_at base text s p h rest e ∙ ap (settle p rest) (row p) in
+        (p, leads_step base text _ 0 _ _ one (leads_none base text (Stopped p)));
+  }
+
   -- a step past one code point, and behind it the end
-  pub ends_step : {s : State} {h : Held} {c : ℕ} {rest : List ℕ} {s₁ : State} {h₁ : Held} {k : ℕ} {url : Url}
+  pub ends_step : {s : State} {h : Held} {c : ℕ} {rest : List ℕ} {s₁ : State} {h₁ : Held} {k : ℕ} {ending : Ending}
       → ((p : ℕ) → turn base s p h (c ∷ rest) ≡ onward s₁ h₁)
-      → Ends base s₁ h₁ rest k url → Ends base s h (c ∷ rest) (suc k) url
-  ends_step {s} {h} {c} {rest} {s₁} {h₁} {k} {url} row last = record {
+      → EndsAs base s₁ h₁ rest k ending → EndsAs base s h (c ∷ rest) (suc k) ending
+  ends_step {s} {h} {c} {rest} {s₁} {h₁} {k} {ending} row last = record {
     goes = λ text p e.
         let one : step base text (record { state = s; pointer = p; held = h }) ≡ at s₁ (p + 1) h₁
         = step_at base text s p h (c ∷ rest) e ∙ ap (settle p (c ∷ rest)) (row p) in
-        leads_step base text _ k _ _ one (last.goes text (p + 1) (drop_one text p c rest e));
+        subst (HasEnded ending) (sym (leads_step base text _ k _ _ one refl))
+        (last.goes text (p + 1) (drop_one text p c rest e));
   }
 
   -- a step that stays at its place, and behind it the end
-  pub ends_again : {s : State} {h : Held} {rest : List ℕ} {s₁ : State} {h₁ : Held} {k : ℕ} {url : Url}
-      → ((p : ℕ) → turn base s p h rest ≡ again s₁ h₁) → Ends base s₁ h₁ rest k url → Ends base s h rest (suc k) url
-  ends_again {s} {h} {rest} {s₁} {h₁} {k} {url} row last = record {
+  pub ends_again : {s : State} {h : Held} {rest : List ℕ} {s₁ : State} {h₁ : Held} {k : ℕ} {ending : Ending}
+      → ((p : ℕ) → turn base s p h rest ≡ again s₁ h₁)
+      → EndsAs base s₁ h₁ rest k ending → EndsAs base s h rest (suc k) ending
+  ends_again {s} {h} {rest} {s₁} {h₁} {k} {ending} row last = record {
     goes = λ text p e.
         let one : step base text (record { state = s; pointer = p; held = h }) ≡ at s₁ p h₁
         = step_at base text s p h rest e ∙ ap (settle p rest) (row p) in
-        leads_step base text _ k _ _ one (last.goes text p e);
+        subst (HasEnded ending) (sym (leads_step base text _ k _ _ one refl)) (last.goes text p e);
   }
 
   -- a step past two code points, and behind it the end
-  pub ends_past_two : {s : State} {h : Held} {c d : ℕ} {rest : List ℕ} {s₁ : State} {h₁ : Held} {k : ℕ} {url : Url}
+  pub ends_past_two : {s : State} {h : Held} {c d : ℕ} {rest : List ℕ} {s₁ : State} {h₁ : Held} {k : ℕ}
+      {ending : Ending}
       → ((p : ℕ) → turn base s p h (c ∷ d ∷ rest) ≡ from_place (p + 2) s₁ h₁)
-      → Ends base s₁ h₁ rest k url → Ends base s h (c ∷ d ∷ rest) (suc k) url
-  ends_past_two {s} {h} {c} {d} {rest} {s₁} {h₁} {k} {url} row last = record {
+      → EndsAs base s₁ h₁ rest k ending → EndsAs base s h (c ∷ d ∷ rest) (suc k) ending
+  ends_past_two {s} {h} {c} {d} {rest} {s₁} {h₁} {k} {ending} row last = record {
     goes = λ text p e.
         let one : step base text (record { state = s; pointer = p; held = h }) ≡ at s₁ (p + 2) h₁
         = step_at base text s p h (c ∷ d ∷ rest) e ∙ ap (settle p (c ∷ d ∷ rest)) (row p) in
-        leads_step base text _ k _ _ one (last.goes text (p + 2) (drop_two text p c d rest e));
+        subst (HasEnded ending) (sym (leads_step base text _ k _ _ one refl))
+        (last.goes text (p + 2) (drop_two text p c d rest e));
   }
 
   -- a law, and behind it the end
   pub ends_after : {s : State} {h : Held} {before : List ℕ} {j : ℕ}
-      {s₁ : State} {h₁ : Held} {after : List ℕ} {k : ℕ} {url : Url}
-      → Reaches base s h before j s₁ h₁ after → Ends base s₁ h₁ after k url → Ends base s h before (j + k) url
-  ends_after {s} {h} {before} {j} {s₁} {h₁} {after} {k} {url} first last = record {
+      {s₁ : State} {h₁ : Held} {after : List ℕ} {k : ℕ} {ending : Ending}
+      → Reaches base s h before j s₁ h₁ after → EndsAs base s₁ h₁ after k ending
+      → EndsAs base s h before (j + k) ending
+  ends_after {s} {h} {before} {j} {s₁} {h₁} {after} {k} {ending} first last = record {
     goes = λ text p e.
         let mid = first.goes text p e in
-        leads_then base text _ _ _ j k mid.2 (last.goes text mid.0 mid.1);
+        subst (HasEnded ending) (sym (leads_then base text _ _ _ j k mid.2 refl)) (last.goes text mid.0 mid.1);
   }
 
   -- an end within a count of steps is an end within each higher count
-  pub ends_within : {s : State} {h : Held} {rest : List ℕ} {j k : ℕ} {url : Url}
-      → j ≤ k → Ends base s h rest j url → Ends base s h rest k url
-  ends_within {s} {h} {rest} {j} {k} {url} within ends = record {
-    goes = λ text p e. leads_within base text _ url j k within (ends.goes text p e);
+  pub ends_within : {s : State} {h : Held} {rest : List ℕ} {j k : ℕ} {ending : Ending}
+      → j ≤ k → EndsAs base s h rest j ending → EndsAs base s h rest k ending
+  ends_within {s} {h} {rest} {j} {k} {ending} within ends = record {
+    goes = λ text p e. ended_within base text ending _ j k within (ends.goes text p e);
   }
