@@ -1,6 +1,7 @@
 //! Whether a host may stand in a record, by the class of the scheme (URL Standard, section 4.1).
 ghost use Rattle.std.specs.List.{list_all};
 ghost use Rattle.std.specs.Prelude.{◌≡◌, ◌↔◌, IsTrue, not, option_copied};
+ghost use Rattle.uv_model.specs.Hosts.Address.{IsAddress};
 ghost use Rattle.uv_model.specs.Hosts.Domain.{is_form_code_point};
 ghost use Rattle.uv_model.specs.Hosts.OpaqueHost.{is_forbidden_host};
 ghost use Rattle.uv_model.specs.Records.WellFormed.{IsFileHost, IsOtherHost, IsSpecialHost, IsUrlDomain, IsUrlHost, IsUrlOpaqueHost};
@@ -28,8 +29,8 @@ fn is_special_host(host: Option<&Host>, profile: Profile) -> bool
 {
     match host {
         Some(Host::Domain(form)) => is_url_domain(form, profile),
-        Some(Host::V4(_)) => true,
-        Some(Host::V6(_)) => true,
+        Some(Host::V4(value)) => is_ipv4_address(*value),
+        Some(Host::V6(pieces)) => is_ipv6_address(*pieces),
         Some(Host::Opaque(_)) => false,
         Some(Host::Empty) => false,
         None => false,
@@ -46,8 +47,8 @@ fn is_file_host(host: Option<&Host>, profile: Profile) -> bool
             }
             is_url_domain(form, profile)
         }
-        Some(Host::V4(_)) => true,
-        Some(Host::V6(_)) => true,
+        Some(Host::V4(value)) => is_ipv4_address(*value),
+        Some(Host::V6(pieces)) => is_ipv6_address(*pieces),
         Some(Host::Opaque(_)) => false,
         Some(Host::Empty) => true,
         None => false,
@@ -60,11 +61,25 @@ fn is_other_host(host: Option<&Host>) -> bool
     match host {
         Some(Host::Domain(_)) => false,
         Some(Host::V4(_)) => false,
-        Some(Host::V6(_)) => true,
+        Some(Host::V6(pieces)) => is_ipv6_address(*pieces),
         Some(Host::Opaque(text)) => is_url_opaque_host(text),
         Some(Host::Empty) => true,
         None => true,
     }
+}
+
+// Each value of 32 bits is an IPv4 address.
+fn is_ipv4_address(value: u32) -> bool
+    ensures { IsTrue result ↔ IsAddress (Host.V4 value) }
+{
+    true
+}
+
+// Any eight pieces of 16 bits are an IPv6 address.
+fn is_ipv6_address(pieces: [u16; 8]) -> bool
+    ensures { IsTrue result ↔ IsAddress (Host.V6 pieces) }
+{
+    true
 }
 
 fn is_url_domain(form: &Text, profile: Profile) -> bool

@@ -4,8 +4,7 @@ use Rattle.std.specs.Prelude.{slice_index}
 use Rattle.std.proofs.lemmas.Int.Digits.{digits_value-lt}
 use Rattle.std.proofs.lemmas.List.{length-replicate}
 use Rattle.uv_model.specs.declared.host.Host.TheVariants as host
-use Rattle.uv_model.specs.Hosts.Address.{IsGroup, IsGroupList, IsIpv4, IsIpv6, IsSide}
-use Rattle.uv_model.specs.Laws.Addresses.{IsAddress}
+use Rattle.uv_model.specs.Hosts.Address.{IsAddress, IsBracketedIpv6, IsGroup, IsGroupList, IsIpv4, IsIpv6, IsSide}
 use Rattle.uv_model.proofs.Addresses.AddressLemmas.{group_to}
 
 -- an IPv4 text has a value of 32 bits
@@ -82,3 +81,7 @@ ipv6_small text pieces (inr is) =
       (small_append (is.left ++ replicate (8 - length is.left - length is.right) 0) is.right
           (small_append is.left (replicate (8 - length is.left - length is.right) 0) left zeros) right).each,
     )
+
+-- and so has one in brackets
+pub bracketed_small : (text pieces : List ℕ) → IsBracketedIpv6 text pieces → IsAddress (host.V6 pieces)
+bracketed_small text pieces (inner, spelled, is) = ipv6_small inner pieces is

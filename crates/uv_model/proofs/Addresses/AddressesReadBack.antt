@@ -6,8 +6,8 @@ use Rattle.std.specs.Net.Text.{ipv4_text, hex_groups_text}
 use Rattle.std.proofs.NetLemmas.Texts.{IsColonHex-hex_groups_text}
 use Rattle.uv_model.specs.declared.host.Host.{Host}
 use Rattle.uv_model.specs.declared.host.Host.TheVariants.{V4, V6}
-use Rattle.uv_model.specs.Hosts.Address.{IsIpv4, IsBracketedIpv6}
-use Rattle.uv_model.specs.Laws.Addresses.{IsAddress, DenotesAddress, AddressesAreReadBack}
+use Rattle.uv_model.specs.Hosts.Address.{IsAddress, IsIpv4, IsBracketedIpv6}
+use Rattle.uv_model.specs.Laws.Addresses.{DenotesAddress, AddressesAreReadBack}
 use Rattle.uv_model.specs.Records.Serialize.{serial_ipv4, serial_host}
 use Rattle.uv_model.proofs.Addresses.AddressLemmas.{ipv6_from_colon_hex}
 use Rattle.uv_model.proofs.Addresses.AddressUniqueness.{ipv4_unique, bracketed_unique, ipv4_no_bracket, bracketed_bracket}

@@ -1,5 +1,5 @@
 -- Authorities: the host, the port and the path that stand behind `//` in a valid text make a well-formed record.
-use Rattle.std.proofs.Common.{◌≡◌, ℕ, true, false, List, [], ◌∷◌, Option, Some, None, refl, sym, ap, subst, ◌∙◌, inl, inr}
+use Rattle.std.proofs.Common.{◌≡◌, ℕ, true, false, List, [], ◌∷◌, Option, Some, None, refl, sym, ap, subst, ◌∙◌, inl, inr, arith}
 use Rattle.std.specs.Str.Parse.{digits_value}
 use Rattle.std.proofs.lemmas.Bool.{cases_Bool}
 use Rattle.uv_model.specs.declared.profile.Profile.{Profile}
@@ -14,8 +14,9 @@ use Rattle.uv_model.specs.Parts.{Parts}
 use Rattle.uv_model.specs.Path.{MayBePathSlashed, AreSegments, JoinsTo, walk}
 use Rattle.uv_model.specs.Scheme.{default_port, scheme_class}
 use Rattle.uv_model.specs.Setting.{Setting}
-use Rattle.uv_model.specs.Valid.{FitsAuthority, IsFileHostText, IsHostText, IsOpaqueHostText, is_default_port, port_given}
+use Rattle.uv_model.specs.Valid.{FitsAuthority, IsFileHostText, IsHostText, IsOpaqueHostText, MayBePortText, is_default_port, port_given}
 use Rattle.uv_model.specs.Records.WellFormed.{AreUrlSegments, IsOtherHost, IsUrlHost, IsUrlPath, IsUrlPort, takes_port}
+use Rattle.uv_model.proofs.Addresses.AddressSizes.{bracketed_small, ipv4_small}
 use Rattle.uv_model.proofs.Paths.SlashedPaths.{slashed_behind, slashed_or_none}
 use Rattle.uv_model.proofs.Paths.WalkLemmas.{AreUrlSegments-walk, HasSegment, HasSegment-walk}
 use Rattle.uv_model.proofs.Records.WellFormedLemmas.{IsUrlDomain-form, IsUrlOpaqueHost-encoded, IsUrlSegment-nil}
@@ -23,14 +24,14 @@ use Rattle.uv_model.proofs.Records.WellFormedLemmas.{IsUrlDomain-form, IsUrlOpaq
 -- ---- ports
 
 -- the port that a text gives behind a host
-pub IsUrlPort-given : (scheme : List ℕ) (host : Option Host) (port_text : Option (List ℕ))
+pub IsUrlPort-given : (scheme : List ℕ) (host : Option Host) (port_text : Option (List ℕ)) → MayBePortText port_text
     → takes_port (scheme_class scheme) host ≡ true → IsUrlPort scheme host (port_given (default_port scheme) port_text)
-IsUrlPort-given scheme host None takes = tt
-IsUrlPort-given scheme host (Some []) takes = tt
-IsUrlPort-given scheme host (Some (digit ∷ rest)) takes =
+IsUrlPort-given scheme host None is takes = tt
+IsUrlPort-given scheme host (Some []) is takes = tt
+IsUrlPort-given scheme host (Some (digit ∷ rest)) is takes =
     elim (cases_Bool (is_default_port scheme (digits_value 10 (digit ∷ rest)))) [
       | inl default ↦ rw default tt
-      | inr other ↦ rw other (takes, other)
+      | inr other ↦ rw other (takes, other, omega (arith, is.range))
     ]
 
 -- schemes of one default port give one port
@@ -89,8 +90,8 @@ AreSegments-maybe segments text (inr path) = path.joins.each
 IsUrlHost-special : (profile : Profile) (text : List ℕ) (value : Host) → IsHostText profile text value
     → IsUrlHost profile Special (Some value)
 IsUrlHost-special profile text (Domain form) is = IsUrlDomain-form profile text form is
-IsUrlHost-special profile text (V4 value) is = tt
-IsUrlHost-special profile text (V6 pieces) is = tt
+IsUrlHost-special profile text (V4 value) is = ipv4_small text value is
+IsUrlHost-special profile text (V6 pieces) is = bracketed_small text pieces is
 IsUrlHost-special profile text (Opaque host) is = is
 IsUrlHost-special profile text Empty is = is
 
@@ -107,8 +108,8 @@ takes_port-special profile text Empty is = absurd is
 IsUrlHost-file : (profile : Profile) (text : List ℕ) (value : Host) → IsFileHostText profile text value
     → IsUrlHost profile File (Some value)
 IsUrlHost-file profile text (Domain form) is = (IsUrlDomain-form profile text form is.0, is.1)
-IsUrlHost-file profile text (V4 value) is = tt
-IsUrlHost-file profile text (V6 pieces) is = tt
+IsUrlHost-file profile text (V4 value) is = ipv4_small text value is
+IsUrlHost-file profile text (V6 pieces) is = bracketed_small text pieces is
 IsUrlHost-file profile text (Opaque host) is = is
 IsUrlHost-file profile text Empty is = tt
 
@@ -143,7 +144,7 @@ IsAuthority-special setting scheme text parts kind default fits =
       value = fits.value;
       valued = authority_host-valued parts fits.value fits.valued;
       host = IsUrlHost-special setting.profile text fits.value fits.host;
-      port = rw (fits.port, default) (IsUrlPort-given scheme (Some fits.value) parts.port_text takes);
+      port = rw (fits.port, default) (IsUrlPort-given scheme (Some fits.value) parts.port_text fits.port_text takes);
       each =
           AreSegments-maybe parts.segments parts.path_text
           (slashed_or_none setting.profile parts.segments parts.path_text fits.path);
@@ -183,7 +184,12 @@ IsOtherValue-text : (text : List ℕ) (parts : Parts) (host : Option Host) → p
     → parts.host_text ≡ Some text
     → IsOpaqueHostText text host → IsOtherValue parts
 IsOtherValue-text text parts (Some (V6 pieces)) e spelled is =
-    record { value = V6 pieces; valued = authority_host-valued parts (V6 pieces) e; host = tt; takes = refl }
+    record {
+      value = V6 pieces;
+      valued = authority_host-valued parts (V6 pieces) e;
+      host = bracketed_small text pieces is;
+      takes = refl;
+    }
 IsOtherValue-text text parts (Some (Domain form)) e spelled is = absurd is
 IsOtherValue-text text parts (Some (V4 value)) e spelled is = absurd is
 IsOtherValue-text text parts (Some (Opaque host)) e spelled is = absurd is
@@ -214,7 +220,7 @@ IsAuthority-other setting scheme text parts kind default spelled (host, given, p
             valued = other.valued;
             host = other.host;
             port = subst (λ (p : Option ℕ). IsUrlPort scheme (Some other.value) p) (sym port)
-                (IsUrlPort-given scheme (Some other.value) parts.port_text takes);
+                (IsUrlPort-given scheme (Some other.value) parts.port_text named.1 takes);
             each = each;
           }
       | inr empty ↦ record {

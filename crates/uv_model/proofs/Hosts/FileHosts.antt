@@ -1,5 +1,5 @@
 -- The host of a file URL, where the domain `localhost` is the empty host.
-use Rattle.std.proofs.Common.{◌≡◌, ℕ, List, subst, inl, inr}
+use Rattle.std.proofs.Common.{ℕ, List, subst, inl, inr}
 use Rattle.std.specs.Prelude.{codes}
 use Rattle.std.specs.Str.{bytes_eq}
 use Rattle.std.proofs.lemmas.Bool.{cases_Bool}

@@ -132,7 +132,7 @@ pub IsUrlPort-same : (scheme other : List ℕ) (host : Option Host) (port : Opti
     → scheme_class scheme ≡ scheme_class other
     → default_port scheme ≡ default_port other → IsUrlPort other host port → IsUrlPort scheme host port
 IsUrlPort-same scheme other host None class default is = tt
-IsUrlPort-same scheme other host (Some port) class default is = (rw class is.0, rw default is.1)
+IsUrlPort-same scheme other host (Some port) class default is = (rw class is.0, rw default is.1, is.2)
 
 -- what stands behind `//`, by the host text
 IsAuthority-has : (profile : Profile) (base : Option Url) (parts : Parts) (text : Option (List ℕ))

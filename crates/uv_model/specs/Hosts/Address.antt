@@ -1,9 +1,11 @@
 -- The texts of IPv4 and IPv6 addresses, after the URL Standard, section 3.4, and RFC 4291, section 2.2.
-use Rattle.std.specs.Prelude.{◌≡◌, ℕ, ◌+◌, ◌-◌, ◌*◌, ◌<◌, ◌≤◌, ◌⊎◌, Bool, true, false, List, [], ◌∷◌, ◌++◌, length, replicate, codes, decimal, Option, MatchOption, ◌↔◌}
+use Rattle.std.specs.Prelude.{◌≡◌, ℕ, ◌+◌, ◌-◌, ◌*◌, ◌^◌, ◌<◌, ◌≤◌, ◌⊎◌, Bool, true, false, List, [], ◌∷◌, ◌++◌, length, replicate, slice_index, codes, decimal, Option, MatchOption, ◌↔◌}
 use Rattle.std.specs.List.{list_all}
 use Rattle.std.specs.Char.{is_ascii_hexdigit}
 use Rattle.std.specs.Str.Parse.{digits_value}
 use Rattle.std.specs.Net.Grammar.{IsDotted, IsColonHex}
+use Rattle.uv_model.specs.declared.host.Host.{Host}
+use Rattle.uv_model.specs.declared.host.Host.TheVariants.{V4, V6}
 use Rattle.uv_model.specs.Ascii.{colon, left_bracket, right_bracket}
 
 -- ---- IPv4
@@ -67,6 +69,14 @@ IsIpv6 text pieces = (IsGroupList true text pieces × (length pieces ≡ 8)) ⊎
 abbrev pub IsBracketedIpv6 : List ℕ → List ℕ → Type 0
 IsBracketedIpv6 text pieces =
     (inner : List ℕ) × (text ≡ left_bracket ∷ (inner ++ right_bracket ∷ [])) × IsIpv6 inner pieces
+
+-- ---- the sizes of the values
+
+-- an address of the right size: a value of 32 bits, or eight pieces of 16 bits
+abbrev pub IsAddress : Host → Type 0
+IsAddress (V4 value) = value < 2 ^ 32
+IsAddress (V6 pieces) = (length pieces ≡ 8) × ((k : ℕ) → slice_index pieces k < 2 ^ 16)
+IsAddress _ = ⊥
 
 -- ---- what a reader answers, and the library's grammar
 

@@ -1,15 +1,9 @@
 -- What the host serializer (URL Standard, section 3.6) writes for an address is read as that address.
-use Rattle.std.specs.Prelude.{◌≡◌, ℕ, ◌<◌, ◌^◌, List, length, slice_index}
+use Rattle.std.specs.Prelude.{◌≡◌, ℕ, List}
 use Rattle.uv_model.specs.declared.host.Host.{Host}
 use Rattle.uv_model.specs.declared.host.Host.TheVariants.{V4, V6}
-use Rattle.uv_model.specs.Hosts.Address.{IsIpv4, IsBracketedIpv6}
+use Rattle.uv_model.specs.Hosts.Address.{IsAddress, IsIpv4, IsBracketedIpv6}
 use Rattle.uv_model.specs.Records.Serialize.{serial_host}
-
--- an address of the right size: a value of 32 bits, or eight pieces of 16 bits
-abbrev pub IsAddress : Host → Type 0
-IsAddress (V4 value) = value < 2 ^ 32
-IsAddress (V6 pieces) = (length pieces ≡ 8) × ((k : ℕ) → slice_index pieces k < 2 ^ 16)
-IsAddress _ = ⊥
 
 -- the text is an IPv4 text of the value, or an IPv6 text of the pieces in brackets
 abbrev pub DenotesAddress : List ℕ → Host → Type 0

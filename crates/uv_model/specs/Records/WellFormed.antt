@@ -1,5 +1,5 @@
 -- Well-formed records: what the URL Standard, section 4.1, asks of a URL, and what the texts of each profile give.
-use Rattle.std.specs.Prelude.{◌≡◌, ◌≢◌, ℕ, Bool, true, false, not, List, [], ◌∷◌, codes, Option, Some, None}
+use Rattle.std.specs.Prelude.{◌≡◌, ◌≢◌, ℕ, ◌<◌, ◌^◌, Bool, true, false, not, List, [], ◌∷◌, codes, Option, Some, None}
 use Rattle.std.specs.List.{list_all}
 use Rattle.std.specs.Char.{is_ascii, is_ascii_uppercase}
 use Rattle.uv_model.specs.declared.profile.Profile.{Profile}
@@ -11,6 +11,7 @@ use Rattle.uv_model.specs.declared.host.Host.TheVariants as host
 use Rattle.uv_model.specs.declared.path.UrlPath.{UrlPath}
 use Rattle.uv_model.specs.declared.path.UrlPath.TheVariants.{Opaque, Segments}
 use Rattle.uv_model.specs.Ascii.{question_mark, apostrophe}
+use Rattle.uv_model.specs.Hosts.Address.{IsAddress}
 use Rattle.uv_model.specs.Hosts.Domain.{ends_in_number, is_form_code_point}
 use Rattle.uv_model.specs.Hosts.OpaqueHost.{IsOpaqueHost}
 use Rattle.uv_model.specs.Path.{IsSegment, is_without, starts_with_slash, is_single_dot, is_double_dot}
@@ -54,15 +55,15 @@ pub record IsUrlOpaqueHost (text : List ℕ) : Type 0 where
 -- the host of a URL of class Special: a domain or an address
 abbrev pub IsSpecialHost : Profile → Option Host → Type 0
 IsSpecialHost profile (Some (host.Domain form)) = IsUrlDomain profile form
-IsSpecialHost profile (Some (host.V4 value)) = Unit {0}
-IsSpecialHost profile (Some (host.V6 pieces)) = Unit {0}
+IsSpecialHost profile (Some (host.V4 value)) = IsAddress (host.V4 value)
+IsSpecialHost profile (Some (host.V6 pieces)) = IsAddress (host.V6 pieces)
 IsSpecialHost profile _ = ⊥
 
 -- the host of a file URL: a domain but `localhost`, an address, or the empty host
 abbrev pub IsFileHost : Profile → Option Host → Type 0
 IsFileHost profile (Some (host.Domain form)) = IsUrlDomain profile form × (form ≢ codes "localhost")
-IsFileHost profile (Some (host.V4 value)) = Unit {0}
-IsFileHost profile (Some (host.V6 pieces)) = Unit {0}
+IsFileHost profile (Some (host.V4 value)) = IsAddress (host.V4 value)
+IsFileHost profile (Some (host.V6 pieces)) = IsAddress (host.V6 pieces)
 IsFileHost profile (Some host.Empty) = Unit {0}
 IsFileHost profile _ = ⊥
 
@@ -70,7 +71,7 @@ IsFileHost profile _ = ⊥
 abbrev pub IsOtherHost : Option Host → Type 0
 IsOtherHost None = Unit {0}
 IsOtherHost (Some (host.Opaque text)) = IsUrlOpaqueHost text
-IsOtherHost (Some (host.V6 pieces)) = Unit {0}
+IsOtherHost (Some (host.V6 pieces)) = IsAddress (host.V6 pieces)
 IsOtherHost (Some host.Empty) = Unit {0}
 IsOtherHost _ = ⊥
 
@@ -87,11 +88,11 @@ takes_port _ None = false
 takes_port _ (Some host.Empty) = false
 takes_port _ (Some _) = true
 
--- no port, or one behind a host that isn't the scheme's default
+-- no port, or one of 16 bits behind a host that isn't the scheme's default
 abbrev pub IsUrlPort : List ℕ → Option Host → Option ℕ → Type 0
 IsUrlPort scheme host None = Unit {0}
 IsUrlPort scheme host (Some port) =
-    (takes_port (scheme_class scheme) host ≡ true) × (is_default_port scheme port ≡ false)
+    (takes_port (scheme_class scheme) host ≡ true) × (is_default_port scheme port ≡ false) × (port < 2 ^ 16)
 
 -- an opaque path: ASCII units without `?` that don't begin with `/`
 pub record IsUrlOpaquePath (text : List ℕ) : Type 0 where

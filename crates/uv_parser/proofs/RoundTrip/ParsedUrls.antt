@@ -16,12 +16,12 @@ use Rattle.uv_parser.specs.HostParser.{IsTakenOtherHost}
 use Rattle.uv_model.specs.Parts.{Form, Parts, SchemeAuthority, SchemePath, SchemeOpaque, Authority, PathAbsolute, PathRelative, NoPath, has_scheme}
 use Rattle.uv_parser.specs.SilentTexts.{Silent, Takes, TakesAuthority, TakesHostText}
 use Rattle.uv_model.specs.Path.{AreSegments, IsPathAbsolute, MayBePathSlashed}
-use Rattle.uv_parser.specs.Laws.RoundTrip.{IsReadable, IsReadableFileHost, IsReadableHost, IsReadableSpecialHost, MayBePortNumber, MayBeStable, ParsedUrlsAreReadBack}
+use Rattle.uv_parser.specs.Laws.RoundTrip.{IsReadable, IsReadableFileHost, IsReadableHost, IsReadableSpecialHost, MayBeStable, ParsedUrlsAreReadBack}
 use Rattle.uv_parser.specs.Run.{Done, run, step_bound}
 use Rattle.uv_model.specs.Setting.{setting_of}
 use Rattle.uv_model.specs.Scheme.{default_port, scheme_class}
 use Rattle.uv_model.specs.Records.Url.{Url}
-use Rattle.uv_model.specs.Valid.{FitsBase, FitsForm, FitsScheme, MayBeUnits, port_given, scheme_in, without_localhost}
+use Rattle.uv_model.specs.Valid.{FitsBase, FitsForm, FitsScheme, MayBePortText, MayBeUnits, port_given, scheme_in, without_localhost}
 use Rattle.uv_model.specs.Records.WellFormed.{IsUrlPath, IsUrlPort, IsUrlQuery, IsUrlScheme, MayBeWellFormed, takes_port}
 use Rattle.uv_model.proofs.Cuts.AuthorityLemmas.{IsUrlPath-authority, IsUrlPort-given}
 use Rattle.uv_parser.proofs.Done.Decided.{takes_form}
@@ -33,7 +33,6 @@ use Rattle.uv_parser.proofs.HostParsing.OtherHosts.{silent_other_hosts_are_valid
 use Rattle.uv_parser.proofs.HostParsing.OtherHostsTaken.{other_hosts_are_taken}
 use Rattle.uv_parser.proofs.RoundTrip.ParsedHosts.{other_readable, other_takes_port, special_readable}
 use Rattle.uv_parser.proofs.RoundTrip.RoundTripLemmas.{denoted_is_stable, readable_url, readable_urls_are_read_back}
-use Rattle.uv_parser.proofs.RoundTrip.StableHosts.{port_small}
 use Rattle.uv_model.proofs.Records.WellFormedLemmas.{IsUrlFragment-encoded}
 
 -- ---- the host and the port of an authority
@@ -44,7 +43,6 @@ record IsParsedAuthority (kind : Class) (scheme : List ℕ) (parts : Parts) : Ty
   valued : authority_host parts ≡ Some value
   host : IsReadableHost kind (Some value)
   port : IsUrlPort scheme (Some value) parts.port
-  number : MayBePortNumber parts.port
 
 -- a port may follow a special URL's host
 takes_port-special : (value : Host) → IsReadableSpecialHost (Some value) → takes_port Special (Some value) ≡ true
@@ -71,10 +69,10 @@ file_readable host.Empty is = absurd is
 -- the port behind the host of a URL of class Other
 other_port : (scheme host_text : List ℕ) (value : Host) (port_text : Option (List ℕ)) → scheme_class scheme ≡ Other
     → IsTakenOtherHost host_text value → (host_text ≡ [] → port_text ≡ None)
-    → IsUrlPort scheme (Some value) (port_given (default_port scheme) port_text)
-other_port scheme [] value port_text kind taken alone = rw (alone refl) tt
-other_port scheme (c ∷ rest) value port_text kind taken alone =
-    IsUrlPort-given scheme (Some value) port_text
+    → MayBePortText port_text → IsUrlPort scheme (Some value) (port_given (default_port scheme) port_text)
+other_port scheme [] value port_text kind taken alone valid = rw (alone refl) tt
+other_port scheme (c ∷ rest) value port_text kind taken alone valid =
+    IsUrlPort-given scheme (Some value) port_text valid
     (rw kind (other_takes_port (c ∷ rest) value taken (λ nothing. cc)))
 
 -- by the class
@@ -88,8 +86,8 @@ parsed_authority Special scheme host_text parts kind text is =
       host = readable;
       port =
           rw is.port
-          (IsUrlPort-given scheme (Some is.value) parts.port_text (rw kind (takes_port-special is.value readable)));
-      number = rw is.port (port_small (default_port scheme) parts.port_text is.port_text);
+          (IsUrlPort-given scheme (Some is.value) parts.port_text is.port_text
+          (rw kind (takes_port-special is.value readable)));
     }
 parsed_authority File scheme host_text parts kind text is =
     elim is.host [
@@ -98,14 +96,12 @@ parsed_authority File scheme host_text parts kind text is =
         valued = rw valued refl;
         host = rw taken.valued (file_readable taken.host (special_readable host_text taken.host taken.parsed));
         port = rw is.no_port tt;
-        number = rw is.no_port tt;
       }
       | inr (nothing, valued) ↦ record {
         value = host.Empty;
         valued = rw valued refl;
         host = tt;
         port = rw is.no_port tt;
-        number = rw is.no_port tt;
       }
     ]
 parsed_authority Other scheme host_text parts kind text is =
@@ -115,8 +111,7 @@ parsed_authority Other scheme host_text parts kind text is =
       value = value;
       valued = sym (other_valued parts host_text value text parsed valued);
       host = other_readable host_text value taken;
-      port = rw is.port (other_port scheme host_text value parts.port_text kind taken is.alone);
-      number = rw is.port (port_small (default_port scheme) parts.port_text is.port_text);
+      port = rw is.port (other_port scheme host_text value parts.port_text kind taken is.alone is.port_text);
     }
 
 -- by the host text
@@ -167,7 +162,6 @@ with_authority base text form parts silent takes scheme other =
           subst (λ (k : Class). IsReadableHost k (authority_host parts)) same
           (subst (λ (h : Option Host). IsReadableHost kind h) (sym is.valued) is.host);
       port = subst (λ (h : Option Host). IsUrlPort name h parts.port) (sym is.valued) port;
-      port_number = is.number;
       path =
           subst (λ (k : Class). IsUrlPath k (authority_host parts) path) same
           (subst (λ (h : Option Host). IsUrlPath kind h path) (sym is.valued)

@@ -77,7 +77,7 @@ silent_on scheme (Some value) port (Opaque text) query fragment well =
     absurd (let none : Some value ≡ None = well.path.1 in cc)
 silent_on scheme (Some value) port (Segments segments) query fragment well =
     authority_read scheme value port segments query fragment well.scheme well.host well.port
-    well.port_number well.path well.query well.fragment
+    well.path well.query well.fragment
 
 -- each readable URL is read back
 pub readable_urls_are_read_back : ReadableUrlsAreReadBack
@@ -114,7 +114,6 @@ readable_url url well stable = record {
   scheme = well.scheme;
   host = readable_host (scheme_class url.scheme) url.host well.host stable.host;
   port = well.port;
-  port_number = stable.port;
   path = well.path;
   query = well.query;
   fragment = well.fragment;

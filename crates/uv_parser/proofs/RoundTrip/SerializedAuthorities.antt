@@ -15,7 +15,7 @@ use Rattle.uv_model.specs.Records.Denote.{authority_host, authority_path, denote
 use Rattle.uv_model.specs.Parts.{Parts, SchemeAuthority, written, written_behind}
 use Rattle.uv_parser.specs.SilentTexts.{Silent, Takes}
 use Rattle.uv_parser.specs.Laws.OtherHosts.{own_value}
-use Rattle.uv_parser.specs.Laws.RoundTrip.{IsReadableHost, MayBePortNumber}
+use Rattle.uv_parser.specs.Laws.RoundTrip.{IsReadableHost}
 use Rattle.uv_model.specs.Scheme.{default_port, scheme_class}
 use Rattle.uv_model.specs.Records.Serialize.{serial, serial_host, serial_port, serial_segments}
 use Rattle.uv_model.specs.Records.Url.{Url}
@@ -98,11 +98,11 @@ record PortFits (kind : Class) (scheme : List ℕ) (value : Host) (port : Option
 
 -- the port of a URL with its text
 port_fits : (scheme : List ℕ) (value : Host) (port : Option ℕ) → IsUrlPort scheme (Some value) port
-    → MayBePortNumber port → PortFits (scheme_class scheme) scheme value port
-port_fits scheme value None is small = record { text = tt; given = refl; taken = inl refl }
-port_fits scheme value (Some port) is small = record {
-  text = port_text-decimal port small;
-  given = sym (port_given-decimal scheme port small is.1);
+    → PortFits (scheme_class scheme) scheme value port
+port_fits scheme value None is = record { text = tt; given = refl; taken = inl refl }
+port_fits scheme value (Some port) is = record {
+  text = port_text-decimal port is.2;
+  given = sym (port_given-decimal scheme port is.2 is.1);
   taken = inr is.0;
 }
 
@@ -225,7 +225,7 @@ host_denoted Other (host.Opaque name) is parts own text =
 module _ (scheme : List ℕ) (value : Host) (port : Option ℕ) (segments : List (List ℕ))
     (query fragment : Option (List ℕ))
     (is : IsUrlScheme scheme) (host_is : IsReadableHost (scheme_class scheme) (Some value))
-    (port_is : IsUrlPort scheme (Some value) port) (small : MayBePortNumber port)
+    (port_is : IsUrlPort scheme (Some value) port)
     (path_is : IsUrlPath (scheme_class scheme) (Some value) (Segments segments))
     (query_is : IsUrlQuery (scheme_class scheme) query) (fragment_is : IsUrlFragment fragment) where
   -- the parts of its text
@@ -242,7 +242,7 @@ module _ (scheme : List ℕ) (value : Host) (port : Option ℕ) (segments : List
 
   -- its port
   fits : PortFits (scheme_class scheme) scheme value port
-  fits = port_fits scheme value port port_is small
+  fits = port_fits scheme value port port_is
 
   -- its path
   slashed : MayBePathSlashed segments (serial_segments segments)

@@ -11,11 +11,10 @@ use Rattle.uv_model.specs.declared.host.Host.{Host}
 use Rattle.uv_model.specs.declared.host.Host.TheVariants as host
 use Rattle.uv_model.specs.declared.scheme.Class.{Class}
 use Rattle.uv_model.specs.declared.scheme.Class.TheVariants.{Special, File, Other}
-use Rattle.uv_model.specs.Hosts.Address.{IsBracketedIpv6, IsIpv4}
+use Rattle.uv_model.specs.Hosts.Address.{IsAddress, IsBracketedIpv6, IsIpv4}
 use Rattle.uv_model.specs.Ascii.{at_sign, backslash, colon, vertical_bar}
 use Rattle.uv_model.specs.Hosts.OpaqueHost.{is_forbidden_host}
 use Rattle.uv_parser.specs.HostParser.{is_forbidden_domain, parse_host}
-use Rattle.uv_model.specs.Laws.Addresses.{IsAddress}
 use Rattle.uv_parser.specs.SilentTexts.{IsTakenFileHost, IsTakenHost}
 use Rattle.uv_model.specs.Path.{is_drive_letter, is_without}
 use Rattle.uv_parser.specs.Laws.RoundTrip.{IsReadableFileHost, IsReadableHost, IsReadableOtherHost, IsReadableSpecialHost, IsStableHost}

@@ -9,7 +9,7 @@ use Rattle.uv_model.specs.declared.host.Host.{Host}
 use Rattle.uv_model.specs.declared.host.Host.TheVariants.{Domain, V4, V6, Opaque, Empty}
 use Rattle.uv_model.specs.Records.Denote.{denote}
 use Rattle.uv_parser.specs.HostParser.{parse_host}
-use Rattle.uv_model.specs.Laws.Addresses.{IsAddress}
+use Rattle.uv_model.specs.Hosts.Address.{IsAddress}
 use Rattle.uv_model.specs.Parts.{Parts}
 use Rattle.uv_parser.specs.Run.{Done, run, step_bound}
 use Rattle.uv_model.specs.Scheme.{scheme_class}
@@ -84,7 +84,6 @@ pub record IsReadable (url : Url) : Type 0 where
   pub scheme : IsUrlScheme url.scheme
   pub host : IsReadableHost (scheme_class url.scheme) url.host
   pub port : IsUrlPort url.scheme url.host url.port
-  pub port_number : MayBePortNumber url.port
   pub path : IsUrlPath (scheme_class url.scheme) url.host url.path
   pub query : IsUrlQuery (scheme_class url.scheme) url.query
   pub fragment : IsUrlFragment url.fragment
