@@ -12,5 +12,5 @@ pub mod Valid
 pub mod Cut
 pub mod Complaints
 pub mod Records
-pub mod Device
+pub mod Devices
 pub mod Laws

@@ -1,17 +1,15 @@
 //! The definitions of valid URL strings and of the URL parser, the records, and the devices.
 #![tactic(auto)]
 
-mod adapters;
 mod ascii_units;
 mod code_points;
-mod device;
+mod devices;
 mod domain;
 mod host;
 pub mod laws;
 mod opaque_host;
 mod path;
 mod profile;
-mod readers;
 mod record;
 mod rule;
 mod scheme;
@@ -23,15 +21,15 @@ mod url_hosts;
 mod url_paths;
 mod well_formedness;
 
-pub use adapters::ToWriter;
 pub use code_points::{first_code_point, starts_with_two_hex};
-pub use device::{DeviceFault, Sink, Source, write_whole};
+pub use devices::{
+    DeviceFault, FromReader, ScriptSink, ScriptSource, Sink, Source, ToWriter, write_whole,
+};
 pub use domain::{ends_in_number, is_domain_mark};
 pub use host::Host;
 pub use opaque_host::is_forbidden_host;
 pub use path::UrlPath;
 pub use profile::Profile;
-pub use readers::FromReader;
 pub use record::Record;
 pub use rule::{Refusal, Rule};
 pub use scheme::{Class, class_of, default_port, is_name};

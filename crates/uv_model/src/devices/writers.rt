@@ -1,7 +1,7 @@
 //! The standard library's writers as devices.
 ghost use Rattle.std.specs.Prelude.{◌≡◌, ℕ, ◌+◌, ◌^◌, ◌<◌};
 
-use crate::device::{DeviceFault, Sink};
+use crate::devices::device::{DeviceFault, Sink};
 use std::io::Write;
 use std::marker::Model;
 

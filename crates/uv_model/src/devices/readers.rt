@@ -1,7 +1,7 @@
 //! The standard library's readers as devices.
 ghost use Rattle.std.specs.Prelude.{◌≡◌, ℕ, ◌+◌, ◌^◌, ◌<◌};
 
-use crate::device::{DeviceFault, Source};
+use crate::devices::device::{DeviceFault, Source};
 use std::io::Read;
 use std::marker::Model;
 

@@ -1,0 +1,16 @@
+//! Devices: what the inputs of this product are read from, and what its outputs are written to.
+
+mod device;
+mod readers;
+mod script_sink;
+mod script_source;
+mod writers;
+
+pub use device::{DeviceFault, Sink, Source, write_whole};
+pub use readers::FromReader;
+pub use script_sink::ScriptSink;
+pub use script_source::ScriptSource;
+pub use writers::ToWriter;
+
+#[cfg(test)]
+mod tests;
