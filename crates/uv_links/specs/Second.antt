@@ -3,6 +3,9 @@ use Rattle.std.specs.Prelude.{◌≡◌, ◌≢◌, ℕ, List, Option, Some, Non
 use Rattle.url.specs.Parser.{parse_url}
 use Rattle.url.specs.Parts.{Parts, serialize}
 use Rattle.url.specs.declared.error.ParseError.{ParseError}
+use Rattle.url.specs.declared.error.ParseError.TheVariants as error
+use Rattle.uv_links.specs.declared.fault.LinkFault.{LinkFault}
+use Rattle.uv_links.specs.declared.fault.LinkFault.TheVariants as fault
 use Rattle.uv_model.specs.Records.Serialize.{serial}
 use Rattle.uv_model.specs.Records.Url.{Url}
 
@@ -38,3 +41,9 @@ abbrev pub IsReadAs : Option Parts → List ℕ → List ℕ → Option Parts �
 IsReadAs base text written None = text_against base text ≢ Some written
 IsReadAs base text written (Some url) =
     (parsed (parse_url base text) ≡ Some url) × (text_against base text ≡ Some written) × (second_serial url ≡ written)
+
+-- the fault that its error stands for: want of memory, and a text longer than its own can be; every other error refuses the text
+abbrev pub room_fault : ParseError → Option LinkFault
+room_fault error.OutOfMemory = Some fault.Memory
+room_fault error.Overflow = Some fault.Overflow
+room_fault _ = None

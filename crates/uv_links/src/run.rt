@@ -92,11 +92,9 @@ fn run_pieces<R: Source, W: Sink>(
     ensures report { IfOk result (λ counts. (read : List ℕ)
         × Consumes (R.remaining reader.old) (R.remaining reader.new) read × IsAtEnd (R.remaining reader.new)
         × Reports progress.old.judge progress.old.most (W.contents writer.old) read counts (W.contents writer.new)) }
-    ensures fault { IfErr result (λ e. (read : List ℕ)
-        × Consumes (R.remaining reader.old) (R.remaining reader.new) read
-        × Leaves e progress.old.judge progress.old.most (W.contents writer.old) read
-        (IsAtEnd (R.remaining reader.new)) (W.contents writer.new)
-        × (R.failed reader.new ≡ R.failed reader.old + reads_failed e)
+    ensures fault { IfErr result (λ e. (read : List ℕ) × Consumes (R.remaining reader.old) (R.remaining reader.new) read
+        × Leaves e progress.old.judge progress.old.most (W.contents writer.old) read (IsAtEnd (R.remaining reader.new))
+        (W.contents writer.new) × (R.failed reader.new ≡ R.failed reader.old + reads_failed e)
         × (W.failed writer.new ≡ W.failed writer.old + writes_failed e)) }
     ensures quiet { OnOk result ((R.failed reader.new ≡ R.failed reader.old)
         × (W.failed writer.new ≡ W.failed writer.old)) }

@@ -2,7 +2,7 @@
 ghost use Rattle.std.specs.Prelude.{◌≡◌, IfOk, IfErr, option_copied};
 ghost use Rattle.url.specs.Parser.{Gives, parse_url};
 ghost use Rattle.uv_links.specs.Fault.{IsWantOfRoom};
-ghost use Rattle.uv_links.specs.Second.{IsReadAs, parsed};
+ghost use Rattle.uv_links.specs.Second.{IsReadAs, parsed, room_fault};
 
 use crate::fault::LinkFault;
 use std::alloc::Global;
@@ -36,9 +36,21 @@ fn second_url(alloc: Global, base: Option<&Url>, text: &str) -> Result<Option<Ur
 {
     match parse(alloc, base, text) {
         Ok(url) => Ok(Some(url)),
-        Err(ParseError::OutOfMemory) => Err(LinkFault::Memory),
-        Err(ParseError::Overflow) => Err(LinkFault::Overflow),
-        Err(_) => Ok(None),
+        Err(error) => match room_fault(error) {
+            Some(fault) => Err(fault),
+            None => Ok(None),
+        },
+    }
+}
+
+// The fault that the second parser's error stands for; none where it refuses the text.
+fn room_fault(error: ParseError) -> Option<LinkFault>
+    ensures { result ≡ room_fault error }
+{
+    match error {
+        ParseError::OutOfMemory => Some(LinkFault::Memory),
+        ParseError::Overflow => Some(LinkFault::Overflow),
+        _ => None,
     }
 }
 
