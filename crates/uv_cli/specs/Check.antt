@@ -20,7 +20,8 @@ use Rattle.uv_cli.specs.CheckText.{check_text, refused_text}
 -- the line of its refusal. On a valid text the URL parser is silent, and gives the URL that is denoted.
 abbrev pub Says : Profile → Option Url → List ℕ → CheckEnd → List ℕ → Type 0
 Says profile base text check.Valid whole =
-    (parts : Parts) × Valid profile base text parts × RunsSilently base text parts × (whole ≡ check_text (denote base parts))
+    (parts : Parts) × Valid profile base text parts × RunsSilently base text parts
+    × (whole ≡ check_text (denote base parts))
 Says profile base text check.Refused whole =
     (refusal : Refusal) × IsRefused profile base text refusal × (whole ≡ refused_text refusal)
 Says profile base text (check.BaseRefused refusal) whole = ⊥
@@ -28,7 +29,8 @@ Says profile base text (check.BaseRefused refusal) whole = ⊥
 -- the base: none, or the URL that its text denotes alone
 abbrev pub IsBase : Profile → Option (Bor (List ℕ)) → Option Url → Type 0
 IsBase profile None base = base ≡ None
-IsBase profile (Some text) base = (parts : Parts) × Valid profile None (chars text.now) parts × (base ≡ Some (denote None parts))
+IsBase profile (Some text) base =
+    (parts : Parts) × Valid profile None (chars text.now) parts × (base ≡ Some (denote None parts))
 
 -- the base's text is refused alone by this refusal
 abbrev pub IsBaseRefused : Profile → Option (Bor (List ℕ)) → Refusal → Type 0
@@ -36,14 +38,16 @@ IsBaseRefused profile None refusal = ⊥
 IsBaseRefused profile (Some text) refusal = IsRefused profile None (chars text.now) refusal
 
 -- the whole of what is said of the text was written
-pub record WritesWhole (profile : Profile) (base : Option Url) (text : List ℕ) (end : CheckEnd) (old new : Option (List ℕ))
+pub record WritesWhole (profile : Profile) (base : Option Url) (text : List ℕ) (end : CheckEnd)
+    (old new : Option (List ℕ))
     : Type 0 where
   pub whole : List ℕ
   pub says : Says profile base text end whole
   pub wrote : Appends old new whole
 
 -- a front of what is said of the text was written
-pub record WritesFront (profile : Profile) (base : Option Url) (text : List ℕ) (old new : Option (List ℕ)) : Type 0 where
+pub record WritesFront (profile : Profile) (base : Option Url) (text : List ℕ)
+    (old new : Option (List ℕ)) : Type 0 where
   pub end : CheckEnd
   pub whole : List ℕ
   pub says : Says profile base text end whole
@@ -54,11 +58,13 @@ pub record WritesFront (profile : Profile) (base : Option Url) (text : List ℕ)
 abbrev pub HasWritten
     : Profile → Option (Bor (List ℕ)) → List ℕ → CheckEnd → Option (List ℕ) → Option (List ℕ) → Type 0
 HasWritten profile base text (check.BaseRefused refusal) old new = IsBaseRefused profile base refusal
-HasWritten profile base text end old new = (url : Option Url) × IsBase profile base url × WritesWhole profile url text end old new
+HasWritten profile base text end old new =
+    (url : Option Url) × IsBase profile base url × WritesWhole profile url text end old new
 
 -- a front of what is said of the text against the base's text was written
 abbrev pub HasWrittenFront : Profile → Option (Bor (List ℕ)) → List ℕ → Option (List ℕ) → Option (List ℕ) → Type 0
-HasWrittenFront profile base text old new = (url : Option Url) × IsBase profile base url × WritesFront profile url text old new
+HasWrittenFront profile base text old new =
+    (url : Option Url) × IsBase profile base url × WritesFront profile url text old new
 
 -- the parser runs to the record of the text where it is valid, alone or against the URL that the base's text denotes,
 -- and to the record of the base's text where that is valid alone
@@ -66,4 +72,5 @@ abbrev pub RunsAgainst : Profile → Option (Bor (List ℕ)) → List ℕ → Ty
 RunsAgainst profile None text = RunsToItsRecord profile None text
 RunsAgainst profile (Some base) text =
     RunsToItsRecord profile None (chars base.now)
-    × ((parts : Parts) → Valid profile None (chars base.now) parts → RunsToItsRecord profile (Some (denote None parts)) text)
+    × ((parts : Parts) → Valid profile None (chars base.now) parts
+    → RunsToItsRecord profile (Some (denote None parts)) text)

@@ -22,8 +22,8 @@ pub enum CheckEnd {
 
 /// Checks a text by a profile, alone or against a base, and writes what it says of it.
 ///
-/// The base is resolved alone by the same profile, before the text is looked at. A fault of memory leaves the output as it was; a fault
-/// of a write leaves a beginning of what was to be written.
+/// The base is resolved alone by the same profile, before the text is looked at. An error of memory leaves the output as
+/// it was; an error of a write leaves a beginning of what was to be written.
 #[tactic(auto, using(crate::proofs::CheckLemmas::runs_against))]
 pub fn run_check<S: Sink>(
     alloc: Global,
@@ -37,6 +37,7 @@ pub fn run_check<S: Sink>(
         (S.contents out.old) (S.contents out.new)) }
     ensures base_refused { (refusal : Refusal) → result ≡ Ok (CheckEnd.BaseRefused refusal)
         → out.new ≡ out.old }
+    ensures quiet { OnOk result (S.failed out.new ≡ S.failed out.old) }
     ensures memory { result ≡ Err CliFault.Memory → out.new ≡ out.old }
     ensures front { result ≡ Err CliFault.Write → HasWrittenFront profile base.entry (chars text.now)
         (S.contents out.old) (S.contents out.new) }
@@ -64,12 +65,13 @@ fn check_against<S: Sink>(
     requires { S.failed out.old < 2 ^ 64 - 1 }
     ensures written { IfOk result (λ end. WritesWhole profile (option_copied base.entry) (chars text.now) end
         (S.contents out.old) (S.contents out.new)) }
+    ensures quiet { OnOk result (S.failed out.new ≡ S.failed out.old) }
     ensures memory { result ≡ Err CliFault.Memory → out.new ≡ out.old }
     ensures front { result ≡ Err CliFault.Write → WritesFront profile (option_copied base.entry) (chars text.now)
         (S.contents out.old) (S.contents out.new) }
     ensures failed { result ≡ Err CliFault.Write → S.failed out.new ≡ S.failed out.old + 1 }
 {
-    let (end, whole) = said(alloc, text, base, profile)?;
+    let (end, whole) = say(alloc, text, base, profile)?;
     match write_whole(out, whole.as_bytes()) {
         Ok(()) => Ok(end),
         Err(DeviceFault) => Err(CliFault::Write),
@@ -77,7 +79,7 @@ fn check_against<S: Sink>(
 }
 
 // What a check says of a text against a record as base, and how it ends.
-fn said(
+fn say(
     alloc: Global,
     text: &str,
     base: Option<&Record>,

@@ -8,9 +8,11 @@ use Rattle.uv_cli.proofs.check.run_check.Goals as goal
 pub returns-in-Ok-clause-written : goal.returns-in-Ok-clause-written
 returns-in-Ok-clause-written g c =
     let (parts, valid, denoted) = rw c.in-Ok.is at c.resolve.ensures.resolved in
-    let base : IsBase c.args.profile c.args.base (Some c.in-Ok.base) = rw c.in-Some.is (parts, valid, ap Some denoted) in
+    let base : IsBase c.args.profile c.args.base (Some c.in-Ok.base) =
+    rw c.in-Some.is (parts, valid, ap Some denoted) in
     IfOk-weaker c.check_against-in-Ok.result
-    (λ end. WritesWhole c.args.profile (Some c.in-Ok.base) (chars c.args.text.now) end (g.S.Sink.contents c.args.out.now)
+    (λ end. WritesWhole c.args.profile (Some c.in-Ok.base) (chars c.args.text.now) end
+    (g.S.Sink.contents c.args.out.now)
     (g.S.Sink.contents c.check_against-in-Ok.new.out))
     _ (λ end written. written_against c.args.profile c.args.base _ (chars c.args.text.now) _ _ end base written)
     c.check_against-in-Ok.ensures.written

@@ -1,7 +1,7 @@
 -- On a valid text the parser is silent.
 use Rattle.std.proofs.Common.{ap, ◌∙◌}
 use Rattle.uv_cli.specs.CheckText.{check_text}
-use Rattle.uv_cli.proofs.check.said.Goals as goal
+use Rattle.uv_cli.proofs.check.say.Goals as goal
 
 pub returns-in_ok-check_lines-in-Ok : goal.returns-in_ok-check_lines-in-Ok
 returns-in_ok-check_lines-in-Ok c =
