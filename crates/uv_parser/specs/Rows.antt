@@ -19,6 +19,7 @@ pub mod Other
 pub mod Profiles
 pub mod ReferenceMatrix
 pub mod References
+pub mod SilentHosts
 pub mod SilentRefusals
 pub mod SilentDifferences
 pub mod Special

@@ -1,6 +1,7 @@
 //! Laws of the texts on which the URL parser is silent, each as the clause of a function that does nothing.
 ghost use Rattle.uv_parser.specs.Laws.Differences.{SilentTextsAreValidOrDiffer};
 ghost use Rattle.uv_parser.specs.Rows.SilentDifferences.{SilentDifferenceRows};
+ghost use Rattle.uv_parser.specs.Rows.SilentHosts.{SilentHostRows};
 ghost use Rattle.uv_parser.specs.Laws.ValidTexts.{SilentPartsAreUnique, ValidTextsAreSilent, ValidTextsRunSilently};
 
 /// The parser's grammar takes every valid text, against every base and none, with the same parts (URL Standard,
@@ -32,4 +33,10 @@ pub fn silent_texts_are_valid_or_differ()
 /// (URL Standard, sections 4.3 and 4.4).
 pub fn silent_difference_rows()
     ensures { SilentDifferenceRows }
+{}
+
+/// Host texts that the parser's grammar takes, each with its value, and some that it takes with none, such as `u@h` (URL
+/// Standard, sections 3.5 and 4.4).
+pub fn silent_host_rows()
+    ensures { SilentHostRows }
 {}
