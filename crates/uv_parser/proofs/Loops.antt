@@ -4,6 +4,7 @@ pub mod StoppingLoops
 pub mod SchemeStretch
 pub mod HostTextsRead
 pub mod AuthorityLoops
+pub mod AuthorityStarts
 pub mod AuthorityEnds
 pub mod FileHosts
 pub mod PathLoops

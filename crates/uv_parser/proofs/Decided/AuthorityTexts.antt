@@ -8,7 +8,7 @@ use Rattle.uv_model.specs.declared.scheme.Class.{Class}
 use Rattle.uv_model.specs.declared.scheme.Class.TheVariants.{Special, File, Other}
 use Rattle.uv_model.specs.Ascii.{slash, colon, backslash, question_mark}
 use Rattle.uv_model.specs.Cut.{IsHostCut}
-use Rattle.uv_parser.specs.Machine.{Held, State, begins, is_special, sight, AuthorityState, FileHostState, SpecialAuthorityIgnoreSlashesState, emptied, with_brackets}
+use Rattle.uv_parser.specs.Machine.{Held, begins, is_special, sight, emptied, with_brackets}
 use Rattle.uv_model.specs.Parts.{Form, Parts, written_behind}
 use Rattle.uv_parser.specs.SilentTexts.{Silent, Takes}
 use Rattle.uv_parser.specs.Laws.OtherHosts.{own_value}
@@ -18,6 +18,7 @@ use Rattle.uv_model.specs.Units.{is_faultless, is_unit_at}
 use Rattle.uv_model.specs.Records.Url.{Url}
 use Rattle.uv_model.specs.Valid.{port_given}
 use Rattle.uv_parser.proofs.HostParsing.OtherHosts.{silent_other}
+use Rattle.uv_parser.proofs.Loops.AuthorityStarts.{file_held, held_behind_slashes, state_behind_slashes}
 use Rattle.uv_parser.proofs.Loops.AuthorityLoops.{IsDelimiter}
 use Rattle.uv_parser.proofs.Decided.DecidedAuthority.{IsUnended, authority_decided, letters_no_at_sign, letters_no_backslash}
 use Rattle.uv_parser.proofs.Decided.DecidedFile.{FileHostFits, file_host_decided}
@@ -25,7 +26,6 @@ use Rattle.uv_parser.proofs.Decided.DecidedPath.{AreFine, FreeOfMarks, path_star
 use Rattle.uv_model.proofs.Texts.MarkLemmas.{is_without-cons}
 use Rattle.uv_model.proofs.Paths.PathPieces.{joins_pieces, pieces}
 use Rattle.uv_parser.proofs.Running.RunsStopped.{RunStops}
-use Rattle.uv_parser.proofs.Silence.SilentFile.{file_held}
 use Rattle.uv_parser.proofs.Running.Steps.{Stops, ends_again, stops_here}
 use Rattle.uv_parser.proofs.Loops.Tails.{tail}
 
@@ -67,17 +67,6 @@ kind_cases Other = inr (inr refl)
 
 -- ---- what follows `//`
 
--- the state in which a run reads what follows `//`
-abbrev pub state_behind_slashes : Class → State
-state_behind_slashes Special = SpecialAuthorityIgnoreSlashesState
-state_behind_slashes File = FileHostState
-state_behind_slashes Other = AuthorityState
-
--- what it holds there
-abbrev pub held_behind_slashes : Class → Held → Held
-held_behind_slashes File h = file_held host.Empty
-held_behind_slashes kind h = with_brackets false (emptied h)
-
 -- the parts of a text with an authority, with the values of its host and its port
 abbrev pub authority_parts : Form → Option (List ℕ) → List ℕ → Option (List ℕ) → List ℕ → Option (List ℕ)
     → Option (List ℕ) → Option Host → Option ℕ → Parts
@@ -105,7 +94,7 @@ module _ (base : Option Url) (text : List ℕ) (form : Form) (given : Option (Li
     (free : FreeOfMarks path query)
     (start : (kind : Class) → scheme_class scheme ≡ kind → (k : ℕ)
     → k ≤ 2 * length ((host_text ++ written_behind colon port_text) ++ (path ++ tail query fragment)) + 12
-    → Stops base (state_behind_slashes kind) (held_behind_slashes kind h)
+    → Stops base (state_behind_slashes kind) (held_behind_slashes kind (with_brackets false (emptied h)))
     ((host_text ++ written_behind colon port_text) ++ (path ++ tail query fragment)) k
     → RunStops base text)
     (silent : (value : Option Host) (port : Option ℕ)

@@ -1,19 +1,16 @@
 -- A text without a scheme, against a base: the parser is silent on it as its grammar says, or stops.
-use Rattle.std.proofs.Common.{◌≡◌, ℕ, suc, ◌+◌, ◌*◌, ◌≤◌, true, false, ◌==◌, ◌⊎◌, List, [], ◌∷◌, ◌++◌, length, Option, Some, None, refl, sym, ap, subst, ◌∙◌, inl, inr, eqb-true, append_assoc, arith}
+use Rattle.std.proofs.Common.{◌≡◌, ℕ, ◌+◌, ◌*◌, ◌≤◌, true, false, ◌==◌, ◌⊎◌, List, [], ◌∷◌, ◌++◌, length, Option, Some, None, refl, sym, ap, subst, ◌∙◌, inl, inr, eqb-true, append_assoc, arith}
 use Rattle.std.specs.Prelude.{IsSome}
 use Rattle.std.proofs.lemmas.Bool.{cases_Bool, false≢true}
 use Rattle.uv_model.specs.declared.host.Host.{Host}
 use Rattle.uv_model.specs.declared.host.Host.TheVariants as host
-use Rattle.uv_model.specs.declared.scheme.Class.{Class}
-use Rattle.uv_model.specs.declared.scheme.Class.TheVariants.{Special, File, Other}
 use Rattle.uv_model.specs.Ascii.{slash, colon, question_mark, number_sign}
 use Rattle.uv_model.specs.Cut.{Cut, IsCut, starts_with_two_slashes}
-use Rattle.uv_parser.specs.Machine.{Held, State, with_fragment, begins, begins_drive, turn, stop, again, FileSlashState, FileState, NoSchemeState, PathState, RelativeSlashState, RelativeState, empty_held, is_file, is_special, with_base, with_base_host, with_file_base, with_kept_drive, list_in, with_host, with_opaque_base, with_query, with_scheme, shortened}
+use Rattle.uv_parser.specs.Machine.{Held, State, with_fragment, begins, begins_drive, turn, stop, again, FileSlashState, FileState, NoSchemeState, PathState, RelativeSlashState, RelativeState, empty_held, is_file, with_base, with_base_host, with_file_base, with_kept_drive, list_in, with_host, with_opaque_base, with_query, shortened}
 use Rattle.uv_model.specs.Parts.{Form, Parts, Authority, PathAbsolute, PathRelative, NoPath, written_authority, written_behind}
 use Rattle.uv_parser.specs.SilentTexts.{Silent}
 use Rattle.uv_model.specs.Path.{starts_with_slash}
 use Rattle.uv_parser.specs.Removed.{first_removed}
-use Rattle.uv_model.specs.Scheme.{scheme_class}
 use Rattle.uv_model.specs.Records.Url.{Url, is_opaque}
 use Rattle.uv_model.specs.Valid.{starts_with_scheme}
 use Rattle.uv_model.proofs.Cuts.SchemesIgnoreBases.{cut_with_scheme}
@@ -21,13 +18,13 @@ use Rattle.uv_model.proofs.Complaints.ComplaintLemmas.{cut_with}
 use Rattle.uv_model.proofs.Cuts.CutLemmas.{cut_is_computed}
 use Rattle.uv_parser.proofs.Decided.CutTexts.{HasMarks, cut_text, marks}
 use Rattle.uv_parser.proofs.Decided.DecidedPath.{AreFine, FreeOfMarks, path_decided}
-use Rattle.uv_parser.proofs.Decided.AuthorityTexts.{SilentOrStops, authority_silent_or_stops, held_behind_slashes, slashed_path, state_behind_slashes}
+use Rattle.uv_parser.proofs.Decided.AuthorityTexts.{SilentOrStops, authority_silent_or_stops, slashed_path}
 use Rattle.uv_model.proofs.Texts.MarkLemmas.{is_without-cons}
 use Rattle.uv_model.proofs.Paths.PathPieces.{path_relative, pieces}
 use Rattle.uv_parser.proofs.Running.RunsStopped.{RunStops, place_cases, removed_stops}
 use Rattle.uv_parser.proofs.Decided.SchemeAbsent.{absent_stops}
-use Rattle.uv_parser.proofs.Silence.SilentFile.{file_held}
 use Rattle.uv_parser.proofs.Running.Steps.{Stops, ends_again, stops_here, ends_step, ends_within}
+use Rattle.uv_parser.proofs.Loops.AuthorityStarts.{base_held, base_starts, file_held}
 use Rattle.uv_parser.proofs.Loops.Tails.{no_slash_before_tail, tail}
 use Rattle.uv_parser.proofs.Decided.TailsDecided.{PassesToTail, fragment_decided, tail_decided}
 
@@ -59,10 +56,6 @@ reference_parts form host_text value port_text port path segments query fragment
   query = query;
   fragment = fragment;
 }
-
--- what is held with the base's scheme
-abbrev base_held : Url → Held
-base_held url = with_scheme url.scheme empty_held
 
 module _ (url : Url) (text : List ℕ) (host_text port_text : Option (List ℕ)) (path : List ℕ)
     (query fragment : Option (List ℕ))
@@ -382,33 +375,6 @@ module _ (url : Url) (text host_text : List ℕ) (port_text : Option (List ℕ))
       reference_stops url text (Some host_text) port_text path query fragment is kept
       (slash ∷ slash ∷ (authority ++ (path ++ tail query fragment))) k whole (omega (arith, few)) stops
 
-  -- by the class of the base, from what follows `//` on
-  stops_behind : (kind : Class) → scheme_class url.scheme ≡ kind → (k : ℕ)
-      → k ≤ 2 * length ((host_text ++ written_behind colon port_text) ++ (path ++ tail query fragment)) + 12
-      → Stops (Some url) (state_behind_slashes kind) (held_behind_slashes kind (base_held url))
-      ((host_text ++ written_behind colon port_text) ++ (path ++ tail query fragment)) k
-      → RunStops (Some url) text
-  stops_behind Special special k few stops =
-      let plain : is_file url.scheme ≡ false = rw special refl in
-      let kind : is_special url.scheme ≡ true = rw special refl in
-      reference_authority_stops (suc (suc (suc k))) (omega (arith, few))
-      (ends_again (Some url) {s₁ = RelativeState} {h₁ = empty_held} (λ p. rw (not_opaque, plain) refl)
-      (ends_step (Some url) {s₁ = RelativeSlashState} {h₁ = base_held url} (λ p. refl)
-      (ends_step (Some url) (λ p. rw kind refl) stops)))
-  stops_behind File file k few stops =
-      let kind : is_file url.scheme ≡ true = rw file refl in
-      reference_authority_stops (suc (suc (suc k))) (omega (arith, few))
-      (ends_again (Some url) {s₁ = FileState} {h₁ = empty_held} (λ p. rw (not_opaque, kind) refl)
-      (ends_step (Some url) {s₁ = FileSlashState} {h₁ = file_held host.Empty} (λ p. refl)
-      (ends_step (Some url) (λ p. refl) stops)))
-  stops_behind Other other k few stops =
-      let plain : is_file url.scheme ≡ false = rw other refl in
-      let kind : is_special url.scheme ≡ false = rw other refl in
-      reference_authority_stops (suc (suc (suc k))) (omega (arith, few))
-      (ends_again (Some url) {s₁ = RelativeState} {h₁ = empty_held} (λ p. rw (not_opaque, plain) refl)
-      (ends_step (Some url) {s₁ = RelativeSlashState} {h₁ = base_held url} (λ p. refl)
-      (ends_step (Some url) (λ p. rw kind refl) stops)))
-
   -- with an authority
   with_authority : SilentOrStops (Some url) text
   with_authority =
@@ -421,7 +387,8 @@ module _ (url : Url) (text host_text : List ℕ) (port_text : Option (List ℕ))
       })
       is.authority.2 is.authority.1
       (free url text (Some host_text) port_text path query fragment is kept)
-      stops_behind
+      (λ kind is_kind k few stops.
+      reference_authority_stops (k + 3) (omega (arith, few)) (base_starts url _ kind k not_opaque is_kind stops))
       (λ value port takes fine. record {
         cut = is;
         kept = kept;

@@ -1,13 +1,11 @@
 -- A text with a scheme: the parser is silent on it as its grammar says, or stops.
-use Rattle.std.proofs.Common.{◌≡◌, ℕ, suc, ◌+◌, ◌*◌, ◌≤◌, false, ◌==◌, ◌⊎◌, List, [], ◌∷◌, ◌++◌, length, Option, Some, None, refl, ap, ◌∙◌, inl, inr, eqb-true, append_assoc, arith}
+use Rattle.std.proofs.Common.{◌≡◌, ℕ, ◌+◌, ◌*◌, ◌≤◌, false, ◌==◌, ◌⊎◌, List, [], ◌∷◌, ◌++◌, length, Option, Some, None, refl, ap, ◌∙◌, inl, inr, eqb-true, append_assoc, arith}
 use Rattle.std.proofs.lemmas.Bool.{and_right, cases_Bool}
 use Rattle.uv_model.specs.declared.host.Host.{Host}
-use Rattle.uv_model.specs.declared.host.Host.TheVariants as host
-use Rattle.uv_model.specs.declared.scheme.Class.{Class}
 use Rattle.uv_model.specs.declared.scheme.Class.TheVariants.{Special, File, Other}
 use Rattle.uv_model.specs.Ascii.{slash, colon, question_mark, number_sign}
 use Rattle.uv_model.specs.Cut.{IsCut, starts_with_two_slashes}
-use Rattle.uv_parser.specs.Machine.{begins, begins_two_slashes, has_same_scheme, AuthorityState, FileHostState, FileSlashState, FileState, PathOrAuthorityState, SchemeState, SpecialAuthorityIgnoreSlashesState, SpecialAuthoritySlashesState, SpecialRelativeOrAuthorityState, empty_held, with_more}
+use Rattle.uv_parser.specs.Machine.{begins, begins_two_slashes, has_same_scheme, PathOrAuthorityState, SchemeState, SpecialAuthoritySlashesState, SpecialRelativeOrAuthorityState, empty_held, with_more}
 use Rattle.uv_model.specs.Parts.{Parts, SchemeAuthority, SchemePath, written_behind}
 use Rattle.uv_model.specs.Path.{starts_with_slash}
 use Rattle.uv_parser.specs.Removed.{first_removed}
@@ -16,16 +14,16 @@ use Rattle.uv_model.specs.Records.Url.{Url}
 use Rattle.uv_model.specs.Valid.{FitsBase}
 use Rattle.uv_model.proofs.Complaints.ComplaintLemmas.{cut_with}
 use Rattle.uv_parser.proofs.Decided.CutTexts.{HasMarks, marks, scheme_text}
-use Rattle.uv_parser.proofs.Decided.AuthorityTexts.{SilentOrStops, authority_parts, authority_silent_or_stops, held_behind_slashes, kind_cases, slashed_path, state_behind_slashes}
+use Rattle.uv_parser.proofs.Decided.AuthorityTexts.{SilentOrStops, authority_parts, authority_silent_or_stops, kind_cases, slashed_path}
 use Rattle.uv_model.proofs.SchemeLemmas.{scheme_class-lowercase}
 use Rattle.uv_parser.proofs.Decided.DecidedOpaque.{opaque_parts, opaque_silent_or_stops}
 use Rattle.uv_parser.proofs.Decided.DecidedPath.{FreeOfMarks, path_decided}
 use Rattle.uv_model.proofs.Texts.MarkLemmas.{is_without-cons}
 use Rattle.uv_model.proofs.Paths.PathPieces.{path_relative, pieces}
 use Rattle.uv_parser.proofs.Running.RunsStopped.{RunStops, place_cases, removed_stops, scheme_stops}
+use Rattle.uv_parser.proofs.Loops.AuthorityStarts.{scheme_starts}
 use Rattle.uv_parser.proofs.Loops.SchemeStretch.{colon_row, scheme_held}
-use Rattle.uv_parser.proofs.Silence.SilentFile.{file_held}
-use Rattle.uv_parser.proofs.Running.Steps.{Stops, ends_again, stops_here, ends_past_two, ends_step, ends_within}
+use Rattle.uv_parser.proofs.Running.Steps.{Stops, ends_again, stops_here, ends_past_two, ends_step}
 use Rattle.uv_parser.proofs.Loops.Tails.{no_slash_before_tail, tail}
 
 -- ---- small facts of cuts
@@ -47,24 +45,6 @@ no_two_before_tail (c ∷ d ∷ rest) query fragment none = none
 -- ---- from the scheme's `:` on
 
 module _ (base : Option Url) (scheme : List ℕ) where
-  -- the outcome of what follows `//`
-  special_slashes : (rest : List ℕ) (k : ℕ) → scheme_class scheme ≡ Special
-      → Stops base SpecialAuthorityIgnoreSlashesState (scheme_held scheme) rest k
-      → Stops base SchemeState (with_more (lowercase scheme) empty_held) (colon ∷ slash ∷ slash ∷ rest) (k + 2)
-  special_slashes rest k special stops =
-      elim (cases_Bool (has_same_scheme base (lowercase scheme))) [
-        | inl same ↦
-            ends_within base (omega arith)
-            (ends_step base {s₁ = SpecialRelativeOrAuthorityState} {h₁ = scheme_held scheme}
-            (λ p. colon_row base scheme (slash ∷ slash ∷ rest) p ∙ rw (special, same) refl)
-            (ends_past_two base (λ p. refl) stops))
-        | inr other ↦
-            ends_within base (omega arith)
-            (ends_step base {s₁ = SpecialAuthoritySlashesState} {h₁ = scheme_held scheme}
-            (λ p. colon_row base scheme (slash ∷ slash ∷ rest) p ∙ rw (special, other) refl)
-            (ends_past_two base (λ p. refl) stops))
-      ]
-
   special_without : (rest : List ℕ) → scheme_class scheme ≡ Special → begins_two_slashes rest ≡ false
       → Stops base SchemeState (with_more (lowercase scheme) empty_held) (colon ∷ rest) 2
   special_without rest special none =
@@ -83,24 +63,6 @@ module _ (base : Option Url) (scheme : List ℕ) where
       → Stops base SchemeState (with_more (lowercase scheme) empty_held) (colon ∷ rest) 1
   file_without rest file none =
       stops_here base (λ p. colon_row base scheme rest p ∙ rw (file, none) refl)
-
-  file_slashes : (rest : List ℕ) (k : ℕ) → scheme_class scheme ≡ File
-      → Stops base FileHostState (file_held host.Empty) rest k
-      → Stops base SchemeState (with_more (lowercase scheme) empty_held) (colon ∷ slash ∷ slash ∷ rest)
-      (suc (suc (suc k)))
-  file_slashes rest k file stops =
-      ends_step base {s₁ = FileState} {h₁ = scheme_held scheme}
-      (λ p. colon_row base scheme (slash ∷ slash ∷ rest) p ∙ rw file refl)
-      (ends_step base {s₁ = FileSlashState} {h₁ = file_held host.Empty} (λ p. refl)
-      (ends_step base (λ p. refl) stops))
-
-  other_slashes : (rest : List ℕ) (k : ℕ) → scheme_class scheme ≡ Other
-      → Stops base AuthorityState (scheme_held scheme) rest k
-      → Stops base SchemeState (with_more (lowercase scheme) empty_held) (colon ∷ slash ∷ slash ∷ rest) (suc (suc k))
-  other_slashes rest k other stops =
-      ends_past_two base {s₁ = PathOrAuthorityState} {h₁ = scheme_held scheme}
-      (λ p. colon_row base scheme (slash ∷ slash ∷ rest) p ∙ rw other refl)
-      (ends_step base (λ p. refl) stops)
 
 -- ---- with an authority
 
@@ -130,19 +92,6 @@ module _ (base : Option Url) (text scheme host_text : List ℕ) (port_text : Opt
       scheme_stops base text scheme (slash ∷ slash ∷ (authority ++ (path ++ tail query fragment))) k kept is.scheme whole
       (omega (arith, few)) stops
 
-  -- by the class, from what follows `//` on
-  stops_behind : (kind : Class) → scheme_class scheme ≡ kind → (k : ℕ)
-      → k ≤ 2 * length ((host_text ++ written_behind colon port_text) ++ (path ++ tail query fragment)) + 12
-      → Stops base (state_behind_slashes kind) (held_behind_slashes kind (scheme_held scheme))
-      ((host_text ++ written_behind colon port_text) ++ (path ++ tail query fragment)) k
-      → RunStops base text
-  stops_behind Special special k few stops =
-      authority_stops_text (k + 2) (omega (arith, few)) (special_slashes base scheme _ k special stops)
-  stops_behind File file k few stops =
-      authority_stops_text (suc (suc (suc k))) (omega (arith, few)) (file_slashes base scheme _ k file stops)
-  stops_behind Other other k few stops =
-      authority_stops_text (suc (suc k)) (omega (arith, few)) (other_slashes base scheme _ k other stops)
-
   -- with an authority
   pub with_authority : SilentOrStops base text
   with_authority =
@@ -155,7 +104,8 @@ module _ (base : Option Url) (text scheme host_text : List ℕ) (port_text : Opt
       })
       is.authority.2 is.authority.1
       (record { question_mark = have.path_question_mark; number_sign = have.path_number_sign; query = have.query })
-      stops_behind
+      (λ kind is_kind k few stops.
+      authority_stops_text (k + 3) (omega (arith, few)) (scheme_starts base scheme _ kind k is_kind stops))
       (λ value port takes fine. record {
         cut = is;
         kept = kept;

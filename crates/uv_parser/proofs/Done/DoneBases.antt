@@ -1,13 +1,13 @@
 -- The run of a reference with an authority on which the parser is silent is done, with the URL that the parts denote:
 -- against a well-formed base of class Special or Other. And the law for each base of class Special or Other with a path
 -- of segments.
-use Rattle.std.proofs.Common.{◌≡◌, ℕ, ◌+◌, true, false, ◌||◌, List, ◌∷◌, ◌++◌, length, Some, None, refl, sym, ap, subst, ◌∙◌, append_assoc, length-append, arith}
+use Rattle.std.proofs.Common.{◌≡◌, ℕ, ◌+◌, false, ◌||◌, List, ◌∷◌, ◌++◌, length, Some, None, refl, sym, ap, subst, ◌∙◌, append_assoc, length-append, arith}
 use Rattle.uv_model.specs.declared.host.Host.{Host}
 use Rattle.uv_model.specs.declared.scheme.Class.TheVariants.{Special, Other}
 use Rattle.uv_model.specs.declared.path.UrlPath.TheVariants.{Segments}
 use Rattle.uv_model.specs.Ascii.{slash, backslash, colon}
 use Rattle.uv_model.specs.Records.Denote.{authority_path}
-use Rattle.uv_parser.specs.Machine.{State, begins, AuthorityState, NoSchemeState, RelativeSlashState, RelativeState, SpecialAuthorityIgnoreSlashesState, empty_held, is_file, is_special, with_scheme}
+use Rattle.uv_parser.specs.Machine.{State, begins, AuthorityState, NoSchemeState, empty_held, with_scheme}
 use Rattle.uv_model.specs.Parts.{Parts, Authority, written_behind, written_authority}
 use Rattle.uv_parser.specs.SilentTexts.{Silent}
 use Rattle.uv_model.specs.Scheme.{default_port, lowercase, scheme_class}
@@ -15,6 +15,7 @@ use Rattle.uv_parser.specs.Laws.Silence.{RunsSilently}
 use Rattle.uv_model.specs.Records.Url.{Url, is_opaque}
 use Rattle.uv_model.specs.Setting.{scheme_or}
 use Rattle.uv_model.specs.Valid.{port_given, scheme_in}
+use Rattle.uv_parser.proofs.Loops.AuthorityStarts.{base_starts}
 use Rattle.uv_parser.proofs.Loops.AuthorityEnds.{Behind, authority_ends, hosted}
 use Rattle.uv_parser.proofs.Decided.CutTexts.{cut_text}
 use Rattle.uv_parser.proofs.Done.Decided.{takes_form}
@@ -25,7 +26,7 @@ use Rattle.uv_model.proofs.SchemeLemmas.{scheme_class-lowercase}
 use Rattle.uv_parser.proofs.Loops.SchemeStretch.{scheme_held}
 use Rattle.uv_parser.proofs.Silence.SilentAuthority.{HasParsed, is_special_scheme, no_slash_before, special_some}
 use Rattle.uv_parser.proofs.Silence.SilentSchemes.{special_of_class}
-use Rattle.uv_parser.proofs.Running.Steps.{Ends, ends_again, ends_step, ends_within}
+use Rattle.uv_parser.proofs.Running.Steps.{Ends, ends_again, ends_within}
 use Rattle.uv_parser.proofs.Loops.Tails.{tail}
 
 module _ (url : Url) (text : List ℕ) (parts : Parts) (is : Silent (Some url) text parts)
@@ -93,15 +94,11 @@ module _ (url : Url) (text : List ℕ) (parts : Parts) (is : Silent (Some url) t
       = ap (λ o. scheme_class (scheme_or (Some url) o)) none ∙ other in
       let (host_text, named) = is_named_by (Some url) text parts Other url.scheme is
       (takes_form (Some url) text parts Authority is form) kind_in (ap (scheme_or (Some url)) none) in
-      let plain : is_file url.scheme ≡ false = rw other refl in
-      let kind : is_special url.scheme ≡ false = rw other refl in
       let (value, has) = other_has (Some url) parts url.scheme host_text named in
       authority_reference host_text value form named.given has
       (λ k u ends.
       ends_within (Some url) (omega arith)
-      (ends_again (Some url) {s₁ = RelativeState} {h₁ = empty_held} (λ p. rw (not_opaque, plain) refl)
-      (ends_step (Some url) {s₁ = RelativeSlashState} {h₁ = with_scheme url.scheme empty_held} (λ p. refl)
-      (ends_step (Some url) (λ p. rw kind refl) (same_held AuthorityState _ k u ends)))))
+      (base_starts url _ Other k not_opaque other (same_held AuthorityState _ k u ends)))
 
   -- against a base of class Special
   pub special_reference_done : parts.form ≡ Authority → scheme_class url.scheme ≡ Special
@@ -112,8 +109,6 @@ module _ (url : Url) (text : List ℕ) (parts : Parts) (is : Silent (Some url) t
       = ap (λ o. scheme_class (scheme_or (Some url) o)) none ∙ special in
       let (host_text, named) = is_named_by (Some url) text parts Special url.scheme is
       (takes_form (Some url) text parts Authority is form) kind_in (ap (scheme_or (Some url)) none) in
-      let plain : is_file url.scheme ≡ false = rw special refl in
-      let kind : is_special url.scheme ≡ true = rw special refl in
       let has = special_has (Some url) parts url.scheme host_text named in
       let rest = (host_text ++ written_behind colon parts.port_text)
       ++ (parts.path_text ++ tail parts.query parts.fragment) in
@@ -125,8 +120,6 @@ module _ (url : Url) (text : List ℕ) (parts : Parts) (is : Silent (Some url) t
       authority_reference host_text named.takes.value form named.given has
       (λ k u ends.
       ends_within (Some url) (omega arith)
-      (ends_again (Some url) {s₁ = RelativeState} {h₁ = empty_held} (λ p. rw (not_opaque, plain) refl)
-      (ends_step (Some url) {s₁ = RelativeSlashState} {h₁ = with_scheme url.scheme empty_held} (λ p. refl)
-      (ends_step (Some url) {s₁ = SpecialAuthorityIgnoreSlashesState} {h₁ = with_scheme url.scheme empty_held}
-      (λ p. rw kind refl)
-      (ends_again (Some url) (λ p. rw none refl) (same_held AuthorityState rest k u ends))))))
+      (base_starts url rest Special (k + 1) not_opaque special
+      (ends_within (Some url) (omega arith)
+      (ends_again (Some url) (λ p. rw none refl) (same_held AuthorityState rest k u ends)))))

@@ -9,7 +9,7 @@ use Rattle.uv_model.specs.declared.scheme.Class.TheVariants.{File}
 use Rattle.uv_model.specs.declared.path.UrlPath.TheVariants.{Segments}
 use Rattle.uv_model.specs.Ascii.{slash, colon, vertical_bar, question_mark, number_sign}
 use Rattle.uv_model.specs.Records.Denote.{authority_path, quotes, segments_in}
-use Rattle.uv_parser.specs.Machine.{begins_drive, turn, again, FileSlashState, FileState, NoSchemeState, PathState, empty_held, is_file, is_special, list_in, shortened, with_file_base, with_query}
+use Rattle.uv_parser.specs.Machine.{begins_drive, turn, again, FileState, NoSchemeState, PathState, empty_held, is_file, is_special, list_in, shortened, with_file_base, with_query}
 use Rattle.uv_model.specs.Parts.{Parts, Authority, NoPath, PathRelative, written_authority, written_behind}
 use Rattle.uv_parser.specs.SilentTexts.{Silent}
 use Rattle.uv_model.specs.Path.{is_without, shorten, starts_with_slash, walk}
@@ -23,14 +23,15 @@ use Rattle.uv_parser.proofs.Decided.CutTexts.{cut_text, marks}
 use Rattle.uv_parser.proofs.Done.Decided.{takes_form}
 use Rattle.uv_parser.proofs.Done.DoneAuthority.{is_named_by, taken_file}
 use Rattle.uv_parser.proofs.Done.DoneReferences.{path_text, reference_query, reference_runs, same_list, walk_ends}
+use Rattle.uv_parser.proofs.Loops.AuthorityStarts.{base_starts, file_held}
 use Rattle.uv_parser.proofs.Loops.FileHosts.{file_class}
 use Rattle.uv_model.proofs.Paths.JoinedSegments.{faultless_path}
 use Rattle.uv_model.proofs.Texts.MarkLemmas.{is_without-cons}
 use Rattle.uv_parser.proofs.Loops.PathLoops.{walking}
 use Rattle.uv_parser.proofs.Silence.SilentAuthority.{valued_some}
-use Rattle.uv_parser.proofs.Silence.SilentFile.{HasFileHost, file_held}
+use Rattle.uv_parser.proofs.Silence.SilentFile.{HasFileHost}
 use Rattle.uv_parser.proofs.Silence.SilentSchemes.{special_of_class}
-use Rattle.uv_parser.proofs.Running.Steps.{ends_again, ends_step}
+use Rattle.uv_parser.proofs.Running.Steps.{ends_again, ends_within}
 use Rattle.uv_parser.proofs.Loops.Tails.{tail, tail_ends}
 
 -- units that begin with no scheme begin with no drive letter
@@ -165,9 +166,7 @@ module _ (url : Url) (text : List ℕ) (parts : Parts) (is : Silent (Some url) t
         query = reference_query url (scheme_class url.scheme) Authority parts.query h file_special refl;
       })
       (omega (arith, length-append host_text rest, length-append parts.path_text (tail parts.query parts.fragment)))
-      (ends_again (Some url) (λ p. begin_row (slash ∷ slash ∷ (host_text ++ rest)) p)
-      (ends_step (Some url) {s₁ = FileSlashState} {h₁ = file_held host.Empty} (λ p. refl)
-      (ends_step (Some url) (λ p. refl) has.ends)))
+      (ends_within (Some url) (omega arith) (base_starts url (host_text ++ rest) File _ not_opaque kind has.ends))
 
   -- an authority
   pub file_authority_done : parts.form ≡ Authority → RunsSilently (Some url) text parts

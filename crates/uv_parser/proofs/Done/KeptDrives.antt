@@ -22,7 +22,7 @@ use Rattle.uv_parser.proofs.Done.Decided.{takes_form}
 use Rattle.uv_parser.proofs.Done.DoneReferences.{path_text, reference_query, reference_runs, same_list, walk_ends}
 use Rattle.uv_parser.proofs.Loops.FileHosts.{and_true-right, file_class}
 use Rattle.uv_parser.proofs.Loops.PathLoops.{walking}
-use Rattle.uv_parser.proofs.Silence.SilentFile.{file_held}
+use Rattle.uv_parser.proofs.Loops.AuthorityStarts.{file_held}
 use Rattle.uv_parser.proofs.Silence.SilentSchemes.{special_of_class}
 use Rattle.uv_parser.proofs.Running.Steps.{ends_again, ends_step}
 use Rattle.uv_parser.proofs.Loops.Tails.{no_slash_before_tail, tail}

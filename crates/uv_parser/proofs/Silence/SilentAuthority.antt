@@ -1,16 +1,16 @@
 -- The whole run of a text with a scheme and an authority, of class Other or Special, whose host and port are parsed.
 use Rattle.uv_model.specs.Path.{MayBePathSlashed}
-use Rattle.std.proofs.Common.{◌≡◌, ℕ, suc, ◌+◌, true, false, ◌||◌, ◌==◌, List, [], ◌∷◌, ◌++◌, length, Option, Some, None, refl, sym, ap, ◌∙◌, inl, inr, append_assoc, length-append, arith}
+use Rattle.std.proofs.Common.{◌≡◌, ℕ, suc, ◌+◌, true, false, ◌||◌, ◌==◌, List, [], ◌∷◌, ◌++◌, length, Option, Some, None, refl, sym, ap, ◌∙◌, append_assoc, length-append, arith}
 use Rattle.std.specs.List.{list_all}
 use Rattle.std.proofs.lemmas.Bool.Decides.{nat_tests}
 use Rattle.uv_parser.specs.HostParser.{parse_host}
-use Rattle.std.proofs.lemmas.Bool.{true≢false, and_parts, cases_Bool}
+use Rattle.std.proofs.lemmas.Bool.{true≢false, and_parts}
 use Rattle.uv_model.specs.declared.host.Host.{Host}
 use Rattle.uv_model.specs.declared.scheme.Class.TheVariants.{Special, Other}
 use Rattle.uv_model.specs.declared.path.UrlPath.TheVariants.{Segments}
 use Rattle.uv_model.specs.Ascii.{slash, backslash, colon}
 use Rattle.uv_model.specs.Records.Denote.{authority_host, authority_path}
-use Rattle.uv_parser.specs.Machine.{begins, has_same_scheme, SpecialAuthorityIgnoreSlashesState, SpecialAuthoritySlashesState, SpecialRelativeOrAuthorityState, AuthorityState, PathOrAuthorityState, SchemeState, empty_held, is_special, with_more}
+use Rattle.uv_parser.specs.Machine.{begins, AuthorityState, SchemeState, empty_held, is_special, with_more}
 use Rattle.uv_model.specs.Parts.{Parts, SchemeAuthority, written, written_behind}
 use Rattle.uv_parser.specs.Removed.{first_removed}
 use Rattle.uv_model.specs.Scheme.{default_port, is_scheme, lowercase, scheme_class}
@@ -18,13 +18,14 @@ use Rattle.uv_parser.specs.Laws.Silence.{RunsSilently}
 use Rattle.uv_model.specs.Records.Url.{Url}
 use Rattle.uv_model.specs.Valid.{MayBeUnits, port_given}
 use Rattle.uv_parser.proofs.Loops.AuthorityEnds.{Behind, IsParsed, authority_ends, authority_url, hosted}
+use Rattle.uv_parser.proofs.Loops.AuthorityStarts.{scheme_starts}
 use Rattle.uv_parser.proofs.Loops.AuthorityLoops.{is_authority_letter}
 use Rattle.uv_parser.proofs.HostParsing.HostsParsed.{parsed_some}
 use Rattle.uv_parser.proofs.Loops.PathLoops.{walking}
 use Rattle.uv_model.proofs.SchemeLemmas.{scheme_class-lowercase}
-use Rattle.uv_parser.proofs.Loops.SchemeStretch.{scheme_held, colon_row}
+use Rattle.uv_parser.proofs.Loops.SchemeStretch.{scheme_held}
 use Rattle.uv_parser.proofs.Silence.SilentSchemes.{EndsBehindScheme, HoldsDenoted, denoted_from_held, runs_kept}
-use Rattle.uv_parser.proofs.Running.Steps.{Ends, ends_again, ends_past_two, ends_step, ends_within}
+use Rattle.uv_parser.proofs.Running.Steps.{Ends, ends_again, ends_within}
 use Rattle.uv_parser.proofs.Loops.Tails.{tail}
 
 -- the text of parts with an authority
@@ -123,18 +124,14 @@ module _ (base : Option Url) (parts : Parts) (scheme host_text : List ℕ) (valu
       (slash ∷ slash ∷ (authority ++ parts.path_text)) after kept
       (spelled ∙ written_with_authority parts scheme host_text named given)
 
-  -- class Other goes by `/` and `/`
+  -- class Other goes to the authority
   pub other_starts : scheme_class scheme ≡ Other → StartsAuthority
   unfolding authority StartsAuthority
   other_starts other k url ends =
       ends_within base (omega arith)
-      (ends_past_two base {s₁ = PathOrAuthorityState} {h₁ = scheme_held scheme}
-      (λ p. colon_row base scheme
-      (slash ∷ slash ∷ (authority ++ (parts.path_text ++ tail parts.query parts.fragment))) p
-      ∙ rw other refl)
-      (ends_step base (λ p. refl) ends))
+      (scheme_starts base scheme (authority ++ (parts.path_text ++ tail parts.query parts.fragment)) Other k other ends)
 
-  -- a special URL goes by `//`, whether the base has the same scheme or not, to a host that isn't empty
+  -- a special URL goes to a host that isn't empty
   pub special_starts : scheme_class scheme ≡ Special → list_all (is_authority_letter true) host_text ≡ true
       → (length host_text == 0) ≡ false → StartsAuthority
   unfolding authority StartsAuthority
@@ -143,20 +140,8 @@ module _ (base : Option Url) (parts : Parts) (scheme host_text : List ℕ) (valu
       let none : (begins slash rest || begins backslash rest) ≡ false
       = no_slash_before host_text (written_behind colon parts.port_text)
       (parts.path_text ++ tail parts.query parts.fragment) letters some in
-      let ignored : Ends base SpecialAuthorityIgnoreSlashesState (scheme_held scheme) rest (suc k) url
-      = ends_again base (λ p. rw none refl) ends in
-      elim (cases_Bool (has_same_scheme base (lowercase scheme))) [
-        | inl same ↦
-            ends_within base (omega arith)
-            (ends_step base {s₁ = SpecialRelativeOrAuthorityState} {h₁ = scheme_held scheme}
-            (λ p. colon_row base scheme (slash ∷ slash ∷ rest) p ∙ rw (special, same) refl)
-            (ends_past_two base (λ p. refl) ignored))
-        | inr other ↦
-            ends_within base (omega arith)
-            (ends_step base {s₁ = SpecialAuthoritySlashesState} {h₁ = scheme_held scheme}
-            (λ p. colon_row base scheme (slash ∷ slash ∷ rest) p ∙ rw (special, other) refl)
-            (ends_past_two base (λ p. refl) ignored))
-      ]
+      ends_within base (omega arith)
+      (scheme_starts base scheme rest Special (suc k) special (ends_again base (λ p. rw none refl) ends))
 
 -- ---- the scheme and the host
 

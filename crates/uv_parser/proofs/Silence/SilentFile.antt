@@ -7,28 +7,24 @@ use Rattle.uv_model.specs.declared.scheme.Class.TheVariants.{File}
 use Rattle.uv_model.specs.declared.path.UrlPath.TheVariants.{Segments}
 use Rattle.uv_model.specs.Ascii.{slash, colon}
 use Rattle.uv_model.specs.Records.Denote.{authority_path}
-use Rattle.uv_parser.specs.Machine.{Held, Sight, end, slash_mark, query_mark, fragment_mark, another, sight, again, FileHostState, FileSlashState, FileState, PathStartState, SchemeState, file_host_at, empty_held, with_host, with_more, with_scheme}
+use Rattle.uv_parser.specs.Machine.{Sight, end, slash_mark, query_mark, fragment_mark, another, sight, again, FileHostState, PathStartState, file_host_at, with_more}
 use Rattle.uv_model.specs.Parts.{Parts, SchemeAuthority, written, written_behind}
 use Rattle.uv_parser.specs.Removed.{first_removed}
-use Rattle.uv_model.specs.Scheme.{is_scheme, lowercase, scheme_class}
+use Rattle.uv_model.specs.Scheme.{is_scheme, scheme_class}
 use Rattle.uv_parser.specs.Laws.Silence.{RunsSilently}
 use Rattle.uv_model.specs.Records.Url.{Url}
 use Rattle.uv_model.specs.Valid.{MayBeUnits}
+use Rattle.uv_parser.proofs.Loops.AuthorityStarts.{file_held, scheme_starts}
 use Rattle.uv_parser.proofs.Loops.AuthorityEnds.{delimits}
 use Rattle.uv_parser.proofs.Loops.AuthorityLoops.{IsDelimiter}
 use Rattle.uv_parser.proofs.Loops.FileHosts.{IsFileRead, file_class, file_host_law, file_host_row, file_scheme}
 use Rattle.uv_parser.proofs.HostParsing.HostsParsed.{parsed_some}
 use Rattle.uv_parser.proofs.Loops.PathLoops.{walking}
 use Rattle.uv_parser.proofs.Loops.PathStarts.{path_start_ends}
-use Rattle.uv_parser.proofs.Loops.SchemeStretch.{colon_row, scheme_held}
 use Rattle.uv_parser.proofs.Silence.SilentAuthority.{valued_some, written_with_authority}
 use Rattle.uv_parser.proofs.Silence.SilentSchemes.{EndsBehindScheme, HoldsDenoted, denoted_from_held, runs_kept}
-use Rattle.uv_parser.proofs.Running.Steps.{Ends, ends_after, ends_again, ends_step}
+use Rattle.uv_parser.proofs.Running.Steps.{Ends, ends_after, ends_again, ends_within}
 use Rattle.uv_parser.proofs.Loops.Tails.{tail, with_tail}
-
--- what is held behind the host
-abbrev pub file_held : Host → Held
-file_held value = with_host (Some value) (with_scheme (codes "file") empty_held)
 
 -- the URL at the end
 abbrev file_url : Host → List (List ℕ) → Option (List ℕ) → Option (List ℕ) → Url
@@ -47,17 +43,6 @@ empty_host_row (another c) is = absurd is
 module _ (base : Option Url) (segments : List (List ℕ)) (path : List ℕ) (query fragment : Option (List ℕ))
     (segmented : MayBePathSlashed segments path) (query_units : MayBeUnits query)
     (fragment_units : MayBeUnits fragment) where
-  -- from the scheme's `:` to the host
-  file_starts : (scheme rest : List ℕ) (k : ℕ) (url : Url) → scheme_class scheme ≡ File
-      → Ends base FileHostState (file_held host.Empty) rest k url
-      → Ends base SchemeState (with_more (lowercase scheme) empty_held) (colon ∷ slash ∷ slash ∷ rest)
-      (suc (suc (suc k))) url
-  file_starts scheme rest k url kind ends =
-      ends_step base {s₁ = FileState} {h₁ = scheme_held scheme}
-      (λ p. colon_row base scheme (slash ∷ slash ∷ rest) p ∙ rw kind refl)
-      (ends_step base {s₁ = FileSlashState} {h₁ = file_held host.Empty} (λ p. refl)
-      (ends_step base (λ p. refl) ends))
-
   -- from behind the host to the end
   file_path_ends : (value : Host)
       → Ends base PathStartState (file_held value) (path ++ tail query fragment)
@@ -138,8 +123,7 @@ file_runs base text parts scheme host_text value spelled query fragment kept for
       url = file_url value parts.segments parts.query parts.fragment;
       named = is;
       ends = rw whole
-          (file_starts base parts.segments parts.path_text parts.query parts.fragment has.path query fragment
-          scheme _ _ _ kind has.ends);
+          (ends_within base (omega arith) (scheme_starts base scheme _ File _ kind has.ends));
       few =
           omega (arith, length-append rest (tail parts.query parts.fragment), length-append host_text parts.path_text);
       denoted = denoted_from_held base parts SchemeAuthority scheme _ refl form named
