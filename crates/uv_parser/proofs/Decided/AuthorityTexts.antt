@@ -1,4 +1,5 @@
--- A text with an authority, with a scheme or without one: the parser is silent on it as its grammar says, or stops. How a
+-- A text with an authority, with a scheme or without one: the parser is silent on it as its grammar says, or stops.
+-- How a
 -- run comes to what follows `//` is a parameter, since there alone the two differ.
 use Rattle.std.proofs.Common.{◌≡◌, ◌≢◌, ℕ, ◌+◌, ◌*◌, ◌≤◌, true, false, ◌||◌, ◌⊎◌, List, [], ◌∷◌, ◌++◌, length, Option, Some, None, refl, sym, ap, subst, ◌∙◌, inl, inr, eqb-true, append-nil, length-append, arith}
 use Rattle.std.proofs.lemmas.Bool.{and_parts, cases_Bool}
@@ -83,7 +84,8 @@ authority_parts form given host_text port_text path query fragment value port = 
   fragment = fragment;
 }
 
--- A text whose scheme is given, or is the base's: where its run stops from what follows `//` on, it stops, and with host
+-- A text whose scheme is given, or is the base's: where its run stops from what follows `//` on, it stops, and with
+-- host
 -- and port taken and the rest fine it is silent.
 module _ (base : Option Url) (text : List ℕ) (form : Form) (given : Option (List ℕ)) (scheme : List ℕ) (h : Held)
     (same : scheme_class h.url.scheme ≡ scheme_class scheme)
@@ -120,7 +122,8 @@ module _ (base : Option Url) (text : List ℕ) (form : Form) (given : Option (Li
             (λ g e. path_start_decided base path query fragment g free slashed)) [
               | inl (letters, taken, fine) ↦
                   let port = port_given (default_port scheme) port_text in
-                  let parts = authority_parts form given host_text port_text path query fragment (Some taken.value) port in
+                  let parts = authority_parts form given host_text port_text path query fragment (Some taken.value)
+                  port in
                   let takes : Takes Special scheme host_text parts
                   = record {
                     value = taken.value;

@@ -55,7 +55,8 @@ module _ (base : Option Url) (text : List ℕ) (scheme host_text port_text : Opt
 
 -- the text with its scheme named
 pub scheme_text : (base : Option Url) (text scheme : List ℕ) (host_text port_text : Option (List ℕ)) (path : List ℕ)
-    (query fragment : Option (List ℕ)) → IsCut base text (cut_with (Some scheme) host_text port_text path query fragment)
+    (query fragment : Option (List ℕ))
+    → IsCut base text (cut_with (Some scheme) host_text port_text path query fragment)
     → text ≡ scheme ++ colon ∷ ((written_authority host_text port_text ++ path) ++ tail query fragment)
 scheme_text base text scheme host_text port_text path query fragment is =
     cut_text base text (Some scheme) host_text port_text path query fragment is

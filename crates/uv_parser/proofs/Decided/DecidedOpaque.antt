@@ -72,7 +72,8 @@ module _ (base : Option Url) (scheme path : List ℕ) (query fragment : Option (
               | inr stops ↦ inr
                   (ends_within base (omega (arith, length-append path (tail query fragment)))
                   (ends_after base
-                  (opaque_path_law base path (tail query fragment) [] (scheme_held scheme) units have.path_question_mark)
+                  (opaque_path_law base path (tail query fragment) [] (scheme_held scheme) units
+                  have.path_question_mark)
                   stops))
             ]
         | inr fault ↦ inr

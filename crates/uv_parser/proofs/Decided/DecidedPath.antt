@@ -51,7 +51,8 @@ module _ (base : Option Url) where
             let later = path_reads cs rest (with_more (encoded_code_point false c) h) unit.1 other.1 in (
               later.0,
               onward_then base
-                  (λ p. path_row_on base c (cs ++ rest) h p not_slash other.0 (is_unit_at-ahead c cs rest unit.0)) later.1,
+                  (λ p. path_row_on base c (cs ++ rest) h p not_slash other.0 (is_unit_at-ahead c cs rest unit.0))
+                  later.1,
             )
       ]
 

@@ -144,7 +144,8 @@ module _ (url : Url) (text : List ℕ) (port_text : Option (List ℕ)) (query fr
   }
 
   -- `/` and a path
-  absolute_silent : (behind : List ℕ) → IsCut (Some url) text (cut_with None None port_text (slash ∷ behind) query fragment)
+  absolute_silent : (behind : List ℕ)
+      → IsCut (Some url) text (cut_with None None port_text (slash ∷ behind) query fragment)
       → starts_with_slash behind ≡ false → AreFine behind query fragment
       → Silent (Some url) text
       (reference_parts PathAbsolute None None port_text None (slash ∷ behind) (pieces behind) query fragment)
@@ -165,7 +166,8 @@ module _ (url : Url) (text : List ℕ) (port_text : Option (List ℕ)) (query fr
       }
 
   -- another path
-  relative_silent : (c : ℕ) (path : List ℕ) → IsCut (Some url) text (cut_with None None port_text (c ∷ path) query fragment)
+  relative_silent : (c : ℕ) (path : List ℕ)
+      → IsCut (Some url) text (cut_with None None port_text (c ∷ path) query fragment)
       → (c == slash) ≡ false → AreFine (c ∷ path) query fragment
       → Silent (Some url) text
       (reference_parts PathRelative None None port_text None (c ∷ path) (pieces (c ∷ path)) query fragment)
@@ -187,7 +189,8 @@ module _ (url : Url) (text : List ℕ) (port_text : Option (List ℕ)) (query fr
       }
 
   -- the three forms, by how the run from behind the no scheme state goes
-  path_forms : (s : State) (h : Held) → ((rest : List ℕ) (p : ℕ) → turn (Some url) NoSchemeState p empty_held rest ≡ again s h)
+  path_forms : (s : State) (h : Held) → ((rest : List ℕ) (p : ℕ)
+      → turn (Some url) NoSchemeState p empty_held rest ≡ again s h)
       → PassesToTail (Some url) s h
       → ((behind : List ℕ) → starts_with_slash behind ≡ false → FreeOfMarks behind query
       → AreFine behind query fragment
@@ -234,7 +237,8 @@ module _ (url : Url) (text : List ℕ) (port_text : Option (List ℕ)) (query fr
             ]
       ]
     where
-      one_slash : (behind : List ℕ) → starts_with_two_slashes (slash ∷ behind) ≡ false → starts_with_slash behind ≡ false
+      one_slash : (behind : List ℕ) → starts_with_two_slashes (slash ∷ behind) ≡ false
+          → starts_with_slash behind ≡ false
       one_slash [] none = refl
       one_slash (d ∷ rest) none = none
 
@@ -261,7 +265,8 @@ module _ (url : Url) (text : List ℕ) (port_text : Option (List ℕ)) (query fr
           → IsCut (Some url) text (cut_with None None port_text (c ∷ path) query fragment)
           → SilentOrStops (Some url) text
       with_slash c same is =
-          here (subst (λ (x : ℕ). IsCut (Some url) text (cut_with None None port_text (x ∷ path) query fragment)) same is)
+          here (subst (λ (x : ℕ). IsCut (Some url) text (cut_with None None port_text (x ∷ path) query fragment)) same
+          is)
 
   -- against a base of a class other than File
   relative_forms : is_file url.scheme ≡ false → (path : List ℕ)

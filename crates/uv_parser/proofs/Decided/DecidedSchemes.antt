@@ -89,7 +89,8 @@ module _ (base : Option Url) (text scheme host_text : List ℕ) (port_text : Opt
       let whole : text ≡ scheme ++ colon ∷ slash ∷ slash ∷ (authority ++ (path ++ tail query fragment))
       = scheme_text base text scheme (Some host_text) port_text path query fragment is
       ∙ ap (λ xs. scheme ++ colon ∷ slash ∷ slash ∷ xs) (append_assoc authority path (tail query fragment)) in
-      scheme_stops base text scheme (slash ∷ slash ∷ (authority ++ (path ++ tail query fragment))) k kept is.scheme whole
+      scheme_stops base text scheme (slash ∷ slash ∷ (authority ++ (path ++ tail query fragment))) k kept is.scheme
+      whole
       (omega (arith, few)) stops
 
   -- with an authority
@@ -193,7 +194,8 @@ module _ (base : Option Url) (text scheme : List ℕ) (port_text : Option (List 
             (ends_again base (λ p. rw no_slash refl) stops)))
       ]
     where
-      one_slash : (behind : List ℕ) → starts_with_two_slashes (slash ∷ behind) ≡ false → starts_with_slash behind ≡ false
+      one_slash : (behind : List ℕ) → starts_with_two_slashes (slash ∷ behind) ≡ false
+          → starts_with_slash behind ≡ false
       one_slash [] none = refl
       one_slash (c ∷ rest) none = none
 

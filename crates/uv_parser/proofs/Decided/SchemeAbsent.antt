@@ -85,7 +85,8 @@ start_back base (c ∷ rest) none =
     elim (cases_Bool (is_ascii_alphabetic c)) [
       | inl first ↦
           let more : goes_on_to_colon rest ≡ false = rw first at none in
-          let row : turn base SchemeStartState 0 empty_held text ≡ onward SchemeState (put (to_ascii_lowercase c) empty_held)
+          let row : turn base SchemeStartState 0 empty_held text
+          ≡ onward SchemeState (put (to_ascii_lowercase c) empty_held)
           = rw first refl in
           let one : step base text (record { state = SchemeStartState; pointer = 0; held = empty_held })
           ≡ at SchemeState 1 (put (to_ascii_lowercase c) empty_held)

@@ -52,7 +52,8 @@ slashed_cases segments text (inr is) =
 -- what follows `//` in a URL of class File, where the host has a text
 file_or_differs : (base : Option Url) (host_text : List ℕ) (parts : Parts) (value : Host)
     → class_in base parts.scheme ≡ File → parts.host_text ≡ Some host_text → TakesFile host_text parts
-    → MayBePathBehind Standard parts.segments parts.path_text → IsTakenFileHost host_text value → parts.host ≡ Some value
+    → MayBePathBehind Standard parts.segments parts.path_text → IsTakenFileHost host_text value
+    → parts.host ≡ Some value
     → FitsAuthority File (setting_of Standard base parts.scheme) host_text parts ⊎ Differs base parts
 file_or_differs base host_text parts value kind given takes path is valued =
     elim (host_or_differs host_text is.host is.parsed) [
@@ -65,7 +66,8 @@ file_or_differs base host_text parts value kind given takes path is valued =
         differs = differs;
       }))
       | inl valid ↦
-          let text_is : IsFileHostText Standard host_text value = rw is.valued (file_host_fits Standard host_text is.host valid) in
+          let text_is : IsFileHostText Standard host_text value = rw is.valued (file_host_fits Standard host_text
+          is.host valid) in
           elim (cases_Bool (starts_with_drive parts.path_text)) [
             | inl drive ↦
                 let some = parsed_not_empty host_text is.host is.parsed in
@@ -216,7 +218,8 @@ valid_or_differs base text parts silent =
 -- ---- never both
 
 -- what follows `//` fits, where there is a host text
-fits_given : (base : Option Url) (form : Form) (parts : Parts) (text : List ℕ) → FitsForm (setting_of Standard base parts.scheme) form parts
+fits_given : (base : Option Url) (form : Form) (parts : Parts) (text : List ℕ)
+    → FitsForm (setting_of Standard base parts.scheme) form parts
     → parts.host_text ≡ Some text → FitsHostText (setting_of Standard base parts.scheme) parts (Some text)
 fits_given base SchemeAuthority parts text is given =
     subst (λ (o : Option (List ℕ)). FitsHostText (setting_of Standard base parts.scheme) parts o) given is
@@ -229,7 +232,8 @@ fits_given base PathRelative parts text is given = absurd cc
 fits_given base NoPath parts text is given = absurd cc
 
 -- a valid authority has a valid host text or, in class File, none
-valid_host : (kind : Class) (base : Option Url) (scheme : Option (List ℕ)) (text : List ℕ) (parts : Parts) → kind ≢ Other
+valid_host : (kind : Class) (base : Option Url) (scheme : Option (List ℕ)) (text : List ℕ) (parts : Parts)
+    → kind ≢ Other
     → FitsAuthority kind (setting_of Standard base scheme) text parts
     → ((value : Host) × IsHostText Standard text value) ⊎ (text ≡ [])
 valid_host Special base scheme text parts plain is = inl (is.value, is.host)
@@ -267,12 +271,18 @@ no_empty_authority base text parts valid (kind, given, bare) =
     nothing_there (no_port, absent, inr (nothing, valued, path)) = absurd (let slashed = path.slashed in cc)
 
 -- a valid text has no difference
-valid_not_differs : (base : Option Url) (text : List ℕ) (parts : Parts) → Valid Standard base text parts → ¬ (Differs base parts)
+valid_not_differs : (base : Option Url) (text : List ℕ) (parts : Parts) → Valid Standard base text parts
+    → ¬ (Differs base parts)
 valid_not_differs base text parts valid (inl foreign) = no_foreign_host base text parts valid foreign
 valid_not_differs base text parts valid (inr (inl (has, starts))) =
     (faultless_form Standard base parts.form parts valid.form valid.scheme).start 1 FirstSegmentEmpty (starts, refl)
 valid_not_differs base text parts valid (inr (inr (inl (kind, has, drive)))) =
-    (faultless_form Standard base parts.form parts valid.form valid.scheme).start 0 DriveAfterHost (kind, has, drive, refl)
+    (faultless_form Standard base parts.form parts valid.form valid.scheme).start 0 DriveAfterHost (
+      kind,
+      has,
+      drive,
+      refl,
+    )
 valid_not_differs base text parts valid (inr (inr (inr empty))) = no_empty_authority base text parts valid empty
 
 -- ---- the law

@@ -130,9 +130,12 @@ scheme_missing (Some scheme) none fits = cc
 absent_done : (url : Url) (text : List ℕ) (parts : Parts) (form : Form) → WellFormed Wide url
     → is_opaque url.path ≡ false → Silent (Some url) text parts → parts.form ≡ form
     → parts.scheme ≡ None → RunsSilently (Some url) text parts
-absent_done url text parts SchemeAuthority well segments is e none = absurd (scheme_missing parts.scheme none (subst (λ (f : Form). FitsScheme (has_scheme f) parts.scheme) e is.scheme))
-absent_done url text parts SchemePath well segments is e none = absurd (scheme_missing parts.scheme none (subst (λ (f : Form). FitsScheme (has_scheme f) parts.scheme) e is.scheme))
-absent_done url text parts SchemeOpaque well segments is e none = absurd (scheme_missing parts.scheme none (subst (λ (f : Form). FitsScheme (has_scheme f) parts.scheme) e is.scheme))
+absent_done url text parts SchemeAuthority well segments is e none = absurd (scheme_missing parts.scheme none (subst
+    (λ (f : Form). FitsScheme (has_scheme f) parts.scheme) e is.scheme))
+absent_done url text parts SchemePath well segments is e none = absurd (scheme_missing parts.scheme none (subst (λ (f
+    : Form). FitsScheme (has_scheme f) parts.scheme) e is.scheme))
+absent_done url text parts SchemeOpaque well segments is e none = absurd (scheme_missing parts.scheme none (subst (λ
+    (f : Form). FitsScheme (has_scheme f) parts.scheme) e is.scheme))
 absent_done url text parts Authority well segments is e none =
     let lower = lower_same url.scheme well.scheme.lower in
     elim (kind_cases (scheme_class url.scheme)) [

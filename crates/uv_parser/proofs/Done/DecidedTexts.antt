@@ -31,10 +31,14 @@ scheme_done base text scheme parts SchemeAuthority is e named =
     ]
 scheme_done base text scheme parts SchemePath is e named = path_done base text parts is e
 scheme_done base text scheme parts SchemeOpaque is e named = opaque_done base text parts is e
-scheme_done base text scheme parts Authority is e named = absurd (no_scheme base text scheme parts is named (ap has_scheme e))
-scheme_done base text scheme parts PathAbsolute is e named = absurd (no_scheme base text scheme parts is named (ap has_scheme e))
-scheme_done base text scheme parts PathRelative is e named = absurd (no_scheme base text scheme parts is named (ap has_scheme e))
-scheme_done base text scheme parts NoPath is e named = absurd (no_scheme base text scheme parts is named (ap has_scheme e))
+scheme_done base text scheme parts Authority is e named = absurd (no_scheme base text scheme parts is named (ap
+    has_scheme e))
+scheme_done base text scheme parts PathAbsolute is e named = absurd (no_scheme base text scheme parts is named (ap
+    has_scheme e))
+scheme_done base text scheme parts PathRelative is e named = absurd (no_scheme base text scheme parts is named (ap
+    has_scheme e))
+scheme_done base text scheme parts NoPath is e named = absurd (no_scheme base text scheme parts is named (ap
+    has_scheme e))
 
 -- a text whose cut has a scheme
 cut_decided : (base : Option Url) (text : List ℕ) (cut : Cut) (scheme : Option (List ℕ)) → IsCut base text cut

@@ -148,7 +148,11 @@ taken_parsed parts scheme host_text port base is ends fits takes =
     is.no_number_sign takes.host.no_at_sign (λ same. takes.host.no_backslash) in
     let some = parsed_some host_text takes.value takes.host.parsed in
     record {
-      read = record { letters = letters; read = reads_from (is_special (lowercase scheme)) false host_text port (ends_from_start host_text port ends) letters };
+      read = record {
+        letters = letters;
+        read = reads_from (is_special (lowercase scheme)) false host_text port
+            (ends_from_start host_text port ends) letters;
+      };
       parsed = rw special takes.host.parsed;
       stands = and_left _ _ some;
       some = closed_before host_text port ends some;
@@ -266,7 +270,8 @@ other_done base text parts silent form other =
 
 -- ---- class File
 
-pub taken_file : (base : Option Url) (text : List ℕ) (parts : Parts) (scheme host_text : List ℕ) → Silent base text parts
+pub taken_file : (base : Option Url) (text : List ℕ) (parts : Parts) (scheme host_text : List ℕ)
+    → Silent base text parts
     → IsNamed base parts File scheme host_text → TakesFile host_text parts
     → (value : Host) × HasFileHost base parts host_text value
 taken_file base text parts scheme host_text silent is takes =

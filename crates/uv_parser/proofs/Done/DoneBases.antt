@@ -57,7 +57,8 @@ module _ (url : Url) (text : List ℕ) (parts : Parts) (is : Silent (Some url) t
       (cut_text (Some url) text parts.scheme parts.host_text parts.port_text parts.path_text parts.query parts.fragment
       is.cut) in
       let whole : text ≡ slash ∷ slash ∷ (authority ++ rest)
-      = spelled ∙ ap (λ xs. slash ∷ slash ∷ xs) (append_assoc authority parts.path_text (tail parts.query parts.fragment)) in
+      = spelled
+      ∙ ap (λ xs. slash ∷ slash ∷ xs) (append_assoc authority parts.path_text (tail parts.query parts.fragment)) in
       let h = walking (authority_path (scheme_class (lowercase url.scheme)) parts.segments)
       (hosted url.scheme value (port_given (default_port url.scheme) parts.port_text)) in
       reference_runs url text (slash ∷ slash ∷ (authority ++ rest)) parts Authority h
@@ -70,7 +71,8 @@ module _ (url : Url) (text : List ℕ) (parts : Parts) (is : Silent (Some url) t
         port = sym has.port;
         path = ap (λ k. Segments (authority_path k parts.segments)) (scheme_class-lowercase url.scheme);
         query = reference_query url (scheme_class url.scheme) Authority parts.query h
-            (special_of_class (scheme_class url.scheme) (lowercase url.scheme) (scheme_class-lowercase url.scheme)) refl;
+            (special_of_class (scheme_class url.scheme) (lowercase url.scheme) (scheme_class-lowercase url.scheme))
+            refl;
       })
       (omega (
         arith,
@@ -87,7 +89,8 @@ module _ (url : Url) (text : List ℕ) (parts : Parts) (is : Silent (Some url) t
   same_held s xs k u ends = subst (λ (n : List ℕ). Ends (Some url) s (with_scheme n empty_held) xs k u) lower ends
 
   -- against a base of class Other
-  pub other_reference_done : parts.form ≡ Authority → scheme_class url.scheme ≡ Other → RunsSilently (Some url) text parts
+  pub other_reference_done : parts.form ≡ Authority → scheme_class url.scheme ≡ Other
+      → RunsSilently (Some url) text parts
   unfolding Starts
   other_reference_done form other =
       let kind_in : scheme_class (scheme_in (Some url) parts) ≡ Other

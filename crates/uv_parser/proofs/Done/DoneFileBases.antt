@@ -156,7 +156,8 @@ module _ (url : Url) (text : List ℕ) (parts : Parts) (is : Silent (Some url) t
       ∙ ap (λ xs. xs ++ rest) alone) in
       let h = walking (authority_path (scheme_class (codes "file")) parts.segments) (file_held value) in
       reference_runs url text (slash ∷ slash ∷ (host_text ++ rest)) parts Authority h
-      (suc (suc (suc (length host_text + suc (length parts.path_text + (length (tail parts.query parts.fragment) + 2))))))
+      (suc (suc (suc (length host_text + suc (length parts.path_text + (length (tail parts.query parts.fragment) +
+      2))))))
       whole is form none
       (record {
         scheme = sym name;

@@ -206,7 +206,8 @@ module _ (url : Url) (text : List ℕ) (parts : Parts) (is : Silent (Some url) t
       let list : shorten (scheme_class url.scheme) (list_in url.path)
       ≡ shorten (scheme_class url.scheme) (segments_in url.path)
       = ap (shorten (scheme_class url.scheme)) (same_list url.path) in
-      let walked = walk (scheme_class url.scheme) (shorten (scheme_class url.scheme) (list_in url.path)) parts.segments in
+      let walked = walk (scheme_class url.scheme) (shorten (scheme_class url.scheme) (list_in url.path))
+      parts.segments in
       reference_runs url text (parts.path_text ++ tail parts.query parts.fragment) parts PathRelative (walking walked h)
       (suc (suc (length parts.path_text + (length (tail parts.query parts.fragment) + 1)))) whole is form none
       (record {

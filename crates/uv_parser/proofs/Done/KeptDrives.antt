@@ -154,7 +154,8 @@ file_absolute_done url text parts is not_opaque file kind none name no_port form
     = ap (λ l. kept_drive File l (joins.first ∷ joins.others)) (same_list url.path)
     ∙ (ap (λ k. kept_drive k (segments_in url.path) (joins.first ∷ joins.others)) (sym kind)
     ∙ ap (kept_drive (scheme_class url.scheme) (segments_in url.path)) (sym joins.some)) in
-    let begun : (p : ℕ) → turn (Some url) FileSlashState p (file_held host.Empty) rest ≡ again PathState (walking kept h)
+    let begun : (p : ℕ)
+    → turn (Some url) FileSlashState p (file_held host.Empty) rest ≡ again PathState (walking kept h)
     = λ p. rw (no_slash, file)
     (ap (λ g. again PathState g) (kept_same (list_in url.path) joins.first rest joins.others url.host same)) in
     reference_runs url text (slash ∷ rest) parts PathAbsolute (walking walked h)

@@ -59,7 +59,8 @@ pub authority_letters : (special : Bool) (host : List ℕ) (port : Option (List 
     → list_all (is_authority_letter special) (host ++ written_behind colon port) ≡ true
 authority_letters special host None read fits = rw (append-nil host) read.letters
 authority_letters special host (Some port) read fits =
-    list_all-append (is_authority_letter special) host (colon ∷ port) ∙ and_from _ _ read.letters (digits port fits.digits)
+    list_all-append (is_authority_letter special) host (colon ∷ port)
+    ∙ and_from _ _ read.letters (digits port fits.digits)
   where
     digits : (text : List ℕ) → list_all is_ascii_digit text ≡ true → list_all (is_authority_letter special) text ≡ true
     digits [] is = refl
@@ -109,7 +110,8 @@ module _ (base : Option Url) (scheme : List ℕ) (value : Host) (segments : List
   unfolding rest
   rest_ends within port =
       subst
-      (λ (u : Url). Ends base PathStartState (with_brackets within (hosted scheme value port)) (path ++ tail query fragment)
+      (λ (u : Url). Ends base PathStartState (with_brackets within (hosted scheme value port)) (path ++ tail query
+      fragment)
       (length path + (length (tail query fragment) + 2)) u)
       (same_tail within query fragment
       (walking (authority_path (scheme_class (lowercase scheme)) segments) (hosted scheme value port)))
@@ -140,7 +142,8 @@ module _ (base : Option Url) (scheme : List ℕ) (value : Host) (segments : List
   host_ends host None is =
       let within = is_within_at_end false host in
       ends_within base (omega (arith, length-append host []))
-      (ends_after base (host_law base (is_special (lowercase scheme)) false host rest (scheme_held scheme) refl is.read.read)
+      (ends_after base (host_law base (is_special (lowercase scheme)) false host rest (scheme_held scheme) refl
+      is.read.read)
       (ends_again base
       (λ p. host_row_end value (with_more host (with_brackets within (scheme_held scheme))) (sight rest)
       (delimits segments path query fragment behind.path) is.stands is.parsed)
@@ -150,7 +153,8 @@ module _ (base : Option Url) (scheme : List ℕ) (value : Host) (segments : List
       = ⊎_elim (λ e. absurd cc) (λ e. e) is.some in
       let law : Reaches base HostState (scheme_held scheme) (host ++ (colon ∷ (port ++ rest))) (length host)
       HostState (with_more host (scheme_held scheme)) (colon ∷ (port ++ rest))
-      = rw some.1 at (host_law base (is_special (lowercase scheme)) false host (colon ∷ (port ++ rest)) (scheme_held scheme) refl
+      = rw some.1 at (host_law base (is_special (lowercase scheme)) false host (colon ∷ (port ++ rest)) (scheme_held
+      scheme) refl
       is.read.read) in
       ends_within base (omega (arith, length-append host (colon ∷ port)))
       (ends_after base law
@@ -169,5 +173,6 @@ module _ (base : Option Url) (scheme : List ℕ) (value : Host) (segments : List
   authority_ends host port is =
       ends_after base
       (authority_law base (is_special (lowercase scheme)) (host ++ written_behind colon port) rest (scheme_held scheme)
-      refl (authority_letters (is_special (lowercase scheme)) host port is.read is.port) (delimits segments path query fragment behind.path))
+      refl (authority_letters (is_special (lowercase scheme)) host port is.read is.port) (delimits segments path query
+      fragment behind.path))
       (rw (append_assoc host (written_behind colon port) rest) (host_ends host port is))

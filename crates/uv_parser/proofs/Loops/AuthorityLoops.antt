@@ -76,7 +76,8 @@ module _ (base : Option Url) (text : List ℕ) where
   pub authority_steps : (special : Bool) (cs rest : List ℕ) (p : ℕ) (h : Held) → drop p text ≡ cs ++ rest
       → is_special h.url.scheme ≡ special → list_all (is_authority_letter special) cs ≡ true
       → Leads base text (at AuthorityState p h) (length cs) (at AuthorityState (p + length cs) (with_more cs h))
-  authority_steps special [] rest p h e kind is = rw (add-zero, append-nil h.buffer) (leads_none base text (at AuthorityState p h))
+  authority_steps special [] rest p h e kind is = rw (add-zero, append-nil h.buffer) (leads_none base text (at
+      AuthorityState p h))
   authority_steps special (c ∷ cs) rest p h e kind is =
       let parts = and_parts (is_authority_letter special c) (list_all (is_authority_letter special) cs) is in
       let later = authority_steps special cs rest (p + 1) (put c h) (drop_one text p c (cs ++ rest) e) kind parts.1 in
@@ -150,7 +151,8 @@ pub host_law : (base : Option Url) (special within : Bool) (cs rest : List ℕ) 
     → is_special h.url.scheme ≡ special → is_read_as_host special within cs ≡ true
     → Reaches base HostState (with_brackets within h) (cs ++ rest) (length cs)
     HostState (with_more cs (with_brackets (is_within_at_end within cs) h)) rest
-host_law base special within [] rest h kind is = rw (append-nil h.buffer) (reaches_none base HostState (with_brackets within h) rest)
+host_law base special within [] rest h kind is = rw (append-nil h.buffer) (reaches_none base HostState (with_brackets
+    within h) rest)
 host_law base special within (c ∷ cs) rest h kind is =
     let parts = and_parts (is_authority_letter special c) _ is in
     let later = and_parts (not (is_port_mark within c)) (is_read_as_host special (is_within within c) cs) parts.1 in

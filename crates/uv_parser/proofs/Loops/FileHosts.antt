@@ -67,7 +67,8 @@ file_text (c ∷ cs) is =
       no_slash = is_without-more slash c cs l.no_slash later.no_slash;
       no_question_mark = is_without-more question_mark c cs l.no_question_mark later.no_question_mark;
       no_number_sign = is_without-more number_sign c cs l.no_number_sign later.no_number_sign;
-      no_backslash = is_without-more backslash c cs (sym (and_true-right (c == backslash)) ∙ l.no_backslash) later.no_backslash;
+      no_backslash = is_without-more backslash c cs (sym (and_true-right (c == backslash))
+          ∙ l.no_backslash) later.no_backslash;
     }
 
 -- a host that is parsed ends at a delimiter

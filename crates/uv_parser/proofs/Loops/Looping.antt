@@ -36,7 +36,8 @@ module _ (base : Option Url) where
   -- ---- the opaque path
 
   -- the row of a unit of an opaque path
-  pub opaque_row_on : (c : ℕ) (rest : List ℕ) (h : Held) (p : ℕ) → (c == question_mark) ≡ false → is_unit_at c rest ≡ true
+  pub opaque_row_on : (c : ℕ) (rest : List ℕ) (h : Held) (p : ℕ) → (c == question_mark) ≡ false
+      → is_unit_at c rest ≡ true
       → turn base OpaquePathState p h (c ∷ rest) ≡ onward OpaquePathState (with_opaque c h)
   opaque_row_on c rest h p other ok =
       let fragment : (c == number_sign) ≡ false = unit_not_number_sign c rest ok in

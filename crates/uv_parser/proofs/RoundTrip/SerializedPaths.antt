@@ -259,7 +259,8 @@ module _ (scheme : List ℕ) (query fragment : Option (List ℕ)) (is : IsUrlSch
 
   -- they are the parts of a valid text
   path_valid : (segments : List (List ℕ)) → IsPathAbsolute segments (serial_segments segments)
-      → Valid Wide None (written (path_parts scheme segments query fragment)) (path_parts scheme segments query fragment)
+      → Valid Wide None (written (path_parts scheme segments query fragment)) (path_parts scheme segments query
+      fragment)
   path_valid segments path = record {
     whole = refl;
     scheme = is.spelled;

@@ -64,8 +64,10 @@ domain_again profile text form (is, name) = (again profile is, name)
 -- ---- hosts
 
 -- a valid host string
-pub host_stable : (profile : Profile) (text : List ℕ) (value : Host) → IsHostText profile text value → IsStableHost value
-host_stable profile text (host.Domain form) is = domains_are_parsed profile form form (domain_again profile text form is)
+pub host_stable : (profile : Profile) (text : List ℕ) (value : Host) → IsHostText profile text value
+    → IsStableHost value
+host_stable profile text (host.Domain form) is = domains_are_parsed profile form form (domain_again profile text form
+    is)
 host_stable profile text (host.V4 value) is = ipv4_small text value is
 host_stable profile text (host.V6 pieces) is = ipv6_small is.0 pieces is.2
 host_stable profile text (host.Opaque name) is = absurd is

@@ -283,7 +283,9 @@ finds_host = record {
 
 -- one name to unfold where a table is computed
 tables : Unit {0}
-unfolding parser cut_of has_permitted to_ascii is_found is_answered tests_empty_authority tests_first_segment tests_drive tests_host is_file_class is_empty_text has_host is_plain_class lacks_form is_foreign is_foreign_parsed is_foreign_text
+unfolding parser cut_of has_permitted to_ascii is_found is_answered tests_empty_authority tests_first_segment
+    tests_drive tests_host is_file_class is_empty_text has_host is_plain_class lacks_form is_foreign is_foreign_parsed
+    is_foreign_text
 tables = tt
 
 file_rows_differ : AllDiffer HasEmptyAuthority file_rows

@@ -48,7 +48,8 @@ letter_no_slash : (c : ℕ) → is_authority_letter true c ≡ true → ((c == s
 letter_no_slash c is = grind (arith, nat_tests)
 
 -- so a host that isn't empty begins with neither
-pub no_slash_before : (host port rest : List ℕ) → list_all (is_authority_letter true) host ≡ true → (length host == 0) ≡ false
+pub no_slash_before : (host port rest : List ℕ) → list_all (is_authority_letter true) host ≡ true
+    → (length host == 0) ≡ false
     → (begins slash ((host ++ port) ++ rest) || begins backslash ((host ++ port) ++ rest)) ≡ false
 no_slash_before [] port rest letters some = absurd (true≢false some)
 no_slash_before (c ∷ host) port rest letters some =
@@ -108,7 +109,8 @@ module _ (base : Option Url) (parts : Parts) (scheme host_text : List ℕ) (valu
       = record {
         steps = (length authority + 1
             + (length authority + (length parts.path_text + (length (tail parts.query parts.fragment) + 3)))) + 4;
-        url = authority_url scheme value (port_given (default_port scheme) parts.port_text) parts.segments parts.query parts.fragment;
+        url = authority_url scheme value (port_given (default_port scheme) parts.port_text) parts.segments parts.query
+            parts.fragment;
         named = is;
         ends = rw whole (start _ _
             (authority_ends base scheme value parts.segments parts.path_text parts.query parts.fragment behind

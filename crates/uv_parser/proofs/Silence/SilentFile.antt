@@ -78,7 +78,8 @@ pub record HasFileHost (base : Option Url) (parts : Parts) (text : List ℕ) (va
   pub no_port : parts.port ≡ None
   pub valued : parts.host ≡ Some value
   pub path : MayBePathSlashed parts.segments parts.path_text
-  pub ends : Ends base FileHostState (file_held host.Empty) (text ++ (parts.path_text ++ tail parts.query parts.fragment))
+  pub ends : Ends base FileHostState (file_held host.Empty) (text ++ (parts.path_text ++ tail parts.query
+      parts.fragment))
       (length text + suc (length parts.path_text + (length (tail parts.query parts.fragment) + 2)))
       (file_url value parts.segments parts.query parts.fragment)
 

@@ -51,7 +51,8 @@ module _ (base : Option Url) where
   opaque_denoted scheme parts = record { scheme = refl; host = refl; port = refl; path = refl; query = refl }
 
 -- the run of a text with an opaque path on which the parser is silent is done
-pub opaque_done : (base : Option Url) (text : List ℕ) (parts : Parts) → Silent base text parts → parts.form ≡ SchemeOpaque
+pub opaque_done : (base : Option Url) (text : List ℕ) (parts : Parts) → Silent base text parts
+    → parts.form ≡ SchemeOpaque
     → RunsSilently base text parts
 opaque_done base text parts silent form =
     let P : Form → Type 0 = λ f. TakesForm base f parts in

@@ -140,9 +140,11 @@ host_is_some base parts (Some host_text) is = refl
 form_found : (base : Option Url) (form : Form) (parts : Parts) → FitsScheme (has_scheme form) parts.scheme
     → TakesForm base form parts → form ≡ form_of parts.scheme parts.host_text parts.path_text
 form_found base SchemeAuthority parts named is =
-    authority_form true parts.scheme parts.host_text named (host_is_some base parts parts.host_text is.0) parts.path_text
+    authority_form true parts.scheme parts.host_text named (host_is_some base parts parts.host_text is.0)
+    parts.path_text
 form_found base Authority parts named is =
-    authority_form false parts.scheme parts.host_text named (host_is_some base parts parts.host_text is.0) parts.path_text
+    authority_form false parts.scheme parts.host_text named (host_is_some base parts parts.host_text is.0)
+    parts.path_text
 form_found base SchemePath parts named (none, other, path) =
     let shown = alone_form parts.scheme parts.host_text parts.path_text named none.host_text in
     let start : starts_with_slash parts.path_text ≡ true = rw path.slashed refl in

@@ -18,7 +18,8 @@ use Rattle.uv_model.specs.Valid.{Valid}
 
 -- ---- the host of a special URL or of a file URL
 
--- an ASCII code point of the text is no letter, digit, hyphen or full stop, as `_` or the `%` of an escape (section 3.4)
+-- an ASCII code point of the text is no letter, digit, hyphen or full stop, as `_` or the `%` of an escape (section
+-- 3.4)
 abbrev pub HasForeignCodePoint : List ℕ → Type 0
 HasForeignCodePoint text = has_permitted Standard text ≡ false
 
@@ -56,14 +57,16 @@ pub record HasForeignHost (base : Option Url) (parts : Parts) : Type 0 where
 abbrev pub HasEmptyFirstSegment : Parts → Type 0
 HasEmptyFirstSegment parts = IsSome parts.host_text × (starts_with_two_slashes parts.path_text ≡ true)
 
--- a file URL's path begins with a drive letter behind a host: the text's, or without a scheme and an authority the base's
+-- a file URL's path begins with a drive letter behind a host: the text's, or without a scheme and an authority the
+-- base's
 -- (section 4.3, path-absolute-non-Windows-file-URL string)
 abbrev pub HasDriveBehindHost : Option Url → Parts → Type 0
 HasDriveBehindHost base parts =
     (class_in base parts.scheme ≡ File) × HasHost base parts.scheme parts.host_text
     × (starts_with_drive parts.path_text ≡ true)
 
--- nothing follows the `//` of a file URL before its query and its fragment (section 4.3, scheme-relative-file-URL string)
+-- nothing follows the `//` of a file URL before its query and its fragment (section 4.3, scheme-relative-file-URL
+-- string)
 abbrev pub HasEmptyAuthority : Option Url → Parts → Type 0
 HasEmptyAuthority base parts =
     (class_in base parts.scheme ≡ File) × (parts.host_text ≡ Some []) × (parts.path_text ≡ [])
