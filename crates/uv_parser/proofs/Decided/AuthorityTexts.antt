@@ -1,6 +1,5 @@
--- A text with an authority, with a scheme or without one: the parser is silent on it as its grammar says, or stops.
--- How a
--- run comes to what follows `//` is a parameter, since there alone the two differ.
+-- A text with an authority, with a scheme or without one: the parser is silent on it as its grammar says, or stops. How
+-- a run comes to what follows `//` is a parameter, since there alone the two differ.
 use Rattle.std.proofs.Common.{◌≡◌, ◌≢◌, ℕ, ◌+◌, ◌*◌, ◌≤◌, true, false, ◌||◌, ◌⊎◌, List, [], ◌∷◌, ◌++◌, length, Option, Some, None, refl, sym, ap, subst, ◌∙◌, inl, inr, eqb-true, append-nil, length-append, arith}
 use Rattle.std.proofs.lemmas.Bool.{and_parts, cases_Bool}
 use Rattle.uv_model.specs.declared.host.Host.{Host}
@@ -85,8 +84,7 @@ authority_parts form given host_text port_text path query fragment value port = 
 }
 
 -- A text whose scheme is given, or is the base's: where its run stops from what follows `//` on, it stops, and with
--- host
--- and port taken and the rest fine it is silent.
+-- host and port taken and the rest fine it is silent.
 module _ (base : Option Url) (text : List ℕ) (form : Form) (given : Option (List ℕ)) (scheme : List ℕ) (h : Held)
     (same : scheme_class h.url.scheme ≡ scheme_class scheme)
     (host_text : List ℕ) (port_text : Option (List ℕ)) (path : List ℕ) (query fragment : Option (List ℕ))

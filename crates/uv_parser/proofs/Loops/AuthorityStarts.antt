@@ -1,6 +1,5 @@
 -- The start of a run on a text with an authority: with a scheme from the scheme's `:` on, and against a base from the
--- no
--- scheme state on, each by the class. What follows `//` ends the run in one way or the other, and so does the start.
+-- no scheme state on, each by the class. What follows `//` ends the run in one way or the other, and so does the start.
 use Rattle.std.proofs.Common.{◌≡◌, ℕ, ◌+◌, false, true, List, ◌∷◌, Option, Some, codes, refl, ◌∙◌, arith, inl, inr}
 use Rattle.std.proofs.lemmas.Bool.{cases_Bool}
 use Rattle.uv_model.specs.declared.host.Host.{Host}
