@@ -6,18 +6,19 @@ use Rattle.std.specs.Prelude.{ℕ, ◌+◌, Bool, true, false, ◌||◌, ◌==�
 abbrev pub is_tab_or_newline : ℕ → Bool
 is_tab_or_newline c = (c == 0x09) || ((c == 0x0A) || (c == 0x0D))
 
--- a code point that the standard removes: a tab or newline, or at the text's first or last place a C0 control or a
--- space
+-- a code point for which the standard removes something: a tab or newline, or at the text's first or last place a C0
+-- control or a space
 abbrev pub is_removed : Bool → ℕ → Bool
 is_removed at_border c = is_tab_or_newline c || (if at_border then nat_le c 0x20 else false)
 
--- the least place behind the first where a code point is removed
+-- the least such place behind the first
 abbrev pub removed_behind : ℕ → List ℕ → Option ℕ
 removed_behind p [] = None
 removed_behind p (c ∷ []) = if is_removed true c then Some p else None
 removed_behind p (c ∷ d ∷ rest) = if is_removed false c then Some p else removed_behind (p + 1) (d ∷ rest)
 
--- the least place where a code point is removed
+-- The least such place, and none exactly where the standard removes nothing. Of several C0 controls and spaces at the
+-- text's end the standard removes all, and this is the place of the last.
 unfoldable pub first_removed : List ℕ → Option ℕ
 first_removed [] = None
 first_removed (c ∷ rest) = if is_removed true c then Some 0 else removed_behind 1 rest
