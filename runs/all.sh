@@ -1,10 +1,14 @@
 #!/usr/bin/env bash
 # Runs the program given as the first argument on the cases of this folder: its status, output and standard error.
 set -uo pipefail
+for tool in awk cmp mkfifo prlimit python3; do
+    command -v "$tool" >/dev/null || { echo "runs: $tool is missing; README says what the gate needs"; exit 70; }
+done
 program=$(realpath "$1")
-here=$(dirname "$(realpath "$0")")
+here=${2:-$(dirname "$(realpath "$0")")}
 room=$(mktemp -d)
-trap 'rm -rf "$room"' EXIT
+finished=no
+trap 'rm -rf "$room"; [ $finished = yes ] || { echo "FAILED: ${cases:-runs} ended all runs"; exit 1; }' EXIT
 failed=0
 count=0
 
@@ -33,8 +37,24 @@ ends_with() {
     if ! printf '%b' "$stderr" | cmp -s - "$room/err"; then fail "$what: on standard error: $(cat "$room/err")"; fi
 }
 
+# all_cases NUMBER : the last line of a file of cases, with the number of its runs
+all_cases() {
+    complete=yes
+    [ "$1" = "$count" ] || fail "$(basename "$cases"): $count runs, and not the $1 of its last line"
+}
+
+files=0
+total=0
 for cases in "$here"/*.cases.sh; do
+    [ -e "$cases" ] || continue
+    files=$((files + 1))
+    count=0
+    complete=no
     . "$cases"
+    [ $complete = yes ] || fail "$(basename "$cases"): it wasn't read to its end"
+    total=$((total + count))
 done
-echo "runs: $count runs of $(basename "$program")"
+[ $files != 0 ] || fail "$here: no file of cases"
+echo "runs: $total runs of $(basename "$program")"
+finished=yes
 exit $failed

@@ -1,17 +1,45 @@
-# Devices that fail, and too little memory.
-(cd "$room" && "$program" check urn:a) >/dev/full 2>"$room/err"
-ends_with 3 $? 'write\n' 'a full device'
-(sleep 0.3; "$program" check urn:a 2>"$room/err"; echo $? >"$room/status") | true
-ends_with 3 "$(cat "$room/status")" 'write\n' 'a closed pipe'
-(cd "$room" && "$program" check urn:a) >&- 2>"$room/err"
-ends_with 3 $? 'write\n' 'a closed standard output'
+# Devices that fail: outputs that take nothing, end early or are closed, and inputs that can't be read or end early.
 
-# Too little memory for a long text, in the least address space in which the program starts.
-long=urn:$(printf 'a%.0s' {1..100000})
-for ((kilobytes = 2000; kilobytes <= 20000; kilobytes += 50)); do
-    (cd "$room" && prlimit --as=$((kilobytes * 1024)) "$program" check "$long") >"$room/out" 2>"$room/err" </dev/null
-    status=$?
-    [ $status = 127 ] || break
+printf 'urn:a\nurn:b\n' >"$room/list"
+for words in 'check urn:a' 'check x' 'links'; do
+    "$program" $words <"$room/list" >/dev/full 2>"$room/err"
+    ends_with 3 $? 'write\n' "$words to a full device"
+    "$program" $words <"$room/list" >&- 2>"$room/err"
+    ends_with 3 $? 'write\n' "$words with standard output closed"
+    # A pipe without a reader, with the signal SIGPIPE at its default, and ignored.
+    (sleep 0.2; "$program" $words <"$room/list" 2>"$room/err"; echo $? >"$room/status") | true
+    ends_with 3 "$(cat "$room/status")" 'write\n' "$words to a closed pipe"
+    (trap '' PIPE; sleep 0.2; "$program" $words <"$room/list" 2>"$room/err"; echo $? >"$room/status") | true
+    ends_with 3 "$(cat "$room/status")" 'write\n' "$words to a closed pipe, SIGPIPE ignored"
 done
-ends_with 3 $status 'memory\n' 'too little memory'
-[ ! -s "$room/out" ] || fail "too little memory: it wrote $(head -c 40 "$room/out")"
+
+# A pipe that is closed behind one line: the line is whole, and the list, which is longer than a pipe holds, isn't read
+# to its end in silence.
+awk 'BEGIN { for (n = 1; n <= 100000; n++) print "urn:isbn:" n }' >"$room/long"
+("$program" links <"$room/long" 2>"$room/err"; echo $? >"$room/status") | head -n 1 >"$room/out"
+ends_with 3 "$(cat "$room/status")" 'write\n' 'links to a pipe closed behind one line'
+[ "$(cat "$room/out")" = '1 ok urn:isbn:1' ] || fail "a pipe closed behind one line: it wrote $(cat "$room/out")"
+
+# Inputs: closed, open for writing alone, a folder; and a list that ends within a line, a code point and a scheme.
+"$program" links <&- >"$room/out" 2>"$room/err"
+ends_with 3 $? 'read\n' 'links with standard input closed'
+"$program" links 0>"$room/written" >"$room/out" 2>"$room/err"
+ends_with 3 $? 'read\n' 'links on an input for writing'
+"$program" links <"$room" >"$room/out" 2>"$room/err"
+ends_with 3 $? 'read\n' 'links on a folder'
+[ ! -s "$room/out" ] || fail "links on a folder: it wrote $(head -c 40 "$room/out")"
+
+# ends_early BYTES REPORT : the report on the first bytes of the list, which then ends
+ends_early() {
+    printf 'urn:a\nhttp://h/\303\251\n' | head -c "$1" | "$program" links >"$room/out" 2>"$room/err"
+    ends_with "$2" $? '' "a list that ends after $1 bytes"
+    printf '%b' "$3" | cmp -s - "$room/out" || fail "a list that ends after $1 bytes: it wrote $(cat "$room/out")"
+}
+ends_early 3 1 '1 bad 0 no-scheme\nlinks 1 ok 0 bad 1 differs 0\n'
+ends_early 5 0 '1 ok urn:a\nlinks 1 ok 1 bad 0 differs 0\n'
+ends_early 6 0 '1 ok urn:a\nlinks 1 ok 1 bad 0 differs 0\n'
+ends_early 13 1 '1 ok urn:a\n2 bad 7 host-missing\nlinks 2 ok 1 bad 1 differs 0\n'
+ends_early 16 1 '1 ok urn:a\n2 bad 0 not-utf8\nlinks 2 ok 1 bad 1 differs 0\n'
+ends_early 17 0 '1 ok urn:a\n2 ok http://h/%C3%A9\nlinks 2 ok 2 bad 0 differs 0\n'
+
+all_cases 22

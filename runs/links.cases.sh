@@ -77,3 +77,5 @@ awk 'BEGIN {
 "$program" links <"$room/list" >"$room/out" 2>"$room/err"
 ends_with 1 $? '' 'a list of 100,000 lines'
 cmp -s "$room/wanted" "$room/out" || fail "a list of 100,000 lines: $(diff "$room/wanted" "$room/out" | head -3)"
+
+all_cases 15

@@ -20,3 +20,4 @@ expect 0 'valid\nscheme urn\nopaque a\nfragment t\n' '' check --base urn:a '#t'
 expect 1 'refused 0 drive-after-host\n' '' check --base file://h/a /C:/x
 expect 2 '' 'base refused 7 host-missing\n' check --base http:// x
 expect 2 '' 'base refused 0 no-scheme\n' check --base x urn:a
+all_cases 19

@@ -1,0 +1,76 @@
+# Little memory: each command in an address space that grows from where the program doesn't start to where its run
+# succeeds, and a long list of random bytes in a small one.
+
+# A step is refused with the status 3, the word `memory` and whole lines, or nothing, on standard output.
+refused_at() {
+    [ "$(cat "$room/err")" = memory ] || fail "$1: on standard error: $(head -c 80 "$room/err")"
+    [ ! -s "$room/out" ] || [ "$(tail -c 1 "$room/out" | wc -l)" = 1 ] || fail "$1: it wrote a part of a line"
+    [ "$(head -c "$(stat -c %s "$room/out")" "$room/whole" | cmp - "$room/out" 2>&1)" = '' ] ||
+        fail "$1: it wrote other bytes than its whole run"
+}
+
+# walks WORD.. : a run with these words, on the bytes of $room/list, in more and more address space. Below the first
+# space in which it starts, the system ends it before its first step: by a signal, or with 127.
+walks() {
+    local kilobytes status wanted refused=0 words="$*"
+    words=${words:0:40}
+    "$program" "$@" <"$room/list" >"$room/whole" 2>"$room/err"
+    wanted=$?
+    [ ! -s "$room/err" ] || fail "$words: on standard error: $(cat "$room/err")"
+    for ((kilobytes = 1500; kilobytes <= 40000; kilobytes += 20)); do
+        prlimit --as=$((kilobytes * 1024)) "$program" "$@" <"$room/list" >"$room/out" 2>"$room/err"
+        status=$?
+        case $status in
+            127 | 137 | 139) [ $refused = 0 ] || fail "$words: status $status in $kilobytes KiB" ;;
+            3) refused_at "$words in $kilobytes KiB"; refused=$((refused + 1)) ;;
+            *) break ;;
+        esac
+    done
+    ends_with "$wanted" $status '' "$words in $kilobytes KiB"
+    cmp -s "$room/whole" "$room/out" || fail "$words: its output in $kilobytes KiB is another one"
+    [ $refused -gt 1 ] || fail "$words: $refused steps were refused"
+}
+
+long=$(awk 'BEGIN { for (n = 0; n < 100000; n++) printf "a" }')
+printf '' >"$room/list"
+walks check "urn:$long"
+walks check "http://h/${long:0:50000}?${long:0:50000}#${long:0:20000}"
+walks check "http://h/${long:0:50000} "
+walks check --base "http://h/$long" x
+walks check --base "foo://$long/" //h
+walks check $'http://b\xc3\xbccher.example/'
+awk -v long="${long:0:65000}" 'BEGIN {
+    for (n = 1; n <= 1000; n++) print "http://h/" n
+    print "http://h/" long
+    for (n = 1; n <= 100; n++) print "http://EXAMPLE.com/" n
+}' >"$room/list"
+walks links
+walks links --base "http://h/$long"
+
+# 64 MiB of random bytes, in an address space that a list which memory grew with wouldn't fit into. Python counts the
+# lines, and those that aren't UTF-8, a second time.
+python3 - "$room" <<'PYTHON'
+import random, sys
+data = random.Random(7).getrandbits(8 << 26).to_bytes(1 << 26, "little")
+open(sys.argv[1] + "/list", "wb").write(data)
+lines = data.split(b"\n")
+if lines[-1] == b"":
+    lines.pop()
+
+def is_text(line):
+    try:
+        line.decode()
+        return True
+    except UnicodeDecodeError:
+        return False
+
+other = sum(not is_text(line.removesuffix(b"\r")) for line in lines)
+open(sys.argv[1] + "/wanted", "w").write(f"{len(lines)} {other}\n")
+PYTHON
+prlimit --as=$((16 * 1024 * 1024)) "$program" links <"$room/list" >"$room/out" 2>"$room/err"
+ends_with 1 $? '' '64 MiB of random bytes'
+awk -v ends=0 '/^links / { print $2, other; if ($2 != $4 + $6 + $8 || $2 != NR - 1) print "counts differ" }
+    / bad 0 not-utf8$/ { other++ }' "$room/out" | cmp -s - "$room/wanted" ||
+    fail "64 MiB of random bytes: $(tail -n 1 "$room/out"), and not $(cat "$room/wanted")"
+
+all_cases 9
