@@ -7,15 +7,17 @@ use Rattle.uv_model.specs.Records.Url.{Url}
 use Rattle.uv_resolve.proofs.RunLemmas.{runs_to_its_record}
 use Rattle.uv_cli.specs.declared.check.CheckEnd.{CheckEnd}
 use Rattle.uv_cli.specs.declared.check.CheckEnd.TheVariants.{Valid, Refused, BaseRefused}
+use Rattle.uv_cli.specs.declared.check.Complaints.{Complaints}
 use Rattle.uv_cli.specs.Check.{HasWritten, IsBase, RunsAgainst, WritesWhole}
 
 -- the whole that was written against the URL of the base
-pub written_against : (profile : Profile) (base : Option (Bor (List ℕ))) (url : Option Url) (text : List ℕ)
-    (old new : Option (List ℕ)) (end : CheckEnd)
-    → IsBase profile base url → WritesWhole profile url text end old new → HasWritten profile base text end old new
-written_against profile base url text old new Valid is written = (url, is, written)
-written_against profile base url text old new Refused is written = (url, is, written)
-written_against profile base url text old new (BaseRefused refusal) is written = absurd written.says
+pub written_against : (complaints : Complaints) (profile : Profile) (base : Option (Bor (List ℕ))) (url : Option Url)
+    (text : List ℕ) (old new : Option (List ℕ)) (end : CheckEnd)
+    → IsBase profile base url → WritesWhole complaints profile url text end old new
+    → HasWritten complaints profile base text end old new
+written_against complaints profile base url text old new Valid is written = (url, is, written)
+written_against complaints profile base url text old new Refused is written = (url, is, written)
+written_against complaints profile base url text old new (BaseRefused refusal) is written = absurd written.says
 
 -- the parser runs to the records of the base's text and of the text
 pub runs_against : (profile : Profile) (base : Option (Bor (List ℕ))) (text : List ℕ) → RunsAgainst profile base text

@@ -1,5 +1,5 @@
 -- What a check prints: the parts of a record by their names in the URL Standard, section 4.1, or a refusal.
-use Rattle.std.specs.Prelude.{ℕ, List, [], ◌∷◌, ◌++◌, codes, decimal, Option, Some, None}
+use Rattle.std.specs.Prelude.{ℕ, List, [], ◌∷◌, ◌++◌, codes, decimal, flat_map, Option, Some, None}
 use Rattle.uv_model.specs.declared.host.Host.{Host}
 use Rattle.uv_model.specs.declared.host.Host.TheVariants.{Domain, V4, V6, Opaque, Empty}
 use Rattle.uv_model.specs.declared.path.UrlPath.{UrlPath}
@@ -52,3 +52,7 @@ check_text url =
 unfoldable pub refused_text : Refusal → List ℕ
 refused_text refusal =
     codes "refused " ++ (decimal refusal.place ++ (codes " " ++ (rule_name refusal.rule ++ codes "\n")))
+
+-- a line for each refusal
+unfoldable pub faults_text : List Refusal → List ℕ
+faults_text refusals = flat_map refused_text refusals

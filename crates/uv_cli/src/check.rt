@@ -1,11 +1,13 @@
-//! The check of one text, alone or against a base.
+//! The check of one text, alone or against a base, with the least of its complaints or with all of them.
 ghost use Rattle.std.specs.Prelude.{◌≡◌, ◌+◌, ◌-◌, ◌^◌, ◌<◌, ℕ, List, Option, Some, None, IfOk, OnOk, OnErr, chars, option_copied, string_bytes, take};
 ghost use Rattle.std.specs.Io.KnownBytes.{Appends};
-ghost use Rattle.uv_cli.specs.Check.{HasWritten, HasWrittenFront, RunsAgainst, Says, WritesFront, WritesWhole};
+ghost use Rattle.uv_cli.specs.Check.{HasWritten, HasWrittenFront, RunsAgainst, Says, SaysRefused, WritesFront, WritesWhole};
+ghost use Rattle.uv_grammar.specs.Verdict.{IsRefused};
 
 use crate::fault::CliFault;
-use crate::report::{check_lines, refused_line};
+use crate::report::{check_lines, fault_lines, refused_line};
 use std::alloc::{AllocError, Global};
+use uv_grammar::faults;
 use uv_model::{DeviceFault, Profile, Record, Refusal, Sink, write_whole};
 use uv_resolve::{ResolveFault, resolve};
 
@@ -14,17 +16,26 @@ use uv_resolve::{ResolveFault, resolve};
 pub enum CheckEnd {
     /// The text is valid, and the lines of its record were written.
     Valid,
-    /// The text is refused, and the line of its refusal was written.
+    /// The text is refused, and the line of its refusal was written, or by `run_faults` a line for each of its faults.
     Refused,
     /// The base's text is refused alone, for this reason. Nothing was written.
     BaseRefused(Refusal),
 }
 
-/// Checks a text by a profile, alone or against a base, and writes what it says of it.
+/// Which complaints of a refused text are written.
+#[derive(Clone, Copy)]
+pub(crate) enum Complaints {
+    /// The least of them.
+    Least,
+    /// All of them, in their order.
+    All,
+}
+
+/// Checks a text by a profile, alone or against a base, and writes what it says of it: the lines of a valid text's
+/// record, or the line of a refused text's least complaint.
 ///
 /// The base is resolved alone by the same profile, before the text is looked at. An error of memory leaves the output as
 /// it was; an error of a write leaves a beginning of what was to be written.
-#[tactic(auto, using(crate::proofs::CheckLemmas::runs_against))]
 pub fn run_check<S: Sink>(
     alloc: Global,
     text: &str,
@@ -33,22 +44,71 @@ pub fn run_check<S: Sink>(
     out: &mut S,
 ) -> Result<CheckEnd, CliFault>
     requires { S.failed out.old < 2 ^ 64 - 1 }
-    ensures written { IfOk result (λ end. HasWritten profile base.entry (chars text.now) end
+    ensures written { IfOk result (λ end. HasWritten Complaints.Least profile base.entry (chars text.now) end
         (S.contents out.old) (S.contents out.new)) }
     ensures base_refused { (refusal : Refusal) → result ≡ Ok (CheckEnd.BaseRefused refusal)
         → out.new ≡ out.old }
     ensures quiet { OnOk result (S.failed out.new ≡ S.failed out.old) }
     ensures memory { result ≡ Err CliFault.Memory → out.new ≡ out.old }
-    ensures front { result ≡ Err CliFault.Write → HasWrittenFront profile base.entry (chars text.now)
+    ensures front { result ≡ Err CliFault.Write → HasWrittenFront Complaints.Least profile base.entry (chars text.now)
+        (S.contents out.old) (S.contents out.new) }
+    ensures failed { result ≡ Err CliFault.Write → S.failed out.new ≡ S.failed out.old + 1 }
+    ensures runs { RunsAgainst profile base.entry (chars text.now) }
+{
+    check_with_base(alloc, text, base, profile, Complaints::Least, out)
+}
+
+/// Checks a text as `run_check` does, and writes for a refused one a line for each of its complaints, by place and at
+/// one place by the rule's number.
+pub fn run_faults<S: Sink>(
+    alloc: Global,
+    text: &str,
+    base: Option<&str>,
+    profile: Profile,
+    out: &mut S,
+) -> Result<CheckEnd, CliFault>
+    requires { S.failed out.old < 2 ^ 64 - 1 }
+    ensures written { IfOk result (λ end. HasWritten Complaints.All profile base.entry (chars text.now) end
+        (S.contents out.old) (S.contents out.new)) }
+    ensures base_refused { (refusal : Refusal) → result ≡ Ok (CheckEnd.BaseRefused refusal)
+        → out.new ≡ out.old }
+    ensures quiet { OnOk result (S.failed out.new ≡ S.failed out.old) }
+    ensures memory { result ≡ Err CliFault.Memory → out.new ≡ out.old }
+    ensures front { result ≡ Err CliFault.Write → HasWrittenFront Complaints.All profile base.entry (chars text.now)
+        (S.contents out.old) (S.contents out.new) }
+    ensures failed { result ≡ Err CliFault.Write → S.failed out.new ≡ S.failed out.old + 1 }
+    ensures runs { RunsAgainst profile base.entry (chars text.now) }
+{
+    check_with_base(alloc, text, base, profile, Complaints::All, out)
+}
+
+// Checks a text against a base's text, and writes what it says of it.
+#[tactic(auto, using(crate::proofs::CheckLemmas::runs_against))]
+fn check_with_base<S: Sink>(
+    alloc: Global,
+    text: &str,
+    base: Option<&str>,
+    profile: Profile,
+    complaints: Complaints,
+    out: &mut S,
+) -> Result<CheckEnd, CliFault>
+    requires { S.failed out.old < 2 ^ 64 - 1 }
+    ensures written { IfOk result (λ end. HasWritten complaints profile base.entry (chars text.now) end
+        (S.contents out.old) (S.contents out.new)) }
+    ensures base_refused { (refusal : Refusal) → result ≡ Ok (CheckEnd.BaseRefused refusal)
+        → out.new ≡ out.old }
+    ensures quiet { OnOk result (S.failed out.new ≡ S.failed out.old) }
+    ensures memory { result ≡ Err CliFault.Memory → out.new ≡ out.old }
+    ensures front { result ≡ Err CliFault.Write → HasWrittenFront complaints profile base.entry (chars text.now)
         (S.contents out.old) (S.contents out.new) }
     ensures failed { result ≡ Err CliFault.Write → S.failed out.new ≡ S.failed out.old + 1 }
     ensures runs { RunsAgainst profile base.entry (chars text.now) }
 {
     let Some(base) = base else {
-        return check_against(alloc, text, None, profile, out);
+        return check_against(alloc, text, None, profile, complaints, out);
     };
     match resolve(alloc, base, None, profile) {
-        Ok(base) => check_against(alloc, text, Some(&base), profile, out),
+        Ok(base) => check_against(alloc, text, Some(&base), profile, complaints, out),
         Err(ResolveFault::Refused(refusal)) => Ok(CheckEnd::BaseRefused(refusal)),
         Err(ResolveFault::Memory(_)) => Err(CliFault::Memory),
     }
@@ -60,18 +120,19 @@ fn check_against<S: Sink>(
     text: &str,
     base: Option<&Record>,
     profile: Profile,
+    complaints: Complaints,
     out: &mut S,
 ) -> Result<CheckEnd, CliFault>
     requires { S.failed out.old < 2 ^ 64 - 1 }
-    ensures written { IfOk result (λ end. WritesWhole profile (option_copied base.entry) (chars text.now) end
+    ensures written { IfOk result (λ end. WritesWhole complaints profile (option_copied base.entry) (chars text.now) end
         (S.contents out.old) (S.contents out.new)) }
     ensures quiet { OnOk result (S.failed out.new ≡ S.failed out.old) }
     ensures memory { result ≡ Err CliFault.Memory → out.new ≡ out.old }
-    ensures front { result ≡ Err CliFault.Write → WritesFront profile (option_copied base.entry) (chars text.now)
-        (S.contents out.old) (S.contents out.new) }
+    ensures front { result ≡ Err CliFault.Write → WritesFront complaints profile (option_copied base.entry)
+        (chars text.now) (S.contents out.old) (S.contents out.new) }
     ensures failed { result ≡ Err CliFault.Write → S.failed out.new ≡ S.failed out.old + 1 }
 {
-    let (end, whole) = say(alloc, text, base, profile)?;
+    let (end, whole) = say(alloc, text, base, profile, complaints)?;
     match write_whole(out, whole.as_bytes()) {
         Ok(()) => Ok(end),
         Err(DeviceFault) => Err(CliFault::Write),
@@ -84,15 +145,39 @@ fn say(
     text: &str,
     base: Option<&Record>,
     profile: Profile,
+    complaints: Complaints,
 ) -> Result<(CheckEnd, String), AllocError>
     ensures { IfOk result (λ r.
-        Says profile (option_copied base.entry) (chars text.now) r.0 (string_bytes r.1)) }
+        Says complaints profile (option_copied base.entry) (chars text.now) r.0 (string_bytes r.1)) }
 {
     match resolve(alloc, text, base, profile) {
         Ok(url) => Ok((CheckEnd::Valid, check_lines(alloc, &url)?)),
         Err(ResolveFault::Refused(refusal)) => {
-            Ok((CheckEnd::Refused, refused_line(alloc, refusal)?))
+            let lines = refused_lines(alloc, text, base, profile, complaints, refusal)?;
+            Ok((CheckEnd::Refused, lines))
         }
         Err(ResolveFault::Memory(error)) => Err(error),
+    }
+}
+
+// The lines of a text that is refused so: that of the refusal, or one for each of its faults.
+fn refused_lines(
+    alloc: Global,
+    text: &str,
+    base: Option<&Record>,
+    profile: Profile,
+    complaints: Complaints,
+    refusal: Refusal,
+) -> Result<String, AllocError>
+    requires { IsRefused profile (option_copied base) (chars text.now) refusal }
+    ensures { IfOk result (λ lines.
+        SaysRefused complaints profile (option_copied base.entry) (chars text.now) (string_bytes lines)) }
+{
+    match complaints {
+        Complaints::Least => refused_line(alloc, refusal),
+        Complaints::All => {
+            let found = faults(alloc, text, base, profile)?;
+            fault_lines(alloc, found.as_slice())
+        }
     }
 }

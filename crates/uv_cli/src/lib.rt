@@ -8,7 +8,7 @@ pub mod program;
 mod report;
 mod words;
 
-pub use check::{CheckEnd, run_check};
+pub use check::{CheckEnd, run_check, run_faults};
 pub use fault::CliFault;
 
 #[cfg(test)]

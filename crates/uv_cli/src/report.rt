@@ -1,6 +1,6 @@
-//! What a check prints: the lines of a valid text's record, or the line of a refusal.
+//! What a check prints: the lines of a valid text's record, the line of a refusal, or a line for each fault.
 ghost use Rattle.std.specs.Prelude.{◌≡◌, ◌++◌, OnOk, IfOk, Option, Some, option_copied, string_bytes};
-ghost use Rattle.uv_cli.specs.CheckText.{check_text, host_line, line, line_of, path_lines, port_line, refused_text, segment_lines};
+ghost use Rattle.uv_cli.specs.CheckText.{check_text, faults_text, host_line, line, line_of, path_lines, port_line, refused_text, segment_lines};
 ghost use Rattle.uv_model.specs.Records.Serialize.{serial_host};
 
 use std::alloc::{AllocError, Global};
@@ -28,6 +28,18 @@ pub(crate) fn refused_line(alloc: Global, refusal: Refusal) -> Result<String, Al
     let place = refusal.place;
     let name = refusal.rule.name();
     format!(in alloc; "refused {place} {name}\n")
+}
+
+/// A line for each fault.
+#[tactic(auto, unfolding(crate::specs::CheckText::faults_text))]
+pub(crate) fn fault_lines(alloc: Global, found: &[Refusal]) -> Result<String, AllocError>
+    ensures { IfOk result (λ text. string_bytes text ≡ faults_text found.now) }
+{
+    let mut text = String::new(alloc);
+    for refusal in found {
+        text.push_str(refused_line(alloc, *refusal)?.as_str())?;
+    }
+    Ok(text)
 }
 
 // A name, a text and a line feed.

@@ -2,6 +2,8 @@
 
 ghost use Rattle.std.specs.Prelude.{None};
 
+mod faults;
+
 use crate::check::{CheckEnd, run_check};
 use crate::fault::CliFault;
 use crate::words::job_in;

@@ -3,7 +3,7 @@ use Rattle.std.proofs.Common.{Some, chars, ap}
 use Rattle.std.proofs.lemmas.Result.{IfOk-weaker}
 use Rattle.uv_cli.specs.Check.{IsBase, WritesWhole}
 use Rattle.uv_cli.proofs.CheckLemmas.{written_against}
-use Rattle.uv_cli.proofs.check.run_check.Goals as goal
+use Rattle.uv_cli.proofs.check.check_with_base.Goals as goal
 
 pub returns-in-Ok-clause-written : goal.returns-in-Ok-clause-written
 returns-in-Ok-clause-written g c =
@@ -11,8 +11,8 @@ returns-in-Ok-clause-written g c =
     let base : IsBase c.args.profile c.args.base (Some c.in-Ok.base) =
     rw c.in-Some.is (parts, valid, ap Some denoted) in
     IfOk-weaker c.check_against-in-Ok.result
-    (λ end. WritesWhole c.args.profile (Some c.in-Ok.base) (chars c.args.text.now) end
-    (g.S.Sink.contents c.args.out.now)
-    (g.S.Sink.contents c.check_against-in-Ok.new.out))
-    _ (λ end written. written_against c.args.profile c.args.base _ (chars c.args.text.now) _ _ end base written)
+    (λ end. WritesWhole c.args.complaints c.args.profile (Some c.in-Ok.base) (chars c.args.text.now) end
+    (g.S.Sink.contents c.args.out.now) (g.S.Sink.contents c.check_against-in-Ok.new.out))
+    _ (λ end written.
+    written_against c.args.complaints c.args.profile c.args.base _ (chars c.args.text.now) _ _ end base written)
     c.check_against-in-Ok.ensures.written
