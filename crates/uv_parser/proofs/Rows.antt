@@ -3,6 +3,7 @@ pub mod Computing
 pub mod Shown
 pub mod RowsLemmas
 pub mod AddressParsers
+pub mod Definitions
 pub mod Denotation
 pub mod File
 pub mod HostParser

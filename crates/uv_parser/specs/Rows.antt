@@ -9,6 +9,7 @@ use Rattle.uv_parser.specs.Run.{Outcome, Done, Stopped, Going, run, step_bound}
 use Rattle.uv_model.specs.Records.Serialize.{serial}
 use Rattle.uv_model.specs.Records.Url.{Url}
 pub mod AddressParsers
+pub mod Definitions
 pub mod Denotation
 pub mod File
 pub mod HostParser
@@ -128,8 +129,8 @@ abbrev pub against : Url → Row → Row
 against base row = record row { base = Some base }
 
 -- the row after so many steps
-abbrev pub within : ℕ → Row → Row
-within steps row = record row { steps = steps }
+abbrev pub in_steps : ℕ → Row → Row
+in_steps steps row = record row { steps = steps }
 
 -- without a base, the run on the text hasn't ended after so many steps
 abbrev pub unfinished : Literal → ℕ → Row

@@ -4,6 +4,7 @@ ghost use Rattle.uv_parser.specs.Ipv4Parser.{Ipv4ParserTakesIpv4Texts, Ipv4Texts
 ghost use Rattle.uv_parser.specs.Ipv6Parser.{Ipv6ParserTakesIpv6Texts, Ipv6TextsAreParsed};
 ghost use Rattle.uv_parser.specs.Laws.OtherHosts.{SilentOtherHostsAreValid};
 ghost use Rattle.uv_parser.specs.Rows.AddressParsers.{AddressParserRows};
+ghost use Rattle.uv_parser.specs.Rows.Definitions.{DefinitionRows};
 ghost use Rattle.uv_parser.specs.Rows.Denotation.{DenotationRows};
 ghost use Rattle.uv_parser.specs.Rows.File.{FileRows};
 ghost use Rattle.uv_parser.specs.Rows.HostParser.{HostParserRows};
@@ -142,6 +143,12 @@ pub fn silent_refusal_rows()
 /// they are shortened or walked (URL Standard, sections 4.2 and 4.4).
 pub fn denotation_rows()
     ensures { DenotationRows }
+{}
+
+/// Valid parts, well-formed URLs and complaints of hosts that are written out, and parts and URLs that are none (URL
+/// Standard, sections 3.4, 4.1 and 4.3).
+pub fn definition_rows()
+    ensures { DefinitionRows }
 {}
 
 /// Texts by which the profiles differ, and some on which they agree: valid parts, the URL that they denote, and

@@ -4,10 +4,11 @@ use Rattle.std.specs.Prelude.{IsSome}
 use Rattle.std.proofs.lemmas.Bool.{false≢true}
 use Rattle.uv_model.specs.declared.profile.Profile.{Profile}
 use Rattle.uv_model.specs.declared.profile.Profile.TheVariants.{Standard}
+use Rattle.uv_model.specs.declared.rule.Rule.{Rule}
 use Rattle.uv_model.specs.declared.rule.Rule.TheVariants.{NoScheme, OpaqueBase, TwoSlashes, HostMissing, HostCodePoint, PortDigit, PortRange, FirstSegmentEmpty, DriveAfterHost, CodePoint, Percent}
-use Rattle.uv_model.specs.Complaints.Complaint.{Complaint, IsStarted}
+use Rattle.uv_model.specs.Complaints.Complaint.{Complaint, IsStarted, JudgedComplaint}
 use Rattle.uv_model.specs.Cut.{Cut, cut_of}
-use Rattle.uv_model.specs.Laws.CutRows.{file_base, CutRows, ComplaintRows, CutAndComplaintRows}
+use Rattle.uv_model.specs.Laws.CutRows.{file_host_base, CutRows, ComplaintRows, CutAndComplaintRows}
 use Rattle.uv_model.specs.Scheme.{scheme_class, default_port}
 use Rattle.uv_model.specs.Setting.{Setting, setting_of}
 use Rattle.uv_model.specs.Units.{is_url_code_point}
@@ -44,9 +45,19 @@ pub started_row : (profile : Profile) (base : Option Url) (text : List ℕ) → 
     → IsStarted (setting_of profile base (cut_of base text).scheme) text (cut_of base text)
 started_row profile base text = started (setting_of profile base (cut_of base text).scheme) text (cut_of base text)
 
+-- a complaint of a host, a port or the start of a path, in a text with a scheme and an authority
+pub judged_row : (profile : Profile) (base : Option Url) (text : List ℕ) (place : ℕ) (rule : Rule)
+    → IsSome (cut_of base text).scheme → IsSome (cut_of base text).host_text
+    → JudgedComplaint (setting_of profile base (cut_of base text).scheme) (cut_of base text) place rule
+    → Complaint profile base text place rule
+unfolding Complaint
+judged_row profile base text place rule scheme host_text h =
+    inr (inl (started_row profile base text scheme host_text, h))
+
 -- a path-absolute reference to the base `file://h/a` violates none either
-file_started : IsStarted (setting_of Standard file_base (cut_of file_base (codes "/C:/x")).scheme) (codes "/C:/x")
-    (cut_of file_base (codes "/C:/x"))
+file_started : IsStarted (setting_of Standard file_host_base (cut_of file_host_base (codes "/C:/x")).scheme)
+    (codes "/C:/x")
+    (cut_of file_host_base (codes "/C:/x"))
 unfolding cut_of scheme_class default_port
 file_started place NoScheme h = absurd cc
 file_started place OpaqueBase h = false≢true h.1
@@ -54,135 +65,109 @@ file_started place TwoSlashes h = false≢true h.0.0
 file_started place _ h = h
 
 special_host_missing_row : Complaint Standard None (codes "http://") 7 HostMissing
-unfolding Complaint cut_of scheme_class default_port
+unfolding cut_of scheme_class default_port
 special_host_missing_row =
-    inr (inl (
-      started_row Standard None (codes "http://") refl refl,
-      inl (record { inner = 0; moved = refl; holds = (refl, refl) }),
-    ))
+    judged_row Standard None (codes "http://") 7 HostMissing refl refl
+    (inl (record { inner = 0; moved = refl; holds = (refl, refl) }))
 
 file_host_missing_row : Complaint Standard None (codes "file://") 7 HostMissing
-unfolding Complaint cut_of scheme_class default_port
+unfolding cut_of scheme_class default_port
 file_host_missing_row =
-    inr (inl (
-      started_row Standard None (codes "file://") refl refl,
-      inl (record { inner = 0; moved = refl; holds = ((refl, refl), refl) }),
-    ))
+    judged_row Standard None (codes "file://") 7 HostMissing refl refl
+    (inl (record { inner = 0; moved = refl; holds = ((refl, refl), refl) }))
 
 other_host_missing_row : Complaint Standard None (codes "foo://:80") 6 HostMissing
-unfolding Complaint cut_of scheme_class default_port
+unfolding cut_of scheme_class default_port
 other_host_missing_row =
-    inr (inl (
-      started_row Standard None (codes "foo://:80") refl refl,
-      inl (record { inner = 0; moved = refl; holds = ((refl, refl), refl) }),
-    ))
+    judged_row Standard None (codes "foo://:80") 6 HostMissing refl refl
+    (inl (record { inner = 0; moved = refl; holds = ((refl, refl), refl) }))
 
 host_code_point_row : Complaint Standard None (codes "foo://u@h/") 7 HostCodePoint
-unfolding Complaint cut_of scheme_class default_port
+unfolding cut_of scheme_class default_port
 host_code_point_row =
-    inr (inl (
-      started_row Standard None (codes "foo://u@h/") refl refl,
-      inl (record {
-        inner = 1;
-        moved = refl;
-        holds =
-            (refl, record { code_point = 64; rest = codes "h"; here = refl; foreign = inl refl });
-      }),
-    ))
+    judged_row Standard None (codes "foo://u@h/") 7 HostCodePoint refl refl
+    (inl (record {
+      inner = 1;
+      moved = refl;
+      holds =
+          (refl, record { code_point = 64; rest = codes "h"; here = refl; foreign = inl refl });
+    }))
 
 host_bracket_row : Complaint Standard None (codes "foo://a[:b/") 7 HostCodePoint
-unfolding Complaint cut_of scheme_class default_port
+unfolding cut_of scheme_class default_port
 host_bracket_row =
-    inr (inl (
-      started_row Standard None (codes "foo://a[:b/") refl refl,
-      inl (record {
-        inner = 1;
-        moved = refl;
-        holds =
-            (refl, record { code_point = 91; rest = codes ":b"; here = refl; foreign = inl refl });
-      }),
-    ))
+    judged_row Standard None (codes "foo://a[:b/") 7 HostCodePoint refl refl
+    (inl (record {
+      inner = 1;
+      moved = refl;
+      holds =
+          (refl, record { code_point = 91; rest = codes ":b"; here = refl; foreign = inl refl });
+    }))
 
 host_colon_row : Complaint Standard None (codes "foo://a[:b/") 8 HostCodePoint
-unfolding Complaint cut_of scheme_class default_port
+unfolding cut_of scheme_class default_port
 host_colon_row =
-    inr (inl (
-      started_row Standard None (codes "foo://a[:b/") refl refl,
-      inl (record {
-        inner = 2;
-        moved = refl;
-        holds =
-            (refl, record { code_point = 58; rest = codes "b"; here = refl; foreign = inl refl });
-      }),
-    ))
+    judged_row Standard None (codes "foo://a[:b/") 8 HostCodePoint refl refl
+    (inl (record {
+      inner = 2;
+      moved = refl;
+      holds =
+          (refl, record { code_point = 58; rest = codes "b"; here = refl; foreign = inl refl });
+    }))
 
 port_digit_row : Complaint Standard None (codes "http://h:8a/") 10 PortDigit
-unfolding Complaint cut_of scheme_class default_port
+unfolding cut_of scheme_class default_port
 port_digit_row =
-    inr (inl (
-      started_row Standard None (codes "http://h:8a/") refl refl,
-      inr (inl
-          (record {
-            inner = 1;
-            moved = refl;
-            holds = record { code_point = 97; rest = []; here = refl; foreign = refl };
-          })),
-    ))
+    judged_row Standard None (codes "http://h:8a/") 10 PortDigit refl refl
+    (inr (inl
+    (record {
+      inner = 1;
+      moved = refl;
+      holds = record { code_point = 97; rest = []; here = refl; foreign = refl };
+    })))
 
 port_password_row : Complaint Standard None (codes "http://user:pw@h/") 12 PortDigit
-unfolding Complaint cut_of scheme_class default_port
+unfolding cut_of scheme_class default_port
 port_password_row =
-    inr (inl (
-      started_row Standard None (codes "http://user:pw@h/") refl refl,
-      inr (inl
-          (record {
-            inner = 0;
-            moved = refl;
-            holds = record { code_point = 112; rest = codes "w@h"; here = refl; foreign = refl };
-          })),
-    ))
+    judged_row Standard None (codes "http://user:pw@h/") 12 PortDigit refl refl
+    (inr (inl
+    (record {
+      inner = 0;
+      moved = refl;
+      holds = record { code_point = 112; rest = codes "w@h"; here = refl; foreign = refl };
+    })))
 
 port_range_row : Complaint Standard None (codes "http://h:65536/") 9 PortRange
-unfolding Complaint cut_of scheme_class default_port
+unfolding cut_of scheme_class default_port
 port_range_row =
-    inr (inl (
-      started_row Standard None (codes "http://h:65536/") refl refl,
-      inr (inl (record { inner = 0; moved = refl; holds = (record { digits = refl; large = lit< tt }, refl) })),
-    ))
+    judged_row Standard None (codes "http://h:65536/") 9 PortRange refl refl
+    (inr (inl (record { inner = 0; moved = refl; holds = (record { digits = refl; large = lit< tt }, refl) })))
 
 first_segment_row : Complaint Standard None (codes "https://example.com//a") 20 FirstSegmentEmpty
-unfolding Complaint cut_of scheme_class default_port
+unfolding cut_of scheme_class default_port
 first_segment_row =
-    inr (inl (
-      started_row Standard None (codes "https://example.com//a") refl refl,
-      inr (inr (record { inner = 1; moved = refl; holds = (refl, refl) })),
-    ))
+    judged_row Standard None (codes "https://example.com//a") 20 FirstSegmentEmpty refl refl
+    (inr (inr (record { inner = 1; moved = refl; holds = (refl, refl) })))
 
 file_first_segment_row : Complaint Standard None (codes "file:////a") 8 FirstSegmentEmpty
-unfolding Complaint cut_of scheme_class default_port
+unfolding cut_of scheme_class default_port
 file_first_segment_row =
-    inr (inl (
-      started_row Standard None (codes "file:////a") refl refl,
-      inr (inr (record { inner = 1; moved = refl; holds = (refl, refl) })),
-    ))
+    judged_row Standard None (codes "file:////a") 8 FirstSegmentEmpty refl refl
+    (inr (inr (record { inner = 1; moved = refl; holds = (refl, refl) })))
 
 drive_row : Complaint Standard None (codes "file://h/C:/x") 8 DriveAfterHost
-unfolding Complaint cut_of scheme_class default_port
+unfolding cut_of scheme_class default_port
 drive_row =
-    inr (inl (
-      started_row Standard None (codes "file://h/C:/x") refl refl,
-      inr (inr (record { inner = 0; moved = refl; holds = (refl, (λ same. cc), refl, refl) })),
-    ))
+    judged_row Standard None (codes "file://h/C:/x") 8 DriveAfterHost refl refl
+    (inr (inr (record { inner = 0; moved = refl; holds = (refl, (λ same. cc), refl, refl) })))
 
 localhost_drive_row : Complaint Standard None (codes "file://localhost/C:/x") 16 DriveAfterHost
-unfolding Complaint cut_of scheme_class default_port
+unfolding cut_of scheme_class default_port
 localhost_drive_row =
-    inr (inl (
-      started_row Standard None (codes "file://localhost/C:/x") refl refl,
-      inr (inr (record { inner = 0; moved = refl; holds = (refl, (λ same. cc), refl, refl) })),
-    ))
+    judged_row Standard None (codes "file://localhost/C:/x") 16 DriveAfterHost refl refl
+    (inr (inr (record { inner = 0; moved = refl; holds = (refl, (λ same. cc), refl, refl) })))
 
-base_drive_row : Complaint Standard file_base (codes "/C:/x") 0 DriveAfterHost
+base_drive_row : Complaint Standard file_host_base (codes "/C:/x") 0 DriveAfterHost
 unfolding Complaint cut_of scheme_class default_port
 base_drive_row =
     inr (inl (

@@ -22,7 +22,7 @@ use Rattle.uv_model.specs.Setting.{setting_of}
 use Rattle.uv_model.specs.Units.{is_faultless}
 use Rattle.uv_model.specs.Valid.{Valid}
 use Rattle.uv_parser.proofs.Rows.Computing.{parser}
-use Rattle.uv_model.proofs.Cuts.CutRowsLemmas.{started, started_row}
+use Rattle.uv_model.proofs.Cuts.CutRowsLemmas.{started, judged_row}
 use Rattle.uv_model.proofs.Hosts.DomainLemmas.{no_parsed_lengths, not_permitted, not_strict}
 use Rattle.uv_parser.proofs.HostParsing.Ipv4ParserLemmas.{ipv4_parsed}
 use Rattle.uv_model.proofs.Texts.UnitsLemmas.{IsUnits-faultless}
@@ -45,7 +45,7 @@ wide_domain form permitted parsed letters lengths name = (
 )
 
 -- a segment
-segment : (text : List ℕ) → is_faultless text ≡ true → is_without slash text ≡ true
+pub segment : (text : List ℕ) → is_faultless text ≡ true → is_without slash text ≡ true
     → is_without question_mark text ≡ true → IsSegment text
 segment text units no_slash no_question_mark = record {
   units = IsUnits-faultless text units;
@@ -224,7 +224,7 @@ http_cut host_text = record {
 }
 
 -- a text that the IPv4 parser refuses should be a domain, where it isn't empty and doesn't begin with `[`
-should_be_domain : (text : List ℕ) → text ≢ [] → starts_with_bracket text ≡ false → parse_ipv4 text ≡ None
+pub should_be_domain : (text : List ℕ) → text ≢ [] → starts_with_bracket text ≡ false → parse_ipv4 text ≡ None
     → ShouldBeDomain text
 should_be_domain text some no_bracket refused = record {
   some = some;
@@ -233,7 +233,7 @@ should_be_domain text some no_bracket refused = record {
 }
 
 -- `http://`, a host without a form, and `/`
-domain_complaint : (profile : Profile) (host_text text : List ℕ) → HostTextComplaint profile host_text HostDomain
+pub domain_complaint : (profile : Profile) (host_text text : List ℕ) → HostTextComplaint profile host_text HostDomain
     → cut_of None text ≡ http_cut host_text → Complaint profile None text 7 HostDomain
 unfolding Complaint scheme_class default_port
 domain_complaint profile host_text text h cut =
@@ -294,56 +294,44 @@ number_text = (
 )
 
 number_row : Complaint Wide None (codes "http://1.2.3/") 7 HostNumber
-unfolding Complaint parser cut_of
+unfolding parser cut_of
 number_row =
-    inr (inl (
-      started_row Wide None (codes "http://1.2.3/") refl refl,
-      inl (record {
-        inner = 0;
-        moved = refl;
-        holds = ((should_be_domain (codes "1.2.3") (λ same. cc) refl refl, number_text), refl);
-      }),
-    ))
+    judged_row Wide None (codes "http://1.2.3/") 7 HostNumber refl refl
+    (inl (record {
+      inner = 0;
+      moved = refl;
+      holds = ((should_be_domain (codes "1.2.3") (λ same. cc) refl refl, number_text), refl);
+    }))
 
 removed_refused_row : Complaint Standard None (codes "http://h//..") 9 FirstSegmentEmpty
-unfolding Complaint cut_of scheme_class default_port
+unfolding cut_of scheme_class default_port
 removed_refused_row =
-    inr (inl (
-      started_row Standard None (codes "http://h//..") refl refl,
-      inr (inr (record { inner = 1; moved = refl; holds = (refl, refl) })),
-    ))
+    judged_row Standard None (codes "http://h//..") 9 FirstSegmentEmpty refl refl
+    (inr (inr (record { inner = 1; moved = refl; holds = (refl, refl) })))
 
 first_refused_row : Complaint Standard None (codes "http://h//a") 9 FirstSegmentEmpty
-unfolding Complaint cut_of scheme_class default_port
+unfolding cut_of scheme_class default_port
 first_refused_row =
-    inr (inl (
-      started_row Standard None (codes "http://h//a") refl refl,
-      inr (inr (record { inner = 1; moved = refl; holds = (refl, refl) })),
-    ))
+    judged_row Standard None (codes "http://h//a") 9 FirstSegmentEmpty refl refl
+    (inr (inr (record { inner = 1; moved = refl; holds = (refl, refl) })))
 
 file_refused_row : Complaint Standard None (codes "file:////a") 8 FirstSegmentEmpty
-unfolding Complaint cut_of scheme_class default_port
+unfolding cut_of scheme_class default_port
 file_refused_row =
-    inr (inl (
-      started_row Standard None (codes "file:////a") refl refl,
-      inr (inr (record { inner = 1; moved = refl; holds = (refl, refl) })),
-    ))
+    judged_row Standard None (codes "file:////a") 8 FirstSegmentEmpty refl refl
+    (inr (inr (record { inner = 1; moved = refl; holds = (refl, refl) })))
 
 file_drive_refused_row : Complaint Standard None (codes "file:////C:/..") 8 FirstSegmentEmpty
-unfolding Complaint cut_of scheme_class default_port
+unfolding cut_of scheme_class default_port
 file_drive_refused_row =
-    inr (inl (
-      started_row Standard None (codes "file:////C:/..") refl refl,
-      inr (inr (record { inner = 1; moved = refl; holds = (refl, refl) })),
-    ))
+    judged_row Standard None (codes "file:////C:/..") 8 FirstSegmentEmpty refl refl
+    (inr (inr (record { inner = 1; moved = refl; holds = (refl, refl) })))
 
 drive_row : Complaint Wide None (codes "file://h/C:/x") 8 DriveAfterHost
-unfolding Complaint cut_of scheme_class default_port
+unfolding cut_of scheme_class default_port
 drive_row =
-    inr (inl (
-      started_row Wide None (codes "file://h/C:/x") refl refl,
-      inr (inr (record { inner = 0; moved = refl; holds = (refl, (λ same. cc), refl, refl) })),
-    ))
+    judged_row Wide None (codes "file://h/C:/x") 8 DriveAfterHost refl refl
+    (inr (inr (record { inner = 0; moved = refl; holds = (refl, (λ same. cc), refl, refl) })))
 
 -- ---- records
 
