@@ -2,7 +2,7 @@
 ghost use Rattle.std.specs.Prelude.{◌≡◌, ◌↔◌, true, None, chars};
 ghost use Rattle.uv_model.specs.Hosts.OpaqueHost as spec;
 ghost use Rattle.uv_model.specs.Complaints.OpaqueHostComplaint.{OpaqueHostComplaint};
-ghost use Rattle.uv_model.specs.Complaints.Refusal.{IsLeast};
+ghost use Rattle.uv_model.specs.Complaints.Refusal.{IsLeast, StandsWithin};
 ghost use Rattle.uv_host.specs.OpaqueHosts.{first_host_fault, host_rule, IsOpaqueHostOrEmpty};
 
 use crate::addresses::bracketed_ipv6;
@@ -13,6 +13,7 @@ use uv_text::{ByteClass, count_code_points, split_units};
 /// least rule. `None` for an empty text, an IPv6 text in brackets and an opaque host (URL Standard, section 3.4).
 pub fn opaque_fault(text: &str) -> Option<Refusal>
     ensures least { IsLeast (OpaqueHostComplaint (chars text.now)) result }
+    ensures within { StandsWithin (chars text.now) result }
     ensures silent { result ≡ None ↔ IsOpaqueHostOrEmpty (chars text.now) }
 {
     if starts_with_bracket(text) {
@@ -36,6 +37,7 @@ fn starts_with_bracket(text: &str) -> bool
 fn bracket_fault(text: &str) -> Option<Refusal>
     requires { spec.starts_with_bracket (chars text.now) ≡ true }
     ensures least { IsLeast (OpaqueHostComplaint (chars text.now)) result }
+    ensures within { StandsWithin (chars text.now) result }
     ensures silent { result ≡ None ↔ IsOpaqueHostOrEmpty (chars text.now) }
 {
     match bracketed_ipv6(text) {

@@ -1,7 +1,7 @@
 //! The first fault of a text that should be URL units.
 ghost use Rattle.std.specs.Prelude.{◌≡◌, ◌↔◌, IsNone};
 ghost use Rattle.std.specs.Str.{chars};
-ghost use Rattle.uv_model.specs.Complaints.Refusal.{IsLeast};
+ghost use Rattle.uv_model.specs.Complaints.Refusal.{IsLeast, StandsWithin};
 ghost use Rattle.uv_model.specs.Complaints.UnitComplaint as spec;
 ghost use Rattle.uv_model.specs.Complaints.UnitComplaint.{UnitComplaint};
 ghost use Rattle.uv_model.specs.Units.{IsUnits};
@@ -15,6 +15,7 @@ use uv_model::{Refusal, Rule, first_code_point};
 /// code points from the text's start.
 pub fn first_fault(text: &str) -> Option<Refusal>
     ensures least { IsLeast (UnitComplaint (chars text.now)) result }
+    ensures within { StandsWithin (chars text.now) result }
     ensures none { IsNone result ↔ IsUnits (chars text.now) }
 {
     let class = ByteClass::url();

@@ -1,5 +1,5 @@
 -- The least of the complaints of a text: the least place, and there the rule with the least number.
-use Rattle.std.specs.Prelude.{ℕ, ◌≤◌, Option, Some, None}
+use Rattle.std.specs.Prelude.{ℕ, ◌<◌, ◌≤◌, List, length, Option, Some, None}
 use Rattle.uv_model.specs.declared.rule.Rule.{Rule}
 use Rattle.uv_model.specs.declared.rule.Refusal.{Refusal}
 use Rattle.uv_model.specs.Complaints.Rule.{rule_number}
@@ -9,6 +9,11 @@ pub record IsLeastRefusal (complaint : ℕ → Rule → Type 0) (refusal : Refus
   pub stands : complaint refusal.place refusal.rule
   pub first : (place : ℕ) (rule : Rule) → complaint place rule → refusal.place ≤ place
   pub lowest : (rule : Rule) → complaint refusal.place rule → rule_number refusal.rule ≤ rule_number rule
+
+-- the refusal, where there is one, stands before the text's end
+abbrev pub StandsWithin : List ℕ → Option Refusal → Type 0
+StandsWithin text None = Unit {0}
+StandsWithin text (Some refusal) = refusal.place < length text
 
 -- the least of these complaints, or none where there is no complaint
 abbrev pub IsLeast : (ℕ → Rule → Type 0) → Option Refusal → Type 0

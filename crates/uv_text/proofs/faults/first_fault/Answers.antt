@@ -5,9 +5,10 @@ use Rattle.std.specs.Str.{chars}
 use Rattle.std.proofs.lemmas.List.{length-take-le}
 use Rattle.uv_model.specs.declared.rule.Rule.{Rule}
 use Rattle.uv_model.specs.declared.rule.Refusal.{Refusal}
-use Rattle.uv_model.specs.Complaints.Refusal.{IsLeast}
+use Rattle.uv_model.specs.Complaints.Refusal.{IsLeast, StandsWithin}
 use Rattle.uv_model.specs.Complaints.UnitComplaint.{UnitComplaint, unit_rule}
 use Rattle.uv_model.specs.Units.{IsUnits}
+use Rattle.uv_model.proofs.Complaints.ComplaintLemmas.{least_unit_fault_within}
 use Rattle.uv_text.specs.Class.{HoldsUrlBytes}
 use Rattle.uv_text.specs.Splits.{IsUnitSplit, unit_length}
 use Rattle.uv_text.proofs.FaultsLemmas.{fault_at, fault_behind, least_fault, none_in_units}
@@ -17,6 +18,7 @@ use Rattle.uv_text.proofs.faults.first_fault.Goals as goal
 -- what the function ensures of its answer
 record Answers (bytes : List ℕ) (answer : Option Refusal) : Type 0 where
   least : IsLeast (UnitComplaint (chars bytes)) answer
+  within : StandsWithin (chars bytes) answer
   none : IsNone answer ↔ IsUnits (chars bytes)
 
 -- the first code point behind the units is what the function ensures
@@ -28,7 +30,11 @@ answers ranges bytes answer holds is =
     let n = unit_length ranges text in
     let found = fault_behind ranges holds 0 text ∙ ap (λ p. fault_at p (drop n text)) (omega arith) in
     let least = subst (λ a. IsLeast (UnitComplaint text) a) (found ∙ sym is) (least_fault text) in
-    record { least = least; none = none_in_units text answer least }
+    record {
+      least = least;
+      within = least_unit_fault_within text answer least;
+      none = none_in_units text answer least;
+    }
 
 -- a code point behind the units
 fault_found : (ranges : List (ℕ × ℕ)) (bytes front rest : List ℕ) (c : ℕ) (more : List ℕ) (place : ℕ) (rule : Rule)
@@ -50,21 +56,32 @@ no_fault ranges bytes front rest holds cut none =
 pub returns-in-Some-clause-least : goal.returns-in-Some-clause-least
 returns-in-Some-clause-least c =
     (fault_found c.url-class.result c.args.text.now c.split_units.result.0.now c.split_units.result.1.now c.in-Some.c
-    (chars c.in-Some.field-0-1.now) c.count_code_points.result c.unit_rule.result c.url-class.ensures.bytes c.split_units.ensures
+    (chars c.in-Some.field-0-1.now) c.count_code_points.result c.unit_rule.result c.url-class.ensures.bytes
+    c.split_units.ensures
     c.in-Some.ensures c.count_code_points.ensures c.unit_rule.ensures).least
+
+pub returns-in-Some-clause-within : goal.returns-in-Some-clause-within
+returns-in-Some-clause-within c =
+    (fault_found c.url-class.result c.args.text.now c.split_units.result.0.now c.split_units.result.1.now c.in-Some.c
+    (chars c.in-Some.field-0-1.now) c.count_code_points.result c.unit_rule.result c.url-class.ensures.bytes
+    c.split_units.ensures
+    c.in-Some.ensures c.count_code_points.ensures c.unit_rule.ensures).within
 
 pub returns-in-Some-clause-none : goal.returns-in-Some-clause-none
 returns-in-Some-clause-none c =
     (fault_found c.url-class.result c.args.text.now c.split_units.result.0.now c.split_units.result.1.now c.in-Some.c
-    (chars c.in-Some.field-0-1.now) c.count_code_points.result c.unit_rule.result c.url-class.ensures.bytes c.split_units.ensures
+    (chars c.in-Some.field-0-1.now) c.count_code_points.result c.unit_rule.result c.url-class.ensures.bytes
+    c.split_units.ensures
     c.in-Some.ensures c.count_code_points.ensures c.unit_rule.ensures).none
 
 pub returns-in-None-clause-least : goal.returns-in-None-clause-least
 returns-in-None-clause-least c =
-    (no_fault c.url-class.result c.args.text.now c.split_units.result.0.now c.split_units.result.1.now c.url-class.ensures.bytes
+    (no_fault c.url-class.result c.args.text.now c.split_units.result.0.now c.split_units.result.1.now
+    c.url-class.ensures.bytes
     c.split_units.ensures c.in-None.ensures).least
 
 pub returns-in-None-clause-none : goal.returns-in-None-clause-none
 returns-in-None-clause-none c =
-    (no_fault c.url-class.result c.args.text.now c.split_units.result.0.now c.split_units.result.1.now c.url-class.ensures.bytes
+    (no_fault c.url-class.result c.args.text.now c.split_units.result.0.now c.split_units.result.1.now
+    c.url-class.ensures.bytes
     c.split_units.ensures c.in-None.ensures).none
