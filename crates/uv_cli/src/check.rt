@@ -34,8 +34,8 @@ pub(crate) enum Complaints {
 /// Checks a text by a profile, alone or against a base, and writes what it says of it: the lines of a valid text's
 /// record, or the line of a refused text's least complaint.
 ///
-/// The base is resolved alone by the same profile, before the text is looked at. An error of memory leaves the output as
-/// it was; an error of a write leaves a beginning of what was to be written.
+/// The base is resolved alone by the same profile, before the text is looked at. An error of memory leaves the output
+/// as it was; an error of a write leaves a beginning of what was to be written.
 pub fn run_check<S: Sink>(
     alloc: Global,
     text: &str,

@@ -1,12 +1,11 @@
 -- Lemmas on the `:` of a port in the bytes of an authority and in its code points.
-use Rattle.std.proofs.Common.{◌≡◌, ◌≢◌, ℕ, ◌+◌, ◌<◌, ◌≤◌, List, [], ◌∷◌, ◌++◌, Bool, true, false, not, drop, refl, sym, ap, ◌∙◌, inl, inr, arith, Option, Some, None, lit<, le-ltb, lt-ltb, ne_eqb, append-nil}
+use Rattle.std.proofs.Common.{◌≡◌, ◌≢◌, ℕ, ◌+◌, ◌<◌, ◌≤◌, List, [], ◌∷◌, ◌++◌, Bool, true, false, not, drop, refl, sym, ap, ◌∙◌, inl, inr, arith, Option, Some, None, lit<, ne_eqb, append-nil}
 use Rattle.std.specs.Prelude.{◌⊎◌, if◌then◌else◌, option_map, slice_range, IsSome}
-use Rattle.std.specs.Char.{encode_utf8}
 use Rattle.std.specs.Str.{chars, IsUtf8, IsCharBoundary}
 use Rattle.std.proofs.lemmas.Bool.{cases_lt, cases_Bool, false≢true}
 use Rattle.std.proofs.lemmas.Str.{encode_ascii, encodes-chars, encodes_same, IsCharBoundary-after_ascii}
 use Rattle.std.proofs.Math.Utf8.{encodes, encode}
-use Rattle.uv_grammar.specs.Sides.{IsPortMark, SplitsHost, SplitsScheme}
+use Rattle.uv_grammar.specs.TextSplits.{IsPortMark, SplitsHost, SplitsScheme}
 use Rattle.uv_grammar.proofs.SliceLemmas.{range-start}
 use Rattle.uv_model.specs.declared.scheme.Class.{Class}
 use Rattle.uv_model.specs.declared.scheme.Class.TheVariants.{Special, Other}
@@ -14,32 +13,12 @@ use Rattle.uv_model.specs.Parts.{written_behind}
 use Rattle.uv_model.specs.Path.{is_without}
 use Rattle.uv_model.specs.Scheme.{is_scheme}
 use Rattle.uv_model.specs.Valid.{starts_with_scheme}
+use Rattle.uv_model.proofs.Texts.AsciiLemmas.{AreBeyond, AreBeyond-encode}
 use Rattle.uv_model.proofs.Texts.MarkLemmas.{has_mark, is_without-cons, text_before-mark}
 use Rattle.uv_model.proofs.Cuts.SchemeCutLemmas.{scheme_without_colon, splits_at_scheme}
 use Rattle.uv_model.proofs.Cuts.AuthorityCutLemmas.{host_cut-is, written_host_cut}
 use Rattle.uv_model.specs.Ascii.{colon, left_bracket, right_bracket}
 use Rattle.uv_model.specs.Cut.{host_before, host_cut, port_cut, text_before, is_port_mark, is_within, port_behind}
-
--- each is beyond ASCII
-abbrev pub AreBeyond : List ℕ → Type 0
-AreBeyond [] = Unit {0}
-AreBeyond (b ∷ bs) = (128 ≤ b) × AreBeyond bs
-
--- the bytes of a code point beyond ASCII are beyond ASCII
-pub AreBeyond-encode : (c : ℕ) → 128 ≤ c → AreBeyond (encode_utf8 c)
-unfolding encode_utf8
-AreBeyond-encode c high =
-    elim (cases_lt c 2048) [
-      | inl two ↦ rw (le-ltb c 128 high, lt-ltb c 2048 two) (omega arith, (omega arith, tt))
-      | inr more ↦ elim (cases_lt c 65536) [
-        | inl three ↦
-            rw (le-ltb c 128 high, le-ltb c 2048 more, lt-ltb c 65536 three)
-            (omega arith, (omega arith, (omega arith, tt)))
-        | inr four ↦
-            rw (le-ltb c 128 high, le-ltb c 2048 more, le-ltb c 65536 four)
-            (omega arith, (omega arith, (omega arith, (omega arith, tt))))
-      ]
-    ]
 
 -- a byte beyond ASCII is no `:`
 no_mark : (within : Bool) (b : ℕ) → 128 ≤ b → is_port_mark within b ≡ false

@@ -13,7 +13,7 @@ use Rattle.uv_model.specs.Ascii.{number_sign, question_mark}
 use Rattle.uv_model.specs.Complaints.Complaint.{HasEmptyFirst, HasHost, MayBeUnitComplaint, IsStarted, starts_with_number_sign}
 use Rattle.uv_model.specs.Cut.{Cut, IsCut, IsHostCut, IsSchemeCut, class_in, path_place, query_place, fragment_place, starts_with_two_slashes, written_front, written_middle, written_start}
 use Rattle.uv_model.specs.Parts.{Form, NoPath, Parts, PathAbsolute, PathRelative, SchemeOpaque, SchemePath, has_scheme, written_authority, written_behind, written_scheme}
-use Rattle.uv_model.specs.Path.{IsPathAbsolute, IsPathRelative, is_without, starts_with_drive, starts_with_slash}
+use Rattle.uv_model.specs.Path.{IsPathAbsolute, IsPathRelative, is_without, starts_with_drive_segment, starts_with_slash}
 use Rattle.uv_model.specs.Complaints.Refusal.{IsLeast}
 use Rattle.uv_model.specs.Scheme.{scheme_class}
 use Rattle.uv_model.specs.Units.{IsUnits}
@@ -36,7 +36,7 @@ use Rattle.uv_grammar.proofs.SegmentLemmas.{path_absolute, path_relative, path_s
 record IsQuiet (setting : Setting) (cut : Cut) : Type 0 where
   first : HasEmptyFirst setting.profile cut.path_text → ⊥
   drive : setting.class ≡ File → HasHost setting.base cut.scheme cut.host_text
-      → starts_with_drive cut.path_text ≡ false
+      → starts_with_drive_segment cut.path_text ≡ false
   path : IsUnits cut.path_text
   query : MayBeUnits cut.query
   fragment : MayBeUnits cut.fragment
@@ -54,7 +54,7 @@ quiet setting cut none = record {
   first = λ empty.
       none (path_place cut + 1) FirstSegmentEmpty
       (inl (record { inner = 1; moved = refl; holds = (empty, refl) }));
-  drive = λ file host. elim (cases_Bool (starts_with_drive cut.path_text)) [
+  drive = λ file host. elim (cases_Bool (starts_with_drive_segment cut.path_text)) [
     | inl drive ↦
         absurd (none (path_place cut + 0) DriveAfterHost
         (inl (record { inner = 0; moved = refl; holds = (file, host, drive, refl) })))
@@ -103,11 +103,13 @@ slashed_path profile segments path (inr is) start = is
 -- ---- authorities
 
 -- a valid authority of the class
-authority_fits : (kind : Class) (setting : Setting) (host_text : List ℕ) (parts : Parts) (host : Option Host) → parts.host ≡ host
-    → FitsHost setting.profile kind host_text parts.port_text parts.path_text host → IsHostCut kind host_text parts.port_text
+authority_fits : (kind : Class) (setting : Setting) (host_text : List ℕ) (parts : Parts) (host : Option Host)
+    → parts.host ≡ host
+    → FitsHost setting.profile kind host_text parts.port_text parts.path_text host
+    → IsHostCut kind host_text parts.port_text
     → MayBePortText parts.port_text → parts.port ≡ port_given setting.default_port parts.port_text
     → MayBePathBehind setting.profile parts.segments parts.path_text
-    → (kind ≡ File → host_text ≢ [] → starts_with_drive parts.path_text ≡ false)
+    → (kind ≡ File → host_text ≢ [] → starts_with_drive_segment parts.path_text ≡ false)
     → FitsAuthority kind setting host_text parts
 authority_fits Special setting host_text parts None same (inl (some, fits)) cut port_text port path drive = absurd fits
 authority_fits Special setting host_text parts (Some value) same (inl (some, fits)) cut port_text port path drive =
@@ -153,12 +155,15 @@ has_authority : (profile : Profile) (base : Option Url) (text : List ℕ) (schem
     (port_text : Option (List ℕ))
     (path : List ℕ) (query fragment : Option (List ℕ)) (host : Option Host) (port : Option ℕ)
     → IsCut base text (cut_with scheme (Some host_text) port_text path query fragment)
-    → FitsHostPart (setting_of profile base scheme) (cut_with scheme (Some host_text) port_text path query fragment) host
-    → FitsPortPart (setting_of profile base scheme) (cut_with scheme (Some host_text) port_text path query fragment) port
+    → FitsHostPart (setting_of profile base scheme)
+    (cut_with scheme (Some host_text) port_text path query fragment) host
+    → FitsPortPart (setting_of profile base scheme)
+    (cut_with scheme (Some host_text) port_text path query fragment) port
     → IsQuiet (setting_of profile base scheme) (cut_with scheme (Some host_text) port_text path query fragment)
     → is_without question_mark path ≡ true
     → (built (cut_with scheme (Some host_text) port_text path query fragment) host port).segments ≡ segments_of path
-    → HasAuthority (setting_of profile base scheme) (built (cut_with scheme (Some host_text) port_text path query fragment) host port)
+    → HasAuthority (setting_of profile base scheme)
+    (built (cut_with scheme (Some host_text) port_text path query fragment) host port)
 has_authority profile base text scheme host_text port_text path query fragment host port is fits_host fits_port q none
     segments =
     let p = port_facts (setting_of profile base scheme) scheme host_text port_text path query fragment port fits_port in
@@ -187,8 +192,11 @@ class_cases Special = inr (λ same. cc)
 class_cases File = inr (λ same. cc)
 
 -- a scheme without an authority is of class Other
-other_scheme : (profile : Profile) (base : Option Url) (text scheme : List ℕ) (port_text : Option (List ℕ)) (path : List ℕ)
-    (query fragment : Option (List ℕ)) → IsStarted (setting_of profile base (Some scheme)) text (cut_with (Some scheme) None port_text path query fragment)
+other_scheme : (profile : Profile) (base : Option Url) (text scheme : List ℕ) (port_text : Option (List ℕ))
+    (path : List ℕ)
+    (query fragment : Option (List ℕ))
+    → IsStarted (setting_of profile base (Some scheme)) text
+    (cut_with (Some scheme) None port_text path query fragment)
     → scheme_class scheme ≡ Other
 other_scheme profile base text scheme port_text path query fragment started = elim (class_cases (scheme_class scheme)) [
   | inl other ↦ other
@@ -197,14 +205,16 @@ other_scheme profile base text scheme port_text path query fragment started = el
 
 -- no drive letter behind a base's host
 fits_drive : (base : Option Url) (path : List ℕ)
-    → (class_in base None ≡ File → HasHost base None None → starts_with_drive path ≡ false) → FitsDrive base path
+    → (class_in base None ≡ File → HasHost base None None → starts_with_drive_segment path ≡ false)
+    → FitsDrive base path
 fits_drive None path drive = tt
 fits_drive (Some url) path drive = drive
 
 -- ---- forms that a test of the path decides
 
 absolute_form : (setting : Setting) (parts : Parts) → parts.form ≡ PathAbsolute → HasNoAuthority parts
-    → IsPathAbsolute parts.segments parts.path_text → FitsDrive setting.base parts.path_text → FitsForm setting parts.form parts
+    → IsPathAbsolute parts.segments parts.path_text → FitsDrive setting.base parts.path_text
+    → FitsForm setting parts.form parts
 absolute_form setting parts form a b d = subst (λ (f : Form). FitsForm setting f parts) (sym form) (a, b, d)
 
 relative_form : (setting : Setting) (parts : Parts) → parts.form ≡ PathRelative → HasNoAuthority parts
@@ -231,7 +241,8 @@ known_segments form other path P same holds = subst (λ (f : Form). P (segments_
 -- ---- the parts of the theorem
 
 -- what is known of a cut whose parts are built
-record IsSound (profile : Profile) (base : Option Url) (text : List ℕ) (cut : Cut) (host : Option Host) (port : Option ℕ) : Type 0 where
+record IsSound (profile : Profile) (base : Option Url) (text : List ℕ) (cut : Cut) (host : Option Host)
+    (port : Option ℕ) : Type 0 where
   is : IsCut base text cut
   started : IsStarted (setting_of profile base cut.scheme) text cut
   fits_host : FitsHostPart (setting_of profile base cut.scheme) cut host
@@ -240,7 +251,8 @@ record IsSound (profile : Profile) (base : Option Url) (text : List ℕ) (cut : 
   none : is_without question_mark cut.path_text ≡ true
 
 -- a scheme and a path
-scheme_path_fits : (profile : Profile) (base : Option Url) (text scheme : List ℕ) (port_text : Option (List ℕ)) (path : List ℕ)
+scheme_path_fits : (profile : Profile) (base : Option Url) (text scheme : List ℕ) (port_text : Option (List ℕ))
+    (path : List ℕ)
     (query fragment : Option (List ℕ)) (host : Option Host) (port : Option ℕ)
     → IsSound profile base text (cut_with (Some scheme) None port_text path query fragment) host port
     → FitsForm (setting_of profile base (Some scheme)) (form_with true false path)
@@ -256,12 +268,14 @@ scheme_path_fits profile base text scheme port_text path query fragment host por
           (path_absolute path s.quiet.path s.none start s.is.authority.1))
       | inr start ↦
           let form : form_with true false path ≡ SchemeOpaque = rw start refl in
-          opaque_form (setting_of profile base (Some scheme)) _ form a other (pieces path, path_relative path s.quiet.path s.none start)
+          opaque_form (setting_of profile base (Some scheme)) _ form a other
+          (pieces path, path_relative path s.quiet.path s.none start)
           (ap (λ f. segments_in f path) form)
     ]
 
 -- a path alone
-reference_fits : (profile : Profile) (base : Option Url) (text : List ℕ) (port_text : Option (List ℕ)) (c : ℕ) (rest : List ℕ)
+reference_fits : (profile : Profile) (base : Option Url) (text : List ℕ) (port_text : Option (List ℕ)) (c : ℕ)
+    (rest : List ℕ)
     (query fragment : Option (List ℕ)) (host : Option Host) (port : Option ℕ)
     → IsSound profile base text (cut_with None None port_text (c ∷ rest) query fragment) host port
     → FitsForm (setting_of profile base None) (form_with false false (c ∷ rest))
@@ -286,7 +300,8 @@ reference_fits profile base text port_text c rest query fragment host port s =
     ]
 
 -- the parts fit the form
-form_fits : (profile : Profile) (base : Option Url) (text : List ℕ) (scheme host_text port_text : Option (List ℕ)) (path : List ℕ)
+form_fits : (profile : Profile) (base : Option Url) (text : List ℕ) (scheme host_text port_text : Option (List ℕ))
+    (path : List ℕ)
     (query fragment : Option (List ℕ)) (host : Option Host) (port : Option ℕ)
     → IsSound profile base text (cut_with scheme host_text port_text path query fragment) host port
     → FitsForm (setting_of profile base scheme) (form_with (is_some scheme) (is_some host_text) path)
@@ -361,9 +376,11 @@ scheme_or_none None = inr refl
 scheme_or_none (Some scheme) = inl refl
 
 -- a text without a scheme fits its base
-base_fits : (profile : Profile) (base : Option Url) (text : List ℕ) (cut : Cut) (host : Option Host) (port : Option ℕ) → IsCut base text cut
+base_fits : (profile : Profile) (base : Option Url) (text : List ℕ) (cut : Cut) (host : Option Host) (port : Option ℕ)
+    → IsCut base text cut
     → IsStarted (setting_of profile base cut.scheme) text cut → FitsBase base (built cut host port)
-base_fits profile None text cut host port is started = scheme_there cut.scheme (λ none. started 0 NoScheme (none, refl, refl))
+base_fits profile None text cut host port is started =
+    scheme_there cut.scheme (λ none. started 0 NoScheme (none, refl, refl))
 base_fits profile (Some url) text cut host port is started = elim (scheme_or_none cut.scheme) [
   | inl some ↦ inl some
   | inr none ↦ elim (cases_Bool (is_opaque url.path)) [
@@ -381,16 +398,21 @@ base_fits profile (Some url) text cut host port is started = elim (scheme_or_non
 
 -- The parts built from a cut are valid where its start, its host and its port are, and nothing behind them has a
 -- complaint.
-pub valid_built : (profile : Profile) (base : Option Url) (text : List ℕ) (cut : Cut) (host : Option Host) (port : Option ℕ)
-    → IsCut base text cut → IsStarted (setting_of profile base cut.scheme) text cut → FitsHostPart (setting_of profile base cut.scheme) cut host → FitsPortPart (setting_of profile base cut.scheme) cut port
-    → IsLeast (BehindAuthority (setting_of profile base cut.scheme) cut) None → Valid profile base text (built cut host port)
+pub valid_built : (profile : Profile) (base : Option Url) (text : List ℕ) (cut : Cut) (host : Option Host)
+    (port : Option ℕ)
+    → IsCut base text cut → IsStarted (setting_of profile base cut.scheme) text cut
+    → FitsHostPart (setting_of profile base cut.scheme) cut host
+    → FitsPortPart (setting_of profile base cut.scheme) cut port
+    → IsLeast (BehindAuthority (setting_of profile base cut.scheme) cut) None
+    → Valid profile base text (built cut host port)
 valid_built profile base text cut host port is started fits_host fits_port silent =
     let q = quiet (setting_of profile base cut.scheme) cut silent in
     record {
       whole = is.whole ∙ sym (written_as_cut (built cut host port));
       scheme = scheme_fits cut.scheme cut.host_text cut.path_text (written_middle cut) is.scheme;
       against = base_fits profile base text cut host port is started;
-      form = form_fits profile base text cut.scheme cut.host_text cut.port_text cut.path_text cut.query cut.fragment host port
+      form = form_fits profile base text cut.scheme cut.host_text cut.port_text cut.path_text cut.query cut.fragment
+          host port
           (record {
             is = is;
             started = started;

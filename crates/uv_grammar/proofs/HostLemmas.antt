@@ -15,7 +15,7 @@ use Rattle.uv_model.specs.declared.scheme.Class.{Class}
 use Rattle.uv_model.specs.declared.scheme.Class.TheVariants.{Special, File, Other}
 use Rattle.uv_host.specs.OpaqueHosts.{IsOpaqueHostOrEmpty}
 use Rattle.uv_model.specs.Hosts.Address.{IsBracketedIpv6}
-use Rattle.uv_model.specs.Complaints.Complaint.{HeldHostComplaint, HostComplaint, HostTextComplaint, LacksHost}
+use Rattle.uv_model.specs.Complaints.Complaint.{HostContentComplaint, HostComplaint, HostTextComplaint, LacksHost}
 use Rattle.uv_model.specs.Ascii.{percent_sign}
 use Rattle.uv_model.specs.Hosts.OpaqueHost.{IsOpaqueHost}
 use Rattle.uv_model.specs.Complaints.OpaqueHostComplaint.{OpaqueHostComplaint}
@@ -39,7 +39,8 @@ nothing_at zero c rest same = cc
 nothing_at (suc place) c rest same = cc
 
 -- an empty text violates no rule by what it holds
-pub nothing_held : (profile : Profile) (class : Class) (place : ℕ) (rule : Rule) → HeldHostComplaint profile class [] place rule → ⊥
+pub nothing_held : (profile : Profile) (class : Class) (place : ℕ) (rule : Rule)
+    → HostContentComplaint profile class [] place rule → ⊥
 nothing_held profile Special place HostDomain h = h.0.0.some refl
 nothing_held profile Special place HostNumber h = h.0.0.some refl
 nothing_held profile Special place HostIpv6 h = false≢true h.0.bracket
@@ -54,7 +55,8 @@ nothing_held profile Other place Percent h = nothing_at place percent_sign h.1.r
 nothing_held profile Other place _ h = absurd h
 
 -- the rules of an empty host are that of a missing one
-pub empty_rule : (profile : Profile) (class : Class) (port_text : Option (List ℕ)) (path_text : List ℕ) (place : ℕ) (rule : Rule)
+pub empty_rule : (profile : Profile) (class : Class) (port_text : Option (List ℕ)) (path_text : List ℕ) (place : ℕ)
+    (rule : Rule)
     → HostComplaint profile class [] port_text path_text place rule
     → (rule ≡ HostMissing) × LacksHost class [] port_text path_text × (place ≡ 0)
 empty_rule profile class port_text path_text place HostMissing h = (refl, h.0, h.1)
@@ -74,12 +76,14 @@ missing_host profile class port_text path_text lacks = record {
 pub empty_silent : (profile : Profile) (class : Class) (port_text : Option (List ℕ)) (path_text : List ℕ)
     → ¬ (LacksHost class [] port_text path_text)
     → IsLeast (HostComplaint profile class [] port_text path_text) None
-empty_silent profile class port_text path_text not place rule h = not (empty_rule profile class port_text path_text place rule h).1
+empty_silent profile class port_text path_text not place rule h =
+    not (empty_rule profile class port_text path_text place rule h).1
 
 -- ---- a host that isn't empty
 
 -- what it holds violates no rule of a missing host
-held_not_missing : (profile : Profile) (class : Class) (text : List ℕ) (place : ℕ) → HeldHostComplaint profile class text place HostMissing → ⊥
+held_not_missing : (profile : Profile) (class : Class) (text : List ℕ) (place : ℕ)
+    → HostContentComplaint profile class text place HostMissing → ⊥
 held_not_missing profile Special text place h = h.0
 held_not_missing profile File text place h = h.0
 held_not_missing profile Other text place h = h
@@ -90,35 +94,46 @@ lacks_nothing Special text port_text path_text some h = some h
 lacks_nothing File text port_text path_text some h = some h.0
 lacks_nothing Other text port_text path_text some h = some h.0
 
-pub held_to : (profile : Profile) (class : Class) (text : List ℕ) (port_text : Option (List ℕ)) (path_text : List ℕ) (place : ℕ) (rule : Rule)
-    → HeldHostComplaint profile class text place rule → HostComplaint profile class text port_text path_text place rule
-held_to profile class text port_text path_text place HostMissing h = absurd (held_not_missing profile class text place h)
+pub held_to : (profile : Profile) (class : Class) (text : List ℕ) (port_text : Option (List ℕ)) (path_text : List ℕ)
+    (place : ℕ) (rule : Rule)
+    → HostContentComplaint profile class text place rule
+    → HostComplaint profile class text port_text path_text place rule
+held_to profile class text port_text path_text place HostMissing h =
+    absurd (held_not_missing profile class text place h)
 held_to profile class text port_text path_text place _ h = h
 
-pub held_from : (profile : Profile) (class : Class) (text : List ℕ) (port_text : Option (List ℕ)) (path_text : List ℕ) → text ≢ []
+pub held_from : (profile : Profile) (class : Class) (text : List ℕ) (port_text : Option (List ℕ)) (path_text : List ℕ)
+    → text ≢ []
     → (place : ℕ) (rule : Rule)
-    → HostComplaint profile class text port_text path_text place rule → HeldHostComplaint profile class text place rule
+    → HostComplaint profile class text port_text path_text place rule
+    → HostContentComplaint profile class text place rule
 held_from profile class text port_text path_text some place HostMissing h =
     absurd (lacks_nothing class text port_text path_text some h.0)
 held_from profile class text port_text path_text some place _ h = h
 
 -- the answer on what a host holds is the answer on the host
-pub held_answer : (profile : Profile) (class : Class) (text : List ℕ) (port_text : Option (List ℕ)) (path_text : List ℕ) → text ≢ []
-    → (answer : Judged (Option Host)) → IsJudged (FitsSomeHost profile class text) (HeldHostComplaint profile class text) answer
-    → IsJudged (FitsHost profile class text port_text path_text) (HostComplaint profile class text port_text path_text) answer
+pub held_answer : (profile : Profile) (class : Class) (text : List ℕ) (port_text : Option (List ℕ))
+    (path_text : List ℕ) → text ≢ []
+    → (answer : Judged (Option Host))
+    → IsJudged (FitsSomeHost profile class text) (HostContentComplaint profile class text) answer
+    → IsJudged (FitsHost profile class text port_text path_text)
+    (HostComplaint profile class text port_text path_text) answer
 held_answer profile class text port_text path_text some (Valid host) is = (
   inl (some, is.0),
-  IsLeast-like (HeldHostComplaint profile class text) (HostComplaint profile class text port_text path_text)
-      (held_to profile class text port_text path_text) (held_from profile class text port_text path_text some) None is.1,
+  IsLeast-like (HostContentComplaint profile class text) (HostComplaint profile class text port_text path_text)
+      (held_to profile class text port_text path_text)
+      (held_from profile class text port_text path_text some) None is.1,
 )
 held_answer profile class text port_text path_text some (Refused refusal) is =
-    IsLeast-like (HeldHostComplaint profile class text) (HostComplaint profile class text port_text path_text)
-    (held_to profile class text port_text path_text) (held_from profile class text port_text path_text some) (Some refusal) is
+    IsLeast-like (HostContentComplaint profile class text) (HostComplaint profile class text port_text path_text)
+    (held_to profile class text port_text path_text) (held_from profile class text port_text path_text some)
+    (Some refusal) is
 
 -- ---- the host strings of special and file URLs
 
 -- a text that should be a domain has one fault
-pub one_rule : (profile : Profile) (text : List ℕ) (rule other : Rule) → HostTextComplaint profile text rule → HostTextComplaint profile text other
+pub one_rule : (profile : Profile) (text : List ℕ) (rule other : Rule) → HostTextComplaint profile text rule
+    → HostTextComplaint profile text other
     → rule ≡ other
 one_rule profile text HostDomain HostDomain h k = refl
 one_rule profile text HostNumber HostNumber h k = refl
@@ -147,13 +162,15 @@ fault_least profile text rule h = record {
 
 -- the answer on a valid host string
 pub text_answer : (profile : Profile) (text : List ℕ) (host : Host) → IsHostText profile text host
-    → IsJudged (IsHostText profile text) (HeldHostComplaint profile Special text) (Valid host)
+    → IsJudged (IsHostText profile text) (HostContentComplaint profile Special text) (Valid host)
 text_answer profile text host is = (is, λ place rule h. host_text_faultless profile text host is rule h.0)
 
 -- the answer of a file URL
 pub file_answer : (profile : Profile) (text : List ℕ) (host : Host) → IsHostText profile text host
-    → IsJudged (FitsSomeHost profile File text) (HeldHostComplaint profile File text) (Valid (Some (without_localhost host)))
-file_answer profile text host is = (file_host_fits profile text host is, λ place rule h. host_text_faultless profile text host is rule h.0)
+    → IsJudged (FitsSomeHost profile File text) (HostContentComplaint profile File text)
+    (Valid (Some (without_localhost host)))
+file_answer profile text host is =
+    (file_host_fits profile text host is, λ place rule h. host_text_faultless profile text host is rule h.0)
 
 -- the answer of any other URL on an IPv6 text in brackets
 pub bracketed_answer : (text pieces : List ℕ) → IsBracketedIpv6 text pieces

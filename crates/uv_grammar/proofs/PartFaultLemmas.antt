@@ -13,11 +13,11 @@ use Rattle.uv_model.specs.declared.scheme.Class.{Class}
 use Rattle.uv_model.specs.declared.scheme.Class.TheVariants.{Special, File, Other}
 use Rattle.uv_model.specs.Ascii.{slash}
 use Rattle.uv_model.specs.Complaints.AllComplaints.{AreFaults, ListsComplaints}
-use Rattle.uv_model.specs.Complaints.Complaint.{Behind, Complaint, ComplaintOf, HasEmptyFirst, HasOpaquePath, HeldComplaint, HeldHostComplaint, HostComplaint, HostPartComplaint, IsStarted, JudgedComplaint, PathStartComplaint, PortComplaint, PortPartComplaint, StartComplaint}
+use Rattle.uv_model.specs.Complaints.Complaint.{Behind, Complaint, ComplaintOf, HasEmptyFirst, HasOpaquePath, ContentComplaint, HostContentComplaint, HostComplaint, HostPartComplaint, IsStarted, JudgedComplaint, PathStartComplaint, PortComplaint, PortPartComplaint, StartComplaint}
 use Rattle.uv_model.specs.Cut.{Cut, IsCut, host_place, path_place, port_place}
 use Rattle.uv_model.specs.Hosts.OpaqueHost.{starts_with_bracket}
 use Rattle.uv_model.specs.Parts.{Parts}
-use Rattle.uv_model.specs.Path.{is_drive_letter, starts_with_drive}
+use Rattle.uv_model.specs.Path.{is_drive_letter, starts_with_drive_segment}
 use Rattle.uv_model.specs.Complaints.Refusal.{IsLeast}
 use Rattle.uv_model.specs.Complaints.Rule.{rule_number}
 use Rattle.uv_model.specs.Records.Url.{Url}
@@ -70,7 +70,7 @@ start_one_at_most setting text cut place other TwoSlashes _ h k = absurd k
 start_one_at_most setting text cut place other _ second h k = absurd h
 
 -- a path whose first segment is empty begins with no drive letter
-no_drive : (profile : Profile) (path : List ℕ) → HasEmptyFirst profile path → starts_with_drive path ≡ true → ⊥
+no_drive : (profile : Profile) (path : List ℕ) → HasEmptyFirst profile path → starts_with_drive_segment path ≡ true → ⊥
 no_drive Wide path two drive = two
 no_drive Standard [] two drive = false≢true two
 no_drive Standard (a ∷ []) two drive = false≢true two
@@ -101,7 +101,8 @@ path_start_one_at_most setting cut = behind_one_at_most (path_place cut) (PathSt
 -- ---- the host
 
 -- a host that isn't judged code point by code point violates one rule
-host_one_at_most : (profile : Profile) (class : Class) (text : List ℕ) (port_text : Option (List ℕ)) (path_text : List ℕ)
+host_one_at_most : (profile : Profile) (class : Class) (text : List ℕ) (port_text : Option (List ℕ))
+    (path_text : List ℕ)
     → is_scanned class text ≡ false → HasOneAtMost (HostComplaint profile class text port_text path_text)
 host_one_at_most profile class [] port_text path_text whole place other rule second h k =
     let one = empty_rule profile class port_text path_text place rule h in
@@ -121,7 +122,8 @@ host_one_at_most profile class (c ∷ rest) port_text path_text whole place othe
       | inr other ↦ absurd (false≢true (sym none ∙ ap not other))
     ]
 
-    held : (class : Class) → is_scanned class (c ∷ rest) ≡ false → HasOneAtMost (HeldHostComplaint profile class (c ∷ rest))
+    held : (class : Class) → is_scanned class (c ∷ rest) ≡ false
+        → HasOneAtMost (HostContentComplaint profile class (c ∷ rest))
     held Special none place other rule second h k =
         (h.1 ∙ sym k.1, one_rule profile (c ∷ rest) rule second h.0 k.0)
     held File none place other rule second h k =
@@ -155,8 +157,18 @@ pub host_scan_adds : (setting : Setting) (cut : Cut) (class : Class) (host_text 
 host_scan_adds setting cut class host_text before after is same scanned adds =
     rw is (adds_like (Behind (host_place cut) (HostUnitComplaint host_text))
     (Behind (host_place cut) (HostComplaint setting.profile setting.class host_text cut.port_text cut.path_text))
-    (λ place rule h. record { inner = h.inner; moved = h.moved; holds = to setting.class host_text here h.inner rule h.holds })
-    (λ place rule h. record { inner = h.inner; moved = h.moved; holds = from setting.class host_text here h.inner rule h.holds })
+    (λ place rule h. record {
+      inner = h.inner;
+      moved = h.moved;
+      holds =
+          to setting.class host_text here h.inner rule h.holds;
+    })
+    (λ place rule h. record {
+      inner = h.inner;
+      moved = h.moved;
+      holds =
+          from setting.class host_text here h.inner rule h.holds;
+    })
     before after adds)
   where
     here : is_scanned setting.class host_text ≡ true
@@ -170,7 +182,8 @@ host_scan_adds setting cut class host_text before after is same scanned adds =
     ]
 
     to : (class : Class) (text : List ℕ) → is_scanned class text ≡ true → (place : ℕ) (rule : Rule)
-        → HostUnitComplaint text place rule → HostComplaint setting.profile class text cut.port_text cut.path_text place rule
+        → HostUnitComplaint text place rule
+        → HostComplaint setting.profile class text cut.port_text cut.path_text place rule
     to Special text tested place rule h = absurd (false≢true tested)
     to File text tested place rule h = absurd (false≢true tested)
     to Other [] tested place rule h = absurd (false≢true tested)
@@ -179,7 +192,8 @@ host_scan_adds setting cut class host_text before after is same scanned adds =
     to Other (c ∷ rest) tested place _ h = absurd h
 
     from : (class : Class) (text : List ℕ) → is_scanned class text ≡ true → (place : ℕ) (rule : Rule)
-        → HostComplaint setting.profile class text cut.port_text cut.path_text place rule → HostUnitComplaint text place rule
+        → HostComplaint setting.profile class text cut.port_text cut.path_text place rule
+        → HostUnitComplaint text place rule
     from Special text tested place rule h = absurd (false≢true tested)
     from File text tested place rule h = absurd (false≢true tested)
     from Other [] tested place rule h = absurd (false≢true tested)
@@ -246,7 +260,10 @@ pub judged_adds : (setting : Setting) (cut : Cut) (a b c d : List Refusal)
     → AddsComplaints (OfPathStart setting cut) c d → AddsComplaints (JudgedComplaint setting cut) a d
 judged_adds setting cut a b c d host port start =
     adds_both (HostPartComplaint setting cut) (Either (PortPartComplaint cut) (OfPathStart setting cut)) a b d
-    (record { order = λ place later rule other h k. (host_first setting cut).order place later rule other h (onward later other k) })
+    (record {
+      order = λ place later rule other h k. (host_first setting cut).order place later rule other h
+          (onward later other k);
+    })
     host
     (adds_both (PortPartComplaint cut) (OfPathStart setting cut) b c d
     (record { order = λ place later rule other h k. (port_first setting cut).order place later rule other h (inl k) })
@@ -259,7 +276,7 @@ judged_adds setting cut a b c d host port start =
 
 -- what the path, the query and the fragment hold
 pub held_adds : (cut : Cut) (a b c d : List Refusal) → AddsComplaints (OfPath cut) a b
-    → AddsComplaints (OfQuery cut) b c → AddsComplaints (OfFragment cut) c d → AddsComplaints (HeldComplaint cut) a d
+    → AddsComplaints (OfQuery cut) b c → AddsComplaints (OfFragment cut) c d → AddsComplaints (ContentComplaint cut) a d
 held_adds cut a b c d path query fragment =
     adds_both (OfPath cut) (Either (OfQuery cut) (OfFragment cut)) a b d (path_first cut) path
     (adds_both (OfQuery cut) (OfFragment cut) b c d (query_first cut) query fragment)
@@ -269,10 +286,13 @@ pub start_adds : (setting : Setting) (text : List ℕ) (cut : Cut) (refusal : Re
     → IsLeast (StartComplaint setting text cut) (Some refusal) → after ≡ before ++ fault_list (Some refusal)
     → AddsComplaints (FirstComplaint setting text cut) before after
 start_adds setting text cut refusal before after least joined =
-    adds_like (StartComplaint setting text cut) (FirstComplaint setting text cut) (λ place rule h. inl h) from before after
-    (adds_fault (StartComplaint setting text cut) before after (Some refusal) (start_one_at_most setting text cut) least joined)
+    adds_like (StartComplaint setting text cut) (FirstComplaint setting text cut)
+    (λ place rule h. inl h) from before after
+    (adds_fault (StartComplaint setting text cut) before after (Some refusal)
+    (start_one_at_most setting text cut) least joined)
   where
-    from : (place : ℕ) (rule : Rule) → FirstComplaint setting text cut place rule → StartComplaint setting text cut place rule
+    from : (place : ℕ) (rule : Rule) → FirstComplaint setting text cut place rule
+        → StartComplaint setting text cut place rule
     from place rule (inl h) = h
     from place rule (inr (started, h)) = absurd (started refusal.place refusal.rule least.stands)
 
@@ -284,19 +304,21 @@ started_adds setting text cut before after started adds =
     adds_like (JudgedComplaint setting cut) (FirstComplaint setting text cut) (λ place rule h. inr (started, h)) from
     before after adds
   where
-    from : (place : ℕ) (rule : Rule) → FirstComplaint setting text cut place rule → JudgedComplaint setting cut place rule
+    from : (place : ℕ) (rule : Rule) → FirstComplaint setting text cut place rule
+        → JudgedComplaint setting cut place rule
     from place rule (inl h) = absurd (started place rule h)
     from place rule (inr (again, h)) = h
 
 -- the first complaints stand before those of what the path, the query and the fragment hold
 first_before_held : (setting : Setting) (text : List ℕ) (cut : Cut)
-    → Precedes (FirstComplaint setting text cut) (HeldComplaint cut)
+    → Precedes (FirstComplaint setting text cut) (ContentComplaint cut)
 first_before_held setting text cut = record { order = order }
   where
     order : (place later : ℕ) (rule other : Rule) → FirstComplaint setting text cut place rule
-        → HeldComplaint cut later other
+        → ContentComplaint cut later other
         → (place < later) ⊎ ((place ≡ later) × (rule_number rule < rule_number other))
-    order place later rule other (inl start) held = (start_before_held setting text cut).order place later rule other start held
+    order place later rule other (inl start) held =
+        (start_before_held setting text cut).order place later rule other start held
     order place later rule other (inr (started, inl host)) held =
         (host_first setting cut).order place later rule other host (inr (inr held))
     order place later rule other (inr (started, inr (inl port))) held =
@@ -306,21 +328,23 @@ first_before_held setting text cut = record { order = order }
 
 -- a list with no refusal, where there is no complaint
 no_faults : (profile : Profile) (base : Option Url) (text : List ℕ) (found : List Refusal)
-    → ListsComplaints (Complaint profile base text) found → (parts : Parts) → valid.Valid profile base text parts → found ≡ []
+    → ListsComplaints (Complaint profile base text) found → (parts : Parts) → valid.Valid profile base text parts
+    → found ≡ []
 no_faults profile base text [] lists parts fits = refl
 no_faults profile base text (refusal ∷ rest) lists parts fits =
-    absurd (faultless profile base text refusal.place refusal.rule ((lists.each refusal).0 (contains_here refusal rest)) parts fits)
+    absurd (faultless profile base text refusal.place refusal.rule
+    ((lists.each refusal).0 (contains_here refusal rest)) parts fits)
 
 -- all the complaints of a text
 pub all_faults : (profile : Profile) (base : Option Url) (text : List ℕ) (cut : Cut) (setting : Setting)
     (first found : List Refusal)
     → IsCut base text cut → setting ≡ setting_of profile base cut.scheme
-    → AddsComplaints (FirstComplaint setting text cut) [] first → AddsComplaints (HeldComplaint cut) first found
+    → AddsComplaints (FirstComplaint setting text cut) [] first → AddsComplaints (ContentComplaint cut) first found
     → AreFaults profile base text found
 unfolding Complaint
 all_faults profile base text cut setting first found is made one two =
-    let F = Either (FirstComplaint setting text cut) (HeldComplaint cut) in
-    let both = adds_both (FirstComplaint setting text cut) (HeldComplaint cut) [] first found
+    let F = Either (FirstComplaint setting text cut) (ContentComplaint cut) in
+    let both = adds_both (FirstComplaint setting text cut) (ContentComplaint cut) [] first found
     (first_before_held setting text cut) one two in
     let of_cut : ListsComplaints (ComplaintOf setting text cut) found
     = subst (λ (l : List Refusal). ListsComplaints (ComplaintOf setting text cut) l) (sym both.joined)
@@ -335,14 +359,14 @@ all_faults profile base text cut setting first found is made one two =
       none = no_faults profile base text found lists;
     }
   where
-    to : (place : ℕ) (rule : Rule) → Either (FirstComplaint setting text cut) (HeldComplaint cut) place rule
+    to : (place : ℕ) (rule : Rule) → Either (FirstComplaint setting text cut) (ContentComplaint cut) place rule
         → ComplaintOf setting text cut place rule
     to place rule (inl (inl start)) = inl start
     to place rule (inl (inr judged)) = inr (inl judged)
     to place rule (inr held) = inr (inr held)
 
     from : (place : ℕ) (rule : Rule) → ComplaintOf setting text cut place rule
-        → Either (FirstComplaint setting text cut) (HeldComplaint cut) place rule
+        → Either (FirstComplaint setting text cut) (ContentComplaint cut) place rule
     from place rule (inl start) = inl (inl start)
     from place rule (inr (inl judged)) = inl (inr judged)
     from place rule (inr (inr held)) = inr held

@@ -10,10 +10,10 @@ use Rattle.std.proofs.lemmas.Str.{encode_ascii, encodes-chars, chars-encodes, sc
 use Rattle.std.proofs.Math.Utf8.{encodes, encode, scalars, scalar}
 use Rattle.uv_model.specs.Ascii.{slash}
 use Rattle.uv_model.specs.Path.{is_without, starts_with_slash}
+use Rattle.uv_model.proofs.Texts.AsciiLemmas.{AreBeyond, AreBeyond-encode}
 use Rattle.uv_model.proofs.Texts.MarkLemmas.{is_without-cons}
 use Rattle.uv_model.specs.Parts.{PathRelative, written_behind}
 use Rattle.uv_grammar.specs.Built.{form_with, left_segments, pieces, segments_of}
-use Rattle.uv_grammar.proofs.AuthorityLemmas.{AreBeyond, AreBeyond-encode}
 
 -- the bytes before the first part
 abbrev onto_front : List ℕ → List (List ℕ) → List (List ℕ)

@@ -275,7 +275,8 @@ scan_goes_on scan start text before found after here left next refusal held utf8
         → AddsComplaints (Behind start (ScanComplaint scan (chars text))) before (after ++ list)
     rest list is =
         let F = ScanComplaint scan in
-        let later = subst (λ (s : List ℕ). ListsComplaints (Behind (here + (refusal.place + 1)) (F s)) list) is_next is in
+        let later = subst (λ (s : List ℕ). ListsComplaints (Behind (here + (refusal.place + 1)) (F s)) list) is_next
+        is in
         let all = held.rest (refusal_behind here refusal ∷ list)
         (lists_scan F (scan_of scan) here (chars left) refusal list least later) in
         subst (λ (l : List Refusal). AddsComplaints (Behind start (F (chars text))) before l)
@@ -289,4 +290,5 @@ pub scan_ends : (scan : Scan) (start : ℕ) (text : List ℕ) (before found : Li
 scan_ends scan start text before found here left held none =
     subst (λ (l : List Refusal). AddsComplaints (Behind start (ScanComplaint scan (chars text))) before l)
     (append-nil found)
-    (held.rest [] (lists_none (Behind here (ScanComplaint scan (chars left))) (λ place rule h. none h.inner rule h.holds)))
+    (held.rest [] (lists_none (Behind here (ScanComplaint scan (chars left)))
+    (λ place rule h. none h.inner rule h.holds)))

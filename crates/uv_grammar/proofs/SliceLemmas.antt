@@ -11,7 +11,7 @@ use Rattle.std.proofs.Math.Seq.{drop-cons, take-append_seam, drop-append-add, dr
 use Rattle.std.proofs.lemmas.Grind.{common_steps}
 use Rattle.uv_model.specs.Ascii.{slash}
 use Rattle.uv_model.specs.Path.{is_without, starts_with_slash}
-use Rattle.uv_grammar.specs.Sides.{SplitsAtSlash}
+use Rattle.uv_grammar.specs.TextSplits.{SplitsAtSlash}
 use Rattle.uv_grammar.proofs.TestLemmas.{starts_with_slash-chars}
 
 -- the byte behind a front

@@ -12,7 +12,7 @@ use Rattle.uv_model.proofs.Texts.AsciiLemmas.{chars-from_IsAscii, IsAscii-from_t
 use Rattle.uv_model.specs.Complaints.Complaint.{starts_with_number_sign}
 use Rattle.uv_model.specs.Cut.{starts_with_two_slashes}
 use Rattle.uv_model.specs.Hosts.OpaqueHost.{starts_with_bracket}
-use Rattle.uv_model.specs.Path.{starts_with_slash, starts_with_drive}
+use Rattle.uv_model.specs.Path.{starts_with_slash, starts_with_drive_segment}
 use Rattle.uv_model.specs.Scheme.{is_scheme, is_scheme_code_point}
 
 -- two tests with one answer where either is true
@@ -85,16 +85,21 @@ first_test test none one bytes utf8 = front_test test passes bytes utf8
     }
 
 -- `/` is the first code point where it is the first byte
-pub starts_with_slash-chars : (bytes : List ℕ) → IsUtf8 bytes → starts_with_slash (chars bytes) ≡ starts_with_slash bytes
+pub starts_with_slash-chars : (bytes : List ℕ) → IsUtf8 bytes → starts_with_slash (chars bytes)
+    ≡ starts_with_slash bytes
 starts_with_slash-chars = first_test starts_with_slash refl (λ c rest other passed. (grind (arith, nat_tests), passed))
 
 -- `#` is the first code point where it is the first byte
-pub starts_with_number_sign-chars : (bytes : List ℕ) → IsUtf8 bytes → starts_with_number_sign (chars bytes) ≡ starts_with_number_sign bytes
-starts_with_number_sign-chars = first_test starts_with_number_sign refl (λ c rest other passed. (grind (arith, nat_tests), passed))
+pub starts_with_number_sign-chars : (bytes : List ℕ) → IsUtf8 bytes → starts_with_number_sign (chars bytes)
+    ≡ starts_with_number_sign bytes
+starts_with_number_sign-chars =
+    first_test starts_with_number_sign refl (λ c rest other passed. (grind (arith, nat_tests), passed))
 
 -- `[` is the first code point where it is the first byte
-pub starts_with_bracket-chars : (bytes : List ℕ) → IsUtf8 bytes → starts_with_bracket (chars bytes) ≡ starts_with_bracket bytes
-starts_with_bracket-chars = first_test starts_with_bracket refl (λ c rest other passed. (grind (arith, nat_tests), passed))
+pub starts_with_bracket-chars : (bytes : List ℕ) → IsUtf8 bytes → starts_with_bracket (chars bytes)
+    ≡ starts_with_bracket bytes
+starts_with_bracket-chars = first_test starts_with_bracket refl
+    (λ c rest other passed. (grind (arith, nat_tests), passed))
 
 -- `//` begins the code points where it begins the bytes
 pub starts_with_two_slashes-chars : (bytes : List ℕ) → IsUtf8 bytes
@@ -113,11 +118,11 @@ starts_with_two_slashes-chars bytes utf8 = front_test starts_with_two_slashes pa
     }
 
 -- a drive letter between slashes begins the code points where it begins the bytes
-pub starts_with_drive-chars : (bytes : List ℕ) → IsUtf8 bytes
-    → starts_with_drive (chars bytes) ≡ starts_with_drive bytes
-starts_with_drive-chars bytes utf8 = front_test starts_with_drive passes bytes utf8
+pub starts_with_drive_segment-chars : (bytes : List ℕ) → IsUtf8 bytes
+    → starts_with_drive_segment (chars bytes) ≡ starts_with_drive_segment bytes
+starts_with_drive_segment-chars bytes utf8 = front_test starts_with_drive_segment passes bytes utf8
   where
-    passes : (text : List ℕ) → starts_with_drive text ≡ true → PassesByFront starts_with_drive text
+    passes : (text : List ℕ) → starts_with_drive_segment text ≡ true → PassesByFront starts_with_drive_segment text
     passes [] passed = absurd cc
     passes (a ∷ []) passed = absurd cc
     passes (a ∷ b ∷ []) passed = absurd cc

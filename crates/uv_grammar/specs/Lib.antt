@@ -11,6 +11,6 @@ pub mod PartValues
 pub mod PlainLinks
 pub mod Scan
 pub mod Seen
-pub mod Sides
+pub mod TextSplits
 pub mod StartRules
 pub mod Verdict

@@ -1,7 +1,7 @@
 -- The complaints of the parts of a cut text, after the order of URL Standard, section 4.3.
 use Rattle.std.specs.Prelude.{ℕ, ◌<◌, ◌^◌, ◌⊎◌, length}
 use Rattle.uv_model.specs.declared.rule.Rule.{Rule}
-use Rattle.uv_model.specs.Complaints.Complaint.{Behind, HeldComplaint, MayBeUnitComplaint, PathStartComplaint}
+use Rattle.uv_model.specs.Complaints.Complaint.{Behind, ContentComplaint, MayBeUnitComplaint, PathStartComplaint}
 use Rattle.uv_model.specs.Cut.{Cut, fragment_place, path_place, query_place, written_cut}
 use Rattle.uv_model.specs.Complaints.UnitComplaint.{UnitComplaint}
 use Rattle.uv_model.specs.Setting.{Setting}
@@ -24,7 +24,7 @@ OfFragment cut = MayBeUnitComplaint (fragment_place cut) cut.fragment
 
 -- those of what stands behind the authority: the path's start, and what the path, the query and the fragment hold
 abbrev pub BehindAuthority : Setting → Cut → ℕ → Rule → Type 0
-BehindAuthority setting cut place rule = OfPathStart setting cut place rule ⊎ HeldComplaint cut place rule
+BehindAuthority setting cut place rule = OfPathStart setting cut place rule ⊎ ContentComplaint cut place rule
 
 -- the text of the cut has fewer code points than a place can count
 abbrev pub IsCountable : Cut → Type 0

@@ -2,14 +2,14 @@
 ghost use Rattle.std.specs.Prelude.{◌≡◌, ◌++◌, IfOk, OnOk, option_copied};
 ghost use Rattle.std.specs.Str.{chars};
 ghost use Rattle.uv_model.specs.Complaints.AllComplaints.{AreFaults};
-ghost use Rattle.uv_model.specs.Complaints.Complaint.{HeldComplaint, HostPartComplaint, JudgedComplaint, PortPartComplaint};
+ghost use Rattle.uv_model.specs.Complaints.Complaint.{ContentComplaint, HostPartComplaint, JudgedComplaint, PortPartComplaint};
 ghost use Rattle.uv_grammar.specs.Faults.{AddsComplaints, FirstComplaint, fault_list};
 ghost use Rattle.uv_grammar.specs.HostValues.{is_scanned};
 ghost use Rattle.uv_grammar.specs.PartComplaints.{IsCountable, OfFragment, OfQuery};
 
 use crate::authority::{judge_host_part, judge_port_part};
-use crate::beginnings::{are_digits, has_bracket};
 use crate::cut::{Cut, cut_text};
+use crate::marks::beginnings::{are_digits, has_bracket};
 use crate::places::{fragment_place, host_place, path_place, port_place, query_place};
 use crate::scan::{Scan, push_scan};
 use crate::setting::Setting;
@@ -17,10 +17,10 @@ use crate::start_rules::{path_start_fault, start_fault};
 use std::alloc::{AllocError, Global};
 use uv_model::{Class, Profile, Record, Refusal};
 
-/// All that is wrong with a text by the profile, alone or against a base: each rule at each place where it is violated, once, by place
-/// and at one place by the rule's number (URL Standard, section 4.3). The first is the refusal of `check`, and there is
-/// none exactly where `check` says yes. Where the start of the text violates a rule, as a special scheme without `//`,
-/// no host, no port and no start of a path is judged. The error is want of memory.
+/// All that is wrong with a text by the profile, alone or against a base: each rule at each place where it is violated,
+/// once, by place and at one place by the rule's number (URL Standard, section 4.3). The first is the refusal of
+/// `check`, and there is none exactly where `check` says yes. Where the start of the text violates a rule, as a special
+/// scheme without `//`, no host, no port and no start of a path is judged. The error is want of memory.
 pub fn faults(
     alloc: Global,
     text: &str,
@@ -124,7 +124,7 @@ fn push_port_faults(
 // The faults of what the path, the query and the fragment hold.
 fn push_held_faults(found: &mut Vec<Refusal>, cut: &Cut) -> Result<(), AllocError>
     requires { IsCountable cut.now }
-    ensures { OnOk result (AddsComplaints (HeldComplaint cut.now) found.old.items found.new.items) }
+    ensures { OnOk result (AddsComplaints (ContentComplaint cut.now) found.old.items found.new.items) }
 {
     push_scan(found, Scan::Units, path_place(cut), cut.path_text)?;
     push_query_faults(found, cut)?;

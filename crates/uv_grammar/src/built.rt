@@ -5,10 +5,10 @@ ghost use Rattle.uv_grammar.specs.Built.{built, form_of, form_with};
 ghost use Rattle.uv_grammar.specs.Form.{seen_form};
 ghost use Rattle.uv_grammar.specs.HeldHost.{held};
 
-use crate::beginnings::has_slash;
 use crate::cut::Cut;
 use crate::form::Form;
 use crate::held_host::HeldHost;
+use crate::marks::beginnings::has_slash;
 use crate::parts::Parts;
 use uv_model::Host;
 

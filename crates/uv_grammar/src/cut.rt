@@ -4,9 +4,9 @@ ghost use Rattle.std.specs.Str.{chars};
 ghost use Rattle.uv_model.specs.Cut.{IsCut, host_before, is_within, port_behind, starts_with_two_slashes};
 ghost use Rattle.uv_model.specs.Setting.{setting_of};
 ghost use Rattle.uv_grammar.specs.Seen.{seen, seen_option};
-ghost use Rattle.uv_grammar.specs.Sides.{IsPortMark, SplitsAuthority, SplitsHost, SplitsMiddle, SplitsScheme};
+ghost use Rattle.uv_grammar.specs.TextSplits.{IsPortMark, SplitsAuthority, SplitsHost, SplitsMiddle, SplitsScheme};
 
-use crate::beginnings::is_scheme_text;
+use crate::marks::beginnings::is_scheme_text;
 use crate::marks::{behind_slash, split_at_mark, split_at_slash};
 use crate::setting::Setting;
 use std::marker::Model;

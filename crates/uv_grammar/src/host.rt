@@ -2,7 +2,7 @@
 ghost use Rattle.std.specs.Prelude.{◌≡◌, ◌≢◌, IfOk, IsOk, [], codes, true};
 ghost use Rattle.std.specs.Str.{bytes_eq, chars};
 ghost use Rattle.uv_model.specs.declared.profile.Profile.{Profile};
-ghost use Rattle.uv_model.specs.Complaints.Complaint.{HeldHostComplaint, HostComplaint};
+ghost use Rattle.uv_model.specs.Complaints.Complaint.{HostContentComplaint, HostComplaint};
 ghost use Rattle.uv_model.specs.Complaints.OpaqueHostComplaint.{OpaqueHostComplaint};
 ghost use Rattle.uv_model.specs.Hosts.OpaqueHost.{starts_with_bracket};
 ghost use Rattle.uv_model.specs.Valid.{IsHostText, IsOpaqueHostText, without_localhost};
@@ -11,8 +11,8 @@ ghost use Rattle.uv_grammar.specs.Judged.{IsJudged};
 ghost use Rattle.uv_grammar.specs.NoMemory.{HostTakesNoMemory, MakesNoForm};
 ghost use Rattle.uv_grammar.specs.Seen.{seen_option};
 
-use crate::beginnings::{has_bracket, has_slash};
 use crate::judged::Judged;
+use crate::marks::beginnings::{has_bracket, has_slash};
 use std::alloc::{AllocError, Global};
 use uv_host::{DomainAnswer, bracketed_ipv6, domain, ipv4, opaque_fault};
 use uv_model::{Class, Host, Profile, Refusal, Rule, Text};
@@ -71,7 +71,7 @@ fn judge_special_host(
 ) -> Result<Judged<Option<Host>>, AllocError>
     requires { chars text.now ≢ [] }
     ensures answer { IfOk result (IsJudged (FitsSomeHost profile Class.Special (chars text.now))
-        (HeldHostComplaint profile Class.Special (chars text.now))) }
+        (HostContentComplaint profile Class.Special (chars text.now))) }
     ensures memory { MakesNoForm profile (chars text.now) → IsOk result }
 {
     match judge_host_text(alloc, text, profile)? {
@@ -88,7 +88,7 @@ fn judge_file_host(
 ) -> Result<Judged<Option<Host>>, AllocError>
     requires { chars text.now ≢ [] }
     ensures answer { IfOk result (IsJudged (FitsSomeHost profile Class.File (chars text.now))
-        (HeldHostComplaint profile Class.File (chars text.now))) }
+        (HostContentComplaint profile Class.File (chars text.now))) }
     ensures memory { MakesNoForm profile (chars text.now) → IsOk result }
 {
     match judge_host_text(alloc, text, profile)? {
@@ -123,7 +123,7 @@ fn is_localhost(form: &str) -> bool
 fn judge_host_text(alloc: Global, text: &str, profile: Profile) -> Result<Judged<Host>, AllocError>
     requires { chars text.now ≢ [] }
     ensures answer { IfOk result (IsJudged (IsHostText profile (chars text.now))
-        (HeldHostComplaint profile Class.Special (chars text.now))) }
+        (HostContentComplaint profile Class.Special (chars text.now))) }
     ensures memory { MakesNoForm profile (chars text.now) → IsOk result }
 {
     if has_bracket(text) {
@@ -143,7 +143,7 @@ fn judge_host_text(alloc: Global, text: &str, profile: Profile) -> Result<Judged
 fn judge_bracketed_host(text: &str) -> Judged<Host>
     requires { starts_with_bracket (chars text.now) ≡ true }
     ensures { (profile : Profile) → IsJudged (IsHostText profile (chars text.now))
-        (HeldHostComplaint profile Class.Special (chars text.now)) result }
+        (HostContentComplaint profile Class.Special (chars text.now)) result }
 {
     match bracketed_ipv6(text) {
         Some(pieces) => Judged::Valid(Host::V6(pieces)),

@@ -3,7 +3,6 @@
 
 mod all_faults;
 mod authority;
-mod beginnings;
 mod built;
 mod checker;
 mod cut;

@@ -1,11 +1,13 @@
-//! Texts cut at ASCII marks.
+//! Texts cut at ASCII marks, and in `beginnings` the tests of how a text begins.
 ghost use Rattle.std.specs.Prelude.{◌≡◌, ◌<◌, ◌++◌, ◌∷◌, MatchOption, false, true};
 ghost use Rattle.std.specs.Str.{chars};
 ghost use Rattle.uv_model.specs.Ascii.{slash};
 ghost use Rattle.uv_model.specs.Path.{is_without, starts_with_slash};
 ghost use Rattle.uv_model.specs.Parts.{written_behind};
 ghost use Rattle.uv_grammar.specs.Seen.{seen, seen_option};
-ghost use Rattle.uv_grammar.specs.Sides.{SplitsAtSlash};
+ghost use Rattle.uv_grammar.specs.TextSplits.{SplitsAtSlash};
+
+pub(crate) mod beginnings;
 
 use uv_text::lacks_mark;
 

@@ -6,8 +6,8 @@ ghost use Rattle.uv_model.specs.Cut.{fragment_place, host_place, path_place, por
 ghost use Rattle.uv_model.specs.Parts.{written_authority};
 ghost use Rattle.uv_grammar.specs.PartComplaints.{IsCountable};
 
-use crate::beginnings::has_slash;
 use crate::cut::Cut;
+use crate::marks::beginnings::has_slash;
 use uv_model::Refusal;
 
 // How many code points the text has.

@@ -10,17 +10,17 @@ ghost use Rattle.uv_grammar.specs.PlainLinks.{HasAsciiFront, IsFrontCut, IsNameC
 ghost use Rattle.uv_grammar.specs.Seen.{seen, seen_option};
 ghost use Rattle.uv_grammar.specs.Verdict.{IsAccepted};
 
-use crate::beginnings::{has_slash, has_two_slashes};
 use crate::cut::Cut;
 use crate::form::Form;
 use crate::held_host::{AsciiText, HeldHost};
+use crate::marks::beginnings::{has_slash, has_two_slashes};
 use crate::parts::Parts;
 use uv_host::{is_plain_domain, name_front};
 use uv_text::{ByteClass, split_units};
 
 /// The parts of a link that is plain: a special scheme in lower case, `://`, a domain that is its own ASCII form, and
-/// a path, a query and a fragment of URL units. By each profile and against any base it is valid with these parts. Where
-/// there are none, that says nothing.
+/// a path, a query and a fragment of URL units. By each profile and against any base it is valid with these parts.
+/// Where there are none, that says nothing.
 pub(crate) fn plain_link<'t>(text: &'t str) -> Option<Parts<'t>>
     ensures { IfSome result (λ parts. (profile : Profile) (base : Option Url)
         → IsAccepted profile base (chars text.now) parts) }

@@ -9,8 +9,8 @@ ghost use Rattle.uv_grammar.specs.Judged.{IsJudged};
 ghost use Rattle.uv_grammar.specs.PartValues.{FitsPort};
 ghost use Rattle.uv_grammar.specs.Scan.{DigitComplaint};
 
-use crate::beginnings::are_digits;
 use crate::judged::Judged;
+use crate::marks::beginnings::are_digits;
 use uv_model::{Refusal, Rule};
 
 /// The text of a port, judged (URL Standard, section 4.3), with its number where it isn't empty. A refusal's place is

@@ -6,7 +6,7 @@ ghost use Rattle.uv_model.specs.Complaints.Refusal.{IsLeast};
 ghost use Rattle.uv_grammar.specs.Faults.{AddsComplaints};
 ghost use Rattle.uv_grammar.specs.Scan.{HostUnitComplaint, ScanComplaint};
 
-use crate::beginnings::has_bracket;
+use crate::marks::beginnings::has_bracket;
 use crate::places::refusal_behind;
 use crate::port::digit_fault;
 use std::alloc::AllocError;

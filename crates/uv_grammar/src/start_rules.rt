@@ -6,8 +6,8 @@ ghost use Rattle.uv_model.specs.Complaints.Refusal.{IsLeast};
 ghost use Rattle.uv_grammar.specs.PartComplaints.{IsCountable, OfPathStart};
 ghost use Rattle.uv_grammar.specs.StartRules.{base_fault};
 
-use crate::beginnings::{has_drive, has_number_sign, has_two_slashes};
 use crate::cut::Cut;
+use crate::marks::beginnings::{has_drive, has_number_sign, has_two_slashes};
 use crate::places::{path_place, refusal_behind, slashes_place};
 use crate::setting::Setting;
 use uv_model::{Class, Host, Profile, Record, Refusal, Rule};
@@ -19,17 +19,12 @@ pub(crate) fn start_fault(text: &str, cut: &Cut, setting: &Setting) -> Option<Re
     ensures { IsLeast (StartComplaint setting.now (chars text.now) cut.now) result }
 {
     match cut.scheme {
-        Some(_) => {
-            if lacks_slashes(cut, setting) {
-                Some(Refusal {
-                    place: slashes_place(cut),
-                    rule: Rule::TwoSlashes,
-                })
-            } else {
-                None
-            }
-        }
         None => base_fault(text, setting.base),
+        Some(_) if lacks_slashes(cut, setting) => Some(Refusal {
+            place: slashes_place(cut),
+            rule: Rule::TwoSlashes,
+        }),
+        Some(_) => None,
     }
 }
 
@@ -53,16 +48,11 @@ fn base_fault(text: &str, base: Option<&Record>) -> Option<Refusal>
             place: 0,
             rule: Rule::NoScheme,
         }),
-        Some(record) => {
-            if record.is_opaque() && !has_number_sign(text) {
-                Some(Refusal {
-                    place: 0,
-                    rule: Rule::OpaqueBase,
-                })
-            } else {
-                None
-            }
-        }
+        Some(record) if record.is_opaque() && !has_number_sign(text) => Some(Refusal {
+            place: 0,
+            rule: Rule::OpaqueBase,
+        }),
+        Some(_) => None,
     }
 }
 

@@ -27,7 +27,8 @@ form_byte : (signed : Bool) (c : ℕ) → goes_on signed c ≡ true → is_form_
 form_byte true c h = grind (arith, nat_tests)
 form_byte false c h = grind (arith, nat_tests)
 
-pub chain_form : (signed : Bool) (text : List ℕ) → is_chain signed text ≡ true → list_all (is_form_code_point Standard) text ≡ true
+pub chain_form : (signed : Bool) (text : List ℕ) → is_chain signed text ≡ true
+    → list_all (is_form_code_point Standard) text ≡ true
 chain_form signed [] h = refl
 chain_form signed (c ∷ rest) h =
     let parts = chain_parts signed c rest h in
@@ -62,7 +63,8 @@ GoOn-stop false n labels goes h = absurd (false≢true goes)
 GoOn-stop true n (label ∷ rest) goes h =
     let small = h.1 in (refl, omega arith, (h.0, omega arith, AreChains-more n rest h.2))
 
-chain_labels : (signed : Bool) (text : List ℕ) → is_chain signed text ≡ true → GoOn signed (length text) (labels_of text)
+chain_labels : (signed : Bool) (text : List ℕ) → is_chain signed text ≡ true
+    → GoOn signed (length text) (labels_of text)
 chain_labels signed [] h = (h, omega arith, tt)
 chain_labels signed (c ∷ rest) h =
     let parts = chain_parts signed c rest h in
@@ -93,7 +95,8 @@ third : (signed : Bool) (label : List ℕ) → is_chain signed label ≡ true
 third signed [] h = refl
 third signed (a ∷ []) h = refl
 third signed (a ∷ b ∷ []) h = refl
-third signed (a ∷ b ∷ c ∷ []) h = elim (cases_Bool (c == hyphen)) [ inl same ↦ rw same refl | inr other ↦ rw other refl ]
+third signed (a ∷ b ∷ c ∷ []) h =
+    elim (cases_Bool (c == hyphen)) [ inl same ↦ rw same refl | inr other ↦ rw other refl ]
 third signed (a ∷ b ∷ c ∷ d ∷ rest) h =
     let one = chain_parts signed a (b ∷ c ∷ d ∷ rest) h in
     let two = chain_parts (is_sign a) b (c ∷ d ∷ rest) one.1 in
@@ -108,12 +111,15 @@ sign_other mark c none sign = elim (cases_Bool (c == mark)) [
 ]
 
 -- the last code point is no mark
-last_other : (signed : Bool) (c : ℕ) (rest : List ℕ) (mark : ℕ) → is_sign mark ≡ false → is_chain signed (c ∷ rest) ≡ true
+last_other : (signed : Bool) (c : ℕ) (rest : List ℕ) (mark : ℕ) → is_sign mark ≡ false → is_chain signed (c ∷ rest)
+    ≡ true
     → (slice_index (c ∷ rest) (length rest) == mark) ≡ false
 last_other signed c [] mark none h = sign_other mark c none (chain_parts signed c [] h).1
-last_other signed c (d ∷ rest) mark none h = last_other (is_sign c) d rest mark none (chain_parts signed c (d ∷ rest) h).1
+last_other signed c (d ∷ rest) mark none h =
+    last_other (is_sign c) d rest mark none (chain_parts signed c (d ∷ rest) h).1
 
-end_other : (signed : Bool) (text : List ℕ) (mark : ℕ) → is_sign mark ≡ false → (mark == 0) ≡ false → is_chain signed text ≡ true
+end_other : (signed : Bool) (text : List ℕ) (mark : ℕ) → is_sign mark ≡ false → (mark == 0) ≡ false
+    → is_chain signed text ≡ true
     → (slice_index text (length text - 1) == mark) ≡ false
 end_other signed [] mark none some h = grind (arith, nat_tests)
 end_other signed (c ∷ rest) mark none some h =
@@ -127,7 +133,12 @@ chain_passes : (label : List ℕ) → is_chain false label ≡ true → passes_h
 unfolding passes_hyphens
 chain_passes [] h = absurd (false≢true h)
 chain_passes (c ∷ rest) h =
-    rw (third false (c ∷ rest) h, first_sign c (chain_parts false c rest h).0, end_other false (c ∷ rest) hyphen refl refl h) refl
+    rw (
+      third false (c ∷ rest) h,
+      first_sign c (chain_parts false c rest h).0,
+      end_other false
+          (c ∷ rest) hyphen refl refl h,
+    ) refl
 
 -- a name has code points
 chain_some : (label : List ℕ) → is_chain false label ≡ true → 1 ≤ length label
@@ -159,7 +170,8 @@ chain_lengths name h few =
     let some = chain_some name h in
     let fits : is_in_range 1 253 (length name) ≡ true = grind (arith, nat_tests) in
     rw (chain_root name h)
-    (and_from _ _ fits (all_fit (length name) (labels_of name) few (from_first (length name) (labels_of name) (chain_labels false name h))))
+    (and_from _ _ fits (all_fit (length name) (labels_of name) few
+    (from_first (length name) (labels_of name) (chain_labels false name h))))
 
 pub chain_plain : (name : List ℕ) → is_chain false name ≡ true → IsPlain STD3 Check name
 chain_plain name h =
@@ -188,7 +200,8 @@ pub walk_on : (bytes : List ℕ) (at : ℕ) (signed : Bool) → at < length byte
     → Walked bytes at signed → Walked bytes (at + 1) (is_sign (get_or bytes at 0))
 walk_on bytes at signed inside goes held = λ rest.
     let next : at + 1 ≡ suc at = omega arith in
-    let step : is_chain signed (get_or bytes at 0 ∷ rest) ≡ is_chain (is_sign (get_or bytes at 0)) rest = rw goes refl in
+    let step : is_chain signed (get_or bytes at 0 ∷ rest) ≡ is_chain (is_sign (get_or bytes at 0)) rest =
+    rw goes refl in
     ap (λ k. is_chain false (take k bytes ++ rest)) next
     ∙ ap (λ (s : List ℕ). is_chain false (s ++ rest)) (take-suc bytes at 0 inside)
     ∙ ap (is_chain false) (append_assoc (take at bytes) (get_or bytes at 0 ∷ []) rest)

@@ -16,7 +16,7 @@ use Rattle.uv_model.specs.Units.{is_url_code_point, starts_with_two_hex, is_unit
 use Rattle.uv_model.proofs.Addresses.AddressUniqueness.{bracketed_bracket}
 use Rattle.uv_model.proofs.Complaints.RefusalLemmas.{IsLeast-like}
 use Rattle.uv_model.proofs.Texts.UnitsLemmas.{is_faultless-units, IsUnits-faultless}
-use Rattle.uv_host.specs.OpaqueHosts.{host_fault, fault_or, first_host_fault, IsOpaqueHostOrEmpty}
+use Rattle.uv_host.specs.OpaqueHosts.{host_fault, fault_at_or, first_host_fault, IsOpaqueHostOrEmpty}
 
 -- ---- a text that begins with `[`
 
@@ -139,7 +139,7 @@ From start text place rule = (inner : ℕ) × (place ≡ start + inner) × Unbra
 -- the least complaint behind one more code point, by that code point's fault
 step : (start c : ℕ) (rest : List ℕ) (fault : Option Rule) → host_fault c rest ≡ fault
     → IsLeast (From (start + 1) rest) (first_host_fault (start + 1) rest)
-    → IsLeast (From start (c ∷ rest)) (fault_or start fault (first_host_fault (start + 1) rest))
+    → IsLeast (From start (c ∷ rest)) (fault_at_or start fault (first_host_fault (start + 1) rest))
 step start c rest (Some rule) is after =
     record {
       stands = (0, omega arith, stands c rest rule is);
@@ -228,7 +228,7 @@ abbrev pub permits : List ℕ → Bool
 permits text = list_all (λ c. not (is_forbidden_host c)) text
 
 -- both parts of a search that finds nothing
-none_parts : (place : ℕ) (fault : Option Rule) (after : Option Refusal) → fault_or place fault after ≡ None
+none_parts : (place : ℕ) (fault : Option Rule) (after : Option Refusal) → fault_at_or place fault after ≡ None
     → (fault ≡ None) × (after ≡ None)
 none_parts place None after none = (refl, none)
 none_parts place (Some rule) after none = absurd (cc)

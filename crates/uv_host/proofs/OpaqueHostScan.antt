@@ -17,7 +17,8 @@ use Rattle.uv_text.proofs.SplitsLemmas.{unit_length-le}
 use Rattle.uv_host.specs.OpaqueHosts.{first_host_fault, host_fault, host_rule}
 
 -- `%` is no URL code point
-no_percent_unit : (is_ascii percent_sign && (is_url_code_point percent_sign && not (is_forbidden_host percent_sign))) ≡ false
+no_percent_unit : (is_ascii percent_sign && (is_url_code_point percent_sign && not (is_forbidden_host percent_sign)))
+    ≡ false
 unfolding is_url_code_point
 no_percent_unit = refl
 
@@ -35,7 +36,8 @@ either false true = refl
 either false false = refl
 
 -- and one beyond ASCII where it is no URL code point
-either_beyond : (url : Bool) → (if not url then Some HostCodePoint else None) ≡ (if url then None else Some HostCodePoint)
+either_beyond : (url : Bool) → (if not url then Some HostCodePoint else None)
+    ≡ (if url then None else Some HostCodePoint)
 either_beyond true = refl
 either_beyond false = refl
 
@@ -55,7 +57,8 @@ begins_host ranges holds c rest =
                 rw (no_percent, holds c, lt-ltb c 128 small, below) (either (is_url_code_point c) (is_forbidden_host c))
             | inr large ↦
                 let beyond : nat_le 128 c ≡ true = grind (arith, nat_tests, large) in
-                rw (no_percent, holds c, le-ltb c 128 large, beyond, beyond_permitted c large) (either_beyond (is_url_code_point c))
+                rw (no_percent, holds c, le-ltb c 128 large, beyond, beyond_permitted c large)
+                (either_beyond (is_url_code_point c))
           ]
     ]
 

@@ -19,14 +19,14 @@ host_fault c rest =
     else (if is_forbidden_host c || not (is_url_code_point c) then Some HostCodePoint else None)
 
 -- the fault at this place, or what is found later
-abbrev pub fault_or : ℕ → Option Rule → Option Refusal → Option Refusal
-fault_or place None later = later
-fault_or place (Some rule) later = Some (record { place = place; rule = rule })
+abbrev pub fault_at_or : ℕ → Option Rule → Option Refusal → Option Refusal
+fault_at_or place None later = later
+fault_at_or place (Some rule) later = Some (record { place = place; rule = rule })
 
 -- the first fault of the text, where so many code points stand before it
 abbrev pub first_host_fault : ℕ → List ℕ → Option Refusal
 first_host_fault place [] = None
-first_host_fault place (c ∷ rest) = fault_or place (host_fault c rest) (first_host_fault (place + 1) rest)
+first_host_fault place (c ∷ rest) = fault_at_or place (host_fault c rest) (first_host_fault (place + 1) rest)
 
 -- the text is empty, an IPv6 text in brackets, or an opaque host without brackets
 abbrev pub IsOpaqueHostOrEmpty : List ℕ → Type 0

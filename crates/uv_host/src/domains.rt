@@ -28,10 +28,10 @@ pub enum DomainAnswer {
 }
 
 /// Whether the text is a valid domain of the profile, and its ASCII form (URL Standard, section 3.3): ToASCII with the
-/// settings of the URL parser gives the form, its labels have 1 to 63 code points and the whole 1 to 253, and it doesn't
-/// end in a number. By the standard profile ToASCII with the strict settings of UTS #46 gives the same form; by the wide
-/// profile the form holds letters, digits, `-`, `.` and `_` alone. A text with an ASCII code point other than these, or
-/// by the standard profile with `_`, is none, and that takes no memory. The error is want of memory.
+/// settings of the URL parser gives the form, its labels have 1 to 63 code points and the whole 1 to 253, and it
+/// doesn't end in a number. By the standard profile ToASCII with the strict settings of UTS #46 gives the same form; by
+/// the wide profile the form holds letters, digits, `-`, `.` and `_` alone. A text with an ASCII code point other than
+/// these, or by the standard profile with `_`, is none, and that takes no memory. The error is want of memory.
 pub fn domain(alloc: Global, text: &str, profile: Profile) -> Result<DomainAnswer, AllocError>
     ensures answer { IfOk result (IsAnswer profile (chars text.now)) }
     ensures refused { spec.has_permitted profile (chars text.now) ≡ false → result ≡ Ok DomainAnswer.Not }

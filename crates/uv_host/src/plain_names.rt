@@ -46,8 +46,8 @@ fn is_sign(b: u8) -> bool
     SIGNS[b as usize] != 0
 }
 
-/// Whether such a name is in each profile a valid domain (URL Standard, section 3.3), which is its own ASCII form. Where
-/// the answer is no, that says nothing.
+/// Whether such a name is in each profile a valid domain (URL Standard, section 3.3), which is its own ASCII form.
+/// Where the answer is no, that says nothing.
 pub fn is_plain_domain(name: &str) -> bool
     requires { is_chain false name.now ≡ true }
     ensures { (profile : Profile) → IsTrue result → spec.IsDomain profile (chars name.now) name.now }

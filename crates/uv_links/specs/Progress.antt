@@ -37,7 +37,8 @@ abbrev pub ended : Bool → List ℕ → List ℕ
 ended true line = strip_carriage_return line
 ended false line = line
 
--- what a fault leaves while lines are taken: whole lines of the report, and as many as may come where there are too many
+-- what a fault leaves while lines are taken: whole lines of the report, and as many as may come where there are too
+-- many
 abbrev pub TakeFault : LinkFault → List ℕ → List ℕ → Progress → Type 0
 TakeFault Memory written read p =
     (count : ℕ) × (count ≤ length (closed_lines read)) × IsReportOfFirst p.judge read count (written ++ p.text.items)

@@ -17,8 +17,8 @@ use url::Url;
 use uv_model::{Profile, Record};
 use uv_resolve::{ResolveFault, resolve};
 
-/// What the lines are judged against: the profile, the base, the base as the second parser reads it, and how many bytes a line may
-/// have.
+/// What the lines are judged against: the profile, the base, the base as the second parser reads it, and how many bytes
+/// a line may have.
 #[derive(Drop)]
 pub(crate) struct Judge<'b> {
     profile: Profile,

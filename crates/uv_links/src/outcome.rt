@@ -21,7 +21,8 @@ pub enum Outcome<'a> {
     Differs,
 }
 
-/// One line of the report, with its LF. The number is that of the line in its list, from 1. The error is want of memory.
+/// One line of the report, with its LF. The number is that of the line in its list, from 1. The error is want of
+/// memory.
 #[tactic(auto, unfolding(crate::specs::Report::report_line))]
 pub fn line_text(alloc: Global, number: u64, outcome: &Outcome<'_>) -> Result<String, AllocError>
     ensures { IfOk result (λ text. string_bytes text ≡ report_line number (said_of outcome.now)) }

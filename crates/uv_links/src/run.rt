@@ -15,13 +15,13 @@ use uv_model::{DeviceFault, Profile, Record, Sink, Source};
 // How many bytes of the list are read at a time.
 const PIECE_BYTES: usize = 65_536;
 
-/// Reports on a list of links: each of its lines is judged by the profile, against the base where there is one, and each accepted line
-/// compared with the crate `url`.
+/// Reports on a list of links: each of its lines is judged by the profile, against the base where there is one, and
+/// each accepted line compared with the crate `url`.
 ///
 /// A line ends with LF, and one CR before that is no part of it; a last part without LF is a line where it isn't empty.
 /// The base's text is compared before the first read. What is reported of the lines that a read has ended is written
-/// before the next read. The writer isn't flushed. After a fault nothing is tried again, and how far the reader was read
-/// is open.
+/// before the next read. The writer isn't flushed. After a fault nothing is tried again, and how far the reader was
+/// read is open.
 #[tactic(none)]
 pub fn run_links<R: Source, W: Sink>(
     alloc: Global,

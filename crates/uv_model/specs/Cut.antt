@@ -118,11 +118,11 @@ IsHostCut _ host_text port_text = EndsAtPort host_text port_text
 
 -- an authority reaches to the next `/`; without an authority no `//` is there
 abbrev pub IsAuthorityCut : Class → Option (List ℕ) → Option (List ℕ) → List ℕ → Type 0
-IsAuthorityCut kind None port_text path_text = (port_text ≡ None) × (starts_with_two_slashes path_text ≡ false)
-IsAuthorityCut kind (Some host_text) port_text path_text =
+IsAuthorityCut class None port_text path_text = (port_text ≡ None) × (starts_with_two_slashes path_text ≡ false)
+IsAuthorityCut class (Some host_text) port_text path_text =
     (is_without slash (host_text ++ written_behind colon port_text) ≡ true)
     × (path_text ≢ [] → starts_with_slash path_text ≡ true)
-    × IsHostCut kind host_text port_text
+    × IsHostCut class host_text port_text
 
 -- the text, against the base, is cut into these texts
 pub record IsCut (base : Option Url) (text : List ℕ) (cut : Cut) : Type 0 where
@@ -180,11 +180,11 @@ port_cut _ authority = port_behind false authority
 
 -- the host text of what stands between the scheme and the query, where that has an authority
 abbrev pub host_text_cut : Class → List ℕ → Option (List ℕ)
-host_text_cut kind middle = if starts_with_two_slashes middle then Some (host_cut kind (authority_in middle)) else None
+host_text_cut class middle = if starts_with_two_slashes middle then Some (host_cut class (authority_in middle)) else None
 
 -- the port text there
 abbrev pub port_text_cut : Class → List ℕ → Option (List ℕ)
-port_text_cut kind middle = if starts_with_two_slashes middle then port_cut kind (authority_in middle) else None
+port_text_cut class middle = if starts_with_two_slashes middle then port_cut class (authority_in middle) else None
 
 -- the path text there, behind the authority
 abbrev pub path_text_cut : List ℕ → List ℕ
@@ -194,12 +194,12 @@ path_text_cut middle =
 -- the cut of what stands before the query, beside a query and a fragment
 abbrev pub start_cut : Option Url → List ℕ → Option (List ℕ) → Option (List ℕ) → Cut
 start_cut base start query fragment =
-    let kind = class_in base (scheme_cut start) in
+    let class = class_in base (scheme_cut start) in
     let middle = behind_scheme start in
     record {
       scheme = scheme_cut start;
-      host_text = host_text_cut kind middle;
-      port_text = port_text_cut kind middle;
+      host_text = host_text_cut class middle;
+      port_text = port_text_cut class middle;
       path_text = path_text_cut middle;
       query = query;
       fragment = fragment;

@@ -52,16 +52,16 @@ shorten _ path = without_last path
 
 -- one segment of a walk, which knows whether it is the last
 abbrev pub walk_one : Class → Bool → List (List ℕ) → List ℕ → List (List ℕ)
-walk_one kind last path segment =
-    if is_double_dot segment then (if last then shorten kind path ++ ([] ∷ []) else shorten kind path)
+walk_one class last path segment =
+    if is_double_dot segment then (if last then shorten class path ++ ([] ∷ []) else shorten class path)
     else (if is_single_dot segment then (if last then path ++ ([] ∷ []) else path)
     else path ++ (encoded false segment ∷ []))
 
 -- from a start list over the segments of a text in order
 unfoldable pub walk : Class → List (List ℕ) → List (List ℕ) → List (List ℕ)
-walk kind path [] = path
-walk kind path (segment ∷ []) = walk_one kind true path segment
-walk kind path (segment ∷ next ∷ rest) = walk kind (walk_one kind false path segment) (next ∷ rest)
+walk class path [] = path
+walk class path (segment ∷ []) = walk_one class true path segment
+walk class path (segment ∷ next ∷ rest) = walk class (walk_one class false path segment) (next ∷ rest)
 
 -- ---- the texts of paths (section 4.3)
 
@@ -115,7 +115,7 @@ abbrev pub MayBePathSlashed : List (List ℕ) → List ℕ → Type 0
 MayBePathSlashed segments text = ((text ≡ []) × (segments ≡ [])) ⊎ IsPathSlashed segments text
 
 -- the text begins with `/`, a Windows drive letter, `/`
-abbrev pub starts_with_drive : List ℕ → Bool
-starts_with_drive (first ∷ c ∷ mark ∷ next ∷ rest) =
+abbrev pub starts_with_drive_segment : List ℕ → Bool
+starts_with_drive_segment (first ∷ c ∷ mark ∷ next ∷ rest) =
     (first == slash) && (is_drive_letter (c ∷ mark ∷ []) && (next == slash))
-starts_with_drive _ = false
+starts_with_drive_segment _ = false

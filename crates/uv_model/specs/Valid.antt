@@ -17,7 +17,7 @@ use Rattle.uv_model.specs.Units.{IsUnits}
 use Rattle.uv_model.specs.Scheme.{is_scheme, is_scheme_code_point, scheme_class, default_port}
 use Rattle.uv_model.specs.Ascii.{colon}
 use Rattle.std.specs.Char.{is_ascii_alphabetic}
-use Rattle.uv_model.specs.Path.{IsPathAbsolute, IsPathRelative, IsPathSlashed, starts_with_drive}
+use Rattle.uv_model.specs.Path.{IsPathAbsolute, IsPathRelative, IsPathSlashed, starts_with_drive_segment}
 use Rattle.uv_model.specs.Setting.{Setting, scheme_or, setting_of}
 use Rattle.uv_model.specs.Records.Url.{Url, is_opaque}
 use Rattle.uv_model.specs.Parts.{Form, SchemeAuthority, SchemePath, SchemeOpaque, Authority, PathAbsolute, PathRelative, NoPath, Parts, has_scheme, written}
@@ -99,12 +99,13 @@ pub record IsSpecialAuthority (setting : Setting) (host_text : List ℕ) (parts 
   pub port : parts.port ≡ port_given setting.default_port parts.port_text
   pub path : MayBePathBehind setting.profile parts.segments parts.path_text
 
--- a file URL has a host and may have a path that begins with no drive letter, or it has a path alone
+-- a file URL has a host and may have a path that doesn't begin with `/`, a drive letter and `/`, or it has a path alone
 abbrev pub IsFileAuthority : Setting → List ℕ → Parts → Type 0
 IsFileAuthority setting host_text parts =
     (parts.port_text ≡ None) × (parts.port ≡ None)
     × (((value : Host) × IsFileHostText setting.profile host_text value × (parts.host ≡ Some value)
-    × MayBePathBehind setting.profile parts.segments parts.path_text × (starts_with_drive parts.path_text ≡ false))
+    × MayBePathBehind setting.profile parts.segments parts.path_text
+    × (starts_with_drive_segment parts.path_text ≡ false))
     ⊎ ((host_text ≡ []) × (parts.host ≡ Some Empty)
     × IsPathBehind setting.profile parts.segments parts.path_text))
 
@@ -138,10 +139,11 @@ starts_with_scheme (c ∷ rest) = is_ascii_alphabetic c && goes_on_to_colon rest
 abbrev pub scheme_in : Option Url → Parts → List ℕ
 scheme_in base parts = scheme_or base parts.scheme
 
--- a path-absolute reference to a file base with a host begins with no drive letter
+-- a path-absolute reference to a file base with a host doesn't begin with `/`, a drive letter and `/`
 abbrev pub FitsDrive : Option Url → List ℕ → Type 0
 FitsDrive None path = Unit {0}
-FitsDrive (Some base) path = scheme_class base.scheme ≡ File → base.host ≢ Some Empty → starts_with_drive path ≡ false
+FitsDrive (Some base) path = scheme_class base.scheme ≡ File → base.host ≢ Some Empty → starts_with_drive_segment path
+    ≡ false
 
 -- a host text with which what follows `//` fits the class
 abbrev pub FitsHostText : Setting → Parts → Option (List ℕ) → Type 0

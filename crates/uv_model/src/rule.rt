@@ -27,7 +27,7 @@ pub enum Rule {
     PortRange,
     /// The path's first segment is empty and isn't its only one.
     FirstSegmentEmpty,
-    /// The path of a `file` URL with a host begins with a Windows drive letter.
+    /// The path of a `file` URL with a host begins with `/`, a Windows drive letter and `/`.
     DriveAfterHost,
     /// A code point of the path, query or fragment that is neither a URL code point nor `%`.
     CodePoint,

@@ -14,10 +14,10 @@ use crate::scheme::Class;
 use crate::text::Text;
 
 /// Whether a URL of this class may have the host, or be without one.
-pub fn is_url_host(kind: Class, host: Option<&Host>, profile: Profile) -> bool
-    ensures { IsTrue result ↔ IsUrlHost profile kind (option_copied host.entry) }
+pub fn is_url_host(class: Class, host: Option<&Host>, profile: Profile) -> bool
+    ensures { IsTrue result ↔ IsUrlHost profile class (option_copied host.entry) }
 {
-    match kind {
+    match class {
         Class::Special => is_special_host(host, profile),
         Class::File => is_file_host(host, profile),
         Class::Other => is_other_host(host),

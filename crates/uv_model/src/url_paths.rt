@@ -11,12 +11,12 @@ use crate::segments::{is_double_dot, is_single_dot};
 use crate::text::Text;
 
 /// Whether a URL of this class with this host may have the path.
-pub fn is_url_path(kind: Class, host: Option<&Host>, path: &UrlPath) -> bool
-    ensures { IsTrue result ↔ IsUrlPath kind (option_copied host.entry) path.now }
+pub fn is_url_path(class: Class, host: Option<&Host>, path: &UrlPath) -> bool
+    ensures { IsTrue result ↔ IsUrlPath class (option_copied host.entry) path.now }
 {
     match path {
         UrlPath::Opaque(text) => {
-            if !may_be_opaque(kind, host) {
+            if !may_be_opaque(class, host) {
                 return false;
             }
             is_url_opaque_path(text)
@@ -24,7 +24,7 @@ pub fn is_url_path(kind: Class, host: Option<&Host>, path: &UrlPath) -> bool
         UrlPath::Segments(list) => {
             let segments = list.as_slice();
             if segments.is_empty() {
-                return may_be_empty(kind, host);
+                return may_be_empty(class, host);
             }
             are_url_segments(segments)
         }
@@ -32,10 +32,10 @@ pub fn is_url_path(kind: Class, host: Option<&Host>, path: &UrlPath) -> bool
 }
 
 // Without segments a URL has to be of class Other and to have a host.
-fn may_be_empty(kind: Class, host: Option<&Host>) -> bool
-    ensures { result ≡ may_be_empty kind (option_copied host.entry) }
+fn may_be_empty(class: Class, host: Option<&Host>) -> bool
+    ensures { result ≡ may_be_empty class (option_copied host.entry) }
 {
-    match kind {
+    match class {
         Class::Special => false,
         Class::File => false,
         Class::Other => host.is_some(),
@@ -43,10 +43,10 @@ fn may_be_empty(kind: Class, host: Option<&Host>) -> bool
 }
 
 // With an opaque path a URL has to be of class Other and to have no host.
-fn may_be_opaque(kind: Class, host: Option<&Host>) -> bool
-    ensures { IsTrue result ↔ ((kind ≡ Class.Other) × (option_copied host.entry ≡ None)) }
+fn may_be_opaque(class: Class, host: Option<&Host>) -> bool
+    ensures { IsTrue result ↔ ((class ≡ Class.Other) × (option_copied host.entry ≡ None)) }
 {
-    match kind {
+    match class {
         Class::Special => false,
         Class::File => false,
         Class::Other => host.is_none(),

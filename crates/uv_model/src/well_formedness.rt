@@ -37,17 +37,17 @@ pub fn well_formed(
     if !is_url_scheme(scheme) {
         return false;
     }
-    let kind = class_of_url_scheme(scheme);
-    if !is_url_host(kind, host, profile) {
+    let class = class_of_url_scheme(scheme);
+    if !is_url_host(class, host, profile) {
         return false;
     }
     if !is_url_port(scheme, host, port) {
         return false;
     }
-    if !is_url_path(kind, host, path) {
+    if !is_url_path(class, host, path) {
         return false;
     }
-    if !is_url_query(kind, query) {
+    if !is_url_query(class, query) {
         return false;
     }
     is_url_fragment(fragment)
@@ -118,10 +118,10 @@ fn is_url_port(scheme: &str, host: Option<&Host>, port: Option<u16>) -> bool
 }
 
 // A port may stand behind a host that isn't empty, in a URL whose scheme isn't `file`.
-fn takes_port(kind: Class, host: Option<&Host>) -> bool
-    ensures { result ≡ takes_port kind (option_copied host.entry) }
+fn takes_port(class: Class, host: Option<&Host>) -> bool
+    ensures { result ≡ takes_port class (option_copied host.entry) }
 {
-    match kind {
+    match class {
         Class::File => false,
         Class::Special | Class::Other => match host {
             None | Some(Host::Empty) => false,
@@ -140,8 +140,8 @@ fn is_default_port(scheme: &str, port: u16) -> bool
     }
 }
 
-fn is_url_query(kind: Class, query: Option<&str>) -> bool
-    ensures { IsTrue result ↔ IsUrlQuery kind (option_copied query.entry) }
+fn is_url_query(class: Class, query: Option<&str>) -> bool
+    ensures { IsTrue result ↔ IsUrlQuery class (option_copied query.entry) }
 {
     match query {
         None => true,
@@ -150,7 +150,7 @@ fn is_url_query(kind: Class, query: Option<&str>) -> bool
             if !is_ascii_units(bytes) {
                 return false;
             }
-            match kind {
+            match class {
                 Class::Other => true,
                 Class::Special | Class::File => is_without(b'\'', bytes),
             }

@@ -76,9 +76,9 @@ sight (c ∷ rest) =
     else (if c == number_sign then fragment_mark else another c))
 
 -- the rest behind its first code point
-abbrev pub behind : List ℕ → List ℕ
-behind [] = []
-behind (c ∷ rest) = rest
+abbrev pub after_first : List ℕ → List ℕ
+after_first [] = []
+after_first (c ∷ rest) = rest
 
 -- the rest begins with this code point
 abbrev pub begins : ℕ → List ℕ → Bool
@@ -96,9 +96,9 @@ is_drive_end [] = true
 is_drive_end (c ∷ rest) = (c == slash) || ((c == backslash) || ((c == question_mark) || (c == number_sign)))
 
 -- the rest starts with a Windows drive letter (section 4.2)
-abbrev pub begins_drive : List ℕ → Bool
-begins_drive (c ∷ mark ∷ rest) = is_drive_letter (c ∷ mark ∷ []) && is_drive_end rest
-begins_drive _ = false
+abbrev pub starts_with_drive_letter : List ℕ → Bool
+starts_with_drive_letter (c ∷ mark ∷ rest) = is_drive_letter (c ∷ mark ∷ []) && is_drive_end rest
+starts_with_drive_letter _ = false
 
 -- a special scheme, which `file` is too
 abbrev pub is_special : List ℕ → Bool
@@ -352,7 +352,8 @@ file_at (Some base) h rest query_mark = to_query (with_file_base base h)
 file_at (Some base) h rest fragment_mark = to_fragment (with_file_base base h)
 file_at (Some base) h rest end = onward FileState (with_file_base base h)
 file_at (Some base) h rest (another c) =
-    if begins_drive rest then stop else again PathState (shortened (with_query None (with_file_base base h)))
+    if starts_with_drive_letter rest then stop else again PathState
+    (shortened (with_query None (with_file_base base h)))
 
 -- The scheme is file and the host empty, to begin with.
 abbrev pub file_row : Option Url → Held → List ℕ → Turn
@@ -363,7 +364,7 @@ file_row base h rest =
 abbrev pub with_kept_drive : List (List ℕ) → List ℕ → Held → Held
 with_kept_drive [] rest h = h
 with_kept_drive (drive ∷ others) rest h =
-    if not (begins_drive rest) && is_normalized_drive_letter drive then with_segment drive h else h
+    if not (starts_with_drive_letter rest) && is_normalized_drive_letter drive then with_segment drive h else h
 
 -- A second `/` leads to the file host state. Else a file base hands on its host and its drive letter: path state,
 -- again.
@@ -411,7 +412,8 @@ path_at h rest slash_mark = onward PathState (segment_ended true h)
 path_at h rest query_mark = to_query (segment_ended false h)
 path_at h rest fragment_mark = to_fragment (segment_ended false h)
 path_at h rest end = onward PathState (segment_ended false h)
-path_at h rest (another c) = unless_fault c (behind rest) (onward PathState (with_more (encoded_code_point false c) h))
+path_at h rest (another c) = unless_fault c (after_first rest)
+    (onward PathState (with_more (encoded_code_point false c) h))
 
 -- a text more at the end of the opaque path
 abbrev pub more_opaque : List ℕ → UrlPath → UrlPath
@@ -428,7 +430,7 @@ opaque_path_at h rest query_mark = to_query h
 opaque_path_at h rest fragment_mark = to_fragment h
 opaque_path_at h rest end = onward OpaquePathState h
 opaque_path_at h rest slash_mark = onward OpaquePathState (with_opaque slash h)
-opaque_path_at h rest (another c) = unless_fault c (behind rest) (onward OpaquePathState (with_opaque c h))
+opaque_path_at h rest (another c) = unless_fault c (after_first rest) (onward OpaquePathState (with_opaque c h))
 
 -- The buffer, encoded, is the query; for a special URL `'` is encoded too.
 abbrev pub query_ended : Held → Held
@@ -440,7 +442,7 @@ query_at h rest fragment_mark = to_fragment (query_ended h)
 query_at h rest end = onward QueryState (query_ended h)
 query_at h rest slash_mark = onward QueryState (put slash h)
 query_at h rest query_mark = onward QueryState (put question_mark h)
-query_at h rest (another c) = unless_fault c (behind rest) (onward QueryState (put c h))
+query_at h rest (another c) = unless_fault c (after_first rest) (onward QueryState (put c h))
 
 -- a text more at the end of the fragment
 abbrev pub more_fragment : List ℕ → Option (List ℕ) → Option (List ℕ)

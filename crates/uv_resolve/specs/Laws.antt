@@ -13,7 +13,8 @@ use Rattle.uv_model.specs.Records.WellFormed.{WellFormed}
 
 -- ---- texts with a scheme
 
--- the parser is silent on each valid text of either profile with an opaque path, and gives the URL that its parts denote
+-- the parser is silent on each valid text of either profile with an opaque path, and gives the URL that its parts
+-- denote
 abbrev pub OpaqueTextsRunSilently : Type 0
 OpaqueTextsRunSilently =
     (profile : Profile) (base : Option Url) (text : List ℕ) (parts : Parts)

@@ -30,8 +30,8 @@ IsResolved profile base text (Err (Refused refusal)) = IsRefused profile base te
 IsResolved profile base text (Err (Memory error)) = Unit {0}
 
 -- The parser runs on the text to its end with no validation error and no failure, within the bound on its steps and
--- within the least such bound, and its record is the one that the parts denote. That is well formed by the wide profile,
--- and by the text's own profile where the base is.
+-- within the least such bound, and its record is the one that the parts denote. That is well formed by the wide
+-- profile, and by the text's own profile where the base is.
 pub record RunsToRecordOf (profile : Profile) (base : Option Url) (text : List ℕ) (parts : Parts) : Type 0 where
   pub runs : RunsSilently base text parts
   pub soon : run base text (least_step_bound text) ≡ Done (denote base parts)

@@ -8,8 +8,8 @@ ghost use Rattle.uv_resolve.specs.Resolve.{RunsToItsRecord};
 use uv_model::{Profile, Record};
 
 /// On a text that is valid, alone or against a record as base, the URL parser runs to its end with no validation error
-/// and no failure, in at most 2n + 5 steps (so in at most 3n + 16) where the text has n code points, and gives exactly the
-/// URL that the text's parts denote, which is well formed (URL Standard, section 4.4).
+/// and no failure, in at most 2n + 5 steps (so in at most 3n + 16) where the text has n code points, and gives exactly
+/// the URL that the text's parts denote, which is well formed (URL Standard, section 4.4).
 pub fn valid_text_runs_to_its_record(text: &str, base: Option<&Record>, profile: Profile)
     ensures { RunsToItsRecord profile (option_copied base.entry) (chars text.now) }
 {

@@ -85,7 +85,7 @@ fn kept_drive(
     base: Option<&Record>,
 ) -> Result<Vec<Text>, AllocError>
     ensures { IfOk result (λ path. path.items
-        ≡ spec.kept_drive class (spec.segments_in (spec.base_path (option_copied base.entry))) parts.now.segments) }
+        ≡ spec.kept_drive class (spec.listed_segments (spec.base_path (option_copied base.entry))) parts.now.segments) }
 {
     match (class, base_slice(base), parts.segments().next()) {
         (Class::File, [drive, ..], Some(first)) => drive_or_none(alloc, drive, first),
@@ -113,7 +113,7 @@ fn is_drive(segment: &str) -> bool
 
 // The segments of the base's path.
 fn base_slice<'b>(base: Option<&'b Record>) -> &'b [Text]
-    ensures { result.now ≡ spec.segments_in (spec.base_path (option_copied base.entry)) }
+    ensures { result.now ≡ spec.listed_segments (spec.base_path (option_copied base.entry)) }
 {
     let Some(base) = base else {
         return &[];
@@ -127,7 +127,7 @@ fn base_slice<'b>(base: Option<&'b Record>) -> &'b [Text]
 // The base's path without its last segment.
 fn shortened(alloc: Global, class: Class, base: Option<&Record>) -> Result<Vec<Text>, AllocError>
     ensures { IfOk result (λ path. path.items
-        ≡ path_spec.shorten class (spec.segments_in (spec.base_path (option_copied base.entry)))) }
+        ≡ path_spec.shorten class (spec.listed_segments (spec.base_path (option_copied base.entry)))) }
 {
     let mut path = base_segments(alloc, base)?;
     shorten(class, &mut path);
@@ -135,7 +135,7 @@ fn shortened(alloc: Global, class: Class, base: Option<&Record>) -> Result<Vec<T
 }
 
 fn base_segments(alloc: Global, base: Option<&Record>) -> Result<Vec<Text>, AllocError>
-    ensures { IfOk result (λ path. path.items ≡ spec.segments_in (spec.base_path (option_copied base.entry))) }
+    ensures { IfOk result (λ path. path.items ≡ spec.listed_segments (spec.base_path (option_copied base.entry))) }
 {
     let Some(base) = base else {
         return Ok(Vec::new(alloc));

@@ -10,6 +10,7 @@ use Rattle.percent_encoding.specs.Percent.{percent_encode_byte, encode_byte, per
 use Rattle.percent_encoding.proofs.PercentLemmas.{percent_encode-nil, percent_encode-append}
 use Rattle.uv_model.specs.Ascii.{apostrophe}
 use Rattle.uv_model.specs.Encoding.{encoded_code_point, encoded}
+use Rattle.uv_model.proofs.Texts.AsciiLemmas.{AreBeyond, AreBeyond-encode}
 use Rattle.uv_text.specs.declared.escapes.TheConstants.{BEYOND_ASCII, SPECIAL_QUERY}
 
 -- the set of bytes that the code hands to the library
@@ -24,38 +25,17 @@ contains-set_of false b small = agree_below_at (contains BEYOND_ASCII) (λ c. fa
 
 -- ---- bytes beyond ASCII
 
--- each byte is above 127
-abbrev AllHigh : List ℕ → Type 0
-AllHigh [] = Unit {0}
-AllHigh (b ∷ bytes) = (128 ≤ b) × AllHigh bytes
-
 encode_byte-high : (set : AsciiSet) (b : ℕ) → 128 ≤ b → encode_byte set b ≡ percent_encode_byte b
 unfolding should_percent_encode
 encode_byte-high set b high = rw (le-ltb b 128 high)
 
 -- such bytes become escapes with any set
-escapes-high : (set : AsciiSet) (bytes : List ℕ) → AllHigh bytes
+escapes-high : (set : AsciiSet) (bytes : List ℕ) → AreBeyond bytes
     → flat_map (encode_byte set) bytes ≡ flat_map percent_encode_byte bytes
 escapes-high set [] high = refl
 escapes-high set (b ∷ bytes) high =
     rw (encode_byte-high set b high.0)
     (ap (λ rest. percent_encode_byte b ++ rest) (escapes-high set bytes high.1))
-
--- each byte of a code point beyond ASCII is above 127
-AllHigh-encode : (c : ℕ) → 128 ≤ c → AllHigh (encode_utf8 c)
-unfolding encode_utf8
-AllHigh-encode c high =
-    elim (cases_lt c 2048) [
-      | inl two ↦ rw (le-ltb c 128 high, lt-ltb c 2048 two) (omega arith, (omega arith, tt))
-      | inr more ↦ elim (cases_lt c 65536) [
-        | inl three ↦
-            rw (le-ltb c 128 high, le-ltb c 2048 more, lt-ltb c 65536 three)
-            (omega arith, (omega arith, (omega arith, tt)))
-        | inr four ↦
-            rw (le-ltb c 128 high, le-ltb c 2048 more, le-ltb c 65536 four)
-            (omega arith, (omega arith, (omega arith, (omega arith, tt))))
-      ]
-    ]
 
 -- ---- one code point
 
@@ -85,7 +65,7 @@ percent_encode-beyond : (quote : Bool) (c : ℕ) → 128 ≤ c
     → percent_encode (set_of quote) (encode_utf8 c) ≡ encoded_code_point quote c
 unfolding percent_encode
 percent_encode-beyond quote c high =
-    rw (le-ltb c 128 high) (escapes-high (set_of quote) (encode_utf8 c) (AllHigh-encode c high))
+    rw (le-ltb c 128 high) (escapes-high (set_of quote) (encode_utf8 c) (AreBeyond-encode c high))
 
 -- the bytes of one code point become the code point encoded
 percent_encode-code_point : (quote : Bool) (c : ℕ)

@@ -9,6 +9,8 @@ use Rattle.uv_model.specs.declared.scheme.Class.{Class}
 use Rattle.uv_model.specs.declared.scheme.Class.TheVariants.{Special, File, Other}
 use Rattle.uv_model.specs.declared.rule.Rule.{Rule}
 use Rattle.uv_model.specs.declared.rule.Rule.TheVariants.{NoScheme, OpaqueBase, TwoSlashes, HostMissing, HostDomain, HostNumber, HostIpv6, HostCodePoint, PortDigit, PortRange, FirstSegmentEmpty, DriveAfterHost, CodePoint, Percent}
+use Rattle.uv_model.specs.declared.rule.Refusal.{Refusal}
+use Rattle.uv_model.specs.Complaints.Refusal.{IsLeast, StandsWithin}
 use Rattle.uv_model.specs.Complaints.Rule.{rule_number}
 use Rattle.uv_model.specs.Ascii.{percent_sign, slash, colon, question_mark}
 use Rattle.uv_model.specs.Parts.{written_scheme, written_authority, written_behind}
@@ -18,7 +20,7 @@ use Rattle.uv_model.specs.Complaints.OpaqueHostComplaint.{OpaqueHostComplaint}
 use Rattle.uv_model.specs.Units.{is_url_code_point}
 use Rattle.uv_model.specs.Setting.{Setting}
 use Rattle.uv_model.specs.Cut.{Cut, scheme_end, path_place, query_place, fragment_place, starts_with_two_slashes, written_start, written_middle}
-use Rattle.uv_model.specs.Complaints.Complaint.{Behind, StartComplaint, HostTextComplaint, HeldHostComplaint, HostComplaint, PortComplaint, PathStartComplaint, HasEmptyFirst, HostPartComplaint, PortPartComplaint, MayBeUnitComplaint, slashes_place}
+use Rattle.uv_model.specs.Complaints.Complaint.{Behind, StartComplaint, HostTextComplaint, HostContentComplaint, HostComplaint, PortComplaint, PathStartComplaint, HasEmptyFirst, HostPartComplaint, PortPartComplaint, MayBeUnitComplaint, slashes_place}
 use Rattle.uv_model.proofs.Complaints.LeastLemmas.{Ends, Begins}
 
 -- ---- places within a text
@@ -45,6 +47,20 @@ opaque_complaint_within text place HostCodePoint h = within_text text place h.1.
 opaque_complaint_within text place Percent h = within_text text place percent_sign h.1.rest h.1.here
 opaque_complaint_within text place _ h = absurd h
 
+-- so the least fault of units stands within the text
+pub least_unit_fault_within : (text : List ℕ) (answer : Option Refusal) → IsLeast (UnitComplaint text) answer
+    → StandsWithin text answer
+least_unit_fault_within text None least = tt
+least_unit_fault_within text (Some refusal) least =
+    (unit_complaint_bounds text refusal.place refusal.rule least.stands).0
+
+-- and the least fault of an opaque host
+pub least_opaque_fault_within : (text : List ℕ) (answer : Option Refusal) → IsLeast (OpaqueHostComplaint text) answer
+    → StandsWithin text answer
+least_opaque_fault_within text None least = tt
+least_opaque_fault_within text (Some refusal) least =
+    opaque_complaint_within text refusal.place refusal.rule least.stands
+
 -- a text that isn't empty
 some_length : (text : List ℕ) → text ≢ [] → 0 < length text
 some_length [] some = absurd (some refl)
@@ -61,7 +77,7 @@ host_text_some profile text _ h = absurd h
 
 -- a fault of what a host holds stands within its text
 held_host_within : (profile : Profile) (kind : Class) (text : List ℕ) (place : ℕ) (rule : Rule)
-    → HeldHostComplaint profile kind text place rule
+    → HostContentComplaint profile kind text place rule
     → place < length text
 held_host_within profile Special text place rule (h, at) =
     (let some = host_text_some profile text rule h in omega arith)

@@ -62,7 +62,8 @@ cut_complaint_within setting text cut place rule h = at h
         let end = ends_at _ (path_place cut) 10 place rule (port_part_ends cut) port in
         omega (arith, start, front, whole)
     at (inr (inl (started, inr (inr first)))) =
-        let end = ends_at _ (path_place cut + second_slash cut.path_text) 12 place rule (path_start_ends setting cut) first in
+        let end = ends_at _ (path_place cut + second_slash cut.path_text) 12 place rule
+        (path_start_ends setting cut) first in
         let second = second_slash_within cut.path_text in
         omega (arith, start, front, whole)
     at (inr (inr (inl path))) =
@@ -81,6 +82,7 @@ pub complaint_within : (profile : Profile) (base : Option Url) (text : List ℕ)
     → Complaint profile base text place rule → place ≤ length text
 unfolding Complaint
 complaint_within profile base text place rule h =
-    let within = cut_complaint_within (setting_of profile base (cut_of base text).scheme) text (cut_of base text) place rule h in
+    let within = cut_complaint_within (setting_of profile base (cut_of base text).scheme) text
+    (cut_of base text) place rule h in
     let same = ap length (computed_is_cut base text).whole in
     omega arith

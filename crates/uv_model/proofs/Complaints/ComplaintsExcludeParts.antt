@@ -9,7 +9,7 @@ use Rattle.uv_model.specs.declared.scheme.Class.TheVariants.{Special, File, Othe
 use Rattle.uv_model.specs.declared.rule.Rule.{Rule}
 use Rattle.uv_model.specs.declared.rule.Rule.TheVariants.{NoScheme, OpaqueBase, TwoSlashes, HostMissing, FirstSegmentEmpty, DriveAfterHost}
 use Rattle.uv_model.specs.Ascii.{slash}
-use Rattle.uv_model.specs.Path.{IsPathAbsolute, IsPathRelative, IsPathSlashed, starts_with_slash, starts_with_drive}
+use Rattle.uv_model.specs.Path.{IsPathAbsolute, IsPathRelative, IsPathSlashed, starts_with_slash, starts_with_drive_segment}
 use Rattle.uv_model.specs.Units.{IsUnits, is_url_code_point}
 use Rattle.uv_model.specs.Records.Url.{Url}
 use Rattle.uv_model.specs.Parts.{Form, SchemeAuthority, SchemePath, SchemeOpaque, Authority, PathAbsolute, PathRelative, NoPath, Parts, has_scheme, written}
@@ -110,7 +110,7 @@ authority_path Other setting text parts is = is.2
 -- a path with a drive letter stands behind no host
 authority_drive : (kind : Class) (setting : Setting) (text : List ℕ) (parts : Parts)
     → FitsAuthority kind setting text parts
-    → kind ≡ File → text ≢ [] → starts_with_drive parts.path_text ≡ false
+    → kind ≡ File → text ≢ [] → starts_with_drive_segment parts.path_text ≡ false
 authority_drive Special setting text parts is kind some = absurd cc
 authority_drive File setting text parts (no_port, absent, inl (value, host, valued, path, drive)) kind some = drive
 authority_drive File setting text parts (no_port, absent, inr (nothing, valued, path)) kind some = absurd (some nothing)
@@ -119,7 +119,7 @@ authority_drive Other setting text parts is kind some = absurd cc
 -- ---- paths
 
 -- a text that doesn't begin with `/` doesn't begin with a drive letter behind one
-slash_before_drive : (text : List ℕ) → starts_with_slash text ≡ false → starts_with_drive text ≡ false
+slash_before_drive : (text : List ℕ) → starts_with_slash text ≡ false → starts_with_drive_segment text ≡ false
 slash_before_drive [] none = refl
 slash_before_drive (c ∷ []) none = refl
 slash_before_drive (c ∷ d ∷ []) none = refl
@@ -212,7 +212,7 @@ path_start_behind setting parts (Some text) is place _ h = h
 -- without an authority
 path_start_alone : (setting : Setting) (cut : Cut) → cut.host_text ≡ None
     → starts_with_two_slashes cut.path_text ≡ false
-    → (setting.class ≡ File → HasHost setting.base cut.scheme None → starts_with_drive cut.path_text ≡ false)
+    → (setting.class ≡ File → HasHost setting.base cut.scheme None → starts_with_drive_segment cut.path_text ≡ false)
     → (place : ℕ) (rule : Rule) → PathStartComplaint setting cut place rule → ⊥
 path_start_alone setting cut none start bare place FirstSegmentEmpty (empty, at) =
     one_slash_start setting.profile cut.path_text start empty
@@ -242,7 +242,8 @@ faultless_with setting parts is = record {
 
 faultless_without : (setting : Setting) (parts : Parts) → HasNoAuthority parts → IsUnits parts.path_text
     → starts_with_two_slashes parts.path_text ≡ false
-    → (setting.class ≡ File → HasHost setting.base parts.scheme None → starts_with_drive parts.path_text ≡ false)
+    → (setting.class ≡ File → HasHost setting.base parts.scheme None → starts_with_drive_segment parts.path_text
+    ≡ false)
     → IsFaultless setting parts
 faultless_without setting parts none units start bare = record {
   host = none_of_host setting (texts_of parts) none.host_text;
@@ -253,12 +254,12 @@ faultless_without setting parts none units start bare = record {
 
 -- a class that isn't File
 other_no_drive : (setting : Setting) (parts : Parts) → setting.class ≡ Other
-    → setting.class ≡ File → HasHost setting.base parts.scheme None → starts_with_drive parts.path_text ≡ false
+    → setting.class ≡ File → HasHost setting.base parts.scheme None → starts_with_drive_segment parts.path_text ≡ false
 other_no_drive setting parts other kind host = absurd cc
 
 -- a path-absolute reference
 reference_drive : (base : Option Url) (scheme : Option (List ℕ)) (path : List ℕ) → scheme ≡ None → FitsDrive base path
-    → class_in base scheme ≡ File → HasHost base scheme None → starts_with_drive path ≡ false
+    → class_in base scheme ≡ File → HasHost base scheme None → starts_with_drive_segment path ≡ false
 reference_drive None None path none is kind host = absurd host
 reference_drive None (Some scheme) path none is kind host = absurd host
 reference_drive (Some url) None path none is kind host = is kind host
@@ -292,7 +293,7 @@ faultless_form profile base PathRelative parts (none, path, some, free) scheme =
 faultless_form profile base NoPath parts (none, nothing, empty) scheme =
     faultless_without (setting_of profile base parts.scheme) parts none (rw nothing IsUnits-nil)
     (ap starts_with_two_slashes nothing)
-    (λ kind host. ap starts_with_drive nothing)
+    (λ kind host. ap starts_with_drive_segment nothing)
 
 -- ---- the start
 

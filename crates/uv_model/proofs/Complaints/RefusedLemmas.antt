@@ -11,7 +11,7 @@ use Rattle.uv_model.specs.Complaints.UnitComplaint.{UnitComplaint}
 use Rattle.uv_model.specs.Setting.{Setting, setting_of}
 use Rattle.uv_model.specs.Records.Url.{Url}
 use Rattle.uv_model.specs.Cut.{Cut, IsCut, host_place, port_place, path_place, query_place, fragment_place, starts_with_two_slashes}
-use Rattle.uv_model.specs.Complaints.Complaint.{Behind, StartComplaint, HostComplaint, PortComplaint, PathStartComplaint, HostPartComplaint, PortPartComplaint, MayBeUnitComplaint, JudgedComplaint, HeldComplaint, IsStarted, ComplaintOf, Complaint, slashes_place, fault_behind}
+use Rattle.uv_model.specs.Complaints.Complaint.{Behind, StartComplaint, HostComplaint, PortComplaint, PathStartComplaint, HostPartComplaint, PortPartComplaint, MayBeUnitComplaint, JudgedComplaint, ContentComplaint, IsStarted, ComplaintOf, Complaint, slashes_place, fault_behind}
 use Rattle.uv_model.proofs.Cuts.CutLemmas.{cut_is_computed}
 use Rattle.uv_model.proofs.Complaints.LeastLemmas.{Either, Begins, Precedes, precedes, least_first, least_second, begins_either, begins_earlier, least_behind}
 use Rattle.uv_model.proofs.Complaints.RefusalLemmas.{IsLeast-like}
@@ -122,12 +122,14 @@ path_start_first setting cut =
 
 pub port_first : (setting : Setting) (cut : Cut) → Precedes (PortPartComplaint cut) (FromPathStart setting cut)
 port_first setting cut =
-    precedes (PortPartComplaint cut) (FromPathStart setting cut) (path_place cut) 10 11 (omega arith) (port_part_ends cut)
+    precedes (PortPartComplaint cut) (FromPathStart setting cut) (path_place cut) 10 11 (omega arith)
+    (port_part_ends cut)
     (path_start_all_begin setting cut)
 
 pub host_first : (setting : Setting) (cut : Cut) → Precedes (HostPartComplaint setting cut) (FromPort setting cut)
 host_first setting cut =
-    precedes (HostPartComplaint setting cut) (FromPort setting cut) (host_end cut) 4 9 (omega arith) (host_part_ends setting cut)
+    precedes (HostPartComplaint setting cut) (FromPort setting cut) (host_end cut) 4 9 (omega arith)
+    (host_part_ends setting cut)
     (port_all_begin setting cut)
 
 -- ---- the complaints of the whole text
@@ -135,7 +137,7 @@ host_first setting cut =
 -- no text violates a rule of the start and one of a judged part
 abbrev pub Rest : Setting → List ℕ → Cut → ℕ → Rule → Type 0
 Rest setting text cut place rule =
-    (IsStarted setting text cut × JudgedComplaint setting cut place rule) ⊎ HeldComplaint cut place rule
+    (IsStarted setting text cut × JudgedComplaint setting cut place rule) ⊎ ContentComplaint cut place rule
 
 -- what the path, the query and the fragment hold begins no earlier than such a complaint stands
 held_begin : (cut : Cut) → Begins (FromPath cut) (slashes_place cut) 13
@@ -150,7 +152,8 @@ held_begin cut =
 pub start_before_held : (setting : Setting) (text : List ℕ) (cut : Cut)
     → Precedes (StartComplaint setting text cut) (FromPath cut)
 start_before_held setting text cut =
-    precedes (StartComplaint setting text cut) (FromPath cut) (slashes_place cut) 3 13 (omega arith) (start_ends setting text cut)
+    precedes (StartComplaint setting text cut) (FromPath cut) (slashes_place cut) 3 13 (omega arith)
+    (start_ends setting text cut)
     (held_begin cut)
 
 -- where a rule of the start is violated, its complaint comes first
@@ -166,7 +169,8 @@ start_first setting text cut = record { order = order }
         (start_before_held setting text cut).order place later rule other start h
 
 -- without such a violation the complaints are those of the parts
-pub from_parts : (setting : Setting) (text : List ℕ) (cut : Cut) → IsStarted setting text cut → (place : ℕ) (rule : Rule)
+pub from_parts : (setting : Setting) (text : List ℕ) (cut : Cut) → IsStarted setting text cut
+    → (place : ℕ) (rule : Rule)
     → FromHost setting cut place rule → ComplaintOf setting text cut place rule
 from_parts setting text cut started place rule (inl host) = inr (inl (started, inl host))
 from_parts setting text cut started place rule (inr (inl port)) = inr (inl (started, inr (inl port)))

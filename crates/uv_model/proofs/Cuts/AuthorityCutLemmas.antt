@@ -30,7 +30,8 @@ first_is_no_mark within c rest port_text e = elim (cases_Bool (c == colon)) [
 ]
 
 -- and its rest is such a text from the next place on
-pub rest_ends : (within : Bool) (c : ℕ) (rest : List ℕ) (port_text : Option (List ℕ)) → EndsFrom within (c ∷ rest) port_text
+pub rest_ends : (within : Bool) (c : ℕ) (rest : List ℕ) (port_text : Option (List ℕ))
+    → EndsFrom within (c ∷ rest) port_text
     → EndsFrom (is_within within c) rest port_text
 rest_ends within c rest port_text e = record {
   none_before = λ front later same. e.none_before (c ∷ front) later (ap (λ xs. c ∷ xs) same);

@@ -22,7 +22,7 @@ use Rattle.uv_model.specs.Complaints.Complaint.{StartComplaint, PathStartComplai
 use Rattle.uv_model.proofs.Texts.MarkLemmas.{is_without-cons, is_without-append, is_without-more, text_before-other}
 use Rattle.uv_model.proofs.Cuts.SchemeCutLemmas.{splits_at_scheme, starts_with_written_scheme}
 use Rattle.uv_model.proofs.Cuts.HostCutLemmas.{is_without-passes}
-use Rattle.uv_model.proofs.Cuts.ValidCutLemmas.{valid_texts}
+use Rattle.uv_model.proofs.Cuts.ValidCutLemmas.{scheme_without, valid_texts}
 use Rattle.uv_model.proofs.Complaints.ComplaintLemmas.{cut_with}
 use Rattle.uv_model.proofs.Complaints.ComplaintsExcludeParts.{class_with_scheme}
 
@@ -35,18 +35,6 @@ text_before-behind mark [] ys none = refl
 text_before-behind mark (c ∷ xs) ys none =
     let parts = is_without-cons mark c xs none in
     text_before-other mark c (xs ++ ys) parts.0 ∙ ap (λ zs. c ∷ zs) (text_before-behind mark xs ys parts.1)
-
--- a scheme and `:` hold no mark that isn't one of their code points
-scheme_without : (mark : ℕ) (scheme : List ℕ) → is_scheme_code_point mark ≡ false → is_ascii_alphabetic mark ≡ false
-    → (colon == mark) ≡ false → is_scheme scheme ≡ true → is_without mark (scheme ++ colon ∷ []) ≡ true
-scheme_without mark [] other letter differs is = absurd (false≢true is)
-scheme_without mark (c ∷ rest) other letter differs is =
-    let parts = and_parts (is_ascii_alphabetic c) (list_all is_scheme_code_point rest) is in
-    let first : is_without mark (c ∷ []) ≡ true
-    = is_without-passes is_ascii_alphabetic mark (c ∷ []) letter (and_from _ _ parts.0 refl) in
-    let others = is_without-passes is_scheme_code_point mark rest other parts.1 in
-    is_without-append mark (c ∷ rest) (colon ∷ []) (is_without-append mark (c ∷ []) rest first others)
-    (is_without-more mark colon [] differs refl)
 
 -- so what stands before the first such mark begins with the scheme too
 starts_before : (mark : ℕ) (text : List ℕ) → is_scheme_code_point mark ≡ false → is_ascii_alphabetic mark ≡ false

@@ -2,7 +2,7 @@
 use Rattle.std.proofs.Common.{◌≡◌, ◌≢◌, ℕ, Bool, true, false, ◌==◌, List, [], ◌∷◌, All, Option, Some, None, refl, sym, ap, ◌∙◌, inl, inr}
 use Rattle.std.specs.Prelude.{IsSome, if◌then◌else◌}
 use Rattle.std.proofs.lemmas.Bool.{false≢true}
-use Rattle.std.specs.List.{slice_split, join_with_byte}
+use Rattle.std.specs.List.{join_with_byte}
 use Rattle.std.proofs.lemmas.List.Elements.{All-nil, All-cons}
 use Rattle.std.proofs.lemmas.List.Splits.{slice_split_none, slice_split_at}
 use Rattle.uv_model.specs.declared.profile.Profile.{Profile}
@@ -18,14 +18,11 @@ use Rattle.uv_model.specs.Cut.{Cut, texts_of}
 use Rattle.uv_model.specs.Laws.Cuts.{PartsAreUnique}
 use Rattle.uv_model.proofs.Hosts.HostUniqueness.{HasHost, one_host}
 use Rattle.uv_model.proofs.Texts.MarkLemmas.{is_without-cons}
+use Rattle.uv_model.proofs.Paths.PathPieces.{pieces}
 use Rattle.uv_model.proofs.Paths.SlashedPaths.{slashed_behind, slashed_or_none}
 use Rattle.uv_model.proofs.Cuts.ValidCutLemmas.{valid_texts}
 
 -- ---- segments
-
--- the texts between the `/` of a text
-abbrev pub segments_in : List ℕ → List (List ℕ)
-segments_in text = slice_split (λ c. c == slash) text
 
 -- no code point of a segment is `/`
 without_slash : (segment : List ℕ) → is_without slash segment ≡ true → All (λ c. (c == slash) ≡ false) segment
@@ -36,7 +33,7 @@ without_slash (c ∷ rest) none =
 
 -- segments with `/` between each two are split where they are joined
 split_joined : (first : List ℕ) (others : List (List ℕ)) → AreSegments (first ∷ others)
-    → segments_in (join_with_byte slash (first ∷ others)) ≡ first ∷ others
+    → pieces (join_with_byte slash (first ∷ others)) ≡ first ∷ others
 split_joined first [] each = slice_split_none (λ c. c == slash) first (without_slash first each.0.no_slash)
 split_joined first (next ∷ rest) each =
     slice_split_at (λ c. c == slash) first slash (join_with_byte slash (next ∷ rest))
@@ -44,20 +41,20 @@ split_joined first (next ∷ rest) each =
     ∙ ap (λ xs. first ∷ xs) (split_joined next rest each.1)
 
 -- so they are those of their text
-pub joined_segments : (segments : List (List ℕ)) (text : List ℕ) → JoinsTo segments text → segments ≡ segments_in text
+pub joined_segments : (segments : List (List ℕ)) (text : List ℕ) → JoinsTo segments text → segments ≡ pieces text
 joined_segments segments text joins =
     let each : AreSegments (joins.first ∷ joins.others) = rw joins.some at joins.each in
     rw (joins.joined, joins.some) (sym (split_joined joins.first joins.others each))
 
 -- the segments of a path-relative string
 pub relative_segments : (segments : List (List ℕ)) (text : List ℕ) → IsPathRelative segments text
-    → segments ≡ segments_in text
+    → segments ≡ pieces text
 relative_segments segments text is = joined_segments segments text is.joins
 
 -- the segments of a path that begins with `/`, or of no code point
 abbrev pub segments_behind : List ℕ → List (List ℕ)
 segments_behind [] = []
-segments_behind (c ∷ rest) = segments_in rest
+segments_behind (c ∷ rest) = pieces rest
 
 -- the segments of a path-absolute string
 pub absolute_segments : (segments : List (List ℕ)) (text : List ℕ) → IsPathAbsolute segments text
@@ -78,7 +75,7 @@ may_be_segments segments text (inr is) = slashed_segments segments text is
 -- the segments of a path by the form
 abbrev pub segments_of : Form → List ℕ → List (List ℕ)
 segments_of SchemeOpaque text = []
-segments_of PathRelative text = segments_in text
+segments_of PathRelative text = pieces text
 segments_of NoPath text = []
 segments_of _ text = segments_behind text
 
@@ -122,9 +119,11 @@ relative_form (c ∷ rest) some start = rw start refl
 form_found : (setting : Setting) (form : Form) (parts : Parts) → FitsScheme (has_scheme form) parts.scheme
     → FitsForm setting form parts → form ≡ form_of parts.scheme parts.host_text parts.path_text
 form_found setting SchemeAuthority parts named is =
-    authority_form true parts.scheme parts.host_text named (host_is_some setting parts parts.host_text is) parts.path_text
+    authority_form true parts.scheme parts.host_text named
+    (host_is_some setting parts parts.host_text is) parts.path_text
 form_found setting Authority parts named is =
-    authority_form false parts.scheme parts.host_text named (host_is_some setting parts parts.host_text is) parts.path_text
+    authority_form false parts.scheme parts.host_text named
+    (host_is_some setting parts parts.host_text is) parts.path_text
 form_found setting SchemePath parts named (none, other, path) =
     let shown = alone_form parts.scheme parts.host_text parts.path_text named none.host_text in
     let start : starts_with_slash parts.path_text ≡ true = rw path.slashed refl in

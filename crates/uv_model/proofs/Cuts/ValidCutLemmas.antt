@@ -10,7 +10,7 @@ use Rattle.uv_model.specs.declared.host.Host.{Host}
 use Rattle.uv_model.specs.declared.host.Host.TheVariants.{Domain, V4, V6, Opaque, Empty}
 use Rattle.uv_model.specs.Ascii.{slash, colon, question_mark, number_sign}
 use Rattle.uv_model.specs.Path.{MayBePathSlashed, IsPathAbsolute, IsPathRelative, IsPathSlashed, JoinsTo, is_without, starts_with_slash}
-use Rattle.uv_model.specs.Scheme.{is_scheme_code_point}
+use Rattle.uv_model.specs.Scheme.{is_scheme, is_scheme_code_point}
 use Rattle.uv_model.specs.Records.Url.{Url}
 use Rattle.uv_model.specs.Parts.{Form, SchemeAuthority, SchemePath, SchemeOpaque, Authority, PathAbsolute, PathRelative, NoPath, Parts, has_scheme, written, written_scheme, written_authority, written_behind}
 use Rattle.uv_model.specs.Setting.{Setting, setting_of}
@@ -272,20 +272,26 @@ scheme_fits true (Some scheme) middle is free = is
 scheme_fits true None middle is free = absurd is
 scheme_fits false scheme middle is free = rw is (free refl)
 
--- a scheme holds no mark that isn't one of its code points
-scheme_without : (mark : ℕ) (has : Bool) (scheme : Option (List ℕ)) → is_scheme_code_point mark ≡ false
-    → is_ascii_alphabetic mark ≡ false → (colon == mark) ≡ false → FitsScheme has scheme
-    → is_without mark (written_scheme scheme) ≡ true
-scheme_without mark true None other letter differs is = absurd is
-scheme_without mark true (Some []) other letter differs is = absurd (false≢true is)
-scheme_without mark true (Some (c ∷ rest)) other letter differs is =
+-- a scheme and `:` hold no mark that isn't one of their code points
+pub scheme_without : (mark : ℕ) (scheme : List ℕ) → is_scheme_code_point mark ≡ false → is_ascii_alphabetic mark ≡ false
+    → (colon == mark) ≡ false → is_scheme scheme ≡ true → is_without mark (scheme ++ colon ∷ []) ≡ true
+scheme_without mark [] other letter differs is = absurd (false≢true is)
+scheme_without mark (c ∷ rest) other letter differs is =
     let parts = and_parts (is_ascii_alphabetic c) (list_all is_scheme_code_point rest) is in
     let first : is_without mark (c ∷ []) ≡ true
     = is_without-passes is_ascii_alphabetic mark (c ∷ []) letter (and_from _ _ parts.0 refl) in
     let others = is_without-passes is_scheme_code_point mark rest other parts.1 in
     is_without-append mark (c ∷ rest) (colon ∷ []) (is_without-append mark (c ∷ []) rest first others)
     (is_without-more mark colon [] differs refl)
-scheme_without mark false scheme other letter differs is = rw is refl
+
+-- nor does the written scheme of a text that may have one
+written_scheme_without : (mark : ℕ) (has : Bool) (scheme : Option (List ℕ)) → is_scheme_code_point mark ≡ false
+    → is_ascii_alphabetic mark ≡ false → (colon == mark) ≡ false → FitsScheme has scheme
+    → is_without mark (written_scheme scheme) ≡ true
+written_scheme_without mark true None other letter differs is = absurd is
+written_scheme_without mark true (Some scheme) other letter differs is =
+    scheme_without mark scheme other letter differs is
+written_scheme_without mark false scheme other letter differs is = rw is refl
 
 -- ---- the whole
 
@@ -307,8 +313,8 @@ pub cut_of_parts : (base : Option Url) (text : List ℕ) (parts : Parts) (has : 
     → MiddleFits (class_in base parts.scheme) parts.host_text parts.port_text parts.path_text
     → MayBeUnits parts.query → IsCut base text (texts_of parts)
 cut_of_parts base text parts has whole scheme free middle query =
-    let no_question = scheme_without question_mark has parts.scheme refl refl refl scheme in
-    let no_number = scheme_without number_sign has parts.scheme refl refl refl scheme in
+    let no_question = written_scheme_without question_mark has parts.scheme refl refl refl scheme in
+    let no_number = written_scheme_without number_sign has parts.scheme refl refl refl scheme in
     let cut = texts_of parts in
     record {
       whole = whole ∙ written_as_cut parts;

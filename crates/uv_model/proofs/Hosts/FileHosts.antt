@@ -12,9 +12,11 @@ use Rattle.uv_model.specs.Hosts.Domain.{IsDomain}
 use Rattle.uv_model.specs.Valid.{IsFileHostText, IsHostText, without_localhost}
 
 -- a valid host string is one of a file URL, with the host that a file URL has
-pub file_host_fits : (profile : Profile) (text : List ℕ) (host : Host) → IsHostText profile text host → IsFileHostText profile text (without_localhost host)
+pub file_host_fits : (profile : Profile) (text : List ℕ) (host : Host) → IsHostText profile text host
+    → IsFileHostText profile text (without_localhost host)
 file_host_fits profile text (Domain form) is = elim (cases_Bool (bytes_eq form (codes "localhost"))) [
-  | inl same ↦ rw same (subst (λ (f : List ℕ). IsDomain profile text f) ((bytes_eq-Decides form (codes "localhost")).0 same) is)
+  | inl same ↦ rw same (subst (λ (f : List ℕ). IsDomain profile text f)
+      ((bytes_eq-Decides form (codes "localhost")).0 same) is)
   | inr other ↦
       rw other (
         is,

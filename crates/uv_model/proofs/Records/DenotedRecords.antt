@@ -9,7 +9,7 @@ use Rattle.uv_model.specs.declared.scheme.Class.TheVariants.{Special, File, Othe
 use Rattle.uv_model.specs.declared.host.Host.{Host}
 use Rattle.uv_model.specs.declared.path.UrlPath.{UrlPath}
 use Rattle.uv_model.specs.declared.path.UrlPath.TheVariants.{Opaque, Segments}
-use Rattle.uv_model.specs.Records.Denote.{authority_host, authority_path, denote, denoted_host, denoted_path, denoted_port, denoted_query, denoted_scheme, kept_drive, segments_in}
+use Rattle.uv_model.specs.Records.Denote.{authority_host, authority_path, denote, denoted_host, denoted_path, denoted_port, denoted_query, denoted_scheme, kept_drive, listed_segments}
 use Rattle.uv_model.specs.Encoding.{encoded}
 use Rattle.uv_model.specs.Parts.{Form, Parts, SchemeAuthority, SchemePath, SchemeOpaque, Authority, PathAbsolute, PathRelative, NoPath, has_scheme}
 use Rattle.uv_model.specs.Scheme.{default_port, is_scheme, lowercase, scheme_class}
@@ -232,7 +232,7 @@ AreDenoted-reference_authority profile url parts base none fits query =
 
 -- the segments of a base's path
 AreUrlSegments-base : (kind : Class) (host : Option Host) (path : UrlPath) → IsUrlPath kind host path
-    → AreUrlSegments (segments_in path)
+    → AreUrlSegments (listed_segments path)
 AreUrlSegments-base kind host (Opaque text) is = tt
 AreUrlSegments-base kind host (Segments []) is = tt
 AreUrlSegments-base kind host (Segments (segment ∷ rest)) is = is
@@ -273,7 +273,7 @@ pub IsUrlPath-absolute : (profile : Profile) (url : Url) (parts : Parts) → Wel
     (denoted_path (Some url) (scheme_class url.scheme) PathAbsolute parts)
 IsUrlPath-absolute profile url parts base path =
     let kind : Class = scheme_class url.scheme in
-    let segments : List (List ℕ) = segments_in url.path in
+    let segments : List (List ℕ) = listed_segments url.path in
     let start : AreUrlSegments (kept_drive kind segments parts.segments)
     = AreUrlSegments-kept_drive kind segments parts.segments (AreUrlSegments-base kind url.host url.path base.path)
     in
@@ -287,7 +287,7 @@ IsUrlPath-relative : (profile : Profile) (url : Url) (parts : Parts) → WellFor
     (denoted_path (Some url) (scheme_class url.scheme) PathRelative parts)
 IsUrlPath-relative profile url parts base path =
     let kind : Class = scheme_class url.scheme in
-    let segments : List (List ℕ) = segments_in url.path in
+    let segments : List (List ℕ) = listed_segments url.path in
     let start : AreUrlSegments (shorten kind segments)
     = AreUrlSegments-shorten kind segments (AreUrlSegments-base kind url.host url.path base.path)
     in

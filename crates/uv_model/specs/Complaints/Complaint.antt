@@ -18,7 +18,7 @@ use Rattle.uv_model.specs.Cut.{Cut, cut_of, starts_with_two_slashes, scheme_end,
 use Rattle.uv_model.specs.Hosts.Domain.{IsNumberText, HasNoForm}
 use Rattle.uv_model.specs.Hosts.OpaqueHost.{starts_with_bracket}
 use Rattle.uv_model.specs.Complaints.OpaqueHostComplaint.{IsBadIpv6, OpaqueHostComplaint}
-use Rattle.uv_model.specs.Path.{starts_with_slash, starts_with_drive}
+use Rattle.uv_model.specs.Path.{starts_with_slash, starts_with_drive_segment}
 use Rattle.uv_model.specs.Setting.{Setting, setting_of}
 use Rattle.uv_model.specs.Complaints.UnitComplaint.{UnitComplaint}
 use Rattle.uv_model.specs.Records.Url.{Url, is_opaque}
@@ -74,16 +74,16 @@ LacksHost File host_text port_text path_text = (host_text ≡ []) × (starts_wit
 LacksHost Other host_text port_text path_text = (host_text ≡ []) × IsSome port_text
 
 -- the rules of a host by what it holds
-abbrev pub HeldHostComplaint : Profile → Class → List ℕ → ℕ → Rule → Type 0
-HeldHostComplaint profile Other host_text place rule = OpaqueHostComplaint host_text place rule
-HeldHostComplaint profile _ host_text place rule = HostTextComplaint profile host_text rule × (place ≡ 0)
+abbrev pub HostContentComplaint : Profile → Class → List ℕ → ℕ → Rule → Type 0
+HostContentComplaint profile Other host_text place rule = OpaqueHostComplaint host_text place rule
+HostContentComplaint profile _ host_text place rule = HostTextComplaint profile host_text rule × (place ≡ 0)
 
 -- the rules of a host
 abbrev pub HostComplaint : Profile → Class → List ℕ → Option (List ℕ) → List ℕ → ℕ → Rule → Type 0
 HostComplaint profile class host_text port_text path_text place HostMissing =
     LacksHost class host_text port_text path_text × (place ≡ 0)
 HostComplaint profile class host_text port_text path_text place rule =
-    HeldHostComplaint profile class host_text place rule
+    HostContentComplaint profile class host_text place rule
 
 -- ---- the port; places count from its first code point
 
@@ -124,7 +124,7 @@ PathStartComplaint setting cut place FirstSegmentEmpty =
     HasEmptyFirst setting.profile cut.path_text × (place ≡ 1)
 PathStartComplaint setting cut place DriveAfterHost =
     (setting.class ≡ File) × HasHost setting.base cut.scheme cut.host_text
-    × (starts_with_drive cut.path_text ≡ true) × (place ≡ 0)
+    × (starts_with_drive_segment cut.path_text ≡ true) × (place ≡ 0)
 PathStartComplaint setting cut place _ = ⊥
 
 -- ---- the whole text
@@ -179,8 +179,8 @@ MayBeUnitComplaint start None place rule = ⊥
 MayBeUnitComplaint start (Some text) place rule = Behind start (UnitComplaint text) place rule
 
 -- the complaints of the path, the query and the fragment by what they hold
-abbrev pub HeldComplaint : Cut → ℕ → Rule → Type 0
-HeldComplaint cut place rule =
+abbrev pub ContentComplaint : Cut → ℕ → Rule → Type 0
+ContentComplaint cut place rule =
     Behind (path_place cut) (UnitComplaint cut.path_text) place rule
     ⊎ (MayBeUnitComplaint (query_place cut) cut.query place rule
     ⊎ MayBeUnitComplaint (fragment_place cut) cut.fragment place rule)
@@ -193,7 +193,7 @@ IsStarted setting text cut = (place : ℕ) (rule : Rule) → ¬ (StartComplaint 
 abbrev pub ComplaintOf : Setting → List ℕ → Cut → ℕ → Rule → Type 0
 ComplaintOf setting text cut place rule =
     StartComplaint setting text cut place rule
-    ⊎ ((IsStarted setting text cut × JudgedComplaint setting cut place rule) ⊎ HeldComplaint cut place rule)
+    ⊎ ((IsStarted setting text cut × JudgedComplaint setting cut place rule) ⊎ ContentComplaint cut place rule)
 
 -- the text, against the base, violates the rule of the profile at the place
 unfoldable pub Complaint : Profile → Option Url → List ℕ → ℕ → Rule → Type 0

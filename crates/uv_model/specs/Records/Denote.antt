@@ -48,15 +48,15 @@ base_query None = None
 base_query (Some base) = base.query
 
 -- the segments of a path that isn't opaque
-abbrev pub segments_in : UrlPath → List (List ℕ)
-segments_in (Segments list) = list
-segments_in (Opaque text) = []
+abbrev pub listed_segments : UrlPath → List (List ℕ)
+listed_segments (Segments list) = list
+listed_segments (Opaque text) = []
 
 -- the path behind an authority: a URL of class Special or File has one segment at least
 abbrev pub authority_path : Class → List (List ℕ) → List (List ℕ)
 authority_path Other [] = []
-authority_path kind [] = [] ∷ []
-authority_path kind (segment ∷ rest) = walk kind [] (segment ∷ rest)
+authority_path class [] = [] ∷ []
+authority_path class (segment ∷ rest) = walk class [] (segment ∷ rest)
 
 -- the base's drive letter, which a path-absolute reference to a file base keeps unless it has its own
 abbrev pub kept_drive : Class → List (List ℕ) → List (List ℕ) → List (List ℕ)
@@ -66,15 +66,15 @@ kept_drive _ _ _ = []
 
 -- the path by the form
 abbrev pub denoted_path : Option Url → Class → Form → Parts → UrlPath
-denoted_path base kind SchemeAuthority parts = Segments (authority_path kind parts.segments)
-denoted_path base kind SchemePath parts = Segments (walk kind [] parts.segments)
-denoted_path base kind SchemeOpaque parts = Opaque (encoded false parts.path_text)
-denoted_path base kind Authority parts = Segments (authority_path kind parts.segments)
-denoted_path base kind PathAbsolute parts =
-    Segments (walk kind (kept_drive kind (segments_in (base_path base)) parts.segments) parts.segments)
-denoted_path base kind PathRelative parts =
-    Segments (walk kind (shorten kind (segments_in (base_path base))) parts.segments)
-denoted_path base kind NoPath parts = base_path base
+denoted_path base class SchemeAuthority parts = Segments (authority_path class parts.segments)
+denoted_path base class SchemePath parts = Segments (walk class [] parts.segments)
+denoted_path base class SchemeOpaque parts = Opaque (encoded false parts.path_text)
+denoted_path base class Authority parts = Segments (authority_path class parts.segments)
+denoted_path base class PathAbsolute parts =
+    Segments (walk class (kept_drive class (listed_segments (base_path base)) parts.segments) parts.segments)
+denoted_path base class PathRelative parts =
+    Segments (walk class (shorten class (listed_segments (base_path base))) parts.segments)
+denoted_path base class NoPath parts = base_path base
 
 -- the host by the form
 abbrev pub denoted_host : Option Url → Form → Parts → Option Host
@@ -99,19 +99,19 @@ quotes _ = true
 
 -- the query: the text's, or in a reference without a path the base's
 abbrev pub denoted_query : Option Url → Class → Form → Option (List ℕ) → Option (List ℕ)
-denoted_query base kind form (Some query) = Some (encoded (quotes kind) query)
-denoted_query base kind NoPath None = base_query base
-denoted_query base kind _ None = None
+denoted_query base class form (Some query) = Some (encoded (quotes class) query)
+denoted_query base class NoPath None = base_query base
+denoted_query base class _ None = None
 
 -- the URL that the parts denote against the base
 unfoldable pub denote : Option Url → Parts → Url
 denote base parts =
-    let kind = scheme_class (scheme_in base parts) in
+    let class = scheme_class (scheme_in base parts) in
     record {
       scheme = denoted_scheme base parts.scheme;
       host = denoted_host base parts.form parts;
       port = denoted_port base parts.form parts;
-      path = denoted_path base kind parts.form parts;
-      query = denoted_query base kind parts.form parts.query;
+      path = denoted_path base class parts.form parts;
+      query = denoted_query base class parts.form parts.query;
       fragment = option_map (encoded false) parts.fragment;
     }

@@ -119,13 +119,13 @@ may_be_empty _ _ = false
 
 -- a path of segments, or in class Other without a host an opaque one
 abbrev pub IsUrlPath : Class → Option Host → UrlPath → Type 0
-IsUrlPath kind host (Segments []) = may_be_empty kind host ≡ true
-IsUrlPath kind host (Segments (segment ∷ rest)) = AreUrlSegments (segment ∷ rest)
-IsUrlPath kind host (Opaque text) = (kind ≡ Other) × (host ≡ None) × IsUrlOpaquePath text
+IsUrlPath class host (Segments []) = may_be_empty class host ≡ true
+IsUrlPath class host (Segments (segment ∷ rest)) = AreUrlSegments (segment ∷ rest)
+IsUrlPath class host (Opaque text) = (class ≡ Other) × (host ≡ None) × IsUrlOpaquePath text
 
 -- an absent query, or ASCII units, in class Special and File without `'`
 abbrev pub IsUrlQuery : Class → Option (List ℕ) → Type 0
-IsUrlQuery kind None = Unit {0}
+IsUrlQuery class None = Unit {0}
 IsUrlQuery Other (Some query) = IsAsciiUnits query
 IsUrlQuery _ (Some query) = IsAsciiUnits query × (is_without apostrophe query ≡ true)
 

@@ -6,7 +6,7 @@ use Rattle.uv_model.specs.declared.host.Host.{Host}
 use Rattle.uv_model.specs.declared.host.Host.TheVariants as host
 use Rattle.uv_model.specs.Ascii.{slash, colon, question_mark, number_sign}
 use Rattle.uv_model.specs.Cut.{Cut, IsCut, starts_with_two_slashes}
-use Rattle.uv_parser.specs.Machine.{Held, State, with_fragment, begins, begins_drive, turn, stop, again, FileSlashState, FileState, NoSchemeState, PathState, RelativeSlashState, RelativeState, empty_held, is_file, with_base, with_base_host, with_file_base, with_kept_drive, list_in, with_host, with_opaque_base, with_query, shortened}
+use Rattle.uv_parser.specs.Machine.{Held, State, with_fragment, begins, starts_with_drive_letter, turn, stop, again, FileSlashState, FileState, NoSchemeState, PathState, RelativeSlashState, RelativeState, empty_held, is_file, with_base, with_base_host, with_file_base, with_kept_drive, list_in, with_host, with_opaque_base, with_query, shortened}
 use Rattle.uv_model.specs.Parts.{Form, Parts, Authority, PathAbsolute, PathRelative, NoPath, written_authority, written_behind}
 use Rattle.uv_parser.specs.SilentTexts.{Silent}
 use Rattle.uv_model.specs.Path.{starts_with_slash}
@@ -341,7 +341,7 @@ module _ (url : Url) (text : List ℕ) (port_text : Option (List ℕ)) (query fr
           ⊎ Stops (Some url) FileState empty_held (c ∷ (rest ++ tail query fragment))
           (length (rest ++ tail query fragment) + 2)
       relative c rest a b d free =
-          elim (cases_Bool (begins_drive (c ∷ (rest ++ tail query fragment)))) [
+          elim (cases_Bool (starts_with_drive_letter (c ∷ (rest ++ tail query fragment)))) [
             | inl drive ↦
                 let row : (p : ℕ) → turn (Some url) FileState p empty_held (c ∷ (rest ++ tail query fragment)) ≡ stop
                 = λ p. simp (file, a, b, d, drive) refl in

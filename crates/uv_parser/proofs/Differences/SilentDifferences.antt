@@ -13,7 +13,7 @@ use Rattle.uv_model.specs.Complaints.Complaint.{HasHost}
 use Rattle.uv_model.specs.Cut.{class_in, starts_with_two_slashes}
 use Rattle.uv_parser.specs.SilentTexts.{IsTakenFileHost, Silent, Takes, TakesFile, TakesForm, TakesHostText}
 use Rattle.uv_model.specs.Parts.{Form, SchemeAuthority, SchemePath, SchemeOpaque, Authority, PathAbsolute, PathRelative, NoPath, Parts, has_scheme}
-use Rattle.uv_model.specs.Path.{MayBePathSlashed, starts_with_drive, starts_with_slash}
+use Rattle.uv_model.specs.Path.{MayBePathSlashed, starts_with_drive_segment, starts_with_slash}
 use Rattle.uv_model.specs.Scheme.{scheme_class}
 use Rattle.uv_parser.specs.Laws.Differences.{Differs, HasDriveBehindHost, HasEmptyAuthority, HasForeignHost, SilentTextsAreValidOrDiffer}
 use Rattle.uv_model.specs.Setting.{setting_of}
@@ -68,7 +68,7 @@ file_or_differs base host_text parts value kind given takes path is valued =
       | inl valid ↦
           let text_is : IsFileHostText Standard host_text value = rw is.valued (file_host_fits Standard host_text
           is.host valid) in
-          elim (cases_Bool (starts_with_drive parts.path_text)) [
+          elim (cases_Bool (starts_with_drive_segment parts.path_text)) [
             | inl drive ↦
                 let some = parsed_not_empty host_text is.host is.parsed in
                 let has : HasHost base parts.scheme parts.host_text = rw given some in
@@ -160,7 +160,7 @@ drive_or_differs : (base : Option Url) (parts : Parts) → parts.scheme ≡ None
     → FitsDrive base parts.path_text ⊎ HasDriveBehindHost base parts
 drive_or_differs None parts named none = inl tt
 drive_or_differs (Some url) parts named none =
-    elim (cases_Bool (starts_with_drive parts.path_text)) [
+    elim (cases_Bool (starts_with_drive_segment parts.path_text)) [
       | inr bare ↦ inl (λ kind some. bare)
       | inl drive ↦
           elim (file_cases (scheme_class url.scheme)) [

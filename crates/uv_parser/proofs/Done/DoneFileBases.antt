@@ -8,8 +8,8 @@ use Rattle.uv_model.specs.declared.host.Host.TheVariants as host
 use Rattle.uv_model.specs.declared.scheme.Class.TheVariants.{File}
 use Rattle.uv_model.specs.declared.path.UrlPath.TheVariants.{Segments}
 use Rattle.uv_model.specs.Ascii.{slash, colon, vertical_bar, question_mark, number_sign}
-use Rattle.uv_model.specs.Records.Denote.{authority_path, quotes, segments_in}
-use Rattle.uv_parser.specs.Machine.{begins_drive, turn, again, FileState, NoSchemeState, PathState, empty_held, is_file, is_special, list_in, shortened, with_file_base, with_query}
+use Rattle.uv_model.specs.Records.Denote.{authority_path, quotes, listed_segments}
+use Rattle.uv_parser.specs.Machine.{starts_with_drive_letter, turn, again, FileState, NoSchemeState, PathState, empty_held, is_file, is_special, list_in, shortened, with_file_base, with_query}
 use Rattle.uv_model.specs.Parts.{Parts, Authority, NoPath, PathRelative, written_authority, written_behind}
 use Rattle.uv_parser.specs.SilentTexts.{Silent}
 use Rattle.uv_model.specs.Path.{is_without, shorten, starts_with_slash, walk}
@@ -36,7 +36,7 @@ use Rattle.uv_parser.proofs.Loops.Tails.{tail, tail_ends}
 
 -- units that begin with no scheme begin with no drive letter
 no_drive_letter : (path : List ℕ) (query fragment : Option (List ℕ)) → path ≢ [] → is_faultless path ≡ true
-    → starts_with_scheme path ≡ false → begins_drive (path ++ tail query fragment) ≡ false
+    → starts_with_scheme path ≡ false → starts_with_drive_letter (path ++ tail query fragment) ≡ false
 unfolding is_unit_at is_url_code_point
 no_drive_letter [] query fragment some units free = absurd (some refl)
 no_drive_letter (c ∷ []) (Some query) fragment some units free =
@@ -102,7 +102,7 @@ module _ (url : Url) (text : List ℕ) (parts : Parts) (is : Silent (Some url) t
       let h = with_query None (with_file_base url (file_held host.Empty)) in
       let start = shorten (scheme_class (codes "file")) (list_in url.path) in
       let walked = walk (scheme_class (codes "file")) start parts.segments in
-      let list : start ≡ shorten (scheme_class url.scheme) (segments_in url.path)
+      let list : start ≡ shorten (scheme_class url.scheme) (listed_segments url.path)
       = ap (λ k. shorten k (list_in url.path)) (file_class ∙ sym kind)
       ∙ ap (shorten (scheme_class url.scheme)) (same_list url.path) in
       let drive = no_drive_letter parts.path_text parts.query parts.fragment fits.2
@@ -127,7 +127,7 @@ module _ (url : Url) (text : List ℕ) (parts : Parts) (is : Silent (Some url) t
     where
       first_row : (path : List ℕ) (p : ℕ) → path ≢ []
           → starts_with_slash path ≡ false → is_without question_mark path ≡ true → is_without number_sign path ≡ true
-          → begins_drive (path ++ tail parts.query parts.fragment) ≡ false
+          → starts_with_drive_letter (path ++ tail parts.query parts.fragment) ≡ false
           → turn (Some url) FileState p empty_held (path ++ tail parts.query parts.fragment)
           ≡ again PathState (shortened (with_query None (with_file_base url (file_held host.Empty))))
       first_row [] p some start question number drive = absurd (some refl)

@@ -10,7 +10,7 @@ use Rattle.uv_model.specs.declared.path.UrlPath.{UrlPath}
 use Rattle.uv_model.specs.declared.path.UrlPath.TheVariants.{Opaque, Segments}
 use Rattle.uv_model.specs.Ascii.{slash, question_mark, number_sign}
 use Rattle.uv_model.specs.Cut.{texts_of}
-use Rattle.uv_model.specs.Records.Denote.{denote, denoted_host, denoted_path, denoted_port, denoted_query, denoted_scheme, kept_drive, quotes, segments_in}
+use Rattle.uv_model.specs.Records.Denote.{denote, denoted_host, denoted_path, denoted_port, denoted_query, denoted_scheme, kept_drive, quotes, listed_segments}
 use Rattle.uv_model.specs.Encoding.{encoded}
 use Rattle.uv_parser.specs.Machine.{Held, turn, again, NoSchemeState, PathState, RelativeSlashState, RelativeState, empty_held, is_file, is_special, list_in, shortened, with_base, with_base_host, with_query, with_scheme}
 use Rattle.uv_model.specs.Parts.{Form, Parts, SchemeAuthority, SchemePath, SchemeOpaque, Authority, PathAbsolute, PathRelative, NoPath}
@@ -115,7 +115,7 @@ walk_ends base query fragment query_units fragment_units path segments text h jo
     (path_ends base joins.first joins.others path query fragment h each query_units fragment_units)
 
 -- the segments of a path, in the two definitions
-pub same_list : (path : UrlPath) → list_in path ≡ segments_in path
+pub same_list : (path : UrlPath) → list_in path ≡ listed_segments path
 same_list (Opaque text) = refl
 same_list (Segments list) = refl
 
@@ -184,7 +184,7 @@ module _ (url : Url) (text : List ℕ) (parts : Parts) (is : Silent (Some url) t
         host = refl;
         port = refl;
         path = ap (λ k. Segments (walk (scheme_class url.scheme) k parts.segments))
-            (sym (no_kept_drive (scheme_class url.scheme) (segments_in url.path) parts.segments
+            (sym (no_kept_drive (scheme_class url.scheme) (listed_segments url.path) parts.segments
             (not_file (scheme_class url.scheme) url.scheme refl plain)));
         query = reference_query url (scheme_class url.scheme) PathAbsolute parts.query (walking walked h) special refl;
       })
@@ -204,7 +204,7 @@ module _ (url : Url) (text : List ℕ) (parts : Parts) (is : Silent (Some url) t
       let whole = path_text url text parts is none fits.0.host_text in
       let h = with_query None (with_base url begun) in
       let list : shorten (scheme_class url.scheme) (list_in url.path)
-      ≡ shorten (scheme_class url.scheme) (segments_in url.path)
+      ≡ shorten (scheme_class url.scheme) (listed_segments url.path)
       = ap (shorten (scheme_class url.scheme)) (same_list url.path) in
       let walked = walk (scheme_class url.scheme) (shorten (scheme_class url.scheme) (list_in url.path))
       parts.segments in

@@ -8,8 +8,8 @@ use Rattle.uv_model.specs.declared.host.Host.TheVariants as host
 use Rattle.uv_model.specs.declared.scheme.Class.TheVariants.{File}
 use Rattle.uv_model.specs.declared.path.UrlPath.TheVariants.{Segments}
 use Rattle.uv_model.specs.Ascii.{slash, backslash, question_mark, number_sign}
-use Rattle.uv_model.specs.Records.Denote.{kept_drive, segments_in}
-use Rattle.uv_parser.specs.Machine.{Held, another, begins_drive, is_drive_end, sight, turn, again, FileSlashState, FileState, PathState, empty_held, is_file, list_in, with_host, with_kept_drive, with_scheme}
+use Rattle.uv_model.specs.Records.Denote.{kept_drive, listed_segments}
+use Rattle.uv_parser.specs.Machine.{Held, another, starts_with_drive_letter, is_drive_end, sight, turn, again, FileSlashState, FileState, PathState, empty_held, is_file, list_in, with_host, with_kept_drive, with_scheme}
 use Rattle.uv_model.specs.Parts.{Parts, PathAbsolute}
 use Rattle.uv_parser.specs.SilentTexts.{Silent}
 use Rattle.uv_model.specs.Path.{IsSegment, is_drive_letter, is_normalized_drive_letter, walk}
@@ -61,7 +61,7 @@ no_drive_end x more rest unit a b =
 
 -- before a delimiter a segment is a drive letter exactly where the text begins with one
 drive_before : (first rest : List ℕ) → IsSegment first → IsDelimiter (sight rest)
-    → begins_drive (first ++ rest) ≡ is_drive_letter first
+    → starts_with_drive_letter (first ++ rest) ≡ is_drive_letter first
 drive_before [] [] is ends = refl
 drive_before [] (d ∷ []) is ends = refl
 drive_before [] (d ∷ m ∷ more) is ends =
@@ -101,7 +101,7 @@ delimits_tail None (Some text) = tt
 delimits_tail None None = tt
 
 drive_joined : (first : List ℕ) (others : List (List ℕ)) (query fragment : Option (List ℕ)) → IsSegment first
-    → begins_drive (join_with_byte slash (first ∷ others) ++ tail query fragment) ≡ is_drive_letter first
+    → starts_with_drive_letter (join_with_byte slash (first ∷ others) ++ tail query fragment) ≡ is_drive_letter first
 drive_joined first [] query fragment is = drive_before first (tail query fragment) is (delimits_tail query fragment)
 drive_joined first (next ∷ others) query fragment is =
     rw (append_assoc first (slash ∷ join_with_byte slash (next ∷ others)) (tail query fragment))
@@ -113,7 +113,7 @@ host_held value = with_host value (with_scheme (codes "file") empty_held)
 
 -- the machine keeps the drive letter that is denoted
 kept_same : (list : List (List ℕ)) (first rest : List ℕ) (others : List (List ℕ)) (value : Option Host)
-    → begins_drive rest ≡ is_drive_letter first
+    → starts_with_drive_letter rest ≡ is_drive_letter first
     → with_kept_drive list rest (host_held value) ≡ walking (kept_drive File list (first ∷ others)) (host_held value)
 kept_same [] first rest others value e = refl
 kept_same (drive ∷ more) first rest others value e =
@@ -143,17 +143,17 @@ file_absolute_done url text parts is not_opaque file kind none name no_port form
     let spelled : path.behind ≡ join_with_byte slash (joins.first ∷ joins.others)
     = joins.joined ∙ ap (join_with_byte slash) joins.some in
     let segment : IsSegment joins.first = (rw joins.some at joins.each).0 in
-    let same : begins_drive rest ≡ is_drive_letter joins.first
-    = ap (λ xs. begins_drive (xs ++ tail parts.query parts.fragment)) spelled
+    let same : starts_with_drive_letter rest ≡ is_drive_letter joins.first
+    = ap (λ xs. starts_with_drive_letter (xs ++ tail parts.query parts.fragment)) spelled
     ∙ drive_joined joins.first joins.others parts.query parts.fragment segment in
     let no_slash = no_slash_before_tail path.behind parts.query parts.fragment path.relative.start in
     let h = host_held url.host in
     let kept = kept_drive File (list_in url.path) (joins.first ∷ joins.others) in
     let walked = walk (scheme_class (codes "file")) kept parts.segments in
-    let denoted_kept : kept ≡ kept_drive (scheme_class url.scheme) (segments_in url.path) parts.segments
+    let denoted_kept : kept ≡ kept_drive (scheme_class url.scheme) (listed_segments url.path) parts.segments
     = ap (λ l. kept_drive File l (joins.first ∷ joins.others)) (same_list url.path)
-    ∙ (ap (λ k. kept_drive k (segments_in url.path) (joins.first ∷ joins.others)) (sym kind)
-    ∙ ap (kept_drive (scheme_class url.scheme) (segments_in url.path)) (sym joins.some)) in
+    ∙ (ap (λ k. kept_drive k (listed_segments url.path) (joins.first ∷ joins.others)) (sym kind)
+    ∙ ap (kept_drive (scheme_class url.scheme) (listed_segments url.path)) (sym joins.some)) in
     let begun : (p : ℕ)
     → turn (Some url) FileSlashState p (file_held host.Empty) rest ≡ again PathState (walking kept h)
     = λ p. rw (no_slash, file)

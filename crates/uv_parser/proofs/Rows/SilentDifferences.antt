@@ -17,7 +17,7 @@ use Rattle.uv_model.specs.Hosts.Domain.{has_lengths, has_permitted, strict_form}
 use Rattle.uv_parser.specs.HostParser.{parse_host}
 use Rattle.uv_parser.specs.SilentTexts.{Silent}
 use Rattle.uv_model.specs.Parts.{Parts}
-use Rattle.uv_model.specs.Path.{starts_with_drive}
+use Rattle.uv_model.specs.Path.{starts_with_drive_segment}
 use Rattle.uv_parser.specs.Rows.{Answer, Row, AllHold, answer_of, computed, goes_on, has_stopped, is_done}
 use Rattle.uv_parser.specs.Rows.SilentDifferences.{AllDiffer, DiffersSilently, SilentDifferenceRows}
 use Rattle.uv_parser.specs.Rows.SilentRefusals.{file_rows, host_rows, domain_rows, number_rows, segment_rows, drive_rows}
@@ -176,14 +176,14 @@ host_is (Some url) None None is = λ e. absurd (false≢true (rw e at is))
 tests_drive : Option Url → Cut → Bool
 tests_drive base cut =
     is_file_class (class_in base cut.scheme)
-    && (has_host base cut.scheme cut.host_text && starts_with_drive cut.path_text)
+    && (has_host base cut.scheme cut.host_text && starts_with_drive_segment cut.path_text)
 
 finds_drive : Finds HasDriveBehindHost tests_drive
 unfolding tests_drive
 finds_drive = record {
   found = λ base parts is.
       let first = and_parts (is_file_class (class_in base parts.scheme)) _ is in
-      let second = and_parts (has_host base parts.scheme parts.host_text) (starts_with_drive parts.path_text)
+      let second = and_parts (has_host base parts.scheme parts.host_text) (starts_with_drive_segment parts.path_text)
       first.1 in (
         file_class_is (class_in base parts.scheme) first.0,
         host_is base parts.scheme parts.host_text second.0,

@@ -38,11 +38,11 @@ record IsTakenBy (kind : Class) (scheme host_text : List ℕ) (parts : Parts) : 
   port_text : MayBePortText parts.port_text
   path : MayBePathSlashed parts.segments parts.path_text
 
--- by the class
-taken_by_class : (kind : Class) (profile : Profile) (base : Option Url) (scheme : Option (List ℕ)) (host_text : List ℕ)
-    (parts : Parts) → FitsAuthority kind (setting_of profile base scheme) host_text parts
-    → IsTakenBy kind (scheme_or base scheme) host_text parts
-taken_by_class Special profile base scheme host_text parts is =
+-- class Special
+taken_special : (profile : Profile) (base : Option Url) (scheme : Option (List ℕ)) (host_text : List ℕ)
+    (parts : Parts) → FitsAuthority Special (setting_of profile base scheme) host_text parts
+    → IsTakenBy Special (scheme_or base scheme) host_text parts
+taken_special profile base scheme host_text parts is =
     let taken = host_taken profile host_text is.value is.host in
     record {
       takes = record {
@@ -56,7 +56,12 @@ taken_by_class Special profile base scheme host_text parts is =
       port_text = is.port_text;
       path = slashed_or_none profile parts.segments parts.path_text is.path;
     }
-taken_by_class File profile base scheme host_text parts (no_text, none, inl (value, is, valued, path, drive)) =
+
+-- class File
+taken_file : (profile : Profile) (base : Option Url) (scheme : Option (List ℕ)) (host_text : List ℕ)
+    (parts : Parts) → FitsAuthority File (setting_of profile base scheme) host_text parts
+    → IsTakenBy File (scheme_or base scheme) host_text parts
+taken_file profile base scheme host_text parts (no_text, none, inl (value, is, valued, path, drive)) =
     let parsed = file_parsed profile host_text value is in
     record {
       takes = record {
@@ -78,13 +83,18 @@ taken_by_class File profile base scheme host_text parts (no_text, none, inl (val
       port_text = rw no_text tt;
       path = slashed_or_none profile parts.segments parts.path_text path;
     }
-taken_by_class File profile base scheme host_text parts (no_text, none, inr (empty, valued, path)) = record {
+taken_file profile base scheme host_text parts (no_text, none, inr (empty, valued, path)) = record {
   takes = record { no_port_text = no_text; no_port = none; host = inr (empty, valued) };
   above = rw empty refl;
   port_text = rw no_text tt;
   path = inr (slashed_behind profile parts.segments parts.path_text path);
 }
-taken_by_class Other profile base scheme host_text parts (inl (is, port_text), port, path) =
+
+-- class Other
+taken_other : (profile : Profile) (base : Option Url) (scheme : Option (List ℕ)) (host_text : List ℕ)
+    (parts : Parts) → FitsAuthority Other (setting_of profile base scheme) host_text parts
+    → IsTakenBy Other (scheme_or base scheme) host_text parts
+taken_other profile base scheme host_text parts (inl (is, port_text), port, path) =
     let read = opaque_kept host_text parts.host is in
     record {
       takes = record {
@@ -97,7 +107,7 @@ taken_by_class Other profile base scheme host_text parts (inl (is, port_text), p
       port_text = port_text;
       path = slashed_or_none profile parts.segments parts.path_text path;
     }
-taken_by_class Other profile base scheme host_text parts (inr (empty, valued, no_text), port, path) = record {
+taken_other profile base scheme host_text parts (inr (empty, valued, no_text), port, path) = record {
   takes = record {
     host = inr (empty, valued);
     alone = λ same. no_text;
@@ -108,6 +118,14 @@ taken_by_class Other profile base scheme host_text parts (inr (empty, valued, no
   port_text = rw no_text tt;
   path = slashed_or_none profile parts.segments parts.path_text path;
 }
+
+-- by the class
+taken_by_class : (kind : Class) (profile : Profile) (base : Option Url) (scheme : Option (List ℕ)) (host_text : List ℕ)
+    (parts : Parts) → FitsAuthority kind (setting_of profile base scheme) host_text parts
+    → IsTakenBy kind (scheme_or base scheme) host_text parts
+taken_by_class Special = taken_special
+taken_by_class File = taken_file
+taken_by_class Other = taken_other
 
 -- ---- what the test before the first step finds
 

@@ -12,7 +12,7 @@ use Rattle.uv_model.specs.Hosts.Domain.{has_lengths, has_permitted, strict_form}
 use Rattle.uv_parser.specs.HostParser.{parse_host}
 use Rattle.uv_parser.specs.SilentTexts.{Silent}
 use Rattle.uv_model.specs.Parts.{Parts}
-use Rattle.uv_model.specs.Path.{starts_with_drive}
+use Rattle.uv_model.specs.Path.{starts_with_drive_segment}
 use Rattle.uv_model.specs.Records.Url.{Url}
 use Rattle.uv_model.specs.Valid.{Valid}
 
@@ -20,8 +20,8 @@ use Rattle.uv_model.specs.Valid.{Valid}
 
 -- an ASCII code point of the text is no letter, digit, hyphen or full stop, as `_` or the `%` of an escape (section
 -- 3.4)
-abbrev pub HasForeignCodePoint : List ℕ → Type 0
-HasForeignCodePoint text = has_permitted Standard text ≡ false
+abbrev pub HasForeignDomainCodePoint : List ℕ → Type 0
+HasForeignDomainCodePoint text = has_permitted Standard text ≡ false
 
 -- ToASCII at the strict settings doesn't give the form, as where a label begins with a hyphen, or where a code point is
 -- mapped to a foreign one (section 3.4; UTS #46, section 4)
@@ -38,7 +38,7 @@ IsMappedToIpv4 text = (value : ℕ) → ¬ (IsIpv4 text value)
 
 -- what a text with this host can have that a valid host text hasn't; an IPv6 text in brackets has nothing
 abbrev pub HostDiffers : List ℕ → Host → Type 0
-HostDiffers text (Domain form) = HasForeignCodePoint text ⊎ (LacksStrictForm text form ⊎ HasWrongLengths form)
+HostDiffers text (Domain form) = HasForeignDomainCodePoint text ⊎ (LacksStrictForm text form ⊎ HasWrongLengths form)
 HostDiffers text (V4 value) = IsMappedToIpv4 text
 HostDiffers text _ = ⊥
 
@@ -63,7 +63,7 @@ HasEmptyFirstSegment parts = IsSome parts.host_text × (starts_with_two_slashes 
 abbrev pub HasDriveBehindHost : Option Url → Parts → Type 0
 HasDriveBehindHost base parts =
     (class_in base parts.scheme ≡ File) × HasHost base parts.scheme parts.host_text
-    × (starts_with_drive parts.path_text ≡ true)
+    × (starts_with_drive_segment parts.path_text ≡ true)
 
 -- nothing follows the `//` of a file URL before its query and its fragment (section 4.3, scheme-relative-file-URL
 -- string)

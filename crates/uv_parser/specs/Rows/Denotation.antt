@@ -190,19 +190,19 @@ walked_paths =
 
 -- the shortened list, as `shorten` gives it
 abbrev pub shortened_here : Class × List Literal × List Literal → List (List ℕ)
-shortened_here (kind, path, short) = shorten kind (map codes path)
+shortened_here (class, path, short) = shorten class (map codes path)
 
 -- the shortened list, as the row says it
 abbrev pub shortened_there : Class × List Literal × List Literal → List (List ℕ)
-shortened_there (kind, path, short) = map codes short
+shortened_there (class, path, short) = map codes short
 
 -- the end of the walk, as `walk` gives it
 abbrev pub walked_here : Class × List Literal × List Literal × List Literal → List (List ℕ)
-walked_here (kind, start, segments, path) = walk kind (map codes start) (map codes segments)
+walked_here (class, start, segments, path) = walk class (map codes start) (map codes segments)
 
 -- the end of the walk, as the row says it
 abbrev pub walked_there : Class × List Literal × List Literal × List Literal → List (List ℕ)
-walked_there (kind, start, segments, path) = map codes path
+walked_there (class, start, segments, path) = map codes path
 
 -- what the parts of these texts denote, and what `shorten` and `walk` make of these lists
 abbrev pub DenotationRows : Type 0

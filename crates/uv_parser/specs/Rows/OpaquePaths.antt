@@ -1,6 +1,6 @@
 -- Runs on texts with an opaque path, and the test before the first step (URL Standard, section 4.4).
 use Rattle.std.specs.Prelude.{List, [], ◌∷◌}
-use Rattle.uv_parser.specs.Rows.{Row, AllHold, done, stops, within, unfinished, opaque, with_query, with_fragment}
+use Rattle.uv_parser.specs.Rows.{Row, AllHold, done, stops, in_steps, unfinished, opaque, with_query, with_fragment}
 
 -- a scheme that isn't special, and no `/` behind it
 abbrev pub opaque_rows : List Row
@@ -56,13 +56,13 @@ unit_rows =
 abbrev pub removed_rows : List Row
 removed_rows =
     stops "" 0
-    ∷ within 0 (stops " " 0)
-    ∷ within 0 (stops "urn:a " 5)
-    ∷ within 0 (stops "\u{1f}urn:a" 0)
-    ∷ within 0 (stops "urn:a\0" 5)
-    ∷ within 0 (stops "u\tn:a " 1)
-    ∷ within 0 (stops "urn:\na" 4)
-    ∷ within 0 (stops "urn:a#\rb" 6)
+    ∷ in_steps 0 (stops " " 0)
+    ∷ in_steps 0 (stops "urn:a " 5)
+    ∷ in_steps 0 (stops "\u{1f}urn:a" 0)
+    ∷ in_steps 0 (stops "urn:a\0" 5)
+    ∷ in_steps 0 (stops "u\tn:a " 1)
+    ∷ in_steps 0 (stops "urn:\na" 4)
+    ∷ in_steps 0 (stops "urn:a#\rb" 6)
     ∷ unfinished "urn:\u{1}a" 0
     ∷ stops "urn:\u{1}a" 4
     ∷ unfinished "urn: a" 0

@@ -1,6 +1,6 @@
 -- Runs against a base (URL Standard, section 4.4): texts without a scheme, and texts with the base's own.
 use Rattle.std.specs.Prelude.{List, [], ◌∷◌, Some, None}
-use Rattle.uv_parser.specs.Rows.{Row, AllHold, done, stops, within, against, listed, opaque, with_query, with_fragment, domain, opaque_host, empty_host}
+use Rattle.uv_parser.specs.Rows.{Row, AllHold, done, stops, in_steps, against, listed, opaque, with_query, with_fragment, domain, opaque_host, empty_host}
 use Rattle.uv_model.specs.Records.Url.{Url}
 
 -- `http://h/a/b?q`
@@ -86,7 +86,7 @@ root_rows =
     ∷ against root_base (done "HTTP://g" (listed "http" (domain "g") None ("" ∷ [])) "http://g/")
     ∷ against root_base (done "https://g" (listed "https" (domain "g") None ("" ∷ [])) "https://g/")
     ∷ against root_base (stops "//" 2)
-    ∷ against root_base (within 5 (stops "///x" 2))
+    ∷ against root_base (in_steps 5 (stops "///x" 2))
     ∷ against root_base (stops "http:x" 5)
     ∷ against root_base (stops "http:" 5)
     ∷ against root_base (stops "http:/x" 5)

@@ -1,6 +1,6 @@
 -- Runs on texts with a special scheme other than file (URL Standard, sections 4.3 and 4.4), without a base.
 use Rattle.std.specs.Prelude.{List, [], ◌∷◌, Some, None}
-use Rattle.uv_parser.specs.Rows.{Row, AllHold, done, stops, within, listed, with_query, with_fragment, domain, ipv6}
+use Rattle.uv_parser.specs.Rows.{Row, AllHold, done, stops, in_steps, listed, with_query, with_fragment, domain, ipv6}
 
 -- the scheme, `//` and what may not stand there
 abbrev pub scheme_rows : List Row
@@ -11,8 +11,8 @@ scheme_rows =
     ∷ stops "http:x y" 5
     ∷ stops "http:\\\\h/" 5
     ∷ stops "http://" 7
-    ∷ within 7 (stops "http:///h" 7)
-    ∷ within 7 (stops "http://\\h" 7)
+    ∷ in_steps 7 (stops "http:///h" 7)
+    ∷ in_steps 7 (stops "http://\\h" 7)
     ∷ stops "http://?q" 7
     ∷ stops "http://#f" 7
     ∷ done "http://h" (listed "http" (domain "h") None ("" ∷ [])) "http://h/"

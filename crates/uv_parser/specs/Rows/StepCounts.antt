@@ -2,7 +2,7 @@
 -- text has code points, and five more.
 use Rattle.std.specs.Prelude.{ℕ, ◌-◌, List, [], ◌∷◌, codes, Option, Some, None}
 use Prim.Native.String.{String as Literal}
-use Rattle.uv_parser.specs.Rows.{Row, AllHold, against, done, domain, listed, unfinished, within}
+use Rattle.uv_parser.specs.Rows.{Row, AllHold, against, done, domain, listed, unfinished, in_steps}
 use Rattle.uv_parser.specs.Rows.References.{https_base, port_base, root_base}
 use Rattle.uv_parser.specs.Laws.StepCounts.{least_step_bound}
 
@@ -13,7 +13,7 @@ goes_on_before_the_bound text = unfinished text (least_step_bound (codes text) -
 -- at the bound it is done, with the root of this scheme, domain and port
 abbrev pub done_at_the_bound : Literal → Literal → Literal → Option ℕ → Literal → Row
 done_at_the_bound text scheme name port serialized =
-    within (least_step_bound (codes text)) (done text (listed scheme (domain name) port ("" ∷ [])) serialized)
+    in_steps (least_step_bound (codes text)) (done text (listed scheme (domain name) port ("" ∷ [])) serialized)
 
 -- an authority alone against a base of class Special: the longest way to the path, and each code point of the authority
 -- is read twice
@@ -22,7 +22,7 @@ step_count_rows =
     against root_base (goes_on_before_the_bound "//h")
     ∷ against root_base (done_at_the_bound "//h" "http" "h" None "http://h/")
     ∷ against root_base (unfinished "//h" 10)
-    ∷ against root_base (within 11 (done "//h" (listed "http" (domain "h") None ("" ∷ [])) "http://h/"))
+    ∷ against root_base (in_steps 11 (done "//h" (listed "http" (domain "h") None ("" ∷ [])) "http://h/"))
     ∷ against https_base (goes_on_before_the_bound "//a.b.example")
     ∷ against https_base (done_at_the_bound "//a.b.example" "https" "a.b.example" None "https://a.b.example/")
     ∷ against port_base (goes_on_before_the_bound "//h:00000000000008080")

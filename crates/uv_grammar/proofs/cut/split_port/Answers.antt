@@ -1,6 +1,6 @@
 -- The sides of the `:` of a port.
 use Rattle.std.proofs.Common.{List, ℕ, Some, None, subst}
-use Rattle.uv_grammar.specs.Sides.{IsPortMark}
+use Rattle.uv_grammar.specs.TextSplits.{IsPortMark}
 use Rattle.uv_grammar.proofs.AuthorityLemmas.{host_sides, host_alone, mark_boundary}
 use Rattle.uv_grammar.proofs.cut.split_port.Goals as goal
 

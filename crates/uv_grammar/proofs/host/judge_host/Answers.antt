@@ -3,7 +3,7 @@ use Rattle.std.proofs.Common.{◌∙◌, sym}
 use Rattle.std.specs.Str.{chars}
 use Rattle.std.proofs.lemmas.Result.{IfOk-weaker}
 use Rattle.uv_model.specs.declared.scheme.Class.TheVariants.{Special, File, Other}
-use Rattle.uv_model.specs.Complaints.Complaint.{HeldHostComplaint, HostComplaint}
+use Rattle.uv_model.specs.Complaints.Complaint.{HostContentComplaint, HostComplaint}
 use Rattle.uv_grammar.specs.HostValues.{FitsHost, FitsSomeHost}
 use Rattle.uv_grammar.specs.Judged.{IsJudged}
 use Rattle.uv_grammar.specs.Seen.{seen_option}
@@ -12,7 +12,8 @@ use Rattle.uv_grammar.proofs.host.judge_host.Goals as goal
 
 pub returns-then-is_empty-clause-answer : goal.returns-then-is_empty-clause-answer
 returns-then-is_empty-clause-answer c =
-    rw (no_chars c.args.host_text.now (sym c.is_empty.ensures ∙ c.if-is_empty.true)) (c.judge_empty_host.ensures c.args.profile)
+    rw (no_chars c.args.host_text.now (sym c.is_empty.ensures ∙ c.if-is_empty.true))
+    (c.judge_empty_host.ensures c.args.profile)
 
 pub judge_special_host-requires : goal.judge_special_host-requires
 judge_special_host-requires c =
@@ -22,10 +23,14 @@ pub returns-in-Special-clause-answer : goal.returns-in-Special-clause-answer
 returns-in-Special-clause-answer c =
     let some = some_chars c.args.host_text.now c.utf8.host_text (sym c.is_empty.ensures ∙ c.if-is_empty.false) in
     rw c.in-Special.is (IfOk-weaker c.judge_special_host.result
-    (IsJudged (FitsSomeHost c.args.profile Special (chars c.args.host_text.now)) (HeldHostComplaint c.args.profile Special (chars c.args.host_text.now)))
-    (IsJudged (FitsHost c.args.profile Special (chars c.args.host_text.now) (seen_option c.args.port_text) (chars c.args.path_text.now))
-    (HostComplaint c.args.profile Special (chars c.args.host_text.now) (seen_option c.args.port_text) (chars c.args.path_text.now)))
-    (held_answer c.args.profile Special (chars c.args.host_text.now) (seen_option c.args.port_text) (chars c.args.path_text.now) some)
+    (IsJudged (FitsSomeHost c.args.profile Special (chars c.args.host_text.now))
+    (HostContentComplaint c.args.profile Special (chars c.args.host_text.now)))
+    (IsJudged (FitsHost c.args.profile Special (chars c.args.host_text.now) (seen_option c.args.port_text)
+    (chars c.args.path_text.now))
+    (HostComplaint c.args.profile Special (chars c.args.host_text.now) (seen_option c.args.port_text)
+    (chars c.args.path_text.now)))
+    (held_answer c.args.profile Special (chars c.args.host_text.now) (seen_option c.args.port_text)
+    (chars c.args.path_text.now) some)
     c.judge_special_host.ensures.answer)
 
 pub judge_file_host-requires : goal.judge_file_host-requires
@@ -36,10 +41,14 @@ pub returns-in-File-clause-answer : goal.returns-in-File-clause-answer
 returns-in-File-clause-answer c =
     let some = some_chars c.args.host_text.now c.utf8.host_text (sym c.is_empty.ensures ∙ c.if-is_empty.false) in
     rw c.in-File.is (IfOk-weaker c.judge_file_host.result
-    (IsJudged (FitsSomeHost c.args.profile File (chars c.args.host_text.now)) (HeldHostComplaint c.args.profile File (chars c.args.host_text.now)))
-    (IsJudged (FitsHost c.args.profile File (chars c.args.host_text.now) (seen_option c.args.port_text) (chars c.args.path_text.now))
-    (HostComplaint c.args.profile File (chars c.args.host_text.now) (seen_option c.args.port_text) (chars c.args.path_text.now)))
-    (held_answer c.args.profile File (chars c.args.host_text.now) (seen_option c.args.port_text) (chars c.args.path_text.now) some)
+    (IsJudged (FitsSomeHost c.args.profile File (chars c.args.host_text.now))
+    (HostContentComplaint c.args.profile File (chars c.args.host_text.now)))
+    (IsJudged (FitsHost c.args.profile File (chars c.args.host_text.now) (seen_option c.args.port_text)
+    (chars c.args.path_text.now))
+    (HostComplaint c.args.profile File (chars c.args.host_text.now) (seen_option c.args.port_text)
+    (chars c.args.path_text.now)))
+    (held_answer c.args.profile File (chars c.args.host_text.now) (seen_option c.args.port_text)
+    (chars c.args.path_text.now) some)
     c.judge_file_host.ensures.answer)
 
 pub judge_opaque_host-requires : goal.judge_opaque_host-requires
@@ -50,7 +59,8 @@ pub returns-in-Other-clause-answer : goal.returns-in-Other-clause-answer
 returns-in-Other-clause-answer c =
     let some = some_chars c.args.host_text.now c.utf8.host_text (sym c.is_empty.ensures ∙ c.if-is_empty.false) in
     rw c.in-Other.is
-    (held_answer c.args.profile Other (chars c.args.host_text.now) (seen_option c.args.port_text) (chars c.args.path_text.now) some
+    (held_answer c.args.profile Other (chars c.args.host_text.now) (seen_option c.args.port_text)
+    (chars c.args.path_text.now) some
     c.judge_opaque_host.result c.judge_opaque_host.ensures)
 
 pub returns-in-Special-clause-memory : goal.returns-in-Special-clause-memory

@@ -6,7 +6,7 @@ ghost use Rattle.std.specs.Str.{chars};
 ghost use Rattle.uv_model.specs.Complaints.Complaint.{starts_with_number_sign};
 ghost use Rattle.uv_model.specs.Cut.{starts_with_two_slashes};
 ghost use Rattle.uv_model.specs.Hosts.OpaqueHost.{starts_with_bracket};
-ghost use Rattle.uv_model.specs.Path.{starts_with_drive, starts_with_slash};
+ghost use Rattle.uv_model.specs.Path.{starts_with_drive_segment, starts_with_slash};
 ghost use Rattle.uv_model.specs.Scheme.{is_scheme, is_scheme_code_point};
 
 use uv_model::is_drive_letter;
@@ -45,13 +45,13 @@ fn two_slashes_first(bytes: &[u8]) -> bool
 
 /// Whether the text begins with `/`, a Windows drive letter and `/`.
 pub(crate) fn has_drive(text: &str) -> bool
-    ensures { result ≡ starts_with_drive (chars text.now) }
+    ensures { result ≡ starts_with_drive_segment (chars text.now) }
 {
     drive_first(text.as_bytes())
 }
 
 fn drive_first(bytes: &[u8]) -> bool
-    ensures { result ≡ starts_with_drive bytes.now }
+    ensures { result ≡ starts_with_drive_segment bytes.now }
 {
     match bytes {
         [first, letter, mark, next, ..] => {

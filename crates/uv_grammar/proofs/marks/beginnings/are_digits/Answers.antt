@@ -1,6 +1,6 @@
 -- The test of the bytes is that of the code points.
 use Rattle.uv_grammar.proofs.TestLemmas.{digits-chars}
-use Rattle.uv_grammar.proofs.beginnings.are_digits.Goals as goal
+use Rattle.uv_grammar.proofs.marks.beginnings.are_digits.Goals as goal
 
 pub returns : goal.returns
 returns c = let same = digits-chars c.args.text.now c.utf8.text in cc

@@ -1,6 +1,6 @@
 -- The test of the bytes is that of the code points.
 use Rattle.uv_grammar.proofs.TestLemmas.{starts_with_slash-chars}
-use Rattle.uv_grammar.proofs.beginnings.has_slash.Goals as goal
+use Rattle.uv_grammar.proofs.marks.beginnings.has_slash.Goals as goal
 
 pub returns : goal.returns
 returns c = let same = starts_with_slash-chars c.args.text.now c.utf8.text in cc

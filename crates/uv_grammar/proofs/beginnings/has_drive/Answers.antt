@@ -1,6 +1,0 @@
--- The test of the bytes is that of the code points.
-use Rattle.uv_grammar.proofs.TestLemmas.{starts_with_drive-chars}
-use Rattle.uv_grammar.proofs.beginnings.has_drive.Goals as goal
-
-pub returns : goal.returns
-returns c = let same = starts_with_drive-chars c.args.text.now c.utf8.text in cc

@@ -1,0 +1,6 @@
+-- The test of the bytes is that of the code points.
+use Rattle.uv_grammar.proofs.TestLemmas.{starts_with_drive_segment-chars}
+use Rattle.uv_grammar.proofs.marks.beginnings.has_drive.Goals as goal
+
+pub returns : goal.returns
+returns c = let same = starts_with_drive_segment-chars c.args.text.now c.utf8.text in cc
