@@ -76,8 +76,8 @@ host_text_some profile (c ∷ rest) HostIpv6 h = omega arith
 host_text_some profile text _ h = absurd h
 
 -- a fault of what a host holds stands within its text
-held_host_within : (profile : Profile) (kind : Class) (text : List ℕ) (place : ℕ) (rule : Rule)
-    → HostContentComplaint profile kind text place rule
+held_host_within : (profile : Profile) (class : Class) (text : List ℕ) (place : ℕ) (rule : Rule)
+    → HostContentComplaint profile class text place rule
     → place < length text
 held_host_within profile Special text place rule (h, at) =
     (let some = host_text_some profile text rule h in omega arith)
@@ -85,14 +85,14 @@ held_host_within profile File text place rule (h, at) = (let some = host_text_so
 held_host_within profile Other text place rule h = opaque_complaint_within text place rule h
 
 -- a fault of a host stands within its text, or is that of a missing host
-host_complaint_ends : (profile : Profile) (kind : Class) (text : List ℕ) (port_text : Option (List ℕ))
+host_complaint_ends : (profile : Profile) (class : Class) (text : List ℕ) (port_text : Option (List ℕ))
     (path_text : List ℕ) (place : ℕ)
     (rule : Rule)
-    → HostComplaint profile kind text port_text path_text place rule
+    → HostComplaint profile class text port_text path_text place rule
     → (place < length text) ⊎ ((place ≡ 0) × (rule_number rule ≤ 4))
-host_complaint_ends profile kind text port_text path_text place HostMissing h = inr (h.1, omega arith)
-host_complaint_ends profile kind text port_text path_text place rule h =
-    inl (held_host_within profile kind text place rule h)
+host_complaint_ends profile class text port_text path_text place HostMissing h = inr (h.1, omega arith)
+host_complaint_ends profile class text port_text path_text place rule h =
+    inl (held_host_within profile class text place rule h)
 
 -- a fault of a port stands within its text, by rule 9 or 10
 port_complaint_bounds : (text : List ℕ) (place : ℕ) (rule : Rule) → PortComplaint text place rule
@@ -122,7 +122,7 @@ path_start_bounds : (setting : Setting) (cut : Cut) (place : ℕ) (rule : Rule)
 path_start_bounds setting cut place FirstSegmentEmpty (empty, at) =
     let starts = empty_first_starts setting.profile cut.path_text empty in
     (subst (λ (b : Bool). place ≤ (if b then 1 else 0)) (sym starts) (omega arith), omega arith, omega arith)
-path_start_bounds setting cut place DriveAfterHost (kind, host, drive, at) = (omega arith, omega arith, omega arith)
+path_start_bounds setting cut place DriveAfterHost (class, host, drive, at) = (omega arith, omega arith, omega arith)
 path_start_bounds setting cut place _ h = absurd h
 
 -- a text that begins with `/` has no fault of units there

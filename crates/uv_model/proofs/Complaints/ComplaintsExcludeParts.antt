@@ -62,9 +62,9 @@ slashed_start : (segments : List (List ℕ)) (text : List ℕ) → IsPathSlashed
 slashed_start segments text is = rw is.slashed refl
 
 -- what fits the class has no complaint of the host
-authority_host_faultless : (kind : Class) (setting : Setting) (text : List ℕ) (parts : Parts)
-    → FitsAuthority kind setting text parts
-    → (place : ℕ) (rule : Rule) → HostComplaint setting.profile kind text parts.port_text parts.path_text place rule → ⊥
+authority_host_faultless : (class : Class) (setting : Setting) (text : List ℕ) (parts : Parts)
+    → FitsAuthority class setting text parts
+    → (place : ℕ) (rule : Rule) → HostComplaint setting.profile class text parts.port_text parts.path_text place rule → ⊥
 authority_host_faultless Special setting text parts is =
     special_host_faultless setting.profile text parts.port_text parts.path_text
     (host_not_empty setting.profile text is.value is.host)
@@ -90,8 +90,8 @@ authority_host_faultless Other setting text parts (inr (nothing, valued, no_port
     other_host_faultless setting.profile text parts.port_text parts.path_text (λ same. no_port) none
 
 -- the port is a valid one, if there is any
-authority_port : (kind : Class) (setting : Setting) (text : List ℕ) (parts : Parts)
-    → FitsAuthority kind setting text parts
+authority_port : (class : Class) (setting : Setting) (text : List ℕ) (parts : Parts)
+    → FitsAuthority class setting text parts
     → MayBePortText parts.port_text
 authority_port Special setting text parts is = is.port_text
 authority_port File setting text parts is = rw is.0 tt
@@ -99,8 +99,8 @@ authority_port Other setting text parts (inl (host, port), given, path) = port
 authority_port Other setting text parts (inr (nothing, valued, no_port), given, path) = rw no_port tt
 
 -- the path is a valid one
-authority_path : (kind : Class) (setting : Setting) (text : List ℕ) (parts : Parts)
-    → FitsAuthority kind setting text parts
+authority_path : (class : Class) (setting : Setting) (text : List ℕ) (parts : Parts)
+    → FitsAuthority class setting text parts
     → MayBePathBehind setting.profile parts.segments parts.path_text
 authority_path Special setting text parts is = is.path
 authority_path File setting text parts (no_port, absent, inl (value, host, valued, path, drive)) = path
@@ -108,13 +108,13 @@ authority_path File setting text parts (no_port, absent, inr (nothing, valued, p
 authority_path Other setting text parts is = is.2
 
 -- a path with a drive letter stands behind no host
-authority_drive : (kind : Class) (setting : Setting) (text : List ℕ) (parts : Parts)
-    → FitsAuthority kind setting text parts
-    → kind ≡ File → text ≢ [] → starts_with_drive_segment parts.path_text ≡ false
-authority_drive Special setting text parts is kind some = absurd cc
-authority_drive File setting text parts (no_port, absent, inl (value, host, valued, path, drive)) kind some = drive
-authority_drive File setting text parts (no_port, absent, inr (nothing, valued, path)) kind some = absurd (some nothing)
-authority_drive Other setting text parts is kind some = absurd cc
+authority_drive : (class : Class) (setting : Setting) (text : List ℕ) (parts : Parts)
+    → FitsAuthority class setting text parts
+    → class ≡ File → text ≢ [] → starts_with_drive_segment parts.path_text ≡ false
+authority_drive Special setting text parts is class some = absurd cc
+authority_drive File setting text parts (no_port, absent, inl (value, host, valued, path, drive)) class some = drive
+authority_drive File setting text parts (no_port, absent, inr (nothing, valued, path)) class some = absurd (some nothing)
+authority_drive Other setting text parts is class some = absurd cc
 
 -- ---- paths
 
@@ -204,9 +204,9 @@ path_start_behind : (setting : Setting) (parts : Parts) (host_text : Option (Lis
 path_start_behind setting parts None is place rule h = is
 path_start_behind setting parts (Some text) is place FirstSegmentEmpty (empty, at) =
     behind_start setting.profile parts.segments parts.path_text (authority_path_fits setting parts (Some text) is) empty
-path_start_behind setting parts (Some text) is place DriveAfterHost (kind, some, drive, at) =
+path_start_behind setting parts (Some text) is place DriveAfterHost (class, some, drive, at) =
     false≢true
-    (sym (authority_drive setting.class setting text parts is kind some) ∙ drive)
+    (sym (authority_drive setting.class setting text parts is class some) ∙ drive)
 path_start_behind setting parts (Some text) is place _ h = h
 
 -- without an authority
@@ -216,10 +216,10 @@ path_start_alone : (setting : Setting) (cut : Cut) → cut.host_text ≡ None
     → (place : ℕ) (rule : Rule) → PathStartComplaint setting cut place rule → ⊥
 path_start_alone setting cut none start bare place FirstSegmentEmpty (empty, at) =
     one_slash_start setting.profile cut.path_text start empty
-path_start_alone setting cut none start bare place DriveAfterHost (kind, some, drive, at) =
+path_start_alone setting cut none start bare place DriveAfterHost (class, some, drive, at) =
     let host : HasHost setting.base cut.scheme None =
     subst (λ (o : Option (List ℕ)). HasHost setting.base cut.scheme o) none some in
-    false≢true (sym (bare kind host) ∙ drive)
+    false≢true (sym (bare class host) ∙ drive)
 path_start_alone setting cut none start bare place _ h = h
 
 -- what is judged has no complaint
@@ -255,15 +255,15 @@ faultless_without setting parts none units start bare = record {
 -- a class that isn't File
 other_no_drive : (setting : Setting) (parts : Parts) → setting.class ≡ Other
     → setting.class ≡ File → HasHost setting.base parts.scheme None → starts_with_drive_segment parts.path_text ≡ false
-other_no_drive setting parts other kind host = absurd cc
+other_no_drive setting parts other class host = absurd cc
 
 -- a path-absolute reference
 reference_drive : (base : Option Url) (scheme : Option (List ℕ)) (path : List ℕ) → scheme ≡ None → FitsDrive base path
     → class_in base scheme ≡ File → HasHost base scheme None → starts_with_drive_segment path ≡ false
-reference_drive None None path none is kind host = absurd host
-reference_drive None (Some scheme) path none is kind host = absurd host
-reference_drive (Some url) None path none is kind host = is kind host
-reference_drive (Some url) (Some scheme) path none is kind host = absurd host
+reference_drive None None path none is class host = absurd host
+reference_drive None (Some scheme) path none is class host = absurd host
+reference_drive (Some url) None path none is class host = is class host
+reference_drive (Some url) (Some scheme) path none is class host = absurd host
 
 -- in each form
 pub faultless_form : (profile : Profile) (base : Option Url) (form : Form) (parts : Parts)
@@ -289,11 +289,11 @@ faultless_form profile base PathAbsolute parts (none, path, drive) scheme =
 faultless_form profile base PathRelative parts (none, path, some, free) scheme =
     faultless_without (setting_of profile base parts.scheme) parts none
     (relative_units parts.segments parts.path_text path)
-    (without_slash_without_two parts.path_text path.start) (λ kind host. slash_before_drive parts.path_text path.start)
+    (without_slash_without_two parts.path_text path.start) (λ class host. slash_before_drive parts.path_text path.start)
 faultless_form profile base NoPath parts (none, nothing, empty) scheme =
     faultless_without (setting_of profile base parts.scheme) parts none (rw nothing IsUnits-nil)
     (ap starts_with_two_slashes nothing)
-    (λ kind host. ap starts_with_drive_segment nothing)
+    (λ class host. ap starts_with_drive_segment nothing)
 
 -- ---- the start
 
@@ -346,19 +346,19 @@ class_with_scheme base (Some scheme) some = refl
 slashes_needed : (setting : Setting) (form : Form) (parts : Parts) → FitsForm setting form parts
     → FitsScheme (has_scheme form) parts.scheme → IsSome parts.scheme → setting.class ≢ Other
     → parts.host_text ≡ None → ⊥
-slashes_needed setting SchemeAuthority parts is scheme some kind none =
+slashes_needed setting SchemeAuthority parts is scheme some class none =
     subst (λ (o : Option (List ℕ)). FitsHostText setting parts o) none is
-slashes_needed setting SchemePath parts (alone, other, path) scheme some kind none =
-    kind other
-slashes_needed setting SchemeOpaque parts (alone, other, path, empty) scheme some kind none =
-    kind other
-slashes_needed setting Authority parts is scheme some kind none =
+slashes_needed setting SchemePath parts (alone, other, path) scheme some class none =
+    class other
+slashes_needed setting SchemeOpaque parts (alone, other, path, empty) scheme some class none =
+    class other
+slashes_needed setting Authority parts is scheme some class none =
     false≢true (subst (λ (o : Option (List ℕ)). IsSome o) scheme some)
-slashes_needed setting PathAbsolute parts is scheme some kind none =
+slashes_needed setting PathAbsolute parts is scheme some class none =
     false≢true (subst (λ (o : Option (List ℕ)). IsSome o) scheme some)
-slashes_needed setting PathRelative parts is scheme some kind none =
+slashes_needed setting PathRelative parts is scheme some class none =
     false≢true (subst (λ (o : Option (List ℕ)). IsSome o) scheme some)
-slashes_needed setting NoPath parts is scheme some kind none =
+slashes_needed setting NoPath parts is scheme some class none =
     false≢true (subst (λ (o : Option (List ℕ)). IsSome o) scheme some)
 
 -- a valid text violates no rule of the start
@@ -370,8 +370,8 @@ start_faultless profile base text parts valid place NoScheme (none, no_base, at)
     base_or_scheme base parts valid.against no_base none
 start_faultless profile base text parts valid place OpaqueBase (none, opaque, more, at) =
     false≢true (sym more ∙ opaque_or_fragment profile base text parts valid valid.against none opaque)
-start_faultless profile base text parts valid place TwoSlashes ((some, kind, none), at) =
-    slashes_needed (setting_of profile base parts.scheme) parts.form parts valid.form valid.scheme some kind none
+start_faultless profile base text parts valid place TwoSlashes ((some, class, none), at) =
+    slashes_needed (setting_of profile base parts.scheme) parts.form parts valid.form valid.scheme some class none
 start_faultless profile base text parts valid place _ h = h
 
 -- ---- the whole text

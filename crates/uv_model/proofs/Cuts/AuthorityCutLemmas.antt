@@ -116,9 +116,9 @@ ends_at_port : (host_text : List ℕ) (port_text : Option (List ℕ)) → EndsFr
 ends_at_port host_text port_text e = record { none_before = e.none_before; ends = e.ends }
 
 -- the host by the class, of an authority that is written
-host_cut-written : (kind : Class) (host_text : List ℕ) (port_text : Option (List ℕ))
-    → IsHostCut kind host_text port_text
-    → host_cut kind (host_text ++ written_behind colon port_text) ≡ host_text
+host_cut-written : (class : Class) (host_text : List ℕ) (port_text : Option (List ℕ))
+    → IsHostCut class host_text port_text
+    → host_cut class (host_text ++ written_behind colon port_text) ≡ host_text
 host_cut-written File host_text port_text is = rw is (append-nil host_text)
 host_cut-written Special host_text port_text is =
     host_before-written false host_text port_text (ends_from_start host_text port_text is)
@@ -126,9 +126,9 @@ host_cut-written Other host_text port_text is =
     host_before-written false host_text port_text (ends_from_start host_text port_text is)
 
 -- the port by the class
-port_cut-written : (kind : Class) (host_text : List ℕ) (port_text : Option (List ℕ))
-    → IsHostCut kind host_text port_text
-    → port_cut kind (host_text ++ written_behind colon port_text) ≡ port_text
+port_cut-written : (class : Class) (host_text : List ℕ) (port_text : Option (List ℕ))
+    → IsHostCut class host_text port_text
+    → port_cut class (host_text ++ written_behind colon port_text) ≡ port_text
 port_cut-written File host_text port_text is = sym is
 port_cut-written Special host_text port_text is =
     port_behind-written false host_text port_text (ends_from_start host_text port_text is)
@@ -136,15 +136,15 @@ port_cut-written Other host_text port_text is =
     port_behind-written false host_text port_text (ends_from_start host_text port_text is)
 
 -- the computed host and port are a cut
-pub host_cut-is : (kind : Class) (authority : List ℕ)
-    → IsHostCut kind (host_cut kind authority) (port_cut kind authority)
+pub host_cut-is : (class : Class) (authority : List ℕ)
+    → IsHostCut class (host_cut class authority) (port_cut class authority)
 host_cut-is File authority = refl
 host_cut-is Special authority = ends_at_port _ _ (host_before-ends false authority)
 host_cut-is Other authority = ends_at_port _ _ (host_before-ends false authority)
 
 -- and the authority is written with them
-pub written_host_cut : (kind : Class) (authority : List ℕ)
-    → authority ≡ host_cut kind authority ++ written_behind colon (port_cut kind authority)
+pub written_host_cut : (class : Class) (authority : List ℕ)
+    → authority ≡ host_cut class authority ++ written_behind colon (port_cut class authority)
 written_host_cut File authority = sym (append-nil authority)
 written_host_cut Special authority = written_host false authority
 written_host_cut Other authority = written_host false authority
@@ -161,44 +161,44 @@ authority-written authority (c ∷ rest) none path =
     rw first (text_before-mark slash authority rest none)
 
 -- an authority that is written after `//`, before a path
-record IsWritten (kind : Class) (host_text : List ℕ) (port_text : Option (List ℕ)) (path : List ℕ) : Type 0 where
+record IsWritten (class : Class) (host_text : List ℕ) (port_text : Option (List ℕ)) (path : List ℕ) : Type 0 where
   authority :
       authority_in (written_authority (Some host_text) port_text ++ path) ≡ host_text ++ written_behind colon port_text
-  is : IsHostCut kind host_text port_text
+  is : IsHostCut class host_text port_text
 
-is_written : (kind : Class) (host_text : List ℕ) (port_text : Option (List ℕ)) (path : List ℕ)
-    → IsAuthorityCut kind (Some host_text) port_text path → IsWritten kind host_text port_text path
-is_written kind host_text port_text path is = record {
+is_written : (class : Class) (host_text : List ℕ) (port_text : Option (List ℕ)) (path : List ℕ)
+    → IsAuthorityCut class (Some host_text) port_text path → IsWritten class host_text port_text path
+is_written class host_text port_text path is = record {
   authority = authority-written (host_text ++ written_behind colon port_text) path is.0 is.1;
   is = is.2;
 }
 
 -- the host text of what is written with an authority or without
-pub host_text_cut-written : (kind : Class) (host_text port_text : Option (List ℕ)) (path : List ℕ)
-    → IsAuthorityCut kind host_text port_text path
-    → host_text_cut kind (written_authority host_text port_text ++ path) ≡ host_text
-host_text_cut-written kind None port_text path is = rw is.1 refl
-host_text_cut-written kind (Some host_text) port_text path is =
-    let w = is_written kind host_text port_text path is in
-    ap Some (ap (host_cut kind) w.authority ∙ host_cut-written kind host_text port_text w.is)
+pub host_text_cut-written : (class : Class) (host_text port_text : Option (List ℕ)) (path : List ℕ)
+    → IsAuthorityCut class host_text port_text path
+    → host_text_cut class (written_authority host_text port_text ++ path) ≡ host_text
+host_text_cut-written class None port_text path is = rw is.1 refl
+host_text_cut-written class (Some host_text) port_text path is =
+    let w = is_written class host_text port_text path is in
+    ap Some (ap (host_cut class) w.authority ∙ host_cut-written class host_text port_text w.is)
 
 -- the port text
-pub port_text_cut-written : (kind : Class) (host_text port_text : Option (List ℕ)) (path : List ℕ)
-    → IsAuthorityCut kind host_text port_text path
-    → port_text_cut kind (written_authority host_text port_text ++ path) ≡ port_text
-port_text_cut-written kind None port_text path is = rw (is.1, is.0) refl
-port_text_cut-written kind (Some host_text) port_text path is =
-    let w = is_written kind host_text port_text path is in
-    ap (port_cut kind) w.authority ∙ port_cut-written kind host_text port_text w.is
+pub port_text_cut-written : (class : Class) (host_text port_text : Option (List ℕ)) (path : List ℕ)
+    → IsAuthorityCut class host_text port_text path
+    → port_text_cut class (written_authority host_text port_text ++ path) ≡ port_text
+port_text_cut-written class None port_text path is = rw (is.1, is.0) refl
+port_text_cut-written class (Some host_text) port_text path is =
+    let w = is_written class host_text port_text path is in
+    ap (port_cut class) w.authority ∙ port_cut-written class host_text port_text w.is
 
 -- the path text
-pub path_text_cut-written : (kind : Class) (host_text port_text : Option (List ℕ)) (path : List ℕ)
-    → IsAuthorityCut kind host_text port_text path
+pub path_text_cut-written : (class : Class) (host_text port_text : Option (List ℕ)) (path : List ℕ)
+    → IsAuthorityCut class host_text port_text path
     → path_text_cut (written_authority host_text port_text ++ path) ≡ path
-path_text_cut-written kind None port_text path is = rw is.1 refl
-path_text_cut-written kind (Some host_text) port_text path is =
+path_text_cut-written class None port_text path is = rw is.1 refl
+path_text_cut-written class (Some host_text) port_text path is =
     let authority = host_text ++ written_behind colon port_text in
-    let w = is_written kind host_text port_text path is in
+    let w = is_written class host_text port_text path is in
     ap (λ a. drop (length a) (authority ++ path)) w.authority ∙ drop-append_seam authority path
 
 -- ---- the computed authority
@@ -236,30 +236,30 @@ two_slashes_before (c ∷ d ∷ rest) starts =
     cc
 
 -- the authority, written with its host and port, and the path behind it
-pub written_middle_cut : (kind : Class) (middle : List ℕ)
-    → middle ≡ written_authority (host_text_cut kind middle) (port_text_cut kind middle) ++ path_text_cut middle
-written_middle_cut kind middle = elim (cases_Bool (starts_with_two_slashes middle)) [
+pub written_middle_cut : (class : Class) (middle : List ℕ)
+    → middle ≡ written_authority (host_text_cut class middle) (port_text_cut class middle) ++ path_text_cut middle
+written_middle_cut class middle = elim (cases_Bool (starts_with_two_slashes middle)) [
   | inl starts ↦
       let authority = authority_in middle in
       let path = drop (length authority) (drop 2 middle) in
       let two : middle ≡ slash ∷ slash ∷ drop 2 middle = two_slashes_before middle starts in
       let behind : drop 2 middle ≡ authority ++ path = (left_behind (drop 2 middle)).joined in
-      let host : authority ≡ host_cut kind authority ++ written_behind colon (port_cut kind authority)
-      = written_host_cut kind authority in
+      let host : authority ≡ host_cut class authority ++ written_behind colon (port_cut class authority)
+      = written_host_cut class authority in
       rw starts (two ∙ ap (λ xs. slash ∷ slash ∷ xs) (behind ∙ ap (λ xs. xs ++ path) host))
   | inr other ↦ rw other refl
 ]
 
 -- the computed authority is a cut
-pub authority_cut-is : (kind : Class) (middle : List ℕ)
-    → IsAuthorityCut kind (host_text_cut kind middle) (port_text_cut kind middle) (path_text_cut middle)
-authority_cut-is kind middle = elim (cases_Bool (starts_with_two_slashes middle)) [
+pub authority_cut-is : (class : Class) (middle : List ℕ)
+    → IsAuthorityCut class (host_text_cut class middle) (port_text_cut class middle) (path_text_cut middle)
+authority_cut-is class middle = elim (cases_Bool (starts_with_two_slashes middle)) [
   | inl starts ↦
       let authority = authority_in middle in
-      let host : authority ≡ host_cut kind authority ++ written_behind colon (port_cut kind authority)
-      = written_host_cut kind authority in
-      let none : is_without slash (host_cut kind authority ++ written_behind colon (port_cut kind authority)) ≡ true
+      let host : authority ≡ host_cut class authority ++ written_behind colon (port_cut class authority)
+      = written_host_cut class authority in
+      let none : is_without slash (host_cut class authority ++ written_behind colon (port_cut class authority)) ≡ true
       = subst (λ (xs : List ℕ). is_without slash xs ≡ true) host (is_without-before slash (drop 2 middle)) in
-      rw starts (none, (left_behind (drop 2 middle)).start, host_cut-is kind authority)
+      rw starts (none, (left_behind (drop 2 middle)).start, host_cut-is class authority)
   | inr other ↦ rw other (refl, other)
 ]

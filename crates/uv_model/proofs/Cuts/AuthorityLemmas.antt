@@ -44,33 +44,33 @@ port_given-same scheme other (Some (digit ∷ rest)) e = rw e refl
 -- ---- paths
 
 -- a path with a segment
-pub IsUrlPath-some : (kind : Class) (host : Option Host) (list : List (List ℕ)) → HasSegment list → AreUrlSegments list
-    → IsUrlPath kind host (Segments list)
-IsUrlPath-some kind host [] has are = absurd cc
-IsUrlPath-some kind host (segment ∷ rest) has are = are
+pub IsUrlPath-some : (class : Class) (host : Option Host) (list : List (List ℕ)) → HasSegment list → AreUrlSegments list
+    → IsUrlPath class host (Segments list)
+IsUrlPath-some class host [] has are = absurd cc
+IsUrlPath-some class host (segment ∷ rest) has are = are
 
 -- the path that a walk over a segment or more leaves
-pub IsUrlPath-walk : (kind : Class) (host : Option Host) (start : List (List ℕ)) (segment : List ℕ)
+pub IsUrlPath-walk : (class : Class) (host : Option Host) (start : List (List ℕ)) (segment : List ℕ)
     → (rest : List (List ℕ))
     → AreUrlSegments start → AreSegments (segment ∷ rest)
-    → IsUrlPath kind host (Segments (walk kind start (segment ∷ rest)))
-IsUrlPath-walk kind host start segment rest are each =
-    IsUrlPath-some kind host (walk kind start (segment ∷ rest)) (HasSegment-walk kind start segment rest)
-    (AreUrlSegments-walk kind start (segment ∷ rest) are each)
+    → IsUrlPath class host (Segments (walk class start (segment ∷ rest)))
+IsUrlPath-walk class host start segment rest are each =
+    IsUrlPath-some class host (walk class start (segment ∷ rest)) (HasSegment-walk class start segment rest)
+    (AreUrlSegments-walk class start (segment ∷ rest) are each)
 
 -- the path that a walk over joined segments leaves
-pub IsUrlPath-joined : (kind : Class) (host : Option Host) (start segments : List (List ℕ)) (text : List ℕ)
-    → AreUrlSegments start → JoinsTo segments text → IsUrlPath kind host (Segments (walk kind start segments))
-IsUrlPath-joined kind host start [] text are joins = absurd (nothing joins.first joins.others joins.some)
+pub IsUrlPath-joined : (class : Class) (host : Option Host) (start segments : List (List ℕ)) (text : List ℕ)
+    → AreUrlSegments start → JoinsTo segments text → IsUrlPath class host (Segments (walk class start segments))
+IsUrlPath-joined class host start [] text are joins = absurd (nothing joins.first joins.others joins.some)
   where
     nothing : (first : List ℕ) (others : List (List ℕ)) → [] ≡ first ∷ others → ⊥
     nothing first others e = cc
-IsUrlPath-joined kind host start (segment ∷ rest) text are joins =
-    IsUrlPath-walk kind host start segment rest are joins.each
+IsUrlPath-joined class host start (segment ∷ rest) text are joins =
+    IsUrlPath-walk class host start segment rest are joins.each
 
 -- the path behind a host
-pub IsUrlPath-authority : (kind : Class) (host : Host) (segments : List (List ℕ)) → AreSegments segments
-    → IsUrlPath kind (Some host) (Segments (authority_path kind segments))
+pub IsUrlPath-authority : (class : Class) (host : Host) (segments : List (List ℕ)) → AreSegments segments
+    → IsUrlPath class (Some host) (Segments (authority_path class segments))
 IsUrlPath-authority Special host [] each = (IsUrlSegment-nil, tt)
 IsUrlPath-authority File host [] each = (IsUrlSegment-nil, tt)
 IsUrlPath-authority Other host [] each = refl
@@ -116,10 +116,10 @@ IsUrlHost-file profile text Empty is = tt
 -- ---- authorities
 
 -- what an authority gives a record
-pub record IsAuthority (profile : Profile) (kind : Class) (scheme : List ℕ) (parts : Parts) : Type 0 where
+pub record IsAuthority (profile : Profile) (class : Class) (scheme : List ℕ) (parts : Parts) : Type 0 where
   pub value : Host
   pub valued : authority_host parts ≡ Some value
-  pub host : IsUrlHost profile kind (Some value)
+  pub host : IsUrlHost profile class (Some value)
   pub port : IsUrlPort scheme (Some value) parts.port
   pub each : AreSegments parts.segments
 
@@ -136,9 +136,9 @@ authority_host-opaque parts text e spelled = rw (e, spelled) refl
 IsAuthority-special : (setting : Setting) (scheme text : List ℕ) (parts : Parts) → scheme_class scheme ≡ Special
     → setting.default_port ≡ default_port scheme → FitsAuthority Special setting text parts
     → IsAuthority setting.profile Special scheme parts
-IsAuthority-special setting scheme text parts kind default fits =
+IsAuthority-special setting scheme text parts class default fits =
     let takes : takes_port (scheme_class scheme) (Some fits.value) ≡ true
-    = rw kind (takes_port-special setting.profile text fits.value fits.host)
+    = rw class (takes_port-special setting.profile text fits.value fits.host)
     in
     record {
       value = fits.value;
@@ -206,7 +206,7 @@ IsOtherValue-text text parts None e spelled is =
 IsAuthority-other : (setting : Setting) (scheme text : List ℕ) (parts : Parts) → scheme_class scheme ≡ Other
     → setting.default_port ≡ default_port scheme → parts.host_text ≡ Some text
     → FitsAuthority Other setting text parts → IsAuthority setting.profile Other scheme parts
-IsAuthority-other setting scheme text parts kind default spelled (host, given, path) =
+IsAuthority-other setting scheme text parts class default spelled (host, given, path) =
     let each =
     AreSegments-maybe parts.segments parts.path_text
     (slashed_or_none setting.profile parts.segments parts.path_text path) in
@@ -214,7 +214,7 @@ IsAuthority-other setting scheme text parts kind default spelled (host, given, p
     = given ∙ ap (λ (d : Option ℕ). port_given d parts.port_text) default in
     elim host [
       | inl named ↦ let other = IsOtherValue-text text parts parts.host refl spelled named.0 in
-          let takes : takes_port (scheme_class scheme) (Some other.value) ≡ true = rw kind other.takes in
+          let takes : takes_port (scheme_class scheme) (Some other.value) ≡ true = rw class other.takes in
           record {
             value = other.value;
             valued = other.valued;
@@ -233,9 +233,9 @@ IsAuthority-other setting scheme text parts kind default spelled (host, given, p
     ]
 
 -- what stands behind `//` makes a well-formed record
-pub IsAuthority-fits : (kind : Class) (setting : Setting) (scheme text : List ℕ) (parts : Parts)
-    → scheme_class scheme ≡ kind → setting.default_port ≡ default_port scheme → parts.host_text ≡ Some text
-    → FitsAuthority kind setting text parts → IsAuthority setting.profile kind scheme parts
+pub IsAuthority-fits : (class : Class) (setting : Setting) (scheme text : List ℕ) (parts : Parts)
+    → scheme_class scheme ≡ class → setting.default_port ≡ default_port scheme → parts.host_text ≡ Some text
+    → FitsAuthority class setting text parts → IsAuthority setting.profile class scheme parts
 IsAuthority-fits Special setting scheme text parts same default spelled fits =
     IsAuthority-special setting scheme text parts same default fits
 IsAuthority-fits File setting scheme text parts same default spelled fits =

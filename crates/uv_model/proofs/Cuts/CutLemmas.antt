@@ -15,12 +15,12 @@ start_cut-written : (base : Option Url) (cut : Cut) → IsSchemeCut cut.scheme (
     → IsAuthorityCut (class_in base cut.scheme) cut.host_text cut.port_text cut.path_text
     → start_cut base (written_start cut) cut.query cut.fragment ≡ cut
 start_cut-written base cut scheme authority =
-    let kind = class_in base cut.scheme in
+    let class = class_in base cut.scheme in
     let same_scheme = scheme_cut-written cut.scheme (written_middle cut) scheme in
     let same_middle = behind_scheme-written cut.scheme (written_middle cut) scheme in
-    let same_host = host_text_cut-written kind cut.host_text cut.port_text cut.path_text authority in
-    let same_port = port_text_cut-written kind cut.host_text cut.port_text cut.path_text authority in
-    let same_path = path_text_cut-written kind cut.host_text cut.port_text cut.path_text authority in
+    let same_host = host_text_cut-written class cut.host_text cut.port_text cut.path_text authority in
+    let same_port = port_text_cut-written class cut.host_text cut.port_text cut.path_text authority in
+    let same_path = path_text_cut-written class cut.host_text cut.port_text cut.path_text authority in
     rw (same_scheme, same_middle, same_host, same_port, same_path) refl
 
 -- a cut of the text is the computed one

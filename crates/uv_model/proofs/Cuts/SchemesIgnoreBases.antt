@@ -75,13 +75,13 @@ same_cut base other text starts =
     let front = text_before number_sign text in
     let start = text_before question_mark front in
     let some = cut_with_scheme base text starts in
-    ap (λ (kind : Class). with_class kind start) (same_class base other (scheme_cut start) some)
+    ap (λ (class : Class). with_class class start) (same_class base other (scheme_cut start) some)
   where
     with_class : Class → List ℕ → Cut
-    with_class kind start = record {
+    with_class class start = record {
       scheme = scheme_cut start;
-      host_text = host_text_cut kind (behind_scheme start);
-      port_text = port_text_cut kind (behind_scheme start);
+      host_text = host_text_cut class (behind_scheme start);
+      port_text = port_text_cut class (behind_scheme start);
       path_text = path_text_cut (behind_scheme start);
       query = text_behind question_mark (text_before number_sign text);
       fragment = text_behind number_sign text;
@@ -135,10 +135,10 @@ same_form : (profile : Profile) (base other : Option Url) (form : Form) (parts :
     → FitsForm (setting_of profile other parts.scheme) form parts
 same_form profile base other SchemeAuthority parts some scheme is =
     same_host_text profile base other parts parts.scheme parts.host_text some is
-same_form profile base other SchemePath parts some scheme (none, kind, path) =
-    (none, same_other base other parts some kind, path)
-same_form profile base other SchemeOpaque parts some scheme (none, kind, path, empty) =
-    (none, same_other base other parts some kind, path, empty)
+same_form profile base other SchemePath parts some scheme (none, class, path) =
+    (none, same_other base other parts some class, path)
+same_form profile base other SchemeOpaque parts some scheme (none, class, path, empty) =
+    (none, same_other base other parts some class, path, empty)
 same_form profile base other Authority parts some scheme is = absurd (no_scheme parts.scheme some scheme)
 same_form profile base other PathAbsolute parts some scheme is = absurd (no_scheme parts.scheme some scheme)
 same_form profile base other PathRelative parts some scheme is = absurd (no_scheme parts.scheme some scheme)
@@ -168,8 +168,8 @@ same_start : (profile : Profile) (base other : Option Url) (text : List ℕ) (cu
     → StartComplaint (setting_of profile other cut.scheme) text cut place rule
 same_start profile base other text cut some place NoScheme h = absurd (no_scheme cut.scheme some h.0)
 same_start profile base other text cut some place OpaqueBase h = absurd (no_scheme cut.scheme some h.0)
-same_start profile base other text cut some place TwoSlashes ((has, kind, none), at) =
-    ((has, (λ is. kind (same_class base other cut.scheme some ∙ is)), none), at)
+same_start profile base other text cut some place TwoSlashes ((has, class, none), at) =
+    ((has, (λ is. class (same_class base other cut.scheme some ∙ is)), none), at)
 same_start profile base other text cut some place _ h = absurd h
 
 same_host : (profile : Profile) (base other : Option Url) (cut : Cut) → IsSome cut.scheme → (place : ℕ) (rule : Rule)
@@ -201,9 +201,9 @@ same_path_start : (profile : Profile) (base other : Option Url) (cut : Cut) → 
     → PathStartComplaint (setting_of profile base cut.scheme) cut place rule
     → PathStartComplaint (setting_of profile other cut.scheme) cut place rule
 same_path_start profile base other cut some place FirstSegmentEmpty h = h
-same_path_start profile base other cut some place DriveAfterHost (kind, host, drive, at) =
+same_path_start profile base other cut some place DriveAfterHost (class, host, drive, at) =
     let same = same_class other base cut.scheme some in
-    (same ∙ kind, same_has_host base other cut.scheme cut.host_text some host, drive, at)
+    (same ∙ class, same_has_host base other cut.scheme cut.host_text some host, drive, at)
 same_path_start profile base other cut some place _ h = absurd h
 
 same_judged : (profile : Profile) (base other : Option Url) (cut : Cut) → IsSome cut.scheme → (place : ℕ) (rule : Rule)

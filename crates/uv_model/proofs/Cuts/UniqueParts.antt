@@ -139,10 +139,10 @@ form_found setting NoPath parts named (none, nothing, empty) = rw (named, none.h
 -- ---- what a form makes of the texts
 
 -- the host, the port and the segments are those of the texts
-record AreDenoted (setting : Setting) (kind : Class) (form : Form) (host_text : Option (List ℕ)) (parts : Parts)
+record AreDenoted (setting : Setting) (class : Class) (form : Form) (host_text : Option (List ℕ)) (parts : Parts)
     : Type 0
   where
-    host : HasHost setting.profile kind host_text parts.host
+    host : HasHost setting.profile class host_text parts.host
     port : parts.port ≡ port_given setting.default_port parts.port_text
     segments : parts.segments ≡ segments_of form parts.path_text
 
@@ -152,14 +152,14 @@ pub no_port : (default : Option ℕ) (port_text : Option (List ℕ)) (port : Opt
 no_port default port_text port absent none = rw (absent, none) refl
 
 -- no host where there is no host text
-no_host : (profile : Profile) (kind : Class) (host_text : Option (List ℕ)) (host : Option Host) → host_text ≡ None
+no_host : (profile : Profile) (class : Class) (host_text : Option (List ℕ)) (host : Option Host) → host_text ≡ None
     → host ≡ None
-    → HasHost profile kind host_text host
-no_host profile kind host_text host absent none = rw absent none
+    → HasHost profile class host_text host
+no_host profile class host_text host absent none = rw absent none
 
 -- what follows `//` by the class
-denoted_by_class : (kind : Class) (setting : Setting) (host_text : List ℕ) (parts : Parts)
-    → FitsAuthority kind setting host_text parts → AreDenoted setting kind Authority (Some host_text) parts
+denoted_by_class : (class : Class) (setting : Setting) (host_text : List ℕ) (parts : Parts)
+    → FitsAuthority class setting host_text parts → AreDenoted setting class Authority (Some host_text) parts
 denoted_by_class Special setting host_text parts is = record {
   host = (is.value, is.host, is.valued);
   port = is.port;
@@ -201,10 +201,10 @@ denoted_with_host setting parts (Some host_text) is =
     denoted_by_class setting.class setting host_text parts is
 
 -- without an authority
-denoted_alone : (setting : Setting) (kind : Class) (form : Form) (parts : Parts) → HasNoAuthority parts
-    → parts.segments ≡ segments_of form parts.path_text → AreDenoted setting kind form parts.host_text parts
-denoted_alone setting kind form parts none segments = record {
-  host = no_host setting.profile kind parts.host_text parts.host none.host_text none.host;
+denoted_alone : (setting : Setting) (class : Class) (form : Form) (parts : Parts) → HasNoAuthority parts
+    → parts.segments ≡ segments_of form parts.path_text → AreDenoted setting class form parts.host_text parts
+denoted_alone setting class form parts none segments = record {
+  host = no_host setting.profile class parts.host_text parts.host none.host_text none.host;
   port = no_port setting.default_port parts.port_text parts.port none.port_text none.port;
   segments = segments;
 }

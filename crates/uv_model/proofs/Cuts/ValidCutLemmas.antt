@@ -108,10 +108,10 @@ without_slash_without_two (c ∷ d ∷ rest) none = rw none refl
 -- ---- what stands between the scheme and the query
 
 -- what holds of these texts of a valid text, whichever its form
-pub record MiddleFits (kind : Class) (host_text port_text : Option (List ℕ)) (path_text : List ℕ) : Type 0 where
+pub record MiddleFits (class : Class) (host_text port_text : Option (List ℕ)) (path_text : List ℕ) : Type 0 where
   pub no_question_mark : is_without question_mark (written_authority host_text port_text ++ path_text) ≡ true
   pub no_number_sign : is_without number_sign (written_authority host_text port_text ++ path_text) ≡ true
-  pub authority : IsAuthorityCut kind host_text port_text path_text
+  pub authority : IsAuthorityCut class host_text port_text path_text
 
 -- the text of a path behind an authority
 pub record IsPathEnd (text : List ℕ) : Type 0 where
@@ -141,11 +141,11 @@ authority_without mark host_text port_text path_text differs host port path =
     is_without-more mark slash (slash ∷ text) differs (is_without-more mark slash text differs all)
 
 -- with an authority
-pub authority_fits : (kind : Class) (host_text : List ℕ) (port_text : Option (List ℕ)) (path_text : List ℕ)
+pub authority_fits : (class : Class) (host_text : List ℕ) (port_text : Option (List ℕ)) (path_text : List ℕ)
     → IsHostWord host_text
-    → MayBePortText port_text → IsHostCut kind host_text port_text → IsPathEnd path_text
-    → MiddleFits kind (Some host_text) port_text path_text
-authority_fits kind host_text port_text path_text host port ends path =
+    → MayBePortText port_text → IsHostCut class host_text port_text → IsPathEnd path_text
+    → MiddleFits class (Some host_text) port_text path_text
+authority_fits class host_text port_text path_text host port ends path =
     record {
       no_question_mark =
           authority_without question_mark host_text port_text path_text refl host.no_question_mark
@@ -165,9 +165,9 @@ no_port : (port_text : Option (List ℕ)) → port_text ≡ None → MayBePortTe
 no_port port_text none = rw none tt
 
 -- what follows `//` by the class
-fits_by_class : (kind : Class) (setting : Setting) (host_text : List ℕ) (parts : Parts)
-    → FitsAuthority kind setting host_text parts
-    → MiddleFits kind (Some host_text) parts.port_text parts.path_text
+fits_by_class : (class : Class) (setting : Setting) (host_text : List ℕ) (parts : Parts)
+    → FitsAuthority class setting host_text parts
+    → MiddleFits class (Some host_text) parts.port_text parts.path_text
 fits_by_class Special setting host_text parts is =
     let word = word_of_host setting.profile host_text is.value is.host in
     authority_fits Special host_text parts.port_text parts.path_text word is.port_text (word.ends parts.port_text)
@@ -204,10 +204,10 @@ fits_with_host setting parts (Some host_text) is =
     fits_by_class setting.class setting host_text parts is
 
 -- without an authority
-fits_without : (kind : Class) (host_text port_text : Option (List ℕ)) (path_text : List ℕ) → host_text ≡ None
+fits_without : (class : Class) (host_text port_text : Option (List ℕ)) (path_text : List ℕ) → host_text ≡ None
     → port_text ≡ None
-    → IsPathWord path_text → starts_with_two_slashes path_text ≡ false → MiddleFits kind host_text port_text path_text
-fits_without kind host_text port_text path_text no_host no_port path start =
+    → IsPathWord path_text → starts_with_two_slashes path_text ≡ false → MiddleFits class host_text port_text path_text
+fits_without class host_text port_text path_text no_host no_port path start =
     rw (no_host, no_port) (record {
       no_question_mark = path.no_question_mark;
       no_number_sign = path.no_number_sign;
@@ -215,10 +215,10 @@ fits_without kind host_text port_text path_text no_host no_port path start =
     })
 
 -- without an authority, by the facts of the form
-fits_alone : (kind : Class) (parts : Parts) → HasNoAuthority parts → IsPathWord parts.path_text
-    → starts_with_two_slashes parts.path_text ≡ false → MiddleFits kind parts.host_text parts.port_text parts.path_text
-fits_alone kind parts none path start =
-    fits_without kind parts.host_text parts.port_text parts.path_text none.host_text none.port_text path start
+fits_alone : (class : Class) (parts : Parts) → HasNoAuthority parts → IsPathWord parts.path_text
+    → starts_with_two_slashes parts.path_text ≡ false → MiddleFits class parts.host_text parts.port_text parts.path_text
+fits_alone class parts none path start =
+    fits_without class parts.host_text parts.port_text parts.path_text none.host_text none.port_text path start
 
 -- the empty path
 empty_path_word : (text : List ℕ) → text ≡ [] → IsPathWord text

@@ -100,16 +100,16 @@ opaque_not_empty text (Some Empty) is nothing = is
 
 -- the host of a host text by the class
 abbrev pub HasHost : Profile → Class → Option (List ℕ) → Option Host → Type 0
-HasHost profile kind None host = host ≡ None
+HasHost profile class None host = host ≡ None
 HasHost profile Special (Some text) host = (value : Host) × IsHostText profile text value × (host ≡ Some value)
 HasHost profile File (Some text) host =
     ((value : Host) × IsFileHostText profile text value × (host ≡ Some value)) ⊎ ((text ≡ []) × (host ≡ Some Empty))
 HasHost profile Other (Some text) host = IsOpaqueHostText text host ⊎ ((text ≡ []) × (host ≡ Some Empty))
 
 -- a host text has one host
-pub one_host : (profile : Profile) (kind : Class) (text : Option (List ℕ)) (host other : Option Host)
-    → HasHost profile kind text host → HasHost profile kind text other → host ≡ other
-one_host profile kind None host other is is' = is ∙ sym is'
+pub one_host : (profile : Profile) (class : Class) (text : Option (List ℕ)) (host other : Option Host)
+    → HasHost profile class text host → HasHost profile class text other → host ≡ other
+one_host profile class None host other is is' = is ∙ sym is'
 one_host profile Special (Some text) host other (a, is, e) (b, is', e') =
     e ∙ ap Some (host_unique profile text a b is is') ∙ sym e'
 one_host profile File (Some text) host other (inl (a, is, e)) (inl (b, is', e')) =

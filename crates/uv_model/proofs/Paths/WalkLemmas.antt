@@ -23,8 +23,8 @@ AreUrlSegments-without_last (segment ∷ []) are = tt
 AreUrlSegments-without_last (segment ∷ next ∷ rest) are = (are.0, AreUrlSegments-without_last (next ∷ rest) are.1)
 
 -- a shortened path
-pub AreUrlSegments-shorten : (kind : Class) (path : List (List ℕ)) → AreUrlSegments path
-    → AreUrlSegments (shorten kind path)
+pub AreUrlSegments-shorten : (class : Class) (path : List (List ℕ)) → AreUrlSegments path
+    → AreUrlSegments (shorten class path)
 AreUrlSegments-shorten Special path are = AreUrlSegments-without_last path are
 AreUrlSegments-shorten Other path are = AreUrlSegments-without_last path are
 AreUrlSegments-shorten File path are =
@@ -41,11 +41,11 @@ AreUrlSegments-dots : (last : Bool) (path : List (List ℕ)) → AreUrlSegments 
 AreUrlSegments-dots true path are = AreUrlSegments-append path ([] ∷ []) are (IsUrlSegment-nil, tt)
 AreUrlSegments-dots false path are = are
 
-AreUrlSegments-walk_one : (kind : Class) (last : Bool) (path : List (List ℕ)) (segment : List ℕ) → AreUrlSegments path
-    → IsSegment segment → AreUrlSegments (walk_one kind last path segment)
-AreUrlSegments-walk_one kind last path segment are is =
+AreUrlSegments-walk_one : (class : Class) (last : Bool) (path : List (List ℕ)) (segment : List ℕ) → AreUrlSegments path
+    → IsSegment segment → AreUrlSegments (walk_one class last path segment)
+AreUrlSegments-walk_one class last path segment are is =
     elim (cases_Bool (is_double_dot segment)) [
-      | inl double ↦ rw double (AreUrlSegments-dots last (shorten kind path) (AreUrlSegments-shorten kind path are))
+      | inl double ↦ rw double (AreUrlSegments-dots last (shorten class path) (AreUrlSegments-shorten class path are))
       | inr other ↦ elim (cases_Bool (is_single_dot segment)) [
         | inl single ↦ rw (other, single) (AreUrlSegments-dots last path are)
         | inr plain ↦ rw (other, plain)
@@ -57,14 +57,14 @@ AreUrlSegments-walk_one kind last path segment are is =
 -- ---- walks
 
 -- what a walk over segments of a text leaves are segments of a record
-pub AreUrlSegments-walk : (kind : Class) (path segments : List (List ℕ)) → AreUrlSegments path → AreSegments segments
-    → AreUrlSegments (walk kind path segments)
+pub AreUrlSegments-walk : (class : Class) (path segments : List (List ℕ)) → AreUrlSegments path → AreSegments segments
+    → AreUrlSegments (walk class path segments)
 unfolding walk
-AreUrlSegments-walk kind path [] are each = are
-AreUrlSegments-walk kind path (segment ∷ []) are each = AreUrlSegments-walk_one kind true path segment are each.0
-AreUrlSegments-walk kind path (segment ∷ next ∷ rest) are each =
-    AreUrlSegments-walk kind (walk_one kind false path segment) (next ∷ rest)
-    (AreUrlSegments-walk_one kind false path segment are each.0) each.1
+AreUrlSegments-walk class path [] are each = are
+AreUrlSegments-walk class path (segment ∷ []) are each = AreUrlSegments-walk_one class true path segment are each.0
+AreUrlSegments-walk class path (segment ∷ next ∷ rest) are each =
+    AreUrlSegments-walk class (walk_one class false path segment) (next ∷ rest)
+    (AreUrlSegments-walk_one class false path segment are each.0) each.1
 
 -- the list has a segment
 pub record HasSegment (list : List (List ℕ)) : Type 0 where
@@ -78,11 +78,11 @@ HasSegment-append [] segment = record { first = segment; others = []; some = ref
 HasSegment-append (first ∷ others) segment = record { first = first; others = others ++ (segment ∷ []); some = refl }
 
 -- the last segment of a walk leaves one
-HasSegment-walk_one : (kind : Class) (path : List (List ℕ)) (segment : List ℕ)
-    → HasSegment (walk_one kind true path segment)
-HasSegment-walk_one kind path segment =
+HasSegment-walk_one : (class : Class) (path : List (List ℕ)) (segment : List ℕ)
+    → HasSegment (walk_one class true path segment)
+HasSegment-walk_one class path segment =
     elim (cases_Bool (is_double_dot segment)) [
-      | inl double ↦ rw double (HasSegment-append (shorten kind path) [])
+      | inl double ↦ rw double (HasSegment-append (shorten class path) [])
       | inr other ↦ elim (cases_Bool (is_single_dot segment)) [
         | inl single ↦ rw (other, single) (HasSegment-append path [])
         | inr plain ↦ rw (other, plain) (HasSegment-append path (encoded false segment))
@@ -90,8 +90,8 @@ HasSegment-walk_one kind path segment =
     ]
 
 -- a walk over one segment or more leaves one
-pub HasSegment-walk : (kind : Class) (path : List (List ℕ)) (segment : List ℕ) (rest : List (List ℕ))
-    → HasSegment (walk kind path (segment ∷ rest))
+pub HasSegment-walk : (class : Class) (path : List (List ℕ)) (segment : List ℕ) (rest : List (List ℕ))
+    → HasSegment (walk class path (segment ∷ rest))
 unfolding walk
-HasSegment-walk kind path segment [] = HasSegment-walk_one kind path segment
-HasSegment-walk kind path segment (next ∷ rest) = HasSegment-walk kind (walk_one kind false path segment) next rest
+HasSegment-walk class path segment [] = HasSegment-walk_one class path segment
+HasSegment-walk class path segment (next ∷ rest) = HasSegment-walk class (walk_one class false path segment) next rest

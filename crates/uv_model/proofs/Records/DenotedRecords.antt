@@ -44,51 +44,51 @@ IsUrlScheme-own base (Some scheme) fits = IsUrlScheme-lowercase scheme fits
 IsUrlScheme-own base None fits = absurd fits
 
 -- the query where the text has one, or the form another than the empty path
-pub IsUrlQuery-own : (base : Option Url) (kind : Class) (form : Form) (query : Option (List ℕ)) → MayBeUnits query
-    → (form ≡ NoPath → query ≡ None → IsUrlQuery kind (denoted_query base kind NoPath None))
-    → IsUrlQuery kind (denoted_query base kind form query)
-IsUrlQuery-own base kind form (Some query) units kept = IsUrlQuery-encoded kind query units
-IsUrlQuery-own base kind NoPath None units kept = kept refl refl
-IsUrlQuery-own base kind _ None units kept = tt
+pub IsUrlQuery-own : (base : Option Url) (class : Class) (form : Form) (query : Option (List ℕ)) → MayBeUnits query
+    → (form ≡ NoPath → query ≡ None → IsUrlQuery class (denoted_query base class NoPath None))
+    → IsUrlQuery class (denoted_query base class form query)
+IsUrlQuery-own base class form (Some query) units kept = IsUrlQuery-encoded class query units
+IsUrlQuery-own base class NoPath None units kept = kept refl refl
+IsUrlQuery-own base class _ None units kept = tt
 
 -- the URL that the parts denote, read as of this form
 abbrev pub denote_as : Option Url → Form → Parts → Url
 denote_as base form parts =
-    let kind = scheme_class (scheme_in base parts) in
+    let class = scheme_class (scheme_in base parts) in
     record {
       scheme = denoted_scheme base parts.scheme;
       host = denoted_host base form parts;
       port = denoted_port base form parts;
-      path = denoted_path base kind form parts;
-      query = denoted_query base kind form parts.query;
+      path = denoted_path base class form parts;
+      query = denoted_query base class form parts.query;
       fragment = option_map (encoded false) parts.fragment;
     }
 
 -- what the forms differ in: all but the fragment, by the class that the text is read by
-pub record AreDenoted (profile : Profile) (base : Option Url) (kind : Class) (form : Form) (parts : Parts) : Type 0
+pub record AreDenoted (profile : Profile) (base : Option Url) (class : Class) (form : Form) (parts : Parts) : Type 0
   where
     pub scheme : IsUrlScheme (denoted_scheme base parts.scheme)
-    pub host : IsUrlHost profile kind (denoted_host base form parts)
+    pub host : IsUrlHost profile class (denoted_host base form parts)
     pub port :
         IsUrlPort (denoted_scheme base parts.scheme) (denoted_host base form parts) (denoted_port base form parts)
-    pub path : IsUrlPath kind (denoted_host base form parts) (denoted_path base kind form parts)
-    pub query : IsUrlQuery kind (denoted_query base kind form parts.query)
+    pub path : IsUrlPath class (denoted_host base form parts) (denoted_path base class form parts)
+    pub query : IsUrlQuery class (denoted_query base class form parts.query)
 
 -- the whole record
 pub WellFormed-denoted : (profile : Profile) (base : Option Url) (form : Form) (parts : Parts)
     → MayBeUnits parts.fragment → AreDenoted profile base (scheme_class (scheme_in base parts)) form parts
     → WellFormed profile (denote_as base form parts)
 WellFormed-denoted profile base form parts units are =
-    let kind = scheme_class (scheme_in base parts) in
+    let class = scheme_class (scheme_in base parts) in
     let same = class-denoted base parts parts.scheme refl in
     let host : Option Host = denoted_host base form parts in
-    let path : UrlPath = denoted_path base kind form parts in
+    let path : UrlPath = denoted_path base class form parts in
     record {
       scheme = are.scheme;
       host = subst (λ (k : Class). IsUrlHost profile k host) same are.host;
       port = are.port;
       path = subst (λ (k : Class). IsUrlPath k host path) same are.path;
-      query = subst (λ (k : Class). IsUrlQuery k (denoted_query base kind form parts.query)) same are.query;
+      query = subst (λ (k : Class). IsUrlQuery k (denoted_query base class form parts.query)) same are.query;
       fragment = IsUrlFragment-encoded parts.fragment units;
     }
 
@@ -145,31 +145,31 @@ IsAuthority-has profile base parts (Some text) fits =
     (scheme_in base parts) text (record parts { host_text = Some text }) refl refl refl fits
 
 -- the host, the port and the path of a form with an authority
-record AreOfAuthority (profile : Profile) (base : Option Url) (kind : Class) (parts : Parts) : Type 0 where
-  host : IsUrlHost profile kind (authority_host parts)
+record AreOfAuthority (profile : Profile) (base : Option Url) (class : Class) (parts : Parts) : Type 0 where
+  host : IsUrlHost profile class (authority_host parts)
   port : IsUrlPort (denoted_scheme base parts.scheme) (authority_host parts) parts.port
-  path : IsUrlPath kind (authority_host parts) (Segments (authority_path kind parts.segments))
+  path : IsUrlPath class (authority_host parts) (Segments (authority_path class parts.segments))
 
 AreOfAuthority-has : (profile : Profile) (base : Option Url) (parts : Parts)
     → HasAuthority (setting_of profile base parts.scheme) parts
     → AreOfAuthority profile base (scheme_class (scheme_in base parts)) parts
 AreOfAuthority-has profile base parts has =
-    let kind : Class = scheme_class (scheme_in base parts) in
-    let is : IsAuthority profile kind (scheme_in base parts) parts =
+    let class : Class = scheme_class (scheme_in base parts) in
+    let is : IsAuthority profile class (scheme_in base parts) parts =
     IsAuthority-has profile base parts parts.host_text has in
-    let class = sym (class-denoted base parts parts.scheme refl) in
+    let same = sym (class-denoted base parts parts.scheme refl) in
     let default = default_port-denoted base parts parts.scheme refl in
     let scheme : List ℕ = denoted_scheme base parts.scheme in
     let port : IsUrlPort scheme (Some is.value) parts.port
-    = IsUrlPort-same scheme (scheme_in base parts) (Some is.value) parts.port class default is.port
+    = IsUrlPort-same scheme (scheme_in base parts) (Some is.value) parts.port same default is.port
     in
     record {
-      host = subst (λ (h : Option Host). IsUrlHost profile kind h) (sym is.valued) is.host;
+      host = subst (λ (h : Option Host). IsUrlHost profile class h) (sym is.valued) is.host;
       port =
           subst (λ (h : Option Host). IsUrlPort (denoted_scheme base parts.scheme) h parts.port) (sym is.valued) port;
       path =
-          subst (λ (h : Option Host). IsUrlPath kind h (Segments (authority_path kind parts.segments))) (sym is.valued)
-          (IsUrlPath-authority kind is.value parts.segments is.each);
+          subst (λ (h : Option Host). IsUrlPath class h (Segments (authority_path class parts.segments))) (sym is.valued)
+          (IsUrlPath-authority class is.value parts.segments is.each);
     }
 
 AreDenoted-scheme_authority : (profile : Profile) (base : Option Url) (parts : Parts) → FitsScheme true parts.scheme
@@ -192,13 +192,13 @@ AreDenoted-path : (profile : Profile) (base : Option Url) (parts : Parts) → Fi
     → FitsForm (setting_of profile base parts.scheme) SchemePath parts
     → MayBeUnits parts.query → AreDenoted profile base (scheme_class (scheme_in base parts)) SchemePath parts
 AreDenoted-path profile base parts scheme fits query =
-    let kind : Class = scheme_class (scheme_in base parts) in
+    let class : Class = scheme_class (scheme_in base parts) in
     record {
       scheme = IsUrlScheme-own base parts.scheme scheme;
       host = rw fits.1 tt;
       port = tt;
-      path = IsUrlPath-joined kind None [] parts.segments fits.2.behind tt fits.2.relative.joins;
-      query = IsUrlQuery-own base kind SchemePath parts.query query (λ e. absurd cc);
+      path = IsUrlPath-joined class None [] parts.segments fits.2.behind tt fits.2.relative.joins;
+      query = IsUrlQuery-own base class SchemePath parts.query query (λ e. absurd cc);
     }
 
 -- ---- references
@@ -231,15 +231,15 @@ AreDenoted-reference_authority profile url parts base none fits query =
     }
 
 -- the segments of a base's path
-AreUrlSegments-base : (kind : Class) (host : Option Host) (path : UrlPath) → IsUrlPath kind host path
+AreUrlSegments-base : (class : Class) (host : Option Host) (path : UrlPath) → IsUrlPath class host path
     → AreUrlSegments (listed_segments path)
-AreUrlSegments-base kind host (Opaque text) is = tt
-AreUrlSegments-base kind host (Segments []) is = tt
-AreUrlSegments-base kind host (Segments (segment ∷ rest)) is = is
+AreUrlSegments-base class host (Opaque text) is = tt
+AreUrlSegments-base class host (Segments []) is = tt
+AreUrlSegments-base class host (Segments (segment ∷ rest)) is = is
 
 -- the drive letter that is kept of them
-AreUrlSegments-kept_drive : (kind : Class) (path segments : List (List ℕ)) → AreUrlSegments path
-    → AreUrlSegments (kept_drive kind path segments)
+AreUrlSegments-kept_drive : (class : Class) (path segments : List (List ℕ)) → AreUrlSegments path
+    → AreUrlSegments (kept_drive class path segments)
 AreUrlSegments-kept_drive Special path segments are = tt
 AreUrlSegments-kept_drive Other path segments are = tt
 AreUrlSegments-kept_drive File [] segments are = tt
@@ -257,7 +257,7 @@ pub AreDenoted-reference : (profile : Profile) (url : Url) (form : Form) (parts 
     → IsUrlPath (scheme_class url.scheme) url.host (denoted_path (Some url) (scheme_class url.scheme) form parts)
     → MayBeUnits parts.query → AreDenoted profile (Some url) (scheme_class (scheme_in (Some url) parts)) form parts
 AreDenoted-reference profile url form parts base none host port path query =
-    subst (λ (kind : Class). AreDenoted profile (Some url) kind form parts) (sym (class-reference url parts none))
+    subst (λ (class : Class). AreDenoted profile (Some url) class form parts) (sym (class-reference url parts none))
     (record {
       scheme = rw none base.scheme;
       host = rw host base.host;
@@ -272,12 +272,12 @@ pub IsUrlPath-absolute : (profile : Profile) (url : Url) (parts : Parts) → Wel
     → IsUrlPath (scheme_class url.scheme) url.host
     (denoted_path (Some url) (scheme_class url.scheme) PathAbsolute parts)
 IsUrlPath-absolute profile url parts base path =
-    let kind : Class = scheme_class url.scheme in
+    let class : Class = scheme_class url.scheme in
     let segments : List (List ℕ) = listed_segments url.path in
-    let start : AreUrlSegments (kept_drive kind segments parts.segments)
-    = AreUrlSegments-kept_drive kind segments parts.segments (AreUrlSegments-base kind url.host url.path base.path)
+    let start : AreUrlSegments (kept_drive class segments parts.segments)
+    = AreUrlSegments-kept_drive class segments parts.segments (AreUrlSegments-base class url.host url.path base.path)
     in
-    IsUrlPath-joined kind url.host (kept_drive kind segments parts.segments) parts.segments path.behind start
+    IsUrlPath-joined class url.host (kept_drive class segments parts.segments) parts.segments path.behind start
     path.relative.joins
 
 -- the path of a path-relative reference
@@ -286,12 +286,12 @@ IsUrlPath-relative : (profile : Profile) (url : Url) (parts : Parts) → WellFor
     → IsUrlPath (scheme_class url.scheme) url.host
     (denoted_path (Some url) (scheme_class url.scheme) PathRelative parts)
 IsUrlPath-relative profile url parts base path =
-    let kind : Class = scheme_class url.scheme in
+    let class : Class = scheme_class url.scheme in
     let segments : List (List ℕ) = listed_segments url.path in
-    let start : AreUrlSegments (shorten kind segments)
-    = AreUrlSegments-shorten kind segments (AreUrlSegments-base kind url.host url.path base.path)
+    let start : AreUrlSegments (shorten class segments)
+    = AreUrlSegments-shorten class segments (AreUrlSegments-base class url.host url.path base.path)
     in
-    IsUrlPath-joined kind url.host (shorten kind segments) parts.segments parts.path_text start path.joins
+    IsUrlPath-joined class url.host (shorten class segments) parts.segments parts.path_text start path.joins
 
 -- ---- all forms
 

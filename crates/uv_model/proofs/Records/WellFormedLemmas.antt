@@ -28,8 +28,8 @@ IsAsciiUnits-encoded quote text units =
     record { units = IsUnits-encoded quote text units; ascii = is_ascii-encoded quote text }
 
 -- the query of a valid text, encoded by the class
-pub IsUrlQuery-encoded : (kind : Class) (query : List ℕ) → IsUnits query
-    → IsUrlQuery kind (Some (encoded (quotes kind) query))
+pub IsUrlQuery-encoded : (class : Class) (query : List ℕ) → IsUnits query
+    → IsUrlQuery class (Some (encoded (quotes class) query))
 IsUrlQuery-encoded Special query units = (IsAsciiUnits-encoded true query units, no_apostrophe-encoded query)
 IsUrlQuery-encoded File query units = (IsAsciiUnits-encoded true query units, no_apostrophe-encoded query)
 IsUrlQuery-encoded Other query units = IsAsciiUnits-encoded false query units
