@@ -180,7 +180,8 @@ port_cut _ authority = port_behind false authority
 
 -- the host text of what stands between the scheme and the query, where that has an authority
 abbrev pub host_text_cut : Class → List ℕ → Option (List ℕ)
-host_text_cut class middle = if starts_with_two_slashes middle then Some (host_cut class (authority_in middle)) else None
+host_text_cut class middle =
+    if starts_with_two_slashes middle then Some (host_cut class (authority_in middle)) else None
 
 -- the port text there
 abbrev pub port_text_cut : Class → List ℕ → Option (List ℕ)

@@ -64,7 +64,8 @@ slashed_start segments text is = rw is.slashed refl
 -- what fits the class has no complaint of the host
 authority_host_faultless : (class : Class) (setting : Setting) (text : List ℕ) (parts : Parts)
     → FitsAuthority class setting text parts
-    → (place : ℕ) (rule : Rule) → HostComplaint setting.profile class text parts.port_text parts.path_text place rule → ⊥
+    → (place : ℕ) (rule : Rule) → HostComplaint setting.profile class text parts.port_text parts.path_text place rule
+    → ⊥
 authority_host_faultless Special setting text parts is =
     special_host_faultless setting.profile text parts.port_text parts.path_text
     (host_not_empty setting.profile text is.value is.host)
@@ -113,7 +114,8 @@ authority_drive : (class : Class) (setting : Setting) (text : List ℕ) (parts :
     → class ≡ File → text ≢ [] → starts_with_drive_segment parts.path_text ≡ false
 authority_drive Special setting text parts is class some = absurd cc
 authority_drive File setting text parts (no_port, absent, inl (value, host, valued, path, drive)) class some = drive
-authority_drive File setting text parts (no_port, absent, inr (nothing, valued, path)) class some = absurd (some nothing)
+authority_drive File setting text parts (no_port, absent, inr (nothing, valued, path)) class some =
+    absurd (some nothing)
 authority_drive Other setting text parts is class some = absurd cc
 
 -- ---- paths

@@ -168,7 +168,8 @@ AreOfAuthority-has profile base parts has =
       port =
           subst (λ (h : Option Host). IsUrlPort (denoted_scheme base parts.scheme) h parts.port) (sym is.valued) port;
       path =
-          subst (λ (h : Option Host). IsUrlPath class h (Segments (authority_path class parts.segments))) (sym is.valued)
+          subst (λ (h : Option Host). IsUrlPath class h (Segments (authority_path class parts.segments)))
+          (sym is.valued)
           (IsUrlPath-authority class is.value parts.segments is.each);
     }
 

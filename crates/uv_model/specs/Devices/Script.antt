@@ -52,8 +52,8 @@ PlaysRead (Some piece ∷ answers) room result left =
     (result ≡ Ok (min (length piece) room))
     × (left ≡ behind (drop (min (length piece) room) piece) answers)
 
--- A write of so many bytes has the first answer: a count of bytes to take, as far as there are so many and there is room
--- for them, or a failure. Behind the last answer it fails.
+-- A write of so many bytes has the first answer: a count of bytes to take, as far as there are so many and there is
+-- room for them, or a failure. Behind the last answer it fails.
 abbrev pub PlaysWrite : {E : Type 0} → List (Option ℕ) → ℕ → ℕ → Result ℕ E → List (Option ℕ) → Type 0
 PlaysWrite [] room bytes result left = IsErr result × (left ≡ [])
 PlaysWrite (None ∷ answers) room bytes result left = IsErr result × (left ≡ answers)
