@@ -1,0 +1,144 @@
+#!/usr/bin/env bash
+# Lists of mixed links: the processor time a line of `urlcheck links`, of the second parser alone (the crate
+# bench_second) and of `wc -l`, least of so many rounds with a run of each in turn, the start of each program taken off;
+# and the peak of resident memory of `urlcheck links` on 10,000 lines and on all. It wants that `urlcheck links` costs
+# at most 1.6 times the second parser alone, that a line of the long list costs what one of the short list costs within
+# 10 %, and that its memory is the same on both, within 256 KiB, and below 10 MB. It fails where a program is missing, a
+# figure is empty, an answer isn't the wanted one, or a bound is broken.
+# Usage: bench/links.sh [--seed SEED] [--count COUNT] [--rounds ROUNDS] [--program FILE] [--second FILE]
+set -euo pipefail
+top=$(dirname "$(dirname "$(realpath "$0")")")
+seed=1 count=1000000 short=10000 rounds=5
+program=$top/crates/urlcheck/out/urlcheck second=$top/crates/bench_second/out/bench_second
+while (($# > 1)); do
+    case $1 in
+        --seed) seed=$2 ;;
+        --count) count=$2 ;;
+        --rounds) rounds=$2 ;;
+        --program) program=$2 ;;
+        --second) second=$2 ;;
+        *) echo "unknown word: $1"; exit 2 ;;
+    esac
+    shift 2
+done
+(($# == 0)) || { echo "a word without its value: $1"; exit 2; }
+((count >= 10 * short && rounds > 0)) || { echo "at least $((10 * short)) lines and one round"; exit 2; }
+for file in "$program" "$second"; do
+    [ -x "$file" ] || { echo "$file is no program: build its crate first (rt run)"; exit 2; }
+done
+room=$(mktemp -d)
+trap 'rm -rf "$room"' EXIT
+failed=0
+fail() {
+    echo "FAILED: $*"
+    failed=1
+}
+
+python3 "$top/bench/links.py" "$count" "$seed" >"$room/long"
+head -n $short "$room/long" >"$room/short"
+: >"$room/empty"
+
+# Of the links that bench/links.py makes those are refused that end in one of four texts, and those whose path begins
+# with an empty segment; every other one is ok.
+refused='/(a b|a\|b|%zz|\[x\])$|^[A-Za-z]+://[^/]*//'
+
+# answers LIST : `urlcheck links` and the second parser say of a list what is known of it
+answers() {
+    local lines bad
+    lines=$(grep -c '' "$room/$1")
+    bad=$(grep -cE "$refused" "$room/$1")
+    "$program" links <"$room/$1" >"$room/report" || [ $? = 1 ] || fail "$1: a status that isn't that of a report"
+    [ "$(tail -n 1 "$room/report")" = "links $lines ok $((lines - bad)) bad $bad differs 0" ] \
+        || fail "$1: the counts are: $(tail -n 1 "$room/report")"
+    grep -nE "$refused" "$room/$1" | cut -d: -f1 >"$room/wanted"
+    awk '$2 == "bad" { print $1 }' "$room/report" | cmp -s - "$room/wanted" || fail "$1: other lines are bad"
+    [ "$(grep -c '' "$room/report")" = $((lines + 1)) ] || fail "$1: the report has another number of lines"
+    [ "$("$second" <"$room/$1")" = "$lines lines, $lines parsed" ] || fail "$1: the second parser: $("$second" <"$room/$1")"
+}
+answers short
+answers long
+
+# once NAME LIST : one run
+once() {
+    case $1 in
+        links) "$program" links ;;
+        second) "$second" ;;
+        wc) wc -l ;;
+    esac <"$room/$2" >/dev/null || true
+}
+
+# spent NAME LIST TIMES : the processor time of so many runs, in microseconds
+spent() {
+    local TIMEFORMAT=%U+%S k
+    { time for ((k = 0; k < $3; k++)); do once "$1" "$2"; done; } 2>&1 | awk -F+ 'NF == 2 { print int(($1 + $2) * 1000000) }'
+}
+
+# The least of all rounds: `long` for one run, `short` and `empty` for as many runs as give as many lines.
+declare -A least
+runs=$((count / short))
+for ((round = 0; round < rounds; round++)); do
+    for name in links second wc; do
+        for list in long short empty; do
+            times=$runs
+            if [ $list = long ]; then times=1; fi
+            figure=$(spent $name $list $times)
+            [ -n "$figure" ] || { echo "no figure of $name on the $list list"; exit 1; }
+            key=$name.$list
+            if [ -z "${least[$key]:-}" ] || ((figure < least[$key])); then least[$key]=$figure; fi
+        done
+    done
+done
+
+# cost NAME LIST : the time a line, in nanoseconds
+cost() {
+    local starts=$((least[$1.empty] / runs))
+    if [ "$2" = short ]; then starts=${least[$1.empty]}; fi
+    awk -v t="${least[$1.$2]}" -v s="$starts" -v n="$count" 'BEGIN { printf "%.1f", (t - s) * 1000 / n }'
+}
+
+# peak LIST : the peak of resident memory in KiB, asked when the whole list is reported on and its end isn't yet seen
+peak() {
+    local lines pid tick
+    lines=$(grep -c '' "$room/$1")
+    rm -f "$room/pipe"
+    mkfifo "$room/pipe"
+    "$program" links <"$room/pipe" >"$room/report" &
+    pid=$!
+    exec 7>"$room/pipe"
+    cat "$room/$1" >&7
+    for ((tick = 0; tick < 300; tick++)); do
+        if [ "$(tail -n 1 "$room/report" | cut -d' ' -f1)" = "$lines" ]; then break; fi
+        sleep 0.1
+    done
+    sed -n 's/^VmHWM:[^0-9]*\([0-9]*\) kB$/\1/p' "/proc/$pid/status"
+    exec 7>&-
+    wait $pid || true
+}
+
+links=$(cost links long)
+links_short=$(cost links short)
+alone=$(cost second long)
+lines=$(cost wc long)
+peak_long=$(peak long)
+peak_short=$(peak short)
+for figure in "$links" "$links_short" "$alone" "$lines" "$peak_long" "$peak_short"; do
+    awk -v f="$figure" 'BEGIN { exit !(f > 0) }' || { echo "a figure is empty or zero: '$figure'"; exit 1; }
+done
+ratio() { awk -v a="$1" -v b="$2" 'BEGIN { printf "%.2f", a / b }'; }
+echo "$count links of seed $seed, least of $rounds rounds"
+echo "urlcheck links: $links ns a line; on $short lines $links_short ns, ratio $(ratio "$links" "$links_short")"
+echo "the second parser alone: $alone ns a line"
+echo "wc -l: $lines ns a line"
+echo "urlcheck links to the second parser alone: $(ratio "$links" "$alone")"
+echo "urlcheck links to wc -l: $(ratio "$links" "$lines")"
+echo "peak of resident memory: $peak_short KiB on $short lines, $peak_long KiB on $count"
+
+# holds CONDITION WORDS.. : a bound that the figures keep
+holds() {
+    awk "BEGIN { exit !($1) }" || fail "${*:2}"
+}
+holds "$links <= 1.6 * $alone" "more than 1.6 times the second parser alone"
+holds "$links <= 1.1 * $links_short && $links_short <= 1.1 * $links" "the cost a line changes with the length by more than 10 %"
+holds "$peak_long <= $peak_short + 256 && $peak_short <= $peak_long + 256" "the memory changes with the length"
+holds "$peak_long < 10000 && $peak_short < 10000" "the memory isn't below 10 MB"
+exit $failed
