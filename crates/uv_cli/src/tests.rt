@@ -2,7 +2,9 @@
 
 ghost use Rattle.std.specs.Prelude.{None};
 
+mod devices;
 mod faults;
+mod memory;
 
 use crate::check::{CheckEnd, run_check};
 use crate::fault::CliFault;

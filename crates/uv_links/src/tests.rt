@@ -1,6 +1,8 @@
 //! Reports on lists written out: the format of a link list's lines and counts, and the faults of devices.
 ghost use Rattle.std.specs.Prelude.{◌+◌, ◌<◌, None};
 
+mod devices;
+
 use super::*;
 use std::alloc::Global;
 use std::process::Abort;

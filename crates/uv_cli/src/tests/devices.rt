@@ -1,0 +1,140 @@
+//! Checks over sinks that play a list of answers: each write fails in turn, behind short ones, in both profiles.
+
+use super::*;
+use uv_model::ScriptSink;
+
+// A text, its base, the profile, and what a check writes of it.
+#[derive(Clone, Copy)]
+struct Row<'r> {
+    text: &'r str,
+    base: Option<&'r str>,
+    profile: Profile,
+    output: &'r str,
+}
+
+const LONG_OUTPUT: &str =
+    "valid\nscheme https\nhost domain example.com\nsegment b\nquery x=%27y%27\nfragment %C3%A9\n";
+
+const ROWS: [Row<'static>; 6] = [
+    Row {
+        text: "https://EXAMPLE.com:443/a/../b?x='y'#\u{E9}",
+        base: None,
+        profile: Profile::Standard,
+        output: LONG_OUTPUT,
+    },
+    Row {
+        text: "https://EXAMPLE.com:443/a/../b?x='y'#\u{E9}",
+        base: None,
+        profile: Profile::Wide,
+        output: LONG_OUTPUT,
+    },
+    Row {
+        text: "/D:?q",
+        base: Some("file:///C:/d/f"),
+        profile: Profile::Standard,
+        output: "valid\nscheme file\nhost empty\nsegment D:\nquery q\n",
+    },
+    Row {
+        text: "/D:?q",
+        base: Some("file:///C:/d/f"),
+        profile: Profile::Wide,
+        output: "valid\nscheme file\nhost empty\nsegment D:\nquery q\n",
+    },
+    Row {
+        text: "http://x_y//a",
+        base: None,
+        profile: Profile::Standard,
+        output: "refused 7 host-domain\n",
+    },
+    Row {
+        text: "http://x_y//a",
+        base: None,
+        profile: Profile::Wide,
+        output: "valid\nscheme http\nhost domain x_y\nsegment \nsegment a\n",
+    },
+];
+
+// More writes than a check of the rows makes.
+const MOST_WRITES: usize = 200;
+
+// Whether the writes suffice for the whole output. Where they don't, the one behind them fails, and a beginning of the
+// output is written.
+fn writes_all(
+    rt: &(impl Abort + AllocGlobal),
+    row: &Row<'_>,
+    writes: &[Result<usize, DeviceFault>],
+) -> Result<bool, Fail> {
+    let mut out = ScriptSink::new(rt.alloc(), row.output.len(), writes)?;
+    let answer = run_check(rt.alloc(), row.text, row.base, row.profile, &mut out);
+    if answer.is_ok() {
+        assert_eq!(rt; out.bytes(), row.output.as_bytes());
+        return Ok(true);
+    }
+    assert_eq!(rt; answer, Err(CliFault::Write));
+    assert_eq!(rt; out.failures(), 1);
+    assert!(rt; row.output.as_bytes().starts_with(out.bytes()));
+    assert!(rt; writes.len() <= out.bytes().len());
+    Ok(false)
+}
+
+// Each write behind so many short ones fails in turn, until none does.
+fn fails_each_write(
+    rt: &(impl Abort + AllocGlobal),
+    row: &Row<'_>,
+    length: usize,
+) -> Result<(), Fail> {
+    let mut writes = Vec::new(rt.alloc());
+    for _ in 0..MOST_WRITES {
+        if writes_all(rt, row, &writes)? {
+            return Ok(());
+        }
+        writes.push(Ok(length))?;
+    }
+    Err("no check was whole".into())
+}
+
+#[test]
+fn tells_each_failed_write(rt: HostRuntime) -> Result<(), Fail> {
+    for row in &ROWS {
+        for length in 1..8 {
+            fails_each_write(&rt, row, length)?;
+        }
+    }
+    Ok(())
+}
+
+// A sink that takes nothing, and one whose write fails within the output.
+#[test]
+fn tells_what_a_sink_takes(rt: HostRuntime) -> Result<(), Fail> {
+    let rows: [(&[Result<usize, DeviceFault>], &str); 2] = [
+        (&[Ok(0)], ""),
+        (&[Ok(7), Err(DeviceFault), Ok(9)], "refused"),
+    ];
+    for (writes, front) in rows {
+        let mut out = ScriptSink::new(rt.alloc(), 100, writes)?;
+        let answer = run_check(rt.alloc(), "http://h/a b", None, Profile::Wide, &mut out);
+        assert_eq!(rt; answer, Err(CliFault::Write));
+        assert_eq!(rt; out.bytes(), front.as_bytes());
+    }
+    Ok(())
+}
+
+// Of a refused base nothing is written: a sink that would fail isn't asked.
+#[test]
+fn asks_no_sink_for_a_refused_base(rt: HostRuntime) -> Result<(), Fail> {
+    let mut out = ScriptSink::new(rt.alloc(), 0, &[])?;
+    let answer = run_check(
+        rt.alloc(),
+        "x",
+        Some("http://"),
+        Profile::Standard,
+        &mut out,
+    );
+    let refusal = Refusal {
+        place: 7,
+        rule: Rule::HostMissing,
+    };
+    assert_eq!(rt; answer, Ok(CheckEnd::BaseRefused(refusal)));
+    assert_eq!(rt; out.failures(), 0);
+    Ok(())
+}
