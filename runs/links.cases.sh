@@ -14,8 +14,11 @@ printf 'a\n\nhttp://x_y/\n' >"$room/list"
 against='1 ok http://h/a\n2 ok http://h/\n3 bad 7 host-domain\nlinks 3 ok 2 bad 1 differs 0\n'
 reports 1 "$against" '' --base http://h/
 reports 1 "$against" '' --base=http://h/
+wide='1 ok http://h/a\n2 ok http://h/\n3 ok http://x_y/\nlinks 3 ok 3 bad 0 differs 0\n'
+reports 0 "$wide" '' --wide --base http://h/
+reports 0 "${wide//h\//h_\/}" '' --wide --base http://h_/
+reports 2 '' 'base refused 7 host-domain\n' --base http://h_/
 reports 2 '' 'base refused 7 host-missing\n' --base http://
-reports 2 '' 'words\n' --base
 printf 'a\r\n\377\nb' >"$room/list"
 reports 1 '1 bad 0 no-scheme\n2 bad 0 not-utf8\n3 bad 0 no-scheme\nlinks 3 ok 0 bad 3 differs 0\n' ''
 printf '' >"$room/list"
@@ -78,4 +81,4 @@ awk 'BEGIN {
 ends_with 1 $? '' 'a list of 100,000 lines'
 cmp -s "$room/wanted" "$room/out" || fail "a list of 100,000 lines: $(diff "$room/wanted" "$room/out" | head -3)"
 
-all_cases 15
+all_cases 17

@@ -1,14 +1,66 @@
 # The words of the command line, and the statuses that they give.
-expect 2 '' 'words\n'
-expect 2 '' 'words\n' check
-expect 2 '' 'words\n' check -a
-expect 2 '' 'words\n' check --base
-expect 2 '' 'words\n' check urn:a urn:b
-expect 2 '' 'words\n' check -- urn:a urn:b
-expect 2 '' 'words\n' chek urn:a
-expect 2 '' 'words\n' links x
+
+# refused WHY WORD.. : these words are refused: standard error says why, how the program is used, and at its end `words`
+refused() {
+    local why=$1
+    shift
+    (cd "$room" && "$program" "$@") >"$room/out" 2>"$room/err" </dev/null
+    local ended=$?
+    count=$((count + 1))
+    if [ "$ended" != 2 ]; then fail "$*: status $ended, and not 2"; fi
+    if [ -s "$room/out" ]; then fail "$*: it wrote: $(cat "$room/out")"; fi
+    if ! grep -qF -- "$why" "$room/err" || ! grep -q '^Usage: urlcheck' "$room/err" ||
+        [ "$(tail -n 1 "$room/err")" != words ]; then
+        fail "$*: on standard error: $(cat "$room/err")"
+    fi
+}
+
+# shows LINE WORD.. : these words are answered on standard output alone, with this line among others
+shows() {
+    local line=$1
+    shift
+    (cd "$room" && "$program" "$@") >"$room/out" 2>"$room/err" </dev/null
+    local ended=$?
+    count=$((count + 1))
+    if [ "$ended" != 0 ]; then fail "$*: status $ended, and not 0"; fi
+    if [ -s "$room/err" ]; then fail "$*: on standard error: $(cat "$room/err")"; fi
+    if ! grep -qxF -- "$line" "$room/out"; then fail "$*: it wrote: $(cat "$room/out")"; fi
+}
+
+# Words that are refused, and words that ask for help.
+refused 'requires a subcommand'
+refused "'-x'" -x
+refused '<TEXT>' check
+refused "'-a'" check -a
+expect 2 '' "error: a value is required for '--base <TEXT>' but none was supplied\n\nFor more information, try '--help'.\nwords\n" \
+    check --base
+refused "'urn:b'" check urn:a urn:b
+refused "'urn:b'" check -- urn:a urn:b
+refused "'b'" check -- --base b t
+refused "'chek'" chek urn:a
+refused "'x'" links x
+refused '<FILE>' vectors
 expect 2 '' 'words\n' check $'\xff'
+shows '  2  the words, the base or the vector file are refused' --help
+shows '  2  the words, the base or the vector file are refused' -h
+shows "  urlcheck check 'http://h/a b'" help
+shows '  urlcheck check --base http://h/a/b ../x' check --help
+shows '  urlcheck links --base http://h/ < links.txt' help links
+shows '  urlcheck vectors vectors/standard.json' help vectors
+shows 'urlcheck 0.1.0' --version
+
+# The text and the base are taken as they are given.
+expect 1 'refused 0 no-scheme\n' '' check ''
+expect 0 'valid\nscheme http\nhost domain h\nsegment \n' '' check --base http://h ''
+expect 2 '' 'base refused 0 no-scheme\n' check --base b ''
+expect 2 '' 'base refused 0 no-scheme\n' check --base= a
+expect 1 'refused 0 no-scheme\n' '' check ' a '
+expect 1 'refused 5 code-point\n' '' check 'urn:a '
+expect 1 'refused 0 no-scheme\n' '' check -- --x
+expect 1 'refused 0 no-scheme\n' '' check -- -a
 expect 0 'valid\nscheme urn\nopaque a\n' '' check -- urn:a
+expect 2 '' 'base refused 7 host-missing\n' check --base http:// http://h/
+expect 0 'links 0 ok 0 bad 0 differs 0\n' '' links --base x:
 
 # A refused text, a base in each way of giving it, and a base that is refused, also where the text has a scheme.
 expect 1 'refused 0 no-scheme\n' '' check x
@@ -20,4 +72,39 @@ expect 0 'valid\nscheme urn\nopaque a\nfragment t\n' '' check --base urn:a '#t'
 expect 1 'refused 0 drive-after-host\n' '' check --base file://h/a /C:/x
 expect 2 '' 'base refused 7 host-missing\n' check --base http:// x
 expect 2 '' 'base refused 0 no-scheme\n' check --base x urn:a
-all_cases 19
+
+# All that is wrong with a text.
+expect 1 'refused 7 host-domain\nrefused 12 code-point\nrefused 15 percent\n' '' check --all 'http://u@h/a b?%4'
+expect 1 'refused 5 two-slashes\nrefused 6 code-point\n' '' check --all 'http:x y'
+expect 1 'refused 7 host-code-point\nrefused 10 port-digit\nrefused 12 port-digit\n' '' check --all 'foo://a^:8x9y/'
+expect 1 'refused 0 opaque-base\n' '' check --all --base urn:a '//h%4/x'
+expect 1 'refused 7 host-missing\n' '' check http:// --all
+expect 0 'valid\nscheme file\nhost empty\nsegment x\n' '' check --all file:///x
+expect 0 'valid\nscheme urn\nopaque a\n' '' check --all urn:a
+expect 2 '' 'base refused 7 host-missing\n' check --all --base http:// 'a b'
+
+# The two profiles: each text is refused by the standard one, but the last, and taken or refused by the wide one.
+expect 1 'refused 9 first-segment-empty\n' '' check http://h//a
+expect 0 'valid\nscheme http\nhost domain h\nsegment \nsegment a\n' '' check --wide http://h//a
+expect 1 'refused 9 first-segment-empty\n' '' check http://h//..
+expect 0 'valid\nscheme http\nhost domain h\nsegment \n' '' check --wide http://h//..
+expect 1 'refused 8 first-segment-empty\n' '' check file:////a
+expect 0 'valid\nscheme file\nhost empty\nsegment \nsegment a\n' '' check --wide file:////a
+expect 1 'refused 8 first-segment-empty\n' '' check file:////C:/..
+expect 0 'valid\nscheme file\nhost empty\nsegment \nsegment \n' '' check --wide file:////C:/..
+for host in a_b -a ab--c; do
+    expect 1 'refused 7 host-domain\n' '' check "http://$host/"
+    expect 0 "valid\nscheme http\nhost domain $host\nsegment \n" '' check --wide "http://$host/"
+done
+for flag in --all --wide; do
+    expect 1 'refused 7 host-number\n' '' check $flag http://1.2.3/
+    expect 1 'refused 7 host-domain\n' '' check $flag $'http://\xc2\xad/'
+    expect 1 'refused 7 host-domain\n' '' check $flag http://a%62/
+    expect 1 'refused 8 drive-after-host\n' '' check $flag file://h/C:/x
+    expect 0 'valid\nscheme http\nhost domain h\nsegment \n' '' check $flag --base http://x/a //h
+done
+expect 2 '' 'base refused 7 host-domain\n' check --base http://a_b/ x
+expect 0 'valid\nscheme http\nhost domain a_b\nsegment x\n' '' check --wide --base http://a_b/ x
+expect 1 'refused 7 host-domain\nrefused 11 code-point\n' '' check --all 'http://a_b/ '
+expect 1 'refused 11 code-point\n' '' check --all --wide 'http://a_b/ '
+all_cases 75

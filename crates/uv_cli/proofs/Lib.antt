@@ -1,2 +1,3 @@
 mod CheckLemmas
+mod ListLemmas
 mod ReportLemmas

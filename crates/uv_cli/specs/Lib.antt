@@ -1,3 +1,4 @@
 pub mod Check
 pub mod CheckText
-pub mod Statuses
+pub mod Ends
+pub mod Jobs

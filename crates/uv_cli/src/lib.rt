@@ -1,15 +1,19 @@
-//! The commands of the program `urlcheck`, over any output.
+//! The commands of the program `urlcheck`, over any input and output.
 #![tactic(auto)]
 
 mod check;
+mod ends;
 mod fault;
+mod jobs;
 mod links;
 pub mod program;
 mod report;
-mod words;
 
 pub use check::{CheckEnd, run_check, run_faults};
+pub use ends::{End, error_line, status};
 pub use fault::CliFault;
+pub use jobs::run_job;
+pub use uv_words::{Job, WordsFault, read_words};
 
 #[cfg(test)]
 mod tests;

@@ -1,51 +1,55 @@
-//! The command `links`: a report on the lines of standard input.
+//! The command `links`: a report on the lines of an input.
+ghost use Rattle.std.specs.Prelude.{◌≡◌, ◌-◌, ◌^◌, ◌<◌, option_copied};
+ghost use Rattle.uv_cli.specs.Jobs.{HasListed, HasListedAgainst};
 
+use crate::ends::{End, end_of_list};
 use crate::fault::CliFault;
-use crate::program::End;
-use std::io;
-use std::io::Write;
-use uv_links::{Counts, LinkFault, LinkLimits, run_links};
-use uv_model::{FromReader, Profile, Record, ToWriter};
+use std::alloc::Global;
+use uv_links::{LinkLimits, run_links};
+use uv_model::{Profile, Record, Sink, Source};
 use uv_resolve::{ResolveFault, resolve};
 
-/// Reports on the lines of standard input, alone or against a base, which is resolved alone.
-pub(crate) fn listed<R: Input + Print + AllocGlobal>(rt: &R, base: Option<&str>) -> End {
+/// Reports on the lines of an input at the largest limits, alone or against a base, which is resolved alone, before anything is read.
+pub(crate) fn list_links<I: Source, S: Sink>(
+    alloc: Global,
+    base: Option<&str>,
+    profile: Profile,
+    input: &mut I,
+    out: &mut S,
+) -> End
+    requires reads { I.failed input.old < 2 ^ 64 - 1 }
+    requires writes { S.failed out.old < 2 ^ 64 - 1 }
+    ensures { HasListed profile base.entry result
+        (record { bytes = I.remaining input.old; failed = I.failed input.old })
+        (record { bytes = I.remaining input.new; failed = I.failed input.new })
+        (record { bytes = S.contents out.old; failed = S.failed out.old })
+        (record { bytes = S.contents out.new; failed = S.failed out.new }) }
+{
     let Some(text) = base else {
-        return reported(rt, None);
+        return list_against(alloc, None, profile, input, out);
     };
-    match resolve(rt.alloc(), text, None, Profile::Standard) {
-        Ok(base) => reported(rt, Some(&base)),
+    match resolve(alloc, text, None, profile) {
+        Ok(base) => list_against(alloc, Some(&base), profile, input, out),
         Err(ResolveFault::Refused(refusal)) => End::BaseRefused(refusal),
         Err(ResolveFault::Memory(_)) => End::Fault(CliFault::Memory),
     }
 }
 
-// How the report on standard input ends.
-fn reported<R: Input + Print + AllocGlobal>(rt: &R, base: Option<&Record>) -> End {
-    match written(rt, base) {
-        Ok(counts) if counts.ok == counts.lines => End::Valid,
-        Ok(_) => End::Refused,
-        Err(fault) => End::Stopped(fault),
-    }
-}
-
-// Writes the report to standard output and flushes it.
-fn written<R: Input + Print + AllocGlobal>(
-    rt: &R,
+// Reports on the lines of an input against a record as base.
+fn list_against<I: Source, S: Sink>(
+    alloc: Global,
     base: Option<&Record>,
-) -> Result<Counts, LinkFault> {
-    let mut reader = FromReader::new(rt.reader());
-    let mut writer = ToWriter::new(io::writer(rt));
-    let counts = run_links(
-        rt.alloc(),
-        &mut reader,
-        &mut writer,
-        base,
-        LinkLimits::standard(),
-        Profile::Standard,
-    )?;
-    match writer.into_writer().flush() {
-        Ok(()) => Ok(counts),
-        Err(_) => Err(LinkFault::Write),
-    }
+    profile: Profile,
+    input: &mut I,
+    out: &mut S,
+) -> End
+    requires reads { I.failed input.old < 2 ^ 64 - 1 }
+    requires writes { S.failed out.old < 2 ^ 64 - 1 }
+    ensures { HasListedAgainst profile (option_copied base.entry) result
+        (record { bytes = I.remaining input.old; failed = I.failed input.old })
+        (record { bytes = I.remaining input.new; failed = I.failed input.new })
+        (record { bytes = S.contents out.old; failed = S.failed out.old })
+        (record { bytes = S.contents out.new; failed = S.failed out.new }) }
+{
+    end_of_list(run_links(alloc, input, out, base, LinkLimits::standard(), profile))
 }

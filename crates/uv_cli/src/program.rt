@@ -1,55 +1,21 @@
-//! The program `urlcheck`: its words, its statuses and what it says on standard error.
-ghost use Rattle.std.specs.Prelude.{◌≡◌};
-ghost use Rattle.uv_cli.specs.Statuses.{status_of};
+//! The program `urlcheck` over a runtime: its words, its devices and its exit status.
 
-use crate::check::{CheckEnd, run_check};
+use crate::ends::{End, end_after_output, end_without_job, error_line, status};
 use crate::fault::CliFault;
-use crate::links::listed;
-use crate::words::{CheckJob, job_in, links_job_in};
+use crate::jobs::run_job;
 use std::io::{ErrorKind, Write};
 use std::rt::Env;
 use std::{env, io};
-use uv_links::LinkFault;
-use uv_model::{Profile, Refusal, ToWriter};
-
-/// How a run of the program ends.
-#[derive(Clone, Copy, Debug, PartialEq, Eq)]
-pub enum End {
-    /// The text is valid, or every line of the list is ok.
-    Valid,
-    /// The text is refused, or a line of the list isn't ok.
-    Refused,
-    /// The words of the command line are refused.
-    Words,
-    /// The base's text is refused alone, for this reason.
-    BaseRefused(Refusal),
-    /// A growth was refused, or a write or a flush failed.
-    Fault(CliFault),
-    /// The run over a list stopped.
-    Stopped(LinkFault),
-}
-
-/// The exit status: 0 where the text is valid or every line ok, 1 where one is refused or differs, 2 where the words or
-/// the base are refused or the base differs, 3 for any other fault.
-pub fn status(end: End) -> u8
-    ensures { result ≡ status_of end }
-{
-    match end {
-        End::Valid => 0,
-        End::Refused => 1,
-        End::Words | End::BaseRefused(_) | End::Stopped(LinkFault::BaseDiffers) => 2,
-        End::Fault(_) | End::Stopped(_) => 3,
-    }
-}
+use uv_model::{FromReader, ToWriter};
+use uv_words::{Job, WordsFault, read_words};
 
 /// Runs the program on the words of the runtime, and gives its exit status.
 pub fn run<R: Env + Input + Print + Eprint + AllocGlobal>(rt: &R) -> u8 {
     let end = ended(rt);
-    told(rt, end);
-    status(end)
+    told(rt, end)
 }
 
-fn ended<R: Env + Input + Print + AllocGlobal>(rt: &R) -> End {
+fn ended<R: Env + Input + Print + Eprint + AllocGlobal>(rt: &R) -> End {
     let words: Vec<String> = match env::args(rt) {
         Ok(words) => match words.collect(rt.alloc()) {
             Ok(words) => words,
@@ -62,51 +28,40 @@ fn ended<R: Env + Input + Print + AllocGlobal>(rt: &R) -> End {
         Ok(texts) => texts,
         Err(_) => return End::Fault(CliFault::Memory),
     };
-    match texts.as_slice() {
-        [_, words @ ..] => done(rt, words),
-        [] => End::Words,
+    match read_words(rt.alloc(), texts.as_slice()) {
+        Ok(Some(job)) => done(rt, &job),
+        Ok(None) => End::Words,
+        Err(fault) => shown(rt, &fault),
     }
 }
 
-// Does what the words behind the program's name ask for.
-fn done<R: Input + Print + AllocGlobal>(rt: &R, words: &[&str]) -> End {
-    if let Some(job) = links_job_in(words) {
-        return listed(rt, job.base);
-    }
-    let Some(job) = job_in(words) else {
-        return End::Words;
-    };
-    match checked(rt, &job) {
-        Ok(CheckEnd::Valid) => End::Valid,
-        Ok(CheckEnd::Refused) => End::Refused,
-        Ok(CheckEnd::BaseRefused(refusal)) => End::BaseRefused(refusal),
-        Err(fault) => End::Fault(fault),
-    }
-}
-
-// Checks a text, writes to standard output and flushes it.
-fn checked<R: Print + AllocGlobal>(rt: &R, job: &CheckJob<'_>) -> Result<CheckEnd, CliFault> {
+// Does a job over the runtime's devices.
+fn done<R: Input + Print + AllocGlobal>(rt: &R, job: &Job) -> End {
+    let mut input = FromReader::new(rt.reader());
     let mut out = ToWriter::new(io::writer(rt));
-    let end = run_check(rt.alloc(), job.text, job.base, Profile::Standard, &mut out)?;
-    match out.into_writer().flush() {
-        Ok(()) => Ok(end),
-        Err(_) => Err(CliFault::Write),
-    }
+    let end = run_job(rt.alloc(), job, &mut input, &mut out);
+    end_after_output(end, out.into_writer().flush().is_ok())
 }
 
-// What is said on standard error. A failed write there has nowhere to be told.
-fn told<R: Eprint>(rt: &R, end: End) {
-    let _ = match end {
-        End::Valid | End::Refused => Ok(()),
-        End::Words => rt.eprintln("words"),
-        End::BaseRefused(refusal) => base_told(rt, refusal),
-        End::Fault(fault) => rt.eprintln(fault),
-        End::Stopped(fault) => rt.eprintln(fault),
+// Shows what the reader of the words says: help on standard output, a refusal on standard error.
+fn shown<R: Print + Eprint>(rt: &R, fault: &WordsFault) -> End {
+    let is_out = match fault {
+        WordsFault::Words(error) => error.print(rt).is_ok(),
+        WordsFault::Memory => true,
     };
+    end_after_output(end_without_job(fault), is_out)
 }
 
-fn base_told<R: Eprint>(rt: &R, refusal: Refusal) -> io::Result<()> {
-    let place = refusal.place;
-    let name = refusal.rule.name();
-    eprintln!(rt; "base refused {place} {name}")
+// Says on standard error how the program ends, and gives the exit status. A failed write there has nowhere to be told.
+fn told<R: Eprint + AllocGlobal>(rt: &R, end: End) -> u8 {
+    match error_line(rt.alloc(), end) {
+        Ok(line) => {
+            let _ = rt.eprint(line.as_str());
+            status(end)
+        }
+        Err(_) => {
+            let _ = rt.eprintln("memory");
+            status(End::Fault(CliFault::Memory))
+        }
+    }
 }

@@ -8,7 +8,6 @@ mod memory;
 
 use crate::check::{CheckEnd, run_check};
 use crate::fault::CliFault;
-use crate::words::job_in;
 use std::alloc::Global;
 use std::process::Abort;
 use std::test::Fail;
@@ -478,24 +477,4 @@ fn names_faults(rt: HostRuntime) -> Result<(), Fail> {
     assert_eq!(rt; CliFault::Memory.to_string(rt.alloc())?.as_str(), "memory");
     assert_eq!(rt; CliFault::Write.to_string(rt.alloc())?.as_str(), "write");
     Ok(())
-}
-
-// The words of the command line, with the text and the base that they ask for.
-#[test]
-fn reads_words(rt: HostRuntime) {
-    let asked: [(&[&str], Option<(&str, Option<&str>)>); 9] = [
-        (&["check", "a"], Some(("a", None))),
-        (&["check", "--", "-a"], Some(("-a", None))),
-        (&["check", "--base", "b", "a"], Some(("a", Some("b")))),
-        (&["check", "--base=b", "a"], Some(("a", Some("b")))),
-        (&["check", "--base=b", "--", "a"], Some(("a", Some("b")))),
-        (&["check", "--base", "b"], None),
-        (&["check", "-a"], None),
-        (&["check"], None),
-        (&["links", "a"], None),
-    ];
-    for (words, want) in asked {
-        let job = job_in(words).map(|job| (job.text, job.base));
-        assert_eq!(rt; job, want);
-    }
 }

@@ -1,0 +1,98 @@
+-- How the program ends: the end of what was given, its exit status, and its line on standard error.
+use Rattle.std.specs.Prelude.{ℕ, Bool, true, false, List, [], ◌++◌, Result, Ok, Err, codes, decimal, if◌then◌else◌, ◌==◌}
+use Rattle.uv_model.specs.declared.profile.Profile.{Profile}
+use Rattle.uv_model.specs.declared.profile.Profile.TheVariants as profile
+use Rattle.uv_model.specs.declared.rule.Refusal.{Refusal}
+use Rattle.uv_model.specs.Complaints.Rule.{rule_name}
+use Rattle.uv_links.specs.declared.counts.Counts.{Counts}
+use Rattle.uv_links.specs.declared.fault.LinkFault.{LinkFault}
+use Rattle.uv_links.specs.declared.fault.LinkFault.TheVariants as link
+use Rattle.uv_words.specs.declared.words.WordsFault.{WordsFault}
+use Rattle.uv_words.specs.declared.words.WordsFault.TheVariants as words
+use Rattle.uv_words.specs.Words.{asks_to_show}
+use Rattle.uv_cli.specs.declared.check.CheckEnd.{CheckEnd}
+use Rattle.uv_cli.specs.declared.check.CheckEnd.TheVariants as check
+use Rattle.uv_cli.specs.declared.check.Complaints.{Complaints}
+use Rattle.uv_cli.specs.declared.check.Complaints.TheVariants as complaints
+use Rattle.uv_cli.specs.declared.fault.CliFault.{CliFault}
+use Rattle.uv_cli.specs.declared.fault.CliFault.TheVariants as cli
+use Rattle.uv_cli.specs.declared.ends.End.{End}
+use Rattle.uv_cli.specs.declared.ends.End.TheVariants.{Valid, Refused, Shown, Words, BaseRefused, Fault, Stopped}
+
+-- ---- what the flags say
+
+-- the profile, with `--wide` and without
+abbrev pub profile_of : Bool → Profile
+profile_of true = profile.Wide
+profile_of false = profile.Standard
+
+-- which complaints are written, with `--all` and without
+abbrev pub complaints_of : Bool → Complaints
+complaints_of true = complaints.All
+complaints_of false = complaints.Least
+
+-- ---- the end of what was given
+
+-- the end of what a check gave
+abbrev pub end_of_check : Result CheckEnd CliFault → End
+end_of_check (Ok check.Valid) = Valid
+end_of_check (Ok check.Refused) = Refused
+end_of_check (Ok (check.BaseRefused refusal)) = BaseRefused refusal
+end_of_check (Err fault) = Fault fault
+
+-- the end of what a list gave
+abbrev pub end_of_list : Result Counts LinkFault → End
+end_of_list (Ok counts) = if counts.ok == counts.lines then Valid else Refused
+end_of_list (Err fault) = Stopped fault
+
+-- the end where the words give no job
+abbrev pub end_without_job : WordsFault → End
+end_without_job words.Memory = Fault cli.Memory
+end_without_job (words.Words error) = if asks_to_show (words.Words error) then Shown else Words
+
+-- the end once the output is out, or isn't: then what was printed is not whole
+abbrev pub end_after_output : End → Bool → End
+end_after_output end true = end
+end_after_output Valid false = Fault cli.Write
+end_after_output Refused false = Fault cli.Write
+end_after_output Shown false = Fault cli.Write
+end_after_output end false = end
+
+-- ---- what an end gives
+
+-- the exit status of an end
+abbrev pub status_of : End → ℕ
+status_of Valid = 0
+status_of Refused = 1
+status_of Shown = 0
+status_of Words = 2
+status_of (BaseRefused refusal) = 2
+status_of (Fault fault) = 3
+status_of (Stopped link.BaseDiffers) = 2
+status_of (Stopped fault) = 3
+
+-- the line of a base that is refused
+unfoldable pub base_refused_text : Refusal → List ℕ
+base_refused_text refusal =
+    codes "base refused " ++ (decimal refusal.place ++ (codes " " ++ (rule_name refusal.rule ++ codes "\n")))
+
+-- the line of a fault of a list
+abbrev pub stopped_text : LinkFault → List ℕ
+stopped_text link.Memory = codes "memory\n"
+stopped_text link.Read = codes "read\n"
+stopped_text link.Write = codes "write\n"
+stopped_text link.Overflow = codes "overflow\n"
+stopped_text link.BaseDiffers = codes "base differs\n"
+stopped_text link.TooManyLines = codes "too many lines\n"
+stopped_text link.Endless = codes "endless\n"
+
+-- the line on standard error, or nothing
+abbrev pub error_text : End → List ℕ
+error_text Valid = []
+error_text Refused = []
+error_text Shown = []
+error_text Words = codes "words\n"
+error_text (BaseRefused refusal) = base_refused_text refusal
+error_text (Fault cli.Memory) = codes "memory\n"
+error_text (Fault cli.Write) = codes "write\n"
+error_text (Stopped fault) = stopped_text fault

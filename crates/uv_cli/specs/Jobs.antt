@@ -1,0 +1,106 @@
+-- What a job has done with its devices, by the end that it gave.
+use Rattle.std.specs.Prelude.{◌≡◌, ◌≢◌, ℕ, ◌+◌, List, Option, String, option_map, string_bytes}
+use Rattle.std.specs.Borrow.{Bor}
+use Rattle.std.specs.Io.KnownBytes.{Consumes, IsAtEnd}
+use Rattle.std.specs.Str.{chars}
+use Rattle.std.specs.declared.alloc.Global.{Global}
+use Rattle.uv_model.specs.declared.profile.Profile.{Profile}
+use Rattle.uv_model.specs.Records.Url.{Url}
+use Rattle.uv_links.specs.declared.counts.Counts.{Counts}
+use Rattle.uv_links.specs.declared.fault.LinkFault.{LinkFault}
+use Rattle.uv_links.specs.Report.{ListSetting}
+use Rattle.uv_links.specs.Run.{Leaves, Reports, reads_failed, writes_failed}
+use Rattle.uv_links.specs.Second.{AgreesOnBase}
+use Rattle.uv_words.specs.declared.words.Job.{Job}
+use Rattle.uv_words.specs.declared.words.Job.TheVariants as job
+use Rattle.uv_cli.specs.declared.check.CheckEnd.TheVariants as check
+use Rattle.uv_cli.specs.declared.check.Complaints.{Complaints}
+use Rattle.uv_cli.specs.declared.fault.CliFault.TheVariants as cli
+use Rattle.uv_cli.specs.declared.ends.End.{End}
+use Rattle.uv_cli.specs.declared.ends.End.TheVariants as end
+use Rattle.uv_cli.specs.Check.{HasWritten, HasWrittenFront, IsBase, IsBaseRefused, RunsAgainst}
+use Rattle.uv_cli.specs.Ends.{complaints_of, profile_of}
+
+-- A device as contracts see it: the bytes that a source has still to give or that a sink holds, where it tells them, and how
+-- many of its calls have failed.
+pub record Seen : Type 0 where
+  pub bytes : Option (List ℕ)
+  pub failed : ℕ
+
+-- ---- a check
+
+-- what was written of the text against the base's text
+abbrev pub HasChecked : Complaints → Profile → Option (Bor (List ℕ)) → List ℕ → End → Seen → Seen → Type 0
+HasChecked complaints profile base text end.Valid old new =
+    HasWritten complaints profile base text check.Valid old.bytes new.bytes
+HasChecked complaints profile base text end.Refused old new =
+    HasWritten complaints profile base text check.Refused old.bytes new.bytes
+HasChecked complaints profile base text (end.BaseRefused refusal) old new =
+    HasWritten complaints profile base text (check.BaseRefused refusal) old.bytes new.bytes × (new ≡ old)
+HasChecked complaints profile base text (end.Fault cli.Memory) old new = new ≡ old
+HasChecked complaints profile base text (end.Fault cli.Write) old new =
+    HasWrittenFront complaints profile base text old.bytes new.bytes × (new.failed ≡ old.failed + 1)
+HasChecked complaints profile base text _ old new = ⊥
+
+-- ---- a list of links
+
+-- what the lines of a list are judged against, at the largest limits
+abbrev pub list_setting : Profile → Option Url → ListSetting
+list_setting profile base = record {
+  profile = profile;
+  base = base;
+  line_bytes = 65536;
+}
+
+-- how many lines may come
+abbrev pub most_lines : ℕ
+most_lines = 1000000000
+
+-- the list was read to its end, the whole report on it was written, and these are its counts
+pub record HasReported (profile : Profile) (base : Option Url) (counts : Counts) (input rest old new : Seen) : Type 0 where
+  pub read : List ℕ
+  pub consumed : Consumes input.bytes rest.bytes read
+  pub at_end : IsAtEnd rest.bytes
+  pub reports : Reports (list_setting profile base) most_lines old.bytes read counts new.bytes
+  pub agrees : AgreesOnBase base
+  pub quiet : (rest.failed ≡ input.failed) × (new.failed ≡ old.failed)
+
+-- the report stopped with this fault
+pub record HasStopped (profile : Profile) (base : Option Url) (fault : LinkFault) (input rest old new : Seen) : Type 0 where
+  pub read : List ℕ
+  pub consumed : Consumes input.bytes rest.bytes read
+  pub leaves : Leaves fault (list_setting profile base) most_lines old.bytes read (IsAtEnd rest.bytes) new.bytes
+  pub failed : (rest.failed ≡ input.failed + reads_failed fault) × (new.failed ≡ old.failed + writes_failed fault)
+
+-- what was read and written of the list against a URL as base
+abbrev pub HasListedAgainst : Profile → Option Url → End → Seen → Seen → Seen → Seen → Type 0
+HasListedAgainst profile base end.Valid input rest old new =
+    (counts : Counts) × HasReported profile base counts input rest old new × (counts.ok ≡ counts.lines)
+HasListedAgainst profile base end.Refused input rest old new =
+    (counts : Counts) × HasReported profile base counts input rest old new × (counts.ok ≢ counts.lines)
+HasListedAgainst profile base (end.Stopped fault) input rest old new = HasStopped profile base fault input rest old new
+HasListedAgainst profile base _ input rest old new = ⊥
+
+-- the same against the base's text, which is judged alone, before anything is read or written
+abbrev pub HasListed : Profile → Option (Bor (List ℕ)) → End → Seen → Seen → Seen → Seen → Type 0
+HasListed profile base (end.BaseRefused refusal) input rest old new =
+    IsBaseRefused profile base refusal × (rest ≡ input) × (new ≡ old)
+HasListed profile base (end.Fault cli.Memory) input rest old new = (rest ≡ input) × (new ≡ old)
+HasListed profile base end input rest old new =
+    (url : Option Url) × IsBase profile base url × HasListedAgainst profile url end input rest old new
+
+-- ---- a job
+
+-- it holds of the job's base, as it is lent to the run
+abbrev pub AtBase : Option (String Global) → (Option (Bor (List ℕ)) → Type 0) → Type 0
+AtBase base P =
+    (lent : Option (Bor (List ℕ))) × (option_map (λ text. text.now) lent ≡ option_map string_bytes base) × P lent
+
+-- what the job has read and written
+abbrev pub HasDone : Job → End → Seen → Seen → Seen → Seen → Type 0
+HasDone (job.Check text base all wide) end input rest old new =
+    AtBase base (λ lent. HasChecked (complaints_of all) (profile_of wide) lent (chars (string_bytes text)) end old new
+    × RunsAgainst (profile_of wide) lent (chars (string_bytes text))) × (rest ≡ input)
+HasDone (job.Links base wide) end input rest old new =
+    AtBase base (λ lent. HasListed (profile_of wide) lent end input rest old new)
+HasDone (job.Vectors file) end input rest old new = Unit {0}

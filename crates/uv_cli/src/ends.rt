@@ -1,0 +1,134 @@
+//! How the program ends: with which exit status, and what it says of that on standard error.
+ghost use Rattle.std.specs.Prelude.{◌≡◌, IfOk, string_bytes};
+ghost use Rattle.uv_cli.specs.Ends as spec;
+ghost use Rattle.uv_cli.specs.Ends.{base_refused_text, error_text, status_of, stopped_text};
+
+use crate::check::CheckEnd;
+use crate::fault::CliFault;
+use std::alloc::{AllocError, Global};
+use uv_links::{Counts, LinkFault};
+use uv_model::Refusal;
+use uv_words::WordsFault;
+
+/// How a run of the program ends.
+#[derive(Clone, Copy, Debug, PartialEq, Eq)]
+pub enum End {
+    /// The text is valid, or every line of the list is ok.
+    Valid,
+    /// The text is refused, or a line of the list isn't ok.
+    Refused,
+    /// Help or the version was asked for, and shown.
+    Shown,
+    /// The words of the command line are refused.
+    Words,
+    /// The base's text is refused alone, for this reason.
+    BaseRefused(Refusal),
+    /// A growth was refused, or a write or a flush failed.
+    Fault(CliFault),
+    /// The run over a list stopped.
+    Stopped(LinkFault),
+}
+
+/// The end of what a check gave.
+pub(crate) fn end_of_check(gave: Result<CheckEnd, CliFault>) -> End
+    ensures { result ≡ spec.end_of_check gave }
+{
+    match gave {
+        Ok(CheckEnd::Valid) => End::Valid,
+        Ok(CheckEnd::Refused) => End::Refused,
+        Ok(CheckEnd::BaseRefused(refusal)) => End::BaseRefused(refusal),
+        Err(fault) => End::Fault(fault),
+    }
+}
+
+/// The end of what a list gave: valid where every line is ok.
+pub(crate) fn end_of_list(gave: Result<Counts, LinkFault>) -> End
+    ensures { result ≡ spec.end_of_list gave }
+{
+    match gave {
+        Ok(counts) => {
+            if counts.ok == counts.lines {
+                End::Valid
+            } else {
+                End::Refused
+            }
+        }
+        Err(fault) => End::Stopped(fault),
+    }
+}
+
+/// The end where the words give no job.
+pub(crate) fn end_without_job(fault: &WordsFault) -> End
+    ensures { result ≡ spec.end_without_job fault.now }
+{
+    match fault {
+        WordsFault::Memory => End::Fault(CliFault::Memory),
+        WordsFault::Words(_) => {
+            if fault.asks_to_show() {
+                End::Shown
+            } else {
+                End::Words
+            }
+        }
+    }
+}
+
+/// The end once all is written and flushed, or once that failed: then what was printed is not whole.
+pub(crate) fn end_after_output(end: End, is_out: bool) -> End
+    ensures { result ≡ spec.end_after_output end is_out }
+{
+    match end {
+        End::Valid | End::Refused | End::Shown if !is_out => End::Fault(CliFault::Write),
+        end => end,
+    }
+}
+
+/// The exit status: 0 where the text is valid, every line ok, or help shown; 1 where one is refused or differs; 2 where the words or
+/// the base are refused or the base differs; 3 for any other fault.
+pub fn status(end: End) -> u8
+    ensures { result ≡ status_of end }
+{
+    match end {
+        End::Valid | End::Shown => 0,
+        End::Refused => 1,
+        End::Words | End::BaseRefused(_) | End::Stopped(LinkFault::BaseDiffers) => 2,
+        End::Fault(_) | End::Stopped(_) => 3,
+    }
+}
+
+/// What is said on standard error: a line, or nothing.
+pub fn error_line(alloc: Global, end: End) -> Result<String, AllocError>
+    ensures { IfOk result (λ text. string_bytes text ≡ error_text end) }
+{
+    match end {
+        End::Valid | End::Refused | End::Shown => Ok(String::new(alloc)),
+        End::Words => "words\n".to_string(alloc),
+        End::BaseRefused(refusal) => base_refused_line(alloc, refusal),
+        End::Fault(CliFault::Memory) => "memory\n".to_string(alloc),
+        End::Fault(CliFault::Write) => "write\n".to_string(alloc),
+        End::Stopped(fault) => stopped_line(fault).to_string(alloc),
+    }
+}
+
+#[tactic(auto, unfolding(crate::specs::Ends::base_refused_text))]
+fn base_refused_line(alloc: Global, refusal: Refusal) -> Result<String, AllocError>
+    ensures { IfOk result (λ text. string_bytes text ≡ base_refused_text refusal) }
+{
+    let place = refusal.place;
+    let name = refusal.rule.name();
+    format!(in alloc; "base refused {place} {name}\n")
+}
+
+fn stopped_line(fault: LinkFault) -> &'static str
+    ensures { result.now ≡ stopped_text fault }
+{
+    match fault {
+        LinkFault::Memory => "memory\n",
+        LinkFault::Read => "read\n",
+        LinkFault::Write => "write\n",
+        LinkFault::Overflow => "overflow\n",
+        LinkFault::BaseDiffers => "base differs\n",
+        LinkFault::TooManyLines => "too many lines\n",
+        LinkFault::Endless => "endless\n",
+    }
+}

@@ -1,0 +1,89 @@
+//! A job and the run that it asks for, over any devices.
+ghost use Rattle.std.specs.Prelude.{◌≡◌, ◌-◌, ◌^◌, ◌<◌, chars};
+ghost use Rattle.uv_cli.specs.Check.{RunsAgainst};
+ghost use Rattle.uv_cli.specs.Ends as spec;
+ghost use Rattle.uv_cli.specs.Jobs.{HasChecked, HasDone};
+
+use crate::check::{Complaints, run_check, run_faults};
+use crate::ends::{End, end_of_check};
+use crate::links::list_links;
+use std::alloc::Global;
+use uv_model::{Profile, Sink, Source};
+use uv_words::Job;
+
+/// Does what a job asks for: it checks the job's text, against the job's base and by the profile that the job names, or reports on
+/// the lines of the input.
+///
+/// The input is read only by a list, and the output isn't flushed.
+pub fn run_job<I: Source, S: Sink>(alloc: Global, job: &Job, input: &mut I, out: &mut S) -> End
+    requires reads { I.failed input.old < 2 ^ 64 - 1 }
+    requires writes { S.failed out.old < 2 ^ 64 - 1 }
+    ensures { HasDone job.now result
+        (record { bytes = I.remaining input.old; failed = I.failed input.old })
+        (record { bytes = I.remaining input.new; failed = I.failed input.new })
+        (record { bytes = S.contents out.old; failed = S.failed out.old })
+        (record { bytes = S.contents out.new; failed = S.failed out.new }) }
+{
+    match job {
+        Job::Check {
+            text,
+            base,
+            all,
+            wide,
+        } => check_text(
+            alloc,
+            text.as_str(),
+            base.as_deref(),
+            complaints_of(*all),
+            profile_of(*wide),
+            out,
+        ),
+        Job::Links { base, wide } => {
+            list_links(alloc, base.as_deref(), profile_of(*wide), input, out)
+        }
+        Job::Vectors { .. } => End::Words,
+    }
+}
+
+// Checks a text, alone or against a base.
+fn check_text<S: Sink>(
+    alloc: Global,
+    text: &str,
+    base: Option<&str>,
+    complaints: Complaints,
+    profile: Profile,
+    out: &mut S,
+) -> End
+    requires { S.failed out.old < 2 ^ 64 - 1 }
+    ensures checked { HasChecked complaints profile base.entry (chars text.now) result
+        (record { bytes = S.contents out.old; failed = S.failed out.old })
+        (record { bytes = S.contents out.new; failed = S.failed out.new }) }
+    ensures runs { RunsAgainst profile base.entry (chars text.now) }
+{
+    match complaints {
+        Complaints::Least => end_of_check(run_check(alloc, text, base, profile, out)),
+        Complaints::All => end_of_check(run_faults(alloc, text, base, profile, out)),
+    }
+}
+
+// The profile, with `--wide` and without.
+fn profile_of(wide: bool) -> Profile
+    ensures { result ≡ spec.profile_of wide }
+{
+    if wide {
+        Profile::Wide
+    } else {
+        Profile::Standard
+    }
+}
+
+// Which complaints are written, with `--all` and without.
+fn complaints_of(all: bool) -> Complaints
+    ensures { result ≡ spec.complaints_of all }
+{
+    if all {
+        Complaints::All
+    } else {
+        Complaints::Least
+    }
+}

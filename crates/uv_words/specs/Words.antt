@@ -1,0 +1,77 @@
+-- What the words of the command line ask for, by `clap`'s definition of the words that a command takes.
+use Rattle.std.specs.Prelude.{◌≡◌, ◌≢◌, Bool, List, Option, Some, None, true, false, String, codes, option_and_then, option_map, string_bytes, if◌then◌else◌}
+use Rattle.std.specs.Option.{option_map_or}
+use Rattle.std.specs.Str.{bytes_eq}
+use Rattle.std.specs.declared.alloc.Global.{Global}
+use Rattle.clap.specs.Words.{Row, Text, first_of}
+use Rattle.clap.specs.Words.{IsAmong, fault_of, kind_of}
+use Rattle.clap.specs.declared.error.Error.{Error}
+use Rattle.clap.specs.declared.error.kind.ErrorKind.{ErrorKind}
+use Rattle.clap.specs.declared.error.kind.ErrorKind.TheVariants.{DisplayHelp, DisplayVersion, OutOfMemory}
+use Rattle.uv_words.specs.Commands.{urlcheck}
+use Rattle.uv_words.specs.declared.words.Job.{Job}
+use Rattle.uv_words.specs.declared.words.Job.TheVariants as job
+use Rattle.uv_words.specs.declared.words.WordsFault.{WordsFault}
+use Rattle.uv_words.specs.declared.words.WordsFault.TheVariants as fault
+
+-- ---- what is asked for
+
+pub data Request : Type 0 where
+  check : Text → Option Text → Bool → Bool → Request
+  links : Option Text → Bool → Request
+  vectors : Text → Request
+
+-- the base that was given
+abbrev pub base_in : List Row → Option Text
+base_in rows = first_of (codes "base") rows
+
+-- the flag was given
+abbrev pub has_flag : Text → List Row → Bool
+has_flag id rows = option_map_or (λ text. bytes_eq text (codes "true")) (first_of id rows) false
+
+-- the request that a command's name and its entries make
+abbrev pub request_in : Text → List Row → Option Request
+request_in name rows =
+    if bytes_eq name (codes "check")
+    then option_map (λ text. check text (base_in rows) (has_flag (codes "all") rows) (has_flag (codes "wide") rows))
+    (first_of (codes "TEXT") rows)
+    else (if bytes_eq name (codes "links") then Some (links (base_in rows) (has_flag (codes "wide") rows))
+    else (if bytes_eq name (codes "vectors") then option_map vectors (first_of (codes "FILE") rows)
+    else None))
+
+-- the same of the command that `clap`'s definition finds in the words, if it finds one
+abbrev pub request_of : Option (Text × List Row) → Option Request
+request_of found = option_and_then (λ p. request_in p.0 p.1) found
+
+-- ---- what a job asks for
+
+abbrev pub text_in : Option (String Global) → Option Text
+text_in text = option_map string_bytes text
+
+abbrev pub asked_by : Job → Request
+asked_by (job.Check text base all wide) = check (string_bytes text) (text_in base) all wide
+asked_by (job.Links base wide) = links (text_in base) wide
+asked_by (job.Vectors file) = vectors (string_bytes file)
+
+-- ---- why there is none
+
+-- the error has a kind that `clap`'s definition gives for the words
+abbrev pub IsFaultOf : List Text → WordsFault → Type 0
+IsFaultOf words (fault.Words error) = IsAmong (kind_of error) (fault_of urlcheck words)
+IsFaultOf words fault.Memory = Unit {0}
+
+-- the error itself, or want of memory
+abbrev pub IsFrom : Error → WordsFault → Type 0
+IsFrom error (fault.Words e) = (e ≡ error) × (kind_of error ≢ OutOfMemory)
+IsFrom error fault.Memory = kind_of error ≡ OutOfMemory
+
+-- the kind is that of help or of the version
+abbrev pub is_shown : ErrorKind → Bool
+is_shown DisplayHelp = true
+is_shown DisplayVersion = true
+is_shown _ = false
+
+-- help or the version is asked for
+abbrev pub asks_to_show : WordsFault → Bool
+asks_to_show (fault.Words error) = is_shown (kind_of error)
+asks_to_show fault.Memory = false

@@ -1,0 +1,126 @@
+//! The commands of the program, with their help.
+ghost use Rattle.std.specs.Prelude.{◌≡◌, IfOk, false};
+ghost use Rattle.clap.specs.Words.{app_of, rule_of};
+ghost use Rattle.uv_words.specs.Commands.{all_rule, base_rule, check_command, links_command, text_rule, file_rule};
+ghost use Rattle.uv_words.specs.Commands.{urlcheck, vectors_command, wide_rule, IsApp};
+
+use clap::{Arg, ArgAction, Command};
+use std::alloc::{AllocError, Global};
+
+const STATUSES: &str = "Exit statuses:
+  0  the text is valid, each line is ok, or each vector passes
+  1  the text is refused, a line isn't ok, or a vector fails
+  2  the words, the base or the vector file are refused
+  3  memory ran out, or a file or a device failed
+
+Example:
+  urlcheck check 'http://h/a b'";
+
+const CHECK_EXAMPLES: &str = "Prints `valid` and the parts of the URL, or `refused PLACE RULE`.
+
+Example:
+  urlcheck check --base http://h/a/b ../x";
+
+const LINKS_EXAMPLES: &str = "Prints a line for each line, and at the end how many are ok.
+
+Example:
+  urlcheck links --base http://h/ < links.txt";
+
+const VECTORS_EXAMPLES: &str =
+    "Prints `fail N` for each vector that fails, and at the end how many pass.
+
+Example:
+  urlcheck vectors vectors/standard.json";
+
+/// The commands of the program `urlcheck`.
+pub(crate) fn urlcheck<'a>(alloc: Global) -> Result<Command<'a>, AllocError>
+    ensures { IfOk result (λ c. app_of c ≡ urlcheck) }
+{
+    Command::new(alloc, "urlcheck")
+        .version("0.1.0")
+        .about("Says whether a text is a valid URL string")
+        .after_help(STATUSES)
+        .subcommand_required(true)
+        .subcommand(check(alloc)?)?
+        .subcommand(links(alloc)?)?
+        .subcommand(vectors(alloc)?)
+}
+
+fn check<'a>(alloc: Global) -> Result<Command<'a>, AllocError>
+    ensures { IfOk result (IsApp check_command) }
+{
+    Command::new(alloc, "check")
+        .about("Checks one text")
+        .after_help(CHECK_EXAMPLES)
+        .arg(base(alloc))?
+        .arg(all(alloc))?
+        .arg(wide(alloc))?
+        .arg(text(alloc))
+}
+
+fn links<'a>(alloc: Global) -> Result<Command<'a>, AllocError>
+    ensures { IfOk result (IsApp links_command) }
+{
+    Command::new(alloc, "links")
+        .about("Checks each line of the standard input")
+        .after_help(LINKS_EXAMPLES)
+        .arg(base(alloc))?
+        .arg(wide(alloc))
+}
+
+fn vectors<'a>(alloc: Global) -> Result<Command<'a>, AllocError>
+    ensures { IfOk result (IsApp vectors_command) }
+{
+    Command::new(alloc, "vectors")
+        .about("Runs the vectors of a file")
+        .after_help(VECTORS_EXAMPLES)
+        .arg(file(alloc))
+}
+
+fn base<'a>(alloc: Global) -> Arg<'a>
+    ensures rule { rule_of result ≡ base_rule }
+    ensures local { result.global ≡ false }
+{
+    Arg::new(alloc, "base")
+        .long("base")
+        .value_name("TEXT")
+        .help("The base, which is judged alone and first")
+}
+
+fn all<'a>(alloc: Global) -> Arg<'a>
+    ensures rule { rule_of result ≡ all_rule }
+    ensures local { result.global ≡ false }
+{
+    Arg::new(alloc, "all")
+        .long("all")
+        .action(ArgAction::SetTrue)
+        .help("Prints all that is wrong with the text, and not the first alone")
+}
+
+fn wide<'a>(alloc: Global) -> Arg<'a>
+    ensures rule { rule_of result ≡ wide_rule }
+    ensures local { result.global ≡ false }
+{
+    Arg::new(alloc, "wide")
+        .long("wide")
+        .action(ArgAction::SetTrue)
+        .help("Judges by the wide profile, which takes http://a_b/ and http://h//a too")
+}
+
+fn text<'a>(alloc: Global) -> Arg<'a>
+    ensures rule { rule_of result ≡ text_rule }
+    ensures local { result.global ≡ false }
+{
+    Arg::new(alloc, "TEXT")
+        .required(true)
+        .help("The text to check; behind -- where it begins with -")
+}
+
+fn file<'a>(alloc: Global) -> Arg<'a>
+    ensures rule { rule_of result ≡ file_rule }
+    ensures local { result.global ≡ false }
+{
+    Arg::new(alloc, "FILE")
+        .required(true)
+        .help("The file of vectors, a JSON array")
+}

@@ -1,0 +1,161 @@
+//! What the words of the command line ask for.
+ghost use Rattle.std.specs.Prelude.{◌≡◌, IfOk, IfErr, map, option_map, string_bytes, true};
+ghost use Rattle.clap.specs.Words.{kind_of, subcommand_of, takes};
+ghost use Rattle.clap.specs.Words.{first_of, found_of, rows_of};
+ghost use Rattle.uv_words.specs.Commands.{urlcheck};
+ghost use Rattle.uv_words.specs.Words.{asked_by, asks_to_show, has_flag, request_in, request_of, IsFaultOf, IsFrom};
+
+use crate::commands::urlcheck;
+use clap::error::ErrorKind;
+use clap::{ArgMatches, Error};
+use std::alloc::{AllocError, Global};
+
+/// What the program is asked to do.
+#[derive(Debug, Drop)]
+pub enum Job {
+    /// To check a text.
+    Check {
+        /// The text.
+        text: String,
+        /// The base's text, if there is a base.
+        base: Option<String>,
+        /// Whether all complaints are wanted, and not the least alone.
+        all: bool,
+        /// Whether the wide profile is meant, and not the standard one.
+        wide: bool,
+    },
+    /// To report on the lines of the standard input.
+    Links {
+        /// The base's text, if there is a base.
+        base: Option<String>,
+        /// Whether the wide profile is meant, and not the standard one.
+        wide: bool,
+    },
+    /// To run the vectors of a file.
+    Vectors {
+        /// The file's name.
+        file: String,
+    },
+}
+
+/// Why the words give no job.
+#[derive(Debug, Drop)]
+pub enum WordsFault {
+    /// The words are refused, or ask for help or the version. The error has the text to show.
+    Words(Error),
+    /// A growth was refused.
+    Memory,
+}
+
+impl WordsFault {
+    /// Whether the words ask for help or the version. Then the error's text is no refusal.
+    pub fn asks_to_show(&self) -> bool
+        ensures { result ≡ asks_to_show self.now }
+    {
+        match self {
+            WordsFault::Words(error) => matches!(
+                error.kind(),
+                ErrorKind::DisplayHelp | ErrorKind::DisplayVersion
+            ),
+            WordsFault::Memory => false,
+        }
+    }
+}
+
+/// Reads the words of a command line, of which the first is the program's name.
+///
+/// The job has the command, the texts and the flags that the words give. There is none where the words are taken, but name no command,
+/// no TEXT or no FILE.
+pub fn read_words(alloc: Global, words: &[&str]) -> Result<Option<Job>, WordsFault>
+    ensures job { IfOk result (λ job. option_map asked_by job
+        ≡ request_of (subcommand_of urlcheck (map (λ word. word.now) words.now))) }
+    ensures fault { IfErr result (IsFaultOf (map (λ word. word.now) words.now)) }
+    ensures takes { IfErr result (λ f.
+        takes urlcheck (map (λ word. word.now) words.now) ≡ true → f ≡ WordsFault.Memory) }
+{
+    let Ok(command) = urlcheck(alloc) else {
+        return Err(WordsFault::Memory);
+    };
+    let matches = match command.try_get_matches_from(words) {
+        Ok(matches) => matches,
+        Err(error) => return Err(fault(error)),
+    };
+    let Some((name, entries)) = matches.subcommand() else {
+        return Ok(None);
+    };
+    match job_in(alloc, name, entries) {
+        Ok(job) => Ok(job),
+        Err(_) => Err(WordsFault::Memory),
+    }
+}
+
+fn fault(error: Error) -> WordsFault
+    ensures memory { kind_of error ≡ ErrorKind.OutOfMemory → result ≡ WordsFault.Memory }
+    ensures from { IsFrom error result }
+{
+    match error.kind() {
+        ErrorKind::OutOfMemory => WordsFault::Memory,
+        _ => WordsFault::Words(error),
+    }
+}
+
+// The job that a command's name and its entries ask for.
+fn job_in(alloc: Global, name: &str, entries: &ArgMatches<'_>) -> Result<Option<Job>, AllocError>
+    ensures { IfOk result (λ job.
+        option_map asked_by job ≡ request_in name.now (rows_of (found_of entries.now))) }
+{
+    let base = value(entries, "base");
+    let wide = has(entries, "wide");
+    if name == "check" {
+        let Some(text) = value(entries, "TEXT") else {
+            return Ok(None);
+        };
+        let all = has(entries, "all");
+        let text = text.to_string(alloc)?;
+        let base = copied(alloc, base)?;
+        return Ok(Some(Job::Check {
+            text,
+            base,
+            all,
+            wide,
+        }));
+    }
+    if name == "links" {
+        let base = copied(alloc, base)?;
+        return Ok(Some(Job::Links { base, wide }));
+    }
+    if name == "vectors" {
+        let Some(file) = value(entries, "FILE") else {
+            return Ok(None);
+        };
+        let file = file.to_string(alloc)?;
+        return Ok(Some(Job::Vectors { file }));
+    }
+    Ok(None)
+}
+
+fn copied(alloc: Global, text: Option<&str>) -> Result<Option<String>, AllocError>
+    ensures { IfOk result (λ r. option_map string_bytes r ≡ option_map (λ t. t.now) text.entry) }
+{
+    match text {
+        Some(text) => Ok(Some(text.to_string(alloc)?)),
+        None => Ok(None),
+    }
+}
+
+// The first value of an entry.
+fn value<'a>(entries: &ArgMatches<'a>, id: &str) -> Option<&'a str>
+    ensures { option_map (λ t. t.now) result ≡ first_of id.now (rows_of (found_of entries.now)) }
+{
+    entries.get_str(id)
+}
+
+// Whether a flag was given.
+fn has(entries: &ArgMatches<'_>, id: &str) -> bool
+    ensures { result ≡ has_flag id.now (rows_of (found_of entries.now)) }
+{
+    match value(entries, id) {
+        Some(text) => text == "true",
+        None => false,
+    }
+}
