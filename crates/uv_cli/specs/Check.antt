@@ -48,7 +48,8 @@ IsBaseRefused profile None refusal = ⊥
 IsBaseRefused profile (Some text) refusal = IsRefused profile None (chars text.now) refusal
 
 -- the whole of what is said of the text was written
-pub record WritesWhole (complaints : Complaints) (profile : Profile) (base : Option Url) (text : List ℕ) (end : CheckEnd)
+pub record WritesWhole (complaints : Complaints) (profile : Profile) (base : Option Url) (text : List ℕ)
+    (end : CheckEnd)
     (old new : Option (List ℕ)) : Type 0 where
   pub whole : List ℕ
   pub says : Says complaints profile base text end whole

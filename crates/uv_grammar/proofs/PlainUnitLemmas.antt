@@ -79,7 +79,8 @@ module _ (ranges : List (ℕ × ℕ)) where
   without_front mark small no_percent lacks [] = refl
   without_front mark small no_percent lacks (c ∷ rest) =
       elim (cases_Bool (begins_unit ranges c rest)) [
-        | inl begins ↦ rw begins (is_without-more mark c (front rest) (other begins) (without_front mark small no_percent lacks rest))
+        | inl begins ↦ rw begins (is_without-more mark c (front rest) (other begins)
+            (without_front mark small no_percent lacks rest))
         | inr stops ↦ rw stops refl
       ]
     where
@@ -87,7 +88,8 @@ module _ (ranges : List (ℕ × ℕ)) where
       other begins =
           elim (cases_Bool (c == mark)) [
             | inl same ↦
-                let here : begins_unit ranges mark rest ≡ true = subst (λ d. begins_unit ranges d rest ≡ true) (eqb-true c mark same) begins in
+                let here : begins_unit ranges mark rest ≡ true =
+                subst (λ d. begins_unit ranges d rest ≡ true) (eqb-true c mark same) begins in
                 let below : nat_le 128 mark ≡ false = grind (arith, nat_tests, small) in
                 absurd (false≢true (rw (lacks, no_percent, below) at here))
             | inr different ↦ different
@@ -127,7 +129,8 @@ path_units ranges text front rest holds digits cut =
           without_front ranges question_mark (omega arith) refl (holds question_mark ∙ no_question) text;
     })
   where
-    no_question : (is_ascii question_mark && (is_url_code_point question_mark && not (question_mark == question_mark))) ≡ false
+    no_question : (is_ascii question_mark && (is_url_code_point question_mark && not (question_mark == question_mark)))
+        ≡ false
     no_question = elim (cases_Bool (is_url_code_point question_mark)) [
       | inl is ↦ rw is refl
       | inr not ↦ rw not refl

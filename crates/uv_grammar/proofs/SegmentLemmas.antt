@@ -54,7 +54,8 @@ path_absolute (c ∷ rest) units none start two =
     rw start (record {
       behind = rest;
       slashed = ap (λ x. x ∷ rest) first;
-      relative = path_relative rest (units_behind c rest units) (is_without-cons question_mark c rest none).1 (one_slash c rest first two);
+      relative = path_relative rest (units_behind c rest units) (is_without-cons question_mark c rest none).1
+          (one_slash c rest first two);
     })
 
 -- the segments of a path that isn't empty and doesn't begin with `/`

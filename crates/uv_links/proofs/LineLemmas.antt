@@ -50,7 +50,8 @@ split-append (x ∷ xs) ys =
 pub split-without : (xs : List ℕ) → ((k : ℕ) → k < length xs → slice_index xs k ≢ line_feed) → split xs ≡ ([], xs)
 split-without [] none = refl
 split-without (x ∷ xs) none =
-    let other : (x == line_feed) ≡ false = let h : x ≢ line_feed = none 0 (omega arith) in grind (arith, common_steps) in
+    let other : (x == line_feed) ≡ false = let h : x ≢ line_feed =
+    none 0 (omega arith) in grind (arith, common_steps) in
     let rest : split xs ≡ ([], xs) = split-without xs (λ k below. none (suc k) (omega (arith, below))) in
     rw (other, rest) refl
 
@@ -59,7 +60,8 @@ pub split-closing : (xs front : List ℕ) → split front ≡ ([], front)
     → split (xs ++ (front ++ line_feed ∷ [])) ≡ ((split xs).0 ++ ((split xs).1 ++ front) ∷ [], [])
 split-closing xs front none =
     let tail : split (front ++ line_feed ∷ []) ≡ (front ∷ [], []) =
-    split-append front (line_feed ∷ []) ∙ ap (λ p. join p.0 p.1 ([] ∷ []) []) none ∙ ap (λ l. (l ∷ [], [])) (append-nil front) in
+    split-append front (line_feed ∷ []) ∙ ap (λ p. join p.0 p.1 ([] ∷ []) []) none
+    ∙ ap (λ l. (l ∷ [], [])) (append-nil front) in
     split-append xs (front ++ line_feed ∷ []) ∙ ap (λ p. join (split xs).0 (split xs).1 p.0 p.1) tail
 
 -- behind a text that holds no LF the last part has grown by it
@@ -71,7 +73,8 @@ split-growing xs rest none =
 -- ---- the lines of a text and of its fronts
 
 pub closed-closing : (xs front : List ℕ) → split front ≡ ([], front)
-    → closed_lines (xs ++ (front ++ line_feed ∷ [])) ≡ closed_lines xs ++ strip_carriage_return ((split xs).1 ++ front) ∷ []
+    → closed_lines (xs ++ (front ++ line_feed ∷ [])) ≡ closed_lines xs ++ strip_carriage_return ((split xs).1 ++ front)
+    ∷ []
 closed-closing xs front none =
     ap (λ p. map strip_carriage_return p.0) (split-closing xs front none)
     ∙ map-append strip_carriage_return (split xs).0 (((split xs).1 ++ front) ∷ [])
@@ -129,7 +132,8 @@ last_some (x ∷ xs) h =
 pub lines_more : (xs ys : List ℕ) → 0 < length ys → length (closed_lines xs) < length (lines_of (xs ++ ys))
 lines_more xs ys h =
     rw (length-map (split xs).0 strip_carriage_return)
-    (subst (λ p. length (split xs).0 < length (map strip_carriage_return p.0 ++ open_lines p.1)) (sym (split-append xs ys))
+    (subst (λ p. length (split xs).0 < length (map strip_carriage_return p.0 ++ open_lines p.1))
+    (sym (split-append xs ys))
     (lines_joined (split xs).0 (split xs).1 (split ys).0 (split ys).1 (last_some ys h)))
 
 -- ---- a line of which a front is kept
@@ -196,7 +200,8 @@ pub piece_joined : (read piece : List ℕ) (start size : ℕ)
     → (read ++ take start piece) ++ (take size (drop start piece) ++ line_feed ∷ drop (size + 1) (drop start piece))
     ≡ read ++ piece
 piece_joined read piece start size at =
-    append_assoc read (take start piece) (take size (drop start piece) ++ line_feed ∷ drop (size + 1) (drop start piece))
+    append_assoc read (take start piece)
+    (take size (drop start piece) ++ line_feed ∷ drop (size + 1) (drop start piece))
     ∙ ap (λ l. read ++ l) (ap (λ l. take start piece ++ (take size (drop start piece) ++ l)) (sym at)
     ∙ ap (λ l. take start piece ++ l) (take-append-drop size (drop start piece)) ∙ take-append-drop start piece)
 

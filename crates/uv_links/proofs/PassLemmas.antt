@@ -58,7 +58,8 @@ closed_few read = rw (length-append (closed_lines read) (open_lines (split read)
 pub stands_first : (written read : List ℕ) (q : Progress) → Stands written read q
     → IsReportOfFirst q.judge read (length (closed_lines read)) (written ++ q.text.items)
 stands_first written read q stands =
-    subst (λ bytes. IsReportOfFirst q.judge bytes (length (closed_lines read)) (written ++ q.text.items)) (append-nil read)
+    subst (λ bytes. IsReportOfFirst q.judge bytes (length (closed_lines read)) (written ++ q.text.items))
+    (append-nil read)
     (front_report written read [] q q stands refl refl)
 
 pub waits_standing : (written read : List ℕ) (q : Progress) → Stands written read q
@@ -93,7 +94,8 @@ waits_ended Endless written read q left = absurd left
 -- ---- what a fault leaves
 
 -- a write failed
-pub write-left : (setting : ListSetting) (old now new : Option (List ℕ)) (written read text : List ℕ) (n : ℕ) → Appends old now written
+pub write-left : (setting : ListSetting) (old now new : Option (List ℕ)) (written read text : List ℕ) (n : ℕ)
+    → Appends old now written
     → IsReportOrFirst setting read (written ++ text) → Appends now new (take n text) → WroteFront setting old read new
 write-left setting old now new written read text n before report part = record {
   text = written ++ text;
@@ -103,8 +105,10 @@ write-left setting old now new written read text n before report part = record {
 }
 
 -- whole lines of the report were written
-wrote_first : (setting : ListSetting) (old now new : Option (List ℕ)) (written read text : List ℕ) (count : ℕ) → Appends old now written
-    → IsReportOfFirst setting read count (written ++ text) → Appends now new text → WroteFirst setting old read count new
+wrote_first : (setting : ListSetting) (old now new : Option (List ℕ)) (written read text : List ℕ) (count : ℕ)
+    → Appends old now written
+    → IsReportOfFirst setting read count (written ++ text) → Appends now new text
+    → WroteFirst setting old read count new
 wrote_first setting old now new written read text count before report wrote = record {
   text = written ++ text;
   report = report;
@@ -112,7 +116,8 @@ wrote_first setting old now new written read text count before report wrote = re
 }
 
 -- a line of the piece couldn't be reported, and those before it were written
-pub pass-left : (fault : LinkFault) (old now new : Option (List ℕ)) (written read : List ℕ) (q : Progress) → Appends old now written
+pub pass-left : (fault : LinkFault) (old now new : Option (List ℕ)) (written read : List ℕ) (q : Progress)
+    → Appends old now written
     → TakeFault fault written read q → Appends now new q.text.items → PassFault fault q.judge q.most old read new
 pass-left Memory old now new written read q before left wrote =
     (left.0, left.1, wrote_first q.judge old now new written read q.text.items left.0 before left.2 wrote)
@@ -126,7 +131,8 @@ pass-left BaseDiffers old now new written read q before left wrote = absurd left
 pass-left Endless old now new written read q before left wrote = absurd left
 
 -- the same at the end of the list
-pub finish-left : (fault : LinkFault) (old now new : Option (List ℕ)) (written read : List ℕ) (q : Progress) → Appends old now written
+pub finish-left : (fault : LinkFault) (old now new : Option (List ℕ)) (written read : List ℕ) (q : Progress)
+    → Appends old now written
     → EndFault fault written read q → Appends now new q.text.items → FinishFault fault q.judge old read new
 finish-left Memory old now new written read q before left wrote =
     (left.0, left.1, wrote_first q.judge old now new written read q.text.items left.0 before left.2 wrote)
@@ -183,7 +189,8 @@ finishing_reads Endless setting old read new left = refl
 -- ---- the report
 
 -- the line of counts ends the report
-pub report_ended : (written read : List ℕ) (p q : Progress) → Ends written read p → q.judge ≡ p.judge → q.counts ≡ p.counts
+pub report_ended : (written read : List ℕ) (p q : Progress) → Ends written read p → q.judge ≡ p.judge
+    → q.counts ≡ p.counts
     → q.text.items ≡ p.text.items ++ count_line p.counts → IsReport q.judge read (written ++ q.text.items) q.counts
 report_ended written read p q ends judge counts text = record {
   saids = ends.saids;
@@ -209,7 +216,8 @@ counts-left written read p q ends judge text = (
 
 -- ---- a run
 
-pub pass_to_run : (fault : LinkFault) (setting : ListSetting) (most : ℕ) (old : Option (List ℕ)) (read : List ℕ) (at_end : Type 0)
+pub pass_to_run : (fault : LinkFault) (setting : ListSetting) (most : ℕ) (old : Option (List ℕ)) (read : List ℕ)
+    (at_end : Type 0)
     (new : Option (List ℕ)) → PassFault fault setting most old read new → Leaves fault setting most old read at_end new
 pass_to_run Memory setting most old read at_end new left =
     (left.0, (let few = closed_few read in let below = left.1 in omega (arith, few, below)), inl left.1, left.2)
@@ -221,8 +229,10 @@ pass_to_run Read setting most old read at_end new left = absurd left
 pass_to_run BaseDiffers setting most old read at_end new left = absurd left
 pass_to_run Endless setting most old read at_end new left = absurd left
 
-pub finish_to_run : (fault : LinkFault) (setting : ListSetting) (most : ℕ) (old : Option (List ℕ)) (read : List ℕ) (at_end : Type 0)
-    (new : Option (List ℕ)) → at_end → FinishFault fault setting old read new → Leaves fault setting most old read at_end new
+pub finish_to_run : (fault : LinkFault) (setting : ListSetting) (most : ℕ) (old : Option (List ℕ)) (read : List ℕ)
+    (at_end : Type 0)
+    (new : Option (List ℕ)) → at_end → FinishFault fault setting old read new
+    → Leaves fault setting most old read at_end new
 finish_to_run Memory setting most old read at_end new is left = (left.0, left.1, inr is, left.2)
 finish_to_run Overflow setting most old read at_end new is left = (left.0, left.1, inr is, left.2)
 finish_to_run Write setting most old read at_end new is left = left
@@ -232,8 +242,10 @@ finish_to_run BaseDiffers setting most old read at_end new is left = absurd left
 finish_to_run Endless setting most old read at_end new is left = absurd left
 
 -- the whole report was written, on as many lines as it counts
-pub reports_written : (setting : ListSetting) (most : ℕ) (old now new : Option (List ℕ)) (written read text : List ℕ) (counts : Counts)
-    → Appends old now written → IsReport setting read (written ++ text) counts → Appends now new text → counts.lines ≤ most
+pub reports_written : (setting : ListSetting) (most : ℕ) (old now new : Option (List ℕ)) (written read text : List ℕ)
+    (counts : Counts)
+    → Appends old now written → IsReport setting read (written ++ text) counts → Appends now new text
+    → counts.lines ≤ most
     → Reports setting most old read counts new
 reports_written setting most old now new written read text counts before report wrote few = record {
   text = written ++ text;
@@ -245,7 +257,8 @@ reports_written setting most old now new written read text counts before report 
 }
 
 -- before the first read nothing is reported
-nothing_written : (setting : ListSetting) (old : Option (List ℕ)) (at_end : Type 0) → WroteLines setting old [] at_end old
+nothing_written : (setting : ListSetting) (old : Option (List ℕ)) (at_end : Type 0)
+    → WroteLines setting old [] at_end old
 nothing_written setting old at_end = (
   0,
   omega arith,
@@ -259,7 +272,8 @@ nothing_written setting old at_end = (
 
 -- where the base's text couldn't be compared, or differs
 pub base-left : (fault : LinkFault) (setting : ListSetting) (most : ℕ) (old : Option (List ℕ)) (at_end : Type 0)
-    → IsBaseFault setting.base fault → Leaves fault setting most old [] at_end old × (reads_failed fault ≡ 0) × (writes_failed fault ≡ 0)
+    → IsBaseFault setting.base fault → Leaves fault setting most old [] at_end old × (reads_failed fault ≡ 0)
+    × (writes_failed fault ≡ 0)
 base-left Memory setting most old at_end is = (nothing_written setting old at_end, refl, refl)
 base-left Overflow setting most old at_end is = (nothing_written setting old at_end, refl, refl)
 base-left BaseDiffers setting most old at_end is = ((refl, Keeps-refl old, is), refl, refl)

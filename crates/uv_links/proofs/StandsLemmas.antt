@@ -22,7 +22,8 @@ none_begun n (x ∷ xs) e =
     absurd z
 
 -- the report on one line more
-pub said_more : (written : List ℕ) (p q : Progress) (lines : List (List ℕ)) (saids : List Said) (line : List ℕ) (said : Said)
+pub said_more : (written : List ℕ) (p q : Progress) (lines : List (List ℕ)) (saids : List Said) (line : List ℕ)
+    (said : Said)
     → AreSaid p.judge lines saids → p.counts ≡ tally saids → written ++ p.text.items ≡ report_lines 1 saids
     → IsSaid p.judge line said → Adds p q said
     → AreSaid q.judge (lines ++ line ∷ []) (saids ++ said ∷ []) × (q.counts ≡ tally (saids ++ said ∷ []))
@@ -117,7 +118,8 @@ Stands-same written read (x ∷ xs) p h none = (let z : ⊥ = omega (arith, none
 first_lines : (xs ys : List ℕ) → take (length (closed_lines xs)) (lines_of (xs ++ ys)) ≡ closed_lines xs
 first_lines xs ys =
     let m = closed_front xs ys in
-    rw m.1 (ap (λ l. take (length (closed_lines xs)) l) (append_assoc (closed_lines xs) m.0 (open_lines (split (xs ++ ys)).1))
+    rw m.1 (ap (λ l. take (length (closed_lines xs)) l)
+    (append_assoc (closed_lines xs) m.0 (open_lines (split (xs ++ ys)).1))
     ∙ take-append_seam (closed_lines xs) (m.0 ++ open_lines (split (xs ++ ys)).1))
 
 -- the report on them
@@ -135,7 +137,8 @@ front_count : (xs ys : List ℕ) → length (closed_lines xs) ≤ length (closed
 front_count xs ys = let m = closed_front xs ys in rw (m.1, length-append (closed_lines xs) m.0) (omega arith)
 
 -- for want of room no line more was reported
-pub room-left : (fault : LinkFault) (written read rest : List ℕ) (p q : Progress) → Stands written read p → AddsNone p q fault
+pub room-left : (fault : LinkFault) (written read rest : List ℕ) (p q : Progress) → Stands written read p
+    → AddsNone p q fault
     → TakeFault fault written (read ++ rest) q
 room-left Memory written read rest p q h none =
     (length (closed_lines read), front_count read rest, front_report written read rest p q h none.judge none.text)
@@ -148,7 +151,8 @@ room-left TooManyLines written read rest p q h none = absurd none.room
 room-left Endless written read rest p q h none = absurd none.room
 
 -- a further line has begun behind as many as may come
-pub many-left : (written read rest : List ℕ) (p : Progress) → Stands written read p → p.counts.lines ≡ p.most → 0 < length rest
+pub many-left : (written read rest : List ℕ) (p : Progress) → Stands written read p → p.counts.lines ≡ p.most
+    → 0 < length rest
     → TakeFault TooManyLines written (read ++ rest) p
 many-left written read rest p h full more =
     let count : p.most ≡ length (closed_lines read) =
@@ -158,7 +162,8 @@ many-left written read rest p h full more =
 -- ---- the end of the list
 
 -- where no line has begun
-pub Ends-empty : (written read : List ℕ) (p : Progress) → Stands written read p → p.begun.items ≡ [] → Ends written read p
+pub Ends-empty : (written read : List ℕ) (p : Progress) → Stands written read p → p.begun.items ≡ []
+    → Ends written read p
 Ends-empty written read p h empty =
     let nothing : (split read).1 ≡ [] = none_begun p.judge.line_bytes (split read).1 (sym h.begun ∙ empty) in
     let all : lines_of read ≡ closed_lines read =
@@ -175,11 +180,13 @@ begun_some n items [] e h = let z : length items ≡ 0 = ap length (e ∙ take-n
 begun_some n items (x ∷ xs) e h = omega arith
 
 -- where one has, and is the last line
-pub Ends-begun : (written read : List ℕ) (p q : Progress) (said : Said) → Stands written read p → 0 < length p.begun.items
+pub Ends-begun : (written read : List ℕ) (p q : Progress) (said : Said) → Stands written read p
+    → 0 < length p.begun.items
     → IsSaid p.judge p.begun.items said → Adds p q said → Ends written read q
 Ends-begun written read p q said h some is adds =
     let line = (split read).1 in
-    let whole : IsSaid p.judge line said = kept_said_open p.judge line said (subst (λ l. IsSaid p.judge l said) h.begun is) in
+    let whole : IsSaid p.judge line said =
+    kept_said_open p.judge line said (subst (λ l. IsSaid p.judge l said) h.begun is) in
     let more = said_more written p q (closed_lines read) h.saids line said h.said h.counts h.text whole adds in
     let all : lines_of read ≡ closed_lines read ++ line ∷ [] =
     ap (λ l. closed_lines read ++ l)
@@ -192,13 +199,15 @@ pub end-left : (fault : LinkFault) (written read : List ℕ) (p q : Progress) �
 end-left Memory written read p q h none = (
   length (closed_lines read),
   rw (length-append (closed_lines read) (open_lines (split read).1)) (omega arith),
-  subst (λ bytes. IsReportOfFirst q.judge bytes (length (closed_lines read)) (written ++ q.text.items)) (append-nil read)
+  subst (λ bytes. IsReportOfFirst q.judge bytes (length (closed_lines read)) (written ++ q.text.items))
+      (append-nil read)
       (front_report written read [] p q h none.judge none.text),
 )
 end-left Overflow written read p q h none = (
   length (closed_lines read),
   rw (length-append (closed_lines read) (open_lines (split read).1)) (omega arith),
-  subst (λ bytes. IsReportOfFirst q.judge bytes (length (closed_lines read)) (written ++ q.text.items)) (append-nil read)
+  subst (λ bytes. IsReportOfFirst q.judge bytes (length (closed_lines read)) (written ++ q.text.items))
+      (append-nil read)
       (front_report written read [] p q h none.judge none.text),
 )
 end-left Read written read p q h none = absurd none.room

@@ -41,9 +41,11 @@ DenotesText profile base line text = (url : Url) × Denotes profile base (chars 
 abbrev pub IsSaid : ListSetting → List ℕ → Said → Type 0
 IsSaid setting line TooLong = setting.line_bytes < length line
 IsSaid setting line NotUtf8 = (length line ≤ setting.line_bytes) × ¬ (IsUtf8 line)
-IsSaid setting line (Refused refusal) = IsText setting line × IsRefused setting.profile setting.base (chars line) refusal
+IsSaid setting line (Refused refusal) = IsText setting line
+    × IsRefused setting.profile setting.base (chars line) refusal
 IsSaid setting line (Same text) =
-    IsText setting line × DenotesText setting.profile setting.base line text × (second_text setting.base line ≡ Some text)
+    IsText setting line × DenotesText setting.profile setting.base line text
+    × (second_text setting.base line ≡ Some text)
 IsSaid setting line Differs =
     IsText setting line × ((text : List ℕ) × DenotesText setting.profile setting.base line text
     × (second_text setting.base line ≢ Some text))

@@ -19,7 +19,8 @@ pub record Reports (setting : ListSetting) (most : ℕ) (old : Option (List ℕ)
   pub few : length (lines_of read) ≤ most
 
 -- the report's lines on so many of the first lines were written
-pub record WroteFirst (setting : ListSetting) (old : Option (List ℕ)) (read : List ℕ) (count : ℕ) (new : Option (List ℕ))
+pub record WroteFirst (setting : ListSetting) (old : Option (List ℕ)) (read : List ℕ) (count : ℕ)
+    (new : Option (List ℕ))
     : Type 0 where
   pub text : List ℕ
   pub report : IsReportOfFirst setting read count text
@@ -32,7 +33,8 @@ IsReportOrFirst setting read text =
     ⊎ ((count : ℕ) × (count ≤ length (lines_of read)) × IsReportOfFirst setting read count text)
 
 -- a beginning of it was written, perhaps cut within a line
-pub record WroteFront (setting : ListSetting) (old : Option (List ℕ)) (read : List ℕ) (new : Option (List ℕ)) : Type 0 where
+pub record WroteFront (setting : ListSetting) (old : Option (List ℕ)) (read : List ℕ)
+    (new : Option (List ℕ)) : Type 0 where
   pub text : List ℕ
   pub report : IsReportOrFirst setting read text
   pub front : ℕ

@@ -35,8 +35,8 @@ pub fn silent_difference_rows()
     ensures { SilentDifferenceRows }
 {}
 
-/// Host texts that the parser's grammar takes, each with its value, and some that it takes with none, such as `u@h` (URL
-/// Standard, sections 3.5 and 4.4).
+/// Host texts that the parser's grammar takes, each with its value, and some that it takes with none, such as `u@h`
+/// (URL Standard, sections 3.5 and 4.4).
 pub fn silent_host_rows()
     ensures { SilentHostRows }
 {}

@@ -50,7 +50,8 @@ hex_held byte digit =
     let small : byte < 128 = grind (arith, nat_tests, digit) in
     let letter : is_ascii_alphanumeric byte ≡ true = grind (arith, nat_tests, digit) in
     let other : (is_ascii_hexdigit byte && ((byte == question_mark) || is_forbidden_host byte)) ≡ false =
-    agree_below_at (λ b. is_ascii_hexdigit b && ((b == question_mark) || is_forbidden_host b)) (λ b. false) 128 byte refl small in
+    agree_below_at (λ b. is_ascii_hexdigit b && ((b == question_mark) || is_forbidden_host b))
+    (λ b. false) 128 byte refl small in
     let apart = rw digit at other in
     let both = or_parts (byte == question_mark) (is_forbidden_host byte) apart in
     (lt-ltb byte 128 small, rw letter refl, both.0, both.1)
@@ -62,7 +63,8 @@ url = take 8 URL_RANGES
 pub url_ranges : HoldsUrlBytes url
 unfolding is_url_code_point
 url_ranges =
-    agrees url is_url_code_point refl (λ byte small. agree_below_at (in_class url) is_url_code_point 128 byte refl small)
+    agrees url is_url_code_point refl
+    (λ byte small. agree_below_at (in_class url) is_url_code_point 128 byte refl small)
 
 pub url_digits : HasHexDigits url
 url_digits = λ byte digit.

@@ -31,9 +31,11 @@ module _ (mark : ℕ) where
       → mask_l (map (top 7) (zip2 (λ a b. cond (eqb a b) 255 0) v (replicate 32 mark))) % 2 ^ 64 ≡ 0
       → is_without mark v ≡ true
   lane_is v long none =
-      all_before v (leading_from_mask_l (λ x. eqb x mark) v (sym (bitmask_splat w8 eqb v 32 mark long (omega arith)) ∙ none))
+      all_before v (leading_from_mask_l (λ x. eqb x mark) v
+      (sym (bitmask_splat w8 eqb v 32 mark long (omega arith)) ∙ none))
 
-  pub join : (xs ys : List ℕ) → is_without mark xs ≡ true → is_without mark ys ≡ true → is_without mark (xs ++ ys) ≡ true
+  pub join : (xs ys : List ℕ) → is_without mark xs ≡ true → is_without mark ys ≡ true
+      → is_without mark (xs ++ ys) ≡ true
   join [] ys p q = q
   join (x ∷ xs) ys p q =
       let parts = is_without-cons mark x xs p in
@@ -50,18 +52,22 @@ module _ (mark : ℕ) where
   behind (x ∷ xs) ys p = behind xs ys (is_without-cons mark x (xs ++ ys) p).1
 
   pub behind_n : (n : ℕ) (xs : List ℕ) → is_without mark xs ≡ true → is_without mark (drop n xs) ≡ true
-  behind_n n xs p = behind (take n xs) (drop n xs) (subst (λ (s : List ℕ). is_without mark s ≡ true) (sym (take-append-drop n xs)) p)
+  behind_n n xs p = behind (take n xs) (drop n xs)
+      (subst (λ (s : List ℕ). is_without mark s ≡ true) (sym (take-append-drop n xs)) p)
 
   pub past : (n : ℕ) (xs : List ℕ) → is_without mark (take n xs) ≡ true → is_without mark (drop n xs) ≡ true
       → is_without mark xs ≡ true
-  past n xs p q = subst (λ (s : List ℕ). is_without mark s ≡ true) (take-append-drop n xs) (join (take n xs) (drop n xs) p q)
+  past n xs p q = subst (λ (s : List ℕ). is_without mark s ≡ true) (take-append-drop n xs)
+      (join (take n xs) (drop n xs) p q)
 
   lacks_encoded : mark < 128 → (cs : List ℕ) → is_without mark (encodes cs) ≡ true → is_without mark cs ≡ true
   lacks_encoded small [] p = refl
   lacks_encoded small (c ∷ cs) p = elim (cases_Bool (c == mark)) [
     | inl same ↦
         let is : c ≡ mark = eqb-true c mark same in
-        let one : is_without mark (c ∷ []) ≡ true = subst (λ (s : List ℕ). is_without mark s ≡ true) (encode_ascii c (omega (arith, is))) (front (encode c) (encodes cs) p) in
+        let one : is_without mark (c ∷ []) ≡ true =
+        subst (λ (s : List ℕ). is_without mark s ≡ true) (encode_ascii c (omega (arith, is)))
+        (front (encode c) (encodes cs) p) in
         absurd (false≢true (sym (is_without-cons mark c [] one).0 ∙ same))
     | inr other ↦ both c cs other (lacks_encoded small cs (behind (encode c) (encodes cs) p))
   ]

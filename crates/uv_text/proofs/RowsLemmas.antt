@@ -45,7 +45,8 @@ module _ (a b c d e f g h : Bool) where
   at_each_row p =
       both (λ a. both (λ b. both (λ c. both (λ d. both (λ e. both (λ f. both (λ g. both (λ h. p a b c d e f g h))))))))
 
-  at_row : (p : Bool → Bool → Bool → Bool → Bool → Bool → Bool → Bool → Bool) → at_each_row p ≡ true → p a b c d e f g h ≡ true
+  at_row : (p : Bool → Bool → Bool → Bool → Bool → Bool → Bool → Bool → Bool) → at_each_row p ≡ true
+      → p a b c d e f g h ≡ true
   at_row p passes =
       each (λ h. p a b c d e f g h)
       (each (λ g. both (λ h. p a b c d e f g h))
@@ -91,22 +92,39 @@ module _ (ranges : List (ℕ × ℕ)) where
       elim (cases_eq high 0) [
         | inl is ↦
             let first : low ≡ 16 * 0 + low = omega arith in
-            rw is (bit_0 (in_class ranges low) (in_class ranges (0x10 + low)) (in_class ranges (0x20 + low)) (in_class ranges (0x30 + low)) (in_class ranges (0x40 + low)) (in_class ranges (0x50 + low)) (in_class ranges (0x60 + low)) (in_class ranges (0x70 + low)) ∙ ap (in_class ranges) first)
+            rw is (bit_0 (in_class ranges low) (in_class ranges (0x10 + low)) (in_class ranges (0x20 + low))
+            (in_class ranges (0x30 + low)) (in_class ranges (0x40 + low)) (in_class ranges (0x50 + low))
+            (in_class ranges (0x60 + low)) (in_class ranges (0x70 + low)) ∙ ap (in_class ranges) first)
         | inr no0 ↦ elim (cases_eq high 1) [
-          | inl is ↦ rw is (bit_1 (in_class ranges low) (in_class ranges (0x10 + low)) (in_class ranges (0x20 + low)) (in_class ranges (0x30 + low)) (in_class ranges (0x40 + low)) (in_class ranges (0x50 + low)) (in_class ranges (0x60 + low)) (in_class ranges (0x70 + low)))
+          | inl is ↦ rw is (bit_1 (in_class ranges low) (in_class ranges (0x10 + low)) (in_class ranges (0x20 + low))
+              (in_class ranges (0x30 + low)) (in_class ranges (0x40 + low)) (in_class ranges (0x50 + low))
+              (in_class ranges (0x60 + low)) (in_class ranges (0x70 + low)))
           | inr no1 ↦ elim (cases_eq high 2) [
-            | inl is ↦ rw is (bit_2 (in_class ranges low) (in_class ranges (0x10 + low)) (in_class ranges (0x20 + low)) (in_class ranges (0x30 + low)) (in_class ranges (0x40 + low)) (in_class ranges (0x50 + low)) (in_class ranges (0x60 + low)) (in_class ranges (0x70 + low)))
+            | inl is ↦ rw is (bit_2 (in_class ranges low) (in_class ranges (0x10 + low)) (in_class ranges (0x20 + low))
+                (in_class ranges (0x30 + low)) (in_class ranges (0x40 + low)) (in_class ranges (0x50 + low))
+                (in_class ranges (0x60 + low)) (in_class ranges (0x70 + low)))
             | inr no2 ↦ elim (cases_eq high 3) [
-              | inl is ↦ rw is (bit_3 (in_class ranges low) (in_class ranges (0x10 + low)) (in_class ranges (0x20 + low)) (in_class ranges (0x30 + low)) (in_class ranges (0x40 + low)) (in_class ranges (0x50 + low)) (in_class ranges (0x60 + low)) (in_class ranges (0x70 + low)))
+              | inl is ↦ rw is (bit_3 (in_class ranges low) (in_class ranges (0x10 + low))
+                  (in_class ranges (0x20 + low)) (in_class ranges (0x30 + low)) (in_class ranges (0x40 + low))
+                  (in_class ranges (0x50 + low)) (in_class ranges (0x60 + low)) (in_class ranges (0x70 + low)))
               | inr no3 ↦ elim (cases_eq high 4) [
-                | inl is ↦ rw is (bit_4 (in_class ranges low) (in_class ranges (0x10 + low)) (in_class ranges (0x20 + low)) (in_class ranges (0x30 + low)) (in_class ranges (0x40 + low)) (in_class ranges (0x50 + low)) (in_class ranges (0x60 + low)) (in_class ranges (0x70 + low)))
+                | inl is ↦ rw is (bit_4 (in_class ranges low) (in_class ranges (0x10 + low))
+                    (in_class ranges (0x20 + low)) (in_class ranges (0x30 + low)) (in_class ranges (0x40 + low))
+                    (in_class ranges (0x50 + low)) (in_class ranges (0x60 + low)) (in_class ranges (0x70 + low)))
                 | inr no4 ↦ elim (cases_eq high 5) [
-                  | inl is ↦ rw is (bit_5 (in_class ranges low) (in_class ranges (0x10 + low)) (in_class ranges (0x20 + low)) (in_class ranges (0x30 + low)) (in_class ranges (0x40 + low)) (in_class ranges (0x50 + low)) (in_class ranges (0x60 + low)) (in_class ranges (0x70 + low)))
+                  | inl is ↦ rw is (bit_5 (in_class ranges low) (in_class ranges (0x10 + low))
+                      (in_class ranges (0x20 + low)) (in_class ranges (0x30 + low)) (in_class ranges (0x40 + low))
+                      (in_class ranges (0x50 + low)) (in_class ranges (0x60 + low)) (in_class ranges (0x70 + low)))
                   | inr no5 ↦ elim (cases_eq high 6) [
-                    | inl is ↦ rw is (bit_6 (in_class ranges low) (in_class ranges (0x10 + low)) (in_class ranges (0x20 + low)) (in_class ranges (0x30 + low)) (in_class ranges (0x40 + low)) (in_class ranges (0x50 + low)) (in_class ranges (0x60 + low)) (in_class ranges (0x70 + low)))
+                    | inl is ↦ rw is (bit_6 (in_class ranges low) (in_class ranges (0x10 + low))
+                        (in_class ranges (0x20 + low)) (in_class ranges (0x30 + low)) (in_class ranges (0x40 + low))
+                        (in_class ranges (0x50 + low)) (in_class ranges (0x60 + low)) (in_class ranges (0x70 + low)))
                     | inr no6 ↦
                         let is : high ≡ 7 = omega (arith, no0, no1, no2, no3, no4, no5, no6) in
-                        rw is (bit_7 (in_class ranges low) (in_class ranges (0x10 + low)) (in_class ranges (0x20 + low)) (in_class ranges (0x30 + low)) (in_class ranges (0x40 + low)) (in_class ranges (0x50 + low)) (in_class ranges (0x60 + low)) (in_class ranges (0x70 + low)))
+                        rw is (bit_7 (in_class ranges low) (in_class ranges (0x10 + low))
+                        (in_class ranges (0x20 + low)) (in_class ranges (0x30 + low))
+                        (in_class ranges (0x40 + low)) (in_class ranges (0x50 + low))
+                        (in_class ranges (0x60 + low)) (in_class ranges (0x70 + low)))
                   ]
                 ]
               ]
@@ -123,7 +141,9 @@ module _ (ranges : List (ℕ × ℕ)) where
       let high = b / 16 in
       let half : low ≡ b % 16 = and_numeral b 14 refl in
       let halves : 16 * high + low ≡ b = omega (arith, half) in
-      let bit : high_bit b ≡ high_bit (16 * high) = ap (λ h. slice_index (1 ∷ 2 ∷ 4 ∷ 8 ∷ 16 ∷ 32 ∷ 64 ∷ 128 ∷ 0 ∷ 0 ∷ 0 ∷ 0 ∷ 0 ∷ 0 ∷ 0 ∷ 0 ∷ []) h) (omega arith) in
+      let bit : high_bit b ≡ high_bit (16 * high) =
+      ap (λ h. slice_index (1 ∷ 2 ∷ 4 ∷ 8 ∷ 16 ∷ 32 ∷ 64 ∷ 128 ∷ 0 ∷ 0 ∷ 0 ∷ 0 ∷ 0 ∷ 0 ∷ 0 ∷ 0 ∷ []) h)
+      (omega arith) in
       let row : row_at rows b ≡ row_holding ranges low = filled low (omega (arith, half)) in
       ap (λ r. has_bit r (high_bit b)) row
       ∙ ap (λ k. has_bit (row_holding ranges low) k) bit
@@ -133,11 +153,13 @@ module _ (ranges : List (ℕ × ℕ)) where
   held_beyond : (rows : List ℕ) → list_any is_wide ranges ≡ false → (b : ℕ) → 128 ≤ b → b < 256
       → is_in_rows rows b ≡ in_class ranges b
   held_beyond rows narrow b high small =
-      let none : (high_bit b == 0) ≡ nat_le 128 b = agree_below_at (λ x. high_bit x == 0) (λ x. nat_le 128 x) 256 b refl small in
+      let none : (high_bit b == 0) ≡ nat_le 128 b =
+      agree_below_at (λ x. high_bit x == 0) (λ x. nat_le 128 x) 256 b refl small in
       let beyond : nat_le 128 b ≡ true = grind (arith, nat_tests, high) in
       let no_bit : high_bit b ≡ 0 = eqb-true (high_bit b) 0 (none ∙ beyond) in
       rw (no_bit, and_zero_r (row_at rows b))
-      (sym (false_from_ne_true (in_class ranges b) (λ here. absurd (omega (arith, in_class-ascii ranges b narrow here)))))
+      (sym (false_from_ne_true (in_class ranges b)
+      (λ here. absurd (omega (arith, in_class-ascii ranges b narrow here)))))
 
   -- rows of the bits of a class hold it
   pub rows_held : (rows : List ℕ) → list_any is_wide ranges ≡ false

@@ -112,7 +112,8 @@ module _ (ranges : List (ℕ × ℕ)) (ascii : (byte : ℕ) → in_class ranges 
           let small = ascii c here in
           let first : encodes (c ∷ rest) ≡ c ∷ encodes rest = ap (λ s. s ++ encodes rest) (encode_ascii c small) in
           let same : c ≡ b = cc (first, spelled) in
-          let one : prefix_len (in_class ranges) (b ∷ bytes) ≡ 1 + prefix_len (in_class ranges) bytes = rw (← same, here) refl in
+          let one : prefix_len (in_class ranges) (b ∷ bytes) ≡ 1 + prefix_len (in_class ranges) bytes =
+          rw (← same, here) refl in
           omega (arith, one, none)
 
   pub run_passes : (bytes : List ℕ) (run : ℕ) → IsUtf8 bytes → run ≡ prefix_len (in_class ranges) bytes
@@ -128,7 +129,8 @@ module _ (ranges : List (ℕ × ℕ)) (ascii : (byte : ℕ) → in_class ranges 
       elim (cases_Bool (in_class ranges b)) [
         | inl here ↦
             let small = ascii b here in
-            let tail : IsUtf8 bytes = IsUtf8-drop (b ∷ bytes) 1 u (IsCharBoundary-after_ascii (b ∷ bytes) 0 u (omega arith) small) in
+            let tail : IsUtf8 bytes = IsUtf8-drop (b ∷ bytes) 1 u
+            (IsCharBoundary-after_ascii (b ∷ bytes) 0 u (omega arith) small) in
             let less : suc run ≡ 1 + prefix_len (in_class ranges) bytes = rw here at is in
             let more = run_passes bytes run tail (omega (arith, less)) in
             record {
@@ -161,18 +163,23 @@ escape_passes bytes (high ∷ low ∷ rest) u first hex =
     let both = and_parts (is_ascii_hexdigit high) (is_ascii_hexdigit low) hex in
     let small_high : high < 128 = grind (arith, nat_tests, both.0) in
     let small_low : low < 128 = grind (arith, nat_tests, both.1) in
-    let one : IsUtf8 (low ∷ rest) = IsUtf8-drop (high ∷ low ∷ rest) 1 u (IsCharBoundary-after_ascii (high ∷ low ∷ rest) 0 u (omega arith) small_high) in
-    let two : IsUtf8 rest = IsUtf8-drop (low ∷ rest) 1 one (IsCharBoundary-after_ascii (low ∷ rest) 0 one (omega arith) small_low) in
+    let one : IsUtf8 (low ∷ rest) =
+    IsUtf8-drop (high ∷ low ∷ rest) 1 u
+    (IsCharBoundary-after_ascii (high ∷ low ∷ rest) 0 u (omega arith) small_high) in
+    let two : IsUtf8 rest = IsUtf8-drop (low ∷ rest) 1 one
+    (IsCharBoundary-after_ascii (low ∷ rest) 0 one (omega arith) small_low) in
     let text : chars bytes ≡ percent_sign ∷ high ∷ low ∷ chars rest =
     first
-    ∙ ap (λ s. percent_sign ∷ s) (chars-ascii_first high (low ∷ rest) small_high ∙ ap (λ s. high ∷ s) (chars-ascii_first low rest small_low)) in
+    ∙ ap (λ s. percent_sign ∷ s) (chars-ascii_first high (low ∷ rest) small_high
+    ∙ ap (λ s. high ∷ s) (chars-ascii_first low rest small_low)) in
     record {
       inside = omega arith;
       utf8 = two;
       passes = λ ranges digits. rw text
           (passes_one ranges percent_sign (high ∷ low ∷ chars rest) (chars rest)
           (mark_begins ranges percent_sign (high ∷ low ∷ chars rest) hex)
-          (passes_one ranges high (low ∷ chars rest) (chars rest) (class_begins ranges high (low ∷ chars rest) (digits high both.0))
+          (passes_one ranges high (low ∷ chars rest) (chars rest)
+          (class_begins ranges high (low ∷ chars rest) (digits high both.0))
           (passes_one ranges low (chars rest) (chars rest) (class_begins ranges low (chars rest) (digits low both.1))
           (passes_nothing ranges (chars rest)))));
       shorter = rw text (omega arith);
@@ -182,7 +189,8 @@ escape_passes bytes (high ∷ low ∷ rest) u first hex =
 pub beyond_passes : (text rest : List ℕ) (c : ℕ) → text ≡ c ∷ rest → 128 ≤ c → is_url_code_point c ≡ true
     → PassesMarks text rest
 beyond_passes text rest c first high is = λ ranges digits.
-    rw first (passes_one ranges c rest rest (mark_begins ranges c rest (mark c rest high is)) (passes_nothing ranges rest))
+    rw first (passes_one ranges c rest rest (mark_begins ranges c rest (mark c rest high is))
+    (passes_nothing ranges rest))
   where
     mark : (c : ℕ) (rest : List ℕ) → 128 ≤ c → is_url_code_point c ≡ true → begins_mark c rest ≡ true
     mark c rest high is =

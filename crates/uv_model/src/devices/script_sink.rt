@@ -6,9 +6,9 @@ use crate::devices::device::{DeviceFault, Sink};
 use std::alloc::{AllocError, Global};
 use std::marker::Model;
 
-/// A sink that plays a list of answers: how many bytes it takes, and failures, and then it fails. It takes no more bytes
-/// than it has room for. Contracts see the bytes that it holds, its room for more, the answers to come, and how many
-/// writes have failed.
+/// A sink that plays a list of answers: how many bytes it takes, and failures, and then it fails. It takes no more
+/// bytes than it has room for. Contracts see the bytes that it holds, its room for more, the answers to come, and how
+/// many writes have failed.
 #[derive(Drop)]
 pub struct ScriptSink<'a> {
     bytes: Vec<u8>,

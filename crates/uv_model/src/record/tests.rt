@@ -82,7 +82,8 @@ fn keeps_each_field(rt: HostRuntime) -> Result<(), Fail> {
     Ok(())
 }
 
-// The record of `https://EXAMPLE.com:443/a/../b?x='y'#é`: scheme, domain, segment, query and fragment as they are denoted.
+// The record of `https://EXAMPLE.com:443/a/../b?x='y'#é`: scheme, domain, segment, query and fragment as they are
+// denoted.
 fn worked(alloc: Global) -> Result<Option<Record>, Fail> {
     let scheme = String::from_str(alloc, "https")?;
     let host = Host::Domain(ascii(alloc, "example.com")?);

@@ -17,4 +17,5 @@ loop-preserved c = record {
 
 pub returns : goal.returns
 returns c =
-    c.loop.invariant.behind ∙ ap (λ n. drop n (chars c.args.text.now)) (omega (arith, c.loop-test.false, c.loop.auto.counter-end))
+    c.loop.invariant.behind ∙ ap (λ n. drop n (chars c.args.text.now))
+    (omega (arith, c.loop-test.false, c.loop.auto.counter-end))

@@ -12,4 +12,5 @@ returns-then-is_name c = class_of_file (chars c.args.scheme.now) (sym c.is_name.
 
 pub returns-else-is_name : goal.returns-else-is_name
 returns-else-is_name c =
-    class_without_port (chars c.args.scheme.now) (sym c.is_name.ensures ∙ c.if-is_name.false) (sym c.in-None.is ∙ c.requires)
+    class_without_port (chars c.args.scheme.now) (sym c.is_name.ensures ∙ c.if-is_name.false)
+    (sym c.in-None.is ∙ c.requires)

@@ -19,14 +19,16 @@ same-judge g c = refl
 
 pub returns-in-Err-clause-fault : goal.returns-in-Err-clause-fault
 returns-in-Err-clause-fault g c =
-    let setting : ListSetting = record { profile = c.args.profile; base = option_copied c.args.base; line_bytes = c.args.limits.line_bytes } in
+    let setting : ListSetting = record
+    { profile = c.args.profile; base = option_copied c.args.base; line_bytes = c.args.limits.line_bytes } in
     let left = base-left c.in-Err.fault setting c.args.limits.lines (g.W.Sink.contents c.args.writer.now)
     (IsAtEnd (g.R.Source.remaining c.args.reader.now)) c.in-Err.ensures.fault in
     ([], Consumes-nil (g.R.Source.remaining c.args.reader.now), left.0)
 
 pub returns-in-Err-clause-failed : goal.returns-in-Err-clause-failed
 returns-in-Err-clause-failed g c =
-    let setting : ListSetting = record { profile = c.args.profile; base = option_copied c.args.base; line_bytes = c.args.limits.line_bytes } in
+    let setting : ListSetting = record
+    { profile = c.args.profile; base = option_copied c.args.base; line_bytes = c.args.limits.line_bytes } in
     let left = base-left c.in-Err.fault setting c.args.limits.lines (g.W.Sink.contents c.args.writer.now)
     (IsAtEnd (g.R.Source.remaining c.args.reader.now)) c.in-Err.ensures.fault in
     let reads = g.R.Source.failed c.args.reader.now in
@@ -35,7 +37,8 @@ returns-in-Err-clause-failed g c =
 
 pub returns-in_default-clause-fault : goal.returns-in_default-clause-fault
 returns-in_default-clause-fault g c =
-    let setting : ListSetting = record { profile = c.args.profile; base = option_copied c.args.base; line_bytes = c.args.limits.line_bytes } in
+    let setting : ListSetting = record
+    { profile = c.args.profile; base = option_copied c.args.base; line_bytes = c.args.limits.line_bytes } in
     let left = base-left Memory setting c.args.limits.lines (g.W.Sink.contents c.args.writer.now)
     (IsAtEnd (g.R.Source.remaining c.args.reader.now)) (tt {0}) in
     ([], Consumes-nil (g.R.Source.remaining c.args.reader.now), left.0)
@@ -63,11 +66,15 @@ run_pieces-requires-clause-start g c =
 
 pub returns-in-Ok-run_pieces-clause-report : goal.returns-in-Ok-run_pieces-clause-report
 returns-in-Ok-run_pieces-clause-report g c =
-    let setting : ListSetting = record { profile = c.args.profile; base = option_copied c.args.base; line_bytes = c.args.limits.line_bytes } in
+    let setting : ListSetting = record
+    { profile = c.args.profile; base = option_copied c.args.base; line_bytes = c.args.limits.line_bytes } in
     let is : c.new-progress.result.judge ≡ setting =
     c.new-progress.ensures.setting.0 ∙ c.in-Ok.ensures.setting
-    ∙ ap (λ n. let s : ListSetting = record { profile = c.args.profile; base = option_copied c.args.base; line_bytes = n } in s) c.line_bytes.ensures.value in
-    let most : c.new-progress.result.most ≡ c.args.limits.lines = c.new-progress.ensures.setting.1 ∙ c.lines.ensures.value in
+    ∙ ap (λ n. let s : ListSetting =
+    record { profile = c.args.profile; base = option_copied c.args.base; line_bytes = n } in s)
+    c.line_bytes.ensures.value in
+    let most : c.new-progress.result.most ≡ c.args.limits.lines = c.new-progress.ensures.setting.1
+    ∙ c.lines.ensures.value in
     let r = c.in-Ok-run_pieces.ensures.report in
     let old = g.W.Sink.contents c.args.writer.now in
     let new = g.W.Sink.contents c.run_pieces.new.writer in (
@@ -86,11 +93,15 @@ returns-in-Ok-run_pieces-clause-quiet g c = c.in-Ok-run_pieces.ensures.quiet
 
 pub returns-clause-fault : goal.returns-clause-fault
 returns-clause-fault g c =
-    let setting : ListSetting = record { profile = c.args.profile; base = option_copied c.args.base; line_bytes = c.args.limits.line_bytes } in
+    let setting : ListSetting = record
+    { profile = c.args.profile; base = option_copied c.args.base; line_bytes = c.args.limits.line_bytes } in
     let is : c.new-progress.result.judge ≡ setting =
     c.new-progress.ensures.setting.0 ∙ c.in-Ok.ensures.setting
-    ∙ ap (λ n. let s : ListSetting = record { profile = c.args.profile; base = option_copied c.args.base; line_bytes = n } in s) c.line_bytes.ensures.value in
-    let most : c.new-progress.result.most ≡ c.args.limits.lines = c.new-progress.ensures.setting.1 ∙ c.lines.ensures.value in
+    ∙ ap (λ n. let s : ListSetting =
+    record { profile = c.args.profile; base = option_copied c.args.base; line_bytes = n } in s)
+    c.line_bytes.ensures.value in
+    let most : c.new-progress.result.most ≡ c.args.limits.lines = c.new-progress.ensures.setting.1
+    ∙ c.lines.ensures.value in
     let r = c.in-Err-run_pieces.ensures.fault in
     let old = g.W.Sink.contents c.args.writer.now in
     let new = g.W.Sink.contents c.run_pieces.new.writer in

@@ -45,7 +45,8 @@ returns-in-Err-clause-fault g c =
     let now = g.W.Sink.contents c.loop-turn.writer in (
       s.0,
       Consumes-kept _ (g.R.Source.remaining c.loop-turn.reader) _ s.0 s.1 c.in-Err.ensures.bytes,
-      subst (λ j. WroteFirst j old s.0 (length (closed_lines s.0)) now) i.judge (at_first old now s.0 c.loop-turn.progress s.2),
+      subst (λ j. WroteFirst j old s.0 (length (closed_lines s.0)) now) i.judge
+          (at_first old now s.0 c.loop-turn.progress s.2),
       c.in-Err.ensures.count ∙ ap (λ n. n + 1) i.reads,
       i.writes ∙ sym (add-zero (g.W.Sink.failed c.args.writer.now)),
     )
@@ -59,7 +60,8 @@ returns-clause-fault g c =
       s.0,
       s.1,
       (
-        subst (λ j. WroteFirst j old s.0 (length (closed_lines s.0)) now) i.judge (at_first old now s.0 c.loop-turn.progress s.2),
+        subst (λ j. WroteFirst j old s.0 (length (closed_lines s.0)) now) i.judge
+            (at_first old now s.0 c.loop-turn.progress s.2),
         (let turns = s.3 in let last = c.loop-turn-test.false in omega (arith, turns, last)),
       ),
       i.reads ∙ sym (add-zero (g.R.Source.failed c.args.reader.now)),
@@ -73,9 +75,11 @@ returns-in-Ok-finish-clause-report g c =
     let old = g.W.Sink.contents c.args.writer.now in
     let new = g.W.Sink.contents c.finish.new.writer in
     let bytes = c.in-Ok-eq0.ensures.bytes in
-    let room : 0 < length c.read.new.into = (let same = c.read.auto.into in let some = i.room in omega (arith, same, some)) in
+    let room : 0 < length c.read.new.into =
+    (let same = c.read.auto.into in let some = i.room in omega (arith, same, some)) in
     let ends = read_end (g.R.Source.remaining c.args.reader.now) (g.R.Source.remaining c.loop-turn.reader)
-    (g.R.Source.remaining c.read.new.self) s.0 c.read.new.into c.in-Ok-eq0.field-0 c.in-Ok-eq0.field-0-test room s.1 bytes.0 bytes.1 in (
+    (g.R.Source.remaining c.read.new.self) s.0 c.read.new.into c.in-Ok-eq0.field-0 c.in-Ok-eq0.field-0-test room s.1
+    bytes.0 bytes.1 in (
       s.0,
       ends.0,
       ends.1,
@@ -86,8 +90,11 @@ returns-in-Ok-finish-clause-report g c =
 
 pub returns-in-Ok-finish-clause-quiet : goal.returns-in-Ok-finish-clause-quiet
 returns-in-Ok-finish-clause-quiet g c =
-    let i = c.loop-turn.invariant in
-    (c.in-Ok-eq0.ensures.count ∙ add-zero (g.R.Source.failed c.loop-turn.reader) ∙ i.reads, c.in-Ok-finish.ensures.quiet ∙ i.writes)
+    let i = c.loop-turn.invariant in (
+      c.in-Ok-eq0.ensures.count ∙ add-zero (g.R.Source.failed c.loop-turn.reader)
+          ∙ i.reads,
+      c.in-Ok-finish.ensures.quiet ∙ i.writes,
+    )
 
 pub returns-in-Err-finish-clause-fault : goal.returns-in-Err-finish-clause-fault
 returns-in-Err-finish-clause-fault g c =
@@ -98,16 +105,19 @@ returns-in-Err-finish-clause-fault g c =
     let e = c.in-Err-finish.fault in
     let at_end = IsAtEnd (g.R.Source.remaining c.read.new.self) in
     let bytes = c.in-Ok-eq0.ensures.bytes in
-    let room : 0 < length c.read.new.into = (let same = c.read.auto.into in let some = i.room in omega (arith, same, some)) in
+    let room : 0 < length c.read.new.into =
+    (let same = c.read.auto.into in let some = i.room in omega (arith, same, some)) in
     let ends = read_end (g.R.Source.remaining c.args.reader.now) (g.R.Source.remaining c.loop-turn.reader)
-    (g.R.Source.remaining c.read.new.self) s.0 c.read.new.into c.in-Ok-eq0.field-0 c.in-Ok-eq0.field-0-test room s.1 bytes.0 bytes.1 in
+    (g.R.Source.remaining c.read.new.self) s.0 c.read.new.into c.in-Ok-eq0.field-0 c.in-Ok-eq0.field-0-test room s.1
+    bytes.0 bytes.1 in
     let fault = c.in-Err-finish.ensures.fault old s.0 s.2 in (
       s.0,
       ends.0,
       subst (λ n. Leaves e c.args.progress.now.judge n old s.0 at_end new) i.most
           (subst (λ j. Leaves e j c.loop-turn.progress.most old s.0 at_end new) i.judge
           (finish_to_run e c.loop-turn.progress.judge c.loop-turn.progress.most old s.0 at_end new ends.1 fault.0)),
-      c.in-Ok-eq0.ensures.count ∙ add-zero (g.R.Source.failed c.loop-turn.reader) ∙ i.reads ∙ sym (add-zero (g.R.Source.failed c.args.reader.now))
+      c.in-Ok-eq0.ensures.count ∙ add-zero (g.R.Source.failed c.loop-turn.reader) ∙ i.reads
+          ∙ sym (add-zero (g.R.Source.failed c.args.reader.now))
           ∙ ap (λ n. g.R.Source.failed c.args.reader.now + n)
           (sym (finishing_reads e c.loop-turn.progress.judge old s.0 new fault.0)),
       fault.1 ∙ ap (λ n. n + writes_failed e) i.writes,
@@ -129,7 +139,8 @@ returns-in-Err-pass-clause-fault g c =
       subst (λ n. Leaves e c.args.progress.now.judge n old all at_end new) i.most
           (subst (λ j. Leaves e j c.loop-turn.progress.most old all at_end new) i.judge
           (pass_to_run e c.loop-turn.progress.judge c.loop-turn.progress.most old all at_end new fault.0)),
-      c.in-Ok.ensures.count ∙ add-zero (g.R.Source.failed c.loop-turn.reader) ∙ i.reads ∙ sym (add-zero (g.R.Source.failed c.args.reader.now))
+      c.in-Ok.ensures.count ∙ add-zero (g.R.Source.failed c.loop-turn.reader) ∙ i.reads
+          ∙ sym (add-zero (g.R.Source.failed c.args.reader.now))
           ∙ ap (λ n. g.R.Source.failed c.args.reader.now + n)
           (sym (passing_reads e c.loop-turn.progress.judge c.loop-turn.progress.most old all new fault.0)),
       fault.1 ∙ ap (λ n. n + writes_failed e) i.writes,

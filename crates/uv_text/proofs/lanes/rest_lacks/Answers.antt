@@ -9,4 +9,5 @@ returns c = λ none.
     let rest = c.args.rest.now in
     let zeros = drop (length rest) (replicate 32 0) in
     front c.args.mark rest zeros
-    (subst (λ (s : List ℕ). is_without c.args.mark (s ++ zeros) ≡ true) c.copy_from_slice.ensures.after (c.lane_lacks.ensures none))
+    (subst (λ (s : List ℕ). is_without c.args.mark (s ++ zeros) ≡ true) c.copy_from_slice.ensures.after
+    (c.lane_lacks.ensures none))

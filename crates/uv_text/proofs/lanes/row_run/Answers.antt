@@ -19,7 +19,8 @@ pub returns-then-ahead-lt32 : goal.returns-then-ahead-lt32
 returns-then-ahead-lt32 c =
     let rest = drop c.loop-run.run c.args.bytes.now in
     let room : 32 ≤ length rest = omega (arith, length-drop c.loop-run.run c.args.bytes.now, c.loop-run-test.true) in
-    let front = front_in (is_in_rows c.args.rows.now) 32 rest room (omega (arith, c.lane_run-ahead.ensures, c.if-ahead-lt32.true)) in
+    let front = front_in (is_in_rows c.args.rows.now) 32 rest room
+    (omega (arith, c.lane_run-ahead.ensures, c.if-ahead-lt32.true)) in
     omega (arith, front, c.lane_run-ahead.ensures, c.loop-run.invariant.so_far)
 
 pub loop-run-preserved : goal.loop-run-preserved
@@ -28,7 +29,8 @@ loop-run-preserved c =
     let run = c.loop-run.run in
     let bound = prefix_len-le-length (is_in_rows c.args.rows.now) (chunk run 32 xs) in
     let long = length-chunk run 32 xs (omega (arith, c.loop-run-test.true)) in
-    let whole : c.lane_run-ahead.result ≡ 32 = omega (arith, bound, long, c.lane_run-ahead.ensures, c.if-ahead-lt32.false) in
+    let whole : c.lane_run-ahead.result ≡ 32 =
+    omega (arith, bound, long, c.lane_run-ahead.ensures, c.if-ahead-lt32.false) in
     let room : 32 ≤ length (drop run xs) = omega (arith, length-drop run xs, c.loop-run-test.true) in
     let past = front_past (is_in_rows c.args.rows.now) 32 (drop run xs) room (sym c.lane_run-ahead.ensures ∙ whole) in
     let further : drop 32 (drop run xs) ≡ drop (run + 32) xs = drop-drop 32 run xs in

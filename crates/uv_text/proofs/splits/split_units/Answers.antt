@@ -22,7 +22,8 @@ returns c =
     let rest = c.behind_units-rest in
     record {
       is_front =
-          ap chars (c.range.ensures.value ∙ front_slice c.args.text.now (length c.args.text.now - length rest.result.now))
+          ap chars (c.range.ensures.value
+          ∙ front_slice c.args.text.now (length c.args.text.now - length rest.result.now))
           ∙ (split_bytes c.args.text.now rest.result.now (unit_length c.args.class.now (chars c.args.text.now))
           c.utf8.text rest.utf8 rest.ensures).front;
       is_rest = rest.ensures;

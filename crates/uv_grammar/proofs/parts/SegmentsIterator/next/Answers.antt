@@ -9,7 +9,8 @@ pub returns-in-Some-clause-steps : goal.returns-in-Some-clause-steps
 returns-in-Some-clause-steps c =
     sym c.self.view_is
     ∙ ap (λ left. left_segments (seen_option left)) c.in-Some.is
-    ∙ pieces_split _ _ (seen_option c.split_at_mark.result.1) c.split_at_mark.ensures.joined c.split_at_mark.ensures.first
+    ∙ pieces_split _ _ (seen_option c.split_at_mark.result.1) c.split_at_mark.ensures.joined
+    c.split_at_mark.ensures.first
 
 pub returns-in-Some-clause-goes : goal.returns-in-Some-clause-goes
 returns-in-Some-clause-goes c =

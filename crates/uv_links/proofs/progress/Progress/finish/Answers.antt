@@ -23,7 +23,8 @@ returns-in-Err-clause-fault g c = λ old read at.
     let front = c.in-Err.ensures.front in
     let new = g.W.Sink.contents c.write_out.new.writer in (
       subst (λ j. WroteFront j old read new) c.end_report-ended.ensures.setting.0
-          (write-left q.judge old (g.W.Sink.contents c.args.writer.now) new at.written read q.text.items front.0 at.wrote waits
+          (write-left q.judge old (g.W.Sink.contents c.args.writer.now) new at.written read q.text.items front.0
+          at.wrote waits
           front.1),
       c.in-Err.ensures.failed,
     )
@@ -38,8 +39,10 @@ returns-in-Ok-clause-report g c = λ old read at.
     (subst (λ j. IsReport j read (at.written ++ q.text.items) q.counts) same.0
     (c.in-Ok.ensures.report at.written read at.stands)) in
     let few : c.write_out.new.self.counts.lines ≤ c.args.self.now.most =
-    (let most = c.in_default.ensures.rest.1 ∙ same.1 in let bound = c.write_out.new.self.few in omega (arith, most, bound)) in
-    reports_written c.args.self.now.judge c.args.self.now.most old (g.W.Sink.contents c.args.writer.now) new at.written read
+    (let most = c.in_default.ensures.rest.1 ∙ same.1 in let bound =
+    c.write_out.new.self.few in omega (arith, most, bound)) in
+    reports_written c.args.self.now.judge c.args.self.now.most old
+    (g.W.Sink.contents c.args.writer.now) new at.written read
     q.text.items c.write_out.new.self.counts at.wrote report c.in_default.ensures.whole few
 
 pub returns-in-Err-ended-clause-fault : goal.returns-in-Err-ended-clause-fault

@@ -23,7 +23,8 @@ returns-in-Err-clause-fault g c = λ old read at.
     let front = c.in-Err.ensures.front in
     let new = g.W.Sink.contents c.write_out.new.writer in (
       subst (λ j. WroteFront j old all new) c.take_piece-taken.ensures.setting.0
-          (write-left q.judge old (g.W.Sink.contents c.args.writer.now) new at.written all q.text.items front.0 at.wrote waits
+          (write-left q.judge old (g.W.Sink.contents c.args.writer.now) new at.written all q.text.items front.0
+          at.wrote waits
           front.1),
       c.in-Err.ensures.failed,
     )

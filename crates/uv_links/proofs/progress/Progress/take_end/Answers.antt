@@ -6,7 +6,8 @@ use Rattle.uv_links.proofs.progress.Progress.take_end.Goals as goal
 
 pub returns-then-is_empty-clause-ends : goal.returns-then-is_empty-clause-ends
 returns-then-is_empty-clause-ends c = λ written read h.
-    let empty : c.args.self.now.begun.items ≡ [] = grind (arith, common_steps, c.if-is_empty.true, c.is_empty.ensures) in
+    let empty : c.args.self.now.begun.items ≡ [] =
+    grind (arith, common_steps, c.if-is_empty.true, c.is_empty.ensures) in
     Ends-empty written read c.args.self.now h empty
 
 pub returns-in-Ok-clause-ends : goal.returns-in-Ok-clause-ends

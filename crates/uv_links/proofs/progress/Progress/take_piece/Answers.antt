@@ -45,4 +45,5 @@ returns-in-Err-begin_line-clause-fault c = λ written read h.
     subst (λ all. TakeFault c.in-Err-begin_line.fault written all c.begin_line.new.self)
     (ap (λ l. (read ++ take start piece) ++ l) (rest_is piece start)
     ∙ append_assoc read (take start piece) (drop start piece) ∙ ap (λ l. read ++ l) (take-append-drop start piece))
-    (c.in-Err-begin_line.ensures.fault written (read ++ take start piece) (c.loop-length.invariant.stands written read h))
+    (c.in-Err-begin_line.ensures.fault written (read ++ take start piece)
+    (c.loop-length.invariant.stands written read h))

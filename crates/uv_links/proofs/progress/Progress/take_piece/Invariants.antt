@@ -8,7 +8,8 @@ invariant-loop-length l = record {
   within : l.start ≤ length l.piece;
   judge : l.self.judge ≡ l.initial.self.judge;
   most : l.self.most ≡ l.initial.self.most;
-  stands : (written read : List ℕ) → Stands written read l.initial.self → Stands written (read ++ take l.start l.piece) l.self;
+  stands : (written read : List ℕ) → Stands written read l.initial.self
+      → Stands written (read ++ take l.start l.piece) l.self;
 }
 
 abbrev pub decreases-loop-length : goal.decreases-loop-length
