@@ -69,6 +69,55 @@ module _ (base : Option Url) where
             (file_host_stops cs rest _ (rw other at has) later)
       ]
 
+  -- where no `\` stands in the host
+  named_host_decided : (A : Type 0) (c : ℕ) (cs rest : List ℕ) (h : Held) (k : ℕ) → IsUnended (c ∷ cs)
+      → IsDelimiter (sight rest) → ((g : Held) → g.url.scheme ≡ h.url.scheme → A ⊎ Stops base PathStartState g rest k)
+      → is_without backslash (c ∷ cs) ≡ true
+      → (FileHostFits (c ∷ cs) × A)
+      ⊎ Stops base FileHostState (emptied h) ((c ∷ cs) ++ rest) (length (c ∷ cs) + (k + 1))
+  named_host_decided A c cs rest h k is ends next none =
+      let text = c ∷ cs in
+      let held = with_more text (emptied h) in
+      let law = file_host_law base text rest (emptied h) (record {
+        no_slash = is.no_slash;
+        no_question_mark = is.no_question_mark;
+        no_number_sign = is.no_number_sign;
+        no_backslash = none;
+      }) in
+      elim (cases_Bool (is_drive_letter text)) [
+        | inl drive ↦ inr
+            (ends_within base (omega arith)
+            (ends_after base law (stops_here base (λ p. drive_row held (sight rest) ends drive))))
+        | inr no_drive ↦ elim (host_cases (parse_host true text)) [
+          | inl missing ↦ inr
+              (ends_within base (omega arith)
+              (ends_after base law
+              (stops_here base
+              (λ p. none_row held (sight rest) ends no_drive (has_some text c cs refl) missing))))
+          | inr (value, parsed) ↦ elim (next (emptied (with_host (Some (without_localhost value)) held)) refl) [
+            | inl fine ↦ inl (
+              inl (
+                without_localhost value,
+                record {
+                  no_drive = no_drive;
+                  no_backslash = none;
+                  host = value;
+                  parsed = parsed;
+                  valued = refl;
+                },
+              ),
+              fine,
+            )
+            | inr stops ↦ inr
+                (ends_within base (omega arith)
+                (ends_after base law
+                (ends_again base
+                (λ p. file_host_row value held (sight rest) ends no_drive (has_some text c cs refl) parsed)
+                stops)))
+          ]
+        ]
+      ]
+
   -- from the host on
   pub file_host_decided : (A : Type 0) (text rest : List ℕ) (h : Held) (k : ℕ) → IsUnended text
       → IsDelimiter (sight rest) → ((g : Held) → g.url.scheme ≡ h.url.scheme → A ⊎ Stops base PathStartState g rest k)
@@ -80,48 +129,7 @@ module _ (base : Option Url) where
             (ends_within base (omega arith) (ends_again base (λ p. empty_row h (sight rest) ends) stops))
       ]
   file_host_decided A (c ∷ cs) rest h k is ends next =
-      let text = c ∷ cs in
-      let held = with_more text (emptied h) in
-      elim (cases_Bool (is_without backslash text)) [
-        | inl none ↦
-            let law = file_host_law base text rest (emptied h) (record {
-              no_slash = is.no_slash;
-              no_question_mark = is.no_question_mark;
-              no_number_sign = is.no_number_sign;
-              no_backslash = none;
-            }) in
-            elim (cases_Bool (is_drive_letter text)) [
-              | inl drive ↦ inr
-                  (ends_within base (omega arith)
-                  (ends_after base law (stops_here base (λ p. drive_row held (sight rest) ends drive))))
-              | inr no_drive ↦ elim (host_cases (parse_host true text)) [
-                | inl missing ↦ inr
-                    (ends_within base (omega arith)
-                    (ends_after base law
-                    (stops_here base
-                    (λ p. none_row held (sight rest) ends no_drive (has_some text c cs refl) missing))))
-                | inr (value, parsed) ↦ elim (next (emptied (with_host (Some (without_localhost value)) held)) refl) [
-                  | inl fine ↦ inl (
-                    inl (
-                      without_localhost value,
-                      record {
-                        no_drive = no_drive;
-                        no_backslash = none;
-                        host = value;
-                        parsed = parsed;
-                        valued = refl;
-                      },
-                    ),
-                    fine,
-                  )
-                  | inr stops ↦ inr
-                      (ends_within base (omega arith)
-                      (ends_after base law
-                      (ends_again base
-                      (λ p. file_host_row value held (sight rest) ends no_drive (has_some text c cs refl) parsed)
-                      stops)))
-                ]
-              ]
-            ]
-        | inr has ↦ inr (ends_within base (omega arith) (file_host_stops text rest (emptied h) has is))
+      elim (cases_Bool (is_without backslash (c ∷ cs))) [
+        | inl none ↦ named_host_decided A c cs rest h k is ends next none
+        | inr has ↦ inr (ends_within base (omega arith) (file_host_stops (c ∷ cs) rest (emptied h) has is))
       ]
