@@ -1,16 +1,15 @@
 -- A text with a scheme is judged without looking at the base.
 use Rattle.std.proofs.Common.{◌≡◌, ℕ, true, false, ◌==◌, List, [], ◌∷◌, ◌++◌, Option, Some, None, refl, sym, ap, ◌∙◌, inl, inr, subst, append_assoc}
 use Rattle.std.specs.Prelude.{IsSome}
-use Rattle.std.specs.List.{list_all}
 use Rattle.std.specs.Char.{is_ascii_alphabetic}
-use Rattle.std.proofs.lemmas.Bool.{false≢true, and_parts, and_from}
+use Rattle.std.proofs.lemmas.Bool.{false≢true}
 use Rattle.uv_model.specs.declared.profile.Profile.{Profile}
 use Rattle.uv_model.specs.declared.scheme.Class.{Class}
 use Rattle.uv_model.specs.declared.scheme.Class.TheVariants.{Special, File, Other}
 use Rattle.uv_model.specs.declared.rule.Rule.{Rule}
 use Rattle.uv_model.specs.declared.rule.Rule.TheVariants.{NoScheme, OpaqueBase, TwoSlashes, FirstSegmentEmpty, DriveAfterHost}
 use Rattle.uv_model.specs.Ascii.{colon, question_mark, number_sign}
-use Rattle.uv_model.specs.Scheme.{is_scheme, is_scheme_code_point, scheme_class}
+use Rattle.uv_model.specs.Scheme.{is_scheme_code_point, scheme_class}
 use Rattle.uv_model.specs.Path.{is_without}
 use Rattle.uv_model.specs.Records.Url.{Url}
 use Rattle.uv_model.specs.Parts.{Form, SchemeAuthority, SchemePath, SchemeOpaque, Authority, PathAbsolute, PathRelative, NoPath, Parts, has_scheme}
@@ -19,9 +18,8 @@ use Rattle.uv_model.specs.Valid.{Valid, FitsAuthority, FitsHostText, FitsForm, F
 use Rattle.uv_model.specs.Cut.{Cut, cut_of, class_in, scheme_cut, behind_scheme, text_before, text_behind, host_text_cut, port_text_cut, path_text_cut}
 use Rattle.uv_model.specs.Laws.Cuts.{TextsWithASchemeIgnoreTheBase}
 use Rattle.uv_model.specs.Complaints.Complaint.{StartComplaint, PathStartComplaint, HostPartComplaint, JudgedComplaint, HasHost, ComplaintOf, Complaint}
-use Rattle.uv_model.proofs.Texts.MarkLemmas.{is_without-cons, is_without-append, is_without-more, text_before-other}
+use Rattle.uv_model.proofs.Texts.MarkLemmas.{is_without-cons, text_before-other}
 use Rattle.uv_model.proofs.Cuts.SchemeCutLemmas.{splits_at_scheme, starts_with_written_scheme}
-use Rattle.uv_model.proofs.Cuts.HostCutLemmas.{is_without-passes}
 use Rattle.uv_model.proofs.Cuts.ValidCutLemmas.{scheme_without, valid_texts}
 use Rattle.uv_model.proofs.Complaints.ComplaintLemmas.{cut_with}
 use Rattle.uv_model.proofs.Complaints.ComplaintsExcludeParts.{class_with_scheme}

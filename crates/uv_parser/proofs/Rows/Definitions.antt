@@ -1,5 +1,5 @@
 -- The rows of specs/Rows/Definitions hold: what computes by computation, and addresses by the laws of their parsers.
-use Rattle.std.proofs.Common.{◌≡◌, ◌≢◌, ℕ, List, zero, suc, ◌<◌, ◌^◌, false, true, [], ◌∷◌, Option, Some, None, codes, refl, sym, subst, inl, inr, arith}
+use Rattle.std.proofs.Common.{◌≡◌, ℕ, List, zero, suc, ◌<◌, ◌^◌, true, [], ◌∷◌, Option, Some, None, codes, refl, sym, subst, inl, inr, arith}
 use Rattle.std.specs.Prelude.{slice_index}
 use Rattle.std.proofs.lemmas.Bool.{false≢true, true≢false}
 use Rattle.std.proofs.lemmas.Option.{none-some, same_Some}

@@ -1,6 +1,6 @@
 -- Valid parts, well-formed URLs and complaints of hosts, written out, with some parts that aren't valid and some URLs
 -- that aren't well formed (URL Standard, sections 3.4, 4.1 and 4.3).
-use Rattle.std.specs.Prelude.{ℕ, ◌^◌, List, [], ◌∷◌, codes, Option, Some, None}
+use Rattle.std.specs.Prelude.{ℕ, [], ◌∷◌, codes, Option, Some, None}
 use Rattle.uv_model.specs.declared.host.Host.{Host}
 use Rattle.uv_model.specs.declared.host.Host.TheVariants as host
 use Rattle.uv_model.specs.declared.profile.Profile.TheVariants.{Standard, Wide}
