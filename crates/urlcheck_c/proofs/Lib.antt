@@ -1,0 +1,4 @@
+mod PlaceLemmas
+mod SeenLemmas
+mod SpanLemmas
+mod StoreLemmas

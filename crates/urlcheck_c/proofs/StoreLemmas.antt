@@ -1,0 +1,51 @@
+-- A list written to the front of another, element by element.
+use Rattle.std.proofs.Common.{◌≡◌, ℕ, ◌+◌, ◌≤◌, ◌<◌, List, [], ◌∷◌, ◌++◌, length, get_or, set, take, drop, map, refl, sym, ap, ◌∙◌, arith}
+use Rattle.std.proofs.lemmas.List.{drop-drop, drop_all, get_or-map, length-map, length-take-le, set-get_or, take-append-drop, take-map, take_all}
+use Rattle.std.proofs.lemmas.Grind.{drop-set_at, take-set_at}
+
+-- a front with one element more
+front_more : {X : Type 0} (ys : List X) (i : ℕ) (d : X) → i < length ys
+    → take (i + 1) ys ≡ take i ys ++ (get_or ys i d ∷ [])
+front_more ys i d below =
+    ap (take (i + 1)) (sym (set-get_or ys i d)) ∙ take-set_at ys i (i + 1) (get_or ys i d) refl below
+
+-- the next element is written
+pub written_more : {X Y : Type 0} (f : X → Y) (xs : List X) (now : List Y) (i : ℕ) (d : X) (e : Y) → i < length xs
+    → i < length now → take i now ≡ take i (map f xs) → e ≡ f (get_or xs i d)
+    → take (i + 1) (set now i e) ≡ take (i + 1) (map f xs)
+written_more f xs now i d e below room front is =
+    take-set_at now i (i + 1) e refl room
+    ∙ ap (λ t. t ++ (e ∷ [])) front
+    ∙ ap (λ y. take i (map f xs) ++ (y ∷ [])) (is ∙ sym (get_or-map f xs i d e below))
+    ∙ sym (front_more (map f xs) i e (rw (length-map xs f) below))
+
+-- what stands behind it stays
+pub kept_more : {Y : Type 0} (old now : List Y) (i : ℕ) (e : Y) → i < length now → drop i now ≡ drop i old
+    → drop (i + 1) (set now i e) ≡ drop (i + 1) old
+kept_more old now i e room rest =
+    sym (drop-drop 1 i (set now i e)) ∙ ap (drop 1) (drop-set_at now i i e refl room)
+    ∙ sym (drop-drop 1 i now) ∙ ap (drop 1) rest ∙ drop-drop 1 i old
+
+-- all are written
+pub written_all : {X Y : Type 0} (f : X → Y) (xs : List X) (old now : List Y) (n : ℕ) → n ≡ length xs
+    → take n now ≡ take n (map f xs) → drop n now ≡ drop n old → now ≡ map f xs ++ drop (length xs) old
+written_all f xs old now n is front rest =
+    sym (take-append-drop n now)
+    ∙ ap (λ t. t ++ drop n now) (front ∙ take_all n (map f xs) (rw (length-map xs f) (omega (arith, is))))
+    ∙ ap (λ t. map f xs ++ t) (rest ∙ ap (λ k. drop k old) is)
+
+-- a list that fits is its own front
+pub front_whole : {X Y : Type 0} (f : X → Y) (xs : List X) (old : List Y) → length xs ≤ length old
+    → map f xs ++ drop (length xs) old ≡ take (length old) (map f xs) ++ drop (length xs) old
+front_whole f xs old fits =
+    ap (λ t. t ++ drop (length xs) old) (sym (take_all (length old) (map f xs) (rw (length-map xs f) fits)))
+
+-- a list that is longer is cut off
+pub front_cut : {X Y : Type 0} (f : X → Y) (xs : List X) (old : List Y) → length old ≤ length xs
+    → map f (take (length old) xs) ++ drop (length (take (length old) xs)) old
+    ≡ take (length old) (map f xs) ++ drop (length xs) old
+front_cut f xs old longer =
+    let long : length (take (length old) xs) ≡ length old = length-take-le (length old) xs longer in
+    ap (λ t. map f (take (length old) xs) ++ t) (drop_all (length (take (length old) xs)) old (omega (arith, long)))
+    ∙ ap (λ t. t ++ []) (sym (take-map f (length old) xs))
+    ∙ ap (λ t. take (length old) (map f xs) ++ t) (sym (drop_all (length xs) old longer))

@@ -1,0 +1,32 @@
+-- The answer on a text: valid with the places of its parts, refused, or not judged.
+use Rattle.std.specs.Prelude.{◌≡◌, ℕ, ◌⊎◌, List, Option, IsUtf8}
+use Rattle.std.specs.Str.{chars}
+use Rattle.uv_model.specs.declared.profile.Profile.{Profile}
+use Rattle.uv_model.specs.Parts.{Parts}
+use Rattle.uv_model.specs.Records.Url.{Url}
+use Rattle.uv_grammar.specs.Verdict.{IsAccepted}
+use Rattle.urlcheck_c.specs.declared.checks.Answer.{Answer}
+use Rattle.urlcheck_c.specs.declared.finding.Outcome.TheVariants.{Valid, Refused}
+use Rattle.urlcheck_c.specs.Finding.{plain_finding}
+use Rattle.urlcheck_c.specs.Request.{IsMemory, IsRefusedText, IsRequest, IsUnjudged}
+use Rattle.urlcheck_c.specs.Span.{AreSpans, no_spans}
+
+-- the text is valid against the base, and the spans are those of its parts
+pub record IsValidAnswer (profile : Profile) (base : Option Url) (bytes : List ℕ) (answer : Answer) : Type 0 where
+  pub parts : Parts
+  pub accepted : IsAccepted profile base (chars bytes) parts
+  pub spans : AreSpans bytes parts answer.parts
+  pub found : answer.found ≡ plain_finding Valid
+
+-- the text is valid; or it has no spans, and it is refused, or memory ran out
+abbrev pub IsJudged : Profile → Option Url → List ℕ → Answer → Type 0
+IsJudged profile base bytes answer =
+    IsValidAnswer profile base bytes answer
+    ⊎ ((answer.parts ≡ no_spans) × (IsRefusedText Refused profile base bytes answer.found ⊎ IsMemory answer.found))
+
+-- the text isn't judged, and has no spans; or it is judged against the base, if one is given
+abbrev pub IsAnswer : ℕ → Option (List ℕ) → List ℕ → Answer → Type 0
+IsAnswer number base bytes answer =
+    ((answer.parts ≡ no_spans) × IsUnjudged number base bytes answer.found)
+    ⊎ ((profile : Profile) × (url : Option Url) × IsRequest number base bytes profile url
+    × IsJudged profile url bytes answer)

@@ -1,0 +1,59 @@
+-- All the faults of a text in the caller's buffer.
+use Rattle.std.specs.Prelude.{◌≡◌, ℕ, ◌⊎◌, List, [], ◌∷◌, ◌++◌, length, take, drop, map, Option}
+use Rattle.std.specs.Str.{chars}
+use Rattle.uv_model.specs.declared.profile.Profile.{Profile}
+use Rattle.uv_model.specs.declared.rule.Refusal.{Refusal}
+use Rattle.uv_model.specs.Complaints.AllComplaints.{AreFaults}
+use Rattle.uv_model.specs.Complaints.Rule.{rule_number}
+use Rattle.uv_model.specs.Records.Url.{Url}
+use Rattle.urlcheck_c.specs.declared.fault_lists.Fault.{Fault}
+use Rattle.urlcheck_c.specs.declared.fault_lists.FaultCount.{FaultCount}
+use Rattle.urlcheck_c.specs.declared.finding.Finding.{Finding}
+use Rattle.urlcheck_c.specs.declared.finding.Outcome.TheVariants.{Valid, Refused, Memory}
+use Rattle.urlcheck_c.specs.Finding.{byte_place, plain_finding, refused_finding}
+use Rattle.urlcheck_c.specs.Request.{IsRequest, IsUnjudged}
+
+-- a refusal of a text, with its place in bytes
+abbrev pub fault_of : List ℕ → Refusal → Fault
+fault_of bytes refusal = record {
+  rule = rule_number refusal.rule;
+  place = refusal.place;
+  byte_place = byte_place bytes refusal.place;
+}
+
+-- as many faults as the buffer holds in its front, and behind them what was there
+abbrev pub stored : List ℕ → List Refusal → List Fault → List Fault
+stored bytes refusals old =
+    take (length old) (map (fault_of bytes) refusals) ++ drop (length refusals) old
+
+-- the verdict by the first of the faults
+abbrev pub first_finding : List ℕ → List Refusal → Finding
+first_finding bytes [] = plain_finding Valid
+first_finding bytes (refusal ∷ rest) = refused_finding Refused bytes refusal
+
+-- these are the faults of the text, and the verdict, their count and the buffer are theirs
+pub record AreListed (profile : Profile) (base : Option Url) (bytes : List ℕ) (old new : List Fault)
+    (answer : FaultCount) : Type 0 where
+  pub refusals : List Refusal
+  pub all : AreFaults profile base (chars bytes) refusals
+  pub count : answer.count ≡ length refusals
+  pub found : answer.found ≡ first_finding bytes refusals
+  pub stored : new ≡ stored bytes refusals old
+
+-- nothing was written
+pub record IsUnlisted (old new : List Fault) (answer : FaultCount) : Type 0 where
+  pub count : answer.count ≡ 0
+  pub same : new ≡ old
+
+-- the text has these faults, or memory ran out and nothing was written
+abbrev pub IsFaultsJudged : Profile → Option Url → List ℕ → List Fault → List Fault → FaultCount → Type 0
+IsFaultsJudged profile base bytes old new answer =
+    AreListed profile base bytes old new answer
+    ⊎ (IsUnlisted old new answer × (answer.found ≡ plain_finding Memory))
+
+-- the text isn't judged, and nothing was written; or it is judged against the base, if one is given
+abbrev pub IsFaultsAnswer : ℕ → Option (List ℕ) → List ℕ → List Fault → List Fault → FaultCount → Type 0
+IsFaultsAnswer number base bytes old new answer =
+    (IsUnlisted old new answer × IsUnjudged number base bytes answer.found)
+    ⊎ ((profile : Profile) × (url : Option Url) × IsRequest number base bytes profile url
+    × IsFaultsJudged profile url bytes old new answer)

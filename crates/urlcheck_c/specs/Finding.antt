@@ -1,0 +1,52 @@
+-- What C sees of a text: an outcome by its number, and a place in code points and in bytes.
+use Rattle.std.specs.Prelude.{ℕ, ◌==◌, if◌then◌else◌, List, length, take, Option, Some, None}
+use Rattle.std.specs.Str.{chars, encode_utf8_all}
+use Rattle.std.specs.Str.Lossy.{utf8_valid_len}
+use Rattle.uv_model.specs.declared.profile.Profile.{Profile}
+use Rattle.uv_model.specs.declared.profile.Profile.TheVariants as profiles
+use Rattle.uv_model.specs.declared.rule.Refusal.{Refusal}
+use Rattle.uv_model.specs.Complaints.Rule.{rule_number}
+use Rattle.urlcheck_c.specs.declared.finding.Finding.{Finding}
+use Rattle.urlcheck_c.specs.declared.finding.Outcome.{Outcome}
+use Rattle.urlcheck_c.specs.declared.finding.Outcome.TheVariants.{Valid, Refused, NoUtf8, BaseRefused, BaseNoUtf8, Memory, NoProfile}
+
+-- the number of an outcome
+abbrev pub outcome_number : Outcome → ℕ
+outcome_number Valid = 0
+outcome_number Refused = 1
+outcome_number NoUtf8 = 2
+outcome_number BaseRefused = 3
+outcome_number BaseNoUtf8 = 4
+outcome_number Memory = 5
+outcome_number NoProfile = 6
+
+-- the profile with a number
+abbrev pub profile_of : ℕ → Option Profile
+profile_of number =
+    if number == 0 then Some profiles.Standard else (if number == 1 then Some profiles.Wide else None)
+
+-- how many bytes stand before a place in code points
+unfoldable pub byte_place : List ℕ → ℕ → ℕ
+byte_place bytes place = length (encode_utf8_all (take place (chars bytes)))
+
+-- an outcome without a rule and a place
+abbrev pub plain_finding : Outcome → Finding
+plain_finding outcome = record { verdict = outcome_number outcome; rule = 0; place = 0; byte_place = 0 }
+
+-- a text that is refused, with its rule and its place
+abbrev pub refused_finding : Outcome → List ℕ → Refusal → Finding
+refused_finding outcome bytes refusal = record {
+  verdict = outcome_number outcome;
+  rule = rule_number refusal.rule;
+  place = refusal.place;
+  byte_place = byte_place bytes refusal.place;
+}
+
+-- bytes that are no UTF-8, with the end of their longest front that is
+abbrev pub no_utf8_finding : Outcome → List ℕ → Finding
+no_utf8_finding outcome bytes = record {
+  verdict = outcome_number outcome;
+  rule = 0;
+  place = length (chars (take (utf8_valid_len bytes) bytes));
+  byte_place = utf8_valid_len bytes;
+}

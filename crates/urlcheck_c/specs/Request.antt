@@ -1,0 +1,77 @@
+-- What a call asks, or why nothing is judged.
+use Rattle.std.specs.Prelude.{◌≡◌, ℕ, ◌⊎◌, List, Option, Some, None, Result, Ok, Err, IsUtf8}
+use Rattle.std.specs.Borrow.{Bor}
+use Rattle.std.specs.Str.{chars}
+use Rattle.uv_model.specs.declared.profile.Profile.{Profile}
+use Rattle.uv_model.specs.declared.rule.Refusal.{Refusal}
+use Rattle.uv_model.specs.Records.Url.{Url}
+use Rattle.uv_grammar.specs.Verdict.{IsRefused}
+use Rattle.uv_resolve.specs.Resolve.{Denotes}
+use Rattle.urlcheck_c.specs.declared.finding.Finding.{Finding}
+use Rattle.urlcheck_c.specs.declared.finding.Outcome.{Outcome}
+use Rattle.urlcheck_c.specs.declared.finding.Outcome.TheVariants.{Refused, NoUtf8, BaseRefused, BaseNoUtf8, Memory, NoProfile}
+use Rattle.urlcheck_c.specs.declared.request.Request.{Request}
+use Rattle.urlcheck_c.specs.Finding.{no_utf8_finding, plain_finding, profile_of, refused_finding}
+
+-- the bytes are no UTF-8, and the finding says so with this outcome
+pub record IsNoText (outcome : Outcome) (bytes : List ℕ) (finding : Finding) : Type 0 where
+  pub none : ¬ (IsUtf8 bytes)
+  pub said : finding ≡ no_utf8_finding outcome bytes
+
+-- the bytes are refused against the base, and the finding says so with this outcome
+pub record IsRefusedText (outcome : Outcome) (profile : Profile) (base : Option Url) (bytes : List ℕ)
+    (finding : Finding) : Type 0 where
+  pub refusal : Refusal
+  pub utf8 : IsUtf8 bytes
+  pub refused : IsRefused profile base (chars bytes) refusal
+  pub said : finding ≡ refused_finding outcome bytes refusal
+
+-- memory ran out
+abbrev pub IsMemory : Finding → Type 0
+IsMemory finding = finding ≡ plain_finding Memory
+
+-- the bytes of a text, or why they are none
+abbrev pub IsTextRead : Outcome → List ℕ → Result (Bor (List ℕ)) Finding → Type 0
+IsTextRead outcome bytes (Ok text) = (text.now ≡ bytes) × IsUtf8 bytes
+IsTextRead outcome bytes (Err finding) = IsNoText outcome bytes finding
+
+-- the bytes of a base are no UTF-8, or they are refused alone, or memory ran out
+abbrev pub IsNoBase : Profile → List ℕ → Finding → Type 0
+IsNoBase profile bytes finding =
+    IsNoText BaseNoUtf8 bytes finding ⊎ (IsRefusedText BaseRefused profile None bytes finding ⊎ IsMemory finding)
+
+-- what the bytes of a base denote alone, or why they denote nothing
+abbrev pub IsBaseRead : Profile → List ℕ → Result Url Finding → Type 0
+IsBaseRead profile bytes (Ok url) = IsUtf8 bytes × Denotes profile None (chars bytes) url
+IsBaseRead profile bytes (Err finding) = IsNoBase profile bytes finding
+
+-- there is no base, or its bytes denote the URL alone
+abbrev pub IsBase : Profile → Option (List ℕ) → Option Url → Type 0
+IsBase profile None url = url ≡ None
+IsBase profile (Some bytes) None = ⊥
+IsBase profile (Some bytes) (Some url) = IsUtf8 bytes × Denotes profile None (chars bytes) url
+
+-- a base is given from which nothing is read
+abbrev pub IsNoBaseGiven : Profile → Option (List ℕ) → Finding → Type 0
+IsNoBaseGiven profile None finding = ⊥
+IsNoBaseGiven profile (Some bytes) finding = IsNoBase profile bytes finding
+
+-- No profile has the number; else the text is no UTF-8; else nothing is read from the base.
+abbrev pub IsUnjudged : ℕ → Option (List ℕ) → List ℕ → Finding → Type 0
+IsUnjudged number base bytes finding =
+    ((profile_of number ≡ None) × (finding ≡ plain_finding NoProfile))
+    ⊎ ((profile : Profile) × (profile_of number ≡ Some profile)
+    × (IsNoText NoUtf8 bytes finding ⊎ (IsUtf8 bytes × IsNoBaseGiven profile base finding)))
+
+-- the number is the profile's, the bytes are UTF-8, and the base is read
+pub record IsRequest (number : ℕ) (base : Option (List ℕ)) (bytes : List ℕ) (profile : Profile)
+    (url : Option Url) : Type 0 where
+  pub profile_is : profile_of number ≡ Some profile
+  pub utf8 : IsUtf8 bytes
+  pub base_is : IsBase profile base url
+
+-- what is to be judged, or why nothing is
+abbrev pub IsPrepared : ℕ → Option (List ℕ) → List ℕ → Result Request Finding → Type 0
+IsPrepared number base bytes (Ok request) =
+    (request.text.now ≡ bytes) × IsRequest number base bytes request.profile request.base
+IsPrepared number base bytes (Err finding) = IsUnjudged number base bytes finding

@@ -1,0 +1,50 @@
+//! What is written into the caller's buffer.
+ghost use Rattle.std.specs.Prelude.{◌≡◌, ◌≤◌, ◌++◌, drop, length, map};
+ghost use Rattle.urlcheck_c.specs.Buffer.{IsWritten};
+ghost use Rattle.urlcheck_c.specs.Faults.{fault_of, stored};
+
+use crate::fault_lists::Fault;
+use crate::places::{behind_passed, bytes_before};
+use uv_model::Refusal;
+
+/// Writes the bytes to the front of `out` where they fit, and gives their length. Where `out` is shorter it stays as it
+/// is.
+pub(crate) fn write_front(bytes: &[u8], out: &mut [u8]) -> usize
+    ensures { IsWritten bytes.now out.old out.new result }
+{
+    if bytes.len() <= out.len() {
+        out[..bytes.len()].copy_from_slice(bytes);
+    }
+    bytes.len()
+}
+
+/// Writes as many faults of a text as the buffer holds to its front.
+pub(crate) fn store(text: &str, found: &[Refusal], out: &mut [Fault])
+    ensures { out.new ≡ stored text.now found.now out.old }
+{
+    if found.len() <= out.len() {
+        store_all(text, found, out);
+    } else {
+        let held = out.len();
+        store_all(text, &found[..held], out);
+    }
+}
+
+// Writes the faults to the front of a buffer that holds them.
+fn store_all(text: &str, found: &[Refusal], out: &mut [Fault])
+    requires { length found.now ≤ length out.old }
+    ensures { out.new ≡ map (fault_of text.now) found.now ++ drop (length found.now) out.old }
+{
+    let mut left = text;
+    let mut passed = 0;
+    for at in 0..found.len() {
+        let refusal = found[at];
+        left = behind_passed(text, left, passed, refusal.place);
+        passed = refusal.place;
+        out[at] = Fault {
+            rule: u32::from(refusal.rule.number()),
+            place: refusal.place,
+            byte_place: bytes_before(text, left, refusal.place),
+        };
+    }
+}

@@ -1,0 +1,77 @@
+//! The check of a text: whether it is valid, and where its parts stand.
+ghost use Rattle.std.specs.Prelude.{◌≡◌, None, Some, option_copied};
+ghost use Rattle.urlcheck_c.specs.Answer.{IsAnswer, IsJudged};
+ghost use Rattle.urlcheck_c.specs.Span.{no_spans};
+
+use crate::finding::{Finding, Outcome};
+use crate::request::{Request, prepared};
+use crate::spans::{Spans, placed};
+use std::alloc::{AllocError, Global};
+use uv_grammar::{Verdict, check};
+
+/// What a text is, and where its parts stand.
+#[repr(C)]
+#[derive(Clone, Copy)]
+pub struct Answer {
+    /// The verdict.
+    pub found: Finding,
+    /// The parts of a valid text, else none.
+    pub parts: Spans,
+}
+
+/// Whether the bytes are a valid URL string alone (URL Standard, section 4.3), by the profile with this number.
+#[unsafe(no_mangle)]
+pub extern "C" fn urlcheck_check(alloc: Global, text: &[u8], profile: u32) -> Answer
+    ensures { IsAnswer profile None text.now result }
+{
+    answered(alloc, text, None, profile)
+}
+
+/// Whether the bytes are a valid URL string against the bytes of a base, which is judged alone by the same profile.
+#[unsafe(no_mangle)]
+pub extern "C" fn urlcheck_check_against(
+    alloc: Global,
+    text: &[u8],
+    base: &[u8],
+    profile: u32,
+) -> Answer
+    ensures { IsAnswer profile (Some base.now) text.now result }
+{
+    answered(alloc, text, Some(base), profile)
+}
+
+// The answer on bytes, alone or against those of a base.
+fn answered(alloc: Global, text: &[u8], base: Option<&[u8]>, profile: u32) -> Answer
+    ensures { IsAnswer profile (option_copied base.entry) text.now result }
+{
+    match prepared(alloc, text, base, profile) {
+        Ok(request) => judged(alloc, &request),
+        Err(found) => unjudged(found),
+    }
+}
+
+// The answer on a text that is judged.
+fn judged(alloc: Global, request: &Request<'_>) -> Answer
+    ensures { IsJudged request.now.profile request.now.base request.now.text.now result }
+{
+    let text = request.text;
+    match check(alloc, text, request.base.as_ref(), request.profile) {
+        Ok(Verdict::Yes(parts)) => Answer {
+            found: Finding::plain(Outcome::Valid),
+            parts: placed(text, &parts),
+        },
+        Ok(Verdict::No(refusal)) => unjudged(Finding::refused(Outcome::Refused, text, refusal)),
+        Err(AllocError) => unjudged(Finding::plain(Outcome::Memory)),
+    }
+}
+
+// An answer without parts.
+fn unjudged(found: Finding) -> Answer
+    ensures found { result.found ≡ found }
+    ensures parts { result.parts ≡ no_spans }
+{
+    Answer {
+        found,
+        parts: Spans::none(),
+    }
+}

@@ -1,0 +1,106 @@
+//! All that is wrong with a text, in the caller's buffer.
+ghost use Rattle.std.specs.Prelude.{◌≡◌, None, Some, option_copied};
+ghost use Rattle.urlcheck_c.specs.Faults.{IsFaultsAnswer, IsFaultsJudged, first_finding};
+
+use crate::buffers::store;
+use crate::finding::{Finding, Outcome};
+use crate::request::{Request, prepared};
+use std::alloc::{AllocError, Global};
+use uv_grammar::faults;
+use uv_model::Refusal;
+
+/// A rule that a text violates at a place.
+#[repr(C)]
+#[derive(Clone, Copy)]
+pub struct Fault {
+    /// The number of the rule, from 1 to 14.
+    pub rule: u32,
+    /// The place in code points from 0.
+    pub place: usize,
+    /// The same place in bytes from 0.
+    pub byte_place: usize,
+}
+
+/// What a text is, and how many faults it has.
+#[repr(C)]
+#[derive(Clone, Copy)]
+pub struct FaultCount {
+    /// The verdict, as the check gives it: of a refused text with its first fault.
+    pub found: Finding,
+    /// How many faults the text has, which may be more than were written.
+    pub count: usize,
+}
+
+/// Writes the faults of the bytes alone to the front of `out`, by place and at one place by the rule's number, as many as
+/// it holds, and gives their count. Behind them `out` stays as it is.
+#[unsafe(no_mangle)]
+pub extern "C" fn urlcheck_faults(
+    alloc: Global,
+    text: &[u8],
+    profile: u32,
+    out: &mut [Fault],
+) -> FaultCount
+    ensures { IsFaultsAnswer profile None text.now out.old out.new result }
+{
+    answered(alloc, text, None, profile, out)
+}
+
+/// The same against the bytes of a base, which is judged alone by the same profile.
+#[unsafe(no_mangle)]
+pub extern "C" fn urlcheck_faults_against(
+    alloc: Global,
+    text: &[u8],
+    base: &[u8],
+    profile: u32,
+    out: &mut [Fault],
+) -> FaultCount
+    ensures { IsFaultsAnswer profile (Some base.now) text.now out.old out.new result }
+{
+    answered(alloc, text, Some(base), profile, out)
+}
+
+// The faults of bytes, alone or against those of a base.
+fn answered(
+    alloc: Global,
+    text: &[u8],
+    base: Option<&[u8]>,
+    profile: u32,
+    out: &mut [Fault],
+) -> FaultCount
+    ensures { IsFaultsAnswer profile (option_copied base.entry) text.now out.old out.new result }
+{
+    match prepared(alloc, text, base, profile) {
+        Ok(request) => judged(alloc, &request, out),
+        Err(found) => FaultCount { found, count: 0 },
+    }
+}
+
+// The faults of a text that is judged.
+fn judged(alloc: Global, request: &Request<'_>, out: &mut [Fault]) -> FaultCount
+    ensures { IsFaultsJudged request.now.profile request.now.base request.now.text.now out.old out.new result }
+{
+    let text = request.text;
+    match faults(alloc, text, request.base.as_ref(), request.profile) {
+        Ok(found) => {
+            store(text, found.as_slice(), out);
+            FaultCount {
+                found: first_found(text, found.as_slice()),
+                count: found.len(),
+            }
+        }
+        Err(AllocError) => FaultCount {
+            found: Finding::plain(Outcome::Memory),
+            count: 0,
+        },
+    }
+}
+
+// The verdict by the first of the faults.
+fn first_found(text: &str, found: &[Refusal]) -> Finding
+    ensures { result ≡ first_finding text.now found.now }
+{
+    match found.first() {
+        Some(refusal) => Finding::refused(Outcome::Refused, text, *refusal),
+        None => Finding::plain(Outcome::Valid),
+    }
+}

@@ -1,0 +1,111 @@
+//! What was found of a text, as C sees it.
+ghost use Rattle.std.specs.Prelude.{◌≡◌, IsUtf8, length};
+ghost use Rattle.std.specs.Str.{IsValidUpTo, chars};
+ghost use Rattle.std.specs.Str.Lossy.{utf8_valid_len};
+ghost use Rattle.urlcheck_c.specs.Finding.{no_utf8_finding, outcome_number, plain_finding, refused_finding};
+
+use crate::places::byte_place;
+use simdutf8::compat::from_utf8;
+use uv_model::Refusal;
+use uv_text::count_code_points;
+
+/// What was found of a text, or why it wasn't judged.
+#[repr(C)]
+#[derive(Clone, Copy)]
+pub struct Finding {
+    /// The number of the outcome: 0 valid, 1 refused, 2 no UTF-8, 3 the base is refused alone, 4 the base is no UTF-8,
+    /// 5 want of memory, 6 no profile has the number.
+    pub verdict: u32,
+    /// The number of the violated rule, from 1 to 14, where the text or the base is refused, else 0.
+    pub rule: u32,
+    /// The first wrong place in code points from 0, of the text or, where the verdict is about it, of the base.
+    pub place: usize,
+    /// The same place in bytes from 0.
+    pub byte_place: usize,
+}
+
+/// The outcomes of a call.
+#[derive(Clone, Copy)]
+pub(crate) enum Outcome {
+    /// The text is a valid URL string.
+    Valid,
+    /// The text violates a rule.
+    Refused,
+    /// The text is no UTF-8.
+    NoUtf8,
+    /// The base violates a rule alone.
+    BaseRefused,
+    /// The base is no UTF-8.
+    BaseNoUtf8,
+    /// A growth was refused.
+    Memory,
+    /// No profile has the number.
+    NoProfile,
+}
+
+impl Outcome {
+    /// The number that C sees.
+    pub(crate) fn number(self) -> u32
+        ensures { result ≡ outcome_number self }
+    {
+        match self {
+            Outcome::Valid => 0,
+            Outcome::Refused => 1,
+            Outcome::NoUtf8 => 2,
+            Outcome::BaseRefused => 3,
+            Outcome::BaseNoUtf8 => 4,
+            Outcome::Memory => 5,
+            Outcome::NoProfile => 6,
+        }
+    }
+}
+
+impl Finding {
+    /// An outcome without a rule and a place.
+    pub(crate) fn plain(outcome: Outcome) -> Finding
+        ensures { result ≡ plain_finding outcome }
+    {
+        Finding {
+            verdict: outcome.number(),
+            rule: 0,
+            place: 0,
+            byte_place: 0,
+        }
+    }
+
+    /// A text that is refused.
+    pub(crate) fn refused(outcome: Outcome, text: &str, refusal: Refusal) -> Finding
+        ensures { result ≡ refused_finding outcome text.now refusal }
+    {
+        Finding {
+            verdict: outcome.number(),
+            rule: u32::from(refusal.rule.number()),
+            place: refusal.place,
+            byte_place: byte_place(text, refusal.place),
+        }
+    }
+
+    /// Bytes whose longest front that is UTF-8 has this length.
+    pub(crate) fn no_utf8(outcome: Outcome, bytes: &[u8], front: usize) -> Finding
+        requires front { IsValidUpTo bytes.now front }
+        requires longest { front ≡ utf8_valid_len bytes.now }
+        ensures { result ≡ no_utf8_finding outcome bytes.now }
+    {
+        Finding {
+            verdict: outcome.number(),
+            rule: 0,
+            place: count_valid(&bytes[..front]),
+            byte_place: front,
+        }
+    }
+}
+
+// How many code points the bytes hold, where they are UTF-8.
+fn count_valid(bytes: &[u8]) -> usize
+    ensures { IsUtf8 bytes.now → result ≡ length (chars bytes.now) }
+{
+    match from_utf8(bytes) {
+        Ok(text) => count_code_points(text),
+        Err(_) => 0,
+    }
+}

@@ -1,0 +1,101 @@
+//! The names and the sentences of the rules, and the version.
+ghost use Rattle.std.specs.Prelude.{◌≡◌};
+ghost use Rattle.urlcheck_c.specs.Buffer.{IsWritten};
+ghost use Rattle.urlcheck_c.specs.Names.{name_of_number, rule_sentence, rule_with_number, sentence_of_number};
+
+use crate::buffers::write_front;
+use uv_model::Rule;
+
+/// The version of the library, 0.1.0, as 10000 times its first number, 100 times its second and its third.
+#[unsafe(no_mangle)]
+pub extern "C" fn urlcheck_version() -> u32
+    ensures { result ≡ 100 }
+{
+    100
+}
+
+/// Writes the name of the rule with this number to the front of `out` where it fits, and gives its length: 0 where no
+/// rule has the number. Where `out` is shorter than the name, it stays as it is.
+#[unsafe(no_mangle)]
+pub extern "C" fn urlcheck_rule_name(number: u32, out: &mut [u8]) -> usize
+    ensures { IsWritten (name_of_number number) out.old out.new result }
+{
+    write_front(name_of(number).as_bytes(), out)
+}
+
+/// The same with a sentence of what is wrong at the place of a refusal by the rule.
+#[unsafe(no_mangle)]
+pub extern "C" fn urlcheck_rule_sentence(number: u32, out: &mut [u8]) -> usize
+    ensures { IsWritten (sentence_of_number number) out.old out.new result }
+{
+    write_front(sentence_of(number).as_bytes(), out)
+}
+
+// The name of the rule with this number, else no text.
+fn name_of(number: u32) -> &'static str
+    ensures { result.now ≡ name_of_number number }
+{
+    match rule_of(number) {
+        Some(rule) => rule.name(),
+        None => "",
+    }
+}
+
+// The sentence of the rule with this number, else no text.
+fn sentence_of(number: u32) -> &'static str
+    ensures { result.now ≡ sentence_of_number number }
+{
+    match rule_of(number) {
+        Some(rule) => sentence(rule),
+        None => "",
+    }
+}
+
+// The rule with this number.
+fn rule_of(number: u32) -> Option<Rule>
+    ensures { result ≡ rule_with_number number }
+{
+    match number {
+        1 => Some(Rule::NoScheme),
+        2 => Some(Rule::OpaqueBase),
+        3 => Some(Rule::TwoSlashes),
+        4 => Some(Rule::HostMissing),
+        5 => Some(Rule::HostDomain),
+        6 => Some(Rule::HostNumber),
+        7 => Some(Rule::HostIpv6),
+        8 => Some(Rule::HostCodePoint),
+        9 => Some(Rule::PortDigit),
+        10 => Some(Rule::PortRange),
+        11 => Some(Rule::FirstSegmentEmpty),
+        12 => Some(Rule::DriveAfterHost),
+        13 => Some(Rule::CodePoint),
+        14 => Some(Rule::Percent),
+        _ => None,
+    }
+}
+
+// What is wrong at the place of a refusal by the rule.
+fn sentence(rule: Rule) -> &'static str
+    ensures { result.now ≡ rule_sentence rule }
+{
+    match rule {
+        Rule::NoScheme => "there is no scheme and no base",
+        Rule::OpaqueBase => {
+            "there is no scheme, the base has an opaque path, and the text isn't # and a fragment"
+        }
+        Rule::TwoSlashes => "// has to follow this scheme",
+        Rule::HostMissing => "a host has to stand here",
+        Rule::HostDomain => "the host that begins here is no valid domain",
+        Rule::HostNumber => { "the host that begins here ends in a number, and is no IPv4 address" }
+        Rule::HostIpv6 => "the host that begins here is no IPv6 address in brackets",
+        Rule::HostCodePoint => "this code point may not stand in a host",
+        Rule::PortDigit => "this code point of the port is no digit",
+        Rule::PortRange => "the port that begins here is above 65535",
+        Rule::FirstSegmentEmpty => "the path's first segment is empty, and others follow it",
+        Rule::DriveAfterHost => {
+            "the path that begins here begins with /, a drive letter and /, and follows a host"
+        }
+        Rule::CodePoint => "this code point may not stand in a URL",
+        Rule::Percent => "two hex digits have to follow this %",
+    }
+}

@@ -1,0 +1,58 @@
+//! Places in code points as places in bytes.
+ghost use Rattle.std.specs.Prelude.{◌≡◌, drop};
+ghost use Rattle.std.specs.Str.{chars};
+ghost use Rattle.urlcheck_c.specs.Finding.{byte_place};
+
+use uv_model::first_code_point;
+
+/// The place in bytes of a place in code points: how many bytes stand before it.
+pub(crate) fn byte_place(text: &str, place: usize) -> usize
+    ensures { result ≡ byte_place text.now place }
+{
+    bytes_before(text, behind(text, place), place)
+}
+
+/// How many bytes stand before what follows so many code points.
+pub(crate) fn bytes_before(text: &str, left: &str, place: usize) -> usize
+    requires { chars left.now ≡ drop place (chars text.now) }
+    ensures { result ≡ byte_place text.now place }
+{
+    text.len() - left.len()
+}
+
+/// What follows the code points before a place, where the code points before another place are passed already.
+pub(crate) fn behind_passed<'t>(
+    text: &'t str,
+    left: &'t str,
+    passed: usize,
+    place: usize,
+) -> &'t str
+    requires { chars left.now ≡ drop passed (chars text.now) }
+    ensures { chars result.now ≡ drop place (chars text.now) }
+{
+    if place < passed {
+        return behind(text, place);
+    }
+    behind(left, place - passed)
+}
+
+// What follows so many code points.
+fn behind(text: &str, count: usize) -> &str
+    ensures { chars result.now ≡ drop count (chars text.now) }
+{
+    let mut left = text;
+    for _ in 0..count {
+        left = behind_one(left);
+    }
+    left
+}
+
+// What follows the first code point, if there is one.
+fn behind_one(text: &str) -> &str
+    ensures { chars result.now ≡ drop 1 (chars text.now) }
+{
+    match first_code_point(text) {
+        Some((_, rest)) => rest,
+        None => text,
+    }
+}

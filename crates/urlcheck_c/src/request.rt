@@ -1,0 +1,83 @@
+//! What a call asks: a text, a base and a profile, read from what C gave.
+ghost use Rattle.std.specs.Prelude.{◌≡◌, option_copied};
+ghost use Rattle.urlcheck_c.specs.Finding.{profile_of};
+ghost use Rattle.urlcheck_c.specs.Request.{IsBaseRead, IsPrepared, IsTextRead};
+
+use crate::finding::{Finding, Outcome};
+use simdutf8::compat::from_utf8;
+use std::alloc::Global;
+use uv_model::{Profile, Record};
+use uv_resolve::{ResolveFault, resolve};
+
+/// What is to be judged.
+#[derive(Drop)]
+pub(crate) struct Request<'t> {
+    /// The text.
+    pub(crate) text: &'t str,
+    /// What the base denotes alone.
+    pub(crate) base: Option<Record>,
+    /// The profile by which both are judged.
+    pub(crate) profile: Profile,
+}
+
+/// What is to be judged of the bytes of a text and of a base, or why nothing is.
+pub(crate) fn prepared<'t>(
+    alloc: Global,
+    text: &'t [u8],
+    base: Option<&[u8]>,
+    profile: u32,
+) -> Result<Request<'t>, Finding>
+    ensures { IsPrepared profile (option_copied base.entry) text.now result }
+{
+    let Some(profile) = profile_of(profile) else {
+        return Err(Finding::plain(Outcome::NoProfile));
+    };
+    let text = text_of(text, Outcome::NoUtf8)?;
+    match base {
+        Some(base) => Ok(Request {
+            text,
+            base: Some(base_of(alloc, base, profile)?),
+            profile,
+        }),
+        None => Ok(Request {
+            text,
+            base: None,
+            profile,
+        }),
+    }
+}
+
+// The profile with this number: 0 is the standard profile, 1 the wide one.
+fn profile_of(number: u32) -> Option<Profile>
+    ensures { result ≡ profile_of number }
+{
+    match number {
+        0 => Some(Profile::Standard),
+        1 => Some(Profile::Wide),
+        _ => None,
+    }
+}
+
+// The bytes as a text.
+fn text_of(bytes: &[u8], fault: Outcome) -> Result<&str, Finding>
+    ensures { IsTextRead fault bytes.now result }
+{
+    match from_utf8(bytes) {
+        Ok(text) => Ok(text),
+        Err(error) => Err(Finding::no_utf8(fault, bytes, error.valid_up_to())),
+    }
+}
+
+// What the bytes of a base denote alone.
+fn base_of(alloc: Global, base: &[u8], profile: Profile) -> Result<Record, Finding>
+    ensures { IsBaseRead profile base.now result }
+{
+    let base = text_of(base, Outcome::BaseNoUtf8)?;
+    match resolve(alloc, base, None, profile) {
+        Ok(record) => Ok(record),
+        Err(ResolveFault::Refused(refusal)) => {
+            Err(Finding::refused(Outcome::BaseRefused, base, refusal))
+        }
+        Err(ResolveFault::Memory(_)) => Err(Finding::plain(Outcome::Memory)),
+    }
+}

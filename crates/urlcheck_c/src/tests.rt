@@ -1,0 +1,127 @@
+//! Each export on texts that are written out. The expected places are counted by hand.
+
+use crate::checks::{urlcheck_check, urlcheck_check_against};
+use crate::fault_lists::{Fault, urlcheck_faults, urlcheck_faults_against};
+use crate::finding::Finding;
+use crate::names::{urlcheck_rule_name, urlcheck_rule_sentence};
+use crate::records::{urlcheck_resolve, urlcheck_resolve_against};
+use std::process::Abort;
+
+// What was found is this verdict and rule, at this place in code points and in bytes.
+fn finds(rt: &impl Abort, found: Finding, wanted: (u32, u32, usize, usize)) {
+    assert_eq!(rt; found.verdict, wanted.0);
+    assert_eq!(rt; found.rule, wanted.1);
+    assert_eq!(rt; found.place, wanted.2);
+    assert_eq!(rt; found.byte_place, wanted.3);
+}
+
+#[test]
+fn lays_out_the_parts_in_bytes(rt: HostRuntime) {
+    let text = "http://h/\u{e9}?q#f".as_bytes();
+    let answer = urlcheck_check(rt.alloc(), text, 0);
+    finds(&rt, answer.found, (0, 0, 0, 0));
+    assert_eq!(rt; answer.parts.path.start, 8);
+    assert_eq!(rt; answer.parts.path.length, 3);
+    assert_eq!(rt; answer.parts.query.start, 12);
+    assert_eq!(rt; answer.parts.fragment.start, 14);
+    assert!(rt; !answer.parts.port.present);
+}
+
+#[test]
+fn refuses_at_a_place_in_code_points_and_in_bytes(rt: HostRuntime) {
+    let text = "http://h/\u{e9} b".as_bytes();
+    finds(
+        &rt,
+        urlcheck_check(rt.alloc(), text, 0).found,
+        (1, 13, 10, 11),
+    );
+    finds(
+        &rt,
+        urlcheck_check(rt.alloc(), b"http://h/\xc3\xa9\xff", 0).found,
+        (2, 0, 10, 11),
+    );
+    finds(
+        &rt,
+        urlcheck_check(rt.alloc(), b"http://h/", 2).found,
+        (6, 0, 0, 0),
+    );
+    finds(
+        &rt,
+        urlcheck_check(rt.alloc(), b"http://x_y/", 0).found,
+        (1, 5, 7, 7),
+    );
+    finds(
+        &rt,
+        urlcheck_check(rt.alloc(), b"http://x_y/", 1).found,
+        (0, 0, 0, 0),
+    );
+}
+
+#[test]
+fn judges_the_base_alone(rt: HostRuntime) {
+    let found = urlcheck_check_against(rt.alloc(), b"x", "http://h/\u{e9} b".as_bytes(), 0).found;
+    finds(&rt, found, (3, 13, 10, 11));
+    finds(
+        &rt,
+        urlcheck_check_against(rt.alloc(), b"x", b"h\xff", 0).found,
+        (4, 0, 1, 1),
+    );
+    finds(
+        &rt,
+        urlcheck_check_against(rt.alloc(), b"x", b"http://h/", 0).found,
+        (0, 0, 0, 0),
+    );
+    finds(
+        &rt,
+        urlcheck_check_against(rt.alloc(), b"x", b"urn:a", 0).found,
+        (1, 2, 0, 0),
+    );
+}
+
+#[test]
+fn writes_a_record_where_it_fits(rt: HostRuntime) {
+    let mut out = [b'.'; 12];
+    let short = urlcheck_resolve(rt.alloc(), b"HTTP://h", 0, &mut out[..8]);
+    assert_eq!(rt; short.length, 9);
+    assert_eq!(rt; out[0], b'.');
+    let text = b"../x";
+    let full = urlcheck_resolve_against(rt.alloc(), text, b"http://h/a/b", 0, &mut out);
+    finds(&rt, full.found, (0, 0, 0, 0));
+    assert_eq!(rt; full.length, 10);
+    assert!(rt; out[..] == b"http://h/x.."[..]);
+}
+
+#[test]
+fn writes_as_many_faults_as_fit(rt: HostRuntime) {
+    let none = Fault {
+        rule: 0,
+        place: 0,
+        byte_place: 0,
+    };
+    let mut out = [none; 3];
+    let answer = urlcheck_faults(
+        rt.alloc(),
+        "http://x_y/\u{e9} ^%".as_bytes(),
+        0,
+        &mut out[..2],
+    );
+    finds(&rt, answer.found, (1, 5, 7, 7));
+    assert_eq!(rt; answer.count, 4);
+    assert_eq!(rt; out[1].rule, 13);
+    assert_eq!(rt; out[1].place, 12);
+    assert_eq!(rt; out[1].byte_place, 13);
+    assert_eq!(rt; out[2].rule, 0);
+    assert_eq!(rt;
+        urlcheck_faults_against(rt.alloc(), b"x", b"http://h/", 1, &mut out).count,
+        0
+    );
+}
+
+#[test]
+fn names_rules(rt: HostRuntime) {
+    let mut out = [b'.'; 8];
+    assert_eq!(rt; urlcheck_rule_name(14, &mut out), 7);
+    assert!(rt; out[..] == b"percent."[..]);
+    assert_eq!(rt; urlcheck_rule_name(15, &mut out), 0);
+    assert_eq!(rt; urlcheck_rule_sentence(14, &mut out), 36);
+}

@@ -1,0 +1,159 @@
+/*
+ * The checker of valid URL strings (WHATWG URL Standard, sections 3.4 and 4.3), alone or against a base.
+ *
+ * A text is bytes and their length; it needs no NUL at its end, and may hold any bytes. Each function has a proved
+ * contract: on every input it is safe, ends, and gives what is said here. What it asks of its caller is this alone:
+ *
+ * - a pointer isn't null, also where its length is 0, and so many bytes or elements stand behind it;
+ * - nothing writes to what was handed in during the call, and an `out` overlaps no other argument;
+ * - malloc, realloc and free are the C library's, or behave so, and the call isn't made from a signal handler.
+ *
+ * There is no setup, no state and nothing to free: each call gives back all memory that it took, answers by value and
+ * keeps no pointer. Any number of threads may call at once.
+ *
+ * A place counts from 0, in code points or in bytes, as is said. A profile is a number: see urlcheck_profile.
+ * C99 and later, C++11 and later.
+ */
+#ifndef URLCHECK_H
+#define URLCHECK_H
+
+#include <stdbool.h>
+#include <stddef.h>
+#include <stdint.h>
+
+#ifdef __cplusplus
+extern "C" {
+#endif
+
+/* Which written grammar a text, and its base, are judged by. */
+enum urlcheck_profile {
+    URLCHECK_STANDARD = 0, /* the URL Standard's valid URL strings */
+    URLCHECK_WIDE = 1      /* also `_` and hyphens wherever they stand in domains, any segments behind an authority */
+};
+
+/* How a call ended. */
+enum urlcheck_outcome {
+    URLCHECK_VALID = 0,        /* the text is a valid URL string */
+    URLCHECK_REFUSED = 1,      /* the text violates a rule */
+    URLCHECK_NO_UTF8 = 2,      /* the text is no UTF-8 */
+    URLCHECK_BASE_REFUSED = 3, /* the base, judged alone, violates a rule; nothing is said of the text */
+    URLCHECK_BASE_NO_UTF8 = 4, /* the base is no UTF-8; nothing is said of the text */
+    URLCHECK_MEMORY = 5,       /* malloc gave no memory; nothing is said of the text */
+    URLCHECK_NO_PROFILE = 6    /* no profile has the number that was given */
+};
+
+/* The rules that a text can violate. A refusal names the rule of the least number at the least place. */
+enum urlcheck_rule {
+    URLCHECK_NO_SCHEME = 1,
+    URLCHECK_OPAQUE_BASE = 2,
+    URLCHECK_TWO_SLASHES = 3,
+    URLCHECK_HOST_MISSING = 4,
+    URLCHECK_HOST_DOMAIN = 5,
+    URLCHECK_HOST_NUMBER = 6,
+    URLCHECK_HOST_IPV6 = 7,
+    URLCHECK_HOST_CODE_POINT = 8,
+    URLCHECK_PORT_DIGIT = 9,
+    URLCHECK_PORT_RANGE = 10,
+    URLCHECK_FIRST_SEGMENT_EMPTY = 11,
+    URLCHECK_DRIVE_AFTER_HOST = 12,
+    URLCHECK_CODE_POINT = 13,
+    URLCHECK_PERCENT = 14
+};
+
+/* What was found of a text, or of its base where the verdict is about the base. */
+typedef struct urlcheck_finding {
+    uint32_t verdict;  /* one of urlcheck_outcome */
+    uint32_t rule;     /* where the text or the base is refused one of urlcheck_rule, else 0 */
+    size_t place;      /* in code points: the first wrong place of a refusal; of bytes that are no UTF-8 the end of
+                          their longest front that is; else 0 */
+    size_t byte_place; /* the same place in bytes */
+} urlcheck_finding;
+
+/* A part of a text, in bytes and without its delimiters. Where the text lacks it, start and length are 0. */
+typedef struct urlcheck_span {
+    size_t start;
+    size_t length;
+    bool present;
+} urlcheck_span;
+
+/* The parts of a valid text. The path begins with its `/` and is always there, though it may be empty. */
+typedef struct urlcheck_spans {
+    urlcheck_span scheme;
+    urlcheck_span host;
+    urlcheck_span port;
+    urlcheck_span path;
+    urlcheck_span query;
+    urlcheck_span fragment;
+} urlcheck_spans;
+
+/* The answer of a check: the parts are those of a valid text, else none is present. */
+typedef struct urlcheck_answer {
+    urlcheck_finding found;
+    urlcheck_spans parts;
+} urlcheck_answer;
+
+/* The answer of urlcheck_resolve: the length in bytes of the record's text, 0 where there is none. */
+typedef struct urlcheck_resolved {
+    urlcheck_finding found;
+    size_t length;
+} urlcheck_resolved;
+
+/* A rule that a text violates at a place, in code points and in bytes. */
+typedef struct urlcheck_fault {
+    uint32_t rule;
+    size_t place;
+    size_t byte_place;
+} urlcheck_fault;
+
+/* The answer of urlcheck_faults: the verdict, as the check gives it, and how many faults the text has. */
+typedef struct urlcheck_fault_count {
+    urlcheck_finding found;
+    size_t count;
+} urlcheck_fault_count;
+
+/* Whether the text is a valid URL string alone. The verdict is never about a base. */
+urlcheck_answer urlcheck_check(const uint8_t *text, size_t length, uint32_t profile);
+
+/* Whether the text is a valid URL string against a base, which is judged alone by the same profile. */
+urlcheck_answer urlcheck_check_against(const uint8_t *text, size_t length, const uint8_t *base, size_t base_length,
+                                       uint32_t profile);
+
+/*
+ * Writes the text of the URL record that the text denotes (sections 4.4 and 4.5) to the front of `out`, without a NUL,
+ * where `room` bytes hold it, and gives its length. Where they don't, `out` stays as it is and the length is still
+ * given, so a second call with so much room writes it. Where the verdict isn't URLCHECK_VALID, `out` stays as it is.
+ */
+urlcheck_resolved urlcheck_resolve(const uint8_t *text, size_t length, uint32_t profile, uint8_t *out, size_t room);
+
+/* The same against a base, which is judged alone by the same profile. */
+urlcheck_resolved urlcheck_resolve_against(const uint8_t *text, size_t length, const uint8_t *base,
+                                           size_t base_length, uint32_t profile, uint8_t *out, size_t room);
+
+/*
+ * Writes all that is wrong with the text to the front of `out`, by place and at one place by the rule's number: as many
+ * faults as `room` elements hold. The count is of all of them, and may be larger than `room`; it is 0 exactly where the
+ * verdict isn't URLCHECK_REFUSED. Elements behind the last one written stay as they are.
+ */
+urlcheck_fault_count urlcheck_faults(const uint8_t *text, size_t length, uint32_t profile, urlcheck_fault *out,
+                                     size_t room);
+
+/* The same against a base, which is judged alone by the same profile. */
+urlcheck_fault_count urlcheck_faults_against(const uint8_t *text, size_t length, const uint8_t *base,
+                                             size_t base_length, uint32_t profile, urlcheck_fault *out, size_t room);
+
+/*
+ * Writes the rule's name, as `host-domain`, in ASCII and without a NUL to the front of `out` where `room` bytes hold
+ * it, and gives its length: 19 at most, and 0 where no rule has the number. Else `out` stays as it is.
+ */
+size_t urlcheck_rule_name(uint32_t rule, uint8_t *out, size_t room);
+
+/* The same with a sentence that says what is wrong at the place, of 84 bytes at most. */
+size_t urlcheck_rule_sentence(uint32_t rule, uint8_t *out, size_t room);
+
+/* The version of the library: 10000 times its first number, 100 times its second, and its third. */
+uint32_t urlcheck_version(void);
+
+#ifdef __cplusplus
+}
+#endif
+#endif

@@ -1,0 +1,86 @@
+"""The shared object ``liburlcheck.so`` and its functions, as ``include/urlcheck.h`` declares them."""
+
+import ctypes
+import os
+
+SIZE = ctypes.c_size_t
+NUMBER = ctypes.c_uint32
+
+
+class Finding(ctypes.Structure):
+    """What was found of a text, or of its base where the verdict is about the base."""
+
+    _fields_ = [("verdict", NUMBER), ("rule", NUMBER), ("place", SIZE), ("byte_place", SIZE)]
+
+
+class Span(ctypes.Structure):
+    """A part of a text, in bytes."""
+
+    _fields_ = [("start", SIZE), ("length", SIZE), ("present", ctypes.c_bool)]
+
+
+PARTS = ("scheme", "host", "port", "path", "query", "fragment")
+
+
+class Spans(ctypes.Structure):
+    """The parts of a valid text."""
+
+    _fields_ = [(name, Span) for name in PARTS]
+
+
+class Answer(ctypes.Structure):
+    """The answer of a check."""
+
+    _fields_ = [("found", Finding), ("parts", Spans)]
+
+
+class Resolved(ctypes.Structure):
+    """The answer of a resolution: the length in bytes of the record's text."""
+
+    _fields_ = [("found", Finding), ("length", SIZE)]
+
+
+class Fault(ctypes.Structure):
+    """A rule that a text violates at a place."""
+
+    _fields_ = [("rule", NUMBER), ("place", SIZE), ("byte_place", SIZE)]
+
+
+class FaultCount(ctypes.Structure):
+    """The verdict, and how many faults the text has."""
+
+    _fields_ = [("found", Finding), ("count", SIZE)]
+
+
+def _path() -> str:
+    """The shared object: that of ``URLCHECK_LIBRARY``, else beside this file, else where the system looks."""
+    given = os.environ.get("URLCHECK_LIBRARY")
+    if given:
+        return given
+    beside = os.path.join(os.path.dirname(os.path.abspath(__file__)), "liburlcheck.so")
+    return beside if os.path.exists(beside) else "liburlcheck.so"
+
+
+def _load() -> ctypes.CDLL:
+    library = ctypes.CDLL(_path())
+    text = [ctypes.c_char_p, SIZE]
+    faults = [NUMBER, ctypes.POINTER(Fault), SIZE]
+    out = [ctypes.c_char_p, SIZE]
+    for name, result, words in (
+        ("urlcheck_check", Answer, text + [NUMBER]),
+        ("urlcheck_check_against", Answer, text + text + [NUMBER]),
+        ("urlcheck_resolve", Resolved, text + [NUMBER] + out),
+        ("urlcheck_resolve_against", Resolved, text + text + [NUMBER] + out),
+        ("urlcheck_faults", FaultCount, text + faults),
+        ("urlcheck_faults_against", FaultCount, text + text + faults),
+        ("urlcheck_rule_name", SIZE, [NUMBER] + out),
+        ("urlcheck_rule_sentence", SIZE, [NUMBER] + out),
+        ("urlcheck_version", NUMBER, []),
+    ):
+        function = getattr(library, name)
+        function.restype = result
+        function.argtypes = words
+    return library
+
+
+LIBRARY = _load()

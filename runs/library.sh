@@ -1,0 +1,72 @@
+#!/usr/bin/env bash
+# Runs the library for C over every file of vectors, from C, C++ and Python, and compares with the program given as the
+# first argument; then four threads, each allocation refused in turn, and a text of 100 MB. What isn't installed is left
+# out, and a line says so.
+set -euo pipefail
+program=$(realpath "$1")
+top=$(dirname "$(dirname "$(realpath "$0")")")
+room=$(mktemp -d)
+trap 'rm -rf "$room"' EXIT
+cd "$top/runs/library"
+
+for tool in gcc objcopy python3; do
+    command -v "$tool" >/dev/null || { echo "library: left out, since $tool isn't installed"; exit 0; }
+done
+"$top/build-library" "$room/installed" >"$room/built" 2>&1 || { cat "$room/built"; exit 1; }
+include=$room/installed/include
+archive=$room/installed/lib/liburlcheck.a
+shared=$room/installed/lib/liburlcheck.so
+export PYTHONPATH=$room/installed/python PYTHONDONTWRITEBYTECODE=1
+strict=(-Wall -Wextra -Werror -O2 -g)
+sanitized=(-fsanitize=address,undefined -fno-sanitize-recover=all)
+
+# Only names of this library are visible, in the archive and in the shared object.
+for seen in "$(nm -g --defined-only "$archive")" "$(nm -D --defined-only "$shared")"; do
+    if grep -E ' [A-Z] ' <<<"$seen" | grep -qv ' urlcheck_'; then echo "FAILED: another name is visible"; exit 1; fi
+done
+
+python3 cases.py pack "$room/cases" "$top"/vectors/*.json
+gcc -std=c99 "${strict[@]}" "${sanitized[@]}" -I "$include" answers.c "$archive" -o "$room/answers_c"
+"$room/answers_c" "$room/cases" >"$room/c"
+python3 cases.py compare "$program" "$room/c" "$top"/vectors/*.json
+if python3 -m pip --version >/dev/null 2>&1; then
+    python3 -m pip install --no-deps --no-index --target "$room/site" "$room/installed/python" >"$room/built" 2>&1 ||
+        { cat "$room/built"; exit 1; }
+    PYTHONPATH=$room/site
+else
+    echo "library: the package is read from its folder, since pip isn't installed"
+fi
+python3 answers.py "$room/cases" >"$room/python"
+cmp "$room/c" "$room/python"
+if command -v g++ >/dev/null; then
+    g++ -std=c++11 "${strict[@]}" "${sanitized[@]}" -I "$include" answers.cpp "$archive" -o "$room/answers_cpp"
+    "$room/answers_cpp" "$room/cases" >"$room/cpp"
+    cmp "$room/c" "$room/cpp"
+    echo 'library: C, C++ and Python give the same answers'
+else
+    echo "library: C and Python give the same answers; C++ left out, since g++ isn't installed"
+fi
+
+gcc -std=c99 -D_XOPEN_SOURCE=600 "${strict[@]}" -I "$include" threads.c "$archive" -lpthread -o "$room/threads"
+"$room/threads"
+gcc -std=c99 "${strict[@]}" -I "$include" memory.c "$archive" \
+    -Wl,--wrap=malloc,--wrap=realloc,--wrap=free -o "$room/memory"
+"$room/memory"
+
+# The programs of the README, as they stand there.
+python3 readme.py "$top/README.md" "$room"
+gcc -std=c99 "${strict[@]}" -I "$include" "$room/readme.c" "$archive" -o "$room/readme_c"
+"$room/readme_c" | cmp - "$room/readme.c.out"
+if command -v g++ >/dev/null; then
+    g++ -std=c++11 "${strict[@]}" -I "$include" "$room/readme.cpp" "$archive" -o "$room/readme_cpp"
+    "$room/readme_cpp" | cmp - "$room/readme.cpp.out"
+fi
+python3 "$room/readme.py" | cmp - "$room/readme.py.out"
+python3 -c 'import doctest, sys, urlcheck; sys.exit(doctest.testmod(urlcheck).failed)'
+python3 - "$top/README.md" <<'END'
+import sys, urlcheck
+table = open(sys.argv[1], encoding="utf-8").read().replace("`", "")
+missing = [rule for rule in urlcheck.RULES if "| {} | {} |".format(rule, urlcheck.sentence(rule)) not in table]
+sys.exit("FAILED: other sentences in the README of {}".format(missing) if missing else 0)
+END
+echo 'library: the programs of the README'

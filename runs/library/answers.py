@@ -1,0 +1,36 @@
+"""Answers each case of a file of cases (see cases.py) by the package, in both profiles, a line each: as answers.c."""
+
+import sys
+
+import urlcheck
+from cases import unpacked
+
+PARTS = ("scheme", "host", "port", "path", "query", "fragment")
+
+
+def byte_place(text, place):
+    return len(text[:place].encode())
+
+
+def at(text, refused):
+    return "{} {} {}".format(refused.place, byte_place(text, refused.place), refused.rule)
+
+
+def line(text, base, profile):
+    try:
+        found = urlcheck.check(text, base, profile)
+    except urlcheck.BaseRefused as refused:
+        return "3 " + at(base, refused)
+    faults = urlcheck.faults(text, base, profile)
+    resolved = urlcheck.resolve(text, base, profile)
+    if not found:
+        assert resolved == found
+        return "\t".join(["1 " + at(text, found)] + [at(text, fault) for fault in faults])
+    parts = (getattr(found, part) for part in PARTS)
+    shown = ["-" if part is None else "+" + part for part in parts]
+    return "\t".join(["0"] + shown + [resolved] + [at(text, fault) for fault in faults])
+
+
+for text, base in unpacked(sys.argv[1]):
+    for profile in (urlcheck.Profile.STANDARD, urlcheck.Profile.WIDE):
+        sys.stdout.buffer.write(line(text, base, profile).encode() + b"\n")

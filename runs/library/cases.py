@@ -1,0 +1,132 @@
+"""Cases for the library, from files of vectors, and what `urlcheck check` says of them.
+
+    cases.py pack CASES VECTORS..          writes the cases of the vectors
+    cases.py compare PROGRAM ANSWERS VECTORS..   compares the answers of the library with the program's and the vectors'
+
+A file of cases has for each case the text and the base, each behind its length in four bytes, lowest first; an absent
+base has the length 0xFFFFFFFF.
+"""
+
+import concurrent.futures
+import json
+import struct
+import subprocess
+import sys
+
+ABSENT = 0xFFFFFFFF
+# Texts beside the vectors: each kind of host, references, places behind code points of each length, and empty texts.
+MORE = [
+    ("", None),
+    ("", "http://h/a?q#f"),
+    ("x", "http://h/a b"),
+    ("http://h/\u00e9\u65e5\U0001f600 b c%", None),
+    ("\u00e9\u65e5\U0001f600 %zz", "http://h/"),
+    ("//u@h:x/^", "foo://h/"),
+    ("HTTPS://EXAMPLE.com:443/a/../\u00e9?\u65e5='#\U0001f600", None),
+    ("foo://[::1]:80/", None),
+    ("http://x_y//a", None),
+    ("//h//a", "http://b_c/"),
+    ("file:///C:/..", None),
+    ("../\u00e9", "http://h/\u65e5/b?q"),
+    ("#\u00e9", "urn:isbn:1"),
+    ("a", "urn:isbn:1"),
+    ("urn:isbn:0451450523", None),
+]
+
+
+def cases_of(paths):
+    """The cases of the vectors, each as text, base, and what the vectors want of it, and then the cases above."""
+    found = []
+    for path in paths:
+        for case in json.load(open(path, encoding="utf-8")):
+            wanted = case["text"] if "text" in case else (case["place"], case["rule"])
+            found.append((case["input"], case.get("base"), wanted))
+    return found + [(text, base, None) for text, base in MORE]
+
+
+def packed(text):
+    return struct.pack("<I", ABSENT) if text is None else struct.pack("<I", len(text.encode())) + text.encode()
+
+
+def unpacked(path):
+    """The cases of a file of cases."""
+    data = open(path, "rb").read()
+    texts = []
+    at = 0
+    while at < len(data):
+        (length,) = struct.unpack_from("<I", data, at)
+        at += 4
+        texts.append(None if length == ABSENT else data[at : at + length].decode())
+        at += 0 if length == ABSENT else length
+    return zip(texts[::2], texts[1::2])
+
+
+def record_text(lines):
+    """The text of a record (URL Standard, section 4.5) of which these are the program's lines."""
+    words = [line.partition(" ") for line in lines]
+    first = {name: rest for name, _, rest in reversed(words)}
+    segments = [rest for name, _, rest in words if name == "segment"]
+    text = first["scheme"] + ":"
+    if "host" in first:
+        text += "//" + first["host"].partition(" ")[2]
+        text += ":" + first["port"] if "port" in first else ""
+    elif len(segments) > 1 and segments[0] == "":
+        text += "/."
+    text += first["opaque"] if "opaque" in first else "".join("/" + segment for segment in segments)
+    text += "?" + first["query"] if "query" in first else ""
+    return text + ("#" + first["fragment"] if "fragment" in first else "")
+
+
+def said(program, case, wide):
+    """What the program says of a case, in the form of the beginning and of the record of a line of answers."""
+    text, base, _ = case
+    words = [program, "check"] + ["--wide"] * wide + ([] if base is None else ["--base=" + base]) + ["--", text]
+    run = subprocess.run(words, capture_output=True, timeout=60)
+    lines = run.stdout.decode().split("\n")[:-1]
+    if run.returncode == 0:
+        return ("0", record_text(lines[1:]))
+    if run.returncode == 1:
+        return ("1", lines[0].partition(" ")[2])
+    return ("3", run.stderr.decode().strip().replace("base refused ", ""))
+
+
+def answered(line):
+    """The same of a line of answers."""
+    fields = line.split("\t")
+    if fields[0] == "0":
+        return ("0", fields[7])
+    verdict, place, _, rule = fields[0].split(" ")
+    return (verdict, place + " " + rule)
+
+
+def is_wanted(wanted, answer):
+    """Whether an answer is the one that the vectors want."""
+    if wanted is None:
+        return True
+    return answer == (("0", wanted) if isinstance(wanted, str) else ("1", "{} {}".format(*wanted)))
+
+
+def compare(program, answers, paths):
+    cases = cases_of(paths)
+    lines = open(answers, encoding="utf-8", newline="\n").read().split("\n")[:-1]
+    asked = [(case, wide) for case in cases for wide in (False, True)]
+    with concurrent.futures.ThreadPoolExecutor() as pool:
+        wanted = list(pool.map(lambda one: said(program, *one), asked))
+    bad = [
+        (case, wide, line, word)
+        for (case, wide), line, word in zip(asked, lines, wanted)
+        if answered(line) != word or not (wide or is_wanted(case[2], answered(line)))
+    ]
+    for one in bad[:20]:
+        print("FAILED:", one)
+    print("library: {} cases in two profiles, {} differences from `urlcheck check`".format(len(cases), len(bad)))
+    return 0 if not bad and len(lines) == len(asked) else 1
+
+
+if __name__ == "__main__":
+    if sys.argv[1] == "pack":
+        with open(sys.argv[2], "wb") as out:
+            for text, base, _ in cases_of(sys.argv[3:]):
+                out.write(packed(text) + packed(base))
+    else:
+        sys.exit(compare(sys.argv[2], sys.argv[3], sys.argv[4:]))
