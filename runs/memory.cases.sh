@@ -38,6 +38,8 @@ walks check "http://h/${long:0:50000}?${long:0:50000}#${long:0:20000}"
 walks check "http://h/${long:0:50000} "
 walks check --base "http://h/$long" x
 walks check --base "foo://$long/" //h
+walks check --all "http://h/${long:0:50000} ${long:0:50000}%"
+walks check --wide "http://h_/${long:0:50000}//${long:0:50000}"
 walks check $'http://b\xc3\xbccher.example/'
 awk -v long="${long:0:65000}" 'BEGIN {
     for (n = 1; n <= 1000; n++) print "http://h/" n
@@ -45,7 +47,7 @@ awk -v long="${long:0:65000}" 'BEGIN {
     for (n = 1; n <= 100; n++) print "http://EXAMPLE.com/" n
 }' >"$room/list"
 walks links
-walks links --base "http://h/$long"
+walks links --wide --base "http://h/$long"
 
 # 64 MiB of random bytes, in an address space that a list which memory grew with wouldn't fit into. Python counts the
 # lines, and those that aren't UTF-8, a second time.
@@ -73,4 +75,4 @@ awk -v ends=0 '/^links / { print $2, other; if ($2 != $4 + $6 + $8 || $2 != NR -
     / bad 0 not-utf8$/ { other++ }' "$room/out" | cmp -s - "$room/wanted" ||
     fail "64 MiB of random bytes: $(tail -n 1 "$room/out"), and not $(cat "$room/wanted")"
 
-all_cases 9
+all_cases 11
