@@ -2,3 +2,4 @@ mod PlaceLemmas
 mod SeenLemmas
 mod SpanLemmas
 mod StoreLemmas
+mod ToldLemmas

@@ -2,6 +2,7 @@ pub mod Answer
 pub mod Buffer
 pub mod Faults
 pub mod Finding
+pub mod Laws
 pub mod Names
 pub mod Request
 pub mod Resolved

@@ -35,10 +35,11 @@ abbrev pub IsTextRead : Outcome → List ℕ → Result (Bor (List ℕ)) Finding
 IsTextRead outcome bytes (Ok text) = (text.now ≡ bytes) × IsUtf8 bytes
 IsTextRead outcome bytes (Err finding) = IsNoText outcome bytes finding
 
--- the bytes of a base are no UTF-8, or they are refused alone, or memory ran out
+-- the bytes of a base are no UTF-8; else they are refused alone, or memory ran out
 abbrev pub IsNoBase : Profile → List ℕ → Finding → Type 0
 IsNoBase profile bytes finding =
-    IsNoText BaseNoUtf8 bytes finding ⊎ (IsRefusedText BaseRefused profile None bytes finding ⊎ IsMemory finding)
+    IsNoText BaseNoUtf8 bytes finding
+    ⊎ (IsUtf8 bytes × (IsRefusedText BaseRefused profile None bytes finding ⊎ IsMemory finding))
 
 -- what the bytes of a base denote alone, or why they denote nothing
 abbrev pub IsBaseRead : Profile → List ℕ → Result Url Finding → Type 0

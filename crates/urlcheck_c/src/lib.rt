@@ -7,6 +7,7 @@ mod buffers;
 mod checks;
 mod fault_lists;
 mod finding;
+pub mod laws;
 mod names;
 mod places;
 mod records;

@@ -1,0 +1,34 @@
+-- What can't be read is told, since every other answer says that it was read.
+use Rattle.std.proofs.Common.{◌≡◌, ℕ, List, inl, inr, sym, ◌∙◌}
+use Rattle.std.specs.Prelude.{Option, Some, None}
+use Rattle.urlcheck_c.specs.Laws.{NoBaseUtf8IsTold, NoProfileIsTold, NoUtf8IsTold}
+
+pub no_profile_is_told : NoProfileIsTold
+no_profile_is_told number base bytes answer (inl (bare, inl (lacking, found))) is = found
+no_profile_is_told number base bytes answer (inl (bare, inr (profile, some, rest))) is =
+    absurd (let e = sym some ∙ is in cc)
+no_profile_is_told number base bytes answer (inr (profile, url, request, judged)) is =
+    absurd (let e = sym request.profile_is ∙ is in cc)
+
+pub no_utf8_is_told : NoUtf8IsTold
+no_utf8_is_told number base bytes answer (inl (bare, inl (lacking, found))) profile is not_utf8 =
+    absurd (let e = sym lacking ∙ is in cc)
+no_utf8_is_told number base bytes answer (inl (bare, inr (other, some, inl text))) profile is not_utf8 = text.said
+no_utf8_is_told number base bytes answer (inl (bare, inr (other, some, inr (utf8, rest)))) profile is not_utf8 =
+    absurd (not_utf8 utf8)
+no_utf8_is_told number base bytes answer (inr (other, url, request, judged)) profile is not_utf8 =
+    absurd (not_utf8 request.utf8)
+
+pub no_base_utf8_is_told : NoBaseUtf8IsTold
+no_base_utf8_is_told number base bytes answer (inl (bare, inl (none, found))) q is utf8 wrong =
+    absurd (let e = sym none ∙ is in cc)
+no_base_utf8_is_told number base bytes answer (inl (bare, inr (p, some, inl text))) q is utf8 wrong =
+    absurd (text.none utf8)
+no_base_utf8_is_told number base bytes answer (inl (bare, inr (p, some, inr (read, inl text)))) q is utf8 wrong =
+    text.said
+no_base_utf8_is_told number base bytes answer (inl (bare, inr (p, some, inr (read, inr (whole, rest))))) q is utf8 wrong =
+    absurd (wrong whole)
+no_base_utf8_is_told number base bytes answer (inr (p, None, request, judged)) q is utf8 wrong =
+    absurd request.base_is
+no_base_utf8_is_told number base bytes answer (inr (p, Some url, request, judged)) q is utf8 wrong =
+    absurd (wrong request.base_is.0)
