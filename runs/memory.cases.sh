@@ -49,6 +49,18 @@ awk -v long="${long:0:65000}" 'BEGIN {
 walks links
 walks links --wide --base "http://h/$long"
 
+# While there is memory, none is wanted: each kind of host and many segments, in a line and in the base.
+many=$(awk 'BEGIN { for (n = 0; n < 20000; n++) printf "/a" }')
+for front in http://h http://xn--bcher-kva.example http://192.168.0.1 'http://[1:2::8]' file://h file:// foo://h foo:// \
+    'foo://[1:2::8]' foo:; do
+    printf 'x\n%s/y\n%s%s/z\n' "$front" "$front" "$many" >"$room/list"
+    "$program" links --base "$front$many/b" <"$room/list" >"$room/out" 2>"$room/err"
+    ends_with 0 $? '' "links of and against $front"
+    printf '1 ok %s%s/x\n2 ok %s/y\n3 ok %s%s/z\nlinks 3 ok 3 bad 0 differs 0\n' \
+        "$front" "$many" "$front" "$front" "$many" | cmp -s - "$room/out" ||
+        fail "links of and against $front: it wrote $(head -c 100 "$room/out")"
+done
+
 # 64 MiB of random bytes, in an address space that a list which memory grew with wouldn't fit into. Python counts the
 # lines, and those that aren't UTF-8, a second time.
 python3 - "$room" <<'PYTHON'
@@ -75,4 +87,4 @@ awk -v ends=0 '/^links / { print $2, other; if ($2 != $4 + $6 + $8 || $2 != NR -
     / bad 0 not-utf8$/ { other++ }' "$room/out" | cmp -s - "$room/wanted" ||
     fail "64 MiB of random bytes: $(tail -n 1 "$room/out"), and not $(cat "$room/wanted")"
 
-all_cases 11
+all_cases 21
