@@ -1,4 +1,5 @@
 pub mod LineLemmas
 pub mod ReportLemmas
+pub mod ReportRowsLemmas
 pub mod StandsLemmas
 pub mod PassLemmas

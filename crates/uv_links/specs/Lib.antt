@@ -5,5 +5,6 @@ pub mod Lines
 pub mod Outcome
 pub mod Progress
 pub mod Report
+pub mod ReportRows
 pub mod Run
 pub mod Second

@@ -6,6 +6,7 @@ mod ending;
 mod fault;
 mod judge;
 mod judgement;
+pub mod laws;
 mod limits;
 mod outcome;
 mod passing;
