@@ -21,8 +21,8 @@ use Rattle.uv_cli.specs.declared.ends.End.TheVariants as end
 use Rattle.uv_cli.specs.Check.{HasWritten, HasWrittenFront, IsBase, IsBaseRefused, RunsAgainst}
 use Rattle.uv_cli.specs.Ends.{complaints_of, profile_of}
 
--- A device as contracts see it: the bytes that a source has still to give or that a sink holds, where it tells them, and how
--- many of its calls have failed.
+-- A device as contracts see it: the bytes that a source has still to give or that a sink holds, where it tells them,
+-- and how many of its calls have failed.
 pub record Seen : Type 0 where
   pub bytes : Option (List ℕ)
   pub failed : ℕ
@@ -57,7 +57,8 @@ abbrev pub most_lines : ℕ
 most_lines = 1000000000
 
 -- the list was read to its end, the whole report on it was written, and these are its counts
-pub record HasReported (profile : Profile) (base : Option Url) (counts : Counts) (input rest old new : Seen) : Type 0 where
+pub record HasReported (profile : Profile) (base : Option Url) (counts : Counts)
+    (input rest old new : Seen) : Type 0 where
   pub read : List ℕ
   pub consumed : Consumes input.bytes rest.bytes read
   pub at_end : IsAtEnd rest.bytes
@@ -66,7 +67,8 @@ pub record HasReported (profile : Profile) (base : Option Url) (counts : Counts)
   pub quiet : (rest.failed ≡ input.failed) × (new.failed ≡ old.failed)
 
 -- the report stopped with this fault
-pub record HasStopped (profile : Profile) (base : Option Url) (fault : LinkFault) (input rest old new : Seen) : Type 0 where
+pub record HasStopped (profile : Profile) (base : Option Url) (fault : LinkFault)
+    (input rest old new : Seen) : Type 0 where
   pub read : List ℕ
   pub consumed : Consumes input.bytes rest.bytes read
   pub leaves : Leaves fault (list_setting profile base) most_lines old.bytes read (IsAtEnd rest.bytes) new.bytes

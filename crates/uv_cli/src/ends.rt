@@ -83,8 +83,8 @@ pub(crate) fn end_after_output(end: End, is_out: bool) -> End
     }
 }
 
-/// The exit status: 0 where the text is valid, every line ok, or help shown; 1 where one is refused or differs; 2 where the words or
-/// the base are refused or the base differs; 3 for any other fault.
+/// The exit status: 0 where the text is valid, every line ok, or help shown; 1 where one is refused or differs; 2 where
+/// the words or the base are refused or the base differs; 3 for any other fault.
 pub fn status(end: End) -> u8
     ensures { result ≡ status_of end }
 {

@@ -11,8 +11,8 @@ use std::alloc::Global;
 use uv_model::{Profile, Sink, Source};
 use uv_words::Job;
 
-/// Does what a job asks for: it checks the job's text, against the job's base and by the profile that the job names, or reports on
-/// the lines of the input.
+/// Does what a job asks for: it checks the job's text, against the job's base and by the profile that the job names, or
+/// reports on the lines of the input.
 ///
 /// The input is read only by a list, and the output isn't flushed.
 pub fn run_job<I: Source, S: Sink>(alloc: Global, job: &Job, input: &mut I, out: &mut S) -> End

@@ -28,7 +28,8 @@ file_rule = record (new_rule (codes "FILE")) { required = true }
 
 -- `check [--base TEXT] [--all] [--wide] TEXT`
 abbrev pub check_command : App
-check_command = with_rule (with_rule (with_rule (with_rule (new_app (codes "check")) base_rule) all_rule) wide_rule) text_rule
+check_command =
+    with_rule (with_rule (with_rule (with_rule (new_app (codes "check")) base_rule) all_rule) wide_rule) text_rule
 
 -- `links [--base TEXT] [--wide]`
 abbrev pub links_command : App

@@ -16,6 +16,8 @@ use Rattle.uv_words.specs.declared.words.WordsFault.TheVariants as fault
 
 -- ---- what is asked for
 
+-- a command with its texts and flags: of a check the text, the base, whether all faults are asked for and whether the
+-- profile is the wide one; of a list the base and the profile; of vectors the file
 pub data Request : Type 0 where
   check : Text → Option Text → Bool → Bool → Request
   links : Option Text → Bool → Request
@@ -45,9 +47,11 @@ request_of found = option_and_then (λ p. request_in p.0 p.1) found
 
 -- ---- what a job asks for
 
+-- the bytes of a text that may be absent
 abbrev pub text_in : Option (String Global) → Option Text
 text_in text = option_map string_bytes text
 
+-- what the job has of the request
 abbrev pub asked_by : Job → Request
 asked_by (job.Check text base all wide) = check (string_bytes text) (text_in base) all wide
 asked_by (job.Links base wide) = links (text_in base) wide

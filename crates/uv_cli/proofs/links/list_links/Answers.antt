@@ -7,6 +7,7 @@ use Rattle.uv_cli.proofs.links.list_links.Goals as goal
 pub returns-in-Ok : goal.returns-in-Ok
 returns-in-Ok g c =
     let (parts, valid, denoted) = rw c.in-Ok.is at c.resolve.ensures.resolved in
-    let base : IsBase c.args.profile c.args.base (Some c.in-Ok.base) = rw c.in-Some.is (parts, valid, ap Some denoted) in
+    let base : IsBase c.args.profile c.args.base (Some c.in-Ok.base) =
+    rw c.in-Some.is (parts, valid, ap Some denoted) in
     listed_against c.args.profile c.args.base (Some c.in-Ok.base) c.list_against-in-Ok.result _ _ _ _ base
     c.list_against-in-Ok.ensures

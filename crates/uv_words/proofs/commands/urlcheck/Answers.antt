@@ -12,6 +12,7 @@ returns c =
     ∙ ap₂ (λ a (b : App). with_subcommand a b.top) top c.in_ok-check.ensures.0 in
     let two = c.in_ok-subcommand-2.ensures.shape (c.in_ok-links.ensures.1)
     ∙ ap₂ (λ a (b : App). with_subcommand a b.top) one c.in_ok-links.ensures.0 in
-    IfOk-weaker c.subcommand-3.result _ _ (λ r (h : AddsSubcommand c.in_ok-subcommand-2.field-0 c.in_ok-vectors.field-0 r).
+    IfOk-weaker c.subcommand-3.result _ _
+    (λ r (h : AddsSubcommand c.in_ok-subcommand-2.field-0 c.in_ok-vectors.field-0 r).
     h.shape c.in_ok-vectors.ensures.1 ∙ ap₂ (λ a (b : App). with_subcommand a b.top) two c.in_ok-vectors.ensures.0)
     c.subcommand-3.ensures
