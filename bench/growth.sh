@@ -1,27 +1,50 @@
 #!/usr/bin/env bash
-# Shows that the cost of a check grows with the text and no faster: instructions by callgrind for each shape at 10
-# thousand, 100 thousand and a million code points, the reading of the same lines taken off. Ten times the length costs
-# at most eleven times. It fails where a figure is missing or below one instruction for 32 bytes, and where an answer
-# isn't the wanted one. It needs valgrind. Usage: bench/growth.sh [DRIVER [COUNT..]]
+# Shows that the cost of a check, of all faults (`check --all`) and of a line of a list (`links`) grows with the text and no
+# faster: instructions by callgrind for each shape, the reading of the same text taken off. Ten times the length costs
+# at most eleven times: checks and faults at 10 thousand, 100 thousand and a million code points, a line at a hundredth, a
+# tenth and the whole of the length that it may have. It fails where a figure is missing or below one instruction for 32
+# bytes, and where an answer isn't the wanted one. It needs valgrind.
+# Usage: bench/growth.sh [--only check|faults|links] [COUNT..]
 set -euo pipefail
+export LC_ALL=C.UTF-8
 top=$(dirname "$(dirname "$(realpath "$0")")")
-driver=${1:-$top/crates/bench_check/out/bench_check}
+check=${CHECK_DRIVER:-$top/crates/bench_check/out/bench_check}
+output=${OUTPUT_DRIVER:-$top/crates/bench_output/out/bench_output}
+urlcheck=${URLCHECK:-$top/crates/urlcheck/out/urlcheck}
+only=''
+if [ "${1:-}" = --only ]; then
+    only=$2
+    shift 2
+fi
 counts=(10000 100000 1000000)
-if (($# > 1)); then counts=("${@:2}"); fi
+if (($# > 0)); then counts=("$@"); fi
 command -v valgrind >/dev/null || { echo 'bench/growth.sh needs valgrind'; exit 2; }
-[ -x "$driver" ] || { echo "$driver is no program: build the crate bench_check first (rt run)"; exit 2; }
+for driver in "$check" "$output" "$urlcheck"; do
+    [ -x "$driver" ] || { echo "$driver is no program: build its crate first (rt run)"; exit 2; }
+done
 room=$(mktemp -d)
 trap 'rm -rf "$room"' EXIT
 
+failed=0
+fail() {
+    printf '\nFAILED: %s\n' "$*"
+    failed=1
+}
+
 # repeated COUNT TEXT : the text so many times
-repeated() { head -c "$1" /dev/zero | sed "s/\x00/$2/g"; }
+repeated() { head -c "$1" /dev/zero | sed "s|\x00|$2|g"; }
+
+# length TEXT : how many code points it has
+length() { printf '%s' "$1" | wc -m; }
+
+# ---- shapes of one kind of part
 
 # shaped SHAPE COUNT : a text of about so many code points
 shaped() {
     case $1 in
         path) printf 'http://h/'; repeated "$2" a ;;
-        segments) printf 'http://h/'; repeated $(($2 / 2)) 'a\/' ;;
-        double_dots) printf 'http://h/'; repeated $(($2 / 3)) '..\/' ;;
+        segments) printf 'http://h/'; repeated $(($2 / 2)) a/ ;;
+        double_dots) printf 'http://h/'; repeated $(($2 / 3)) ../ ;;
         escapes) printf 'http://h/'; repeated $(($2 / 3)) %41 ;;
         beyond_ascii) printf 'http://h/'; repeated "$2" é ;;
         escapes_apart) printf 'http://h/'; repeated $(($2 / 4)) a%41 ;;
@@ -37,49 +60,160 @@ shaped() {
         bad_end_beyond_ascii) printf 'http://h/'; repeated "$2" é; printf ' ' ;;
         bad_query_end) printf 'http://h/?'; repeated "$2" a; printf '%%4' ;;
         bad_host_end) printf 'foo://'; repeated "$2" a; printf '^' ;;
+        bad_host) printf 'foo://'; repeated "$2" @ ;;
+        *) filled "$1" "$2" ;;
     esac
 }
 
-# wanted SHAPE : how many of one line are valid
-wanted() {
-    case $1 in host | labels | bad_*) echo 0 ;; *) echo 1 ;; esac
+# ---- shapes of a unit repeated in a part, as path%41
+
+units=('/' 'a/' '%41' '%' 'é' '[' '@' '.' 'xn--' '-')
+
+# filled PART+UNIT COUNT : a text of about so many code points, of the unit repeated in the part
+filled() {
+    local unit=${1#*+} times
+    times=$(($2 / $(length "$unit")))
+    case $1 in
+        path+*) printf 'http://h/'; repeated $times "$unit" ;;
+        host+*) printf 'http://'; repeated $times "$unit"; printf / ;;
+        port+*) printf 'http://h:'; repeated $times "$unit"; printf / ;;
+        query+*) printf 'http://h/?'; repeated $times "$unit" ;;
+        reference+*) repeated $times "$unit" ;;
+    esac
 }
 
-# instructions MODE FILE : how many a run executes; what it says is left in said
+# base_of SHAPE : the base that a shape is judged against, if any
+base_of() { case $1 in reference+*) echo 'http://h/a/b?q' ;; esac; }
+
+# each PLACE RULE TIMES : that many faults, the first there and each a code point behind the one before
+each() { echo "$3 faults, refused $1 $2, refused $(($1 + $3 - 1)) $2"; }
+
+# one PLACE RULE : one fault
+one() { each "$1" "$2" 1; }
+
+# wanted SHAPE COUNT : what is said of a text of that shape: how many faults it has, the first of them and the last
+wanted() {
+    local count=$2 times
+    times=$((count / $(length "${1#*+}")))
+    case $1 in
+        host | labels) one 7 host-domain ;;
+        bad_end | bad_end_beyond_ascii) one $((9 + count)) code-point ;;
+        bad_query_end) one $((10 + count)) percent ;;
+        bad_host_end) one $((6 + count)) host-code-point ;;
+        bad_host) each 6 host-code-point "$count" ;;
+        path+/) one 9 first-segment-empty ;;
+        path+%) each 9 percent $times ;;
+        'path+[') each 9 code-point $times ;;
+        host+/) echo '2 faults, refused 7 host-missing, refused 8 first-segment-empty' ;;
+        host+a/) echo valid ;;
+        'host+[') one 7 host-ipv6 ;;
+        host+*) one 7 host-domain ;;
+        port+/) one 10 first-segment-empty ;;
+        port+a/) one 9 port-digit ;;
+        port+%41) echo "$times faults, refused 9 port-digit, refused $((9 + 3 * (times - 1))) port-digit" ;;
+        port+xn--) each 9 port-digit $((4 * times)) ;;
+        port+*) each 9 port-digit $times ;;
+        query+%) each 10 percent $times ;;
+        'query+[') each 10 code-point $times ;;
+        reference+/) echo '2 faults, refused 2 host-missing, refused 3 first-segment-empty' ;;
+        reference+%) each 0 percent $times ;;
+        'reference+[') each 0 code-point $times ;;
+        *) echo valid ;;
+    esac
+}
+
+# ---- runs
+
+# From some length on the C library copies and fills bytes by one instruction that callgrind counts once a byte. So that
+# every length is counted alike, it is told to do it by vectors.
+export GLIBC_TUNABLES=glibc.cpu.x86_rep_movsb_threshold=1000000000:glibc.cpu.x86_rep_stosb_threshold=1000000000
+
+# instructions FILE PROGRAM WORD.. : how many a run over the file executes; what it says is left in said
 instructions() {
-    valgrind --tool=callgrind --callgrind-out-file="$room/out" "$driver" "$1" 1 <"$2" 2>"$room/err" >"$room/said" || true
+    valgrind --tool=callgrind --callgrind-out-file="$room/out" "${@:2}" <"$1" 2>"$room/err" >"$room/said" || true
     sed -n 's/.*Collected : //p' "$room/err"
 }
 
-failed=0
-fail() {
-    echo "FAILED: $*"
-    failed=1
+# the text that is measured, and what its reading alone costs, are left in text, whole and reading
+
+# of_check SHAPE COUNT : the cost of `check` on the text, which says whether it is valid
+of_check() {
+    local valid=0
+    if [ "$(wanted "$1" "$2")" = valid ]; then valid=1; fi
+    reading=$(instructions "$room/text" "$check" read 1)
+    whole=$(instructions "$room/text" "$check" check 1)
+    said=$(cat "$room/said")
+    right="1 lines, $valid valid"
 }
 
-printf '%-22s' shape
-printf ' %14s' "${counts[@]}"
-printf '\n'
-for shape in path segments double_dots escapes escapes_apart beyond_ascii query fragment opaque_path opaque_host \
-    opaque_host_escapes port host labels bad_end bad_end_beyond_ascii bad_query_end bad_host_end; do
-    before=0
-    printf '%-22s' $shape
-    for count in "${counts[@]}"; do
-        shaped $shape "$count" >"$room/text"
-        whole=$(instructions check "$room/text")
-        said=$(cat "$room/said")
-        reading=$(instructions read "$room/text")
+# of_faults SHAPE COUNT : the cost of all faults, and how many there are, the first and the last
+of_faults() {
+    local base
+    base=$(base_of "$1")
+    reading=$(instructions "$room/text" "$output" read ${base:+"$base"})
+    whole=$(instructions "$room/text" "$output" faults ${base:+"$base"})
+    said=$(head -n 1 "$room/said")
+    if [ "$said" != valid ]; then said="$(wc -l <"$room/said") faults, $said, $(tail -n 1 "$room/said")"; fi
+    right=$(wanted "$1" "$2")
+}
+
+# of_links SHAPE COUNT : the cost of the text as a line of a list, the run over an empty list taken off
+of_links() {
+    local base bad=0
+    base=$(base_of "$1")
+    if [ "$(wanted "$1" "$2")" != valid ]; then bad=1; fi
+    : >"$room/none"
+    reading=$(instructions "$room/none" "$urlcheck" links ${base:+--base "$base"})
+    whole=$(instructions "$room/text" "$urlcheck" links ${base:+--base "$base"})
+    said=$(tail -n 1 "$room/said" | sed 's/ok [01] bad \([01]\) differs [01]/bad \1/')
+    right="links 1 bad $bad"
+}
+
+# grows WHAT SHAPE COUNT.. : the figures of a shape at each length, which grow no faster than the text
+grows() {
+    local what=$1 shape=$2 count before=0 cost whole reading said right
+    printf '%-6s %-20s' "$what" "$shape"
+    for count in "${@:3}"; do
+        shaped "$shape" "$count" >"$room/text"
+        "of_$what" "$shape" "$count"
         if [ -z "$whole" ] || [ -z "$reading" ]; then
-            fail "$shape of $count: no figure"
+            fail "$what of $shape, $count: no figure"
+            before=0
             continue
         fi
         cost=$((whole - reading))
-        printf ' %14d' $cost
-        [ "$said" = "1 lines, $(wanted $shape) valid" ] || fail "$shape of $count: it said: $said"
-        ((cost >= count / 32)) || fail "$shape of $count: $cost instructions are too few"
-        ((before == 0 || cost <= 11 * before)) || fail "$shape of $count: it grows faster than the text"
+        printf ' %8d: %-11d' "$count" $cost
+        [ "$said" = "$right" ] || fail "$what of $shape, $count: it said: $said, and not: $right"
+        ((cost >= count / 32)) || fail "$what of $shape, $count: $cost instructions are too few"
+        ((before == 0 || cost <= 11 * before)) || fail "$what of $shape, $count: it grows faster than the text"
         before=$cost
     done
     printf '\n'
+}
+
+shapes=(path segments double_dots escapes escapes_apart beyond_ascii query fragment opaque_path opaque_host
+    opaque_host_escapes port host labels bad_end bad_end_beyond_ascii bad_query_end bad_host_end bad_host)
+for part in path host port query reference; do
+    for unit in "${units[@]}"; do shapes+=("$part+$unit"); done
+done
+
+# line_counts SHAPE : the lengths of a line of that shape, up to that of 65,536 bytes
+line_counts() {
+    case $1 in
+        *é | *beyond_ascii) echo 327 3270 32700 ;;
+        *) echo 655 6550 65500 ;;
+    esac
+}
+
+for what in check faults links; do
+    if [ -n "$only" ] && [ "$only" != "$what" ]; then continue; fi
+    for shape in "${shapes[@]}"; do
+        case $what in
+            # a reference is judged with its base, which the driver of checks doesn't take
+            check) [ -n "$(base_of "$shape")" ] || grows check "$shape" "${counts[@]}" ;;
+            faults) grows faults "$shape" "${counts[@]}" ;;
+            links) grows links "$shape" $(line_counts "$shape") ;;
+        esac
+    done
 done
 exit $failed
