@@ -1,9 +1,9 @@
 #!/usr/bin/env bash
-# Shows that the cost of a check, of all faults (`check --all`) and of a line of a list (`links`) grows with the text and no
-# faster: instructions by callgrind for each shape, the reading of the same text taken off. Ten times the length costs
-# at most eleven times: checks and faults at 10 thousand, 100 thousand and a million code points, a line at a hundredth, a
-# tenth and the whole of the length that it may have. It fails where a figure is missing or below one instruction for 32
-# bytes, and where an answer isn't the wanted one. It needs valgrind.
+# Shows that the cost of a check, of all faults (`check --all`) and of a line of a list (`links`) grows with the text
+# and no faster: instructions by callgrind for each shape, the reading of the same text taken off. Ten times the length
+# costs at most eleven times: checks and faults at 10 thousand, 100 thousand and a million code points, a line at a
+# hundredth, a tenth and the whole of the length that it may have. It fails where a figure is missing or below one
+# instruction for 32 bytes, and where an answer isn't the wanted one. It needs valgrind.
 # Usage: bench/growth.sh [--only check|faults|links] [COUNT..]
 set -euo pipefail
 export LC_ALL=C.UTF-8

@@ -1,6 +1,6 @@
 //! Writes what the commands say of standard input, which is one text: the driver of bench/growth.sh. Its words are a
-//! mode and a base, if any. `faults` writes what `urlcheck check --all` writes, `check` what `urlcheck check` writes, and
-//! `read` reads the text and does no more.
+//! mode and a base, if any. `faults` writes what `urlcheck check --all` writes, `check` what `urlcheck check` writes,
+//! and `read` reads the text and does no more.
 #![tactic(auto)]
 
 use std::io::{self, Error, ErrorKind, Read};
