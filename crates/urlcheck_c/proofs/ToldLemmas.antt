@@ -1,6 +1,6 @@
 -- What can't be read is told, since every other answer says that it was read.
-use Rattle.std.proofs.Common.{◌≡◌, ℕ, List, inl, inr, sym, ◌∙◌}
-use Rattle.std.specs.Prelude.{Option, Some, None}
+use Rattle.std.proofs.Common.{inl, inr, sym, ◌∙◌}
+use Rattle.std.specs.Prelude.{Some, None}
 use Rattle.urlcheck_c.specs.Laws.{NoBaseUtf8IsTold, NoProfileIsTold, NoUtf8IsTold}
 
 pub no_profile_is_told : NoProfileIsTold

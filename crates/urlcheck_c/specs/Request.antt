@@ -9,7 +9,7 @@ use Rattle.uv_grammar.specs.Verdict.{IsRefused}
 use Rattle.uv_resolve.specs.Resolve.{Denotes}
 use Rattle.urlcheck_c.specs.declared.finding.Finding.{Finding}
 use Rattle.urlcheck_c.specs.declared.finding.Outcome.{Outcome}
-use Rattle.urlcheck_c.specs.declared.finding.Outcome.TheVariants.{Refused, NoUtf8, BaseRefused, BaseNoUtf8, Memory, NoProfile}
+use Rattle.urlcheck_c.specs.declared.finding.Outcome.TheVariants.{NoUtf8, BaseRefused, BaseNoUtf8, Memory, NoProfile}
 use Rattle.urlcheck_c.specs.declared.request.Request.{Request}
 use Rattle.urlcheck_c.specs.Finding.{no_utf8_finding, plain_finding, profile_of, refused_finding}
 

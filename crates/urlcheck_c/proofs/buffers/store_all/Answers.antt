@@ -1,5 +1,5 @@
 -- A fault more is written each turn.
-use Rattle.std.proofs.Common.{◌≡◌, ◌<◌, ◌∙◌, arith, length, length-set, refl}
+use Rattle.std.proofs.Common.{◌<◌, ◌∙◌, arith, length, length-set, refl}
 use Rattle.uv_model.specs.declared.rule.Refusal.{Refusal}
 use Rattle.uv_model.specs.declared.rule.Rule.TheVariants.{NoScheme}
 use Rattle.urlcheck_c.proofs.StoreLemmas.{kept_more, written_more}

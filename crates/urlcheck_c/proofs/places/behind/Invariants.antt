@@ -1,5 +1,5 @@
 -- So many code points have been passed as turns are done.
-use Rattle.std.proofs.Common.{◌≡◌, ◌+◌, ℕ, List, IsUtf8, drop}
+use Rattle.std.proofs.Common.{◌≡◌, ℕ, List, IsUtf8, drop}
 use Rattle.std.specs.Str.{chars}
 use Rattle.urlcheck_c.proofs.places.behind.Given as goal
 

@@ -1,6 +1,5 @@
 -- The places of the parts.
-use Rattle.std.proofs.Common.{◌∙◌, ap, length, subst, sym}
-use Rattle.urlcheck_c.specs.Span.{AreSpans}
+use Rattle.std.proofs.Common.{◌∙◌, ap, length}
 use Rattle.urlcheck_c.proofs.SpanLemmas.{laid_spans, valid_bytes, whole_length}
 use Rattle.urlcheck_c.proofs.spans.placed.Goals as goal
 
