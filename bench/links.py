@@ -1,5 +1,6 @@
-"""Writes so many mixed links, one a line, from a seed: python3 bench/links.py COUNT SEED [KIND]. A kind is one of
-plain, port, upper, ipv4 and root_dot; with none the list is mixed as links in documents are."""
+"""Writes so many mixed links, one a line, from a seed, and on standard error how many of them are valid: python3
+bench/links.py COUNT SEED [KIND]. A kind is one of plain, port, upper, ipv4, root_dot, beyond_ascii and bad; with none the
+list is mixed as links in documents are."""
 import random
 import sys
 
@@ -68,5 +69,9 @@ def drawn():
     return "bad" if at < 0.048 else "plain"
 
 
+valid = 0
 for _ in range(count):
-    sys.stdout.write(link(kind or drawn()) + "\n")
+    which = kind or drawn()
+    valid += which != "bad"
+    sys.stdout.write(link(which) + "\n")
+sys.stderr.write(f"{valid}\n")

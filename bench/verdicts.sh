@@ -1,11 +1,14 @@
 #!/usr/bin/env bash
 # Verdicts on a million mixed links: this checker, Ada's can_parse and Rust's crate `url`, whichever are at hand, a run
-# of each in turn for so many rounds. It prints the least processor time a link, reading taken off, the ratios to Ada,
-# and how many verdicts differ from ours: the others say whether a text parses, and this checker whether it is valid.
+# of each in turn for so many rounds. It prints the least processor time a link, or its instructions by callgrind,
+# reading taken off, the ratios to Ada, and how many verdicts differ from ours: the others say whether a text parses, and
+# this checker whether it is valid. It fails where a figure is missing or below the floor, and where a list that it made
+# has other counts than it was made with.
 # Usage: bench/verdicts.sh [--ada FOLDER] [--links FILE | --seed SEED] [--count COUNT] [--kind KIND] [--rounds ROUNDS]
+#        [--by time|instructions]
 set -euo pipefail
 top=$(dirname "$(dirname "$(realpath "$0")")")
-ada='' links='' seed=1 count=1000000 kind='' rounds=5
+ada='' links='' seed=1 count=1000000 kind='' rounds=5 by='time' wanted=''
 while (($# > 1)); do
     case $1 in
         --ada) ada=$2 ;;
@@ -14,6 +17,7 @@ while (($# > 1)); do
         --count) count=$2 ;;
         --kind) kind=$2 ;;
         --rounds) rounds=$2 ;;
+        --by) by=$2 ;;
         *) echo "unknown word: $1"; exit 2 ;;
     esac
     shift 2
@@ -25,7 +29,8 @@ driver=$top/crates/bench_check/out/bench_check
 [ -x "$driver" ] || (cd "$top/crates/bench_check" && rt run -- check 1 <stdin >&2)
 if [ -z "$links" ]; then
     links=$room/links
-    python3 "$top/bench/links.py" "$count" "$seed" $kind >"$links"
+    python3 "$top/bench/links.py" "$count" "$seed" $kind >"$links" 2>"$room/valid"
+    wanted=$(cat "$room/valid")
 fi
 lines=$(grep -c . "$links")
 [ "$lines" -gt 0 ] || { echo 'no links'; exit 2; }
@@ -56,31 +61,49 @@ else
     echo "without url: install cargo and Debian's librust-url-dev"
 fi
 
-# passes PROGRAM MODE : the processor time of one run with five passes, in microseconds
-passes() {
+# By time a figure is in nanoseconds, of five passes; instructions are the same in each run, so one pass does.
+case $by in
+    time) unit='ns' passes=5 floor=1 ;;
+    instructions) unit='instructions' passes=1 floor=50 rounds=1 ;;
+    *) echo "no such figure: $by"; exit 2 ;;
+esac
+[ $by = time ] || command -v valgrind >/dev/null || { echo 'instructions are counted by valgrind'; exit 2; }
+
+# spent PROGRAM MODE : what one run costs
+spent() {
     local TIMEFORMAT=%U+%S
-    { time "$1" "$2" 5 <"$links" >"$room/said"; } 2>&1 | awk -F+ '{ print int(($1 + $2) * 1000000) }'
+    if [ $by = time ]; then
+        { time "$1" "$2" $passes <"$links" >"$room/said"; } 2>&1 | awk -F+ '{ print int(($1 + $2) * 1000000) * 1000 }'
+    else
+        valgrind --tool=callgrind --callgrind-out-file=/dev/null "$1" "$2" $passes <"$links" 2>&1 >"$room/said" |
+            sed -n 's/.*Collected : //p'
+    fi
 }
 
 declare -A whole reading
 for ((round = 0; round < rounds; round++)); do
     for name in "${names[@]}"; do
-        spent=$(passes "${program[$name]}" check)
-        read=$(passes "${program[$name]}" read)
+        spent=$(spent "${program[$name]}" check)
+        read=$(spent "${program[$name]}" read)
+        [ -n "$spent" ] && [ -n "$read" ] || { echo "FAILED: $name gave no figure"; exit 1; }
         if [ -z "${whole[$name]:-}" ] || ((spent < whole[$name])); then whole[$name]=$spent; fi
         if [ -z "${reading[$name]:-}" ] || ((read < reading[$name])); then reading[$name]=$read; fi
     done
 done
 
-echo "$lines links, least of $rounds rounds of 5 passes"
+echo "$lines links, least of $rounds rounds of $passes passes"
 for name in "${names[@]}"; do
-    cost=$(awk -v w="${whole[$name]}" -v r="${reading[$name]}" -v n="$lines" 'BEGIN { printf "%.1f", (w - r) * 1000 / n / 5 }')
-    line="$name: $cost ns a link"
+    cost=$(awk -v w="${whole[$name]}" -v r="${reading[$name]}" -v n="$lines" 'BEGIN { printf "%.1f", (w - r) / n / '"$passes"' }')
+    awk -v c="$cost" -v f=$floor 'BEGIN { exit c < f }' || { echo "FAILED: $name: $cost $unit a link are too few"; exit 1; }
+    line="$name: $cost $unit a link"
     if [ "$name" = ada ]; then adas=$cost; fi
     costs+=("$name $cost")
     "${program[$name]}" verdicts <"$links" | tr -d '\n' | fold -w 1 >"$room/$name.verdicts"
     [ "$(grep -c . "$room/$name.verdicts")" = "$lines" ] || { echo "$name gave no verdict on some links"; exit 1; }
-    if [ "$name" != ours ]; then
+    if [ "$name" = ours ]; then
+        valid=$(grep -c 1 "$room/ours.verdicts" || true)
+        [ -z "$wanted" ] || [ "$valid" = "$wanted" ] || { echo "FAILED: $valid links are valid, and not $wanted"; exit 1; }
+    else
         line+=", $(paste "$room/ours.verdicts" "$room/$name.verdicts" | awk '$1 != $2 && $2 == 1 { n++ } END { print n + 0 }')"
         line+=" parse that aren't valid, $(paste "$room/ours.verdicts" "$room/$name.verdicts" | awk '$1 != $2 && $2 == 0 { n++ } END { print n + 0 }')"
         line+=" are valid that don't parse"

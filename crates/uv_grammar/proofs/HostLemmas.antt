@@ -6,7 +6,6 @@ use Rattle.std.specs.Str.{chars, IsUtf8}
 use Rattle.std.proofs.lemmas.Str.{chars-nil, encodes-chars}
 use Rattle.std.proofs.Math.Utf8.{encodes}
 use Rattle.std.proofs.lemmas.Bool.{false≢true}
-use Rattle.uv_model.specs.declared.host.Host.{Host}
 use Rattle.uv_model.specs.declared.host.Host.TheVariants.{V6}
 use Rattle.uv_model.specs.declared.profile.Profile.{Profile}
 use Rattle.uv_model.specs.declared.rule.Rule.{Rule}
@@ -21,12 +20,15 @@ use Rattle.uv_model.specs.Hosts.OpaqueHost.{IsOpaqueHost}
 use Rattle.uv_model.specs.Complaints.OpaqueHostComplaint.{OpaqueHostComplaint}
 use Rattle.uv_model.specs.Complaints.Refusal.{IsLeast}
 use Rattle.uv_model.specs.Complaints.Rule.{rule_number}
-use Rattle.uv_model.specs.Valid.{IsHostText, IsOpaqueHostText, without_localhost}
+use Rattle.uv_model.specs.Valid.{IsOpaqueHostText, without_localhost}
 use Rattle.uv_model.proofs.Hosts.FileHosts.{file_host_fits}
 use Rattle.uv_model.proofs.Complaints.FaultlessHosts.{host_text_faultless, opaque_host_faultless}
 use Rattle.uv_model.proofs.Complaints.RefusalLemmas.{IsLeast-like}
 use Rattle.uv_grammar.specs.declared.judged.Judged.{Judged}
 use Rattle.uv_grammar.specs.declared.judged.Judged.TheVariants.{Valid, Refused}
+use Rattle.uv_grammar.specs.declared.held_host.HeldHost.{HeldHost}
+use Rattle.uv_grammar.specs.declared.held_host.HeldHost.TheVariants.{Made}
+use Rattle.uv_grammar.specs.HeldHost.{FitsHeld, IsHeldText, held}
 use Rattle.uv_grammar.specs.HostValues.{FitsHost, FitsSomeHost}
 use Rattle.uv_grammar.specs.Judged.{IsJudged}
 use Rattle.uv_grammar.specs.NoMemory.{HostTakesNoMemory, MakesNoForm}
@@ -112,11 +114,11 @@ held_from profile class text port_text path_text some place HostMissing h =
 held_from profile class text port_text path_text some place _ h = h
 
 -- the answer on what a host holds is the answer on the host
-pub held_answer : (profile : Profile) (class : Class) (text : List ℕ) (port_text : Option (List ℕ))
-    (path_text : List ℕ) → text ≢ []
-    → (answer : Judged (Option Host))
-    → IsJudged (FitsSomeHost profile class text) (HostContentComplaint profile class text) answer
-    → IsJudged (FitsHost profile class text port_text path_text)
+pub held_answer : (profile : Profile) (class : Class) (text : List ℕ) (port_text : Option (List ℕ)) (path_text : List ℕ)
+    → text ≢ []
+    → (answer : Judged (Option HeldHost)) → IsJudged (FitsHeld (FitsSomeHost profile class text))
+    (HostContentComplaint profile class text) answer
+    → IsJudged (FitsHeld (FitsHost profile class text port_text path_text))
     (HostComplaint profile class text port_text path_text) answer
 held_answer profile class text port_text path_text some (Valid host) is = (
   inl (some, is.0),
@@ -161,20 +163,24 @@ fault_least profile text rule h = record {
 -- ---- answers on host strings
 
 -- the answer on a valid host string
-pub text_answer : (profile : Profile) (text : List ℕ) (host : Host) → IsHostText profile text host
-    → IsJudged (IsHostText profile text) (HostContentComplaint profile Special text) (Valid host)
-text_answer profile text host is = (is, λ place rule h. host_text_faultless profile text host is rule h.0)
+pub text_answer : (profile : Profile) (text : List ℕ) (host : HeldHost) → IsHeldText profile text host
+    → IsJudged (IsHeldText profile text) (HostContentComplaint profile Special text) (Valid host)
+text_answer profile text host is = (is, λ place rule h. host_text_faultless profile text (held host) is rule h.0)
 
 -- the answer of a file URL
-pub file_answer : (profile : Profile) (text : List ℕ) (host : Host) → IsHostText profile text host
-    → IsJudged (FitsSomeHost profile File text) (HostContentComplaint profile File text)
-    (Valid (Some (without_localhost host)))
-file_answer profile text host is =
-    (file_host_fits profile text host is, λ place rule h. host_text_faultless profile text host is rule h.0)
+pub file_answer : (profile : Profile) (text : List ℕ) (host file_host : HeldHost) → IsHeldText profile text host
+    → held file_host ≡ without_localhost (held host)
+    → IsJudged (FitsHeld (FitsSomeHost profile File text)) (HostContentComplaint profile File text) (Valid
+    (Some file_host))
+file_answer profile text host file_host is same = (
+  rw same (file_host_fits profile text (held host) is),
+  λ place rule h. host_text_faultless profile text
+      (held host) is rule h.0,
+)
 
 -- the answer of any other URL on an IPv6 text in brackets
 pub bracketed_answer : (text pieces : List ℕ) → IsBracketedIpv6 text pieces
-    → IsJudged (IsOpaqueHostText text) (OpaqueHostComplaint text) (Valid (Some (V6 pieces)))
+    → IsJudged (FitsHeld (IsOpaqueHostText text)) (OpaqueHostComplaint text) (Valid (Some (Made (V6 pieces))))
 bracketed_answer text pieces is = (is, opaque_host_faultless text (Some (V6 pieces)) is)
 
 -- a host that is neither empty nor in brackets

@@ -4,6 +4,7 @@ pub mod HostLemmas
 pub mod PartFaultLemmas
 pub mod PartLemmas
 pub mod PieceLemmas
+pub mod PlainFrontLemmas
 pub mod PlainLinkLemmas
 pub mod PortLemmas
 pub mod ScanLemmas

@@ -10,7 +10,7 @@ use Rattle.uv_grammar.specs.PartValues.{FitsPort, FitsPortPart, port_number, wit
 use Rattle.uv_grammar.proofs.PortLemmas.{port_silent}
 
 -- the port that a text gives is its number, unless that is the default
-given_number : (default : Option ℕ) (text : List ℕ)
+pub given_number : (default : Option ℕ) (text : List ℕ)
     → without_default default (port_number text) ≡ port_given default (Some text)
 given_number default [] = refl
 given_number default (digit ∷ rest) = refl

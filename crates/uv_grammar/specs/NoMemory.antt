@@ -1,5 +1,5 @@
--- Texts that are judged without memory: those of whose host no form of a domain is made, after the URL Standard,
--- sections 3.3 and 4.3.
+-- Texts that are judged without memory: those of whose host no form of a domain is made, or whose host is its own form,
+-- after the URL Standard, sections 3.3 and 4.3.
 use Rattle.std.specs.Prelude.{◌≡◌, ℕ, ◌⊎◌, true, false, List, [], Option, Some, None}
 use Rattle.uv_model.specs.declared.profile.Profile.{Profile}
 use Rattle.uv_model.specs.declared.rule.Rule.{Rule}
@@ -11,11 +11,13 @@ use Rattle.uv_model.specs.Hosts.Address.{IsIpv4}
 use Rattle.uv_model.specs.Hosts.Domain.{has_permitted}
 use Rattle.uv_model.specs.Hosts.OpaqueHost.{starts_with_bracket}
 use Rattle.uv_model.specs.Setting.{Setting}
+use Rattle.uv_host.specs.Domains.{is_plain_name}
 
--- the text begins with `[`, is an IPv4 text or has a code point that no domain of the profile holds
+-- the text begins with `[`, is an IPv4 text, has a code point that no domain of the profile holds, or is a plain name
 abbrev pub MakesNoForm : Profile → List ℕ → Type 0
 MakesNoForm profile text =
-    (starts_with_bracket text ≡ true) ⊎ (((value : ℕ) × IsIpv4 text value) ⊎ (has_permitted profile text ≡ false))
+    (starts_with_bracket text ≡ true)
+    ⊎ (((value : ℕ) × IsIpv4 text value) ⊎ ((has_permitted profile text ≡ false) ⊎ (is_plain_name text ≡ true)))
 
 -- the class is Other, or the host is empty or such a text
 abbrev pub HostTakesNoMemory : Profile → Class → List ℕ → Type 0

@@ -12,6 +12,7 @@ use Rattle.uv_model.specs.Parts.{written_behind}
 use Rattle.uv_model.specs.Path.{is_without, starts_with_slash}
 use Rattle.uv_model.specs.Scheme.{is_scheme, scheme_class}
 use Rattle.uv_model.specs.Units.{is_faultless}
+use Rattle.uv_model.specs.Valid.{MayBePortText, port_given}
 
 -- the front of so many bytes is ASCII
 abbrev pub HasAsciiFront : List ℕ → ℕ → Type 0
@@ -42,6 +43,13 @@ pub record IsSpecialCut (text scheme rest : List ℕ) : Type 0 where
 pub record IsNameCut (text name form rest : List ℕ) : Type 0 where
   pub joined : text ≡ name ++ rest
   pub domain : (profile : Profile) → IsDomain profile name form
+
+-- the text is `:` and a valid port, or none, with the number that it gives beside a default port, and a rest
+pub record IsPortCut (default : Option ℕ) (text : List ℕ) (port_text : Option (List ℕ)) (port : Option ℕ)
+    (rest : List ℕ) : Type 0 where
+  pub joined : text ≡ written_behind colon port_text ++ rest
+  pub valid : MayBePortText port_text
+  pub given : port ≡ port_given default port_text
 
 -- URL units, which hold no `#`, and a `?` only where it is asked for
 pub record AreUnits (has_question_marks : Bool) (text : List ℕ) : Type 0 where

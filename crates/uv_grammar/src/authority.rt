@@ -1,29 +1,30 @@
 //! The host and the port of a cut text.
 ghost use Rattle.std.specs.Prelude.{◌≡◌, IfOk, IsOk};
 ghost use Rattle.uv_model.specs.Complaints.Complaint.{HostPartComplaint, PortPartComplaint};
+ghost use Rattle.uv_grammar.specs.HeldHost.{FitsHeld};
 ghost use Rattle.uv_grammar.specs.Judged.{IsJudged};
 ghost use Rattle.uv_grammar.specs.NoMemory.{HostPartTakesNoMemory};
 ghost use Rattle.uv_grammar.specs.PartComplaints.{IsCountable};
 ghost use Rattle.uv_grammar.specs.PartValues.{FitsHostPart, FitsPortPart, without_default};
 
 use crate::cut::Cut;
+use crate::held_host::HeldHost;
 use crate::host::judge_host;
 use crate::judged::Judged;
 use crate::places::{host_place, port_place, refusal_behind};
 use crate::port::judge_port;
 use crate::setting::Setting;
 use std::alloc::{AllocError, Global};
-use uv_model::Host;
 
 /// The host of a cut text, a refusal counted from the text's start. The error is want of memory.
-pub(crate) fn judge_host_part(
+pub(crate) fn judge_host_part<'t>(
     alloc: Global,
-    cut: &Cut,
+    cut: &Cut<'t>,
     setting: &Setting,
-) -> Result<Judged<Option<Host>>, AllocError>
+) -> Result<Judged<Option<HeldHost<'t>>>, AllocError>
     requires { IsCountable cut.now }
     ensures answer { IfOk result
-        (IsJudged (FitsHostPart setting.now cut.now) (HostPartComplaint setting.now cut.now)) }
+        (IsJudged (FitsHeld (FitsHostPart setting.now cut.now)) (HostPartComplaint setting.now cut.now)) }
     ensures memory { HostPartTakesNoMemory setting.now cut.now.host_text → IsOk result }
 {
     let Some(host_text) = cut.host_text else {
@@ -58,8 +59,8 @@ pub(crate) fn judge_port_part(cut: &Cut, setting: &Setting) -> Judged<Option<u16
     }
 }
 
-// A port's number that isn't the default.
-fn without_default(default: Option<u16>, number: Option<u16>) -> Option<u16>
+/// A port's number that isn't the default.
+pub(crate) fn without_default(default: Option<u16>, number: Option<u16>) -> Option<u16>
     ensures { result ≡ without_default default number }
 {
     match (default, number) {

@@ -10,17 +10,16 @@ use crate::form::Form;
 use crate::held_host::HeldHost;
 use crate::marks::beginnings::has_slash;
 use crate::parts::Parts;
-use uv_model::Host;
 
 /// The parts of a cut text.
-pub(crate) fn build<'t>(cut: Cut<'t>, host: Option<Host>, port: Option<u16>) -> Parts<'t>
-    ensures { result ≡ built cut.entry host port }
+pub(crate) fn build<'t>(cut: Cut<'t>, host: Option<HeldHost<'t>>, port: Option<u16>) -> Parts<'t>
+    ensures { result ≡ built cut.entry (option_map held host.entry) port }
 {
     let form = form_of(&cut);
     Parts {
         form,
         cut,
-        host: held(host),
+        host,
         port,
     }
 }
@@ -58,15 +57,5 @@ fn reference_form(path_text: &str) -> Form
         Form::PathAbsolute
     } else {
         Form::PathRelative
-    }
-}
-
-// A host with a value of its own, where there is one.
-fn held<'t>(host: Option<Host>) -> Option<HeldHost<'t>>
-    ensures { option_map held result ≡ host }
-{
-    match host {
-        Some(host) => Some(HeldHost::Made(host)),
-        None => None,
     }
 }

@@ -78,8 +78,8 @@ fn split_middle<'t>(text: &'t str, class: Class) -> (Option<&'t str>, Option<&'t
     }
 }
 
-// The scheme, where the text begins with one and `:`, and the rest.
-fn split_scheme<'t>(text: &'t str) -> (Option<&'t str>, &'t str)
+/// The scheme, where the text begins with one and `:`, and the rest.
+pub(crate) fn split_scheme<'t>(text: &'t str) -> (Option<&'t str>, &'t str)
     ensures { SplitsScheme (chars text.now) (seen_option result.0) (seen result.1) }
 {
     match split_at_mark(text, ':') {

@@ -2,33 +2,38 @@
 ghost use Rattle.std.specs.Prelude.{◌≡◌, ◌≢◌, IfOk, IsOk, [], codes, true};
 ghost use Rattle.std.specs.Str.{bytes_eq, chars};
 ghost use Rattle.uv_model.specs.declared.profile.Profile.{Profile};
-ghost use Rattle.uv_model.specs.Complaints.Complaint.{HostContentComplaint, HostComplaint};
+ghost use Rattle.uv_model.specs.Complaints.Complaint.{HostContentComplaint, HostComplaint, ShouldBeDomain};
 ghost use Rattle.uv_model.specs.Complaints.OpaqueHostComplaint.{OpaqueHostComplaint};
 ghost use Rattle.uv_model.specs.Hosts.OpaqueHost.{starts_with_bracket};
-ghost use Rattle.uv_model.specs.Valid.{IsHostText, IsOpaqueHostText, without_localhost};
+ghost use Rattle.uv_host.specs.Domains.{IsPlainAnswer};
+ghost use Rattle.uv_model.specs.Valid.{IsOpaqueHostText, without_localhost};
+ghost use Rattle.uv_grammar.specs.HeldHost.{FitsHeld, IsHeldText, held};
 ghost use Rattle.uv_grammar.specs.HostValues.{FitsHost, FitsSomeHost};
 ghost use Rattle.uv_grammar.specs.Judged.{IsJudged};
 ghost use Rattle.uv_grammar.specs.NoMemory.{HostTakesNoMemory, MakesNoForm};
 ghost use Rattle.uv_grammar.specs.Seen.{seen_option};
 
+use crate::held_host::{AsciiText, HeldHost};
 use crate::judged::Judged;
 use crate::marks::beginnings::{has_bracket, has_slash};
 use std::alloc::{AllocError, Global};
-use uv_host::{DomainAnswer, bracketed_ipv6, domain, ipv4, opaque_fault};
+use uv_host::{
+    DomainAnswer, PlainAnswer, bracketed_ipv6, domain, ipv4, opaque_fault, plain_answer,
+};
 use uv_model::{Class, Host, Profile, Refusal, Rule, Text};
 
 /// The host, judged by its class, beside the port and the path that follow it, with its value where it isn't an opaque
 /// host. A refusal's place is counted in code points from the host's start. The error is want of memory.
-pub(crate) fn judge_host(
+pub(crate) fn judge_host<'t>(
     alloc: Global,
     class: Class,
-    host_text: &str,
+    host_text: &'t str,
     port_text: Option<&str>,
     path_text: &str,
     profile: Profile,
-) -> Result<Judged<Option<Host>>, AllocError>
+) -> Result<Judged<Option<HeldHost<'t>>>, AllocError>
     ensures answer { IfOk result (IsJudged
-        (FitsHost profile class (chars host_text.now) (seen_option port_text.entry) (chars path_text.now))
+        (FitsHeld (FitsHost profile class (chars host_text.now) (seen_option port_text.entry) (chars path_text.now)))
         (HostComplaint profile class (chars host_text.now) (seen_option port_text.entry) (chars path_text.now))) }
     ensures memory { HostTakesNoMemory profile class (chars host_text.now) → IsOk result }
 {
@@ -43,9 +48,13 @@ pub(crate) fn judge_host(
 }
 
 // An empty host.
-fn judge_empty_host(class: Class, port_text: Option<&str>, path_text: &str) -> Judged<Option<Host>>
+fn judge_empty_host<'t>(
+    class: Class,
+    port_text: Option<&str>,
+    path_text: &str,
+) -> Judged<Option<HeldHost<'t>>>
     ensures { (profile : Profile)
-        → IsJudged (FitsHost profile class [] (seen_option port_text.entry) (chars path_text.now))
+        → IsJudged (FitsHeld (FitsHost profile class [] (seen_option port_text.entry) (chars path_text.now)))
         (HostComplaint profile class [] (seen_option port_text.entry) (chars path_text.now)) result }
 {
     let is_missing = match class {
@@ -59,18 +68,18 @@ fn judge_empty_host(class: Class, port_text: Option<&str>, path_text: &str) -> J
             rule: Rule::HostMissing,
         })
     } else {
-        Judged::Valid(Some(Host::Empty))
+        Judged::Valid(Some(HeldHost::Made(Host::Empty)))
     }
 }
 
 // The host of a special URL, which isn't empty.
-fn judge_special_host(
+fn judge_special_host<'t>(
     alloc: Global,
-    text: &str,
+    text: &'t str,
     profile: Profile,
-) -> Result<Judged<Option<Host>>, AllocError>
+) -> Result<Judged<Option<HeldHost<'t>>>, AllocError>
     requires { chars text.now ≢ [] }
-    ensures answer { IfOk result (IsJudged (FitsSomeHost profile Class.Special (chars text.now))
+    ensures answer { IfOk result (IsJudged (FitsHeld (FitsSomeHost profile Class.Special (chars text.now)))
         (HostContentComplaint profile Class.Special (chars text.now))) }
     ensures memory { MakesNoForm profile (chars text.now) → IsOk result }
 {
@@ -81,13 +90,13 @@ fn judge_special_host(
 }
 
 // The host of a file URL, which isn't empty.
-fn judge_file_host(
+fn judge_file_host<'t>(
     alloc: Global,
-    text: &str,
+    text: &'t str,
     profile: Profile,
-) -> Result<Judged<Option<Host>>, AllocError>
+) -> Result<Judged<Option<HeldHost<'t>>>, AllocError>
     requires { chars text.now ≢ [] }
-    ensures answer { IfOk result (IsJudged (FitsSomeHost profile Class.File (chars text.now))
+    ensures answer { IfOk result (IsJudged (FitsHeld (FitsSomeHost profile Class.File (chars text.now)))
         (HostContentComplaint profile Class.File (chars text.now))) }
     ensures memory { MakesNoForm profile (chars text.now) → IsOk result }
 {
@@ -98,7 +107,23 @@ fn judge_file_host(
 }
 
 // The empty host in place of the domain `localhost`.
-fn without_localhost(host: Host) -> Host
+fn without_localhost(host: HeldHost<'_>) -> HeldHost<'_>
+    ensures { held result ≡ without_localhost (held host.entry) }
+{
+    match host {
+        HeldHost::Made(host) => HeldHost::Made(made_without_localhost(host)),
+        HeldHost::Plain(name) => {
+            if is_localhost(name.as_str()) {
+                HeldHost::Made(Host::Empty)
+            } else {
+                HeldHost::Plain(name)
+            }
+        }
+    }
+}
+
+// The same of a host with a value of its own.
+fn made_without_localhost(host: Host) -> Host
     ensures { result ≡ without_localhost host }
 {
     match host {
@@ -120,9 +145,13 @@ fn is_localhost(form: &str) -> bool
 }
 
 // The host string of a special or a file URL, which isn't empty.
-fn judge_host_text(alloc: Global, text: &str, profile: Profile) -> Result<Judged<Host>, AllocError>
+fn judge_host_text<'t>(
+    alloc: Global,
+    text: &'t str,
+    profile: Profile,
+) -> Result<Judged<HeldHost<'t>>, AllocError>
     requires { chars text.now ≢ [] }
-    ensures answer { IfOk result (IsJudged (IsHostText profile (chars text.now))
+    ensures answer { IfOk result (IsJudged (IsHeldText profile (chars text.now))
         (HostContentComplaint profile Class.Special (chars text.now))) }
     ensures memory { MakesNoForm profile (chars text.now) → IsOk result }
 {
@@ -130,23 +159,42 @@ fn judge_host_text(alloc: Global, text: &str, profile: Profile) -> Result<Judged
         return Ok(judge_bracketed_host(text));
     }
     if let Some(value) = ipv4(text) {
-        return Ok(Judged::Valid(Host::V4(value)));
+        return Ok(Judged::Valid(HeldHost::Made(Host::V4(value))));
+    }
+    if let Some(answer) = plain_answer(text) {
+        return Ok(judge_plain_name(text, answer));
     }
     match domain(alloc, text, profile)? {
-        DomainAnswer::Ascii(form) => Ok(Judged::Valid(Host::Domain(Text::of(form)))),
+        DomainAnswer::Ascii(form) => Ok(Judged::Valid(HeldHost::Made(Host::Domain(Text::of(
+            form,
+        ))))),
         DomainAnswer::Number => Ok(Judged::Refused(at_start(Rule::HostNumber))),
         DomainAnswer::Not => Ok(Judged::Refused(at_start(Rule::HostDomain))),
     }
 }
 
+// A host string that is a plain name, and neither an IPv4 text nor empty.
+fn judge_plain_name(text: &str, answer: PlainAnswer) -> Judged<HeldHost<'_>>
+    requires text { ShouldBeDomain (chars text.now) }
+    requires answer { (profile : Profile) → IsPlainAnswer profile (chars text.now) text.now answer }
+    ensures { (profile : Profile) → IsJudged (IsHeldText profile (chars text.now))
+        (HostContentComplaint profile Class.Special (chars text.now)) result }
+{
+    match answer {
+        PlainAnswer::Domain => Judged::Valid(HeldHost::Plain(AsciiText::of(text))),
+        PlainAnswer::Number => Judged::Refused(at_start(Rule::HostNumber)),
+        PlainAnswer::Not => Judged::Refused(at_start(Rule::HostDomain)),
+    }
+}
+
 // A host string that begins with `[`.
-fn judge_bracketed_host(text: &str) -> Judged<Host>
+fn judge_bracketed_host(text: &str) -> Judged<HeldHost<'_>>
     requires { starts_with_bracket (chars text.now) ≡ true }
-    ensures { (profile : Profile) → IsJudged (IsHostText profile (chars text.now))
+    ensures { (profile : Profile) → IsJudged (IsHeldText profile (chars text.now))
         (HostContentComplaint profile Class.Special (chars text.now)) result }
 {
     match bracketed_ipv6(text) {
-        Some(pieces) => Judged::Valid(Host::V6(pieces)),
+        Some(pieces) => Judged::Valid(HeldHost::Made(Host::V6(pieces))),
         None => Judged::Refused(at_start(Rule::HostIpv6)),
     }
 }
@@ -159,15 +207,15 @@ fn at_start(rule: Rule) -> Refusal
 }
 
 // The host of any other URL, which isn't empty.
-fn judge_opaque_host(text: &str) -> Judged<Option<Host>>
+fn judge_opaque_host(text: &str) -> Judged<Option<HeldHost<'_>>>
     requires { chars text.now ≢ [] }
-    ensures { IsJudged (IsOpaqueHostText (chars text.now)) (OpaqueHostComplaint (chars text.now)) result }
+    ensures { IsJudged (FitsHeld (IsOpaqueHostText (chars text.now))) (OpaqueHostComplaint (chars text.now)) result }
 {
     if let Some(refusal) = opaque_fault(text) {
         return Judged::Refused(refusal);
     }
     match bracketed_ipv6(text) {
-        Some(pieces) => Judged::Valid(Some(Host::V6(pieces))),
+        Some(pieces) => Judged::Valid(Some(HeldHost::Made(Host::V6(pieces)))),
         None => Judged::Valid(None),
     }
 }

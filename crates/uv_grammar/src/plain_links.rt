@@ -1,26 +1,35 @@
-//! The links that people write, judged at one pass: a special scheme, a plain domain, and a path, a query and a
-//! fragment of URL units. All others are judged by their parts.
+//! The links that people write, judged at one pass: a special scheme, a plain domain, a port or none, and a path, a
+//! query and a fragment of URL units. All others are judged by their parts.
 ghost use Rattle.std.specs.Prelude.{◌≡◌, ◌≢◌, ◌++◌, ◌∷◌, ◌<◌, [], false, true, Option, IfSome, IsTrue, drop, length};
+ghost use Rattle.std.specs.Char.{is_ascii_digit};
+ghost use Rattle.std.specs.List.{prefix_len};
 ghost use Rattle.std.specs.Str.{chars};
 ghost use Rattle.uv_model.specs.declared.profile.Profile.{Profile};
+ghost use Rattle.uv_model.specs.Ascii.{slash};
 ghost use Rattle.uv_model.specs.Cut.{starts_with_two_slashes};
 ghost use Rattle.uv_model.specs.Path.{starts_with_slash};
 ghost use Rattle.uv_model.specs.Records.Url.{Url};
-ghost use Rattle.uv_grammar.specs.PlainLinks.{HasAsciiFront, IsFrontCut, IsNameCut, IsPartCut, IsPathCut, IsSpecialCut, IsSpecialFront};
+ghost use Rattle.uv_model.specs.Scheme.{default_port};
+ghost use Rattle.uv_grammar.specs.PlainLinks.{HasAsciiFront, IsFrontCut, IsNameCut, IsPartCut, IsPathCut, IsPortCut, IsSpecialCut, IsSpecialFront};
 ghost use Rattle.uv_grammar.specs.Seen.{seen, seen_option};
 ghost use Rattle.uv_grammar.specs.Verdict.{IsAccepted};
 
-use crate::cut::Cut;
+use crate::authority::without_default;
+use crate::cut::{Cut, split_scheme};
 use crate::form::Form;
 use crate::held_host::{AsciiText, HeldHost};
+use crate::judged::Judged;
 use crate::marks::beginnings::{has_slash, has_two_slashes};
+use crate::marks::behind_slash;
 use crate::parts::Parts;
+use crate::port::judge_port;
 use uv_host::{is_plain_domain, name_front};
+use uv_model::{Class, class_of, default_port};
 use uv_text::{ByteClass, split_units};
 
-/// The parts of a link that is plain: a special scheme in lower case, `://`, a domain that is its own ASCII form, and
-/// a path, a query and a fragment of URL units. By each profile and against any base it is valid with these parts.
-/// Where there are none, that says nothing.
+/// The parts of a link that is plain: a special scheme, `://`, a domain that is its own ASCII form, a port or none, and
+/// a path, a query and a fragment of URL units. By each profile and against any base it is valid with these parts. Where
+/// there are none, that says nothing.
 pub(crate) fn plain_link<'t>(text: &'t str) -> Option<Parts<'t>>
     ensures { IfSome result (λ parts. (profile : Profile) (base : Option Url)
         → IsAccepted profile base (chars text.now) parts) }
@@ -29,6 +38,9 @@ pub(crate) fn plain_link<'t>(text: &'t str) -> Option<Parts<'t>>
         return None;
     };
     let Some((name, rest)) = split_name(behind) else {
+        return None;
+    };
+    let Some((port_text, port, rest)) = split_port(rest, scheme) else {
         return None;
     };
     let Some((path_text, rest)) = split_path(rest) else {
@@ -42,7 +54,7 @@ pub(crate) fn plain_link<'t>(text: &'t str) -> Option<Parts<'t>>
     let cut = Cut {
         scheme: Some(scheme),
         host_text: Some(name),
-        port_text: None,
+        port_text,
         path_text,
         query,
         fragment,
@@ -51,20 +63,58 @@ pub(crate) fn plain_link<'t>(text: &'t str) -> Option<Parts<'t>>
         form: Form::SchemeAuthority,
         cut,
         host: Some(HeldHost::Plain(AsciiText::of(name))),
-        port: None,
+        port,
     })
 }
 
-// A special scheme but `file`, in lower case, and what stands behind its `://`.
+// A special scheme but `file`, in lower case or with a capital at its start, and what stands behind its `://`.
 fn split_special<'t>(text: &'t str) -> Option<(&'t str, &'t str)>
     ensures { IfSome result (λ r. IsSpecialCut (chars text.now) (seen r.0) (seen r.1)) }
 {
     let Some(end) = special_end(text.as_bytes()) else {
-        return None;
+        return split_upper(text);
     };
     let (scheme, behind) = split_front(text, end);
     let (_, rest) = split_front(behind, 3);
     Some((scheme, rest))
+}
+
+// The same of a scheme that begins with a capital.
+fn split_upper<'t>(text: &'t str) -> Option<(&'t str, &'t str)>
+    ensures { IfSome result (λ r. IsSpecialCut (chars text.now) (seen r.0) (seen r.1)) }
+{
+    if !begins_upper(text.as_bytes()) {
+        return None;
+    }
+    let (scheme, rest) = split_scheme(text);
+    let Some(scheme) = scheme else {
+        return None;
+    };
+    let Some(behind) = behind_two_slashes(rest) else {
+        return None;
+    };
+    match class_of(scheme) {
+        Class::Special => Some((scheme, behind)),
+        Class::File | Class::Other => None,
+    }
+}
+
+// Whether the first byte is an upper-case letter.
+fn begins_upper(bytes: &[u8]) -> bool {
+    match bytes {
+        [first, ..] => first.is_ascii_uppercase(),
+        [] => false,
+    }
+}
+
+// What follows `//` at the text's start.
+fn behind_two_slashes<'t>(text: &'t str) -> Option<&'t str>
+    ensures { IfSome result (λ r. chars text.now ≡ slash ∷ slash ∷ seen r) }
+{
+    match behind_slash(text) {
+        Some(rest) => behind_slash(rest),
+        None => None,
+    }
 }
 
 // How many bytes a special scheme has at the front.
@@ -116,6 +166,32 @@ fn split_name<'t>(text: &'t str) -> Option<(&'t str, &'t str)>
     } else {
         None
     }
+}
+
+// The text of a valid port, where there is a `:`, its number where it isn't the scheme's default, and what follows it.
+fn split_port<'t>(text: &'t str, scheme: &str) -> Option<(Option<&'t str>, Option<u16>, &'t str)>
+    ensures { IfSome result (λ r. IsPortCut (default_port (chars scheme.now)) (chars text.now) (seen_option r.0) r.1
+        (seen r.2)) }
+{
+    if !begins_with(text.as_bytes(), b':') {
+        return Some((None, None, text));
+    }
+    let (_, behind) = split_front(text, 1);
+    let (port_text, rest) = split_front(behind, digits_front(behind.as_bytes()));
+    match judge_port(port_text) {
+        Judged::Valid(number) => {
+            let port = without_default(default_port(scheme), number);
+            Some((Some(port_text), port, rest))
+        }
+        Judged::Refused(_) => None,
+    }
+}
+
+// How many digits the bytes begin with.
+fn digits_front(bytes: &[u8]) -> usize
+    ensures { result ≡ prefix_len is_ascii_digit bytes.now }
+{
+    bytes.iter().take_while(|b| b.is_ascii_digit()).count()
 }
 
 // A path of units, and what follows it.

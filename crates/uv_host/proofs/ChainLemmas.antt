@@ -1,5 +1,6 @@
 -- Letters and digits with single marks between them are a plain name.
-use Rattle.std.proofs.Common.{◌≡◌, ℕ, suc, ◌+◌, ◌-◌, ◌<◌, ◌≤◌, Bool, true, false, ◌&&◌, ◌==◌, List, [], ◌∷◌, ◌++◌, length, take, get_or, IsUtf8, chars, refl, sym, ap, ◌∙◌, subst, inl, inr, arith, eqb-true, append-nil, append_assoc}
+use Rattle.std.proofs.Math.Nat.{le_refl}
+use Rattle.std.proofs.Common.{take_all, length-append, ◌≡◌, ℕ, suc, ◌+◌, ◌-◌, ◌<◌, ◌≤◌, Bool, true, false, ◌&&◌, ◌==◌, List, [], ◌∷◌, ◌++◌, length, take, get_or, IsUtf8, chars, refl, sym, ap, ◌∙◌, subst, inl, inr, arith, eqb-true, append-nil, append_assoc}
 use Rattle.std.specs.Prelude.{slice_index}
 use Rattle.std.specs.Str.{IsAscii}
 use Rattle.std.specs.Int.{is_in_range}
@@ -12,11 +13,13 @@ use Rattle.idna.specs.declared.options.Hyphens.TheVariants.{Check}
 use Rattle.idna.specs.Display.{IsPlain}
 use Rattle.idna.specs.Labels.{is_full_stop, labels_of}
 use Rattle.idna.specs.Validity.{passes_hyphens}
+use Rattle.idna.proofs.LabelsLemmas.{labels_of_cons}
 use Rattle.uv_model.specs.Ascii.{full_stop, hyphen}
 use Rattle.uv_model.specs.declared.profile.Profile.{Profile}
 use Rattle.uv_model.specs.declared.profile.Profile.TheVariants.{Standard}
 use Rattle.uv_model.specs.Hosts.Domain.{IsForm, has_lengths, is_form_code_point, without_root}
-use Rattle.uv_host.specs.PlainNames.{goes_on, is_chain, is_sign}
+use Rattle.uv_model.proofs.Hosts.LastLabelLemmas.{without_root-stop}
+use Rattle.uv_host.specs.PlainNames.{goes_on, is_chain, is_rooted_chain, is_sign}
 use Rattle.uv_host.proofs.PlainLemmas.{plain_ascii, plain_from_form, plain_is_form}
 
 chain_parts : (signed : Bool) (c : ℕ) (rest : List ℕ) → is_chain signed (c ∷ rest) ≡ true
@@ -162,30 +165,106 @@ from_first : (n : ℕ) (labels : List (List ℕ)) → GoOn false n labels → Ar
 from_first n [] h = absurd h
 from_first n (label ∷ rest) h = h
 
-chain_root : (name : List ℕ) → is_chain false name ≡ true → without_root name ≡ name
-chain_root name h = rw (end_other false name full_stop refl refl h) refl
-
-chain_lengths : (name : List ℕ) → is_chain false name ≡ true → length name ≤ 63 → has_lengths name ≡ true
-chain_lengths name h few =
-    let some = chain_some name h in
-    let fits : is_in_range 1 253 (length name) ≡ true = grind (arith, nat_tests) in
-    rw (chain_root name h)
-    (and_from _ _ fits (all_fit (length name) (labels_of name) few
-    (from_first (length name) (labels_of name) (chain_labels false name h))))
-
 pub chain_plain : (name : List ℕ) → is_chain false name ≡ true → IsPlain STD3 Check name
 chain_plain name h =
     plain_from_form name (chain_form false name h)
     (all_pass (length name) (labels_of name) (from_first (length name) (labels_of name) (chain_labels false name h)))
 
+-- ---- the root's full stop
+
+all_and_one : {X : Type 0} (p : X → Bool) (xs : List X) (x : X) → list_all p xs ≡ true → p x ≡ true
+    → list_all p (xs ++ x ∷ []) ≡ true
+all_and_one p [] x all one = and_from _ _ one refl
+all_and_one p (y ∷ xs) x all one =
+    let parts = and_parts (p y) (list_all p xs) all in
+    and_from _ _ parts.0 (all_and_one p xs x parts.1 one)
+
+-- it adds an empty label
+labels_root : (name : List ℕ) → labels_of (name ++ full_stop ∷ []) ≡ labels_of name ++ [] ∷ []
+labels_root [] = refl
+labels_root (c ∷ rest) =
+    elim (cases_Bool (is_full_stop c)) [
+      | inl stop ↦ rw stop (ap (λ (l : List (List ℕ)). [] ∷ l) (labels_root rest))
+      | inr other ↦ rw other (ap (onto_first c) (labels_root rest) ∙ more (labels_of rest) (labels_of_cons rest))
+    ]
+  where
+    more : (labels : List (List ℕ)) → (first : List ℕ) × (others : List (List ℕ)) × (labels ≡ first ∷ others)
+        → onto_first c (labels ++ [] ∷ []) ≡ onto_first c labels ++ [] ∷ []
+    more labels (first, others, same) = rw same refl
+
+empty_passes : passes_hyphens Check [] ≡ true
+unfolding passes_hyphens
+empty_passes = refl
+
+-- a name with it is plain
+root_plain : (name : List ℕ) → is_chain false name ≡ true → IsPlain STD3 Check (name ++ full_stop ∷ [])
+root_plain name h =
+    plain_from_form (name ++ full_stop ∷ []) (all_and_one (is_form_code_point Standard) name full_stop
+    (chain_form false name h) refl)
+    (rw (labels_root name) (all_and_one (passes_hyphens Check) (labels_of name) []
+    (all_pass (length name) (labels_of name) (from_first (length name) (labels_of name) (chain_labels false name h)))
+    empty_passes))
+
+-- what is left of a name without it is no longer
+root_parts : (name : List ℕ) → is_full_stop (slice_index name (length name - 1)) ≡ true
+    → name ≡ take (length name - 1) name ++ full_stop ∷ []
+root_parts [] stop = absurd (false≢true stop)
+root_parts (c ∷ rest) stop =
+    let end : length (c ∷ rest) - 1 ≡ length rest = omega arith in
+    let last : is_full_stop (slice_index (c ∷ rest) (length rest)) ≡ true = rw end at stop in
+    let same : get_or (c ∷ rest) (length rest) 0 ≡ full_stop = eqb-true _ full_stop last in
+    rw end
+    (sym (take_all (suc (length rest)) (c ∷ rest) (omega arith)) ∙ take-suc (c ∷ rest) (length rest) 0 (omega arith)
+    ∙ ap (λ (d : ℕ). take (length rest) (c ∷ rest) ++ d ∷ []) same)
+
+pub rooted_plain : (name : List ℕ) → is_rooted_chain name ≡ true → IsPlain STD3 Check name
+rooted_plain name h = elim (cases_Bool (is_full_stop (slice_index name (length name - 1)))) [
+  | inl stop ↦
+      let root : is_chain false (take (length name - 1) name) ≡ true = rw stop at h in
+      subst (λ (s : List ℕ). IsPlain STD3 Check s) (sym (root_parts name stop)) (root_plain (take
+      (length name - 1) name) root)
+  | inr other ↦ chain_plain name (rw other at h)
+]
+
+root_shorter : (name : List ℕ) → length (without_root name) ≤ length name
+root_shorter name = elim (cases_Bool (is_full_stop (slice_index name (length name - 1)))) [
+  | inl stop ↦
+      let parts = ap length (root_parts name stop) ∙ length-append (take (length name - 1) name) (full_stop ∷ []) in
+      rw stop (omega arith)
+  | inr other ↦ rw other (le_refl (length name))
+]
+
+rooted_lengths : (name : List ℕ) → is_rooted_chain name ≡ true → length name ≤ 63 → has_lengths name ≡ true
+rooted_lengths name h few =
+    let root = without_root name in
+    let shorter = root_shorter name in
+    let some = chain_some (without_root name) h in
+    let fewer : length (without_root name) ≤ 63 = omega arith in
+    let fits : is_in_range 1 253 (length (without_root name)) ≡ true = grind (arith, nat_tests) in
+    and_from _ _ fits
+    (all_fit (length (without_root name)) (labels_of (without_root name)) fewer
+    (from_first (length (without_root name)) (labels_of (without_root name)) (chain_labels false
+    (without_root name) h)))
+
 -- a name of at most 63 code points is its own form
-pub chain_is_form : (profile : Profile) (name : List ℕ) → IsUtf8 name → is_chain false name ≡ true → length name ≤ 63
+pub rooted_is_form : (profile : Profile) (name : List ℕ) → IsUtf8 name → is_rooted_chain name ≡ true → length name ≤ 63
     → IsForm profile (chars name) name
-chain_is_form profile name utf8 h few = plain_is_form profile name utf8 (chain_plain name h) (chain_lengths name h few)
+rooted_is_form profile name utf8 h few = plain_is_form profile name utf8 (rooted_plain name h)
+    (rooted_lengths name h few)
+
+pub rooted_form : (name : List ℕ) → is_rooted_chain name ≡ true → list_all (is_form_code_point Standard) name ≡ true
+rooted_form name h = elim (cases_Bool (is_full_stop (slice_index name (length name - 1)))) [
+  | inl stop ↦
+      let root : is_chain false (take (length name - 1) name) ≡ true = rw stop at h in
+      subst (λ (s : List ℕ). list_all (is_form_code_point Standard) s ≡ true) (sym (root_parts name stop))
+      (all_and_one (is_form_code_point Standard) (take (length name - 1) name) full_stop
+      (chain_form false (take (length name - 1) name) root) refl)
+  | inr other ↦ chain_form false name (rw other at h)
+]
 
 -- and ASCII
-pub chain_ascii : (name : List ℕ) → is_chain false name ≡ true → IsAscii name
-chain_ascii name h = plain_ascii name (chain_plain name h)
+pub rooted_ascii : (name : List ℕ) → is_rooted_chain name ≡ true → IsAscii name
+rooted_ascii name h = plain_ascii name (rooted_plain name h)
 
 -- ---- the walk
 
@@ -207,7 +286,41 @@ walk_on bytes at signed inside goes held = λ rest.
     ∙ ap (is_chain false) (append_assoc (take at bytes) (get_or bytes at 0 ∷ []) rest)
     ∙ held (get_or bytes at 0 ∷ rest) ∙ step
 
+-- a walk that ends behind a letter or a digit has walked a name
 pub walk_end : (bytes : List ℕ) (at : ℕ) (signed : Bool) → signed ≡ true → Walked bytes at signed
-    → is_chain false (take at bytes) ≡ true
+    → is_rooted_chain (take at bytes) ≡ true
 walk_end bytes at signed sign held =
-    ap (is_chain false) (sym (append-nil (take at bytes))) ∙ held [] ∙ sign
+    let name : is_chain false (take at bytes) ≡ true = ap (is_chain false) (sym (append-nil (take at bytes))) ∙ held []
+    ∙ sign in
+    rw (end_other false (take at bytes) full_stop refl refl name) name
+
+-- what stands before a full stop of a name ends behind a letter or a digit
+before_stop : (signed : Bool) (name rest : List ℕ) → is_chain signed (name ++ full_stop ∷ rest) ≡ true
+    → is_chain signed name ≡ true
+before_stop true [] rest h = refl
+before_stop false [] rest h = absurd (false≢true h)
+before_stop signed (c ∷ name) rest h =
+    let parts = chain_parts signed c (name ++ full_stop ∷ rest) h in
+    and_from _ _ parts.0 (before_stop (is_sign c) name rest parts.1)
+
+goes_on_to_sign : (signed : Bool) → is_chain signed (97 ∷ []) ≡ true
+goes_on_to_sign true = refl
+goes_on_to_sign false = refl
+
+-- and one that ends behind a full stop has walked a name and the root's full stop
+pub walk_root : (bytes : List ℕ) (at : ℕ) (signed : Bool) → 1 ≤ at → at ≤ length bytes → get_or bytes (at - 1) 0
+    ≡ full_stop
+    → Walked bytes at signed → is_rooted_chain (take at bytes) ≡ true
+walk_root bytes at signed some inside stop held =
+    let next : suc (at - 1) ≡ at = omega arith in
+    let parts : take at bytes ≡ take (at - 1) bytes ++ full_stop ∷ []
+    =
+    ap (λ (k : ℕ). take k bytes) (sym next) ∙ take-suc bytes (at - 1) 0 (omega arith)
+    ∙ ap (λ (d : ℕ). take (at - 1) bytes ++ d ∷ []) stop in
+    let more : is_chain false (take (at - 1) bytes ++ full_stop ∷ 97 ∷ []) ≡ true
+    =
+    ap (is_chain false) (sym (append_assoc (take (at - 1) bytes) (full_stop ∷ []) (97 ∷ [])))
+    ∙ ap (λ (s : List ℕ). is_chain false (s ++ 97 ∷ [])) (sym parts) ∙ held (97 ∷ []) ∙ goes_on_to_sign signed in
+    ap (λ (s : List ℕ). is_rooted_chain s) parts
+    ∙ ap (is_chain false) (without_root-stop (take (at - 1) bytes))
+    ∙ before_stop false (take (at - 1) bytes) (97 ∷ []) more

@@ -5,11 +5,11 @@ use Rattle.std.specs.Str.{IsAscii}
 use Rattle.std.specs.List.{list_all}
 use Rattle.std.specs.Char.{is_ascii_uppercase}
 use Rattle.std.proofs.lemmas.Bool.Decides.{nat_tests}
-use Rattle.std.proofs.lemmas.Bool.{cases_lt, not_from_false}
+use Rattle.std.proofs.lemmas.Bool.{and_from, and_parts, cases_lt, not_from_false}
 use Rattle.std.proofs.lemmas.List.{get_or_past}
 use Rattle.std.proofs.lemmas.List.Sums.{AllPass-from_list_all, list_all-from_AllPass}
 use Rattle.std.proofs.lemmas.List.Elements.{All-weaker}
-use Rattle.std.proofs.lemmas.Str.{chars-IsAscii, encodes-chars}
+use Rattle.std.proofs.lemmas.Str.{chars-IsAscii, encodes-chars, encodes-IsAscii}
 use Rattle.idna.specs.declared.deny_list.TheConstants.AsciiDenyList.{STD3, EMPTY}
 use Rattle.idna.specs.declared.options.Hyphens.TheVariants.{Allow, Check}
 use Rattle.idna.specs.declared.options.DnsLength.TheVariants.{Ignore}
@@ -24,7 +24,7 @@ use Rattle.uv_model.specs.declared.profile.Profile.{Profile}
 use Rattle.uv_model.specs.declared.profile.Profile.TheVariants.{Standard, Wide}
 use Rattle.uv_model.specs.Hosts.Domain.{HasNoForm, IsForm, has_lengths, has_permitted, is_form_code_point, is_permitted, strict_form}
 use Rattle.uv_model.proofs.Hosts.DomainLemmas.{IsForm-from, no_parsed_lengths, wide_form, wide_text}
-use Rattle.uv_host.specs.Domains.{is_simple}
+use Rattle.uv_host.specs.Domains.{is_plain_name, is_simple}
 
 valid_byte : (b : ℕ) → is_form_code_point Standard b ≡ true → (b < 128) × (is_valid_char STD3 b ≡ true)
 valid_byte b h =
@@ -32,6 +32,19 @@ valid_byte b h =
     let lower : is_ascii_uppercase b ≡ false = grind (arith, nat_tests) in
     let kept : may_be_denied b ≡ false = grind (arith, nat_tests) in
     (small, rw (is_valid_char-ascii STD3 b small, lower, denies-may_be_denied STD3 b kept) refl)
+
+simple_form : (b : ℕ) → is_simple b ≡ true → is_form_code_point Standard b ≡ true
+simple_form b h = grind (arith, nat_tests)
+
+-- a name of simple bytes is a plain one
+pub simple_name : (name : List ℕ) → list_all is_simple name ≡ true → is_plain_name name ≡ true
+simple_name name h =
+    let all = AllPass-from_list_all is_simple name h in
+    and_from _ _
+    (list_all-from_AllPass (is_form_code_point Standard) name
+    (All-weaker (λ b. is_simple b ≡ true) (λ b. is_form_code_point Standard b ≡ true) simple_form name all))
+    (list_all-passes_hyphens Check name
+    (All-weaker (λ b. is_simple b ≡ true) (λ b. b ≢ hyphen) (λ b e. grind (arith, nat_tests)) name all))
 
 pub plain_from_simple : (name : List ℕ) → list_all is_simple name ≡ true → IsPlain STD3 Check name
 plain_from_simple name h =
@@ -139,3 +152,26 @@ pub plain_no_form : (profile : Profile) (name : List ℕ) → IsUtf8 name → Is
     → has_lengths name ≡ false → HasNoForm profile (chars name)
 plain_no_form profile name utf8 p wrong =
     no_parsed_lengths profile (chars name) name (plain_to_ascii name utf8 p) wrong
+
+-- ---- names as texts
+
+form_ascii : (c : ℕ) → is_form_code_point Standard c ≡ true → c < 128
+form_ascii c h = grind (arith, nat_tests)
+
+text_ascii : (text : List ℕ) → All (λ c. c < 128) text → (i : ℕ) → get_or text i 0 < 128
+text_ascii text h i = elim (cases_lt i (length text)) [
+  | inl inside ↦ h i 0 inside
+  | inr past ↦ omega (arith, get_or_past text i 0 past)
+]
+
+-- the bytes of a text that is a plain name are such a name
+pub plain_bytes : (bytes : List ℕ) → IsUtf8 bytes → is_plain_name (chars bytes) ≡ true → is_plain_name bytes ≡ true
+plain_bytes bytes utf8 is =
+    let form = (and_parts (list_all (is_form_code_point Standard) (chars bytes)) (list_all (passes_hyphens Check)
+    (labels_of (chars bytes))) is).0 in
+    let ascii =
+    text_ascii (chars bytes)
+    (All-weaker (λ c. is_form_code_point Standard c ≡ true) (λ c. c < 128) form_ascii (chars bytes)
+    (AllPass-from_list_all (is_form_code_point Standard) (chars bytes) form)) in
+    let same : bytes ≡ chars bytes = sym (encodes-chars bytes utf8) ∙ encodes-IsAscii (chars bytes) ascii in
+    ap is_plain_name same ∙ is

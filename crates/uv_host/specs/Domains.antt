@@ -1,11 +1,18 @@
 -- The answers on domains, after the URL Standard, sections 3.3 to 3.5, and UTS #46, section 4.
-use Rattle.std.specs.Prelude.{ℕ, Bool, ◌||◌, ◌==◌, List, string_bytes}
+use Rattle.std.specs.Prelude.{ℕ, Bool, ◌&&◌, ◌||◌, ◌==◌, List, string_bytes}
 use Rattle.std.specs.Char.{is_ascii_digit, is_ascii_lowercase}
+use Rattle.std.specs.List.{list_all}
+use Rattle.idna.specs.declared.options.Hyphens.TheVariants.{Check}
+use Rattle.idna.specs.Labels.{labels_of}
+use Rattle.idna.specs.Validity.{passes_hyphens}
 use Rattle.uv_model.specs.Ascii.{full_stop}
 use Rattle.uv_model.specs.declared.profile.Profile.{Profile}
+use Rattle.uv_model.specs.declared.profile.Profile.TheVariants.{Standard}
 use Rattle.uv_host.specs.declared.domains.DomainAnswer.{DomainAnswer}
 use Rattle.uv_host.specs.declared.domains.DomainAnswer.TheVariants.{Ascii, Number, Not}
-use Rattle.uv_model.specs.Hosts.Domain.{HasNoForm, IsDomain, IsNumberText}
+use Rattle.uv_host.specs.declared.domains.PlainAnswer.{PlainAnswer}
+use Rattle.uv_host.specs.declared.domains.PlainAnswer.TheVariants as plain
+use Rattle.uv_model.specs.Hosts.Domain.{HasNoForm, IsDomain, IsNumberText, is_form_code_point}
 
 -- the answer on a text by the profile: the form of a valid domain, a number, or neither
 abbrev pub IsAnswer : Profile → List ℕ → DomainAnswer → Type 0
@@ -16,3 +23,14 @@ IsAnswer profile text Not = HasNoForm profile text
 -- a lower-case letter, a digit or the full stop
 abbrev pub is_simple : ℕ → Bool
 is_simple b = is_ascii_lowercase b || (is_ascii_digit b || (b == full_stop))
+
+-- a plain name: lower-case letters, digits, hyphens and full stops, and no label begins or ends with a hyphen or has
+-- two as its third and fourth code points, as one that begins with `xn--` has
+abbrev pub is_plain_name : List ℕ → Bool
+is_plain_name text = list_all (is_form_code_point Standard) text && list_all (passes_hyphens Check) (labels_of text)
+
+-- what a plain name is as a domain by the profile, where it is its own form: the answer on its text and these bytes
+abbrev pub IsPlainAnswer : Profile → List ℕ → List ℕ → PlainAnswer → Type 0
+IsPlainAnswer profile text bytes plain.Domain = IsDomain profile text bytes
+IsPlainAnswer profile text bytes plain.Number = IsNumberText profile text
+IsPlainAnswer profile text bytes plain.Not = HasNoForm profile text

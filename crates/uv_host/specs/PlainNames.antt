@@ -2,6 +2,7 @@
 use Rattle.std.specs.Prelude.{◌≡◌, ℕ, ◌≤◌, Bool, true, false, ◌&&◌, ◌||◌, ◌==◌, List, [], ◌∷◌, length, take}
 use Rattle.std.specs.Char.{is_ascii_digit, is_ascii_lowercase}
 use Rattle.uv_model.specs.Ascii.{full_stop, hyphen}
+use Rattle.uv_model.specs.Hosts.Domain.{without_root}
 
 -- a lower-case letter or a digit
 abbrev pub is_sign : ℕ → Bool
@@ -16,6 +17,10 @@ abbrev pub is_chain : Bool → List ℕ → Bool
 is_chain signed [] = signed
 is_chain signed (c ∷ rest) = goes_on signed c && is_chain (is_sign c) rest
 
+-- such a name, with the root's full stop at its end or without one
+abbrev pub is_rooted_chain : List ℕ → Bool
+is_rooted_chain name = is_chain false (without_root name)
+
 -- the front of so many bytes is such a name
 abbrev pub IsChainFront : List ℕ → ℕ → Type 0
-IsChainFront bytes n = (n ≤ length bytes) × (is_chain false (take n bytes) ≡ true)
+IsChainFront bytes n = (n ≤ length bytes) × (is_rooted_chain (take n bytes) ≡ true)

@@ -1,14 +1,15 @@
 //! Domains of special URLs (URL Standard, sections 3.3 to 3.5; UTS #46, section 4).
 ghost use Rattle.std.specs.Cow.{cow_str_bytes};
-ghost use Rattle.std.specs.Prelude.{chars, encode_utf8_all, false, IfOk, IsTrue, MatchOption, option_map, slice_index, true, ◌↔◌, ◌≡◌, ◌==◌};
+ghost use Rattle.std.specs.Prelude.{chars, encode_utf8_all, false, IfOk, IfSome, IsSome, IsTrue, MatchOption, option_map, slice_index, true, ◌↔◌, ◌≡◌, ◌==◌};
 ghost use Rattle.std.specs.Str.{IsAscii};
 ghost use Rattle.idna.specs.Uts46.{to_ascii};
 ghost use Rattle.std.specs.List.{list_all};
 ghost use Rattle.idna.specs.Display.{IsPlain};
 ghost use Rattle.idna.specs.Labels.{labels_of};
 ghost use Rattle.idna.specs.Validity.{passes_hyphens};
-ghost use Rattle.uv_host.specs.Domains.{IsAnswer, is_simple};
+ghost use Rattle.uv_host.specs.Domains.{IsAnswer, IsPlainAnswer, is_plain_name, is_simple};
 ghost use Rattle.uv_model.specs.Hosts.Domain as spec;
+ghost use Rattle.uv_model.specs.declared.profile.Profile.{Profile};
 
 use idna::uts46::{DnsLength, Hyphens, Uts46, verify_dns_length};
 use idna::{AsciiDenyList, Errors};
@@ -52,10 +53,36 @@ pub fn domain(alloc: Global, text: &str, profile: Profile) -> Result<DomainAnswe
     }
 }
 
+/// What a plain name is as a domain. A valid one is its own ASCII form.
+#[derive(Clone, Copy, Debug, PartialEq, Eq)]
+pub enum PlainAnswer {
+    /// A valid domain.
+    Domain,
+    /// Not a valid domain, and only since it ends in a number.
+    Number,
+    /// Not a valid domain, since its lengths are wrong.
+    Not,
+}
+
+/// What a plain name is as a domain of each profile (URL Standard, section 3.3): lower-case letters, digits, full
+/// stops, and hyphens where ToASCII with its strict settings takes them. `None` for every other text. No memory is taken.
+pub fn plain_answer(name: &str) -> Option<PlainAnswer>
+    ensures answer { IfSome result (λ answer. (profile : Profile)
+        → IsPlainAnswer profile (chars name.now) name.now answer) }
+    ensures plain { is_plain_name (chars name.now) ≡ true → IsSome result }
+{
+    if is_plain(name.as_bytes()) {
+        Some(judge_plain(name))
+    } else {
+        None
+    }
+}
+
 /// Whether a name is its own form at both settings, but for its lengths: lower-case letters, digits, full stops, and
 /// hyphens where the strict settings take them.
 fn is_plain(name: &[u8]) -> bool
-    ensures { IsTrue result → IsPlain AsciiDenyList.STD3 Hyphens.Check name.now }
+    ensures value { result ≡ is_plain_name name.now }
+    ensures plain { IsTrue result → IsPlain AsciiDenyList.STD3 Hyphens.Check name.now }
 {
     is_simple(name) || (is_form(name, Profile::Standard) && has_placed_hyphens(name))
 }
@@ -108,18 +135,30 @@ fn is_hyphen_at(label: &[u8], at: usize) -> bool
     at < label.len() && label[at] == b'-'
 }
 
-/// The answer on a plain name, which is its own form in each profile where it has the lengths.
+/// The answer on a plain name.
+fn judge_plain(name: &str) -> PlainAnswer
+    requires { IsPlain AsciiDenyList.STD3 Hyphens.Check name.now }
+    ensures { (profile : Profile) → IsPlainAnswer profile (chars name.now) name.now result }
+{
+    if !has_lengths(name) {
+        PlainAnswer::Not
+    } else if is_number(name) {
+        PlainAnswer::Number
+    } else {
+        PlainAnswer::Domain
+    }
+}
+
+/// The answer on a plain name by a profile, with its form copied.
 fn plain_domain(alloc: Global, name: &str, profile: Profile) -> Result<DomainAnswer, AllocError>
     requires { IsPlain AsciiDenyList.STD3 Hyphens.Check name.now }
     ensures { IfOk result (IsAnswer profile (chars name.now)) }
 {
-    if !has_lengths(name) {
-        return Ok(DomainAnswer::Not);
+    match judge_plain(name) {
+        PlainAnswer::Domain => Ok(DomainAnswer::Ascii(String::from_str(alloc, name)?)),
+        PlainAnswer::Number => Ok(DomainAnswer::Number),
+        PlainAnswer::Not => Ok(DomainAnswer::Not),
     }
-    if is_number(name) {
-        return Ok(DomainAnswer::Number);
-    }
-    Ok(DomainAnswer::Ascii(String::from_str(alloc, name)?))
 }
 
 /// Whether all ASCII code points of the text are letters, digits and marks of a domain.

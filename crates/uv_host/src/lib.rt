@@ -7,6 +7,6 @@ mod opaque_hosts;
 mod plain_names;
 
 pub use addresses::{bracketed_ipv6, ipv4, ipv6};
-pub use domains::{DomainAnswer, domain};
+pub use domains::{DomainAnswer, PlainAnswer, domain, plain_answer};
 pub use opaque_hosts::opaque_fault;
 pub use plain_names::{is_plain_domain, name_front};

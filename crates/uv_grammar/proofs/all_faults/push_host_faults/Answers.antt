@@ -5,6 +5,7 @@ use Rattle.std.proofs.lemmas.Result.{on_ok_weaker}
 use Rattle.uv_model.specs.Complaints.Complaint.{Behind, HostPartComplaint}
 use Rattle.uv_model.specs.Cut.{Cut}
 use Rattle.uv_grammar.specs.Faults.{AddsComplaints}
+use Rattle.uv_grammar.specs.HeldHost.{FitsHeld}
 use Rattle.uv_grammar.specs.PartValues.{FitsHostPart}
 use Rattle.uv_grammar.specs.Scan.{HostUnitComplaint}
 use Rattle.uv_grammar.specs.Seen.{seen_option}
@@ -32,7 +33,7 @@ returns c =
     (ap (λ (cut : Cut). cut.host_text) (sym c.cut.view_is) ∙ ap seen_option c.in-Some.is)
     (ap (λ (s : Setting). s.class) c.setting.view_is)
     (sym c.is_scanned.ensures ∙ c.if-is_scanned.false)
-    (rw c.into_refusal.ensures (judged_least (FitsHostPart c.args.setting.now c.args.cut.now)
+    (rw c.into_refusal.ensures (judged_least (FitsHeld (FitsHostPart c.args.setting.now c.args.cut.now))
     (HostPartComplaint c.args.setting.now c.args.cut.now) c.in_ok-judge_host_part.field-0 c.in_ok-judge_host_part.ensures.answer))
     joined)
     c.push_fault.ensures

@@ -1,8 +1,9 @@
 -- The verdict on a cut text is the verdict on the text.
 use Rattle.std.proofs.Common.{arith}
-use Rattle.std.specs.Prelude.{option_copied}
+use Rattle.std.specs.Prelude.{option_copied, option_map}
 use Rattle.std.specs.Str.{chars}
 use Rattle.std.proofs.lemmas.Bool.{false≢true}
+use Rattle.uv_grammar.specs.HeldHost.{held}
 use Rattle.uv_grammar.proofs.VerdictLemmas.{accepted, countable, host_without_memory, refused_behind, refused_host, refused_port, refused_start}
 use Rattle.uv_grammar.proofs.checker.check_by_parts.Goals as goal
 
@@ -48,12 +49,12 @@ returns-in-Some-fault_behind_authority-clause-answer c =
     c.cut_text-cut.ensures.setting c.in_default.ensures (rw c.in-Valid.is at c.in_ok-host.ensures.answer).1
     c.in-Valid-judge_port_part.ensures.1 c.in-Some-fault_behind_authority.ensures
 
-pub returns-in-None-clause-answer : goal.returns-in-None-clause-answer
-returns-in-None-clause-answer c =
+pub returns-clause-answer : goal.returns-clause-answer
+returns-clause-answer c =
     accepted c.args.profile (option_copied c.args.base) (chars c.args.text.now) c.cut_text-cut.result.0
     c.cut_text-cut.result.1 c.cut_text-cut.ensures.cut c.cut_text-cut.ensures.setting c.in_default.ensures
     c.build.result (record {
-      host = c.in-Valid.host;
+      host = option_map held c.in-Valid.host;
       port = c.in-Valid-judge_port_part.port;
       built = c.build.ensures;
       fits_host = (rw c.in-Valid.is at c.in_ok-host.ensures.answer).0;

@@ -4,6 +4,7 @@ use Rattle.std.specs.Str.{chars}
 use Rattle.std.proofs.lemmas.Result.{IfOk-weaker}
 use Rattle.uv_model.specs.declared.scheme.Class.TheVariants.{Special, File, Other}
 use Rattle.uv_model.specs.Complaints.Complaint.{HostContentComplaint, HostComplaint}
+use Rattle.uv_grammar.specs.HeldHost.{FitsHeld}
 use Rattle.uv_grammar.specs.HostValues.{FitsHost, FitsSomeHost}
 use Rattle.uv_grammar.specs.Judged.{IsJudged}
 use Rattle.uv_grammar.specs.Seen.{seen_option}
@@ -23,10 +24,10 @@ pub returns-in-Special-clause-answer : goal.returns-in-Special-clause-answer
 returns-in-Special-clause-answer c =
     let some = some_chars c.args.host_text.now c.utf8.host_text (sym c.is_empty.ensures ∙ c.if-is_empty.false) in
     rw c.in-Special.is (IfOk-weaker c.judge_special_host.result
-    (IsJudged (FitsSomeHost c.args.profile Special (chars c.args.host_text.now))
+    (IsJudged (FitsHeld (FitsSomeHost c.args.profile Special (chars c.args.host_text.now)))
     (HostContentComplaint c.args.profile Special (chars c.args.host_text.now)))
-    (IsJudged (FitsHost c.args.profile Special (chars c.args.host_text.now) (seen_option c.args.port_text)
-    (chars c.args.path_text.now))
+    (IsJudged (FitsHeld (FitsHost c.args.profile Special (chars c.args.host_text.now) (seen_option c.args.port_text)
+    (chars c.args.path_text.now)))
     (HostComplaint c.args.profile Special (chars c.args.host_text.now) (seen_option c.args.port_text)
     (chars c.args.path_text.now)))
     (held_answer c.args.profile Special (chars c.args.host_text.now) (seen_option c.args.port_text)
@@ -41,10 +42,10 @@ pub returns-in-File-clause-answer : goal.returns-in-File-clause-answer
 returns-in-File-clause-answer c =
     let some = some_chars c.args.host_text.now c.utf8.host_text (sym c.is_empty.ensures ∙ c.if-is_empty.false) in
     rw c.in-File.is (IfOk-weaker c.judge_file_host.result
-    (IsJudged (FitsSomeHost c.args.profile File (chars c.args.host_text.now))
+    (IsJudged (FitsHeld (FitsSomeHost c.args.profile File (chars c.args.host_text.now)))
     (HostContentComplaint c.args.profile File (chars c.args.host_text.now)))
-    (IsJudged (FitsHost c.args.profile File (chars c.args.host_text.now) (seen_option c.args.port_text)
-    (chars c.args.path_text.now))
+    (IsJudged (FitsHeld (FitsHost c.args.profile File (chars c.args.host_text.now) (seen_option c.args.port_text)
+    (chars c.args.path_text.now)))
     (HostComplaint c.args.profile File (chars c.args.host_text.now) (seen_option c.args.port_text)
     (chars c.args.path_text.now)))
     (held_answer c.args.profile File (chars c.args.host_text.now) (seen_option c.args.port_text)

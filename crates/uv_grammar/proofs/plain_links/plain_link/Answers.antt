@@ -17,15 +17,18 @@ pub returns : goal.returns
 returns c = λ profile base.
     rw c.of.ensures
     (plain_accepted profile base (chars c.args.text.now) (seen c.in-Some.scheme) (seen c.in-Some-split_name.name)
-    c.in-Some-split_name.name.now (seen c.in-Some-split_path.path_text) (seen_option c.split_part.result.0)
+    c.in-Some-split_name.name.now (seen_option c.in-Some-split_port.port_text) c.in-Some-split_port.port
+    (seen c.in-Some-split_path.path_text) (seen_option c.split_part.result.0)
     (seen_option c.split_part-2.result.0) refl
     (record {
       behind = seen c.in-Some.behind;
       rest = seen c.in-Some-split_name.rest;
+      after = seen c.in-Some-split_port.rest;
       tail = seen c.in-Some-split_path.rest;
       end = seen c.split_part.result.1;
       special = c.in-Some.ensures;
       named = c.in-Some-split_name.ensures;
+      port_cut = c.in-Some-split_port.ensures;
       path_cut = c.in-Some-split_path.ensures;
       query_cut = c.split_part.ensures;
       fragment_cut =

@@ -1,6 +1,6 @@
 -- The end of an ASCII front is a boundary, and its bytes are its code points.
 use Rattle.std.proofs.Common.{◌∙◌}
-use Rattle.uv_grammar.proofs.PlainLinkLemmas.{front_boundary, front_cut}
+use Rattle.uv_grammar.proofs.PlainFrontLemmas.{front_boundary, front_cut}
 use Rattle.uv_grammar.proofs.SliceLemmas.{range-start}
 use Rattle.uv_grammar.proofs.plain_links.split_front.Goals as goal
 

@@ -1,7 +1,7 @@
 -- A plain domain and what follows it.
-use Rattle.std.proofs.Common.{◌≡◌, ℕ, List, false, true, subst, sym}
-use Rattle.uv_host.specs.PlainNames.{IsChainFront, is_chain}
-use Rattle.uv_grammar.proofs.PlainLinkLemmas.{cut_joined, name_ascii}
+use Rattle.std.proofs.Common.{◌≡◌, ℕ, List, true, subst, sym}
+use Rattle.uv_host.specs.PlainNames.{IsChainFront, is_rooted_chain}
+use Rattle.uv_grammar.proofs.PlainFrontLemmas.{cut_joined, name_ascii}
 use Rattle.uv_grammar.proofs.plain_links.split_name.Goals as goal
 
 pub split_front-requires : goal.split_front-requires
@@ -12,7 +12,7 @@ split_front-requires c =
 pub is_plain_domain-requires : goal.is_plain_domain-requires
 is_plain_domain-requires c =
     let front = subst (λ (s : List ℕ). IsChainFront s c.in-Some.end) c.as_bytes.ensures.value c.in-Some.ensures in
-    subst (λ (s : List ℕ). is_chain false s ≡ true) (sym c.split_front.ensures.is_front) front.1
+    subst (λ (s : List ℕ). is_rooted_chain s ≡ true) (sym c.split_front.ensures.is_front) front.1
 
 pub returns-then-is_plain_domain : goal.returns-then-is_plain_domain
 returns-then-is_plain_domain c = record {

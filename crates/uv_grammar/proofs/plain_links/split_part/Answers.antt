@@ -1,7 +1,7 @@
 -- The units behind a mark.
 use Rattle.std.proofs.Common.{◌≡◌, ℕ, List, ◌∷◌, drop, subst}
 use Rattle.std.specs.Str.{chars}
-use Rattle.uv_grammar.proofs.PlainLinkLemmas.{byte_ascii, no_part, some_part}
+use Rattle.uv_grammar.proofs.PlainFrontLemmas.{byte_ascii, no_part, some_part}
 use Rattle.uv_grammar.proofs.plain_links.split_part.Goals as goal
 
 pub split_front-requires : goal.split_front-requires

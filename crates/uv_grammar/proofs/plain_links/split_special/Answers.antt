@@ -1,7 +1,7 @@
 -- A special scheme and what stands behind it.
 use Rattle.std.proofs.Common.{ℕ, List, subst}
 use Rattle.uv_grammar.specs.PlainLinks.{IsSpecialFront}
-use Rattle.uv_grammar.proofs.PlainLinkLemmas.{mark_ascii, scheme_ascii, special_cut}
+use Rattle.uv_grammar.proofs.PlainFrontLemmas.{mark_ascii, scheme_ascii, special_cut}
 use Rattle.uv_grammar.proofs.plain_links.split_special.Goals as goal
 
 pub split_front-requires : goal.split_front-requires

@@ -16,4 +16,5 @@ is_number-requires c =
 
 pub returns-then-is_plain-clause-refused : goal.returns-then-is_plain-clause-refused
 returns-then-is_plain-clause-refused c =
-    λ wrong. absurd (false≢true (sym wrong ∙ permitted_plain c.args.profile c.args.text.now (rw c.as_bytes.ensures.value at (c.is_plain.ensures c.if-is_plain.true))))
+    λ wrong. absurd (false≢true (sym wrong ∙ permitted_plain c.args.profile c.args.text.now
+    (rw c.as_bytes.ensures.value at (c.is_plain.ensures.plain c.if-is_plain.true))))
