@@ -1,3 +1,7 @@
 mod CheckLemmas
 mod ListLemmas
 mod ReportLemmas
+mod VectorCaseLemmas
+mod VectorPassLemmas
+mod VectorReportLemmas
+mod VectorRunLemmas

@@ -8,11 +8,13 @@ mod jobs;
 mod links;
 pub mod program;
 mod report;
+pub mod vectors;
 
 pub use check::{CheckEnd, run_check, run_faults};
 pub use ends::{End, error_line, status};
 pub use fault::CliFault;
 pub use jobs::run_job;
+pub use vectors::{VectorEnd, run_vectors};
 pub use uv_words::{Job, WordsFault, read_words};
 
 #[cfg(test)]

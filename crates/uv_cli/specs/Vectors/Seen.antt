@@ -1,0 +1,18 @@
+-- What the code's values are seen as.
+use Rattle.std.specs.Prelude.{List, ℕ, Option, option_map}
+use Rattle.std.specs.Borrow.{Bor}
+use Rattle.serde_json.specs.Data.{Data}
+use Rattle.serde_json.specs.View.{view}
+use Rattle.serde_json.specs.declared.value.Value.{Value}
+use Rattle.uv_cli.specs.declared.vectors.case.Expected.{Expected}
+use Rattle.uv_cli.specs.declared.vectors.case.Expected.TheVariants as expected
+use Rattle.uv_cli.specs.Vectors.Case.{Expectation, denotes, refuses}
+
+-- the data of a value that was found
+abbrev pub value_seen : Option (Bor Value) → Option Data
+value_seen found = option_map (λ value. view value.now) found
+
+-- what a case expects
+abbrev pub expected_seen : Expected → Expectation
+expected_seen (expected.Text text) = denotes text.now
+expected_seen (expected.Refusal refusal) = refuses refusal

@@ -1,0 +1,71 @@
+# Runs over files of vectors. The two files of the repository pass.
+vectors=$(dirname "$here")/vectors
+expect 0 'vectors 109 pass 109 fail 0\n' '' vectors "$vectors/standard.json"
+expect 0 'vectors 3781 pass 3781 fail 0\n' '' vectors "$vectors/uts46.json"
+
+# vector_file TEXT : a file in the room that has this text, read with escapes
+vector_file() { printf '%b' "$1" >"$room/vectors.json"; }
+
+# The cases that fail are named, and a case that is malformed keeps all others from being judged.
+vector_file '[{"input":"urn:a","text":"urn:a"},{"input":"x","place":0,"rule":"no-scheme"},{"input":"http://h:65536/","text":"http://h/"}]'
+expect 1 'fail 3\nvectors 3 pass 2 fail 1\n' '' vectors vectors.json
+vector_file '[]'
+expect 0 'vectors 0 pass 0 fail 0\n' '' vectors vectors.json
+vector_file '[{"input":"urn:a","text":"x"},{"input":"x","place":-1,"rule":"no-scheme"},{"input":"x"}]'
+expect 2 '' 'vector 2 malformed\n' vectors vectors.json
+
+# What is no JSON text: nothing at all, a text that is cut, a comma too many, two values, bytes that aren't UTF-8, a number
+# beyond floats, a byte order mark, arrays a million deep. And a JSON text that is no array.
+for text in '' '[' '[{"input":"urn:a","text":"urn:a"}' '[1,]' '[][]' '["\xff"]' '[1e999]' '\xef\xbb\xbf[]'; do
+    vector_file "$text"
+    expect 2 '' 'vectors not json\n' vectors vectors.json
+done
+head -c 1000000 /dev/zero | tr '\0' '[' >"$room/vectors.json"
+expect 2 '' 'vectors not json\n' vectors vectors.json
+vector_file '{"input":"urn:a","text":"urn:a"}'
+expect 2 '' 'vectors not an array\n' vectors vectors.json
+
+# A file of the most bytes is read; one of a byte more, and one of 17 MB, are too large, whatever they hold.
+{ printf '[]'; head -c 16777214 /dev/zero | tr '\0' ' '; } >"$room/vectors.json"
+expect 0 'vectors 0 pass 0 fail 0\n' '' vectors vectors.json
+printf ' ' >>"$room/vectors.json"
+expect 2 '' 'vectors too large\n' vectors vectors.json
+head -c 17000000 /dev/zero >"$room/vectors.json"
+expect 2 '' 'vectors too large\n' vectors vectors.json
+
+# A hundred thousand cases, of which each thousandth fails.
+{
+    printf '['
+    seq 1 100000 | awk '{ printf "%s{\"input\":\"http://h/%d\",\"text\":\"http://h/%s\"}", NR > 1 ? "," : "", $1, $1 % 1000 ? $1 : "x" }'
+    printf ']'
+} >"$room/vectors.json"
+expect 1 "$(seq 1000 1000 100000 | sed 's/^/fail /; s/$/\\n/' | tr -d '\n')vectors 100000 pass 99900 fail 100\\n" '' vectors vectors.json
+
+# A file that isn't there, a folder, a path through a file, and a file whose first read fails: memory at address 0.
+expect 3 '' 'read\n' vectors missing.json
+expect 3 '' 'read\n' vectors .
+expect 3 '' 'read\n' vectors ''
+expect 3 '' 'read\n' vectors vectors.json/x
+expect 3 '' 'read\n' vectors /proc/self/mem
+
+# A file that may not be read. Root may read every file, so root runs the program as nobody.
+chmod 755 "$room"
+cp "$program" "$room/program"
+chmod 000 "$room/vectors.json"
+as_nobody=()
+if [ "$(id -u)" = 0 ]; then as_nobody=(setpriv --reuid=65534 --regid=65534 --clear-groups); fi
+(cd "$room" && "${as_nobody[@]}" ./program vectors vectors.json) >"$room/out" 2>"$room/err"
+ends_with 3 $? 'read\n' 'vectors, of a file that may not be read'
+rm -f "$room/vectors.json"
+
+# The output can't be written.
+vector_file '[]'
+(cd "$room" && "$program" vectors vectors.json) >/dev/full 2>"$room/err"
+ends_with 3 $? 'write\n' 'vectors, into a full device'
+
+# The suite of the tests is the file for others, byte for byte.
+suite=$(dirname "$here")/crates/uv_cli/src/vectors/suite.rt
+count=$((count + 1))
+if ! sed -n '/r##"/,/^"##;$/p' "$suite" | sed '1s/.*r##"//; $d' | cmp -s - "$vectors/standard.json"; then
+    fail 'the suite of the tests and vectors/standard.json differ'
+fi
