@@ -69,3 +69,4 @@ count=$((count + 1))
 if ! sed -n '/r##"/,/^"##;$/p' "$suite" | sed '1s/.*r##"//; $d' | cmp -s - "$vectors/standard.json"; then
     fail 'the suite of the tests and vectors/standard.json differ'
 fi
+all_cases 27

@@ -4,7 +4,7 @@ use Rattle.std.specs.Borrow.{Bor}
 use Rattle.uv_model.specs.declared.profile.Profile.{Profile}
 use Rattle.uv_model.specs.Records.Url.{Url}
 use Rattle.uv_cli.specs.declared.ends.End.{End}
-use Rattle.uv_cli.specs.declared.ends.End.TheVariants.{Valid, Refused, Shown, Words, BaseRefused, Fault, Stopped}
+use Rattle.uv_cli.specs.declared.ends.End.TheVariants.{Valid, Refused, Shown, Words, BaseRefused, Fault, Stopped, Vectors, Unread}
 use Rattle.uv_cli.specs.declared.fault.CliFault.TheVariants.{Memory, Write}
 use Rattle.uv_cli.specs.Check.{IsBase}
 use Rattle.uv_cli.specs.Jobs.{HasListed, HasListedAgainst, Seen}
@@ -22,3 +22,5 @@ listed_against profile base url Words input rest old new is listed = absurd list
 listed_against profile base url (BaseRefused refusal) input rest old new is listed = absurd listed
 listed_against profile base url (Fault Memory) input rest old new is listed = absurd listed
 listed_against profile base url (Fault Write) input rest old new is listed = absurd listed
+listed_against profile base url (Vectors ended) input rest old new is listed = absurd listed
+listed_against profile base url Unread input rest old new is listed = absurd listed

@@ -2,6 +2,7 @@
 use Rattle.std.proofs.Common.{◌≡◌, ◌∙◌, ℕ, ◌≤◌, ◌-◌, Bool, true, false, List, Option, Some, None, ap, chars, get_or, refl, sym, subst, le_antisymm}
 use Rattle.std.specs.Prelude.{Decides}
 use Rattle.std.specs.Str.{bytes_eq}
+use Rattle.std.proofs.lemmas.Bool.{false≢true}
 use Rattle.std.proofs.lemmas.Slice.Eq.{bytes_eq-Decides}
 use Rattle.uv_model.specs.declared.profile.Profile.{Profile}
 use Rattle.uv_model.specs.declared.profile.Profile.TheVariants.{Standard}
@@ -99,6 +100,23 @@ denoted_is_not_refused base text url refusal denotes refused =
 pub refusal_is_one : (base : Option Url) (text : List ℕ) (refusal other : Refusal) → IsRefused Standard base text refusal
     → IsRefused Standard base text other → refusal ≡ other
 refusal_is_one base text refusal other one two = least_is_one _ refusal other one.least two.least
+
+-- whether the refusal that a text has is this one
+pub decides_refusal : (base : Option Url) (text : List ℕ) (found refusal : Refusal) (answer : Bool)
+    → IsRefused Standard base text found → Decides answer (found ≡ refusal)
+    → Decides answer (IsRefused Standard base text refusal)
+decides_refusal base text found refusal answer is decides = (
+  λ yes. subst (λ r. IsRefused Standard base text r) (decides.0 yes) is,
+  λ refused. decides.1 (refusal_is_one base text found refusal is refused),
+)
+
+-- a text that has a URL doesn't have the refusal
+pub decides_no_refusal : (base : Option Url) (text : List ℕ) (url : Url) (refusal : Refusal) → Denotes Standard base text url
+    → Decides false (IsRefused Standard base text refusal)
+decides_no_refusal base text url refusal denotes = (
+  λ yes. absurd (false≢true yes),
+  λ refused. absurd (denoted_is_not_refused base text url refusal denotes refused),
+)
 
 -- ---- the case against its base
 

@@ -1,7 +1,7 @@
 -- The lines of the cases that fail, one value after the other.
 use Rattle.std.proofs.Common.{◌≡◌, ◌∙◌, ℕ, ◌+◌, ◌-◌, ◌<◌, ◌≤◌, Bool, true, false, List, [], ◌∷◌, ◌++◌, ap, ap₂, refl, sym, subst, map, length, take, get_or, append_assoc, append-nil, arith, cond}
 use Rattle.std.specs.List.{AllZip}
-use Rattle.std.proofs.lemmas.List.{length-map, length-take, map-append, take_all, take_more}
+use Rattle.std.proofs.lemmas.List.{length-map, length-take-le, map-append, take_all, take_more}
 use Rattle.std.proofs.lemmas.List.Sums.{sum_by-cons, sum_by_push}
 use Rattle.std.proofs.lemmas.Slice.Zip.{AllZip-long}
 use Rattle.serde_json.specs.Data.{Data}
@@ -58,7 +58,7 @@ failures_more values at value answer count lines new within here before judged i
     ap (map view) more ∙ map-append view (take at values) (value ∷ []) in
     let size : 1 + length (map view (take at values)) ≡ at + 1 =
     (let mapped = length-map (take at values) view in
-    let taken = length-take at values in
+    let taken = length-take-le at values (omega (arith, within)) in
     omega (arith, mapped, taken, within)) in
     let text : new ≡ lines ++ case_line (1 + length (map view (take at values))) answer =
     is ∙ ap (λ n. lines ++ case_line n answer) (sym size) in

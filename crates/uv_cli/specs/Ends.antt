@@ -17,7 +17,11 @@ use Rattle.uv_cli.specs.declared.check.Complaints.TheVariants as complaints
 use Rattle.uv_cli.specs.declared.fault.CliFault.{CliFault}
 use Rattle.uv_cli.specs.declared.fault.CliFault.TheVariants as cli
 use Rattle.uv_cli.specs.declared.ends.End.{End}
-use Rattle.uv_cli.specs.declared.ends.End.TheVariants.{Valid, Refused, Shown, Words, BaseRefused, Fault, Stopped}
+use Rattle.uv_cli.specs.declared.ends.End.TheVariants.{Valid, Refused, Shown, Words, BaseRefused, Fault, Stopped, Vectors, Unread}
+use Rattle.uv_cli.specs.declared.vectors.VectorEnd.{VectorEnd}
+use Rattle.uv_cli.specs.declared.vectors.VectorEnd.TheVariants as vectors
+use Rattle.uv_cli.specs.declared.vectors.file.FileFault.{FileFault}
+use Rattle.uv_cli.specs.declared.vectors.file.FileFault.TheVariants as file
 
 -- ---- what the flags say
 
@@ -45,6 +49,16 @@ abbrev pub end_of_list : Result Counts LinkFault → End
 end_of_list (Ok counts) = if counts.ok == counts.lines then Valid else Refused
 end_of_list (Err fault) = Stopped fault
 
+-- the end of what a run over a vector file gave
+abbrev pub end_of_vectors : Result VectorEnd CliFault → End
+end_of_vectors (Ok end) = Vectors end
+end_of_vectors (Err fault) = Fault fault
+
+-- the end where a vector file isn't read
+abbrev pub end_without_file : FileFault → End
+end_without_file file.Memory = Fault cli.Memory
+end_without_file file.Read = Unread
+
 -- the end where the words give no job
 abbrev pub end_without_job : WordsFault → End
 end_without_job words.Memory = Fault cli.Memory
@@ -56,6 +70,8 @@ end_after_output end true = end
 end_after_output Valid false = Fault cli.Write
 end_after_output Refused false = Fault cli.Write
 end_after_output Shown false = Fault cli.Write
+end_after_output (Vectors vectors.AllPass) false = Fault cli.Write
+end_after_output (Vectors vectors.SomeFail) false = Fault cli.Write
 end_after_output end false = end
 
 -- ---- what an end gives
@@ -70,6 +86,10 @@ status_of (BaseRefused refusal) = 2
 status_of (Fault fault) = 3
 status_of (Stopped link.BaseDiffers) = 2
 status_of (Stopped fault) = 3
+status_of (Vectors vectors.AllPass) = 0
+status_of (Vectors vectors.SomeFail) = 1
+status_of (Vectors end) = 2
+status_of Unread = 3
 
 -- the line of a base that is refused
 unfoldable pub base_refused_text : Refusal → List ℕ
@@ -86,6 +106,19 @@ stopped_text link.BaseDiffers = codes "base differs\n"
 stopped_text link.TooManyLines = codes "too many lines\n"
 stopped_text link.Endless = codes "endless\n"
 
+-- the line of a case that is malformed
+unfoldable pub malformed_text : ℕ → List ℕ
+malformed_text number = codes "vector " ++ (decimal number ++ codes " malformed\n")
+
+-- the line of a vector file that isn't run
+abbrev pub vectors_text : VectorEnd → List ℕ
+vectors_text vectors.AllPass = []
+vectors_text vectors.SomeFail = []
+vectors_text vectors.NotJson = codes "vectors not json\n"
+vectors_text vectors.NotArray = codes "vectors not an array\n"
+vectors_text vectors.TooLarge = codes "vectors too large\n"
+vectors_text (vectors.Malformed number) = malformed_text number
+
 -- the line on standard error, or nothing
 abbrev pub error_text : End → List ℕ
 error_text Valid = []
@@ -96,3 +129,5 @@ error_text (BaseRefused refusal) = base_refused_text refusal
 error_text (Fault cli.Memory) = codes "memory\n"
 error_text (Fault cli.Write) = codes "write\n"
 error_text (Stopped fault) = stopped_text fault
+error_text (Vectors end) = vectors_text end
+error_text Unread = codes "read\n"

@@ -1,5 +1,5 @@
 -- What a job has done with its devices, by the end that it gave.
-use Rattle.std.specs.Prelude.{◌≡◌, ◌≢◌, ℕ, ◌+◌, List, Option, String, option_map, string_bytes}
+use Rattle.std.specs.Prelude.{◌≡◌, ◌≢◌, ℕ, ◌+◌, false, List, Option, String, option_map, string_bytes}
 use Rattle.std.specs.Borrow.{Bor}
 use Rattle.std.specs.Io.KnownBytes.{Consumes, IsAtEnd}
 use Rattle.std.specs.Str.{chars}
@@ -20,6 +20,7 @@ use Rattle.uv_cli.specs.declared.ends.End.{End}
 use Rattle.uv_cli.specs.declared.ends.End.TheVariants as end
 use Rattle.uv_cli.specs.Check.{HasWritten, HasWrittenFront, IsBase, IsBaseRefused, RunsAgainst}
 use Rattle.uv_cli.specs.Ends.{complaints_of, profile_of}
+use Rattle.uv_cli.specs.Vectors.Run.{WritesVectors, WritesVectorsFront, is_judged}
 
 -- A device as contracts see it: the bytes that a source has still to give or that a sink holds, where it tells them,
 -- and how many of its calls have failed.
@@ -91,6 +92,17 @@ HasListed profile base (end.Fault cli.Memory) input rest old new = (rest ≡ inp
 HasListed profile base end input rest old new =
     (url : Option Url) × IsBase profile base url × HasListedAgainst profile url end input rest old new
 
+-- ---- a vector file
+
+-- what a run over the bytes of a vector file has written
+abbrev pub HasRunVectors : List ℕ → End → Seen → Seen → Type 0
+HasRunVectors bytes (end.Vectors ended) old new =
+    WritesVectors bytes ended old.bytes new.bytes × (is_judged ended ≡ false → new ≡ old)
+HasRunVectors bytes (end.Fault cli.Memory) old new = new ≡ old
+HasRunVectors bytes (end.Fault cli.Write) old new =
+    WritesVectorsFront bytes old.bytes new.bytes × (new.failed ≡ old.failed + 1)
+HasRunVectors bytes _ old new = ⊥
+
 -- ---- a job
 
 -- it holds of the job's base, as it is lent to the run
@@ -98,11 +110,11 @@ abbrev pub AtBase : Option (String Global) → (Option (Bor (List ℕ)) → Type
 AtBase base P =
     (lent : Option (Bor (List ℕ))) × (option_map (λ text. text.now) lent ≡ option_map string_bytes base) × P lent
 
--- what the job has read and written
-abbrev pub HasDone : Job → End → Seen → Seen → Seen → Seen → Type 0
-HasDone (job.Check text base all wide) end input rest old new =
+-- what the job has read and written, where its file has these bytes
+abbrev pub HasDone : Job → List ℕ → End → Seen → Seen → Seen → Seen → Type 0
+HasDone (job.Check text base all wide) bytes end input rest old new =
     AtBase base (λ lent. HasChecked (complaints_of all) (profile_of wide) lent (chars (string_bytes text)) end old new
     × RunsAgainst (profile_of wide) lent (chars (string_bytes text))) × (rest ≡ input)
-HasDone (job.Links base wide) end input rest old new =
+HasDone (job.Links base wide) bytes end input rest old new =
     AtBase base (λ lent. HasListed (profile_of wide) lent end input rest old new)
-HasDone (job.Vectors file) end input rest old new = Unit {0}
+HasDone (job.Vectors file) bytes end input rest old new = HasRunVectors bytes end old new × (rest ≡ input)

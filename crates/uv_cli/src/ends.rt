@@ -1,10 +1,11 @@
 //! How the program ends: with which exit status, and what it says of that on standard error.
 ghost use Rattle.std.specs.Prelude.{◌≡◌, IfOk, string_bytes};
 ghost use Rattle.uv_cli.specs.Ends as spec;
-ghost use Rattle.uv_cli.specs.Ends.{base_refused_text, error_text, status_of, stopped_text};
+ghost use Rattle.uv_cli.specs.Ends.{base_refused_text, error_text, malformed_text, status_of, stopped_text, vectors_text};
 
 use crate::check::CheckEnd;
 use crate::fault::CliFault;
+use crate::vectors::{FileFault, VectorEnd};
 use std::alloc::{AllocError, Global};
 use uv_links::{Counts, LinkFault};
 use uv_model::Refusal;
@@ -27,6 +28,10 @@ pub enum End {
     Fault(CliFault),
     /// The run over a list stopped.
     Stopped(LinkFault),
+    /// The run over a vector file ended so.
+    Vectors(VectorEnd),
+    /// The vector file can't be opened or read.
+    Unread,
 }
 
 /// The end of what a check gave.
@@ -57,6 +62,26 @@ pub(crate) fn end_of_list(gave: Result<Counts, LinkFault>) -> End
     }
 }
 
+/// The end of what a run over a vector file gave.
+pub(crate) fn end_of_vectors(gave: Result<VectorEnd, CliFault>) -> End
+    ensures { result ≡ spec.end_of_vectors gave }
+{
+    match gave {
+        Ok(end) => End::Vectors(end),
+        Err(fault) => End::Fault(fault),
+    }
+}
+
+/// The end where a vector file isn't read.
+pub(crate) fn end_without_file(fault: FileFault) -> End
+    ensures { result ≡ spec.end_without_file fault }
+{
+    match fault {
+        FileFault::Memory => End::Fault(CliFault::Memory),
+        FileFault::Read => End::Unread,
+    }
+}
+
 /// The end where the words give no job.
 pub(crate) fn end_without_job(fault: &WordsFault) -> End
     ensures { result ≡ spec.end_without_job fault.now }
@@ -79,20 +104,25 @@ pub(crate) fn end_after_output(end: End, is_out: bool) -> End
 {
     match end {
         End::Valid | End::Refused | End::Shown if !is_out => End::Fault(CliFault::Write),
+        End::Vectors(VectorEnd::AllPass | VectorEnd::SomeFail) if !is_out => {
+            End::Fault(CliFault::Write)
+        }
         end => end,
     }
 }
 
-/// The exit status: 0 where the text is valid, every line ok, or help shown; 1 where one is refused or differs; 2 where
-/// the words or the base are refused or the base differs; 3 for any other fault.
+/// The exit status: 0 where the text is valid, every line ok, every case passed, or help shown; 1 where one is refused,
+/// differs or fails; 2 where the words, the base or the vector file are refused or the base differs; 3 for any other
+/// fault.
 pub fn status(end: End) -> u8
     ensures { result ≡ status_of end }
 {
     match end {
-        End::Valid | End::Shown => 0,
-        End::Refused => 1,
+        End::Valid | End::Shown | End::Vectors(VectorEnd::AllPass) => 0,
+        End::Refused | End::Vectors(VectorEnd::SomeFail) => 1,
         End::Words | End::BaseRefused(_) | End::Stopped(LinkFault::BaseDiffers) => 2,
-        End::Fault(_) | End::Stopped(_) => 3,
+        End::Vectors(_) => 2,
+        End::Fault(_) | End::Stopped(_) | End::Unread => 3,
     }
 }
 
@@ -107,7 +137,28 @@ pub fn error_line(alloc: Global, end: End) -> Result<String, AllocError>
         End::Fault(CliFault::Memory) => "memory\n".to_string(alloc),
         End::Fault(CliFault::Write) => "write\n".to_string(alloc),
         End::Stopped(fault) => stopped_line(fault).to_string(alloc),
+        End::Vectors(end) => vectors_line(alloc, end),
+        End::Unread => "read\n".to_string(alloc),
     }
+}
+
+fn vectors_line(alloc: Global, end: VectorEnd) -> Result<String, AllocError>
+    ensures { IfOk result (λ text. string_bytes text ≡ vectors_text end) }
+{
+    match end {
+        VectorEnd::AllPass | VectorEnd::SomeFail => Ok(String::new(alloc)),
+        VectorEnd::NotJson => "vectors not json\n".to_string(alloc),
+        VectorEnd::NotArray => "vectors not an array\n".to_string(alloc),
+        VectorEnd::TooLarge => "vectors too large\n".to_string(alloc),
+        VectorEnd::Malformed(number) => malformed_line(alloc, number),
+    }
+}
+
+#[tactic(auto, unfolding(crate::specs::Ends::malformed_text))]
+fn malformed_line(alloc: Global, number: usize) -> Result<String, AllocError>
+    ensures { IfOk result (λ text. string_bytes text ≡ malformed_text number) }
+{
+    format!(in alloc; "vector {number} malformed\n")
 }
 
 #[tactic(auto, unfolding(crate::specs::Ends::base_refused_text))]

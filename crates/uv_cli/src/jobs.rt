@@ -2,23 +2,31 @@
 ghost use Rattle.std.specs.Prelude.{◌≡◌, ◌-◌, ◌^◌, ◌<◌, chars};
 ghost use Rattle.uv_cli.specs.Check.{RunsAgainst};
 ghost use Rattle.uv_cli.specs.Ends as spec;
-ghost use Rattle.uv_cli.specs.Jobs.{HasChecked, HasDone};
+ghost use Rattle.uv_cli.specs.Jobs.{HasChecked, HasDone, HasRunVectors};
 
 use crate::check::{Complaints, run_check, run_faults};
-use crate::ends::{End, end_of_check};
+use crate::ends::{End, end_of_check, end_of_vectors};
 use crate::links::list_links;
+use crate::vectors::run_vectors;
 use std::alloc::Global;
 use uv_model::{Profile, Sink, Source};
 use uv_words::Job;
 
 /// Does what a job asks for: it checks the job's text, against the job's base and by the profile that the job names, or
-/// reports on the lines of the input.
+/// reports on the lines of the input, or runs the cases of a vector file.
 ///
-/// The input is read only by a list, and the output isn't flushed.
-pub fn run_job<I: Source, S: Sink>(alloc: Global, job: &Job, input: &mut I, out: &mut S) -> End
+/// The file has the bytes of the job's file, and only a run of vectors looks at it. The input is read only by a list,
+/// and the output isn't flushed.
+pub fn run_job<I: Source, S: Sink>(
+    alloc: Global,
+    job: &Job,
+    file: &[u8],
+    input: &mut I,
+    out: &mut S,
+) -> End
     requires reads { I.failed input.old < 2 ^ 64 - 1 }
     requires writes { S.failed out.old < 2 ^ 64 - 1 }
-    ensures { HasDone job.now result
+    ensures { HasDone job.now file.now result
         (record { bytes = I.remaining input.old; failed = I.failed input.old })
         (record { bytes = I.remaining input.new; failed = I.failed input.new })
         (record { bytes = S.contents out.old; failed = S.failed out.old })
@@ -41,8 +49,18 @@ pub fn run_job<I: Source, S: Sink>(alloc: Global, job: &Job, input: &mut I, out:
         Job::Links { base, wide } => {
             list_links(alloc, base.as_deref(), profile_of(*wide), input, out)
         }
-        Job::Vectors { .. } => End::Words,
+        Job::Vectors { .. } => vectors_run(alloc, file, out),
     }
+}
+
+// Runs the cases of a vector file.
+fn vectors_run<S: Sink>(alloc: Global, file: &[u8], out: &mut S) -> End
+    requires { S.failed out.old < 2 ^ 64 - 1 }
+    ensures { HasRunVectors file.now result
+        (record { bytes = S.contents out.old; failed = S.failed out.old })
+        (record { bytes = S.contents out.new; failed = S.failed out.new }) }
+{
+    end_of_vectors(run_vectors(alloc, file, out))
 }
 
 // Checks a text, alone or against a base.

@@ -1,8 +1,10 @@
 //! The program `urlcheck` over a runtime: its words, its devices and its exit status.
 
-use crate::ends::{End, end_after_output, end_without_job, error_line, status};
+use crate::ends::{End, end_after_output, end_without_file, end_without_job, error_line, status};
 use crate::fault::CliFault;
 use crate::jobs::run_job;
+use crate::vectors::{FileFault, read_vector_file};
+use std::fs::Files;
 use std::io::{ErrorKind, Write};
 use std::rt::Env;
 use std::{env, io};
@@ -10,12 +12,12 @@ use uv_model::{FromReader, ToWriter};
 use uv_words::{Job, WordsFault, read_words};
 
 /// Runs the program on the words of the runtime, and gives its exit status.
-pub fn run<R: Env + Input + Print + Eprint + AllocGlobal>(rt: &R) -> u8 {
+pub fn run<R: Env + Files + Input + Print + Eprint + AllocGlobal>(rt: &R) -> u8 {
     let end = ended(rt);
     told(rt, end)
 }
 
-fn ended<R: Env + Input + Print + Eprint + AllocGlobal>(rt: &R) -> End {
+fn ended<R: Env + Files + Input + Print + Eprint + AllocGlobal>(rt: &R) -> End {
     let words: Vec<String> = match env::args(rt) {
         Ok(words) => match words.collect(rt.alloc()) {
             Ok(words) => words,
@@ -36,11 +38,23 @@ fn ended<R: Env + Input + Print + Eprint + AllocGlobal>(rt: &R) -> End {
 }
 
 // Does a job over the runtime's devices.
-fn done<R: Input + Print + AllocGlobal>(rt: &R, job: &Job) -> End {
+fn done<R: Files + Input + Print + AllocGlobal>(rt: &R, job: &Job) -> End {
+    let file = match file_of(rt, job) {
+        Ok(file) => file,
+        Err(fault) => return end_without_file(fault),
+    };
     let mut input = FromReader::new(rt.reader());
     let mut out = ToWriter::new(io::writer(rt));
-    let end = run_job(rt.alloc(), job, &mut input, &mut out);
+    let end = run_job(rt.alloc(), job, file.as_slice(), &mut input, &mut out);
     end_after_output(end, out.into_writer().flush().is_ok())
+}
+
+// The bytes of the job's file, and none where it has no file.
+fn file_of<R: Files + AllocGlobal>(rt: &R, job: &Job) -> Result<Vec<u8>, FileFault> {
+    match job {
+        Job::Vectors { file } => read_vector_file(rt, file.as_str()),
+        _ => Ok(Vec::new(rt.alloc())),
+    }
 }
 
 // Shows what the reader of the words says: help on standard output, a refusal on standard error.

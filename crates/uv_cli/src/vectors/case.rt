@@ -128,7 +128,6 @@ fn denotes(
 }
 
 // Whether an input has this refusal.
-#[tactic(auto, using(crate::proofs::VectorPassLemmas::refusal_is_one))]
 fn is_refused(
     alloc: Global,
     input: &str,
@@ -140,9 +139,15 @@ fn is_refused(
 {
     match resolve(alloc, input, base, Profile::Standard) {
         Ok(_) => Ok(false),
-        Err(ResolveFault::Refused(found)) => Ok(found == refusal),
+        Err(ResolveFault::Refused(found)) => Ok(is_same(found, refusal)),
         Err(ResolveFault::Memory(error)) => Err(error),
     }
+}
+
+fn is_same(found: Refusal, refusal: Refusal) -> bool
+    ensures { Decides result (found ≡ refusal) }
+{
+    found == refusal
 }
 
 fn is_known_key(key: &str) -> bool
