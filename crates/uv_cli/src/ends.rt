@@ -68,7 +68,7 @@ pub(crate) fn end_of_vectors(gave: Result<VectorEnd, CliFault>) -> End
 {
     match gave {
         Ok(end) => End::Vectors(end),
-        Err(fault) => End::Fault(fault),
+        Err(why) => End::Fault(why),
     }
 }
 

@@ -1,5 +1,5 @@
 -- A text has one refusal.
-use Rattle.std.proofs.Common.{IfOk, chars, option_copied, subst, sym}
+use Rattle.std.proofs.Common.{rules, IfOk, chars, option_copied, subst, sym}
 use Rattle.std.specs.Prelude.{Decides}
 use Rattle.uv_model.specs.declared.profile.Profile.TheVariants.{Standard}
 use Rattle.uv_grammar.specs.Verdict.{IsRefused}
@@ -17,9 +17,10 @@ returns c =
           subst (λ r. IfOk r (λ is. Decides is (IsRefused Standard base text refusal))) (sym w.result-is)
           (decides_no_refusal base text _ refusal (rw w.in-Ok.is at c.resolve.ensures.resolved))
       | in-Err-Refused w ↦
+          (let resolved = rw w.in-Err-Refused.is at c.resolve.ensures.resolved in
+          let refused : IsRefused Standard base text w.in-Err-Refused.found = search rules in
           subst (λ r. IfOk r (λ is. Decides is (IsRefused Standard base text refusal))) (sym w.result-is)
-          (decides_refusal base text w.in-Err-Refused.found refusal w.is_same.result
-          (rw w.in-Err-Refused.is at c.resolve.ensures.resolved) w.is_same.ensures)
+          (decides_refusal base text w.in-Err-Refused.found refusal w.is_same.result refused w.is_same.ensures))
       | in-Err-Memory w ↦
           subst (λ r. IfOk r (λ is. Decides is (IsRefused Standard base text refusal))) (sym w.result-is) tt
     ]
