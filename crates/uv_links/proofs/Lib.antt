@@ -3,3 +3,4 @@ pub mod ReportLemmas
 pub mod ReportRowsLemmas
 pub mod StandsLemmas
 pub mod PassLemmas
+pub mod OwnTextLemmas

@@ -3,6 +3,7 @@ pub mod Judgement
 pub mod Limits
 pub mod Lines
 pub mod Outcome
+pub mod OwnText
 pub mod Progress
 pub mod Report
 pub mod ReportRows

@@ -1,19 +1,20 @@
 //! The judgement of a line.
 ghost use Rattle.std.specs.Prelude.{◌≡◌, ◌≤◌, IfOk, IfErr, Some, length, option_copied};
 ghost use Rattle.std.specs.Str.{IsUtf8};
-ghost use Rattle.uv_model.specs.Records.Serialize.{serial};
 ghost use Rattle.uv_links.specs.Fault.{IsBaseFault, IsWantOfRoom};
 ghost use Rattle.uv_links.specs.Judgement.{judged_said};
-ghost use Rattle.uv_links.specs.Report.{IsSaid};
+ghost use Rattle.uv_links.specs.Report.{DenotesText, IsSaid};
 ghost use Rattle.uv_links.specs.Second.{AgreesOnBase, IsReadAs, second_base};
 
 use crate::fault::LinkFault;
 use crate::judgement::Judgement;
+use crate::own_text::is_own_text;
 use crate::second::read_as;
-use std::alloc::Global;
+use std::alloc::{AllocError, Global};
 use std::marker::Model;
 use std::str::from_utf8;
 use url::Url;
+use uv_grammar::{Verdict, check};
 use uv_model::{Profile, Record};
 use uv_resolve::{ResolveFault, resolve};
 
@@ -93,24 +94,55 @@ impl<'b> Judge<'b> {
         ensures said { IfOk result (λ j. IsSaid self.now text.now (judged_said j)) }
         ensures room { IfErr result IsWantOfRoom }
     {
+        match check(alloc, text, self.base, self.profile) {
+            Ok(Verdict::Yes(parts)) => {
+                if is_own_text(text, &parts) {
+                    self.compare(alloc, text, text)
+                } else {
+                    self.judge_by_record(alloc, text)
+                }
+            }
+            Ok(Verdict::No(refusal)) => Ok(Judgement::Refused(refusal)),
+            Err(AllocError) => Err(LinkFault::Memory),
+        }
+    }
+
+    // The same, with the record that the text denotes.
+    fn judge_by_record(&self, alloc: Global, text: &str) -> Result<Judgement, LinkFault>
+        requires { length text.now ≤ self.now.line_bytes }
+        ensures said { IfOk result (λ j. IsSaid self.now text.now (judged_said j)) }
+        ensures room { IfErr result IsWantOfRoom }
+    {
         match resolve(alloc, text, self.base, self.profile) {
-            Ok(record) => match self.same(alloc, text, &record)? {
-                Some(url) => Ok(Judgement::Same(url)),
-                None => Ok(Judgement::Differs),
-            },
+            Ok(record) => {
+                let written = record.text(alloc)?;
+                self.compare(alloc, text, written.as_str())
+            }
             Err(ResolveFault::Refused(refusal)) => Ok(Judgement::Refused(refusal)),
             Err(ResolveFault::Memory(_)) => Err(LinkFault::Memory),
         }
     }
 
-    // The second parser's URL of a text, where it has the text of the record that it denotes.
-    fn same(&self, alloc: Global, text: &str, denoted: &Record) -> Result<Option<Url>, LinkFault>
-        ensures same { IfOk result (λ url.
-            IsReadAs (second_base self.now.base) text.now (serial denoted.now) url) }
+    // What is said of a text that denotes a URL with this text.
+    fn compare(&self, alloc: Global, text: &str, written: &str) -> Result<Judgement, LinkFault>
+        requires short { length text.now ≤ self.now.line_bytes }
+        requires denotes { DenotesText self.now.profile self.now.base text.now written.now }
+        ensures said { IfOk result (λ j. IsSaid self.now text.now (judged_said j)) }
         ensures room { IfErr result IsWantOfRoom }
     {
-        let written = denoted.text(alloc)?;
-        read_as(alloc, self.second.as_ref(), text, written.as_str())
+        match self.read(alloc, text, written)? {
+            Some(url) => Ok(Judgement::Same(url)),
+            None => Ok(Judgement::Differs),
+        }
+    }
+
+    // The second parser's URL of a text, where it has this text.
+    fn read(&self, alloc: Global, text: &str, written: &str) -> Result<Option<Url>, LinkFault>
+        ensures same { IfOk result (λ url.
+            IsReadAs (second_base self.now.base) text.now written.now url) }
+        ensures room { IfErr result IsWantOfRoom }
+    {
+        read_as(alloc, self.second.as_ref(), text, written)
     }
 }
 

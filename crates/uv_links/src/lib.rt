@@ -9,6 +9,7 @@ mod judgement;
 pub mod laws;
 mod limits;
 mod outcome;
+mod own_text;
 mod passing;
 mod progress;
 mod run;

@@ -15,6 +15,8 @@ pub(crate) struct Progress<'b> {
     pub(crate) begun: Vec<u8>,
     pub(crate) counts: Counts,
     pub(crate) text: Vec<u8>,
+    /// The last line of the report, whose memory is kept for the next one.
+    pub(crate) line: String,
     ghost bounded: { most ≤ 1000000000 },
     ghost few: { counts.lines ≤ most },
     ghost kept: { vec_len begun ≤ judge.line_bytes + 2 },
@@ -43,6 +45,7 @@ impl<'b> Progress<'b> {
             begun: Vec::new(alloc),
             counts,
             text: Vec::new(alloc),
+            line: String::new(alloc),
         }
     }
 }

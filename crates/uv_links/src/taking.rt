@@ -9,7 +9,7 @@ ghost use Rattle.uv_links.specs.Report.{IsSaid, Said, counted};
 use crate::counts::Counts;
 use crate::fault::LinkFault;
 use crate::judgement::Judgement;
-use crate::outcome::line_text;
+use crate::outcome::push_line;
 use crate::progress::Progress;
 use memchr::memchr;
 use std::alloc::{AllocError, Global};
@@ -124,11 +124,12 @@ impl Progress<'_> {
     // Reports a line of which no front is kept.
     fn report_whole(&mut self, alloc: Global, line: &[u8]) -> Result<(), LinkFault>
         requires { self.old.counts.lines < self.old.most }
-        ensures added { OnOk result ((said : Said) × IsSaid self.old.judge line.now said × Adds self.old self.new said) }
+        ensures added { OnOk result ((said : Said) × IsSaid self.old.judge line.now said
+            × Adds self.old self.new said) }
         ensures fault { IfErr result (AddsNone self.old self.new) }
     {
         match self.judge.judge(alloc, line) {
-            Ok(judgement) => self.add(alloc, judgement),
+            Ok(judgement) => self.add(judgement),
             Err(fault) => Err(fault),
         }
     }
@@ -144,7 +145,7 @@ impl Progress<'_> {
             .judge
             .judge(alloc, line_ended(self.begun.as_slice(), is_closed))
         {
-            Ok(judgement) => match self.add(alloc, judgement) {
+            Ok(judgement) => match self.add(judgement) {
                 Ok(()) => Ok(()),
                 Err(fault) => Err(fault),
             },
@@ -153,16 +154,17 @@ impl Progress<'_> {
     }
 
     // Gathers the report of the line that has ended, and counts it.
-    fn add(&mut self, alloc: Global, judgement: Judgement) -> Result<(), LinkFault>
+    fn add(&mut self, judgement: Judgement) -> Result<(), LinkFault>
         requires { self.old.counts.lines < self.old.most }
         ensures added { OnOk result (Adds self.old self.new (judged_said judgement)) }
         ensures fault { IfErr result (AddsNone self.old self.new) }
     {
         let number = self.counts.lines + 1;
-        let Ok(line) = line_text(alloc, number, &judgement.outcome()) else {
+        self.line.clear();
+        if let Err(AllocError) = push_line(&mut self.line, number, &judgement.outcome()) {
             return Err(LinkFault::Memory);
-        };
-        if self.text.extend_from_slice(line.as_bytes()).is_err() {
+        }
+        if self.text.extend_from_slice(self.line.as_bytes()).is_err() {
             return Err(LinkFault::Memory);
         }
         self.begun.clear();

@@ -1,0 +1,281 @@
+-- A text that is the text of the URL that it denotes.
+use Rattle.std.proofs.Common.{◌≡◌, ◌≢◌, ℕ, Bool, true, false, not, ◌==◌, List, [], ◌∷◌, ◌++◌, Option, Some, None, codes, refl, sym, ap, ◌∙◌, subst, inl, inr, append_assoc, append-nil}
+use Rattle.std.specs.Prelude.{option_map}
+use Rattle.std.specs.List.{list_all, join_with_byte}
+use Rattle.std.specs.Char.{is_ascii}
+use Rattle.std.specs.Str.{IsAscii, chars}
+use Rattle.std.proofs.lemmas.Str.{chars-IsAscii}
+use Rattle.std.proofs.lemmas.Bool.{and_parts, and_from, not-true}
+use Rattle.std.proofs.lemmas.List.Folds.{list_all-append}
+use Rattle.uv_model.specs.declared.profile.Profile.{Profile}
+use Rattle.uv_model.specs.declared.scheme.Class.{Class}
+use Rattle.uv_model.specs.declared.scheme.Class.TheVariants.{Special}
+use Rattle.uv_model.specs.declared.host.Host.{Host}
+use Rattle.uv_model.specs.declared.host.Host.TheVariants.{Domain}
+use Rattle.uv_model.specs.declared.path.UrlPath.{UrlPath}
+use Rattle.uv_model.specs.declared.path.UrlPath.TheVariants.{Segments}
+use Rattle.uv_model.specs.Ascii.{apostrophe, slash, colon, question_mark, number_sign}
+use Rattle.uv_model.specs.Encoding.{encoded}
+use Rattle.uv_model.specs.Parts.{SchemeAuthority, Parts, written, written_scheme, written_authority, written_behind}
+use Rattle.uv_model.specs.Path.{MayBePathSlashed, is_double_dot, is_single_dot, walk, walk_one}
+use Rattle.uv_model.specs.Records.Denote.{authority_path, denote, denoted_scheme, denoted_host, denoted_port, denoted_path, denoted_query}
+use Rattle.uv_model.specs.Records.Serialize.{serial, serial_host, serial_segments}
+use Rattle.uv_model.specs.Records.Url.{Url}
+use Rattle.uv_model.specs.Scheme.{default_port, scheme_class}
+use Rattle.uv_model.specs.Setting.{Setting, scheme_or, setting_of}
+use Rattle.uv_model.specs.Valid.{FitsAuthority, FitsForm, FitsHostText, IsSpecialAuthority, Valid, scheme_in}
+use Rattle.uv_model.proofs.Paths.SlashedPaths.{slashed_or_none}
+use Rattle.uv_model.proofs.Texts.AsciiLemmas.{IsAscii-from_test}
+use Rattle.uv_model.proofs.Texts.EncodingLemmas.{is_kept, encoded_code_point-kept}
+use Rattle.uv_links.specs.OwnText.{HasOwnScheme, IsOwnScheme, IsOwnText, is_kept_segment, is_never_encoded}
+use Rattle.uv_links.specs.Report.{DenotesText}
+
+-- ---- texts that no part encodes
+
+-- a code point that no part encodes stands in each encoded text
+kept : (quote : Bool) (c : ℕ) → is_never_encoded c ≡ true → is_kept quote c ≡ true
+kept false c h = and_from _ _ (and_parts (is_ascii c) (not (c == apostrophe)) h).0 refl
+kept true c h = h
+
+-- a text of such code points is its own encoded text
+encoded-kept : (quote : Bool) (text : List ℕ) → list_all is_never_encoded text ≡ true → encoded quote text ≡ text
+unfolding encoded
+encoded-kept quote [] h = refl
+encoded-kept quote (c ∷ rest) h =
+    let parts = and_parts (is_never_encoded c) (list_all is_never_encoded rest) h in
+    ap (λ t. t ++ encoded quote rest) (encoded_code_point-kept quote c (kept quote c parts.0))
+    ∙ ap (λ t. c ∷ t) (encoded-kept quote rest parts.1)
+
+-- two texts of such code points
+both : (xs ys : List ℕ) → list_all is_never_encoded (xs ++ ys) ≡ true
+    → (list_all is_never_encoded xs ≡ true) × (list_all is_never_encoded ys ≡ true)
+both xs ys h =
+    and_parts (list_all is_never_encoded xs) (list_all is_never_encoded ys)
+    (sym (list_all-append is_never_encoded xs ys) ∙ h)
+
+-- what stands behind the first of them
+behind : (c : ℕ) (rest : List ℕ) → list_all is_never_encoded (c ∷ rest) ≡ true
+    → list_all is_never_encoded rest ≡ true
+behind c rest h = (and_parts (is_never_encoded c) (list_all is_never_encoded rest) h).1
+
+-- ---- paths
+
+-- a walk keeps a segment that is no dot segment
+walk_one-kept : (class : Class) (last : Bool) (path : List (List ℕ)) (segment : List ℕ) → is_kept_segment segment ≡ true
+    → list_all is_never_encoded segment ≡ true → walk_one class last path segment ≡ path ++ (segment ∷ [])
+walk_one-kept class last path segment no_dots bytes =
+    let parts = and_parts (not (is_double_dot segment)) (not (is_single_dot segment)) no_dots in
+    let double : is_double_dot segment ≡ false = not-true _ parts.0 in
+    let single : is_single_dot segment ≡ false = not-true _ parts.1 in
+    rw (double, single) (ap (λ s. path ++ (s ∷ [])) (encoded-kept false segment bytes))
+
+-- and all of them
+walk-kept : (class : Class) (path segments : List (List ℕ)) → list_all is_kept_segment segments ≡ true
+    → list_all is_never_encoded (serial_segments segments) ≡ true → walk class path segments ≡ path ++ segments
+unfolding walk
+walk-kept class path [] no_dots bytes = sym (append-nil path)
+walk-kept class path (segment ∷ []) no_dots bytes =
+    walk_one-kept class true path segment (and_parts (is_kept_segment segment) true no_dots).0
+    (both segment [] (behind slash (segment ++ []) bytes)).0
+walk-kept class path (segment ∷ next ∷ rest) no_dots bytes =
+    let each = and_parts (is_kept_segment segment) (list_all is_kept_segment (next ∷ rest)) no_dots in
+    let texts = both segment (serial_segments (next ∷ rest))
+    (behind slash (segment ++ serial_segments (next ∷ rest)) bytes) in
+    ap (λ p. walk class p (next ∷ rest)) (walk_one-kept class false path segment each.0 texts.0)
+    ∙ walk-kept class (path ++ (segment ∷ [])) (next ∷ rest) each.1 texts.1
+    ∙ append_assoc path (segment ∷ []) (next ∷ rest)
+
+-- the path behind an authority
+authority_path-kept : (segments : List (List ℕ)) → segments ≢ [] → list_all is_kept_segment segments ≡ true
+    → list_all is_never_encoded (serial_segments segments) ≡ true → authority_path Special segments ≡ segments
+authority_path-kept [] some no_dots bytes = absurd (some refl)
+authority_path-kept (segment ∷ rest) some no_dots bytes = walk-kept Special [] (segment ∷ rest) no_dots bytes
+
+-- segments with `/` before each are joined behind one
+serial_segments-join : (first : List ℕ) (rest : List (List ℕ))
+    → serial_segments (first ∷ rest) ≡ slash ∷ join_with_byte slash (first ∷ rest)
+serial_segments-join first [] = ap (λ t. slash ∷ t) (append-nil first)
+serial_segments-join first (next ∷ rest) = ap (λ t. slash ∷ (first ++ t)) (serial_segments-join next rest)
+
+-- a path behind an authority is its segments with `/` before each
+slashed_text : (segments : List (List ℕ)) (text : List ℕ) → segments ≢ [] → MayBePathSlashed segments text
+    → text ≡ serial_segments segments
+slashed_text segments text some (inl none) = absurd (some none.1)
+slashed_text segments text some (inr path) =
+    let joins = path.joins in
+    path.slashed ∙ ap (λ t. slash ∷ t) (joins.joined ∙ ap (join_with_byte slash) joins.some)
+    ∙ sym (serial_segments-join joins.first joins.others) ∙ sym (ap serial_segments joins.some)
+
+-- ---- queries and fragments
+
+-- a query of such code points is denoted as it is
+query-kept : (base : Option Url) (query : Option (List ℕ))
+    → list_all is_never_encoded (written_behind question_mark query) ≡ true
+    → denoted_query base Special SchemeAuthority query ≡ query
+query-kept base None h = refl
+query-kept base (Some query) h = ap Some (encoded-kept true query (behind question_mark query h))
+
+-- and so is such a fragment
+fragment-kept : (fragment : Option (List ℕ)) → list_all is_never_encoded (written_behind number_sign fragment) ≡ true
+    → option_map (encoded false) fragment ≡ fragment
+fragment-kept None h = refl
+fragment-kept (Some fragment) h = ap Some (encoded-kept false fragment (behind number_sign fragment h))
+
+-- ---- the whole text
+
+-- a URL by its fields
+abbrev pub fields : List ℕ → Option Host → Option ℕ → UrlPath → Option (List ℕ) → Option (List ℕ) → Url
+fields scheme host port path query fragment =
+    record { scheme = scheme; host = host; port = port; path = path; query = query; fragment = fragment }
+
+-- six fields that are those of the denoted URL
+denote-fields : (base : Option Url) (parts : Parts) (class : Class) (scheme : List ℕ) (host : Option Host)
+    (port : Option ℕ) (path : UrlPath) (query fragment : Option (List ℕ))
+    → class ≡ scheme_class (scheme_in base parts)
+    → scheme ≡ denoted_scheme base parts.scheme
+    → host ≡ denoted_host base parts.form parts
+    → port ≡ denoted_port base parts.form parts
+    → path ≡ denoted_path base class parts.form parts
+    → query ≡ denoted_query base class parts.form parts.query
+    → fragment ≡ option_map (encoded false) parts.fragment
+    → fields scheme host port path query fragment ≡ denote base parts
+unfolding denote
+denote-fields base parts class scheme host port path query fragment e e1 e2 e3 e4 e5 e6 =
+    rw (e1, e2, e3, e4, e5, e6, e) refl
+
+-- what a text with such a scheme and host is
+abbrev pub spelled : List ℕ → List ℕ → List ℕ → Option (List ℕ) → Option (List ℕ) → List ℕ
+spelled scheme form path query fragment =
+    scheme ++ (colon ∷ ((slash ∷ slash ∷ (form ++ []))
+    ++ (path ++ (written_behind question_mark query ++ written_behind number_sign fragment))))
+
+-- the parts are written so
+written-spelled : (parts : Parts) (scheme form : List ℕ) → parts.scheme ≡ Some scheme → parts.host_text ≡ Some form
+    → parts.port_text ≡ None → written parts ≡ spelled scheme form parts.path_text parts.query parts.fragment
+unfolding written
+written-spelled parts scheme form schemed hosted no_port =
+    ap (λ s. written_scheme s ++ (written_authority parts.host_text parts.port_text ++ (parts.path_text
+    ++ (written_behind question_mark parts.query ++ written_behind number_sign parts.fragment)))) schemed
+    ∙ ap (λ h. (scheme ++ (colon ∷ [])) ++ (written_authority h parts.port_text ++ (parts.path_text
+    ++ (written_behind question_mark parts.query ++ written_behind number_sign parts.fragment)))) hosted
+    ∙ ap (λ p. (scheme ++ (colon ∷ [])) ++ (written_authority (Some form) p ++ (parts.path_text
+    ++ (written_behind question_mark parts.query ++ written_behind number_sign parts.fragment)))) no_port
+    ∙ append_assoc scheme (colon ∷ []) (written_authority (Some form) None ++ (parts.path_text
+    ++ (written_behind question_mark parts.query ++ written_behind number_sign parts.fragment)))
+
+-- the serializer writes such a URL so
+serial-spelled : (scheme form : List ℕ) (segments : List (List ℕ)) (query fragment : Option (List ℕ))
+    → serial (fields scheme (Some (Domain form)) None (Segments segments) query fragment)
+    ≡ spelled scheme form (serial_segments segments) query fragment
+unfolding serial serial_host
+serial-spelled scheme form segments query fragment = refl
+
+-- the path of a text with a special scheme and an authority
+special_path : (profile : Profile) (base : Option Url) (text : List ℕ) (parts : Parts) (scheme form : List ℕ)
+    → Valid profile base text parts → parts.form ≡ SchemeAuthority → parts.scheme ≡ Some scheme
+    → scheme_class scheme ≡ Special → parts.host_text ≡ Some form → MayBePathSlashed parts.segments parts.path_text
+special_path profile base text parts scheme form valid formed schemed special hosted =
+    let setting : Setting = setting_of profile base (Some scheme) in
+    let by_form : FitsForm setting SchemeAuthority parts
+    = subst (λ f. FitsForm setting f parts) formed
+    (subst (λ s. FitsForm (setting_of profile base s) parts.form parts) schemed valid.form)
+    in
+    let by_text : FitsAuthority (scheme_class scheme) setting form parts
+    = subst (λ h. FitsHostText setting parts h) hosted by_form
+    in
+    let fits : IsSpecialAuthority setting form parts
+    = subst (λ k. FitsAuthority k setting form parts) special by_text
+    in
+    slashed_or_none profile parts.segments parts.path_text fits.path
+
+-- the text of the URL that such a text denotes, once the scheme is known
+own-schemed : (profile : Profile) (base : Option Url) (text : List ℕ) (parts : Parts) (scheme : List ℕ)
+    → Valid profile base text parts → IsOwnText text parts → parts.scheme ≡ Some scheme → IsOwnScheme scheme
+    → text ≡ serial (denote base parts)
+own-schemed profile base text parts scheme valid own schemed is =
+    let form = own.host.form in
+    let segments = parts.segments in
+    let query = parts.query in
+    let fragment = parts.fragment in
+    let whole : text ≡ spelled scheme form parts.path_text query fragment
+    = valid.whole ∙ written-spelled parts scheme form schemed own.host.host_text own.port.text
+    in
+    let path : parts.path_text ≡ serial_segments segments
+    = slashed_text segments parts.path_text own.path.some
+    (special_path profile base text parts scheme form valid own.form schemed is.special own.host.host_text)
+    in
+    let spelled_so : text ≡ spelled scheme form (serial_segments segments) query fragment
+    = whole ∙ ap (λ p. spelled scheme form p query fragment) path
+    in
+    let bytes : list_all is_never_encoded (spelled scheme form (serial_segments segments) query fragment) ≡ true
+    = sym (ap (list_all is_never_encoded) spelled_so) ∙ own.bytes
+    in
+    let ends = written_behind question_mark query ++ written_behind number_sign fragment in
+    let front = slash ∷ slash ∷ (form ++ []) in
+    let from_colon = both scheme (colon ∷ (front ++ (serial_segments segments ++ ends))) bytes in
+    let from_host = both front (serial_segments segments ++ ends)
+    (behind colon (front ++ (serial_segments segments ++ ends)) from_colon.1) in
+    let from_path = both (serial_segments segments) ends from_host.1 in
+    let from_query = both (written_behind question_mark query) (written_behind number_sign fragment) from_path.1 in
+    let denoted : fields scheme (Some (Domain form)) None (Segments segments) query fragment ≡ denote base parts
+    = denote-fields base parts Special scheme (Some (Domain form)) None (Segments segments) query fragment
+    (sym (ap (λ s. scheme_class (scheme_or base s)) schemed ∙ is.special))
+    (sym (ap (λ s. denoted_scheme base s) schemed ∙ is.lower))
+    (rw own.form (rw own.host.host refl))
+    (sym (ap (λ f. denoted_port base f parts) own.form ∙ own.port.port))
+    (sym (ap (λ f. denoted_path base Special f parts) own.form
+    ∙ ap Segments (authority_path-kept segments own.path.some own.path.kept from_path.0)))
+    (sym (ap (λ f. denoted_query base Special f query) own.form ∙ query-kept base query from_query.0))
+    (sym (fragment-kept fragment from_query.1))
+    in
+    spelled_so ∙ sym (serial-spelled scheme form segments query fragment) ∙ ap serial denoted
+
+-- the text of the URL that such a text denotes is the text
+pub own_text : (profile : Profile) (base : Option Url) (text : List ℕ) (parts : Parts)
+    → Valid profile base text parts → IsOwnText text parts → text ≡ serial (denote base parts)
+own_text profile base text parts valid own = go parts.scheme refl own.scheme
+  where
+    go : (scheme : Option (List ℕ)) → parts.scheme ≡ scheme → HasOwnScheme scheme → text ≡ serial (denote base parts)
+    go None e has = absurd has
+    go (Some scheme) e has = own-schemed profile base text parts scheme valid own e has
+
+-- ---- what the code sees
+
+-- a text that no part encodes is ASCII
+never_encoded-ascii : (text : List ℕ) → list_all is_never_encoded text ≡ true → list_all is_ascii text ≡ true
+never_encoded-ascii [] h = refl
+never_encoded-ascii (c ∷ rest) h =
+    let parts = and_parts (is_never_encoded c) (list_all is_never_encoded rest) h in
+    and_from _ _ (and_parts (is_ascii c) (not (c == apostrophe)) parts.0).0 (never_encoded-ascii rest parts.1)
+
+-- bytes that are an ASCII text have its code points
+pub ascii_chars : (bytes text : List ℕ) → IsAscii text → bytes ≡ text → chars bytes ≡ text
+ascii_chars bytes text ascii e = ap chars e ∙ chars-IsAscii text ascii
+
+-- a valid text of such parts denotes a URL with this text
+pub own_text_denotes : (profile : Profile) (base : Option Url) (text : List ℕ) (parts : Parts)
+    → Valid profile base (chars text) parts → IsOwnText text parts → DenotesText profile base text text
+own_text_denotes profile base text parts valid own =
+    let same = chars-IsAscii text (IsAscii-from_test text (never_encoded-ascii text own.bytes)) in
+    let valid_bytes : Valid profile base text parts = subst (λ t. Valid profile base t parts) same valid in
+    (denote base parts, (parts, valid, refl), own_text profile base text parts valid_bytes own)
+
+-- the two schemes
+https_is_own : IsOwnScheme (codes "https")
+unfolding scheme_class default_port
+https_is_own = record { special = refl; lower = refl }
+
+http_is_own : IsOwnScheme (codes "http")
+unfolding scheme_class default_port
+http_is_own = record { special = refl; lower = refl }
+
+own_scheme : (bytes name : List ℕ) → IsOwnScheme name → list_all is_ascii name ≡ true → bytes ≡ name
+    → IsOwnScheme (chars bytes)
+own_scheme bytes name own ascii e =
+    subst IsOwnScheme (sym (ascii_chars bytes name (IsAscii-from_test name ascii) e)) own
+
+pub https : (bytes : List ℕ) → bytes ≡ codes "https" → IsOwnScheme (chars bytes)
+https bytes e = own_scheme bytes (codes "https") https_is_own refl e
+
+pub http : (bytes : List ℕ) → bytes ≡ codes "http" → IsOwnScheme (chars bytes)
+http bytes e = own_scheme bytes (codes "http") http_is_own refl e
