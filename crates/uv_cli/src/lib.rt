@@ -14,8 +14,8 @@ pub use check::{CheckEnd, run_check, run_faults};
 pub use ends::{End, error_line, status};
 pub use fault::CliFault;
 pub use jobs::run_job;
-pub use vectors::{VectorEnd, run_vectors};
 pub use uv_words::{Job, WordsFault, read_words};
+pub use vectors::{VectorEnd, run_vectors};
 
 #[cfg(test)]
 mod tests;

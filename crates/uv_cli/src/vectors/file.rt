@@ -1,8 +1,8 @@
 //! The bytes of a vector file.
 
 use crate::vectors::MOST_BYTES;
-use std::io::{ErrorKind, Read};
 use std::fs::Files;
+use std::io::{ErrorKind, Read};
 use std::{fs, io};
 
 /// Why a vector file was not read.
