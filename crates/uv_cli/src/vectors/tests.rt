@@ -40,7 +40,10 @@ fn ends_silently(rt: &(impl Abort + AllocGlobal), rows: &[(&str, VectorEnd)]) ->
 fn passes_the_suite(rt: HostRuntime) -> Result<(), Fail> {
     let (end, written) = ran(rt.alloc(), SUITE.as_bytes())?;
     assert_eq!(rt; end, VectorEnd::AllPass);
-    assert_eq!(rt; written.as_slice(), b"vectors 109 pass 109 fail 0\n");
+    assert_eq!(rt;
+        written.as_slice(),
+        "vectors 109 pass 109 fail 0\n".as_bytes()
+    );
     Ok(())
 }
 
