@@ -36,7 +36,7 @@ expect 2 '' 'vectors too large\n' vectors vectors.json
 # A hundred thousand cases, of which each thousandth fails.
 {
     printf '['
-    seq 1 100000 | awk '{ printf "%s{\"input\":\"http://h/%d\",\"text\":\"http://h/%s\"}", NR > 1 ? "," : "", $1, $1 % 1000 ? $1 : "x" }'
+    seq 1 100000 | awk '{ printf "%s{\"input\":\"http://h/%d\",\"text\":\"http://h/%s\"}", (NR > 1 ? "," : ""), $1, ($1 % 1000 ? $1 : "x") }'
     printf ']'
 } >"$room/vectors.json"
 expect 1 "$(seq 1000 1000 100000 | sed 's/^/fail /; s/$/\\n/' | tr -d '\n')vectors 100000 pass 99900 fail 100\\n" '' vectors vectors.json
