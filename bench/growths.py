@@ -17,7 +17,7 @@ import tempfile
 
 FAILS = 200
 # At most so many growths does a call make.
-MOST = {"domain": 10, "check": 10, "resolve": 20, "run_check": 30, "run_faults": 30, "run_links": 60}
+MOST = {"domain": 10, "check": 10, "resolve": 20, "run_check": 30, "run_faults": 30, "run_links": 60, "run_vectors": 150}
 ROOT = pathlib.Path(__file__).resolve().parent.parent
 RECORD = ROOT / "docs" / "GROWTHS.md"
 
@@ -55,6 +55,10 @@ LISTS = [
     ("/x\n/D:?q\n/..\nC:/x\n", FILE,
      "1 ok file:///C:/x\n2 ok file:///D:?q\n3 ok file:///C:/\n4 ok c:/x\nlinks 4 ok 4 bad 0 differs 0\n"),
 ]
+VECTORS = [
+    ('[{"input":"urn:a","text":"urn:a"},{"input":"x","place":0,"rule":"no-scheme"},'
+     '{"input":"http://h:65536/","text":"http://h/"}]', "fail 3\nvectors 3 pass 2 fail 1\n"),
+]
 
 
 def calls():
@@ -68,6 +72,8 @@ def calls():
             yield call, base, text, lines if path is None else "valid\n" + lines
     for text, base, want in LISTS:
         yield "run_links", base, text, want
+    for text, want in VECTORS:
+        yield "run_vectors", "", text, want
 
 
 def tried(cases):

@@ -1,6 +1,7 @@
-//! Makes one call of the library, which standard input names, and prints its answer: the driver of bench/growths.sh,
+//! Makes one call of the library, which standard input names, and prints its answer: the driver of bench/growths.py,
 //! which has each of the call's growths refused in turn. The first line says how many growths to make before the call,
-//! the second names the call, the third has the base, empty where there is none, and the rest is the text or the list.
+//! the second names the call, the third has the base, empty where there is none, and the rest is the text, the list or
+//! the vector file.
 //! No other growth is made but by the call and, where there is a base, by what resolves it. The status is 3 where the
 //! call wants memory.
 #![tactic(auto)]
@@ -9,7 +10,7 @@ use std::alloc::{AllocError, Global};
 use std::io::{self, Read};
 use std::process::ExitCode;
 use std::str;
-use uv_cli::{CliFault, run_check, run_faults};
+use uv_cli::{CliFault, run_check, run_faults, run_vectors};
 use uv_grammar::{Verdict, check};
 use uv_host::{DomainAnswer, domain};
 use uv_links::{LinkFault, LinkLimits, run_links};
@@ -77,6 +78,7 @@ fn ended<R: Print + AllocGlobal>(rt: &R, asked: &Asked<'_>) -> End {
     match asked.call {
         "domain" => domain_ended(rt, asked.text),
         "run_check" | "run_faults" => check_ended(rt, asked),
+        "run_vectors" => vectors_ended(rt, asked.text),
         _ => {
             let Some(base) = asked.base else {
                 return record_ended(rt, asked, None);
@@ -209,6 +211,19 @@ fn check_ended<R: Print + AllocGlobal>(rt: &R, asked: &Asked<'_>) -> End {
     } else {
         run_faults(alloc, text, base, Profile::Standard, &mut out)
     };
+    let room = out.into_writer().len();
+    let end = printed(print_page(rt, &page, room));
+    match answer {
+        Ok(_) => end,
+        Err(CliFault::Memory) => End::Memory,
+        Err(CliFault::Write) => End::NotAsked,
+    }
+}
+
+fn vectors_ended<R: Print + AllocGlobal>(rt: &R, file: &str) -> End {
+    let mut page = [0; 1024];
+    let mut out = ToWriter::new(page.as_mut_slice());
+    let answer = run_vectors(rt.alloc(), file.as_bytes(), &mut out);
     let room = out.into_writer().len();
     let end = printed(print_page(rt, &page, room));
     match answer {
