@@ -6,6 +6,8 @@ use crate::form::Form;
 use std::test::Fail;
 use uv_model::Host;
 
+mod memory;
+mod plain_links;
 mod profiles;
 mod references;
 

@@ -1,0 +1,90 @@
+//! Verdicts on links that one pass judges, and on those that it must leave to the judges by part. Each expected line is
+//! worked out by hand from the URL Standard, sections 3.4 and 4.3.
+
+use super::*;
+
+#[test]
+fn takes_ports_root_dots_and_capitals(rt: HostRuntime) -> Result<(), Fail> {
+    for (text, line) in [
+        (
+            "http://h:8080/x",
+            "scheme-authority scheme http host h is domain h port 8080 is 8080 path /x (x)",
+        ),
+        (
+            "HTTPS://h:443/",
+            "scheme-authority scheme HTTPS host h is domain h port 443 is none path / ()",
+        ),
+        (
+            "Ftp://h:80?a",
+            "scheme-authority scheme Ftp host h is domain h port 80 is 80 path  query a",
+        ),
+        (
+            "http://example.com./",
+            "scheme-authority scheme http host example.com. is domain example.com. path / ()",
+        ),
+        (
+            "ws://a-b.c.:0#d",
+            "scheme-authority scheme ws host a-b.c. is domain a-b.c. port 0 is 0 path  fragment d",
+        ),
+        (
+            "FILE:///x",
+            "scheme-authority scheme FILE host  is empty path /x (x)",
+        ),
+        ("X://h/", "scheme-authority scheme X host h is - path / ()"),
+    ] {
+        let found = verdict_line(rt.alloc(), text, None)?;
+        assert_eq!(rt; found.as_str(), line, "{text}");
+    }
+    Ok(())
+}
+
+#[test]
+fn refuses_what_is_nearly_plain(rt: HostRuntime) -> Result<(), Fail> {
+    for (text, line) in [
+        ("http://h:65536/x", "no 9 port-range"),
+        ("http://h:80a/x", "no 11 port-digit"),
+        ("http://h:80:80/x", "no 11 port-digit"),
+        ("http://a-/", "no 7 host-domain"),
+        ("http://a-.b/", "no 7 host-domain"),
+        ("http://a../", "no 7 host-domain"),
+        ("http://./", "no 7 host-domain"),
+        ("http://1./", "no 7 host-number"),
+        ("http://h.:1//a", "no 12 first-segment-empty"),
+        ("HTTP:/h", "no 6 two-slashes"),
+        ("HTTP://", "no 7 host-missing"),
+    ] {
+        let found = verdict_line(rt.alloc(), text, None)?;
+        assert_eq!(rt; found.as_str(), line, "{text}");
+    }
+    Ok(())
+}
+
+// A front, a piece so many times, and an end.
+fn long_text(
+    alloc: Global,
+    front: &str,
+    piece: &str,
+    count: usize,
+    end: &str,
+) -> Result<String, Fail> {
+    let mut text = String::from_str(alloc, front)?;
+    for _ in 0..count {
+        text.push_str(piece)?;
+    }
+    text.push_str(end)?;
+    Ok(text)
+}
+
+#[test]
+fn names_places_behind_long_fronts(rt: HostRuntime) -> Result<(), Fail> {
+    for (front, piece, count, end, line) in [
+        ("http://h/", "a", 100usize, " ", "no 109 code-point"),
+        ("http://h/", "\u{E9}", 40, "%4", "no 49 percent"),
+        ("foo://", "a", 64, "^/", "no 70 host-code-point"),
+    ] {
+        let text = long_text(rt.alloc(), front, piece, count, end)?;
+        let found = verdict_line(rt.alloc(), text.as_str(), None)?;
+        assert_eq!(rt; found.as_str(), line, "{front}{piece}");
+    }
+    Ok(())
+}
