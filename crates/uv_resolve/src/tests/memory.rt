@@ -77,3 +77,60 @@ fn refuses_a_long_text(rt: HostRuntime) -> Result<(), Fail> {
     assert_eq!(rt; found.as_str(), "refused 200009 code-point");
     Ok(())
 }
+
+/// Takes all the memory that there is, down to blocks of eight bytes. An allocator keeps what was freed by its size, so
+/// every small size is asked for, and not the powers of two alone.
+fn take_all(alloc: Global, held: &mut Vec<Vec<u8>>) {
+    let mut size = 1usize << 46;
+    for _ in 0..400_000u32 {
+        if size < 8 {
+            break;
+        }
+        match Vec::with_capacity(alloc, size) {
+            Ok(block) => {
+                if held.push(block).is_err() {
+                    break;
+                }
+            }
+            Err(_) => size = if size > 4096 { size / 2 } else { size - 8 },
+        }
+    }
+}
+
+// The refusal of a text that isn't valid.
+fn refusal_of(answer: &Result<Record, ResolveFault>) -> Option<Refusal> {
+    match answer {
+        Err(ResolveFault::Refused(refusal)) => Some(*refusal),
+        _ => None,
+    }
+}
+
+// A text whose check takes no memory is refused while there is none.
+#[test]
+fn refuses_without_memory(rt: HostRuntime) -> Result<(), Fail> {
+    let mut held = Vec::with_capacity(rt.alloc(), 400_000)?;
+    take_all(rt.alloc(), &mut held);
+    let upper = resolve(rt.alloc(), "http://EXAMPLE.com/", None, Profile::Standard);
+    let slashes = resolve(rt.alloc(), "http:x", None, Profile::Standard);
+    let underscore = resolve(rt.alloc(), "http://a_b/", None, Profile::Standard);
+    drop(held);
+    assert!(rt;
+        matches!(upper, Err(ResolveFault::Memory(_))),
+        "memory was found"
+    );
+    assert_eq!(rt;
+        refusal_of(&slashes),
+        Some(Refusal {
+            place: 5,
+            rule: Rule::TwoSlashes
+        })
+    );
+    assert_eq!(rt;
+        refusal_of(&underscore),
+        Some(Refusal {
+            place: 7,
+            rule: Rule::HostDomain
+        })
+    );
+    Ok(())
+}
