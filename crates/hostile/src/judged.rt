@@ -1,5 +1,6 @@
 //! A text is judged alike by `check`, `faults` and `resolve`, and as lines of a list.
 
+use crate::alike::is_refusal_of;
 use std::alloc::Global;
 use std::process::Abort;
 use std::test::Fail;
@@ -29,18 +30,17 @@ pub(crate) fn judged(
     profile: Profile,
 ) -> Result<Vec<Refusal>, Fail> {
     let found = faults(rt.alloc(), text, base, profile)?;
-    let first = found.first().copied();
     let refusal = match check(rt.alloc(), text, base, profile)? {
         Verdict::Yes(_) => None,
         Verdict::No(refusal) => Some(refusal),
     };
-    assert_eq!(rt; refusal, first, "of {text}");
+    assert!(rt; is_refusal_of(refusal, found.as_slice()), "of {text}");
     let refusal = match resolve(rt.alloc(), text, base, profile) {
         Ok(_) => None,
         Err(ResolveFault::Refused(refusal)) => Some(refusal),
         Err(ResolveFault::Memory(error)) => return Err(error.into()),
     };
-    assert_eq!(rt; refusal, first, "of {text}");
+    assert!(rt; is_refusal_of(refusal, found.as_slice()), "of {text}");
     Ok(found)
 }
 

@@ -1,7 +1,8 @@
 //! Hostile texts, which the checker, the maker of records and the reports on lists of links judge alike: what no
-//! contract says is that none of them wants memory while there is some, and that each ends soon. It has tests alone.
+//! contract says is that none of them wants memory while there is some, and that each ends soon. Its tests judge them, by one function that says when two answers are alike.
 #![tactic(auto)]
 
+mod alike;
 #[cfg(test)]
 mod inputs;
 #[cfg(test)]
@@ -10,3 +11,5 @@ mod judged;
 mod long_texts;
 #[cfg(test)]
 mod variants;
+
+pub use alike::is_refusal_of;
