@@ -30,6 +30,7 @@ form_byte : (signed : Bool) (c : ℕ) → goes_on signed c ≡ true → is_form_
 form_byte true c h = grind (arith, nat_tests)
 form_byte false c h = grind (arith, nat_tests)
 
+-- a chain holds a form's code points alone
 pub chain_form : (signed : Bool) (text : List ℕ) → is_chain signed text ≡ true
     → list_all (is_form_code_point Standard) text ≡ true
 chain_form signed [] h = refl
@@ -165,6 +166,7 @@ from_first : (n : ℕ) (labels : List (List ℕ)) → GoOn false n labels → Ar
 from_first n [] h = absurd h
 from_first n (label ∷ rest) h = h
 
+-- a chain is a plain name
 pub chain_plain : (name : List ℕ) → is_chain false name ≡ true → IsPlain STD3 Check name
 chain_plain name h =
     plain_from_form name (chain_form false name h)
@@ -217,6 +219,7 @@ root_parts (c ∷ rest) stop =
     (sym (take_all (suc (length rest)) (c ∷ rest) (omega arith)) ∙ take-suc (c ∷ rest) (length rest) 0 (omega arith)
     ∙ ap (λ (d : ℕ). take (length rest) (c ∷ rest) ++ d ∷ []) same)
 
+-- so is one with a full stop behind it
 pub rooted_plain : (name : List ℕ) → is_rooted_chain name ≡ true → IsPlain STD3 Check name
 rooted_plain name h = elim (cases_Bool (is_full_stop (slice_index name (length name - 1)))) [
   | inl stop ↦
@@ -252,6 +255,7 @@ pub rooted_is_form : (profile : Profile) (name : List ℕ) → IsUtf8 name → i
 rooted_is_form profile name utf8 h few = plain_is_form profile name utf8 (rooted_plain name h)
     (rooted_lengths name h few)
 
+-- and it holds a form's code points alone
 pub rooted_form : (name : List ℕ) → is_rooted_chain name ≡ true → list_all (is_form_code_point Standard) name ≡ true
 rooted_form name h = elim (cases_Bool (is_full_stop (slice_index name (length name - 1)))) [
   | inl stop ↦
@@ -272,9 +276,11 @@ rooted_ascii name h = plain_ascii name (rooted_plain name h)
 abbrev pub Walked : List ℕ → ℕ → Bool → Type 0
 Walked bytes at signed = (rest : List ℕ) → is_chain false (take at bytes ++ rest) ≡ is_chain signed rest
 
+-- before the first byte the whole is left
 pub walk_start : (bytes : List ℕ) → Walked bytes 0 false
 walk_start bytes = λ rest. refl
 
+-- a byte that goes on is walked
 pub walk_on : (bytes : List ℕ) (at : ℕ) (signed : Bool) → at < length bytes → goes_on signed (get_or bytes at 0) ≡ true
     → Walked bytes at signed → Walked bytes (at + 1) (is_sign (get_or bytes at 0))
 walk_on bytes at signed inside goes held = λ rest.

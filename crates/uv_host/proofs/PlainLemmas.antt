@@ -46,6 +46,7 @@ simple_name name h =
     (list_all-passes_hyphens Check name
     (All-weaker (λ b. is_simple b ≡ true) (λ b. b ≢ hyphen) (λ b e. grind (arith, nat_tests)) name all))
 
+-- and is plain by ToASCII's strict settings
 pub plain_from_simple : (name : List ℕ) → list_all is_simple name ≡ true → IsPlain STD3 Check name
 plain_from_simple name h =
     let all = AllPass-from_list_all is_simple name h in
@@ -58,12 +59,13 @@ plain_from_simple name h =
           (All-weaker (λ b. is_simple b ≡ true) (λ b. b ≢ hyphen) (λ b e. grind (arith, nat_tests)) name all);
     }
 
+-- a name of a form's code points, with hyphens where ToASCII takes them, is plain
 pub plain_from_form : (name : List ℕ) → list_all (is_form_code_point Standard) name ≡ true
     → list_all (passes_hyphens Check) (labels_of name) ≡ true → IsPlain STD3 Check name
 plain_from_form name h placed = record {
   valid =
-      All-weaker (λ b. is_form_code_point Standard b ≡ true) (λ b. (b < 128) × (is_valid_char STD3 b ≡ true)) valid_byte name
-      (AllPass-from_list_all (is_form_code_point Standard) name h);
+      All-weaker (λ b. is_form_code_point Standard b ≡ true) (λ b. (b < 128) × (is_valid_char STD3 b ≡ true))
+      valid_byte name (AllPass-from_list_all (is_form_code_point Standard) name h);
   placed = placed;
 }
 
@@ -97,14 +99,16 @@ plain_permitted_byte b h =
     let small = h.0 in
     grind (arith, nat_tests)
 
+-- a plain name holds permitted bytes alone
 pub plain_permitted : (name : List ℕ) → IsPlain STD3 Check name → has_permitted Standard name ≡ true
 unfolding has_permitted
 plain_permitted name p =
     list_all-from_AllPass (is_permitted Standard) name
-    (All-weaker (λ b. (b < 128) × (is_valid_char STD3 b ≡ true)) (λ b. is_permitted Standard b ≡ true) plain_permitted_byte name
-    p.valid)
+    (All-weaker (λ b. (b < 128) × (is_valid_char STD3 b ≡ true)) (λ b. is_permitted Standard b ≡ true)
+    plain_permitted_byte name p.valid)
 
-ascii_bytes : (name : List ℕ) → All (λ b. (b < 128) × (is_valid_char STD3 b ≡ true)) name → (i : ℕ) → get_or name i 0 < 128
+ascii_bytes : (name : List ℕ) → All (λ b. (b < 128) × (is_valid_char STD3 b ≡ true)) name
+    → (i : ℕ) → get_or name i 0 < 128
 ascii_bytes name h i = elim (cases_lt i (length name)) [
   | inl inside ↦ (h i 0 inside).0
   | inr past ↦ omega (arith, get_or_past name i 0 past)
@@ -124,6 +128,7 @@ plain_strict name utf8 p = ap (to_ascii STD3 Check Ignore) (encodes-chars name u
 standard_permitted : (name : List ℕ) → IsPlain STD3 Check name → has_permitted Standard (chars name) ≡ true
 standard_permitted name p = ap (has_permitted Standard) (plain_chars name p) ∙ plain_permitted name p
 
+-- and permitted code points alone, by each profile
 pub permitted_plain : (profile : Profile) (name : List ℕ) → IsPlain STD3 Check name
     → has_permitted profile (chars name) ≡ true
 permitted_plain Standard name p = standard_permitted name p

@@ -65,7 +65,8 @@ pub enum PlainAnswer {
 }
 
 /// What a plain name is as a domain of each profile (URL Standard, section 3.3): lower-case letters, digits, full
-/// stops, and hyphens where ToASCII with its strict settings takes them. `None` for every other text. No memory is taken.
+/// stops, and hyphens where ToASCII with its strict settings takes them. `None` for every other text. No memory is
+/// taken.
 pub fn plain_answer(name: &str) -> Option<PlainAnswer>
     ensures answer { IfSome result (λ answer. (profile : Profile)
         → IsPlainAnswer profile (chars name.now) name.now answer) }

@@ -1,14 +1,14 @@
 -- Runs of the machine, after the URL Standard, section 4.4: the test before the first step, one step, and many.
 use Rattle.std.specs.Prelude.{ℕ, zero, suc, ◌+◌, ◌*◌, List, [], ◌∷◌, length, drop, Option, Some, None}
 use Rattle.uv_model.specs.Records.Url.{Url}
-use Rattle.uv_parser.specs.Machine.{State, SchemeStartState, Held, Turn, onward, again, from_place, stop, turn, empty_held}
+use Rattle.uv_parser.specs.Machine.{State, SchemeStartState, Variables, Turn, onward, again, from_place, stop, turn, empty_variables}
 use Rattle.uv_parser.specs.Removed.{first_removed}
 
--- a state, the pointer's place, and what is held
+-- a state, the pointer's place, and the variables
 pub record Machine : Type 0 where
   pub state : State
   pub pointer : ℕ
-  pub held : Held
+  pub variables : Variables
 
 -- the run has ended with a URL, or with a stop at a place, or it goes on
 pub data Outcome : Type 0 where
@@ -19,14 +19,15 @@ pub data Outcome : Type 0 where
 -- where the machine is behind a row at a place
 abbrev pub settle : ℕ → List ℕ → Turn → Outcome
 settle p rest stop = Stopped p
-settle p rest (again s h) = Going (record { state = s; pointer = p; held = h })
-settle p rest (from_place q s h) = Going (record { state = s; pointer = q; held = h })
-settle p [] (onward s h) = Done h.url
-settle p (c ∷ rest) (onward s h) = Going (record { state = s; pointer = p + 1; held = h })
+settle p rest (again s v) = Going (record { state = s; pointer = p; variables = v })
+settle p rest (from_place q s v) = Going (record { state = s; pointer = q; variables = v })
+settle p [] (onward s v) = Done v.url
+settle p (c ∷ rest) (onward s v) = Going (record { state = s; pointer = p + 1; variables = v })
 
 -- one step
 unfoldable pub step : Option Url → List ℕ → Machine → Outcome
-step base text m = settle m.pointer (drop m.pointer text) (turn base m.state m.pointer m.held (drop m.pointer text))
+step base text m =
+    settle m.pointer (drop m.pointer text) (turn base m.state m.pointer m.variables (drop m.pointer text))
 
 -- at most so many steps
 unfoldable pub run_from : Option Url → List ℕ → Outcome → ℕ → Outcome
@@ -40,7 +41,7 @@ run_from base text (Going m) (suc k) = run_from base text (step base text m) k
 -- the run stops there, or begins
 abbrev pub first_outcome : Option ℕ → Outcome
 first_outcome (Some p) = Stopped p
-first_outcome None = Going (record { state = SchemeStartState; pointer = 0; held = empty_held })
+first_outcome None = Going (record { state = SchemeStartState; pointer = 0; variables = empty_variables })
 
 -- what at most k steps of the machine give
 unfoldable pub run : Option Url → List ℕ → ℕ → Outcome

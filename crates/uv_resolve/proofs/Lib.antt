@@ -1,3 +1,3 @@
-mod RecordLemmas
+pub mod RecordLemmas
 pub mod RunLemmas
 mod WalkLemmas

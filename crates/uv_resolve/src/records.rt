@@ -7,7 +7,7 @@ ghost use Rattle.uv_model.specs.Scheme.{lowercase, scheme_class};
 ghost use Rattle.uv_model.specs.Valid.{scheme_in};
 ghost use Rattle.uv_model.specs.Records.WellFormed.{WellFormed};
 ghost use Rattle.uv_resolve.specs.Resolve.{HaveValidText};
-ghost use Rattle.uv_grammar.specs.Seen.{seen_option};
+ghost use Rattle.uv_grammar.specs.Slices.{chars_of_option};
 
 use crate::paths::path_of;
 use std::alloc::{AllocError, Global};
@@ -110,7 +110,7 @@ fn authority_host(alloc: Global, parts: Parts<'_>) -> Result<Option<Host>, Alloc
 
 fn opaque_host(alloc: Global, text: Option<&str>) -> Result<Option<Host>, AllocError>
     ensures { IfOk result (λ host.
-        host ≡ option_map (λ t. Host.Opaque (encoded false t)) (seen_option text.entry)) }
+        host ≡ option_map (λ t. Host.Opaque (encoded false t)) (chars_of_option text.entry)) }
 {
     match text {
         Some(text) => Ok(Some(Host::Opaque(Text::of(encode(alloc, text, false)?)))),
@@ -203,7 +203,7 @@ fn encoded_text(
     quote: bool,
 ) -> Result<Option<String>, AllocError>
     ensures { IfOk result (λ out. option_map (λ s. string_bytes s) out
-        ≡ option_map (encoded quote) (seen_option text.entry)) }
+        ≡ option_map (encoded quote) (chars_of_option text.entry)) }
 {
     match text {
         Some(text) => Ok(Some(encode(alloc, text, quote)?)),

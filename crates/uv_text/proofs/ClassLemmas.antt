@@ -60,17 +60,20 @@ hex_held byte digit =
 abbrev url : List (ℕ × ℕ)
 url = take 8 URL_RANGES
 
+-- they hold the ASCII URL code points
 pub url_ranges : HoldsUrlBytes url
 unfolding is_url_code_point
 url_ranges =
     agrees url is_url_code_point refl
     (λ byte small. agree_below_at (in_class url) is_url_code_point 128 byte refl small)
 
+-- and each hex digit
 pub url_digits : HasHexDigits url
 url_digits = λ byte digit.
     let held = hex_held byte digit in
     url_ranges byte ∙ rw (held.0, held.1) refl
 
+-- their rows are those ranges
 pub url_rows : HoldClass URL_ROWS url
 url_rows = λ byte small. agree_below_at (is_in_rows URL_ROWS) (in_class url) 256 byte refl small
 
@@ -82,16 +85,19 @@ path = take 8 PATH_RANGES
 abbrev is_path_byte : ℕ → Bool
 is_path_byte c = is_url_code_point c && not (c == question_mark)
 
+-- they hold what stands in a path
 pub path_ranges : HoldsPathBytes path
 unfolding is_url_code_point
 path_ranges =
     agrees path is_path_byte refl (λ byte small. agree_below_at (in_class path) is_path_byte 128 byte refl small)
 
+-- and each hex digit
 pub path_digits : HasHexDigits path
 path_digits = λ byte digit.
     let held = hex_held byte digit in
     path_ranges byte ∙ rw (held.0, held.1, held.2) refl
 
+-- their rows are those ranges
 pub path_rows : HoldClass PATH_ROWS path
 path_rows = λ byte small. agree_below_at (is_in_rows PATH_ROWS) (in_class path) 256 byte refl small
 
@@ -103,16 +109,19 @@ opaque_host = take 10 OPAQUE_HOST_RANGES
 abbrev is_opaque_host_byte : ℕ → Bool
 is_opaque_host_byte c = is_url_code_point c && not (is_forbidden_host c)
 
+-- they hold what an opaque host may hold
 pub opaque_host_ranges : HoldsOpaqueHostBytes opaque_host
 unfolding is_url_code_point
 opaque_host_ranges =
     agrees opaque_host is_opaque_host_byte refl
     (λ byte small. agree_below_at (in_class opaque_host) is_opaque_host_byte 128 byte refl small)
 
+-- and each hex digit
 pub opaque_host_digits : HasHexDigits opaque_host
 opaque_host_digits = λ byte digit.
     let held = hex_held byte digit in
     opaque_host_ranges byte ∙ rw (held.0, held.1, held.3) refl
 
+-- their rows are those ranges
 pub opaque_host_rows : HoldClass OPAQUE_HOST_ROWS opaque_host
 opaque_host_rows = λ byte small. agree_below_at (is_in_rows OPAQUE_HOST_ROWS) (in_class opaque_host) 256 byte refl small

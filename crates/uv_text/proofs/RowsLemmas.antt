@@ -89,42 +89,33 @@ module _ (ranges : List (ℕ × ℕ)) where
   in_row : (low high : ℕ) → high < 8
       → has_bit (row_holding ranges low) (high_bit (16 * high)) ≡ in_class ranges (16 * high + low)
   in_row low high small =
+      let a = in_class ranges low in
+      let b = in_class ranges (0x10 + low) in
+      let c = in_class ranges (0x20 + low) in
+      let d = in_class ranges (0x30 + low) in
+      let e = in_class ranges (0x40 + low) in
+      let f = in_class ranges (0x50 + low) in
+      let g = in_class ranges (0x60 + low) in
+      let h = in_class ranges (0x70 + low) in
       elim (cases_eq high 0) [
         | inl is ↦
             let first : low ≡ 16 * 0 + low = omega arith in
-            rw is (bit_0 (in_class ranges low) (in_class ranges (0x10 + low)) (in_class ranges (0x20 + low))
-            (in_class ranges (0x30 + low)) (in_class ranges (0x40 + low)) (in_class ranges (0x50 + low))
-            (in_class ranges (0x60 + low)) (in_class ranges (0x70 + low)) ∙ ap (in_class ranges) first)
+            rw is (bit_0 a b c d e f g h ∙ ap (in_class ranges) first)
         | inr no0 ↦ elim (cases_eq high 1) [
-          | inl is ↦ rw is (bit_1 (in_class ranges low) (in_class ranges (0x10 + low)) (in_class ranges (0x20 + low))
-              (in_class ranges (0x30 + low)) (in_class ranges (0x40 + low)) (in_class ranges (0x50 + low))
-              (in_class ranges (0x60 + low)) (in_class ranges (0x70 + low)))
+          | inl is ↦ rw is (bit_1 a b c d e f g h)
           | inr no1 ↦ elim (cases_eq high 2) [
-            | inl is ↦ rw is (bit_2 (in_class ranges low) (in_class ranges (0x10 + low)) (in_class ranges (0x20 + low))
-                (in_class ranges (0x30 + low)) (in_class ranges (0x40 + low)) (in_class ranges (0x50 + low))
-                (in_class ranges (0x60 + low)) (in_class ranges (0x70 + low)))
+            | inl is ↦ rw is (bit_2 a b c d e f g h)
             | inr no2 ↦ elim (cases_eq high 3) [
-              | inl is ↦ rw is (bit_3 (in_class ranges low) (in_class ranges (0x10 + low))
-                  (in_class ranges (0x20 + low)) (in_class ranges (0x30 + low)) (in_class ranges (0x40 + low))
-                  (in_class ranges (0x50 + low)) (in_class ranges (0x60 + low)) (in_class ranges (0x70 + low)))
+              | inl is ↦ rw is (bit_3 a b c d e f g h)
               | inr no3 ↦ elim (cases_eq high 4) [
-                | inl is ↦ rw is (bit_4 (in_class ranges low) (in_class ranges (0x10 + low))
-                    (in_class ranges (0x20 + low)) (in_class ranges (0x30 + low)) (in_class ranges (0x40 + low))
-                    (in_class ranges (0x50 + low)) (in_class ranges (0x60 + low)) (in_class ranges (0x70 + low)))
+                | inl is ↦ rw is (bit_4 a b c d e f g h)
                 | inr no4 ↦ elim (cases_eq high 5) [
-                  | inl is ↦ rw is (bit_5 (in_class ranges low) (in_class ranges (0x10 + low))
-                      (in_class ranges (0x20 + low)) (in_class ranges (0x30 + low)) (in_class ranges (0x40 + low))
-                      (in_class ranges (0x50 + low)) (in_class ranges (0x60 + low)) (in_class ranges (0x70 + low)))
+                  | inl is ↦ rw is (bit_5 a b c d e f g h)
                   | inr no5 ↦ elim (cases_eq high 6) [
-                    | inl is ↦ rw is (bit_6 (in_class ranges low) (in_class ranges (0x10 + low))
-                        (in_class ranges (0x20 + low)) (in_class ranges (0x30 + low)) (in_class ranges (0x40 + low))
-                        (in_class ranges (0x50 + low)) (in_class ranges (0x60 + low)) (in_class ranges (0x70 + low)))
+                    | inl is ↦ rw is (bit_6 a b c d e f g h)
                     | inr no6 ↦
                         let is : high ≡ 7 = omega (arith, no0, no1, no2, no3, no4, no5, no6) in
-                        rw is (bit_7 (in_class ranges low) (in_class ranges (0x10 + low))
-                        (in_class ranges (0x20 + low)) (in_class ranges (0x30 + low))
-                        (in_class ranges (0x40 + low)) (in_class ranges (0x50 + low))
-                        (in_class ranges (0x60 + low)) (in_class ranges (0x70 + low)))
+                        rw is (bit_7 a b c d e f g h)
                   ]
                 ]
               ]

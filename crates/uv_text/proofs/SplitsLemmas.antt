@@ -116,6 +116,7 @@ module _ (ranges : List (ℕ × ℕ)) (ascii : (byte : ℕ) → in_class ranges 
           rw (← same, here) refl in
           omega (arith, one, none)
 
+  -- the longest front of the class passes as units
   pub run_passes : (bytes : List ℕ) (run : ℕ) → IsUtf8 bytes → run ≡ prefix_len (in_class ranges) bytes
       → PassesRun ranges bytes run
   run_passes bytes zero u is = record {
@@ -155,6 +156,7 @@ pub record PassesEscape (bytes rest : List ℕ) : Type 0 where
   pub passes : PassesMarks (chars bytes) (chars (drop 2 rest))
   pub shorter : length (chars (drop 2 rest)) < length (chars bytes)
 
+-- `%` and two hex digits are passed, and less is left
 pub escape_passes : (bytes rest : List ℕ) → IsUtf8 rest → chars bytes ≡ percent_sign ∷ chars rest
     → starts_with_two_hex rest ≡ true → PassesEscape bytes rest
 escape_passes bytes [] u first hex = absurd (false≢true hex)
@@ -210,6 +212,7 @@ pub record IsByteSplit (bytes rest : List ℕ) (n : ℕ) : Type 0 where
   pub boundary : IsCharBoundary bytes (length bytes - length rest)
   pub front : chars (take (length bytes - length rest) bytes) ≡ take n (chars bytes)
 
+-- code points left over are bytes left over
 pub split_bytes : (bytes rest : List ℕ) (n : ℕ) → IsUtf8 bytes → IsUtf8 rest → chars rest ≡ drop n (chars bytes)
     → IsByteSplit bytes rest n
 split_bytes bytes rest n u v is =

@@ -9,7 +9,7 @@ use Rattle.std.proofs.lemmas.List.{length-replicate}
 use Rattle.uv_model.specs.declared.host.Host.TheVariants.{Domain}
 use Rattle.uv_model.specs.Ascii.{slash, colon}
 use Rattle.uv_parser.specs.HostParser.{parse_host}
-use Rattle.uv_parser.specs.Machine.{Held, end, emptied, empty_held, port_in, put, with_host, with_more, with_port, with_scheme, AuthorityState, HostState, PathState, PortState, SchemeStartState}
+use Rattle.uv_parser.specs.Machine.{Variables, end, emptied, empty_variables, port_in, put, with_host, with_more, with_port, with_scheme, AuthorityState, HostState, PathState, PortState, SchemeStartState}
 use Rattle.uv_parser.specs.Rows.References.{root_base}
 use Rattle.uv_parser.specs.Run.{Outcome, first_outcome, run, run_from}
 use Rattle.uv_parser.specs.Removed.{first_removed, removed_behind}
@@ -31,13 +31,13 @@ zeros more = replicate more 0x30
 abbrev authority : ℕ → List ℕ
 authority more = 0x68 ∷ colon ∷ zeros more
 
--- what is held of the base: its scheme
-abbrev held : Held
-held = with_scheme (codes "http") empty_held
+-- the variables of the base: its scheme
+abbrev schemed : Variables
+schemed = with_scheme (codes "http") empty_variables
 
--- what is held behind the host
-abbrev hosted : Held
-hosted = with_host (Some (Domain (codes "h"))) held
+-- the variables behind the host
+abbrev hosted : Variables
+hosted = with_host (Some (Domain (codes "h"))) schemed
 
 -- zeros are digits
 zeros_are_digits : (more : ℕ) → list_all is_ascii_digit (zeros more) ≡ true
@@ -56,19 +56,21 @@ zeros_are_letters (suc more) = zeros_are_letters more
 
 -- from the first place to the authority
 to_authority : (more : ℕ)
-    → Reaches base SchemeStartState empty_held (slash ∷ slash ∷ authority more) 5 AuthorityState held (authority more)
+    → Reaches base SchemeStartState empty_variables (slash ∷ slash ∷ authority more) 5
+    AuthorityState schemed (authority more)
 unfolding parser base
 to_authority more =
     again_then base (λ p. refl) (again_then base (λ p. refl) (onward_then base (λ p. refl) (onward_then base (λ p. refl)
-    (again_then base (λ p. refl) (reaches_none base AuthorityState held (authority more))))))
+    (again_then base (λ p. refl) (reaches_none base AuthorityState schemed (authority more))))))
 
 -- the authority, and back to its first place
 to_host : (more : ℕ)
-    → Reaches base AuthorityState held (authority more) (length (authority more) + 1) HostState held (authority more)
+    → Reaches base AuthorityState schemed (authority more) (length (authority more) + 1)
+    HostState schemed (authority more)
 unfolding parser
 to_host more =
     rw (append-nil (authority more)) at
-    (authority_law base true (authority more) [] held refl (zeros_are_letters more) tt)
+    (authority_law base true (authority more) [] schemed refl (zeros_are_letters more) tt)
 
 -- the host `h` is parsed
 host_parsed : parse_host true (codes "h") ≡ Some (Domain (codes "h"))
@@ -76,17 +78,17 @@ unfolding parser
 host_parsed = refl
 
 -- the host and its `:`
-to_port : (more : ℕ) → Reaches base HostState held (authority more) 2 PortState hosted (zeros more)
+to_port : (more : ℕ) → Reaches base HostState schemed (authority more) 2 PortState hosted (zeros more)
 unfolding parser
 to_port more =
     onward_then base (λ p. refl)
     (onward_then base
-    (λ p. host_row_port base (Domain (codes "h")) (zeros more) (put 0x68 held) p refl refl host_parsed)
+    (λ p. host_row_port base (Domain (codes "h")) (zeros more) (put 0x68 schemed) p refl refl host_parsed)
     (reaches_none base PortState hosted (zeros more)))
 
 -- the port, up to the path state at the end of the text
 to_path : (more : ℕ)
-    → (last : Held) × Reaches base PortState hosted (zeros more) (length (zeros more) + 2) PathState last []
+    → (last : Variables) × Reaches base PortState hosted (zeros more) (length (zeros more) + 2) PathState last []
 unfolding parser
 to_path more =
     let read = with_more (zeros more) hosted in
@@ -105,15 +107,15 @@ long_text more = slash ∷ slash ∷ authority more
 
 -- one step before the bound the run is in the path state
 to_the_end : (more : ℕ)
-    → (last : Held)
-    × Reaches base SchemeStartState empty_held (long_text more) (2 * length (long_text more) + 4) PathState last []
+    → (last : Variables)
+    × Reaches base SchemeStartState empty_variables (long_text more) (2 * length (long_text more) + 4) PathState last []
 to_the_end more =
     let (last, path) = to_path more in
     let count : 5 + ((length (authority more) + 1) + (2 + (length (zeros more) + 2))) ≡ 2 * length (long_text more) + 4
     = omega arith in (
       last,
       subst
-          (λ (steps : ℕ). Reaches base SchemeStartState empty_held (long_text more) steps PathState last []) count
+          (λ (steps : ℕ). Reaches base SchemeStartState empty_variables (long_text more) steps PathState last []) count
           (reaches_then base (to_authority more)
           (reaches_then base (to_host more) (reaches_then base (to_port more) path))),
     )

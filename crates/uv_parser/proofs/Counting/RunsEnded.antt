@@ -5,7 +5,7 @@ use Rattle.std.specs.Char.{is_ascii_alphabetic}
 use Rattle.std.proofs.lemmas.Bool.{cases_Bool}
 use Rattle.std.proofs.lemmas.Bool.Decides.{nat_tests}
 use Rattle.uv_model.specs.Ascii.{slash}
-use Rattle.uv_parser.specs.Machine.{Turn, onward, again, from_place, stop, turn, begins, SchemeStartState, empty_held}
+use Rattle.uv_parser.specs.Machine.{Turn, onward, again, from_place, stop, turn, begins, SchemeStartState, empty_variables}
 use Rattle.uv_model.specs.Parts.{Parts}
 use Rattle.uv_parser.specs.SilentTexts.{Silent}
 use Rattle.uv_parser.specs.Run.{Machine, Outcome, Done, Stopped, Going, first_outcome, settle, step, run, run_from, step_bound}
@@ -40,21 +40,21 @@ module _ (base : Option Url) (text : List ℕ) where
   -- behind a row that leaves fewer steps the run ends, where it does from each machine with so few
   ends_behind : (k p : ℕ) (rest : List ℕ) (most : ℕ) (t : Turn) → drop p text ≡ rest → most ≤ k
       → LeavesFewer text rest most t
-      → ((m : Machine) → later text m.state (length m.held.buffer) (drop m.pointer text) < k
+      → ((m : Machine) → later text m.state (length m.variables.buffer) (drop m.pointer text) < k
       → IsEnded (run_from base text (Going m) k))
       → IsEnded (run_from base text (settle p rest t) k)
   ends_behind k p rest most stop e few leaves ends = rw (leads_stopped base text p k) tt
-  ends_behind k p rest most (again s h) e few leaves ends =
-      ends (record { state = s; pointer = p; held = h }) (rw e (omega (arith, few, leaves)))
-  ends_behind k p rest most (from_place q s h) e few leaves ends =
-      ends (record { state = s; pointer = q; held = h }) (omega (arith, few, leaves))
-  ends_behind k p [] most (onward s h) e few leaves ends = rw (leads_done base text h.url k) tt
-  ends_behind k p (c ∷ rest) most (onward s h) e few leaves ends =
-      ends (record { state = s; pointer = p + 1; held = h })
+  ends_behind k p rest most (again s v) e few leaves ends =
+      ends (record { state = s; pointer = p; variables = v }) (rw e (omega (arith, few, leaves)))
+  ends_behind k p rest most (from_place q s v) e few leaves ends =
+      ends (record { state = s; pointer = q; variables = v }) (omega (arith, few, leaves))
+  ends_behind k p [] most (onward s v) e few leaves ends = rw (leads_done base text v.url k) tt
+  ends_behind k p (c ∷ rest) most (onward s v) e few leaves ends =
+      ends (record { state = s; pointer = p + 1; variables = v })
       (rw (drop_one text p c rest e) (omega (arith, few, leaves)))
 
   -- a machine behind whose next step fewer steps than these are to come has ended after so many
-  ends_within : (k : ℕ) (m : Machine) → later text m.state (length m.held.buffer) (drop m.pointer text) < k
+  ends_within : (k : ℕ) (m : Machine) → later text m.state (length m.variables.buffer) (drop m.pointer text) < k
       → IsEnded (run_from base text (Going m) k)
   unfolding run_from step
   ends_within zero m few = absurd (none few)
@@ -63,9 +63,9 @@ module _ (base : Option Url) (text : List ℕ) where
       none less = omega (arith, less)
   ends_within (suc k) m few =
       let rest = drop m.pointer text in
-      ends_behind k m.pointer rest (later text m.state (length m.held.buffer) rest)
-      (turn base m.state m.pointer m.held rest) refl (omega (arith, few))
-      (turn_fewer text base m.state m.pointer m.held rest refl).fewer
+      ends_behind k m.pointer rest (later text m.state (length m.variables.buffer) rest)
+      (turn base m.state m.pointer m.variables rest) refl (omega (arith, few))
+      (turn_fewer text base m.state m.pointer m.variables rest refl).fewer
       (λ next less. ends_within k next less)
 
 -- each run has ended within the bound
@@ -77,7 +77,7 @@ runs_end base text = by_start (first_removed text)
     by_start (Some place) = rw (leads_stopped base text place (least_step_bound text)) tt
     by_start None =
         ends_within base text (least_step_bound text)
-        (record { state = SchemeStartState; pointer = 0; held = empty_held }) (start_leaves text)
+        (record { state = SchemeStartState; pointer = 0; variables = empty_variables }) (start_leaves text)
 
 -- more steps change nothing where a run has ended
 ended_stays : (base : Option Url) (text : List ℕ) (outcome : Outcome) (k : ℕ) → IsEnded outcome

@@ -6,7 +6,7 @@ use Rattle.std.proofs.lemmas.Bool.{false≢true, and_parts}
 use Rattle.std.proofs.lemmas.List.{length-drop}
 use Rattle.uv_model.specs.declared.host.Host.{Host}
 use Rattle.uv_model.specs.Ascii.{slash}
-use Rattle.uv_parser.specs.Machine.{State, SchemeStartState, SchemeState, NoSchemeState, SpecialRelativeOrAuthorityState, PathOrAuthorityState, RelativeState, RelativeSlashState, SpecialAuthoritySlashesState, SpecialAuthorityIgnoreSlashesState, AuthorityState, HostState, PortState, FileState, FileSlashState, FileHostState, PathStartState, PathState, OpaquePathState, QueryState, FragmentState, Held, Turn, onward, again, from_place, stop, begins, begins_two_slashes, put, with_parsed}
+use Rattle.uv_parser.specs.Machine.{State, SchemeStartState, SchemeState, NoSchemeState, SpecialRelativeOrAuthorityState, PathOrAuthorityState, RelativeState, RelativeSlashState, SpecialAuthoritySlashesState, SpecialAuthorityIgnoreSlashesState, AuthorityState, HostState, PortState, FileState, FileSlashState, FileHostState, PathStartState, PathState, OpaquePathState, QueryState, FragmentState, Variables, Turn, onward, again, from_place, stop, begins, begins_two_slashes, put, with_parsed}
 
 -- ---- how many steps are still to come
 
@@ -54,10 +54,10 @@ later text FragmentState buffered rest = length rest
 -- what a turn leads to leaves fewer steps than so many, or is an end
 abbrev pub LeavesFewer : List ℕ → List ℕ → ℕ → Turn → Type 0
 LeavesFewer text rest most stop = Unit {0}
-LeavesFewer text rest most (again s h) = later text s (length h.buffer) rest < most
-LeavesFewer text rest most (from_place q s h) = later text s (length h.buffer) (drop q text) < most
-LeavesFewer text [] most (onward s h) = Unit {0}
-LeavesFewer text (c ∷ rest) most (onward s h) = later text s (length h.buffer) rest < most
+LeavesFewer text rest most (again s v) = later text s (length v.buffer) rest < most
+LeavesFewer text rest most (from_place q s v) = later text s (length v.buffer) (drop q text) < most
+LeavesFewer text [] most (onward s v) = Unit {0}
+LeavesFewer text (c ∷ rest) most (onward s v) = later text s (length v.buffer) rest < most
 
 -- the same as a record, by which a turn is known
 pub record Fewer (text rest : List ℕ) (most : ℕ) (t : Turn) : Type 0 where
@@ -69,13 +69,14 @@ module _ (text : List ℕ) {rest : List ℕ} {most : ℕ} where
   stops = record { fewer = tt }
 
   -- the same place once more, with fewer steps to come
-  pub stays : (s : State) (h : Held) → later text s (length h.buffer) rest < most → Fewer text rest most (again s h)
-  stays s h less = record { fewer = less }
+  pub stays : (s : State) (v : Variables) → later text s (length v.buffer) rest < most
+      → Fewer text rest most (again s v)
+  stays s v less = record { fewer = less }
 
   -- another place, with fewer steps to come
-  pub goes : (q : ℕ) (s : State) (h : Held) → later text s (length h.buffer) (drop q text) < most
-      → Fewer text rest most (from_place q s h)
-  goes q s h less = record { fewer = less }
+  pub goes : (q : ℕ) (s : State) (v : Variables) → later text s (length v.buffer) (drop q text) < most
+      → Fewer text rest most (from_place q s v)
+  goes q s v less = record { fewer = less }
 
   -- one of two turns
   pub either : (test : Bool) {t u : Turn} → Fewer text rest most t → Fewer text rest most u
@@ -84,11 +85,11 @@ module _ (text : List ℕ) {rest : List ℕ} {most : ℕ} where
   either false first second = second
 
 -- a step onward, where a rest that is shorter by one leaves fewer steps
-pub moves : (text rest : List ℕ) {most : ℕ} (s : State) (h : Held)
-    → ((others : List ℕ) → length rest ≡ suc (length others) → later text s (length h.buffer) others < most)
-    → Fewer text rest most (onward s h)
-moves text [] s h less = record { fewer = tt }
-moves text (c ∷ rest) s h less = record { fewer = less rest refl }
+pub moves : (text rest : List ℕ) {most : ℕ} (s : State) (v : Variables)
+    → ((others : List ℕ) → length rest ≡ suc (length others) → later text s (length v.buffer) others < most)
+    → Fewer text rest most (onward s v)
+moves text [] s v less = record { fewer = tt }
+moves text (c ∷ rest) s v less = record { fewer = less rest refl }
 
 -- what the host parser gives, or a stop
 pub parsed : (text : List ℕ) {rest : List ℕ} {most : ℕ} (value : Option Host) (next : Host → Turn)
@@ -117,5 +118,5 @@ pub rest_length : (text : List ℕ) (p : ℕ) (rest : List ℕ) → drop p text 
 rest_length text p rest e = sym (ap length e) ∙ length-drop p text
 
 -- a buffer with a code point more
-pub put_length : (c : ℕ) (h : Held) → length (put c h).buffer ≡ length h.buffer + 1
-put_length c h = length-append h.buffer (c ∷ [])
+pub put_length : (c : ℕ) (v : Variables) → length (put c v).buffer ≡ length v.buffer + 1
+put_length c v = length-append v.buffer (c ∷ [])

@@ -1,6 +1,7 @@
 -- A text with an authority, with a scheme or without one: the parser is silent on it as its grammar says, or stops. How
 -- a run comes to what follows `//` is a parameter, since there alone the two differ.
 use Rattle.std.proofs.Common.{◌≡◌, ◌≢◌, ℕ, ◌+◌, ◌*◌, ◌≤◌, true, false, ◌||◌, ◌⊎◌, List, [], ◌∷◌, ◌++◌, length, Option, Some, None, refl, sym, ap, subst, ◌∙◌, inl, inr, eqb-true, append-nil, length-append, arith}
+use Rattle.std.specs.List.{list_all}
 use Rattle.std.proofs.lemmas.Bool.{and_parts, cases_Bool}
 use Rattle.uv_model.specs.declared.host.Host.{Host}
 use Rattle.uv_model.specs.declared.host.Host.TheVariants as host
@@ -8,7 +9,7 @@ use Rattle.uv_model.specs.declared.scheme.Class.{Class}
 use Rattle.uv_model.specs.declared.scheme.Class.TheVariants.{Special, File, Other}
 use Rattle.uv_model.specs.Ascii.{slash, colon, backslash, question_mark}
 use Rattle.uv_model.specs.Cut.{IsHostCut}
-use Rattle.uv_parser.specs.Machine.{Held, begins, is_special, sight, emptied, with_brackets}
+use Rattle.uv_parser.specs.Machine.{Variables, begins, is_special, at_pointer, emptied, with_brackets}
 use Rattle.uv_model.specs.Parts.{Form, Parts, written_behind}
 use Rattle.uv_parser.specs.SilentTexts.{Silent, Takes}
 use Rattle.uv_parser.specs.Laws.OtherHosts.{own_value}
@@ -18,9 +19,9 @@ use Rattle.uv_model.specs.Units.{is_faultless, is_unit_at}
 use Rattle.uv_model.specs.Records.Url.{Url}
 use Rattle.uv_model.specs.Valid.{port_given}
 use Rattle.uv_parser.proofs.HostParsing.OtherHosts.{silent_other}
-use Rattle.uv_parser.proofs.Loops.AuthorityStarts.{file_held, held_behind_slashes, state_behind_slashes}
-use Rattle.uv_parser.proofs.Loops.AuthorityLoops.{IsDelimiter}
-use Rattle.uv_parser.proofs.Decided.DecidedAuthority.{IsUnended, authority_decided, letters_no_at_sign, letters_no_backslash}
+use Rattle.uv_parser.proofs.Loops.AuthorityStarts.{file_variables, variables_behind_slashes, state_behind_slashes}
+use Rattle.uv_parser.proofs.Loops.AuthorityLoops.{IsDelimiter, is_authority_letter}
+use Rattle.uv_parser.proofs.Decided.DecidedAuthority.{IsHostTaken, IsUnended, authority_decided, letters_no_at_sign, letters_no_backslash}
 use Rattle.uv_parser.proofs.Decided.DecidedFile.{FileHostFits, file_host_decided}
 use Rattle.uv_parser.proofs.Decided.DecidedPath.{AreFine, FreeOfMarks, path_start_decided}
 use Rattle.uv_model.proofs.Texts.MarkLemmas.{is_without-cons}
@@ -35,7 +36,7 @@ SilentOrStops base text = ((parts : Parts) × Silent base text parts) ⊎ RunSto
 
 -- a path that is empty or begins with `/` begins with a delimiter, also with a tail behind it
 pub delimits_path : (path : List ℕ) (query fragment : Option (List ℕ)) → (path ≢ [] → starts_with_slash path ≡ true)
-    → IsDelimiter (sight (path ++ tail query fragment))
+    → IsDelimiter (at_pointer (path ++ tail query fragment))
 delimits_path [] (Some text) fragment start = tt
 delimits_path [] None (Some text) start = tt
 delimits_path [] None None start = tt
@@ -48,6 +49,7 @@ abbrev pub segments_behind : List ℕ → List (List ℕ)
 segments_behind [] = []
 segments_behind (c ∷ rest) = pieces rest
 
+-- a path behind an authority is empty, or `/` and its segments
 pub slashed_path : (path : List ℕ) → is_faultless path ≡ true → is_without question_mark path ≡ true
     → (path ≢ [] → starts_with_slash path ≡ true) → MayBePathSlashed (segments_behind path) path
 slashed_path [] units none start = inl (refl, refl)
@@ -60,10 +62,11 @@ slashed_path (c ∷ rest) units none start =
           (is_without-cons question_mark c rest none).1;
     })
 
-pub kind_cases : (kind : Class) → (kind ≡ Special) ⊎ ((kind ≡ File) ⊎ (kind ≡ Other))
-kind_cases Special = inl refl
-kind_cases File = inr (inl refl)
-kind_cases Other = inr (inr refl)
+-- a class is one of three
+pub class_cases : (class : Class) → (class ≡ Special) ⊎ ((class ≡ File) ⊎ (class ≡ Other))
+class_cases Special = inl refl
+class_cases File = inr (inl refl)
+class_cases Other = inr (inr refl)
 
 -- ---- what follows `//`
 
@@ -85,16 +88,16 @@ authority_parts form given host_text port_text path query fragment value port = 
 
 -- A text whose scheme is given, or is the base's: where its run stops from what follows `//` on, it stops, and with
 -- host and port taken and the rest fine it is silent.
-module _ (base : Option Url) (text : List ℕ) (form : Form) (given : Option (List ℕ)) (scheme : List ℕ) (h : Held)
-    (same : scheme_class h.url.scheme ≡ scheme_class scheme)
+module _ (base : Option Url) (text : List ℕ) (form : Form) (given : Option (List ℕ)) (scheme : List ℕ) (v : Variables)
+    (same : scheme_class v.url.scheme ≡ scheme_class scheme)
     (host_text : List ℕ) (port_text : Option (List ℕ)) (path : List ℕ) (query fragment : Option (List ℕ))
     (unended : IsUnended (host_text ++ written_behind colon port_text))
     (cut : IsHostCut (scheme_class scheme) host_text port_text)
     (slashed : path ≢ [] → starts_with_slash path ≡ true)
     (free : FreeOfMarks path query)
-    (start : (kind : Class) → scheme_class scheme ≡ kind → (k : ℕ)
+    (start : (class : Class) → scheme_class scheme ≡ class → (k : ℕ)
     → k ≤ 2 * length ((host_text ++ written_behind colon port_text) ++ (path ++ tail query fragment)) + 12
-    → Stops base (state_behind_slashes kind) (held_behind_slashes kind (with_brackets false (emptied h)))
+    → Stops base (state_behind_slashes class) (variables_behind_slashes class (with_brackets false (emptied v)))
     ((host_text ++ written_behind colon port_text) ++ (path ++ tail query fragment)) k
     → RunStops base text)
     (silent : (value : Option Host) (port : Option ℕ)
@@ -102,6 +105,32 @@ module _ (base : Option Url) (text : List ℕ) (form : Form) (given : Option (Li
     (authority_parts form given host_text port_text path query fragment value port)
     → AreFine path query fragment
     → Silent base text (authority_parts form given host_text port_text path query fragment value port)) where
+  -- ---- by the class
+
+  -- with its host and its port taken, and the rest fine, a text of class Special is silent
+  special_taken : scheme_class scheme ≡ Special → list_all (is_authority_letter true) host_text ≡ true
+      → IsHostTaken true host_text port_text → AreFine path query fragment → SilentOrStops base text
+  special_taken special letters taken fine =
+      let port = port_given (default_port scheme) port_text in
+      let parts = authority_parts form given host_text port_text path query fragment (Some taken.value) port in
+      let takes : Takes Special scheme host_text parts
+      = record {
+        value = taken.value;
+        host = record {
+          no_at_sign = letters_no_at_sign true host_text letters;
+          no_backslash = letters_no_backslash host_text letters;
+          parsed = taken.parsed;
+        };
+        valued = refl;
+        port_text = taken.port_text;
+        port = refl;
+      } in
+      inl (
+        parts,
+        silent (Some taken.value) port
+            (subst (λ (k : Class). Takes k scheme host_text parts) (sym special) takes) fine,
+      )
+
   -- class Special
   special_decided : scheme_class scheme ≡ Special → SilentOrStops base text
   special_decided special =
@@ -109,36 +138,16 @@ module _ (base : Option Url) (text : List ℕ) (form : Form) (given : Option (Li
       let rest = authority ++ (path ++ tail query fragment) in
       let host_cut : IsHostCut Special host_text port_text
       = subst (λ (k : Class). IsHostCut k host_text port_text) special cut in
-      let kind : is_special h.url.scheme ≡ true = rw (same, special) refl in
+      let class : is_special v.url.scheme ≡ true = rw (same, special) refl in
       let long = length-append authority (path ++ tail query fragment) in
       elim (cases_Bool (begins slash rest || begins backslash rest)) [
         | inl further ↦ inr (start Special special 1 (omega arith) (stops_here base (λ p. rw further refl)))
         | inr none ↦
             elim (authority_decided base (AreFine path query fragment) true host_text port_text
-            (path ++ tail query fragment) h (length (path ++ tail query fragment) + 1) kind host_cut unended
+            (path ++ tail query fragment) v (length (path ++ tail query fragment) + 1) class host_cut unended
             (delimits_path path query fragment slashed)
             (λ g e. path_start_decided base path query fragment g free slashed)) [
-              | inl (letters, taken, fine) ↦
-                  let port = port_given (default_port scheme) port_text in
-                  let parts = authority_parts form given host_text port_text path query fragment (Some taken.value)
-                  port in
-                  let takes : Takes Special scheme host_text parts
-                  = record {
-                    value = taken.value;
-                    host = record {
-                      no_at_sign = letters_no_at_sign true host_text letters;
-                      no_backslash = letters_no_backslash host_text letters;
-                      parsed = taken.parsed;
-                    };
-                    valued = refl;
-                    port_text = taken.port_text;
-                    port = refl;
-                  } in
-                  inl (
-                    parts,
-                    silent (Some taken.value) port
-                        (subst (λ (k : Class). Takes k scheme host_text parts) (sym special) takes) fine,
-                  )
+              | inl (letters, taken, fine) ↦ special_taken special letters taken fine
               | inr stops ↦ inr
                   (start Special special _ (omega (arith, long)) (ends_again base (λ p. rw none refl) stops))
             ]
@@ -150,10 +159,10 @@ module _ (base : Option Url) (text : List ℕ) (form : Form) (given : Option (Li
       let authority = host_text ++ written_behind colon port_text in
       let host_cut : IsHostCut Other host_text port_text
       = subst (λ (k : Class). IsHostCut k host_text port_text) other cut in
-      let kind : is_special h.url.scheme ≡ false = rw (same, other) refl in
+      let class : is_special v.url.scheme ≡ false = rw (same, other) refl in
       let long = length-append authority (path ++ tail query fragment) in
       elim (authority_decided base (AreFine path query fragment) false host_text port_text
-      (path ++ tail query fragment) h (length (path ++ tail query fragment) + 1) kind host_cut unended
+      (path ++ tail query fragment) v (length (path ++ tail query fragment) + 1) class host_cut unended
       (delimits_path path query fragment slashed)
       (λ g e. path_start_decided base path query fragment g free slashed)) [
         | inl (letters, taken, fine) ↦
@@ -181,7 +190,7 @@ module _ (base : Option Url) (text : List ℕ) (form : Form) (given : Option (Li
       let alone : host_text ++ written_behind colon port_text ≡ host_text
       = ap (λ o. host_text ++ written_behind colon o) no_port ∙ append-nil host_text in
       let rest = path ++ tail query fragment in
-      elim (file_host_decided base (AreFine path query fragment) host_text rest (file_held host.Empty)
+      elim (file_host_decided base (AreFine path query fragment) host_text rest (file_variables host.Empty)
       (length rest + 1) (subst IsUnended alone unended) (delimits_path path query fragment slashed)
       (λ g e. path_start_decided base path query fragment g free slashed)) [
         | inl (fits, fine) ↦ taken no_port fits fine
@@ -211,7 +220,7 @@ module _ (base : Option Url) (text : List ℕ) (form : Form) (given : Option (Li
   -- with an authority
   pub authority_silent_or_stops : SilentOrStops base text
   authority_silent_or_stops =
-      elim (kind_cases (scheme_class scheme)) [
+      elim (class_cases (scheme_class scheme)) [
         | inl special ↦ special_decided special
         | inr (inl file) ↦ file_decided file
         | inr (inr other) ↦ other_decided other

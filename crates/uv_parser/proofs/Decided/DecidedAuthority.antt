@@ -10,7 +10,7 @@ use Rattle.uv_model.specs.declared.host.Host.{Host}
 use Rattle.uv_model.specs.Ascii.{slash, colon, question_mark, number_sign, at_sign, backslash}
 use Rattle.uv_model.specs.Cut.{EndsAtPort, is_within_at_end}
 use Rattle.uv_parser.specs.HostParser.{parse_host}
-use Rattle.uv_parser.specs.Machine.{Held, Sight, end, slash_mark, query_mark, fragment_mark, another, sight, turn, stop, AuthorityState, HostState, PortState, PathStartState, emptied, host_at, is_special, port_at, port_in, with_brackets, with_host, with_more, with_port}
+use Rattle.uv_parser.specs.Machine.{Variables, AtPointer, end, slash_mark, query_mark, fragment_mark, another, at_pointer, turn, stop, AuthorityState, HostState, PortState, PathStartState, emptied, host_at, is_special, port_at, port_in, with_brackets, with_host, with_more, with_port}
 use Rattle.uv_model.specs.Parts.{written_behind}
 use Rattle.uv_model.specs.Path.{is_without}
 use Rattle.uv_model.specs.Records.Url.{Url}
@@ -30,6 +30,7 @@ pub record IsUnended (text : List ℕ) : Type 0 where
   pub no_question_mark : is_without question_mark text ≡ true
   pub no_number_sign : is_without number_sign text ≡ true
 
+-- its first code point is no such mark, and the rest holds none
 pub unended_behind : (c : ℕ) (cs : List ℕ) → IsUnended (c ∷ cs)
     → ((c == slash) ≡ false) × ((c == question_mark) ≡ false) × ((c == number_sign) ≡ false) × IsUnended cs
 unended_behind c cs is =
@@ -38,31 +39,44 @@ unended_behind c cs is =
     let d = without_parts number_sign c cs is.no_number_sign in
     (a.0, b.0, d.0, record { no_slash = a.1; no_question_mark = b.1; no_number_sign = d.1 })
 
+-- a port holds none of these marks where the authority holds none
+unended_port : (host port : List ℕ) → IsUnended (host ++ (colon ∷ port)) → IsUnended port
+unended_port host port is = record {
+  no_slash = (is_without-parts slash (host ++ (colon ∷ [])) port
+      (rw (append_assoc host (colon ∷ []) port) is.no_slash)).1;
+  no_question_mark = (is_without-parts question_mark (host ++ (colon ∷ [])) port
+      (rw (append_assoc host (colon ∷ []) port) is.no_question_mark)).1;
+  no_number_sign = (is_without-parts number_sign (host ++ (colon ∷ [])) port
+      (rw (append_assoc host (colon ∷ []) port) is.no_number_sign)).1;
+}
+
 -- ---- rows that stop
 
-port_row_large : (h : Held) (s : Sight) → IsDelimiter s → nat_lt 65535 (digits_value 10 h.buffer) ≡ true
-    → port_at h s ≡ stop
-port_row_large h end is large = rw large refl
-port_row_large h slash_mark is large = rw large refl
-port_row_large h query_mark is large = rw large refl
-port_row_large h fragment_mark is large = rw large refl
-port_row_large h (another c) is large = absurd is
+port_row_large : (v : Variables) (s : AtPointer) → IsDelimiter s → nat_lt 65535 (digits_value 10 v.buffer) ≡ true
+    → port_at v s ≡ stop
+port_row_large v end is large = rw large refl
+port_row_large v slash_mark is large = rw large refl
+port_row_large v query_mark is large = rw large refl
+port_row_large v fragment_mark is large = rw large refl
+port_row_large v (another c) is large = absurd is
 
-host_row_empty : (h : Held) (s : Sight) → IsDelimiter s → ((length h.buffer == 0) && is_special h.url.scheme) ≡ true
-    → host_at h s ≡ stop
-host_row_empty h end is empty = rw empty refl
-host_row_empty h slash_mark is empty = rw empty refl
-host_row_empty h query_mark is empty = rw empty refl
-host_row_empty h fragment_mark is empty = rw empty refl
-host_row_empty h (another c) is empty = absurd is
+host_row_empty : (v : Variables) (s : AtPointer) → IsDelimiter s
+    → ((length v.buffer == 0) && is_special v.url.scheme) ≡ true
+    → host_at v s ≡ stop
+host_row_empty v end is empty = rw empty refl
+host_row_empty v slash_mark is empty = rw empty refl
+host_row_empty v query_mark is empty = rw empty refl
+host_row_empty v fragment_mark is empty = rw empty refl
+host_row_empty v (another c) is empty = absurd is
 
-host_row_none : (h : Held) (s : Sight) → IsDelimiter s → ((length h.buffer == 0) && is_special h.url.scheme) ≡ false
-    → parse_host (is_special h.url.scheme) h.buffer ≡ None → host_at h s ≡ stop
-host_row_none h end is some none = rw (some, none) refl
-host_row_none h slash_mark is some none = rw (some, none) refl
-host_row_none h query_mark is some none = rw (some, none) refl
-host_row_none h fragment_mark is some none = rw (some, none) refl
-host_row_none h (another c) is some none = absurd is
+host_row_none : (v : Variables) (s : AtPointer) → IsDelimiter s
+    → ((length v.buffer == 0) && is_special v.url.scheme) ≡ false
+    → parse_host (is_special v.url.scheme) v.buffer ≡ None → host_at v s ≡ stop
+host_row_none v end is some none = rw (some, none) refl
+host_row_none v slash_mark is some none = rw (some, none) refl
+host_row_none v query_mark is some none = rw (some, none) refl
+host_row_none v fragment_mark is some none = rw (some, none) refl
+host_row_none v (another c) is some none = absurd is
 
 -- a code point of an authority that is no letter of one is `@`, or of a special URL `\`
 stopping : (special : Bool) (c : ℕ) → (c == slash) ≡ false → (c == question_mark) ≡ false
@@ -92,142 +106,166 @@ module _ (base : Option Url) where
   -- ---- the port
 
   -- a port with another code point than a digit stops
-  port_stops : (cs rest : List ℕ) (h : Held) → list_all is_ascii_digit cs ≡ false → IsUnended cs
-      → Stops base PortState h (cs ++ rest) (length cs)
-  port_stops [] rest h foreign is = absurd (true≢false foreign)
-  port_stops (c ∷ cs) rest h foreign is =
+  port_stops : (cs rest : List ℕ) (v : Variables) → list_all is_ascii_digit cs ≡ false → IsUnended cs
+      → Stops base PortState v (cs ++ rest) (length cs)
+  port_stops [] rest v foreign is = absurd (true≢false foreign)
+  port_stops (c ∷ cs) rest v foreign is =
       let (a, b, d, later) = unended_behind c cs is in
       elim (cases_Bool (is_ascii_digit c)) [
         | inl digit ↦
-            ends_step base (λ p. port_row_on base c (cs ++ rest) h p digit)
+            ends_step base (λ p. port_row_on base c (cs ++ rest) v p digit)
             (port_stops cs rest _ (rw digit at foreign) later)
         | inr other ↦
-            let row : (p : ℕ) → turn base PortState p h (c ∷ (cs ++ rest)) ≡ stop
+            let row : (p : ℕ) → turn base PortState p v (c ∷ (cs ++ rest)) ≡ stop
             = λ p. simp (a, b, d, other) refl in
             ends_within base (omega arith) (stops_here base row)
       ]
 
   -- from the port on
-  port_decided : (A : Type 0) (port rest : List ℕ) (h : Held) (k : ℕ) → IsUnended port → IsDelimiter (sight rest)
-      → ((g : Held) → g.url.scheme ≡ h.url.scheme → A ⊎ Stops base PathStartState g rest k)
-      → (IsPortText port × A) ⊎ Stops base PortState (emptied h) (port ++ rest) (length port + (k + 1))
-  port_decided A port rest h k is ends next =
+  port_decided : (A : Type 0) (port rest : List ℕ) (v : Variables) (k : ℕ) → IsUnended port
+      → IsDelimiter (at_pointer rest)
+      → ((g : Variables) → g.url.scheme ≡ v.url.scheme → A ⊎ Stops base PathStartState g rest k)
+      → (IsPortText port × A) ⊎ Stops base PortState (emptied v) (port ++ rest) (length port + (k + 1))
+  port_decided A port rest v k is ends next =
       elim (cases_Bool (list_all is_ascii_digit port)) [
         | inl digits ↦ elim (cases_lt 65535 (digits_value 10 port)) [
           | inl large ↦ inr
               (ends_within base (omega arith)
-              (ends_after base (port_law base port rest (emptied h) digits)
+              (ends_after base (port_law base port rest (emptied v) digits)
               (stops_here base
-              (λ p. port_row_large (with_more port (emptied h)) (sight rest) ends
+              (λ p. port_row_large (with_more port (emptied v)) (at_pointer rest) ends
               (lt-ltb 65535 (digits_value 10 port) large)))))
-          | inr small ↦ elim (next (with_port (port_in h.url.scheme port) (emptied h)) refl) [
+          | inr small ↦ elim (next (with_port (port_in v.url.scheme port) (emptied v)) refl) [
             | inl fine ↦ inl (record { digits = digits; range = small }, fine)
             | inr stops ↦ inr
                 (ends_within base (omega arith)
-                (ends_after base (port_law base port rest (emptied h) digits)
+                (ends_after base (port_law base port rest (emptied v) digits)
                 (ends_again base
-                (λ p. port_row_end (with_more port (emptied h)) (sight rest) ends
+                (λ p. port_row_end (with_more port (emptied v)) (at_pointer rest) ends
                 (le-ltb 65535 (digits_value 10 port) small)) stops)))
           ]
         ]
-        | inr foreign ↦ inr (ends_within base (omega arith) (port_stops port rest (emptied h) foreign is))
+        | inr foreign ↦ inr (ends_within base (omega arith) (port_stops port rest (emptied v) foreign is))
       ]
 
   -- ---- the host
 
   -- from a host without a port on
-  host_alone : (A : Type 0) (special : Bool) (host rest : List ℕ) (h : Held) (k : ℕ)
-      → is_special h.url.scheme ≡ special
-      → is_read_as_host special false host ≡ true → IsDelimiter (sight rest)
-      → ((g : Held) → g.url.scheme ≡ h.url.scheme → A ⊎ Stops base PathStartState g rest k)
+  host_alone : (A : Type 0) (special : Bool) (host rest : List ℕ) (v : Variables) (k : ℕ)
+      → is_special v.url.scheme ≡ special
+      → is_read_as_host special false host ≡ true → IsDelimiter (at_pointer rest)
+      → ((g : Variables) → g.url.scheme ≡ v.url.scheme → A ⊎ Stops base PathStartState g rest k)
       → (IsHostTaken special host None × A)
-      ⊎ Stops base HostState (with_brackets false (emptied h)) (host ++ rest) (length host + (k + 1))
-  host_alone A special host rest h k kind read ends next =
-      let held = with_more host (with_brackets (is_within_at_end false host) (emptied h)) in
-      let law = host_law base special false host rest (emptied h) kind read in
-      elim (cases_Bool ((length host == 0) && is_special h.url.scheme)) [
+      ⊎ Stops base HostState (with_brackets false (emptied v)) (host ++ rest) (length host + (k + 1))
+  host_alone A special host rest v k class read ends next =
+      let variables = with_more host (with_brackets (is_within_at_end false host) (emptied v)) in
+      let law = host_law base special false host rest (emptied v) class read in
+      elim (cases_Bool ((length host == 0) && is_special v.url.scheme)) [
         | inl empty ↦ inr
             (ends_within base (omega arith)
-            (ends_after base law (stops_here base (λ p. host_row_empty held (sight rest) ends empty))))
-        | inr some ↦ elim (host_cases (parse_host (is_special h.url.scheme) host)) [
+            (ends_after base law (stops_here base (λ p. host_row_empty variables (at_pointer rest) ends empty))))
+        | inr some ↦ elim (host_cases (parse_host (is_special v.url.scheme) host)) [
           | inl none ↦ inr
               (ends_within base (omega arith)
-              (ends_after base law (stops_here base (λ p. host_row_none held (sight rest) ends some none))))
-          | inr (value, parsed) ↦ elim (next (emptied (with_host (Some value) held)) refl) [
+              (ends_after base law (stops_here base (λ p. host_row_none variables (at_pointer rest) ends some none))))
+          | inr (value, parsed) ↦ elim (next (emptied (with_host (Some value) variables)) refl) [
             | inl fine ↦ inl (
-              record { value = value; parsed = rw kind at parsed; alone = λ same. refl; port_text = tt },
+              record { value = value; parsed = rw class at parsed; alone = λ same. refl; port_text = tt },
               fine,
             )
             | inr stops ↦ inr
                 (ends_within base (omega arith)
                 (ends_after base law
-                (ends_again base (λ p. host_row_end value held (sight rest) ends some parsed) stops)))
+                (ends_again base (λ p. host_row_end value variables (at_pointer rest) ends some parsed) stops)))
           ]
         ]
       ]
 
   -- from a host with a port on
-  host_before_port : (A : Type 0) (special : Bool) (host port rest : List ℕ) (h : Held) (k : ℕ)
-      → is_special h.url.scheme ≡ special
+  host_before_port : (A : Type 0) (special : Bool) (host port rest : List ℕ) (v : Variables) (k : ℕ)
+      → is_special v.url.scheme ≡ special
       → is_read_as_host special false host ≡ true → is_within_at_end false host ≡ false → IsUnended port
-      → IsDelimiter (sight rest)
-      → ((g : Held) → g.url.scheme ≡ h.url.scheme → A ⊎ Stops base PathStartState g rest k)
+      → IsDelimiter (at_pointer rest)
+      → ((g : Variables) → g.url.scheme ≡ v.url.scheme → A ⊎ Stops base PathStartState g rest k)
       → (IsHostTaken special host (Some port) × A)
-      ⊎ Stops base HostState (with_brackets false (emptied h)) (host ++ (colon ∷ (port ++ rest)))
+      ⊎ Stops base HostState (with_brackets false (emptied v)) (host ++ (colon ∷ (port ++ rest)))
       (length host + (length port + (k + 2)))
-  host_before_port A special [] port rest h k kind read closed is ends next =
+  host_before_port A special [] port rest v k class read closed is ends next =
       inr (ends_within base (omega arith) (stops_here base (λ p. refl)))
-  host_before_port A special (c ∷ cs) port rest h k kind read closed is ends next =
+  host_before_port A special (c ∷ cs) port rest v k class read closed is ends next =
       let host = c ∷ cs in
-      let held = with_more host (with_brackets (is_within_at_end false host) (emptied h)) in
-      let law = host_law base special false host (colon ∷ (port ++ rest)) (emptied h) kind read in
+      let variables = with_more host (with_brackets (is_within_at_end false host) (emptied v)) in
+      let law = host_law base special false host (colon ∷ (port ++ rest)) (emptied v) class read in
       let some = has_some host c cs refl in
-      elim (host_cases (parse_host (is_special h.url.scheme) host)) [
+      elim (host_cases (parse_host (is_special v.url.scheme) host)) [
         | inl none ↦
-            let row : (p : ℕ) → turn base HostState p held (colon ∷ (port ++ rest)) ≡ stop
+            let row : (p : ℕ) → turn base HostState p variables (colon ∷ (port ++ rest)) ≡ stop
             = λ p. rw (closed, some, none) refl in
             inr (ends_within base (omega arith) (ends_after base law (stops_here base row)))
         | inr (value, parsed) ↦
-            elim (port_decided A port rest (with_host (Some value) held) k is ends next) [
+            elim (port_decided A port rest (with_host (Some value) variables) k is ends next) [
               | inl fine ↦ inl (
-                record { value = value; parsed = rw kind at parsed; alone = λ same. absurd cc; port_text = fine.0 },
+                record { value = value; parsed = rw class at parsed; alone = λ same. absurd cc; port_text = fine.0 },
                 fine.1,
               )
               | inr stops ↦ inr
                   (ends_within base (omega arith)
                   (ends_after base law
-                  (ends_step base (λ p. host_row_port base value (port ++ rest) held p closed some parsed) stops)))
+                  (ends_step base (λ p. host_row_port base value (port ++ rest) variables p closed some parsed) stops)))
             ]
       ]
 
   -- ---- the authority
 
   -- an authority with an `@`, or of a special URL a `\`, stops
-  authority_stops : (special : Bool) (cs rest : List ℕ) (h : Held) → is_special h.url.scheme ≡ special
+  authority_stops : (special : Bool) (cs rest : List ℕ) (v : Variables) → is_special v.url.scheme ≡ special
       → list_all (is_authority_letter special) cs ≡ false → IsUnended cs
-      → Stops base AuthorityState h (cs ++ rest) (length cs)
-  authority_stops special [] rest h kind fault is = absurd (true≢false fault)
-  authority_stops special (c ∷ cs) rest h kind fault is =
+      → Stops base AuthorityState v (cs ++ rest) (length cs)
+  authority_stops special [] rest v class fault is = absurd (true≢false fault)
+  authority_stops special (c ∷ cs) rest v class fault is =
       let (a, b, d, later) = unended_behind c cs is in
       elim (cases_Bool (is_authority_letter special c)) [
         | inl fine ↦
-            ends_step base (λ p. authority_row_on base special c (cs ++ rest) h p kind fine)
-            (authority_stops special cs rest _ kind (rw fine at fault) later)
+            ends_step base (λ p. authority_row_on base special c (cs ++ rest) v p class fine)
+            (authority_stops special cs rest _ class (rw fine at fault) later)
         | inr bad ↦
-            let row : (p : ℕ) → turn base AuthorityState p h (c ∷ (cs ++ rest)) ≡ stop
-            = λ p. simp (kind, a, b, d, stopping special c a b d bad) refl in
+            let row : (p : ℕ) → turn base AuthorityState p v (c ∷ (cs ++ rest)) ≡ stop
+            = λ p. simp (class, a, b, d, stopping special c a b d bad) refl in
             ends_within base (omega arith) (stops_here base row)
+      ]
+
+  -- from the host on, with a port or without one
+  host_decided : (A : Type 0) (special : Bool) (host : List ℕ) (port : Option (List ℕ)) (rest : List ℕ)
+      (v : Variables) (k : ℕ) → is_special v.url.scheme ≡ special → EndsAtPort host port
+      → IsUnended (host ++ written_behind colon port) → is_read_as_host special false host ≡ true
+      → IsDelimiter (at_pointer rest)
+      → ((g : Variables) → g.url.scheme ≡ v.url.scheme → A ⊎ Stops base PathStartState g rest k)
+      → (IsHostTaken special host port × A)
+      ⊎ Stops base HostState (with_brackets false (emptied v)) ((host ++ written_behind colon port) ++ rest)
+      (length (host ++ written_behind colon port) + (k + 2))
+  host_decided A special host None rest v k class ends is read delimited next =
+      elim (host_alone A special host rest v k class read delimited next) [
+        | inl fine ↦ inl fine
+        | inr stops ↦ inr (rw append-nil (ends_within base (omega arith) stops))
+      ]
+  host_decided A special host (Some port) rest v k class ends is read delimited next =
+      let behind = unended_port host port is in
+      elim (host_before_port A special host port rest v k class read (ends.ends refl) behind delimited next) [
+        | inl fine ↦ inl fine
+        | inr stops ↦ inr
+            (rw (append_assoc host (colon ∷ port) rest)
+            (ends_within base (omega (arith, length-append host (colon ∷ port))) stops))
       ]
 
   -- from the authority on
   pub authority_decided : (A : Type 0) (special : Bool) (host : List ℕ) (port : Option (List ℕ)) (rest : List ℕ)
-      (h : Held) (k : ℕ) → is_special h.url.scheme ≡ special → EndsAtPort host port
-      → IsUnended (host ++ written_behind colon port) → IsDelimiter (sight rest)
-      → ((g : Held) → g.url.scheme ≡ h.url.scheme → A ⊎ Stops base PathStartState g rest k)
+      (v : Variables) (k : ℕ) → is_special v.url.scheme ≡ special → EndsAtPort host port
+      → IsUnended (host ++ written_behind colon port) → IsDelimiter (at_pointer rest)
+      → ((g : Variables) → g.url.scheme ≡ v.url.scheme → A ⊎ Stops base PathStartState g rest k)
       → ((list_all (is_authority_letter special) host ≡ true) × IsHostTaken special host port × A)
-      ⊎ Stops base AuthorityState (with_brackets false (emptied h)) ((host ++ written_behind colon port) ++ rest)
+      ⊎ Stops base AuthorityState (with_brackets false (emptied v)) ((host ++ written_behind colon port) ++ rest)
       (2 * length (host ++ written_behind colon port) + (k + 3))
-  authority_decided A special host port rest h k kind ends is delimited next =
+  authority_decided A special host port rest v k class ends is delimited next =
       let authority = host ++ written_behind colon port in
       elim (cases_Bool (list_all (is_authority_letter special) authority)) [
         | inl letters ↦
@@ -235,45 +273,17 @@ module _ (base : Option Url) where
             (list_all (is_authority_letter special) (written_behind colon port))
             (sym (list_all-append (is_authority_letter special) host (written_behind colon port)) ∙ letters) in
             let read = reads_from special false host port (ends_from_start host port ends) split.0 in
-            elim (host_decided port ends is read next) [
+            elim (host_decided A special host port rest v k class ends is read delimited next) [
               | inl fine ↦ inl (split.0, fine.0, fine.1)
               | inr stops ↦ inr
                   (ends_within base (omega arith)
                   (ends_after base
-                  (authority_law base special authority rest (with_brackets false h) kind letters delimited) stops))
+                  (authority_law base special authority rest (with_brackets false v) class letters delimited) stops))
             ]
         | inr fault ↦ inr
             (ends_within base (omega arith)
-            (authority_stops special authority rest (with_brackets false (emptied h)) kind fault is))
+            (authority_stops special authority rest (with_brackets false (emptied v)) class fault is))
       ]
-    where
-      host_decided : (port : Option (List ℕ)) → EndsAtPort host port → IsUnended (host ++ written_behind colon port)
-          → is_read_as_host special false host ≡ true
-          → ((g : Held) → g.url.scheme ≡ h.url.scheme → A ⊎ Stops base PathStartState g rest k)
-          → (IsHostTaken special host port × A)
-          ⊎ Stops base HostState (with_brackets false (emptied h)) ((host ++ written_behind colon port) ++ rest)
-          (length (host ++ written_behind colon port) + (k + 2))
-      host_decided None ends is read next =
-          elim (host_alone A special host rest h k kind read delimited next) [
-            | inl fine ↦ inl fine
-            | inr stops ↦ inr (rw append-nil (ends_within base (omega arith) stops))
-          ]
-      host_decided (Some port) ends is read next =
-          let behind : IsUnended port
-          = record {
-            no_slash = (is_without-parts slash (host ++ (colon ∷ [])) port
-                (rw (append_assoc host (colon ∷ []) port) is.no_slash)).1;
-            no_question_mark = (is_without-parts question_mark (host ++ (colon ∷ [])) port
-                (rw (append_assoc host (colon ∷ []) port) is.no_question_mark)).1;
-            no_number_sign = (is_without-parts number_sign (host ++ (colon ∷ [])) port
-                (rw (append_assoc host (colon ∷ []) port) is.no_number_sign)).1;
-          } in
-          elim (host_before_port A special host port rest h k kind read (ends.ends refl) behind delimited next) [
-            | inl fine ↦ inl fine
-            | inr stops ↦ inr
-                (rw (append_assoc host (colon ∷ port) rest)
-                (ends_within base (omega (arith, length-append host (colon ∷ port))) stops))
-          ]
 
 -- letters of an authority hold no `@`
 pub letters_no_at_sign : (special : Bool) (cs : List ℕ) → list_all (is_authority_letter special) cs ≡ true

@@ -6,7 +6,7 @@ use Rattle.uv_model.specs.declared.path.UrlPath.TheVariants.{Opaque}
 use Rattle.uv_model.specs.Ascii.{colon}
 use Rattle.uv_model.specs.Cut.{IsCut}
 use Rattle.uv_model.specs.Encoding.{encoded}
-use Rattle.uv_parser.specs.Machine.{Held, OpaquePathState, SchemeState, with_more, with_path, empty_held}
+use Rattle.uv_parser.specs.Machine.{Variables, OpaquePathState, SchemeState, with_more, with_path, empty_variables}
 use Rattle.uv_model.specs.Parts.{Parts, SchemeOpaque}
 use Rattle.uv_parser.specs.SilentTexts.{Silent}
 use Rattle.uv_model.specs.Path.{starts_with_slash}
@@ -20,7 +20,7 @@ use Rattle.uv_parser.proofs.Decided.CutTexts.{HasMarks, marks, scheme_text}
 use Rattle.uv_parser.proofs.Loops.Looping.{opaque_path_law}
 use Rattle.uv_model.proofs.Paths.PathPieces.{path_relative, pieces}
 use Rattle.uv_parser.proofs.Running.RunsStopped.{RunStops, place_cases, removed_stops, scheme_stops}
-use Rattle.uv_parser.proofs.Loops.SchemeStretch.{scheme_held, colon_row}
+use Rattle.uv_parser.proofs.Loops.SchemeStretch.{scheme_variables, colon_row}
 use Rattle.uv_parser.proofs.Running.Steps.{Stops, ends_step, ends_after, ends_within}
 use Rattle.uv_parser.proofs.Loops.StoppingLoops.{opaque_path_stops}
 use Rattle.uv_parser.proofs.Loops.Tails.{tail, no_slash_before_tail}
@@ -41,21 +41,21 @@ opaque_parts scheme port_text path query fragment = record {
   fragment = fragment;
 }
 
--- what is held when the opaque path begins, and what is held behind it
-abbrev path_begun : List ℕ → Held
-path_begun scheme = with_path (Opaque []) (scheme_held scheme)
+-- the variables when the opaque path begins, and the variables behind it
+abbrev path_begun : List ℕ → Variables
+path_begun scheme = with_path (Opaque []) (scheme_variables scheme)
 
-abbrev path_held : List ℕ → List ℕ → Held
-path_held scheme path = with_path (Opaque (encoded false path)) (scheme_held scheme)
+abbrev path_variables : List ℕ → List ℕ → Variables
+path_variables scheme path = with_path (Opaque (encoded false path)) (scheme_variables scheme)
 
 module _ (base : Option Url) (scheme path : List ℕ) (query fragment : Option (List ℕ))
     (other : scheme_class scheme ≡ Other) (start : starts_with_slash path ≡ false)
     (have : HasMarks [] path query) where
-  opaque_passes : PassesToTail base OpaquePathState (path_held scheme path)
+  opaque_passes : PassesToTail base OpaquePathState (path_variables scheme path)
   opaque_passes =
       record {
-        query_held = path_held scheme path;
-        fragment_held = path_held scheme path;
+        query_variables = path_variables scheme path;
+        fragment_variables = path_variables scheme path;
         at_query = λ p rest. refl;
         at_fragment = λ p rest. refl;
       }
@@ -66,13 +66,13 @@ module _ (base : Option Url) (scheme path : List ℕ) (query fragment : Option (
       (length (path ++ tail query fragment))
   path_decided =
       elim (cases_Bool (is_faultless path)) [
-        | inl units ↦ elim (tail_decided base OpaquePathState (path_held scheme path) query fragment opaque_passes
+        | inl units ↦ elim (tail_decided base OpaquePathState (path_variables scheme path) query fragment opaque_passes
             have.query) [
               | inl both ↦ inl (units, both.0, both.1)
               | inr stops ↦ inr
                   (ends_within base (omega (arith, length-append path (tail query fragment)))
                   (ends_after base
-                  (opaque_path_law base path (tail query fragment) [] (scheme_held scheme) units
+                  (opaque_path_law base path (tail query fragment) [] (scheme_variables scheme) units
                   have.path_question_mark)
                   stops))
             ]
@@ -84,7 +84,7 @@ module _ (base : Option Url) (scheme path : List ℕ) (query fragment : Option (
 
   -- from the scheme's `:` on
   pub opaque_decided : (is_faultless path ≡ true) × MayBeUnits query × MayBeUnits fragment
-      ⊎ Stops base SchemeState (with_more (lowercase scheme) empty_held) (colon ∷ (path ++ tail query fragment))
+      ⊎ Stops base SchemeState (with_more (lowercase scheme) empty_variables) (colon ∷ (path ++ tail query fragment))
       (suc (length (path ++ tail query fragment)))
   opaque_decided =
       let no_slash = no_slash_before_tail path query fragment start in

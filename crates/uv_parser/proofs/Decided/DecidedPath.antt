@@ -3,7 +3,7 @@ use Rattle.std.proofs.Common.{◌≡◌, ◌≢◌, ℕ, ◌+◌, true, false, �
 use Rattle.std.proofs.lemmas.Bool.{and_parts, cases_Bool}
 use Rattle.uv_model.specs.Ascii.{slash, question_mark, number_sign}
 use Rattle.uv_model.specs.Encoding.{encoded_code_point}
-use Rattle.uv_parser.specs.Machine.{Held, turn, onward, PathStartState, PathState, is_special, segment_ended, with_more}
+use Rattle.uv_parser.specs.Machine.{Variables, turn, onward, PathStartState, PathState, is_special, segment_ended, with_more}
 use Rattle.uv_model.specs.Path.{is_without, starts_with_slash}
 use Rattle.uv_model.specs.Units.{is_faultless, is_unit_at, is_url_code_point}
 use Rattle.uv_model.specs.Records.Url.{Url}
@@ -32,47 +32,47 @@ unfolding is_unit_at is_url_code_point
 faultless_slash path fine = fine
 
 module _ (base : Option Url) where
-  path_row_slash : (c : ℕ) (rest : List ℕ) (h : Held) (p : ℕ) → (c == slash) ≡ true
-      → turn base PathState p h (c ∷ rest) ≡ onward PathState (segment_ended true h)
-  path_row_slash c rest h p is = rw is refl
+  path_row_slash : (c : ℕ) (rest : List ℕ) (v : Variables) (p : ℕ) → (c == slash) ≡ true
+      → turn base PathState p v (c ∷ rest) ≡ onward PathState (segment_ended true v)
+  path_row_slash c rest v p is = rw is refl
 
-  -- units without `?` are read, whatever is held
-  path_reads : (cs rest : List ℕ) (h : Held) → is_faultless cs ≡ true → is_without question_mark cs ≡ true
-      → (g : Held) × Reaches base PathState h (cs ++ rest) (length cs) PathState g rest
-  path_reads [] rest h units none = (h, reaches_none base PathState h rest)
-  path_reads (c ∷ cs) rest h units none =
+  -- units without `?` are read, whatever the variables are
+  path_reads : (cs rest : List ℕ) (v : Variables) → is_faultless cs ≡ true → is_without question_mark cs ≡ true
+      → (g : Variables) × Reaches base PathState v (cs ++ rest) (length cs) PathState g rest
+  path_reads [] rest v units none = (v, reaches_none base PathState v rest)
+  path_reads (c ∷ cs) rest v units none =
       let unit = and_parts (is_unit_at c cs) (is_faultless cs) units in
       let other = without_parts question_mark c cs none in
       elim (cases_Bool (c == slash)) [
         | inl is ↦
-            let later = path_reads cs rest (segment_ended true h) unit.1 other.1 in
-            (later.0, onward_then base (λ p. path_row_slash c (cs ++ rest) h p is) later.1)
+            let later = path_reads cs rest (segment_ended true v) unit.1 other.1 in
+            (later.0, onward_then base (λ p. path_row_slash c (cs ++ rest) v p is) later.1)
         | inr not_slash ↦
-            let later = path_reads cs rest (with_more (encoded_code_point false c) h) unit.1 other.1 in (
+            let later = path_reads cs rest (with_more (encoded_code_point false c) v) unit.1 other.1 in (
               later.0,
               onward_then base
-                  (λ p. path_row_on base c (cs ++ rest) h p not_slash other.0 (is_unit_at-ahead c cs rest unit.0))
+                  (λ p. path_row_on base c (cs ++ rest) v p not_slash other.0 (is_unit_at-ahead c cs rest unit.0))
                   later.1,
             )
       ]
 
-  path_passes : (h : Held) → PassesToTail base PathState h
-  path_passes h =
+  path_passes : (v : Variables) → PassesToTail base PathState v
+  path_passes v =
       record {
-        query_held = segment_ended false h;
-        fragment_held = segment_ended false h;
+        query_variables = segment_ended false v;
+        fragment_variables = segment_ended false v;
         at_query = λ p rest. refl;
         at_fragment = λ p rest. refl;
       }
 
   -- from the path state on
-  pub path_decided : (path : List ℕ) (query fragment : Option (List ℕ)) (h : Held) → FreeOfMarks path query
+  pub path_decided : (path : List ℕ) (query fragment : Option (List ℕ)) (v : Variables) → FreeOfMarks path query
       → AreFine path query fragment
-      ⊎ Stops base PathState h (path ++ tail query fragment) (length (path ++ tail query fragment))
-  path_decided path query fragment h free =
+      ⊎ Stops base PathState v (path ++ tail query fragment) (length (path ++ tail query fragment))
+  path_decided path query fragment v free =
       elim (cases_Bool (is_faultless path)) [
         | inl units ↦
-            let through = path_reads path (tail query fragment) h units free.question_mark in
+            let through = path_reads path (tail query fragment) v units free.question_mark in
             elim (tail_decided base PathState through.0 query fragment (path_passes through.0) free.query) [
               | inl both ↦ inl (units, both.0, both.1)
               | inr stops ↦ inr
@@ -81,43 +81,43 @@ module _ (base : Option Url) where
             ]
         | inr fault ↦ inr
             (ends_within base (omega (arith, length-append path (tail query fragment)))
-            (path_stops base path (tail query fragment) h fault free.question_mark free.number_sign
+            (path_stops base path (tail query fragment) v fault free.question_mark free.number_sign
             (no_hex_tail query fragment)))
       ]
 
   -- from the path start state on
-  pub path_start_decided : (path : List ℕ) (query fragment : Option (List ℕ)) (h : Held) → FreeOfMarks path query
+  pub path_start_decided : (path : List ℕ) (query fragment : Option (List ℕ)) (v : Variables) → FreeOfMarks path query
       → (path ≢ [] → starts_with_slash path ≡ true)
       → AreFine path query fragment
-      ⊎ Stops base PathStartState h (path ++ tail query fragment) (length (path ++ tail query fragment) + 1)
-  path_start_decided [] query fragment h free start =
-      elim (cases_Bool (is_special h.url.scheme)) [
-        | inl special ↦ elim (path_decided [] query fragment h free) [
+      ⊎ Stops base PathStartState v (path ++ tail query fragment) (length (path ++ tail query fragment) + 1)
+  path_start_decided [] query fragment v free start =
+      elim (cases_Bool (is_special v.url.scheme)) [
+        | inl special ↦ elim (path_decided [] query fragment v free) [
           | inl fine ↦ inl fine
           | inr stops ↦ inr
               (ends_within base (omega arith)
-              (ends_again base (λ p. rw special (special_row query fragment h)) stops))
+              (ends_again base (λ p. rw special (special_row query fragment v)) stops))
         ]
         | inr plain ↦
-            let passes : PassesToTail base PathStartState h
+            let passes : PassesToTail base PathStartState v
             = record {
-              query_held = h;
-              fragment_held = h;
+              query_variables = v;
+              fragment_variables = v;
               at_query = λ p rest. rw plain refl;
               at_fragment = λ p rest. rw plain refl;
             } in
-            elim (tail_decided base PathStartState h query fragment passes free.query) [
+            elim (tail_decided base PathStartState v query fragment passes free.query) [
               | inl both ↦ inl (refl, both.0, both.1)
               | inr stops ↦ inr (ends_within base (omega arith) stops)
             ]
       ]
-  path_start_decided (c ∷ path) query fragment h free start =
+  path_start_decided (c ∷ path) query fragment v free start =
       let is : c ≡ slash = eqb-true c slash (start (λ same. cc)) in
       let question = without_parts question_mark c path free.question_mark in
       let number = without_parts number_sign c path free.number_sign in
       let behind : FreeOfMarks path query
       = record { question_mark = question.1; number_sign = number.1; query = free.query } in
-      elim (path_decided path query fragment h behind) [
+      elim (path_decided path query fragment v behind) [
         | inl fine ↦ inl (rw is (faultless_slash path fine.0), fine.1, fine.2)
         | inr stops ↦ inr (rw is (ends_within base (omega arith) (ends_step base (λ p. refl) stops)))
       ]

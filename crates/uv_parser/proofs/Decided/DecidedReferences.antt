@@ -5,8 +5,8 @@ use Rattle.std.proofs.lemmas.Bool.{cases_Bool, false≢true}
 use Rattle.uv_model.specs.declared.host.Host.{Host}
 use Rattle.uv_model.specs.declared.host.Host.TheVariants as host
 use Rattle.uv_model.specs.Ascii.{slash, colon, question_mark, number_sign}
-use Rattle.uv_model.specs.Cut.{Cut, IsCut, starts_with_two_slashes}
-use Rattle.uv_parser.specs.Machine.{Held, State, with_fragment, begins, starts_with_drive_letter, turn, stop, again, FileSlashState, FileState, NoSchemeState, PathState, RelativeSlashState, RelativeState, empty_held, is_file, with_base, with_base_host, with_file_base, with_kept_drive, list_in, with_host, with_opaque_base, with_query, shortened}
+use Rattle.uv_model.specs.Cut.{Cut, IsCut}
+use Rattle.uv_parser.specs.Machine.{Variables, State, with_fragment, begins, starts_with_drive_letter, turn, stop, again, FileSlashState, FileState, NoSchemeState, PathState, RelativeSlashState, RelativeState, empty_variables, is_file, with_base, with_base_host, with_file_base, with_kept_drive, list_in, with_host, with_opaque_base, with_query, shortened}
 use Rattle.uv_model.specs.Parts.{Form, Parts, Authority, PathAbsolute, PathRelative, NoPath, written_authority, written_behind}
 use Rattle.uv_parser.specs.SilentTexts.{Silent}
 use Rattle.uv_model.specs.Path.{starts_with_slash}
@@ -19,12 +19,13 @@ use Rattle.uv_model.proofs.Cuts.CutLemmas.{cut_is_computed}
 use Rattle.uv_parser.proofs.Decided.CutTexts.{HasMarks, cut_text, marks}
 use Rattle.uv_parser.proofs.Decided.DecidedPath.{AreFine, FreeOfMarks, path_decided}
 use Rattle.uv_parser.proofs.Decided.AuthorityTexts.{SilentOrStops, authority_silent_or_stops, slashed_path}
+use Rattle.uv_parser.proofs.Decided.DecidedSchemes.{one_slash}
 use Rattle.uv_model.proofs.Texts.MarkLemmas.{is_without-cons}
 use Rattle.uv_model.proofs.Paths.PathPieces.{path_relative, pieces}
 use Rattle.uv_parser.proofs.Running.RunsStopped.{RunStops, place_cases, removed_stops}
 use Rattle.uv_parser.proofs.Decided.SchemeAbsent.{absent_stops}
 use Rattle.uv_parser.proofs.Running.Steps.{Stops, ends_again, stops_here, ends_step, ends_within}
-use Rattle.uv_parser.proofs.Loops.AuthorityStarts.{base_held, base_starts, file_held}
+use Rattle.uv_parser.proofs.Loops.AuthorityStarts.{base_variables, base_starts, file_variables}
 use Rattle.uv_parser.proofs.Loops.Tails.{no_slash_before_tail, tail}
 use Rattle.uv_parser.proofs.Decided.TailsDecided.{PassesToTail, fragment_decided, tail_decided}
 
@@ -63,7 +64,7 @@ module _ (url : Url) (text : List ℕ) (host_text port_text : Option (List ℕ))
     (kept : first_removed text ≡ None) where
   -- the run stops where it stops from the no scheme state on
   reference_stops : (rest : List ℕ) (k : ℕ) → text ≡ rest → k ≤ 2 * length rest + 15
-      → Stops (Some url) NoSchemeState empty_held rest k → RunStops (Some url) text
+      → Stops (Some url) NoSchemeState empty_variables rest k → RunStops (Some url) text
   reference_stops rest k whole few stops =
       absent_stops (Some url) text k kept
       (no_scheme_cut (Some url) text (cut_with None host_text port_text path query fragment) is refl)
@@ -84,6 +85,31 @@ begins_mark : (xs : List ℕ) → begins number_sign xs ≡ true → (rest : Lis
 begins_mark [] e = absurd (false≢true e)
 begins_mark (c ∷ rest) e = (rest, ap (λ x. x ∷ rest) (eqb-true c number_sign e))
 
+-- against a base with an opaque path, `#` and a fragment alone are read
+fragment_alone : (url : Url) (text : List ℕ) (port_text : Option (List ℕ)) (fragment : List ℕ)
+    → IsCut (Some url) text (cut_with None None port_text [] None (Some fragment)) → first_removed text ≡ None
+    → is_opaque url.path ≡ true → SilentOrStops (Some url) text
+fragment_alone url text port_text fragment is kept opaque =
+    elim (fragment_decided (Some url) fragment (with_fragment (Some []) (with_opaque_base url empty_variables))) [
+      | inl units ↦ inl (
+        reference_parts NoPath None None port_text None [] [] None (Some fragment),
+        record {
+          cut = is;
+          kept = kept;
+          scheme = refl;
+          against = inr (inr (refl, refl, refl));
+          form = (record { host_text = refl; host = refl; port_text = is.authority.0; port = refl }, refl, refl);
+          query = tt;
+          fragment = units;
+        },
+      )
+      | inr stops ↦ inr
+          (reference_stops url text None port_text [] None (Some fragment) is kept _ _
+          (reference_text url text None port_text [] None (Some fragment) is kept) (omega arith)
+          (ends_step (Some url) (λ p. rw opaque refl) stops))
+    ]
+
+-- every other text is refused
 opaque_base : (url : Url) (text : List ℕ) (host_text port_text : Option (List ℕ)) (path : List ℕ)
     (query fragment : Option (List ℕ))
     → IsCut (Some url) text (cut_with None host_text port_text path query fragment) → first_removed text ≡ None
@@ -107,24 +133,7 @@ opaque_base url text None port_text [] None None is kept opaque =
     (reference_text url text None port_text [] None None is kept) (omega arith)
     (stops_here (Some url) (λ p. rw opaque refl)))
 opaque_base url text None port_text [] None (Some fragment) is kept opaque =
-    elim (fragment_decided (Some url) fragment (with_fragment (Some []) (with_opaque_base url empty_held))) [
-      | inl units ↦ inl (
-        reference_parts NoPath None None port_text None [] [] None (Some fragment),
-        record {
-          cut = is;
-          kept = kept;
-          scheme = refl;
-          against = inr (inr (refl, refl, refl));
-          form = (record { host_text = refl; host = refl; port_text = is.authority.0; port = refl }, refl, refl);
-          query = tt;
-          fragment = units;
-        },
-      )
-      | inr stops ↦ inr
-          (reference_stops url text None port_text [] None (Some fragment) is kept _ _
-          (reference_text url text None port_text [] None (Some fragment) is kept) (omega arith)
-          (ends_step (Some url) (λ p. rw opaque refl) stops))
-    ]
+    fragment_alone url text port_text fragment is kept opaque
 
 -- ---- a base with a path of segments: texts without an authority
 
@@ -188,21 +197,29 @@ module _ (url : Url) (text : List ℕ) (port_text : Option (List ℕ)) (query fr
         fragment = fine.2;
       }
 
-  -- the three forms, by how the run from behind the no scheme state goes
-  path_forms : (s : State) (h : Held) → ((rest : List ℕ) (p : ℕ)
-      → turn (Some url) NoSchemeState p empty_held rest ≡ again s h)
-      → PassesToTail (Some url) s h
-      → ((behind : List ℕ) → starts_with_slash behind ≡ false → FreeOfMarks behind query
+  -- the no scheme state goes on in this state
+  abbrev GoesOn : State → Variables → Type 0
+  GoesOn s v = (rest : List ℕ) (p : ℕ) → turn (Some url) NoSchemeState p empty_variables rest ≡ again s v
+
+  -- from this state on `/` and a path are fine, or stop the run
+  abbrev DecidesAbsolute : State → Variables → Type 0
+  DecidesAbsolute s v = (behind : List ℕ) → starts_with_slash behind ≡ false → FreeOfMarks behind query
       → AreFine behind query fragment
-      ⊎ Stops (Some url) s h (slash ∷ (behind ++ tail query fragment)) (length (behind ++ tail query fragment) + 2))
-      → ((c : ℕ) (rest : List ℕ) → (c == slash) ≡ false → (c == question_mark) ≡ false → (c == number_sign) ≡ false
-      → FreeOfMarks (c ∷ rest) query → AreFine (c ∷ rest) query fragment
-      ⊎ Stops (Some url) s h (c ∷ (rest ++ tail query fragment)) (length (rest ++ tail query fragment) + 2))
-      → (path : List ℕ) → IsCut (Some url) text (cut_with None None port_text path query fragment)
-      → SilentOrStops (Some url) text
-  path_forms s h row passes absolute relative [] is =
+      ⊎ Stops (Some url) s v (slash ∷ (behind ++ tail query fragment)) (length (behind ++ tail query fragment) + 2)
+
+  -- and so another path
+  abbrev DecidesRelative : State → Variables → Type 0
+  DecidesRelative s v = (c : ℕ) (rest : List ℕ) → (c == slash) ≡ false → (c == question_mark) ≡ false
+      → (c == number_sign) ≡ false → FreeOfMarks (c ∷ rest) query
+      → AreFine (c ∷ rest) query fragment
+      ⊎ Stops (Some url) s v (c ∷ (rest ++ tail query fragment)) (length (rest ++ tail query fragment) + 2)
+
+  -- a text without a path
+  no_path_form : (s : State) (v : Variables) → GoesOn s v → PassesToTail (Some url) s v
+      → IsCut (Some url) text (cut_with None None port_text [] query fragment) → SilentOrStops (Some url) text
+  no_path_form s v row passes is =
       let have = marks (Some url) text None None port_text [] query fragment is in
-      elim (tail_decided (Some url) s h query fragment passes have.query) [
+      elim (tail_decided (Some url) s v query fragment passes have.query) [
         | inl fine ↦ inl (
           reference_parts NoPath None None port_text None [] [] query fragment,
           no_path_silent is (refl, fine.0, fine.1),
@@ -212,36 +229,13 @@ module _ (url : Url) (text : List ℕ) (port_text : Option (List ℕ)) (query fr
             (reference_text url text None port_text [] query fragment is kept) (omega arith)
             (ends_again (Some url) (λ p. row (tail query fragment) p) stops))
       ]
-  path_forms s h row passes absolute relative (c ∷ path) is =
-      let have = marks (Some url) text None None port_text (c ∷ path) query fragment is in
-      let question = is_without-cons question_mark c path have.path_question_mark in
-      let number = is_without-cons number_sign c path have.path_number_sign in
-      let few : length (path ++ tail query fragment) + 3 ≤ 2 * length ((c ∷ path) ++ tail query fragment) + 15
-      = omega arith in
-      elim (cases_Bool (c == slash)) [
-        | inl same ↦ with_slash c (eqb-true c slash same) is
-        | inr other ↦
-            elim (relative c path other question.0 number.0 (record {
-              question_mark = have.path_question_mark;
-              number_sign = have.path_number_sign;
-              query = have.query;
-            })) [
-              | inl fine ↦ inl (
-                reference_parts PathRelative None None port_text None (c ∷ path) (pieces (c ∷ path)) query fragment,
-                relative_silent c path is other fine,
-              )
-              | inr stops ↦ inr
-                  (reference_stops url text None port_text (c ∷ path) query fragment is kept _ _
-                  (reference_text url text None port_text (c ∷ path) query fragment is kept) (omega arith)
-                  (ends_again (Some url) (λ p. row ((c ∷ path) ++ tail query fragment) p) stops))
-            ]
-      ]
-    where
-      one_slash : (behind : List ℕ) → starts_with_two_slashes (slash ∷ behind) ≡ false
-          → starts_with_slash behind ≡ false
-      one_slash [] none = refl
-      one_slash (d ∷ rest) none = none
 
+  -- a text with `/` and a path
+  absolute_form : (s : State) (v : Variables) → GoesOn s v → DecidesAbsolute s v → (c : ℕ) (path : List ℕ) → c ≡ slash
+      → IsCut (Some url) text (cut_with None None port_text (c ∷ path) query fragment) → SilentOrStops (Some url) text
+  absolute_form s v row absolute c path e cut = here (subst
+      (λ (d : ℕ). IsCut (Some url) text (cut_with None None port_text (d ∷ path) query fragment)) e cut)
+    where
       here : IsCut (Some url) text (cut_with None None port_text (slash ∷ path) query fragment)
           → SilentOrStops (Some url) text
       here is =
@@ -261,21 +255,51 @@ module _ (url : Url) (text : List ℕ) (port_text : Option (List ℕ)) (query fr
                 (ends_again (Some url) (λ p. row (slash ∷ (path ++ tail query fragment)) p) stops))
           ]
 
-      with_slash : (c : ℕ) → c ≡ slash
-          → IsCut (Some url) text (cut_with None None port_text (c ∷ path) query fragment)
-          → SilentOrStops (Some url) text
-      with_slash c same is =
-          here (subst (λ (x : ℕ). IsCut (Some url) text (cut_with None None port_text (x ∷ path) query fragment)) same
-          is)
+  -- a text with another path
+  relative_form : (s : State) (v : Variables) → GoesOn s v → DecidesRelative s v → (c : ℕ) (path : List ℕ)
+      → (c == slash) ≡ false → IsCut (Some url) text (cut_with None None port_text (c ∷ path) query fragment)
+      → SilentOrStops (Some url) text
+  relative_form s v row relative c path other is =
+      let have = marks (Some url) text None None port_text (c ∷ path) query fragment is in
+      let question = is_without-cons question_mark c path have.path_question_mark in
+      let number = is_without-cons number_sign c path have.path_number_sign in
+      let few : length (path ++ tail query fragment) + 3 ≤ 2 * length ((c ∷ path) ++ tail query fragment) + 15
+      = omega arith in
+      elim (relative c path other question.0 number.0 (record {
+        question_mark = have.path_question_mark;
+        number_sign = have.path_number_sign;
+        query = have.query;
+      })) [
+        | inl fine ↦ inl (
+          reference_parts PathRelative None None port_text None (c ∷ path) (pieces (c ∷ path)) query fragment,
+          relative_silent c path is other fine,
+        )
+        | inr stops ↦ inr
+            (reference_stops url text None port_text (c ∷ path) query fragment is kept _ _
+            (reference_text url text None port_text (c ∷ path) query fragment is kept) (omega arith)
+            (ends_again (Some url) (λ p. row ((c ∷ path) ++ tail query fragment) p) stops))
+      ]
+
+  -- the three forms, by how the run from behind the no scheme state goes
+  path_forms : (s : State) (v : Variables) → GoesOn s v → PassesToTail (Some url) s v → DecidesAbsolute s v
+      → DecidesRelative s v
+      → (path : List ℕ) → IsCut (Some url) text (cut_with None None port_text path query fragment)
+      → SilentOrStops (Some url) text
+  path_forms s v row passes absolute relative [] is = no_path_form s v row passes is
+  path_forms s v row passes absolute relative (c ∷ path) is =
+      elim (cases_Bool (c == slash)) [
+        | inl same ↦ absolute_form s v row absolute c path (eqb-true c slash same) is
+        | inr other ↦ relative_form s v row relative c path other is
+      ]
 
   -- against a base of a class other than File
   relative_forms : is_file url.scheme ≡ false → (path : List ℕ)
       → IsCut (Some url) text (cut_with None None port_text path query fragment) → SilentOrStops (Some url) text
   relative_forms plain path is =
-      path_forms RelativeState empty_held (λ rest p. rw (not_opaque, plain) refl)
+      path_forms RelativeState empty_variables (λ rest p. rw (not_opaque, plain) refl)
       (record {
-        query_held = with_base url (base_held url);
-        fragment_held = with_base url (base_held url);
+        query_variables = with_base url (base_variables url);
+        fragment_variables = with_base url (base_variables url);
         at_query = λ p rest. refl;
         at_fragment = λ p rest. refl;
       })
@@ -283,25 +307,25 @@ module _ (url : Url) (text : List ℕ) (port_text : Option (List ℕ)) (query fr
     where
       absolute : (behind : List ℕ) → starts_with_slash behind ≡ false → FreeOfMarks behind query
           → AreFine behind query fragment
-          ⊎ Stops (Some url) RelativeState empty_held (slash ∷ (behind ++ tail query fragment))
+          ⊎ Stops (Some url) RelativeState empty_variables (slash ∷ (behind ++ tail query fragment))
           (length (behind ++ tail query fragment) + 2)
       absolute behind start free =
           let no_slash = no_slash_before_tail behind query fragment start in
-          elim (path_decided (Some url) behind query fragment (with_base_host url (base_held url)) free) [
+          elim (path_decided (Some url) behind query fragment (with_base_host url (base_variables url)) free) [
             | inl fine ↦ inl fine
             | inr stops ↦ inr
                 (ends_within (Some url) (omega arith)
-                (ends_step (Some url) {s₁ = RelativeSlashState} {h₁ = base_held url} (λ p. refl)
+                (ends_step (Some url) {s₁ = RelativeSlashState} {v₁ = base_variables url} (λ p. refl)
                 (ends_again (Some url) (λ p. rw no_slash refl) stops)))
           ]
 
       relative : (c : ℕ) (rest : List ℕ) → (c == slash) ≡ false → (c == question_mark) ≡ false
           → (c == number_sign) ≡ false → FreeOfMarks (c ∷ rest) query → AreFine (c ∷ rest) query fragment
-          ⊎ Stops (Some url) RelativeState empty_held (c ∷ (rest ++ tail query fragment))
+          ⊎ Stops (Some url) RelativeState empty_variables (c ∷ (rest ++ tail query fragment))
           (length (rest ++ tail query fragment) + 2)
       relative c rest a b d free =
           elim (path_decided (Some url) (c ∷ rest) query fragment
-          (shortened (with_query None (with_base url (base_held url)))) free) [
+          (shortened (with_query None (with_base url (base_variables url)))) free) [
             | inl fine ↦ inl fine
             | inr stops ↦ inr
                 (ends_within (Some url) (omega arith) (ends_again (Some url) (λ p. simp (a, b, d) refl) stops))
@@ -311,10 +335,10 @@ module _ (url : Url) (text : List ℕ) (port_text : Option (List ℕ)) (query fr
   file_forms : is_file url.scheme ≡ true → (path : List ℕ)
       → IsCut (Some url) text (cut_with None None port_text path query fragment) → SilentOrStops (Some url) text
   file_forms file path is =
-      path_forms FileState empty_held (λ rest p. rw (not_opaque, file) refl)
+      path_forms FileState empty_variables (λ rest p. rw (not_opaque, file) refl)
       (record {
-        query_held = with_file_base url (file_held host.Empty);
-        fragment_held = with_file_base url (file_held host.Empty);
+        query_variables = with_file_base url (file_variables host.Empty);
+        fragment_variables = with_file_base url (file_variables host.Empty);
         at_query = λ p rest. rw file refl;
         at_fragment = λ p rest. rw file refl;
       })
@@ -322,36 +346,37 @@ module _ (url : Url) (text : List ℕ) (port_text : Option (List ℕ)) (query fr
     where
       absolute : (behind : List ℕ) → starts_with_slash behind ≡ false → FreeOfMarks behind query
           → AreFine behind query fragment
-          ⊎ Stops (Some url) FileState empty_held (slash ∷ (behind ++ tail query fragment))
+          ⊎ Stops (Some url) FileState empty_variables (slash ∷ (behind ++ tail query fragment))
           (length (behind ++ tail query fragment) + 2)
       absolute behind start free =
           let rest = behind ++ tail query fragment in
           let no_slash = no_slash_before_tail behind query fragment start in
           elim (path_decided (Some url) behind query fragment
-          (with_kept_drive (list_in url.path) rest (with_host url.host (file_held host.Empty))) free) [
+          (with_kept_drive (list_in url.path) rest (with_host url.host (file_variables host.Empty))) free) [
             | inl fine ↦ inl fine
             | inr stops ↦ inr
                 (ends_within (Some url) (omega arith)
-                (ends_step (Some url) {s₁ = FileSlashState} {h₁ = file_held host.Empty} (λ p. refl)
+                (ends_step (Some url) {s₁ = FileSlashState} {v₁ = file_variables host.Empty} (λ p. refl)
                 (ends_again (Some url) (λ p. rw (no_slash, file) refl) stops)))
           ]
 
       relative : (c : ℕ) (rest : List ℕ) → (c == slash) ≡ false → (c == question_mark) ≡ false
           → (c == number_sign) ≡ false → FreeOfMarks (c ∷ rest) query → AreFine (c ∷ rest) query fragment
-          ⊎ Stops (Some url) FileState empty_held (c ∷ (rest ++ tail query fragment))
+          ⊎ Stops (Some url) FileState empty_variables (c ∷ (rest ++ tail query fragment))
           (length (rest ++ tail query fragment) + 2)
       relative c rest a b d free =
           elim (cases_Bool (starts_with_drive_letter (c ∷ (rest ++ tail query fragment)))) [
             | inl drive ↦
-                let row : (p : ℕ) → turn (Some url) FileState p empty_held (c ∷ (rest ++ tail query fragment)) ≡ stop
+                let row : (p : ℕ)
+                → turn (Some url) FileState p empty_variables (c ∷ (rest ++ tail query fragment)) ≡ stop
                 = λ p. simp (file, a, b, d, drive) refl in
                 inr (ends_within (Some url) (omega arith) (stops_here (Some url) row))
             | inr no_drive ↦
-                let h = shortened (with_query None (with_file_base url (file_held host.Empty))) in
-                let row : (p : ℕ) → turn (Some url) FileState p empty_held (c ∷ (rest ++ tail query fragment))
-                ≡ again PathState h
+                let v = shortened (with_query None (with_file_base url (file_variables host.Empty))) in
+                let row : (p : ℕ) → turn (Some url) FileState p empty_variables (c ∷ (rest ++ tail query fragment))
+                ≡ again PathState v
                 = λ p. simp (file, a, b, d, no_drive) refl in
-                elim (path_decided (Some url) (c ∷ rest) query fragment h free) [
+                elim (path_decided (Some url) (c ∷ rest) query fragment v free) [
                   | inl fine ↦ inl fine
                   | inr stops ↦ inr (ends_within (Some url) (omega arith) (ends_again (Some url) row stops))
                 ]
@@ -369,7 +394,7 @@ module _ (url : Url) (text host_text : List ℕ) (port_text : Option (List ℕ))
   -- the whole text, and where it stops from the no scheme state on
   reference_authority_stops : (k : ℕ)
       → k ≤ 2 * length ((host_text ++ written_behind colon port_text) ++ (path ++ tail query fragment)) + 15
-      → Stops (Some url) NoSchemeState empty_held
+      → Stops (Some url) NoSchemeState empty_variables
       (slash ∷ slash ∷ ((host_text ++ written_behind colon port_text) ++ (path ++ tail query fragment))) k
       → RunStops (Some url) text
   reference_authority_stops k few stops =
@@ -383,7 +408,7 @@ module _ (url : Url) (text host_text : List ℕ) (port_text : Option (List ℕ))
   -- with an authority
   with_authority : SilentOrStops (Some url) text
   with_authority =
-      authority_silent_or_stops (Some url) text Authority None url.scheme (base_held url) refl
+      authority_silent_or_stops (Some url) text Authority None url.scheme (base_variables url) refl
       host_text port_text path query fragment
       (record {
         no_slash = is.authority.0;
@@ -392,8 +417,8 @@ module _ (url : Url) (text host_text : List ℕ) (port_text : Option (List ℕ))
       })
       is.authority.2 is.authority.1
       (free url text (Some host_text) port_text path query fragment is kept)
-      (λ kind is_kind k few stops.
-      reference_authority_stops (k + 3) (omega (arith, few)) (base_starts url _ kind k not_opaque is_kind stops))
+      (λ class is_class k few stops.
+      reference_authority_stops (k + 3) (omega (arith, few)) (base_starts url _ class k not_opaque is_class stops))
       (λ value port takes fine. record {
         cut = is;
         kept = kept;

@@ -1,37 +1,45 @@
 -- A text with a scheme: the parser is silent on it as its grammar says, or stops.
-use Rattle.std.proofs.Common.{◌≡◌, ℕ, ◌+◌, ◌*◌, ◌≤◌, false, ◌==◌, ◌⊎◌, List, [], ◌∷◌, ◌++◌, length, Option, Some, None, refl, ap, ◌∙◌, inl, inr, eqb-true, append_assoc, arith}
+use Rattle.std.proofs.Common.{◌≡◌, ℕ, ◌+◌, ◌*◌, ◌≤◌, true, false, ◌==◌, ◌⊎◌, List, [], ◌∷◌, ◌++◌, length, Option, Some, None, refl, ap, ◌∙◌, inl, inr, eqb-true, append_assoc, arith}
 use Rattle.std.proofs.lemmas.Bool.{and_right, cases_Bool}
 use Rattle.uv_model.specs.declared.host.Host.{Host}
 use Rattle.uv_model.specs.declared.scheme.Class.TheVariants.{Special, File, Other}
 use Rattle.uv_model.specs.Ascii.{slash, colon, question_mark, number_sign}
 use Rattle.uv_model.specs.Cut.{IsCut, starts_with_two_slashes}
-use Rattle.uv_parser.specs.Machine.{begins, begins_two_slashes, has_same_scheme, PathOrAuthorityState, SchemeState, SpecialAuthoritySlashesState, SpecialRelativeOrAuthorityState, empty_held, with_more}
+use Rattle.uv_parser.specs.Machine.{begins, begins_two_slashes, has_same_scheme, PathOrAuthorityState, SchemeState, SpecialAuthoritySlashesState, SpecialRelativeOrAuthorityState, empty_variables, with_more}
 use Rattle.uv_model.specs.Parts.{Parts, SchemeAuthority, SchemePath, written_behind}
-use Rattle.uv_model.specs.Path.{starts_with_slash}
+use Rattle.uv_parser.specs.SilentTexts.{Silent}
+use Rattle.uv_model.specs.Path.{is_without, starts_with_slash}
 use Rattle.uv_parser.specs.Removed.{first_removed}
 use Rattle.uv_model.specs.Scheme.{lowercase, scheme_class}
 use Rattle.uv_model.specs.Records.Url.{Url}
 use Rattle.uv_model.specs.Valid.{FitsBase}
 use Rattle.uv_model.proofs.Complaints.ComplaintLemmas.{cut_with}
 use Rattle.uv_parser.proofs.Decided.CutTexts.{HasMarks, marks, scheme_text}
-use Rattle.uv_parser.proofs.Decided.AuthorityTexts.{SilentOrStops, authority_parts, authority_silent_or_stops, kind_cases, slashed_path}
+use Rattle.uv_parser.proofs.Decided.AuthorityTexts.{SilentOrStops, authority_parts, authority_silent_or_stops, class_cases, slashed_path}
 use Rattle.uv_model.proofs.SchemeLemmas.{scheme_class-lowercase}
 use Rattle.uv_parser.proofs.Decided.DecidedOpaque.{opaque_parts, opaque_silent_or_stops}
-use Rattle.uv_parser.proofs.Decided.DecidedPath.{FreeOfMarks, path_decided}
+use Rattle.uv_parser.proofs.Decided.DecidedPath.{AreFine, FreeOfMarks, path_decided}
 use Rattle.uv_model.proofs.Texts.MarkLemmas.{is_without-cons}
 use Rattle.uv_model.proofs.Paths.PathPieces.{path_relative, pieces}
 use Rattle.uv_parser.proofs.Running.RunsStopped.{RunStops, place_cases, removed_stops, scheme_stops}
 use Rattle.uv_parser.proofs.Loops.AuthorityStarts.{scheme_starts}
-use Rattle.uv_parser.proofs.Loops.SchemeStretch.{colon_row, scheme_held}
+use Rattle.uv_parser.proofs.Loops.SchemeStretch.{colon_row, scheme_variables}
 use Rattle.uv_parser.proofs.Running.Steps.{Stops, ends_again, stops_here, ends_past_two, ends_step}
 use Rattle.uv_parser.proofs.Loops.Tails.{no_slash_before_tail, tail}
 
 -- ---- small facts of cuts
 
+-- a tail begins with no slash
 pub no_slash_in_tail : (query fragment : Option (List ℕ)) → begins slash (tail query fragment) ≡ false
 no_slash_in_tail (Some text) fragment = refl
 no_slash_in_tail None (Some text) = refl
 no_slash_in_tail None None = refl
+
+-- behind `/`, where no `//` begins, no slash follows
+pub one_slash : (behind : List ℕ) → starts_with_two_slashes (slash ∷ behind) ≡ false
+    → starts_with_slash behind ≡ false
+one_slash [] none = refl
+one_slash (c ∷ rest) none = none
 
 -- without `//` at its start a path has none with a tail behind it
 pub no_two_before_tail : (path : List ℕ) (query fragment : Option (List ℕ)) → starts_with_two_slashes path ≡ false
@@ -46,21 +54,21 @@ no_two_before_tail (c ∷ d ∷ rest) query fragment none = none
 
 module _ (base : Option Url) (scheme : List ℕ) where
   special_without : (rest : List ℕ) → scheme_class scheme ≡ Special → begins_two_slashes rest ≡ false
-      → Stops base SchemeState (with_more (lowercase scheme) empty_held) (colon ∷ rest) 2
+      → Stops base SchemeState (with_more (lowercase scheme) empty_variables) (colon ∷ rest) 2
   special_without rest special none =
       elim (cases_Bool (has_same_scheme base (lowercase scheme))) [
         | inl same ↦
-            ends_step base {s₁ = SpecialRelativeOrAuthorityState} {h₁ = scheme_held scheme}
+            ends_step base {s₁ = SpecialRelativeOrAuthorityState} {v₁ = scheme_variables scheme}
             (λ p. colon_row base scheme rest p ∙ rw (special, same) refl)
             (stops_here base (λ p. rw none refl))
         | inr other ↦
-            ends_step base {s₁ = SpecialAuthoritySlashesState} {h₁ = scheme_held scheme}
+            ends_step base {s₁ = SpecialAuthoritySlashesState} {v₁ = scheme_variables scheme}
             (λ p. colon_row base scheme rest p ∙ rw (special, other) refl)
             (stops_here base (λ p. rw none refl))
       ]
 
   file_without : (rest : List ℕ) → scheme_class scheme ≡ File → begins_two_slashes rest ≡ false
-      → Stops base SchemeState (with_more (lowercase scheme) empty_held) (colon ∷ rest) 1
+      → Stops base SchemeState (with_more (lowercase scheme) empty_variables) (colon ∷ rest) 1
   file_without rest file none =
       stops_here base (λ p. colon_row base scheme rest p ∙ rw (file, none) refl)
 
@@ -81,7 +89,7 @@ module _ (base : Option Url) (text scheme host_text : List ℕ) (port_text : Opt
   -- the whole text, and where it stops from the scheme's `:` on
   authority_stops_text : (k : ℕ)
       → k ≤ 2 * length ((host_text ++ written_behind colon port_text) ++ (path ++ tail query fragment)) + 16
-      → Stops base SchemeState (with_more (lowercase scheme) empty_held)
+      → Stops base SchemeState (with_more (lowercase scheme) empty_variables)
       (colon ∷ slash ∷ slash ∷ ((host_text ++ written_behind colon port_text) ++ (path ++ tail query fragment))) k
       → RunStops base text
   authority_stops_text k few stops =
@@ -96,7 +104,7 @@ module _ (base : Option Url) (text scheme host_text : List ℕ) (port_text : Opt
   -- with an authority
   pub with_authority : SilentOrStops base text
   with_authority =
-      authority_silent_or_stops base text SchemeAuthority (Some scheme) scheme (scheme_held scheme)
+      authority_silent_or_stops base text SchemeAuthority (Some scheme) scheme (scheme_variables scheme)
       (scheme_class-lowercase scheme) host_text port_text path query fragment
       (record {
         no_slash = is.authority.0;
@@ -105,8 +113,8 @@ module _ (base : Option Url) (text scheme host_text : List ℕ) (port_text : Opt
       })
       is.authority.2 is.authority.1
       (record { question_mark = have.path_question_mark; number_sign = have.path_number_sign; query = have.query })
-      (λ kind is_kind k few stops.
-      authority_stops_text (k + 3) (omega (arith, few)) (scheme_starts base scheme _ kind k is_kind stops))
+      (λ class is_class k few stops.
+      authority_stops_text (k + 3) (omega (arith, few)) (scheme_starts base scheme _ class k is_class stops))
       (λ value port takes fine. record {
         cut = is;
         kept = kept;
@@ -155,6 +163,29 @@ module _ (base : Option Url) (text scheme : List ℕ) (port_text : Option (List 
       (file_without base scheme (path ++ tail query fragment) file
       (no_two_before_tail path query fragment is.authority.1)))
 
+  -- `/` and a path whose code points are fine is silent
+  with_path_silent : (behind : List ℕ) → path ≡ slash ∷ behind → scheme_class scheme ≡ Other
+      → starts_with_slash behind ≡ false → is_without question_mark behind ≡ true → AreFine behind query fragment
+      → Silent base text (path_parts scheme port_text path behind query fragment)
+  with_path_silent behind slashed other start none fine = record {
+    cut = is;
+    kept = kept;
+    scheme = is.scheme;
+    against = fits_base base behind;
+    form = (
+      record { host_text = refl; host = refl; port_text = is.authority.0; port = refl },
+      other,
+      record { behind = behind; slashed = slashed; relative = path_relative behind fine.0 none start },
+    );
+    query = fine.1;
+    fragment = fine.2;
+  }
+    where
+      fits_base : (base : Option Url) (behind : List ℕ)
+          → FitsBase base (path_parts scheme port_text path behind query fragment)
+      fits_base None behind = refl
+      fits_base (Some url) behind = inl refl
+
   -- `/` and a path
   with_path : (behind : List ℕ) → path ≡ slash ∷ behind → scheme_class scheme ≡ Other → SilentOrStops base text
   with_path behind slashed other =
@@ -165,44 +196,18 @@ module _ (base : Option Url) (text scheme : List ℕ) (port_text : Option (List 
       let free : FreeOfMarks behind query
       = record { question_mark = question.1; number_sign = number.1; query = have_alone.query } in
       let no_slash = no_slash_before_tail behind query fragment start in
-      elim (path_decided base behind query fragment (scheme_held scheme) free) [
-        | inl (units, query_units, fragment_units) ↦ inl (
+      elim (path_decided base behind query fragment (scheme_variables scheme) free) [
+        | inl fine ↦ inl (
           path_parts scheme port_text path behind query fragment,
-          record {
-            cut = is;
-            kept = kept;
-            scheme = is.scheme;
-            against = fits_base base behind;
-            form = (
-              record { host_text = refl; host = refl; port_text = is.authority.0; port = refl },
-              other,
-              record {
-                behind = behind;
-                slashed = slashed;
-                relative = path_relative behind units question.1 start;
-              },
-            );
-            query = query_units;
-            fragment = fragment_units;
-          },
+          with_path_silent behind slashed other start question.1 fine,
         )
         | inr stops ↦ inr
             (scheme_stops base text scheme (slash ∷ (behind ++ tail query fragment)) _ kept is.scheme
             (alone_text ∙ ap (λ xs. scheme ++ colon ∷ (xs ++ tail query fragment)) slashed) (omega arith)
-            (ends_past_two base {s₁ = PathOrAuthorityState} {h₁ = scheme_held scheme}
+            (ends_past_two base {s₁ = PathOrAuthorityState} {v₁ = scheme_variables scheme}
             (λ p. colon_row base scheme (slash ∷ (behind ++ tail query fragment)) p ∙ rw other refl)
             (ends_again base (λ p. rw no_slash refl) stops)))
       ]
-    where
-      one_slash : (behind : List ℕ) → starts_with_two_slashes (slash ∷ behind) ≡ false
-          → starts_with_slash behind ≡ false
-      one_slash [] none = refl
-      one_slash (c ∷ rest) none = none
-
-      fits_base : (base : Option Url) (behind : List ℕ)
-          → FitsBase base (path_parts scheme port_text path behind query fragment)
-      fits_base None behind = refl
-      fits_base (Some url) behind = inl refl
 
   -- a scheme of class Other
   other_alone : scheme_class scheme ≡ Other → SilentOrStops base text
@@ -230,7 +235,7 @@ module _ (base : Option Url) (text scheme : List ℕ) (port_text : Option (List 
   -- without an authority
   pub without_authority : SilentOrStops base text
   without_authority =
-      elim (kind_cases (scheme_class scheme)) [
+      elim (class_cases (scheme_class scheme)) [
         | inl special ↦ needs_slashes (inl special)
         | inr (inl file) ↦ needs_slashes (inr file)
         | inr (inr other) ↦ other_alone other

@@ -55,10 +55,10 @@ file_or_differs : (base : Option Url) (host_text : List ℕ) (parts : Parts) (va
     → MayBePathBehind Standard parts.segments parts.path_text → IsTakenFileHost host_text value
     → parts.host ≡ Some value
     → FitsAuthority File (setting_of Standard base parts.scheme) host_text parts ⊎ Differs base parts
-file_or_differs base host_text parts value kind given takes path is valued =
+file_or_differs base host_text parts value class given takes path is valued =
     elim (host_or_differs host_text is.host is.parsed) [
       | inr differs ↦ inr (inl (record {
-        kind = λ other. absurd (file_not_other (class_in base parts.scheme) kind other);
+        class = λ other. absurd (file_not_other (class_in base parts.scheme) class other);
         text = host_text;
         given = given;
         host = is.host;
@@ -72,7 +72,7 @@ file_or_differs base host_text parts value kind given takes path is valued =
             | inl drive ↦
                 let some = parsed_not_empty host_text is.host is.parsed in
                 let has : HasHost base parts.scheme parts.host_text = rw given some in
-                inr (inr (inr (inl (kind, has, drive))))
+                inr (inr (inr (inl (class, has, drive))))
             | inr bare ↦
                 inl (takes.no_port_text, takes.no_port, inl (value, text_is, valued, path, bare))
           ]
@@ -82,11 +82,11 @@ file_or_differs base host_text parts value kind given takes path is valued =
     file_not_other k file other = absurd cc
 
 -- what follows `//` by the class
-authority_or_differs : (base : Option Url) (kind : Class) (host_text : List ℕ) (parts : Parts)
-    → class_in base parts.scheme ≡ kind → parts.host_text ≡ Some host_text
-    → Takes kind (scheme_in base parts) host_text parts → MayBePathBehind Standard parts.segments parts.path_text
-    → FitsAuthority kind (setting_of Standard base parts.scheme) host_text parts ⊎ Differs base parts
-authority_or_differs base Special host_text parts kind given takes path =
+authority_or_differs : (base : Option Url) (class : Class) (host_text : List ℕ) (parts : Parts)
+    → class_in base parts.scheme ≡ class → parts.host_text ≡ Some host_text
+    → Takes class (scheme_in base parts) host_text parts → MayBePathBehind Standard parts.segments parts.path_text
+    → FitsAuthority class (setting_of Standard base parts.scheme) host_text parts ⊎ Differs base parts
+authority_or_differs base Special host_text parts class given takes path =
     elim (host_or_differs host_text takes.value takes.host.parsed) [
       | inl is ↦ inl (record {
         value = takes.value;
@@ -97,7 +97,7 @@ authority_or_differs base Special host_text parts kind given takes path =
         path = path;
       })
       | inr differs ↦ inr (inl (record {
-        kind = λ other. absurd (special_not_other (class_in base parts.scheme) kind other);
+        class = λ other. absurd (special_not_other (class_in base parts.scheme) class other);
         text = host_text;
         given = given;
         host = takes.value;
@@ -108,19 +108,19 @@ authority_or_differs base Special host_text parts kind given takes path =
   where
     special_not_other : (k : Class) → k ≡ Special → k ≡ Other → ⊥
     special_not_other k special other = absurd cc
-authority_or_differs base File host_text parts kind given takes path = by_host takes.host
+authority_or_differs base File host_text parts class given takes path = by_host takes.host
   where
     by_path : MayBePathBehind Standard parts.segments parts.path_text → host_text ≡ [] → parts.host ≡ Some host.Empty
         → FitsAuthority File (setting_of Standard base parts.scheme) host_text parts ⊎ Differs base parts
-    by_path (inl (nothing, none)) empty valued = inr (inr (inr (inr (kind, given ∙ ap Some empty, nothing))))
+    by_path (inl (nothing, none)) empty valued = inr (inr (inr (inr (class, given ∙ ap Some empty, nothing))))
     by_path (inr absolute) empty valued = inl (takes.no_port_text, takes.no_port, inr (empty, valued, absolute))
 
     by_host : ((value : Host) × IsTakenFileHost host_text value × (parts.host ≡ Some value))
         ⊎ ((host_text ≡ []) × (parts.host ≡ Some host.Empty))
         → FitsAuthority File (setting_of Standard base parts.scheme) host_text parts ⊎ Differs base parts
-    by_host (inl (value, is, valued)) = file_or_differs base host_text parts value kind given takes path is valued
+    by_host (inl (value, is, valued)) = file_or_differs base host_text parts value class given takes path is valued
     by_host (inr (empty, valued)) = by_path path empty valued
-authority_or_differs base Other host_text parts kind given takes path =
+authority_or_differs base Other host_text parts class given takes path =
     elim takes.host [
       | inl is ↦ inl (inl (is, takes.port_text), takes.port, path)
       | inr (nothing, empty) ↦ inl (inr (nothing, empty, takes.alone nothing), takes.port, path)
@@ -150,7 +150,7 @@ empty_cases (Some (host.V6 pieces)) = inr (λ e. absurd cc)
 empty_cases (Some (host.Opaque text)) = inr (λ e. absurd cc)
 
 -- a class is File, or not
-file_cases : (kind : Class) → (kind ≡ File) ⊎ (kind ≢ File)
+file_cases : (class : Class) → (class ≡ File) ⊎ (class ≢ File)
 file_cases Special = inr (λ e. absurd cc)
 file_cases File = inl refl
 file_cases Other = inr (λ e. absurd cc)
@@ -161,17 +161,17 @@ drive_or_differs : (base : Option Url) (parts : Parts) → parts.scheme ≡ None
 drive_or_differs None parts named none = inl tt
 drive_or_differs (Some url) parts named none =
     elim (cases_Bool (starts_with_drive_segment parts.path_text)) [
-      | inr bare ↦ inl (λ kind some. bare)
+      | inr bare ↦ inl (λ class some. bare)
       | inl drive ↦
           elim (file_cases (scheme_class url.scheme)) [
-            | inr other ↦ inl (λ kind some. absurd (other kind))
+            | inr other ↦ inl (λ class some. absurd (other class))
             | inl file ↦
                 elim (empty_cases url.host) [
-                  | inl empty ↦ inl (λ kind some. absurd (some empty))
+                  | inl empty ↦ inl (λ class some. absurd (some empty))
                   | inr some ↦
-                      let kind : class_in (Some url) parts.scheme ≡ File = rw named file in
+                      let class : class_in (Some url) parts.scheme ≡ File = rw named file in
                       let has : HasHost (Some url) parts.scheme parts.host_text = rw (named, none) some in
-                      inr (kind, has, drive)
+                      inr (class, has, drive)
                 ]
           ]
     ]
@@ -232,9 +232,9 @@ fits_given base PathRelative parts text is given = absurd cc
 fits_given base NoPath parts text is given = absurd cc
 
 -- a valid authority has a valid host text or, in class File, none
-valid_host : (kind : Class) (base : Option Url) (scheme : Option (List ℕ)) (text : List ℕ) (parts : Parts)
-    → kind ≢ Other
-    → FitsAuthority kind (setting_of Standard base scheme) text parts
+valid_host : (class : Class) (base : Option Url) (scheme : Option (List ℕ)) (text : List ℕ) (parts : Parts)
+    → class ≢ Other
+    → FitsAuthority class (setting_of Standard base scheme) text parts
     → ((value : Host) × IsHostText Standard text value) ⊎ (text ≡ [])
 valid_host Special base scheme text parts plain is = inl (is.value, is.host)
 valid_host File base scheme text parts plain (no_port, absent, inl (value, is, valued, path, drive)) =
@@ -246,7 +246,7 @@ valid_host Other base scheme text parts plain is = absurd (plain refl)
 no_foreign_host : (base : Option Url) (text : List ℕ) (parts : Parts) → Valid Standard base text parts
     → ¬ (HasForeignHost base parts)
 no_foreign_host base text parts valid foreign =
-    elim (valid_host (class_in base parts.scheme) base parts.scheme foreign.text parts foreign.kind
+    elim (valid_host (class_in base parts.scheme) base parts.scheme foreign.text parts foreign.class
     (fits_given base parts.form parts foreign.text valid.form foreign.given)) [
       | inl (value, is) ↦
           let taken = host_taken Standard foreign.text value is in
@@ -260,9 +260,9 @@ no_foreign_host base text parts valid foreign =
 -- nor an empty authority of class File with nothing behind it
 no_empty_authority : (base : Option Url) (text : List ℕ) (parts : Parts) → Valid Standard base text parts
     → ¬ (HasEmptyAuthority base parts)
-no_empty_authority base text parts valid (kind, given, bare) =
+no_empty_authority base text parts valid (class, given, bare) =
     let fits = fits_given base parts.form parts [] valid.form given in
-    nothing_there (subst (λ (k : Class). FitsAuthority k (setting_of Standard base parts.scheme) [] parts) kind fits)
+    nothing_there (subst (λ (k : Class). FitsAuthority k (setting_of Standard base parts.scheme) [] parts) class fits)
   where
     nothing_there : FitsAuthority File (setting_of Standard base parts.scheme) [] parts → ⊥
     nothing_there (no_port, absent, inl (value, is, valued, path, drive)) =
@@ -276,9 +276,9 @@ valid_not_differs : (base : Option Url) (text : List ℕ) (parts : Parts) → Va
 valid_not_differs base text parts valid (inl foreign) = no_foreign_host base text parts valid foreign
 valid_not_differs base text parts valid (inr (inl (has, starts))) =
     (faultless_form Standard base parts.form parts valid.form valid.scheme).start 1 FirstSegmentEmpty (starts, refl)
-valid_not_differs base text parts valid (inr (inr (inl (kind, has, drive)))) =
+valid_not_differs base text parts valid (inr (inr (inl (class, has, drive)))) =
     (faultless_form Standard base parts.form parts valid.form valid.scheme).start 0 DriveAfterHost (
-      kind,
+      class,
       has,
       drive,
       refl,

@@ -12,7 +12,7 @@ use Rattle.uv_model.specs.declared.scheme.Class.TheVariants.{Special, File, Othe
 use Rattle.uv_model.specs.declared.path.UrlPath.{UrlPath}
 use Rattle.uv_model.specs.declared.path.UrlPath.TheVariants.{Opaque, Segments}
 use Rattle.uv_model.specs.Ascii.{number_sign}
-use Rattle.uv_parser.specs.Machine.{empty_held, is_file, with_opaque_base}
+use Rattle.uv_parser.specs.Machine.{empty_variables, is_file, with_opaque_base}
 use Rattle.uv_model.specs.Parts.{Form, Parts, SchemeAuthority, SchemePath, SchemeOpaque, Authority, PathAbsolute, PathRelative, NoPath, has_scheme}
 use Rattle.uv_parser.specs.SilentTexts.{Silent}
 use Rattle.uv_parser.specs.Laws.DecidedTexts.{IsDecided}
@@ -23,7 +23,7 @@ use Rattle.uv_model.specs.Valid.{FitsScheme}
 use Rattle.uv_model.specs.Records.WellFormed.{IsUrlPath, IsUrlPort, MayBeWellFormed, WellFormed, takes_port}
 use Rattle.uv_parser.proofs.Done.Decided.{is_decided, takes_form}
 use Rattle.uv_parser.proofs.Done.DecidedAlone.{texts_alone_are_decided}
-use Rattle.uv_parser.proofs.Decided.AuthorityTexts.{kind_cases}
+use Rattle.uv_parser.proofs.Decided.AuthorityTexts.{class_cases}
 use Rattle.uv_parser.proofs.Done.DecidedTexts.{scheme_done}
 use Rattle.uv_parser.proofs.Done.DoneBases.{other_reference_done, special_reference_done}
 use Rattle.uv_parser.proofs.Done.DoneReferences.{absolute_done, no_path_done, path_text, reference_query, reference_runs, relative_done}
@@ -52,7 +52,7 @@ port_absent : (scheme : List ℕ) (host : Option Host) (port : Option ℕ) → I
 port_absent scheme host None is none = refl
 port_absent scheme host (Some port) is none = absurd (true≢false (sym is.0 ∙ none))
 
-takes_none : (kind : Class) → takes_port kind None ≡ false
+takes_none : (class : Class) → takes_port class None ≡ false
 takes_none Special = refl
 takes_none File = refl
 takes_none Other = refl
@@ -86,19 +86,19 @@ opaque_base_done url text parts well opaque is none form no_query fragment given
     = path_text url text parts is none fits.0.host_text
     ∙ (ap (λ xs. xs ++ tail parts.query parts.fragment) fits.1
     ∙ (ap (λ q. tail q parts.fragment) no_query ∙ ap (λ f. tail None f) given)) in
-    let h = with_opaque_base url empty_held in
+    let v = with_opaque_base url empty_variables in
     let units = rw given at is.fragment in
-    reference_runs url text (number_sign ∷ fragment) parts NoPath h (suc (length fragment + 1)) whole is form none
+    reference_runs url text (number_sign ∷ fragment) parts NoPath v (suc (length fragment + 1)) whole is form none
     (record {
       scheme = refl;
       host = sym facts.0;
       port = sym facts.1;
       path = refl;
-      query = reference_query url (scheme_class url.scheme) NoPath parts.query h
+      query = reference_query url (scheme_class url.scheme) NoPath parts.query v
           (special_of_class (scheme_class url.scheme) url.scheme refl) refl;
     })
     (omega arith)
-    (rw (no_query, given) (ends_step (Some url) (λ p. rw opaque refl) (fragment_ends (Some url) fragment h units)))
+    (rw (no_query, given) (ends_step (Some url) (λ p. rw opaque refl) (fragment_ends (Some url) fragment v units)))
 
 -- ---- every text
 
@@ -116,7 +116,7 @@ file_cases : (url : Url) → WellFormed Wide url
     × ((is_file url.scheme ≡ true) × (url.scheme ≡ codes "file") × (url.port ≡ None)))
     ⊎ (is_file url.scheme ≡ false)
 file_cases url is =
-    elim (kind_cases (scheme_class url.scheme)) [
+    elim (class_cases (scheme_class url.scheme)) [
       | inl special ↦ inr (rw special refl)
       | inr (inl file) ↦ inl (file, file_facts url is file)
       | inr (inr other) ↦ inr (rw other refl)
@@ -138,7 +138,7 @@ absent_done url text parts SchemeOpaque well segments is e none = absurd (scheme
     (f : Form). FitsScheme (has_scheme f) parts.scheme) e is.scheme))
 absent_done url text parts Authority well segments is e none =
     let lower = lower_same url.scheme well.scheme.lower in
-    elim (kind_cases (scheme_class url.scheme)) [
+    elim (class_cases (scheme_class url.scheme)) [
       | inl special ↦ special_reference_done url text parts is segments none lower e special
       | inr (inl file) ↦
           let f = file_facts url well file in

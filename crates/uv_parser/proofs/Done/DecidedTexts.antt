@@ -15,7 +15,7 @@ use Rattle.uv_model.proofs.Cuts.SchemesIgnoreBases.{cut_with_scheme}
 use Rattle.uv_model.proofs.Cuts.CutLemmas.{computed_is_cut}
 use Rattle.uv_parser.proofs.Done.Decided.{is_decided, no_scheme, same_cut}
 use Rattle.uv_parser.proofs.Decided.DecidedSchemes.{scheme_silent_or_stops}
-use Rattle.uv_parser.proofs.Decided.AuthorityTexts.{kind_cases}
+use Rattle.uv_parser.proofs.Decided.AuthorityTexts.{class_cases}
 use Rattle.uv_parser.proofs.Done.DoneAuthority.{file_done, other_done, special_done}
 use Rattle.uv_parser.proofs.Silence.SilentOpaque.{opaque_done}
 use Rattle.uv_parser.proofs.Silence.SilentPath.{path_done}
@@ -24,7 +24,7 @@ use Rattle.uv_parser.proofs.Silence.SilentPath.{path_done}
 pub scheme_done : (base : Option Url) (text scheme : List ℕ) (parts : Parts) (form : Form) → Silent base text parts
     → parts.form ≡ form → parts.scheme ≡ Some scheme → RunsSilently base text parts
 scheme_done base text scheme parts SchemeAuthority is e named =
-    elim (kind_cases (scheme_class (scheme_in base parts))) [
+    elim (class_cases (scheme_class (scheme_in base parts))) [
       | inl special ↦ special_done base text parts is e special
       | inr (inl file) ↦ file_done base text parts is e file
       | inr (inr other) ↦ other_done base text parts is e other

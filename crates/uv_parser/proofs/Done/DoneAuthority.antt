@@ -70,12 +70,12 @@ reads_from special within (c ∷ cs) port ends letters =
     rw (parts.0, mark) (reads_from special (is_within within c) cs port (rest_ends within c cs port ends) parts.1)
 
 -- What a form with an authority says, with the scheme and the host text named.
-pub record IsNamed (base : Option Url) (parts : Parts) (kind : Class) (scheme host_text : List ℕ) : Type 0 where
+pub record IsNamed (base : Option Url) (parts : Parts) (class : Class) (scheme host_text : List ℕ) : Type 0 where
   pub given : parts.host_text ≡ Some host_text
-  pub of_kind : scheme_class scheme ≡ kind
-  pub takes : Takes kind scheme host_text parts
+  pub of_class : scheme_class scheme ≡ class
+  pub takes : Takes class scheme host_text parts
   pub path : MayBePathSlashed parts.segments parts.path_text
-  pub host_cut : IsHostCut kind host_text parts.port_text
+  pub host_cut : IsHostCut class host_text parts.port_text
   pub no_slash : is_without slash host_text ≡ true
   pub no_question_mark : is_without question_mark host_text ≡ true
   pub no_number_sign : is_without number_sign host_text ≡ true
@@ -88,12 +88,13 @@ taken_there : (base : Option Url) (parts : Parts) (host_text : Option (List ℕ)
 taken_there base parts (Some text) given takes = (text, given, takes)
 taken_there base parts None given takes = absurd takes
 
-pub is_named_by : (base : Option Url) (text : List ℕ) (parts : Parts) (kind : Class) (scheme : List ℕ)
-    → Silent base text parts → TakesAuthority base parts → scheme_class (scheme_in base parts) ≡ kind
-    → scheme_in base parts ≡ scheme → (host_text : List ℕ) × IsNamed base parts kind scheme host_text
-is_named_by base text parts kind scheme is fits of_kind same =
+-- a silent text with an authority has a host text, with all of that
+pub is_named_by : (base : Option Url) (text : List ℕ) (parts : Parts) (class : Class) (scheme : List ℕ)
+    → Silent base text parts → TakesAuthority base parts → scheme_class (scheme_in base parts) ≡ class
+    → scheme_in base parts ≡ scheme → (host_text : List ℕ) × IsNamed base parts class scheme host_text
+is_named_by base text parts class scheme is fits of_class same =
     let (host_text, given, takes) = taken_there base parts parts.host_text refl fits.0 in
-    let kind_of : scheme_class scheme ≡ kind = sym (ap scheme_class same) ∙ of_kind in
+    let is_class : scheme_class scheme ≡ class = sym (ap scheme_class same) ∙ of_class in
     let takes : Takes (scheme_class scheme) scheme host_text parts
     = subst (λ (s : List ℕ). Takes (scheme_class s) s host_text parts) same takes in
     let have = marks base text parts.scheme parts.host_text parts.port_text parts.path_text parts.query parts.fragment
@@ -110,25 +111,25 @@ is_named_by base text parts kind scheme is fits of_kind same =
       host_text,
       record {
         given = given;
-        of_kind = kind_of;
-        takes = subst (λ (k : Class). Takes k scheme host_text parts) kind_of takes;
+        of_class = is_class;
+        takes = subst (λ (k : Class). Takes k scheme host_text parts) is_class takes;
         path = fits.1;
-        host_cut = subst (λ (k : Class). IsHostCut k host_text parts.port_text) of_kind cut.2;
+        host_cut = subst (λ (k : Class). IsHostCut k host_text parts.port_text) of_class cut.2;
         no_slash = (is_without-parts slash host_text (written_behind colon parts.port_text) cut.0).0;
         no_question_mark = (is_without-parts question_mark host_text (written_behind colon parts.port_text) question).0;
         no_number_sign = (is_without-parts number_sign host_text (written_behind colon parts.port_text) number).0;
       },
     )
 
-is_named : (base : Option Url) (text : List ℕ) (parts : Parts) (kind : Class) → Silent base text parts
-    → parts.form ≡ SchemeAuthority → scheme_class (scheme_in base parts) ≡ kind
+is_named : (base : Option Url) (text : List ℕ) (parts : Parts) (class : Class) → Silent base text parts
+    → parts.form ≡ SchemeAuthority → scheme_class (scheme_in base parts) ≡ class
     → (scheme : List ℕ) × (host_text : List ℕ) × (is_scheme scheme ≡ true) × (parts.scheme ≡ Some scheme)
-    × IsNamed base parts kind scheme host_text
-is_named base text parts kind is form of_kind =
+    × IsNamed base parts class scheme host_text
+is_named base text parts class is form of_class =
     let (scheme, named, spelled) = scheme_there parts.scheme
     (subst (λ (f : Form). FitsScheme (has_scheme f) parts.scheme) form is.scheme) in
-    let (host_text, all) = is_named_by base text parts kind scheme is
-    (takes_form base text parts SchemeAuthority is form) of_kind (ap (scheme_or base) named) in
+    let (host_text, all) = is_named_by base text parts class scheme is
+    (takes_form base text parts SchemeAuthority is form) of_class (ap (scheme_or base) named) in
     (scheme, host_text, spelled, named, all)
 
 -- ---- class Special
@@ -143,7 +144,7 @@ taken_parsed : (parts : Parts) (scheme host_text : List ℕ) (port : Option (Lis
     → IsNamed base parts Special scheme host_text → EndsAtPort host_text port → MayBePortText port
     → (takes : TakesSpecial scheme host_text parts) → IsParsed scheme host_text port takes.value
 taken_parsed parts scheme host_text port base is ends fits takes =
-    let special = is_special_scheme scheme is.of_kind in
+    let special = is_special_scheme scheme is.of_class in
     let letters = letters_from (is_special (lowercase scheme)) host_text is.no_slash is.no_question_mark
     is.no_number_sign takes.host.no_at_sign (λ same. takes.host.no_backslash) in
     let some = parsed_some host_text takes.value takes.host.parsed in
@@ -186,9 +187,9 @@ special_done base text parts silent form special =
     let all = special_has base parts scheme host_text is in
     authority_runs base parts scheme host_text is.takes.value text (silent.cut.whole ∙ sym (written_as_cut parts))
     silent.query silent.fragment silent.kept form spelled named is.given all
-    (special_starts base parts scheme host_text is.takes.value is.of_kind
+    (special_starts base parts scheme host_text is.takes.value is.of_class
     (special_letters base parts scheme host_text is)
-    (special_some scheme host_text is.takes.value (is_special_scheme scheme is.of_kind) all.parsed.parsed))
+    (special_some scheme host_text is.takes.value (is_special_scheme scheme is.of_class) all.parsed.parsed))
 
 -- ---- class Other
 
@@ -233,7 +234,7 @@ pub other_has : (base : Option Url) (parts : Parts) (scheme host_text : List ℕ
 other_has base parts scheme host_text is =
     let takes : TakesOther scheme host_text parts = is.takes in
     let (value, no_at_sign, host_parsed, valued) = (silent_other_hosts_are_valid host_text parts.host).1 takes.host in
-    let plain = not_special scheme is.of_kind in
+    let plain = not_special scheme is.of_class in
     let letters = letters_from (is_special (lowercase scheme)) host_text is.no_slash is.no_question_mark
     is.no_number_sign no_at_sign (λ same. absurd (true≢false (sym same ∙ plain))) in
     let ends : EndsAtPort host_text parts.port_text = is.host_cut in
@@ -266,10 +267,27 @@ other_done base text parts silent form other =
     let (value, has) = other_has base parts scheme host_text is in
     authority_runs base parts scheme host_text value text (silent.cut.whole ∙ sym (written_as_cut parts))
     silent.query silent.fragment silent.kept form spelled named is.given has
-    (other_starts base parts scheme host_text value is.of_kind)
+    (other_starts base parts scheme host_text value is.of_class)
 
 -- ---- class File
 
+-- a host text that is taken is one that the file host state reads
+taken_is_read : (base : Option Url) (parts : Parts) (scheme host_text : List ℕ) (value : Host)
+    → IsNamed base parts File scheme host_text → IsTakenFileHost host_text value → IsFileRead host_text value
+taken_is_read base parts scheme host_text value is host = record {
+  parsed_value = host.host;
+  letters = record {
+    no_slash = is.no_slash;
+    no_question_mark = is.no_question_mark;
+    no_number_sign = is.no_number_sign;
+    no_backslash = host.no_backslash;
+  };
+  parsed = host.parsed;
+  made = sym host.valued;
+  drive = host.no_drive;
+}
+
+-- a silent text of class File with an authority has a host of a file URL
 pub taken_file : (base : Option Url) (text : List ℕ) (parts : Parts) (scheme host_text : List ℕ)
     → Silent base text parts
     → IsNamed base parts File scheme host_text → TakesFile host_text parts
@@ -279,30 +297,17 @@ taken_file base text parts scheme host_text silent is takes =
   where
     by_host : ((value : Host) × IsTakenFileHost host_text value × (parts.host ≡ Some value))
         ⊎ ((host_text ≡ []) × (parts.host ≡ Some host.Empty)) → (value : Host) × HasFileHost base parts host_text value
-    by_host (inl (value, host, valued)) =
-        let read : IsFileRead host_text value
-        = record {
-          parsed_value = host.host;
-          letters = record {
-            no_slash = is.no_slash;
-            no_question_mark = is.no_question_mark;
-            no_number_sign = is.no_number_sign;
-            no_backslash = host.no_backslash;
-          };
-          parsed = host.parsed;
-          made = sym host.valued;
-          drive = host.no_drive;
-        } in (
-          value,
-          record {
-            no_port_text = takes.no_port_text;
-            no_port = takes.no_port;
-            valued = valued;
-            path = is.path;
-            ends = file_host_ends base parts.segments parts.path_text parts.query parts.fragment is.path silent.query
-                silent.fragment host_text value read;
-          },
-        )
+    by_host (inl (value, host, valued)) = (
+      value,
+      record {
+        no_port_text = takes.no_port_text;
+        no_port = takes.no_port;
+        valued = valued;
+        path = is.path;
+        ends = file_host_ends base parts.segments parts.path_text parts.query parts.fragment is.path silent.query
+            silent.fragment host_text value (taken_is_read base parts scheme host_text value is host);
+      },
+    )
     by_host (inr (empty, valued)) = (
       host.Empty,
       record {
@@ -323,4 +328,4 @@ file_done base text parts silent form file =
     let (scheme, host_text, spelled, named, is) = is_named base text parts File silent form file in
     let (value, there) = taken_file base text parts scheme host_text silent is is.takes in
     file_runs base text parts scheme host_text value (silent.cut.whole ∙ sym (written_as_cut parts)) silent.query
-    silent.fragment silent.kept form spelled named is.given is.of_kind there
+    silent.fragment silent.kept form spelled named is.given is.of_class there

@@ -7,7 +7,7 @@ use Rattle.uv_model.specs.declared.scheme.Class.TheVariants.{Special, Other}
 use Rattle.uv_model.specs.declared.path.UrlPath.TheVariants.{Segments}
 use Rattle.uv_model.specs.Ascii.{slash, backslash, colon}
 use Rattle.uv_model.specs.Records.Denote.{authority_path}
-use Rattle.uv_parser.specs.Machine.{State, begins, AuthorityState, NoSchemeState, empty_held, with_scheme}
+use Rattle.uv_parser.specs.Machine.{State, begins, AuthorityState, NoSchemeState, empty_variables, with_scheme}
 use Rattle.uv_model.specs.Parts.{Parts, Authority, written_behind, written_authority}
 use Rattle.uv_parser.specs.SilentTexts.{Silent}
 use Rattle.uv_model.specs.Scheme.{default_port, lowercase, scheme_class}
@@ -23,7 +23,7 @@ use Rattle.uv_parser.proofs.Done.DoneAuthority.{is_named_by, other_has, special_
 use Rattle.uv_parser.proofs.Done.DoneReferences.{reference_query, reference_runs}
 use Rattle.uv_parser.proofs.Loops.PathLoops.{walking}
 use Rattle.uv_model.proofs.SchemeLemmas.{scheme_class-lowercase}
-use Rattle.uv_parser.proofs.Loops.SchemeStretch.{scheme_held}
+use Rattle.uv_parser.proofs.Loops.SchemeStretch.{scheme_variables}
 use Rattle.uv_parser.proofs.Silence.SilentAuthority.{HasParsed, is_special_scheme, no_slash_before, special_some}
 use Rattle.uv_parser.proofs.Silence.SilentSchemes.{special_of_class}
 use Rattle.uv_parser.proofs.Running.Steps.{Ends, ends_again, ends_within}
@@ -39,8 +39,8 @@ module _ (url : Url) (text : List ℕ) (parts : Parts) (is : Silent (Some url) t
   -- the same steps lead to the authority for each text behind `//`
   Starts : List ℕ → Type 0
   Starts authority =
-      (k : ℕ) (u : Url) → Ends (Some url) AuthorityState (scheme_held url.scheme) (authority ++ rest) k u
-      → Ends (Some url) NoSchemeState empty_held (slash ∷ slash ∷ (authority ++ rest)) (k + 4) u
+      (k : ℕ) (u : Url) → Ends (Some url) AuthorityState (scheme_variables url.scheme) (authority ++ rest) k u
+      → Ends (Some url) NoSchemeState empty_variables (slash ∷ slash ∷ (authority ++ rest)) (k + 4) u
 
   -- the whole run
   authority_reference : (host_text : List ℕ) (value : Host) → parts.form ≡ Authority
@@ -59,9 +59,9 @@ module _ (url : Url) (text : List ℕ) (parts : Parts) (is : Silent (Some url) t
       let whole : text ≡ slash ∷ slash ∷ (authority ++ rest)
       = spelled
       ∙ ap (λ xs. slash ∷ slash ∷ xs) (append_assoc authority parts.path_text (tail parts.query parts.fragment)) in
-      let h = walking (authority_path (scheme_class (lowercase url.scheme)) parts.segments)
+      let v = walking (authority_path (scheme_class (lowercase url.scheme)) parts.segments)
       (hosted url.scheme value (port_given (default_port url.scheme) parts.port_text)) in
-      reference_runs url text (slash ∷ slash ∷ (authority ++ rest)) parts Authority h
+      reference_runs url text (slash ∷ slash ∷ (authority ++ rest)) parts Authority v
       ((length authority + 1
       + (length authority + (length parts.path_text + (length (tail parts.query parts.fragment) + 3)))) + 4)
       whole is form none
@@ -70,7 +70,7 @@ module _ (url : Url) (text : List ℕ) (parts : Parts) (is : Silent (Some url) t
         host = has.valued;
         port = sym has.port;
         path = ap (λ k. Segments (authority_path k parts.segments)) (scheme_class-lowercase url.scheme);
-        query = reference_query url (scheme_class url.scheme) Authority parts.query h
+        query = reference_query url (scheme_class url.scheme) Authority parts.query v
             (special_of_class (scheme_class url.scheme) (lowercase url.scheme) (scheme_class-lowercase url.scheme))
             refl;
       })
@@ -83,35 +83,36 @@ module _ (url : Url) (text : List ℕ) (parts : Parts) (is : Silent (Some url) t
       (authority_ends (Some url) url.scheme value parts.segments parts.path_text parts.query parts.fragment behind
       host_text parts.port_text has.parsed))
 
-  -- what is held with the base's scheme
-  same_held : (s : State) (xs : List ℕ) (k : ℕ) (u : Url) → Ends (Some url) s (scheme_held url.scheme) xs k u
-      → Ends (Some url) s (with_scheme url.scheme empty_held) xs k u
-  same_held s xs k u ends = subst (λ (n : List ℕ). Ends (Some url) s (with_scheme n empty_held) xs k u) lower ends
+  -- the variables with the base's scheme
+  same_variables : (s : State) (xs : List ℕ) (k : ℕ) (u : Url) → Ends (Some url) s (scheme_variables url.scheme) xs k u
+      → Ends (Some url) s (with_scheme url.scheme empty_variables) xs k u
+  same_variables s xs k u ends =
+      subst (λ (n : List ℕ). Ends (Some url) s (with_scheme n empty_variables) xs k u) lower ends
 
   -- against a base of class Other
   pub other_reference_done : parts.form ≡ Authority → scheme_class url.scheme ≡ Other
       → RunsSilently (Some url) text parts
   unfolding Starts
   other_reference_done form other =
-      let kind_in : scheme_class (scheme_in (Some url) parts) ≡ Other
+      let of_class : scheme_class (scheme_in (Some url) parts) ≡ Other
       = ap (λ o. scheme_class (scheme_or (Some url) o)) none ∙ other in
       let (host_text, named) = is_named_by (Some url) text parts Other url.scheme is
-      (takes_form (Some url) text parts Authority is form) kind_in (ap (scheme_or (Some url)) none) in
+      (takes_form (Some url) text parts Authority is form) of_class (ap (scheme_or (Some url)) none) in
       let (value, has) = other_has (Some url) parts url.scheme host_text named in
       authority_reference host_text value form named.given has
       (λ k u ends.
       ends_within (Some url) (omega arith)
-      (base_starts url _ Other k not_opaque other (same_held AuthorityState _ k u ends)))
+      (base_starts url _ Other k not_opaque other (same_variables AuthorityState _ k u ends)))
 
   -- against a base of class Special
   pub special_reference_done : parts.form ≡ Authority → scheme_class url.scheme ≡ Special
       → RunsSilently (Some url) text parts
   unfolding rest Starts
   special_reference_done form special =
-      let kind_in : scheme_class (scheme_in (Some url) parts) ≡ Special
+      let of_class : scheme_class (scheme_in (Some url) parts) ≡ Special
       = ap (λ o. scheme_class (scheme_or (Some url) o)) none ∙ special in
       let (host_text, named) = is_named_by (Some url) text parts Special url.scheme is
-      (takes_form (Some url) text parts Authority is form) kind_in (ap (scheme_or (Some url)) none) in
+      (takes_form (Some url) text parts Authority is form) of_class (ap (scheme_or (Some url)) none) in
       let has = special_has (Some url) parts url.scheme host_text named in
       let rest = (host_text ++ written_behind colon parts.port_text)
       ++ (parts.path_text ++ tail parts.query parts.fragment) in
@@ -125,4 +126,4 @@ module _ (url : Url) (text : List ℕ) (parts : Parts) (is : Silent (Some url) t
       ends_within (Some url) (omega arith)
       (base_starts url rest Special (k + 1) not_opaque special
       (ends_within (Some url) (omega arith)
-      (ends_again (Some url) (λ p. rw none refl) (same_held AuthorityState rest k u ends)))))
+      (ends_again (Some url) (λ p. rw none refl) (same_variables AuthorityState rest k u ends)))))

@@ -9,7 +9,7 @@ use Rattle.uv_model.specs.declared.scheme.Class.TheVariants.{File}
 use Rattle.uv_model.specs.declared.path.UrlPath.TheVariants.{Segments}
 use Rattle.uv_model.specs.Ascii.{slash, colon, vertical_bar, question_mark, number_sign}
 use Rattle.uv_model.specs.Records.Denote.{authority_path, quotes, listed_segments}
-use Rattle.uv_parser.specs.Machine.{starts_with_drive_letter, turn, again, FileState, NoSchemeState, PathState, empty_held, is_file, is_special, list_in, shortened, with_file_base, with_query}
+use Rattle.uv_parser.specs.Machine.{starts_with_drive_letter, turn, again, FileState, NoSchemeState, PathState, empty_variables, is_file, is_special, list_in, shortened, with_file_base, with_query}
 use Rattle.uv_model.specs.Parts.{Parts, Authority, NoPath, PathRelative, written_authority, written_behind}
 use Rattle.uv_parser.specs.SilentTexts.{Silent}
 use Rattle.uv_model.specs.Path.{is_without, shorten, starts_with_slash, walk}
@@ -23,7 +23,7 @@ use Rattle.uv_parser.proofs.Decided.CutTexts.{cut_text, marks}
 use Rattle.uv_parser.proofs.Done.Decided.{takes_form}
 use Rattle.uv_parser.proofs.Done.DoneAuthority.{is_named_by, taken_file}
 use Rattle.uv_parser.proofs.Done.DoneReferences.{path_text, reference_query, reference_runs, same_list, walk_ends}
-use Rattle.uv_parser.proofs.Loops.AuthorityStarts.{base_starts, file_held}
+use Rattle.uv_parser.proofs.Loops.AuthorityStarts.{base_starts, file_variables}
 use Rattle.uv_parser.proofs.Loops.FileHosts.{file_class}
 use Rattle.uv_model.proofs.Paths.JoinedSegments.{faultless_path}
 use Rattle.uv_model.proofs.Texts.MarkLemmas.{is_without-cons}
@@ -61,13 +61,14 @@ no_drive_letter (c ∷ m ∷ rest) query fragment some units free =
 
 module _ (url : Url) (text : List ℕ) (parts : Parts) (is : Silent (Some url) text parts)
     (not_opaque : is_opaque url.path ≡ false) (file : is_file url.scheme ≡ true)
-    (kind : scheme_class url.scheme ≡ File) (none : parts.scheme ≡ None)
+    (class : scheme_class url.scheme ≡ File) (none : parts.scheme ≡ None)
     (name : url.scheme ≡ codes "file") (no_port : url.port ≡ None) where
-  begin_row : (rest : List ℕ) (p : ℕ) → turn (Some url) NoSchemeState p empty_held rest ≡ again FileState empty_held
+  begin_row : (rest : List ℕ) (p : ℕ)
+      → turn (Some url) NoSchemeState p empty_variables rest ≡ again FileState empty_variables
   begin_row rest p = rw (not_opaque, file) refl
 
   file_special : is_special (codes "file") ≡ quotes (scheme_class url.scheme)
-  file_special = special_of_class (scheme_class url.scheme) (codes "file") (file_class ∙ sym kind)
+  file_special = special_of_class (scheme_class url.scheme) (codes "file") (file_class ∙ sym class)
 
   -- no path
   pub file_no_path_done : parts.form ≡ NoPath → RunsSilently (Some url) text parts
@@ -76,21 +77,33 @@ module _ (url : Url) (text : List ℕ) (parts : Parts) (is : Silent (Some url) t
       let whole : text ≡ tail parts.query parts.fragment
       = path_text url text parts is none fits.0.host_text
       ∙ ap (λ xs. xs ++ tail parts.query parts.fragment) fits.1 in
-      let h = with_file_base url (file_held host.Empty) in
-      reference_runs url text (tail parts.query parts.fragment) parts NoPath h
+      let v = with_file_base url (file_variables host.Empty) in
+      reference_runs url text (tail parts.query parts.fragment) parts NoPath v
       (suc (length (tail parts.query parts.fragment) + 1)) whole is form none
       (record {
         scheme = sym name;
         host = refl;
         port = sym no_port;
         path = refl;
-        query = reference_query url (scheme_class url.scheme) NoPath parts.query h file_special refl;
+        query = reference_query url (scheme_class url.scheme) NoPath parts.query v file_special refl;
       })
       (omega arith)
       (ends_again (Some url) (λ p. begin_row (tail parts.query parts.fragment) p)
-      (tail_ends (Some url) FileState empty_held h parts.query parts.fragment
+      (tail_ends (Some url) FileState empty_variables v parts.query parts.fragment
       (record { at_end = λ p. rw file refl; at_query = λ p rest. rw file refl; at_fragment = λ p rest. rw file refl })
       is.query is.fragment))
+
+  -- the row of a path that begins with neither `/` nor a drive letter
+  relative_row : (path : List ℕ) (p : ℕ) → path ≢ []
+      → starts_with_slash path ≡ false → is_without question_mark path ≡ true → is_without number_sign path ≡ true
+      → starts_with_drive_letter (path ++ tail parts.query parts.fragment) ≡ false
+      → turn (Some url) FileState p empty_variables (path ++ tail parts.query parts.fragment)
+      ≡ again PathState (shortened (with_query None (with_file_base url (file_variables host.Empty))))
+  relative_row [] p some start question number drive = absurd (some refl)
+  relative_row (c ∷ path) p some start question number drive =
+      let b = is_without-cons question_mark c path question in
+      let d = is_without-cons number_sign c path number in
+      simp (file, start, b.0, d.0, drive) refl
 
   -- a path that doesn't begin with `/`
   pub file_relative_done : parts.form ≡ PathRelative → RunsSilently (Some url) text parts
@@ -99,42 +112,31 @@ module _ (url : Url) (text : List ℕ) (parts : Parts) (is : Silent (Some url) t
       let have = marks (Some url) text parts.scheme parts.host_text parts.port_text parts.path_text parts.query
       parts.fragment is.cut in
       let whole = path_text url text parts is none fits.0.host_text in
-      let h = with_query None (with_file_base url (file_held host.Empty)) in
+      let v = with_query None (with_file_base url (file_variables host.Empty)) in
       let start = shorten (scheme_class (codes "file")) (list_in url.path) in
       let walked = walk (scheme_class (codes "file")) start parts.segments in
       let list : start ≡ shorten (scheme_class url.scheme) (listed_segments url.path)
-      = ap (λ k. shorten k (list_in url.path)) (file_class ∙ sym kind)
+      = ap (λ k. shorten k (list_in url.path)) (file_class ∙ sym class)
       ∙ ap (shorten (scheme_class url.scheme)) (same_list url.path) in
       let drive = no_drive_letter parts.path_text parts.query parts.fragment fits.2
       (faultless_path parts.segments parts.path_text fits.1) fits.3 in
-      reference_runs url text (parts.path_text ++ tail parts.query parts.fragment) parts PathRelative (walking walked h)
+      reference_runs url text (parts.path_text ++ tail parts.query parts.fragment) parts PathRelative (walking walked v)
       (suc (suc (length parts.path_text + (length (tail parts.query parts.fragment) + 1)))) whole is form none
       (record {
         scheme = sym name;
         host = refl;
         port = sym no_port;
-        path = ap (λ k. Segments (walk k start parts.segments)) (file_class ∙ sym kind)
+        path = ap (λ k. Segments (walk k start parts.segments)) (file_class ∙ sym class)
             ∙ ap (λ l. Segments (walk (scheme_class url.scheme) l parts.segments)) list;
-        query = reference_query url (scheme_class url.scheme) PathRelative parts.query (walking walked h) file_special
+        query = reference_query url (scheme_class url.scheme) PathRelative parts.query (walking walked v) file_special
             refl;
       })
       (omega (arith, length-append parts.path_text (tail parts.query parts.fragment)))
       (ends_again (Some url) (λ p. begin_row (parts.path_text ++ tail parts.query parts.fragment) p)
       (ends_again (Some url)
-      (λ p. first_row parts.path_text p fits.2 fits.1.start have.path_question_mark have.path_number_sign drive)
-      (walk_ends (Some url) parts.query parts.fragment is.query is.fragment start parts.segments parts.path_text h
+      (λ p. relative_row parts.path_text p fits.2 fits.1.start have.path_question_mark have.path_number_sign drive)
+      (walk_ends (Some url) parts.query parts.fragment is.query is.fragment start parts.segments parts.path_text v
       fits.1.joins)))
-    where
-      first_row : (path : List ℕ) (p : ℕ) → path ≢ []
-          → starts_with_slash path ≡ false → is_without question_mark path ≡ true → is_without number_sign path ≡ true
-          → starts_with_drive_letter (path ++ tail parts.query parts.fragment) ≡ false
-          → turn (Some url) FileState p empty_held (path ++ tail parts.query parts.fragment)
-          ≡ again PathState (shortened (with_query None (with_file_base url (file_held host.Empty))))
-      first_row [] p some start question number drive = absurd (some refl)
-      first_row (c ∷ path) p some start question number drive =
-          let b = is_without-cons question_mark c path question in
-          let d = is_without-cons number_sign c path number in
-          simp (file, start, b.0, d.0, drive) refl
 
   -- an authority with its host text named
   file_authority_runs : (host_text : List ℕ) (value : Host) → parts.form ≡ Authority
@@ -154,8 +156,8 @@ module _ (url : Url) (text : List ℕ) (parts : Parts) (is : Silent (Some url) t
       (append_assoc (host_text ++ written_behind colon parts.port_text) parts.path_text
       (tail parts.query parts.fragment)
       ∙ ap (λ xs. xs ++ rest) alone) in
-      let h = walking (authority_path (scheme_class (codes "file")) parts.segments) (file_held value) in
-      reference_runs url text (slash ∷ slash ∷ (host_text ++ rest)) parts Authority h
+      let v = walking (authority_path (scheme_class (codes "file")) parts.segments) (file_variables value) in
+      reference_runs url text (slash ∷ slash ∷ (host_text ++ rest)) parts Authority v
       (suc (suc (suc (length host_text + suc (length parts.path_text + (length (tail parts.query parts.fragment) +
       2))))))
       whole is form none
@@ -163,18 +165,18 @@ module _ (url : Url) (text : List ℕ) (parts : Parts) (is : Silent (Some url) t
         scheme = sym name;
         host = valued_some parts value has.valued;
         port = sym has.no_port;
-        path = ap (λ k. Segments (authority_path k parts.segments)) (file_class ∙ sym kind);
-        query = reference_query url (scheme_class url.scheme) Authority parts.query h file_special refl;
+        path = ap (λ k. Segments (authority_path k parts.segments)) (file_class ∙ sym class);
+        query = reference_query url (scheme_class url.scheme) Authority parts.query v file_special refl;
       })
       (omega (arith, length-append host_text rest, length-append parts.path_text (tail parts.query parts.fragment)))
-      (ends_within (Some url) (omega arith) (base_starts url (host_text ++ rest) File _ not_opaque kind has.ends))
+      (ends_within (Some url) (omega arith) (base_starts url (host_text ++ rest) File _ not_opaque class has.ends))
 
   -- an authority
   pub file_authority_done : parts.form ≡ Authority → RunsSilently (Some url) text parts
   file_authority_done form =
-      let kind_in : scheme_class (scheme_in (Some url) parts) ≡ File
-      = ap (λ o. scheme_class (scheme_or (Some url) o)) none ∙ kind in
+      let of_class : scheme_class (scheme_in (Some url) parts) ≡ File
+      = ap (λ o. scheme_class (scheme_or (Some url) o)) none ∙ class in
       let (host_text, named) = is_named_by (Some url) text parts File url.scheme is
-      (takes_form (Some url) text parts Authority is form) kind_in (ap (scheme_or (Some url)) none) in
+      (takes_form (Some url) text parts Authority is form) of_class (ap (scheme_or (Some url)) none) in
       let (value, has) = taken_file (Some url) text parts url.scheme host_text is named named.takes in
       file_authority_runs host_text value form named.given has

@@ -9,7 +9,7 @@ use Rattle.uv_model.specs.declared.scheme.Class.TheVariants.{File}
 use Rattle.uv_model.specs.declared.path.UrlPath.TheVariants.{Segments}
 use Rattle.uv_model.specs.Ascii.{slash, backslash, question_mark, number_sign}
 use Rattle.uv_model.specs.Records.Denote.{kept_drive, listed_segments}
-use Rattle.uv_parser.specs.Machine.{Held, another, starts_with_drive_letter, is_drive_end, sight, turn, again, FileSlashState, FileState, PathState, empty_held, is_file, list_in, with_host, with_kept_drive, with_scheme}
+use Rattle.uv_parser.specs.Machine.{Variables, another, starts_with_drive_letter, is_drive_end, at_pointer, turn, again, FileSlashState, FileState, PathState, empty_variables, is_file, list_in, with_host, with_kept_drive, with_scheme}
 use Rattle.uv_model.specs.Parts.{Parts, PathAbsolute}
 use Rattle.uv_parser.specs.SilentTexts.{Silent}
 use Rattle.uv_model.specs.Path.{IsSegment, is_drive_letter, is_normalized_drive_letter, walk}
@@ -22,7 +22,7 @@ use Rattle.uv_parser.proofs.Done.Decided.{takes_form}
 use Rattle.uv_parser.proofs.Done.DoneReferences.{path_text, reference_query, reference_runs, same_list, walk_ends}
 use Rattle.uv_parser.proofs.Loops.FileHosts.{and_true-right, file_class}
 use Rattle.uv_parser.proofs.Loops.PathLoops.{walking}
-use Rattle.uv_parser.proofs.Loops.AuthorityStarts.{file_held}
+use Rattle.uv_parser.proofs.Loops.AuthorityStarts.{file_variables}
 use Rattle.uv_parser.proofs.Silence.SilentSchemes.{special_of_class}
 use Rattle.uv_parser.proofs.Running.Steps.{ends_again, ends_step}
 use Rattle.uv_parser.proofs.Loops.Tails.{no_slash_before_tail, tail}
@@ -30,7 +30,7 @@ use Rattle.uv_model.proofs.Texts.UnitsAhead.{without_parts}
 use Rattle.uv_model.proofs.Texts.UnitsLemmas.{is_faultless-units}
 
 -- the three delimiters
-delimiters : (d : ℕ) (more : List ℕ) → IsDelimiter (sight (d ∷ more))
+delimiters : (d : ℕ) (more : List ℕ) → IsDelimiter (at_pointer (d ∷ more))
     → (d ≡ slash) ⊎ ((d ≡ question_mark) ⊎ (d ≡ number_sign))
 delimiters d more is =
     elim (cases_Bool (d == slash)) [
@@ -40,7 +40,7 @@ delimiters d more is =
         | inr not_b ↦ elim (cases_Bool (d == number_sign)) [
           | inl e ↦ inr (inr (eqb-true d number_sign e))
           | inr not_e ↦
-              let plain : sight (d ∷ more) ≡ another d = rw (not_a, not_b, not_e) refl in
+              let plain : at_pointer (d ∷ more) ≡ another d = rw (not_a, not_b, not_e) refl in
               absurd (subst IsDelimiter plain is)
         ]
       ]
@@ -60,7 +60,7 @@ no_drive_end x more rest unit a b =
     ]
 
 -- before a delimiter a segment is a drive letter exactly where the text begins with one
-drive_before : (first rest : List ℕ) → IsSegment first → IsDelimiter (sight rest)
+drive_before : (first rest : List ℕ) → IsSegment first → IsDelimiter (at_pointer rest)
     → starts_with_drive_letter (first ++ rest) ≡ is_drive_letter first
 drive_before [] [] is ends = refl
 drive_before [] (d ∷ []) is ends = refl
@@ -95,7 +95,7 @@ drive_before (c ∷ m ∷ x ∷ more) rest is ends =
     (without_parts question_mark m (x ∷ more) (without_parts question_mark c (m ∷ x ∷ more) is.no_question_mark).1).1 in
     and_right (is_drive_letter (c ∷ m ∷ [])) _ (no_drive_end x more (more ++ rest) unit a.0 b.0)
 
-delimits_tail : (query fragment : Option (List ℕ)) → IsDelimiter (sight (tail query fragment))
+delimits_tail : (query fragment : Option (List ℕ)) → IsDelimiter (at_pointer (tail query fragment))
 delimits_tail (Some text) fragment = tt
 delimits_tail None (Some text) = tt
 delimits_tail None None = tt
@@ -107,14 +107,15 @@ drive_joined first (next ∷ others) query fragment is =
     rw (append_assoc first (slash ∷ join_with_byte slash (next ∷ others)) (tail query fragment))
     (drive_before first (slash ∷ (join_with_byte slash (next ∷ others) ++ tail query fragment)) is tt)
 
--- what is held with the base's host
-abbrev host_held : Option Host → Held
-host_held value = with_host value (with_scheme (codes "file") empty_held)
+-- the variables with the base's host
+abbrev host_variables : Option Host → Variables
+host_variables value = with_host value (with_scheme (codes "file") empty_variables)
 
 -- the machine keeps the drive letter that is denoted
 kept_same : (list : List (List ℕ)) (first rest : List ℕ) (others : List (List ℕ)) (value : Option Host)
     → starts_with_drive_letter rest ≡ is_drive_letter first
-    → with_kept_drive list rest (host_held value) ≡ walking (kept_drive File list (first ∷ others)) (host_held value)
+    → with_kept_drive list rest (host_variables value)
+    ≡ walking (kept_drive File list (first ∷ others)) (host_variables value)
 kept_same [] first rest others value e = refl
 kept_same (drive ∷ more) first rest others value e =
     elim (cases_Bool (is_drive_letter first)) [
@@ -128,11 +129,29 @@ kept_same (drive ∷ more) first rest others value e =
       ]
     ]
 
+-- a path begins with a drive letter where its first segment is one
+drive_first : (path first : List ℕ) (segments others : List (List ℕ)) (query fragment : Option (List ℕ))
+    → path ≡ join_with_byte slash segments → segments ≡ first ∷ others → IsSegment first
+    → starts_with_drive_letter (path ++ tail query fragment) ≡ is_drive_letter first
+drive_first path first segments others query fragment joined some segment =
+    ap (λ xs. starts_with_drive_letter (xs ++ tail query fragment)) (joined ∙ ap (join_with_byte slash) some)
+    ∙ drive_joined first others query fragment segment
+
+-- the drive letter that the machine keeps of a file base is the one that is denoted
+kept_denoted : (url : Url) (first : List ℕ) (segments others : List (List ℕ)) → scheme_class url.scheme ≡ File
+    → segments ≡ first ∷ others
+    → kept_drive File (list_in url.path) (first ∷ others)
+    ≡ kept_drive (scheme_class url.scheme) (listed_segments url.path) segments
+kept_denoted url first segments others class some =
+    ap (λ l. kept_drive File l (first ∷ others)) (same_list url.path)
+    ∙ (ap (λ k. kept_drive k (listed_segments url.path) (first ∷ others)) (sym class)
+    ∙ ap (kept_drive (scheme_class url.scheme) (listed_segments url.path)) (sym some))
+
 -- a path-absolute reference to a file base
 pub file_absolute_done : (url : Url) (text : List ℕ) (parts : Parts) → Silent (Some url) text parts
     → is_opaque url.path ≡ false → is_file url.scheme ≡ true → scheme_class url.scheme ≡ File → parts.scheme ≡ None
     → url.scheme ≡ codes "file" → url.port ≡ None → parts.form ≡ PathAbsolute → RunsSilently (Some url) text parts
-file_absolute_done url text parts is not_opaque file kind none name no_port form =
+file_absolute_done url text parts is not_opaque file class none name no_port form =
     let fits = takes_form (Some url) text parts PathAbsolute is form in
     let path = fits.1 in
     let joins = path.relative.joins in
@@ -140,37 +159,31 @@ file_absolute_done url text parts is not_opaque file kind none name no_port form
     let whole : text ≡ slash ∷ rest
     = path_text url text parts is none fits.0.host_text
     ∙ ap (λ xs. xs ++ tail parts.query parts.fragment) path.slashed in
-    let spelled : path.behind ≡ join_with_byte slash (joins.first ∷ joins.others)
-    = joins.joined ∙ ap (join_with_byte slash) joins.some in
     let segment : IsSegment joins.first = (rw joins.some at joins.each).0 in
-    let same : starts_with_drive_letter rest ≡ is_drive_letter joins.first
-    = ap (λ xs. starts_with_drive_letter (xs ++ tail parts.query parts.fragment)) spelled
-    ∙ drive_joined joins.first joins.others parts.query parts.fragment segment in
+    let same = drive_first path.behind joins.first parts.segments joins.others parts.query parts.fragment joins.joined
+    joins.some segment in
     let no_slash = no_slash_before_tail path.behind parts.query parts.fragment path.relative.start in
-    let h = host_held url.host in
+    let v = host_variables url.host in
     let kept = kept_drive File (list_in url.path) (joins.first ∷ joins.others) in
     let walked = walk (scheme_class (codes "file")) kept parts.segments in
-    let denoted_kept : kept ≡ kept_drive (scheme_class url.scheme) (listed_segments url.path) parts.segments
-    = ap (λ l. kept_drive File l (joins.first ∷ joins.others)) (same_list url.path)
-    ∙ (ap (λ k. kept_drive k (listed_segments url.path) (joins.first ∷ joins.others)) (sym kind)
-    ∙ ap (kept_drive (scheme_class url.scheme) (listed_segments url.path)) (sym joins.some)) in
+    let denoted_kept = kept_denoted url joins.first parts.segments joins.others class joins.some in
     let begun : (p : ℕ)
-    → turn (Some url) FileSlashState p (file_held host.Empty) rest ≡ again PathState (walking kept h)
+    → turn (Some url) FileSlashState p (file_variables host.Empty) rest ≡ again PathState (walking kept v)
     = λ p. rw (no_slash, file)
     (ap (λ g. again PathState g) (kept_same (list_in url.path) joins.first rest joins.others url.host same)) in
-    reference_runs url text (slash ∷ rest) parts PathAbsolute (walking walked h)
+    reference_runs url text (slash ∷ rest) parts PathAbsolute (walking walked v)
     (suc (suc (suc (length path.behind + (length (tail parts.query parts.fragment) + 1))))) whole is form none
     (record {
       scheme = sym name;
       host = refl;
       port = sym no_port;
-      path = ap (λ k. Segments (walk k kept parts.segments)) (file_class ∙ sym kind)
+      path = ap (λ k. Segments (walk k kept parts.segments)) (file_class ∙ sym class)
           ∙ ap (λ l. Segments (walk (scheme_class url.scheme) l parts.segments)) denoted_kept;
-      query = reference_query url (scheme_class url.scheme) PathAbsolute parts.query (walking walked h)
-          (special_of_class (scheme_class url.scheme) (codes "file") (file_class ∙ sym kind)) refl;
+      query = reference_query url (scheme_class url.scheme) PathAbsolute parts.query (walking walked v)
+          (special_of_class (scheme_class url.scheme) (codes "file") (file_class ∙ sym class)) refl;
     })
     (omega (arith, length-append path.behind (tail parts.query parts.fragment)))
-    (ends_again (Some url) {s₁ = FileState} {h₁ = empty_held} (λ p. rw (not_opaque, file) refl)
-    (ends_step (Some url) {s₁ = FileSlashState} {h₁ = file_held host.Empty} (λ p. refl)
+    (ends_again (Some url) {s₁ = FileState} {v₁ = empty_variables} (λ p. rw (not_opaque, file) refl)
+    (ends_step (Some url) {s₁ = FileSlashState} {v₁ = file_variables host.Empty} (λ p. refl)
     (ends_again (Some url) begun
-    (walk_ends (Some url) parts.query parts.fragment is.query is.fragment kept parts.segments path.behind h joins))))
+    (walk_ends (Some url) parts.query parts.fragment is.query is.fragment kept parts.segments path.behind v joins))))

@@ -17,23 +17,23 @@ use Rattle.uv_model.specs.Scheme.{default_port, lowercase, scheme_class}
 use Rattle.uv_model.specs.Records.Url.{Url}
 use Rattle.uv_model.specs.Cut.{is_within_at_end}
 use Rattle.uv_model.specs.Valid.{MayBePortText, MayBeUnits, port_given}
-use Rattle.uv_parser.specs.Machine.{Held, again, sight, with_brackets, AuthorityState, HostState, PortState, PathStartState, with_host, with_more, with_port, port_in, is_special}
+use Rattle.uv_parser.specs.Machine.{Variables, again, at_pointer, with_brackets, AuthorityState, HostState, PortState, PathStartState, with_host, with_more, with_port, port_in, is_special}
 use Rattle.uv_parser.proofs.Loops.AuthorityLoops.{IsDelimiter, IsRead, authority_law, digit_letter, host_law, host_row_end, host_row_port, is_authority_letter, port_law, port_row_end}
 use Rattle.uv_parser.proofs.Loops.PathLoops.{walking}
 use Rattle.uv_parser.proofs.Loops.PathStarts.{path_start_ends}
 use Rattle.uv_model.proofs.SchemeLemmas.{default_port-lowercase}
-use Rattle.uv_parser.proofs.Loops.SchemeStretch.{scheme_held}
+use Rattle.uv_parser.proofs.Loops.SchemeStretch.{scheme_variables}
 use Rattle.uv_parser.proofs.Running.Steps.{Ends, Reaches, ends_after, ends_again, ends_step, ends_within}
 use Rattle.uv_parser.proofs.Loops.Tails.{tail, with_tail}
 
--- what is held behind the authority
-abbrev pub hosted : List ℕ → Host → Option ℕ → Held
-hosted scheme value port = with_port port (with_host (Some value) (scheme_held scheme))
+-- the variables behind the authority
+abbrev pub hosted : List ℕ → Host → Option ℕ → Variables
+hosted scheme value port = with_port port (with_host (Some value) (scheme_variables scheme))
 
 -- a path behind an authority, or what follows where there is none, begins with a delimiter
 pub delimits : (segments : List (List ℕ)) (path : List ℕ) (query fragment : Option (List ℕ))
     → MayBePathSlashed segments path
-    → IsDelimiter (sight (path ++ tail query fragment))
+    → IsDelimiter (at_pointer (path ++ tail query fragment))
 delimits segments path (Some query) fragment (inl none) = rw none.0 tt
 delimits segments path None (Some fragment) (inl none) = rw none.0 tt
 delimits segments path None None (inl none) = rw none.0 tt
@@ -91,10 +91,10 @@ authority_url scheme value port segments query fragment =
     (walking (authority_path (scheme_class (lowercase scheme)) segments) (hosted scheme value port))
 
 -- the URL at the end is the same with the flag for brackets set and cleared
-same_tail : (within : Bool) (query fragment : Option (List ℕ)) (h : Held)
-    → with_tail query fragment (with_brackets within h) ≡ with_tail query fragment h
-same_tail within None fragment h = refl
-same_tail within (Some text) fragment h = refl
+same_tail : (within : Bool) (query fragment : Option (List ℕ)) (v : Variables)
+    → with_tail query fragment (with_brackets within v) ≡ with_tail query fragment v
+same_tail within None fragment v = refl
+same_tail within (Some text) fragment v = refl
 
 module _ (base : Option Url) (scheme : List ℕ) (value : Host) (segments : List (List ℕ)) (path : List ℕ)
     (query fragment : Option (List ℕ)) (behind : Behind segments path query fragment) where
@@ -120,51 +120,50 @@ module _ (base : Option Url) (scheme : List ℕ) (value : Host) (segments : List
 
   -- from the port to the end
   port_ends : (port : List ℕ) → MayBePortText (Some port)
-      → Ends base PortState (with_host (Some value) (scheme_held scheme)) (port ++ rest)
+      → Ends base PortState (with_host (Some value) (scheme_variables scheme)) (port ++ rest)
       (length port + suc (length path + (length (tail query fragment) + 2)))
       (authority_url scheme value (port_given (default_port scheme) (Some port)) segments query fragment)
   unfolding rest
   port_ends port fits =
       let small : nat_lt 65535 (digits_value 10 port) ≡ false = le-ltb 65535 (digits_value 10 port) fits.range in
-      let held = with_more port (with_host (Some value) (scheme_held scheme)) in
-      ends_after base (port_law base port rest (with_host (Some value) (scheme_held scheme)) fits.digits)
+      let variables = with_more port (with_host (Some value) (scheme_variables scheme)) in
+      ends_after base (port_law base port rest (with_host (Some value) (scheme_variables scheme)) fits.digits)
       (ends_again base
-      (λ p. port_row_end held (sight rest) (delimits segments path query fragment behind.path) small
+      (λ p. port_row_end variables (at_pointer rest) (delimits segments path query fragment behind.path) small
       ∙ ap (λ o. again PathStartState (hosted scheme value o)) (port_is_given scheme port))
       (rest_ends false (port_given (default_port scheme) (Some port))))
 
   -- from the host to the end
   host_ends : (host : List ℕ) (port : Option (List ℕ)) → IsParsed scheme host port value
-      → Ends base HostState (scheme_held scheme) (host ++ (written_behind colon port ++ rest))
+      → Ends base HostState (scheme_variables scheme) (host ++ (written_behind colon port ++ rest))
       (length (host ++ written_behind colon port) + (length path + (length (tail query fragment) + 3)))
       (authority_url scheme value (port_given (default_port scheme) port) segments query fragment)
   unfolding rest
   host_ends host None is =
       let within = is_within_at_end false host in
       ends_within base (omega (arith, length-append host []))
-      (ends_after base (host_law base (is_special (lowercase scheme)) false host rest (scheme_held scheme) refl
+      (ends_after base (host_law base (is_special (lowercase scheme)) false host rest (scheme_variables scheme) refl
       is.read.read)
       (ends_again base
-      (λ p. host_row_end value (with_more host (with_brackets within (scheme_held scheme))) (sight rest)
+      (λ p. host_row_end value (with_more host (with_brackets within (scheme_variables scheme))) (at_pointer rest)
       (delimits segments path query fragment behind.path) is.stands is.parsed)
       (rest_ends within None)))
   host_ends host (Some port) is =
       let some : ((length host == 0) ≡ false) × (is_within_at_end false host ≡ false)
       = ⊎_elim (λ e. absurd cc) (λ e. e) is.some in
-      let law : Reaches base HostState (scheme_held scheme) (host ++ (colon ∷ (port ++ rest))) (length host)
-      HostState (with_more host (scheme_held scheme)) (colon ∷ (port ++ rest))
-      = rw some.1 at (host_law base (is_special (lowercase scheme)) false host (colon ∷ (port ++ rest)) (scheme_held
-      scheme) refl
-      is.read.read) in
+      let law : Reaches base HostState (scheme_variables scheme) (host ++ (colon ∷ (port ++ rest))) (length host)
+      HostState (with_more host (scheme_variables scheme)) (colon ∷ (port ++ rest))
+      = rw some.1 at (host_law base (is_special (lowercase scheme)) false host (colon ∷ (port ++ rest))
+      (scheme_variables scheme) refl is.read.read) in
       ends_within base (omega (arith, length-append host (colon ∷ port)))
       (ends_after base law
       (ends_step base
-      (λ p. host_row_port base value (port ++ rest) (with_more host (scheme_held scheme)) p refl some.0 is.parsed)
+      (λ p. host_row_port base value (port ++ rest) (with_more host (scheme_variables scheme)) p refl some.0 is.parsed)
       (port_ends port is.port)))
 
   -- from the start of the authority to the end
   pub authority_ends : (host : List ℕ) (port : Option (List ℕ)) → IsParsed scheme host port value
-      → Ends base AuthorityState (scheme_held scheme)
+      → Ends base AuthorityState (scheme_variables scheme)
       ((host ++ written_behind colon port) ++ (path ++ tail query fragment))
       (length (host ++ written_behind colon port) + 1
       + (length (host ++ written_behind colon port) + (length path + (length (tail query fragment) + 3))))
@@ -172,7 +171,8 @@ module _ (base : Option Url) (scheme : List ℕ) (value : Host) (segments : List
   unfolding rest
   authority_ends host port is =
       ends_after base
-      (authority_law base (is_special (lowercase scheme)) (host ++ written_behind colon port) rest (scheme_held scheme)
+      (authority_law base (is_special (lowercase scheme)) (host ++ written_behind colon port) rest
+      (scheme_variables scheme)
       refl (authority_letters (is_special (lowercase scheme)) host port is.read is.port) (delimits segments path query
       fragment behind.path))
       (rw (append_assoc host (written_behind colon port) rest) (host_ends host port is))

@@ -12,7 +12,7 @@ use Rattle.uv_model.specs.Ascii.{slash, colon, question_mark, number_sign, at_si
 use Rattle.uv_model.specs.Cut.{is_within, is_within_at_end, is_port_mark}
 use Rattle.uv_parser.specs.HostParser.{parse_host}
 use Rattle.uv_model.specs.Records.Url.{Url}
-use Rattle.uv_parser.specs.Machine.{Held, Sight, end, slash_mark, query_mark, fragment_mark, another, sight, turn, onward, again, from_place, authority_at, host_at, port_at, port_in, AuthorityState, HostState, PortState, PathStartState, bracketed, put, with_more, emptied, with_brackets, with_host, with_port, is_special}
+use Rattle.uv_parser.specs.Machine.{Variables, AtPointer, end, slash_mark, query_mark, fragment_mark, another, at_pointer, turn, onward, again, from_place, authority_at, host_at, port_at, port_in, AuthorityState, HostState, PortState, PathStartState, bracketed, put, with_more, emptied, with_brackets, with_host, with_port, is_special}
 use Rattle.uv_parser.specs.Run.{step, settle}
 use Rattle.uv_parser.proofs.Running.Steps.{at, drop_one, step_at, Leads, leads_none, leads_step, leads_then, Reaches, reaches_none, onward_then}
 
@@ -30,6 +30,7 @@ pub record Letter (special : Bool) (c : ℕ) : Type 0 where
   pub no_at_sign : (c == at_sign) ≡ false
   pub no_backslash : ((c == backslash) && special) ≡ false
 
+-- a code point of an authority is none of these
 pub letter : (special : Bool) (c : ℕ) → is_authority_letter special c ≡ true → Letter special c
 letter special c is =
     let behind_slash = and_parts (not (c == slash)) _ is in
@@ -45,7 +46,7 @@ letter special c is =
     }
 
 -- the rest begins with a delimiter, of which one is the end
-abbrev pub IsDelimiter : Sight → Type 0
+abbrev pub IsDelimiter : AtPointer → Type 0
 IsDelimiter (another c) = ⊥
 IsDelimiter _ = Unit {0}
 
@@ -56,55 +57,56 @@ drop_many text p cs rest e =
 
 -- ---- the authority
 
-pub authority_row_on : (base : Option Url) (special : Bool) (c : ℕ) (rest : List ℕ) (h : Held) (p : ℕ)
-    → is_special h.url.scheme ≡ special → is_authority_letter special c ≡ true
-    → turn base AuthorityState p h (c ∷ rest) ≡ onward AuthorityState (put c h)
-authority_row_on base special c rest h p kind is =
+-- the authority state takes a code point of an authority
+pub authority_row_on : (base : Option Url) (special : Bool) (c : ℕ) (rest : List ℕ) (v : Variables) (p : ℕ)
+    → is_special v.url.scheme ≡ special → is_authority_letter special c ≡ true
+    → turn base AuthorityState p v (c ∷ rest) ≡ onward AuthorityState (put c v)
+authority_row_on base special c rest v p class is =
     let l = letter special c is in
-    simp (kind, l.no_slash, l.no_question_mark, l.no_number_sign, l.no_at_sign, l.no_backslash) refl
+    simp (class, l.no_slash, l.no_question_mark, l.no_number_sign, l.no_at_sign, l.no_backslash) refl
 
-authority_row_end : (p : ℕ) (h : Held) (s : Sight) → IsDelimiter s
-    → authority_at p h s ≡ from_place (p - length h.buffer) HostState (emptied h)
-authority_row_end p h end is = refl
-authority_row_end p h slash_mark is = refl
-authority_row_end p h query_mark is = refl
-authority_row_end p h fragment_mark is = refl
-authority_row_end p h (another c) is = absurd is
+authority_row_end : (p : ℕ) (v : Variables) (s : AtPointer) → IsDelimiter s
+    → authority_at p v s ≡ from_place (p - length v.buffer) HostState (emptied v)
+authority_row_end p v end is = refl
+authority_row_end p v slash_mark is = refl
+authority_row_end p v query_mark is = refl
+authority_row_end p v fragment_mark is = refl
+authority_row_end p v (another c) is = absurd is
 
 module _ (base : Option Url) (text : List ℕ) where
   -- code points of an authority go into the buffer
-  pub authority_steps : (special : Bool) (cs rest : List ℕ) (p : ℕ) (h : Held) → drop p text ≡ cs ++ rest
-      → is_special h.url.scheme ≡ special → list_all (is_authority_letter special) cs ≡ true
-      → Leads base text (at AuthorityState p h) (length cs) (at AuthorityState (p + length cs) (with_more cs h))
-  authority_steps special [] rest p h e kind is = rw (add-zero, append-nil h.buffer) (leads_none base text (at
-      AuthorityState p h))
-  authority_steps special (c ∷ cs) rest p h e kind is =
+  pub authority_steps : (special : Bool) (cs rest : List ℕ) (p : ℕ) (v : Variables) → drop p text ≡ cs ++ rest
+      → is_special v.url.scheme ≡ special → list_all (is_authority_letter special) cs ≡ true
+      → Leads base text (at AuthorityState p v) (length cs) (at AuthorityState (p + length cs) (with_more cs v))
+  authority_steps special [] rest p v e class is = rw (add-zero, append-nil v.buffer) (leads_none base text (at
+      AuthorityState p v))
+  authority_steps special (c ∷ cs) rest p v e class is =
       let parts = and_parts (is_authority_letter special c) (list_all (is_authority_letter special) cs) is in
-      let later = authority_steps special cs rest (p + 1) (put c h) (drop_one text p c (cs ++ rest) e) kind parts.1 in
+      let later = authority_steps special cs rest (p + 1) (put c v) (drop_one text p c (cs ++ rest) e) class parts.1 in
       let place : (p + 1) + length cs ≡ p + suc (length cs) = omega arith in
-      let one : step base text (record { state = AuthorityState; pointer = p; held = h }) ≡ at AuthorityState (p + 1)
-      (put c h)
-      = step_at base text AuthorityState p h (c ∷ (cs ++ rest)) e
-      ∙ ap (settle p (c ∷ (cs ++ rest))) (authority_row_on base special c (cs ++ rest) h p kind parts.0) in
-      rw (← place, ← append_assoc h.buffer (c ∷ []) cs) (leads_step base text _ (length cs) _ _ one later)
+      let one : step base text (record { state = AuthorityState; pointer = p; variables = v })
+      ≡ at AuthorityState (p + 1) (put c v)
+      = step_at base text AuthorityState p v (c ∷ (cs ++ rest)) e
+      ∙ ap (settle p (c ∷ (cs ++ rest))) (authority_row_on base special c (cs ++ rest) v p class parts.0) in
+      rw (← place, ← append_assoc v.buffer (c ∷ []) cs) (leads_step base text _ (length cs) _ _ one later)
 
 -- an authority before a delimiter leads to the host state at the authority's first place
-pub authority_law : (base : Option Url) (special : Bool) (cs rest : List ℕ) (h : Held)
-    → is_special h.url.scheme ≡ special → list_all (is_authority_letter special) cs ≡ true
-    → IsDelimiter (sight rest)
-    → Reaches base AuthorityState (emptied h) (cs ++ rest) (length cs + 1) HostState (emptied h) (cs ++ rest)
-authority_law base special cs rest h kind is ends = record {
+pub authority_law : (base : Option Url) (special : Bool) (cs rest : List ℕ) (v : Variables)
+    → is_special v.url.scheme ≡ special → list_all (is_authority_letter special) cs ≡ true
+    → IsDelimiter (at_pointer rest)
+    → Reaches base AuthorityState (emptied v) (cs ++ rest) (length cs + 1) HostState (emptied v) (cs ++ rest)
+authority_law base special cs rest v class is ends = record {
   goes = λ text p e.
-      let held = with_more cs (emptied h) in
+      let variables = with_more cs (emptied v) in
       let back : (p + length cs) - length cs ≡ p = omega arith in
       let one : step base text
-      (record { state = AuthorityState; pointer = p + length cs; held = held }) ≡ at HostState p (emptied h)
-      = step_at base text AuthorityState (p + length cs) held rest (drop_many text p cs rest e)
-      ∙ (ap (settle (p + length cs) rest) (authority_row_end (p + length cs) held (sight rest) ends)
-      ∙ ap (λ q. at HostState q (emptied h)) back) in (
+      (record { state = AuthorityState; pointer = p + length cs; variables = variables }) ≡ at HostState p (emptied v)
+      = step_at base text AuthorityState (p + length cs) variables rest (drop_many text p cs rest e)
+      ∙ (ap (settle (p + length cs) rest) (authority_row_end (p + length cs) variables (at_pointer rest) ends)
+      ∙ ap (λ q. at HostState q (emptied v)) back) in (
         p,
         e,
-        leads_then base text _ _ _ (length cs) 1 (authority_steps base text special cs rest p (emptied h) e kind is)
+        leads_then base text _ _ _ (length cs) 1 (authority_steps base text special cs rest p (emptied v) e class is)
             (leads_step base text _ 0 _ _ one (leads_none base text _)),
       );
 }
@@ -124,9 +126,9 @@ pub record IsRead (special : Bool) (text : List ℕ) : Type 0 where
   pub read : is_read_as_host special false text ≡ true
 
 -- a bracket sets or clears the flag as it stands within brackets or not
-pub bracketed_is : (within : Bool) (c : ℕ) (h : Held)
-    → bracketed c (with_brackets within h) ≡ with_brackets (is_within within c) h
-bracketed_is within c h =
+pub bracketed_is : (within : Bool) (c : ℕ) (v : Variables)
+    → bracketed c (with_brackets within v) ≡ with_brackets (is_within within c) v
+bracketed_is within c v =
     elim (cases_Bool (c == left_bracket)) [
       | inl opens ↦ rw opens refl
       | inr not_left ↦
@@ -136,46 +138,46 @@ bracketed_is within c h =
           ]
     ]
 
-host_row_on : (base : Option Url) (special within : Bool) (c : ℕ) (rest : List ℕ) (h : Held) (p : ℕ)
-    → is_special h.url.scheme ≡ special → is_authority_letter special c ≡ true
+host_row_on : (base : Option Url) (special within : Bool) (c : ℕ) (rest : List ℕ) (v : Variables) (p : ℕ)
+    → is_special v.url.scheme ≡ special → is_authority_letter special c ≡ true
     → is_port_mark within c ≡ false
-    → turn base HostState p (with_brackets within h) (c ∷ rest)
-    ≡ onward HostState (put c (with_brackets (is_within within c) h))
-host_row_on base special within c rest h p kind is mark =
+    → turn base HostState p (with_brackets within v) (c ∷ rest)
+    ≡ onward HostState (put c (with_brackets (is_within within c) v))
+host_row_on base special within c rest v p class is mark =
     let l = letter special c is in
-    simp (kind, l.no_slash, l.no_question_mark, l.no_number_sign, l.no_backslash, mark)
-    (ap (λ g. onward HostState (put c g)) (bracketed_is within c h))
+    simp (class, l.no_slash, l.no_question_mark, l.no_number_sign, l.no_backslash, mark)
+    (ap (λ g. onward HostState (put c g)) (bracketed_is within c v))
 
 -- a host text goes into the buffer
-pub host_law : (base : Option Url) (special within : Bool) (cs rest : List ℕ) (h : Held)
-    → is_special h.url.scheme ≡ special → is_read_as_host special within cs ≡ true
-    → Reaches base HostState (with_brackets within h) (cs ++ rest) (length cs)
-    HostState (with_more cs (with_brackets (is_within_at_end within cs) h)) rest
-host_law base special within [] rest h kind is = rw (append-nil h.buffer) (reaches_none base HostState (with_brackets
-    within h) rest)
-host_law base special within (c ∷ cs) rest h kind is =
+pub host_law : (base : Option Url) (special within : Bool) (cs rest : List ℕ) (v : Variables)
+    → is_special v.url.scheme ≡ special → is_read_as_host special within cs ≡ true
+    → Reaches base HostState (with_brackets within v) (cs ++ rest) (length cs)
+    HostState (with_more cs (with_brackets (is_within_at_end within cs) v)) rest
+host_law base special within [] rest v class is = rw (append-nil v.buffer) (reaches_none base HostState (with_brackets
+    within v) rest)
+host_law base special within (c ∷ cs) rest v class is =
     let parts = and_parts (is_authority_letter special c) _ is in
     let later = and_parts (not (is_port_mark within c)) (is_read_as_host special (is_within within c) cs) parts.1 in
-    rw (← append_assoc h.buffer (c ∷ []) cs)
-    (onward_then base (λ p. host_row_on base special within c (cs ++ rest) h p kind parts.0 (not-true _ later.0))
-    (host_law base special (is_within within c) cs rest (put c h) kind later.1))
+    rw (← append_assoc v.buffer (c ∷ []) cs)
+    (onward_then base (λ p. host_row_on base special within c (cs ++ rest) v p class parts.0 (not-true _ later.0))
+    (host_law base special (is_within within c) cs rest (put c v) class later.1))
 
 -- a host that is parsed and isn't empty ends at the `:` of a port
-pub host_row_port : (base : Option Url) (value : Host) (rest : List ℕ) (h : Held) (p : ℕ) → h.in_brackets ≡ false
-    → (length h.buffer == 0) ≡ false → parse_host (is_special h.url.scheme) h.buffer ≡ Some value
-    → turn base HostState p h (colon ∷ rest) ≡ onward PortState (emptied (with_host (Some value) h))
-host_row_port base value rest h p outside some parsed = rw (outside, some, parsed) refl
+pub host_row_port : (base : Option Url) (value : Host) (rest : List ℕ) (v : Variables) (p : ℕ) → v.in_brackets ≡ false
+    → (length v.buffer == 0) ≡ false → parse_host (is_special v.url.scheme) v.buffer ≡ Some value
+    → turn base HostState p v (colon ∷ rest) ≡ onward PortState (emptied (with_host (Some value) v))
+host_row_port base value rest v p outside some parsed = rw (outside, some, parsed) refl
 
 -- a host that is parsed ends at a delimiter, where a special URL's isn't empty
-pub host_row_end : (value : Host) (h : Held) (s : Sight) → IsDelimiter s
-    → ((length h.buffer == 0) && is_special h.url.scheme) ≡ false
-    → parse_host (is_special h.url.scheme) h.buffer ≡ Some value
-    → host_at h s ≡ again PathStartState (emptied (with_host (Some value) h))
-host_row_end value h end is stands parsed = rw (stands, parsed) refl
-host_row_end value h slash_mark is stands parsed = rw (stands, parsed) refl
-host_row_end value h query_mark is stands parsed = rw (stands, parsed) refl
-host_row_end value h fragment_mark is stands parsed = rw (stands, parsed) refl
-host_row_end value h (another c) is stands parsed = absurd is
+pub host_row_end : (value : Host) (v : Variables) (s : AtPointer) → IsDelimiter s
+    → ((length v.buffer == 0) && is_special v.url.scheme) ≡ false
+    → parse_host (is_special v.url.scheme) v.buffer ≡ Some value
+    → host_at v s ≡ again PathStartState (emptied (with_host (Some value) v))
+host_row_end value v end is stands parsed = rw (stands, parsed) refl
+host_row_end value v slash_mark is stands parsed = rw (stands, parsed) refl
+host_row_end value v query_mark is stands parsed = rw (stands, parsed) refl
+host_row_end value v fragment_mark is stands parsed = rw (stands, parsed) refl
+host_row_end value v (another c) is stands parsed = absurd is
 
 -- ---- the port
 
@@ -184,26 +186,27 @@ pub digit_letter : (special : Bool) (c : ℕ) → is_ascii_digit c ≡ true → 
 digit_letter true c is = grind (arith, nat_tests)
 digit_letter false c is = grind (arith, nat_tests)
 
-pub port_row_on : (base : Option Url) (c : ℕ) (rest : List ℕ) (h : Held) (p : ℕ) → is_ascii_digit c ≡ true
-    → turn base PortState p h (c ∷ rest) ≡ onward PortState (put c h)
-port_row_on base c rest h p is =
+-- the port state takes a digit
+pub port_row_on : (base : Option Url) (c : ℕ) (rest : List ℕ) (v : Variables) (p : ℕ) → is_ascii_digit c ≡ true
+    → turn base PortState p v (c ∷ rest) ≡ onward PortState (put c v)
+port_row_on base c rest v p is =
     let l = letter true c (digit_letter true c is) in
     simp (l.no_slash, l.no_question_mark, l.no_number_sign, is) refl
 
 -- digits go into the buffer
-pub port_law : (base : Option Url) (cs rest : List ℕ) (h : Held) → list_all is_ascii_digit cs ≡ true
-    → Reaches base PortState h (cs ++ rest) (length cs) PortState (with_more cs h) rest
-port_law base [] rest h is = rw (append-nil h.buffer) (reaches_none base PortState h rest)
-port_law base (c ∷ cs) rest h is =
+pub port_law : (base : Option Url) (cs rest : List ℕ) (v : Variables) → list_all is_ascii_digit cs ≡ true
+    → Reaches base PortState v (cs ++ rest) (length cs) PortState (with_more cs v) rest
+port_law base [] rest v is = rw (append-nil v.buffer) (reaches_none base PortState v rest)
+port_law base (c ∷ cs) rest v is =
     let parts = and_parts (is_ascii_digit c) (list_all is_ascii_digit cs) is in
-    rw (← append_assoc h.buffer (c ∷ []) cs)
-    (onward_then base (λ p. port_row_on base c (cs ++ rest) h p parts.0) (port_law base cs rest (put c h) parts.1))
+    rw (← append_assoc v.buffer (c ∷ []) cs)
+    (onward_then base (λ p. port_row_on base c (cs ++ rest) v p parts.0) (port_law base cs rest (put c v) parts.1))
 
 -- a port of 65535 at most ends at a delimiter
-pub port_row_end : (h : Held) (s : Sight) → IsDelimiter s → nat_lt 65535 (digits_value 10 h.buffer) ≡ false
-    → port_at h s ≡ again PathStartState (emptied (with_port (port_in h.url.scheme h.buffer) h))
-port_row_end h end is small = rw small refl
-port_row_end h slash_mark is small = rw small refl
-port_row_end h query_mark is small = rw small refl
-port_row_end h fragment_mark is small = rw small refl
-port_row_end h (another c) is small = absurd is
+pub port_row_end : (v : Variables) (s : AtPointer) → IsDelimiter s → nat_lt 65535 (digits_value 10 v.buffer) ≡ false
+    → port_at v s ≡ again PathStartState (emptied (with_port (port_in v.url.scheme v.buffer) v))
+port_row_end v end is small = rw small refl
+port_row_end v slash_mark is small = rw small refl
+port_row_end v query_mark is small = rw small refl
+port_row_end v fragment_mark is small = rw small refl
+port_row_end v (another c) is small = absurd is

@@ -15,7 +15,7 @@ use Rattle.uv_model.specs.declared.scheme.Class.TheVariants.{File}
 use Rattle.uv_model.specs.Ascii.{backslash, colon, left_bracket, number_sign, question_mark, right_bracket, slash, vertical_bar}
 use Rattle.uv_model.specs.Hosts.Domain.{is_permitted, has_permitted}
 use Rattle.uv_parser.specs.HostParser.{parse_host}
-use Rattle.uv_parser.specs.Machine.{Held, Sight, end, slash_mark, query_mark, fragment_mark, another, again, FileHostState, PathStartState, file_host_at, put, with_more, with_host, emptied}
+use Rattle.uv_parser.specs.Machine.{Variables, AtPointer, end, slash_mark, query_mark, fragment_mark, another, again, FileHostState, PathStartState, file_host_at, put, with_more, with_host, emptied}
 use Rattle.uv_model.specs.Path.{is_drive_letter, is_without}
 use Rattle.uv_model.specs.Scheme.{default_port, lowercase, scheme_class}
 use Rattle.uv_model.specs.Records.Url.{Url}
@@ -37,19 +37,19 @@ pub record IsFileText (text : List ℕ) : Type 0 where
   pub no_backslash : is_without backslash text ≡ true
 
 -- a host text goes into the buffer
-pub file_host_law : (base : Option Url) (cs rest : List ℕ) (h : Held) → IsFileText cs
-    → Reaches base FileHostState h (cs ++ rest) (length cs) FileHostState (with_more cs h) rest
-file_host_law base [] rest h is = rw (append-nil h.buffer) (reaches_none base FileHostState h rest)
-file_host_law base (c ∷ cs) rest h is =
+pub file_host_law : (base : Option Url) (cs rest : List ℕ) (v : Variables) → IsFileText cs
+    → Reaches base FileHostState v (cs ++ rest) (length cs) FileHostState (with_more cs v) rest
+file_host_law base [] rest v is = rw (append-nil v.buffer) (reaches_none base FileHostState v rest)
+file_host_law base (c ∷ cs) rest v is =
     let a = without_parts slash c cs is.no_slash in
     let b = without_parts question_mark c cs is.no_question_mark in
     let d = without_parts number_sign c cs is.no_number_sign in
     let e = without_parts backslash c cs is.no_backslash in
     let later : IsFileText cs
     = record { no_slash = a.1; no_question_mark = b.1; no_number_sign = d.1; no_backslash = e.1 } in
-    rw (← append_assoc h.buffer (c ∷ []) cs)
+    rw (← append_assoc v.buffer (c ∷ []) cs)
     (onward_then base (λ p. simp (a.0, b.0, d.0, e.0) refl)
-    (file_host_law base cs rest (put c h) later))
+    (file_host_law base cs rest (put c v) later))
 
 -- a test beside one that holds
 pub and_true-right : (b : Bool) → (b && true) ≡ b
@@ -72,14 +72,14 @@ file_text (c ∷ cs) is =
     }
 
 -- a host that is parsed ends at a delimiter
-pub file_host_row : (value : Host) (h : Held) (s : Sight) → IsDelimiter s → is_drive_letter h.buffer ≡ false
-    → (length h.buffer == 0) ≡ false → parse_host true h.buffer ≡ Some value
-    → file_host_at h s ≡ again PathStartState (emptied (with_host (Some (without_localhost value)) h))
-file_host_row value h end is drive some parsed = rw (drive, some, parsed) refl
-file_host_row value h slash_mark is drive some parsed = rw (drive, some, parsed) refl
-file_host_row value h query_mark is drive some parsed = rw (drive, some, parsed) refl
-file_host_row value h fragment_mark is drive some parsed = rw (drive, some, parsed) refl
-file_host_row value h (another c) is drive some parsed = absurd is
+pub file_host_row : (value : Host) (v : Variables) (s : AtPointer) → IsDelimiter s → is_drive_letter v.buffer ≡ false
+    → (length v.buffer == 0) ≡ false → parse_host true v.buffer ≡ Some value
+    → file_host_at v s ≡ again PathStartState (emptied (with_host (Some (without_localhost value)) v))
+file_host_row value v end is drive some parsed = rw (drive, some, parsed) refl
+file_host_row value v slash_mark is drive some parsed = rw (drive, some, parsed) refl
+file_host_row value v query_mark is drive some parsed = rw (drive, some, parsed) refl
+file_host_row value v fragment_mark is drive some parsed = rw (drive, some, parsed) refl
+file_host_row value v (another c) is drive some parsed = absurd is
 
 -- ---- no host is a drive letter
 
@@ -174,13 +174,13 @@ file_parsed profile text host.Empty is = record {
 -- a scheme of class File is `file`
 pub file_scheme : (scheme : List ℕ) → scheme_class scheme ≡ File → lowercase scheme ≡ codes "file"
 unfolding scheme_class
-file_scheme scheme kind =
+file_scheme scheme class =
     elim (cases_Bool (bytes_eq (lowercase scheme) (codes "file"))) [
       | inl same ↦ (bytes_eq-Decides (lowercase scheme) (codes "file")).0 same
       | inr other ↦
           elim (cases_Bool (is_some (default_port scheme))) [
-            | inl special ↦ absurd (let e = rw (other, special) at kind in cc)
-            | inr plain ↦ absurd (let e = rw (other, plain) at kind in cc)
+            | inl special ↦ absurd (let e = rw (other, special) at class in cc)
+            | inr plain ↦ absurd (let e = rw (other, plain) at class in cc)
           ]
     ]
 

@@ -142,6 +142,7 @@ dotted_decimal n small =
     weaker is_ascii_digit is_dotted (λ c digit. or_left (is_ascii_digit c) (c == full_stop) digit) (decimal n)
     (and_parts (nat_lt 0 (length (decimal n))) (list_all is_ascii_digit (decimal n)) (digits_alone n small)).1
 
+-- four numbers with full stops between them are digits and full stops
 pub dotted_numbers : (a b c d : ℕ) (text : List ℕ) → IsFourNumbers a b c d text → list_all is_dotted text ≡ true
 dotted_numbers a b c d text is =
     let first : list_all is_dotted (decimal a) ≡ true = dotted_decimal a is.fit.0 in

@@ -1,5 +1,5 @@
 -- Laws of the parser machine's loops over a scheme, an opaque path, a query and a fragment: so many steps lead behind
--- what the state reads, whatever is held before it and whatever text follows it.
+-- what the state reads, whatever the variables are before it and whatever text follows it.
 use Rattle.std.proofs.Common.{◌≡◌, ℕ, true, false, ◌==◌, List, [], ◌∷◌, ◌++◌, length, Option, Some, refl, append_assoc, append-nil, eqb-true, inl, inr}
 use Rattle.std.specs.List.{list_all}
 use Rattle.std.specs.Char.{to_ascii_lowercase}
@@ -12,34 +12,34 @@ use Rattle.uv_model.specs.Path.{is_without}
 use Rattle.uv_model.specs.Scheme.{is_scheme_code_point, lowercase}
 use Rattle.uv_model.specs.Units.{is_unit_at, is_faultless}
 use Rattle.uv_model.specs.Records.Url.{Url}
-use Rattle.uv_parser.specs.Machine.{Held, turn, onward, SchemeState, OpaquePathState, QueryState, FragmentState, put, with_more, with_path, with_opaque, with_fragment}
+use Rattle.uv_parser.specs.Machine.{Variables, turn, onward, SchemeState, OpaquePathState, QueryState, FragmentState, put, with_more, with_path, with_opaque, with_fragment}
 use Rattle.uv_parser.proofs.Running.Steps.{Reaches, reaches_none, onward_then}
 
 module _ (base : Option Url) where
   -- ---- the scheme
 
   -- the row of a code point of a scheme
-  scheme_row_on : (c : ℕ) (rest : List ℕ) (h : Held) (p : ℕ) → is_scheme_code_point c ≡ true
-      → turn base SchemeState p h (c ∷ rest) ≡ onward SchemeState (put (to_ascii_lowercase c) h)
-  scheme_row_on c rest h p ok = rw ok refl
+  scheme_row_on : (c : ℕ) (rest : List ℕ) (v : Variables) (p : ℕ) → is_scheme_code_point c ≡ true
+      → turn base SchemeState p v (c ∷ rest) ≡ onward SchemeState (put (to_ascii_lowercase c) v)
+  scheme_row_on c rest v p ok = rw ok refl
 
   -- code points of a scheme go into the buffer in lower case
-  pub scheme_law : (cs rest : List ℕ) (h : Held) → list_all is_scheme_code_point cs ≡ true
-      → Reaches base SchemeState h (cs ++ rest) (length cs) SchemeState (with_more (lowercase cs) h) rest
-  scheme_law [] rest h ok = rw (append-nil h.buffer) (reaches_none base SchemeState h rest)
-  scheme_law (c ∷ cs) rest h ok =
+  pub scheme_law : (cs rest : List ℕ) (v : Variables) → list_all is_scheme_code_point cs ≡ true
+      → Reaches base SchemeState v (cs ++ rest) (length cs) SchemeState (with_more (lowercase cs) v) rest
+  scheme_law [] rest v ok = rw (append-nil v.buffer) (reaches_none base SchemeState v rest)
+  scheme_law (c ∷ cs) rest v ok =
       let parts = and_parts (is_scheme_code_point c) (list_all is_scheme_code_point cs) ok in
-      rw (← append_assoc h.buffer (to_ascii_lowercase c ∷ []) (lowercase cs))
-      (onward_then base (λ p. scheme_row_on c (cs ++ rest) h p parts.0)
-      (scheme_law cs rest (put (to_ascii_lowercase c) h) parts.1))
+      rw (← append_assoc v.buffer (to_ascii_lowercase c ∷ []) (lowercase cs))
+      (onward_then base (λ p. scheme_row_on c (cs ++ rest) v p parts.0)
+      (scheme_law cs rest (put (to_ascii_lowercase c) v) parts.1))
 
   -- ---- the opaque path
 
   -- the row of a unit of an opaque path
-  pub opaque_row_on : (c : ℕ) (rest : List ℕ) (h : Held) (p : ℕ) → (c == question_mark) ≡ false
+  pub opaque_row_on : (c : ℕ) (rest : List ℕ) (v : Variables) (p : ℕ) → (c == question_mark) ≡ false
       → is_unit_at c rest ≡ true
-      → turn base OpaquePathState p h (c ∷ rest) ≡ onward OpaquePathState (with_opaque c h)
-  opaque_row_on c rest h p other ok =
+      → turn base OpaquePathState p v (c ∷ rest) ≡ onward OpaquePathState (with_opaque c v)
+  opaque_row_on c rest v p other ok =
       let fragment : (c == number_sign) ≡ false = unit_not_number_sign c rest ok in
       elim (cases_Bool (c == slash)) [
         | inl same ↦ rw (eqb-true c slash same) refl
@@ -47,26 +47,27 @@ module _ (base : Option Url) where
       ]
 
   -- units without `?` go to the opaque path, encoded
-  pub opaque_path_law : (cs rest path : List ℕ) (h : Held) → is_faultless cs ≡ true → is_without question_mark cs ≡ true
-      → Reaches base OpaquePathState (with_path (Opaque path) h) (cs ++ rest) (length cs)
-      OpaquePathState (with_path (Opaque (path ++ encoded false cs)) h) rest
+  pub opaque_path_law : (cs rest path : List ℕ) (v : Variables) → is_faultless cs ≡ true
+      → is_without question_mark cs ≡ true
+      → Reaches base OpaquePathState (with_path (Opaque path) v) (cs ++ rest) (length cs)
+      OpaquePathState (with_path (Opaque (path ++ encoded false cs)) v) rest
   unfolding encoded
-  opaque_path_law [] rest path h units without =
-      rw (append-nil path) (reaches_none base OpaquePathState (with_path (Opaque path) h) rest)
-  opaque_path_law (c ∷ cs) rest path h units without =
+  opaque_path_law [] rest path v units without =
+      rw (append-nil path) (reaches_none base OpaquePathState (with_path (Opaque path) v) rest)
+  opaque_path_law (c ∷ cs) rest path v units without =
       let unit = and_parts (is_unit_at c cs) (is_faultless cs) units in
       let other = without_parts question_mark c cs without in
       rw (← append_assoc path (encoded_code_point false c) (encoded false cs))
       (onward_then base
-      (λ p. opaque_row_on c (cs ++ rest) (with_path (Opaque path) h) p other.0 (is_unit_at-ahead c cs rest unit.0))
-      (opaque_path_law cs rest (path ++ encoded_code_point false c) h unit.1 other.1))
+      (λ p. opaque_row_on c (cs ++ rest) (with_path (Opaque path) v) p other.0 (is_unit_at-ahead c cs rest unit.0))
+      (opaque_path_law cs rest (path ++ encoded_code_point false c) v unit.1 other.1))
 
   -- ---- the query
 
   -- the row of a unit of a query
-  pub query_row_on : (c : ℕ) (rest : List ℕ) (h : Held) (p : ℕ) → is_unit_at c rest ≡ true
-      → turn base QueryState p h (c ∷ rest) ≡ onward QueryState (put c h)
-  query_row_on c rest h p ok =
+  pub query_row_on : (c : ℕ) (rest : List ℕ) (v : Variables) (p : ℕ) → is_unit_at c rest ≡ true
+      → turn base QueryState p v (c ∷ rest) ≡ onward QueryState (put c v)
+  query_row_on c rest v p ok =
       let fragment : (c == number_sign) ≡ false = unit_not_number_sign c rest ok in
       elim (cases_Bool (c == slash)) [
         | inl same ↦ rw (eqb-true c slash same) refl
@@ -78,26 +79,26 @@ module _ (base : Option Url) where
       ]
 
   -- units go into the buffer
-  pub query_law : (cs rest : List ℕ) (h : Held) → is_faultless cs ≡ true
-      → Reaches base QueryState h (cs ++ rest) (length cs) QueryState (with_more cs h) rest
-  query_law [] rest h units = rw (append-nil h.buffer) (reaches_none base QueryState h rest)
-  query_law (c ∷ cs) rest h units =
+  pub query_law : (cs rest : List ℕ) (v : Variables) → is_faultless cs ≡ true
+      → Reaches base QueryState v (cs ++ rest) (length cs) QueryState (with_more cs v) rest
+  query_law [] rest v units = rw (append-nil v.buffer) (reaches_none base QueryState v rest)
+  query_law (c ∷ cs) rest v units =
       let unit = and_parts (is_unit_at c cs) (is_faultless cs) units in
-      rw (← append_assoc h.buffer (c ∷ []) cs)
-      (onward_then base (λ p. query_row_on c (cs ++ rest) h p (is_unit_at-ahead c cs rest unit.0))
-      (query_law cs rest (put c h) unit.1))
+      rw (← append_assoc v.buffer (c ∷ []) cs)
+      (onward_then base (λ p. query_row_on c (cs ++ rest) v p (is_unit_at-ahead c cs rest unit.0))
+      (query_law cs rest (put c v) unit.1))
 
   -- ---- the fragment
 
   -- units go to the fragment, encoded
-  pub fragment_law : (cs rest fragment : List ℕ) (h : Held) → is_faultless cs ≡ true
-      → Reaches base FragmentState (with_fragment (Some fragment) h) (cs ++ rest) (length cs)
-      FragmentState (with_fragment (Some (fragment ++ encoded false cs)) h) rest
+  pub fragment_law : (cs rest fragment : List ℕ) (v : Variables) → is_faultless cs ≡ true
+      → Reaches base FragmentState (with_fragment (Some fragment) v) (cs ++ rest) (length cs)
+      FragmentState (with_fragment (Some (fragment ++ encoded false cs)) v) rest
   unfolding encoded
-  fragment_law [] rest fragment h units =
-      rw (append-nil fragment) (reaches_none base FragmentState (with_fragment (Some fragment) h) rest)
-  fragment_law (c ∷ cs) rest fragment h units =
+  fragment_law [] rest fragment v units =
+      rw (append-nil fragment) (reaches_none base FragmentState (with_fragment (Some fragment) v) rest)
+  fragment_law (c ∷ cs) rest fragment v units =
       let unit = and_parts (is_unit_at c cs) (is_faultless cs) units in
       rw (← append_assoc fragment (encoded_code_point false c) (encoded false cs))
       (onward_then base (λ p. rw (is_unit_at-ahead c cs rest unit.0) refl)
-      (fragment_law cs rest (fragment ++ encoded_code_point false c) h unit.1))
+      (fragment_law cs rest (fragment ++ encoded_code_point false c) v unit.1))

@@ -10,30 +10,30 @@ use Rattle.uv_model.specs.Path.{MayBePathSlashed, AreSegments, IsPathRelative, I
 use Rattle.uv_model.specs.Scheme.{scheme_class}
 use Rattle.uv_model.specs.Records.Url.{Url}
 use Rattle.uv_model.specs.Valid.{MayBeUnits}
-use Rattle.uv_parser.specs.Machine.{Held, turn, again, sight, path_start_at, PathStartState, PathState}
+use Rattle.uv_parser.specs.Machine.{Variables, turn, again, at_pointer, path_start_at, PathStartState, PathState}
 use Rattle.uv_parser.proofs.Running.Steps.{Ends, ends_step, ends_again, ends_within}
 use Rattle.uv_parser.proofs.Loops.PathLoops.{walking, path_ends}
 use Rattle.uv_model.proofs.Texts.UnitsLemmas.{IsUnits-nil}
 use Rattle.uv_parser.proofs.Loops.Tails.{tail, with_tail, tail_ends}
 
 -- a tail doesn't begin with `/`, so that a special URL's path begins there without one
-pub special_row : (query fragment : Option (List ℕ)) (h : Held)
-    → path_start_at true h (sight (tail query fragment)) ≡ again PathState h
-special_row (Some query) fragment h = refl
-special_row None (Some fragment) h = refl
-special_row None None h = refl
+pub special_row : (query fragment : Option (List ℕ)) (v : Variables)
+    → path_start_at true v (at_pointer (tail query fragment)) ≡ again PathState v
+special_row (Some query) fragment v = refl
+special_row None (Some fragment) v = refl
+special_row None None v = refl
 
 -- a path of one empty segment
-empty_walk : (kind : Class) → walk kind [] ([] ∷ []) ≡ [] ∷ []
+empty_walk : (class : Class) → walk class [] ([] ∷ []) ≡ [] ∷ []
 unfolding walk is_double_dot is_single_dot encoded
-empty_walk kind = refl
+empty_walk class = refl
 
 empty_segment : AreSegments ([] ∷ [])
 empty_segment = (record { units = IsUnits-nil; no_slash = refl; no_question_mark = refl }, tt)
 
 -- with segments the path behind an authority is their walk
-some_walk : (kind : Class) (first : List ℕ) (others : List (List ℕ))
-    → authority_path kind (first ∷ others) ≡ walk kind [] (first ∷ others)
+some_walk : (class : Class) (first : List ℕ) (others : List (List ℕ))
+    → authority_path class (first ∷ others) ≡ walk class [] (first ∷ others)
 some_walk Special first others = refl
 some_walk File first others = refl
 some_walk Other first others = refl
@@ -41,72 +41,72 @@ some_walk Other first others = refl
 module _ (base : Option Url) (query fragment : Option (List ℕ)) (query_units : MayBeUnits query)
     (fragment_units : MayBeUnits fragment) where
   -- segments in the path state
-  pub joins_ends : (segments : List (List ℕ)) (text : List ℕ) (h : Held) → JoinsTo segments text
-      → Ends base PathState (walking [] h) (text ++ tail query fragment)
+  pub joins_ends : (segments : List (List ℕ)) (text : List ℕ) (v : Variables) → JoinsTo segments text
+      → Ends base PathState (walking [] v) (text ++ tail query fragment)
       (length text + (length (tail query fragment) + 1))
-      (with_tail query fragment (walking (walk (scheme_class h.url.scheme) [] segments) h))
-  joins_ends segments text h joins =
+      (with_tail query fragment (walking (walk (scheme_class v.url.scheme) [] segments) v))
+  joins_ends segments text v joins =
       let spelled : text ≡ join_with_byte slash (joins.first ∷ joins.others)
       = joins.joined ∙ ap (join_with_byte slash) joins.some in
       let each : AreSegments (joins.first ∷ joins.others) = rw joins.some at joins.each in
       rw (spelled, joins.some)
-      (path_ends base joins.first joins.others [] query fragment h each query_units fragment_units)
+      (path_ends base joins.first joins.others [] query fragment v each query_units fragment_units)
 
   -- a path-relative string in the path state
-  pub relative_ends : (segments : List (List ℕ)) (text : List ℕ) (h : Held) → IsPathRelative segments text
-      → Ends base PathState (walking [] h) (text ++ tail query fragment)
+  pub relative_ends : (segments : List (List ℕ)) (text : List ℕ) (v : Variables) → IsPathRelative segments text
+      → Ends base PathState (walking [] v) (text ++ tail query fragment)
       (length text + (length (tail query fragment) + 1))
-      (with_tail query fragment (walking (walk (scheme_class h.url.scheme) [] segments) h))
-  relative_ends segments text h path = joins_ends segments text h path.joins
+      (with_tail query fragment (walking (walk (scheme_class v.url.scheme) [] segments) v))
+  relative_ends segments text v path = joins_ends segments text v path.joins
 
   -- `/` and segments behind an authority
-  slashed_ends : (segments : List (List ℕ)) (text : List ℕ) (h : Held) → IsPathSlashed segments text
-      → Ends base PathStartState (walking [] h) (text ++ tail query fragment)
+  slashed_ends : (segments : List (List ℕ)) (text : List ℕ) (v : Variables) → IsPathSlashed segments text
+      → Ends base PathStartState (walking [] v) (text ++ tail query fragment)
       (length text + (length (tail query fragment) + 2))
-      (with_tail query fragment (walking (authority_path (scheme_class h.url.scheme) segments) h))
-  slashed_ends segments text h path =
+      (with_tail query fragment (walking (authority_path (scheme_class v.url.scheme) segments) v))
+  slashed_ends segments text v path =
       let joins = path.joins in
-      let same : authority_path (scheme_class h.url.scheme) segments ≡ walk (scheme_class h.url.scheme) [] segments
-      = rw joins.some (some_walk (scheme_class h.url.scheme) joins.first joins.others) in
+      let same : authority_path (scheme_class v.url.scheme) segments ≡ walk (scheme_class v.url.scheme) [] segments
+      = rw joins.some (some_walk (scheme_class v.url.scheme) joins.first joins.others) in
       rw (path.slashed, same)
       (ends_within base (omega arith)
-      (ends_step base (λ p. refl) (joins_ends segments path.behind h path.joins)))
+      (ends_step base (λ p. refl) (joins_ends segments path.behind v path.joins)))
 
   -- a special URL has one empty segment where no path is there
-  empty_segment_ends : (h : Held)
-      → ((p : ℕ) → turn base PathStartState p (walking [] h) (tail query fragment) ≡ again PathState (walking [] h))
-      → Ends base PathStartState (walking [] h) (tail query fragment) (length (tail query fragment) + 2)
-      (with_tail query fragment (walking ([] ∷ []) h))
-  empty_segment_ends h row =
-      let ends : Ends base PathState (walking [] h) (tail query fragment) (0 + (length (tail query fragment) + 1))
-      (with_tail query fragment (walking ([] ∷ []) h))
-      = rw (empty_walk (scheme_class h.url.scheme)) at
-      (path_ends base [] [] [] query fragment h empty_segment query_units fragment_units) in
+  empty_segment_ends : (v : Variables)
+      → ((p : ℕ) → turn base PathStartState p (walking [] v) (tail query fragment) ≡ again PathState (walking [] v))
+      → Ends base PathStartState (walking [] v) (tail query fragment) (length (tail query fragment) + 2)
+      (with_tail query fragment (walking ([] ∷ []) v))
+  empty_segment_ends v row =
+      let ends : Ends base PathState (walking [] v) (tail query fragment) (0 + (length (tail query fragment) + 1))
+      (with_tail query fragment (walking ([] ∷ []) v))
+      = rw (empty_walk (scheme_class v.url.scheme)) at
+      (path_ends base [] [] [] query fragment v empty_segment query_units fragment_units) in
       ends_within base (omega arith) (ends_again base row ends)
 
   -- no path at all behind an authority
-  no_path_ends : (kind : Class) (h : Held) → scheme_class h.url.scheme ≡ kind
-      → Ends base PathStartState (walking [] h) (tail query fragment) (length (tail query fragment) + 2)
-      (with_tail query fragment (walking (authority_path kind []) h))
-  no_path_ends Special h of_kind =
-      empty_segment_ends h (λ p. rw of_kind (special_row query fragment (walking [] h)))
-  no_path_ends File h of_kind = empty_segment_ends h (λ p. rw of_kind (special_row query fragment (walking [] h)))
-  no_path_ends Other h of_kind =
+  no_path_ends : (class : Class) (v : Variables) → scheme_class v.url.scheme ≡ class
+      → Ends base PathStartState (walking [] v) (tail query fragment) (length (tail query fragment) + 2)
+      (with_tail query fragment (walking (authority_path class []) v))
+  no_path_ends Special v of_class =
+      empty_segment_ends v (λ p. rw of_class (special_row query fragment (walking [] v)))
+  no_path_ends File v of_class = empty_segment_ends v (λ p. rw of_class (special_row query fragment (walking [] v)))
+  no_path_ends Other v of_class =
       ends_within base (omega arith)
       (tail_ends base PathStartState _ _ query fragment (record {
         at_end =
-            λ p. rw of_kind refl;
+            λ p. rw of_class refl;
         at_query =
-            λ p rest. rw of_kind refl;
-        at_fragment = λ p rest. rw of_kind refl;
+            λ p rest. rw of_class refl;
+        at_fragment = λ p rest. rw of_class refl;
       }) query_units fragment_units)
 
   -- `/` and segments or nothing behind an authority
-  pub path_start_ends : (segments : List (List ℕ)) (text : List ℕ) (h : Held) → MayBePathSlashed segments text
-      → Ends base PathStartState (walking [] h) (text ++ tail query fragment)
+  pub path_start_ends : (segments : List (List ℕ)) (text : List ℕ) (v : Variables) → MayBePathSlashed segments text
+      → Ends base PathStartState (walking [] v) (text ++ tail query fragment)
       (length text + (length (tail query fragment) + 2))
-      (with_tail query fragment (walking (authority_path (scheme_class h.url.scheme) segments) h))
-  path_start_ends segments text h (inl none) =
+      (with_tail query fragment (walking (authority_path (scheme_class v.url.scheme) segments) v))
+  path_start_ends segments text v (inl none) =
       rw (none.0, none.1)
-      (ends_within base (omega arith) (no_path_ends (scheme_class h.url.scheme) h refl))
-  path_start_ends segments text h (inr path) = slashed_ends segments text h path
+      (ends_within base (omega arith) (no_path_ends (scheme_class v.url.scheme) v refl))
+  path_start_ends segments text v (inr path) = slashed_ends segments text v path

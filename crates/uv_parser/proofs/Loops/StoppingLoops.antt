@@ -1,5 +1,5 @@
 -- The parser machine's loops over a path, an opaque path, a query and a fragment stop at the first fault of units,
--- whatever is held before it and whatever text follows that doesn't begin with a hex digit.
+-- whatever the variables are before it and whatever text follows that doesn't begin with a hex digit.
 use Rattle.std.proofs.Common.{◌≡◌, ℕ, Bool, true, false, not, ◌==◌, List, [], ◌∷◌, ◌++◌, length, Option, refl, ◌∙◌, inl, inr, append-nil, eqb-true, arith}
 use Rattle.std.specs.Char.{is_ascii_hexdigit}
 use Rattle.std.proofs.lemmas.Bool.{true≢false, cases_Bool, not-true}
@@ -8,7 +8,7 @@ use Rattle.uv_model.specs.Path.{is_without}
 use Rattle.uv_model.specs.Units.{is_url_code_point, is_unit_at, is_faultless}
 use Rattle.uv_model.specs.Records.Url.{Url}
 use Rattle.uv_model.specs.Encoding.{encoded_code_point}
-use Rattle.uv_parser.specs.Machine.{Held, turn, onward, stop, PathState, OpaquePathState, QueryState, FragmentState, with_fragment, more_fragment}
+use Rattle.uv_parser.specs.Machine.{Variables, turn, onward, stop, PathState, OpaquePathState, QueryState, FragmentState, with_fragment, more_fragment}
 use Rattle.uv_parser.proofs.Loops.Looping.{opaque_row_on, query_row_on}
 use Rattle.uv_parser.proofs.Loops.PathLoops.{path_row_on}
 use Rattle.uv_parser.proofs.Running.Steps.{Stops, stops_here, ends_step, ends_within}
@@ -45,94 +45,94 @@ fault_no_question_mark c rest fault =
 module _ (base : Option Url) where
   -- ---- the query
 
-  query_row_fault : (c : ℕ) (rest : List ℕ) (h : Held) (p : ℕ) → (c == number_sign) ≡ false
+  query_row_fault : (c : ℕ) (rest : List ℕ) (v : Variables) (p : ℕ) → (c == number_sign) ≡ false
       → is_unit_at c rest ≡ false
-      → turn base QueryState p h (c ∷ rest) ≡ stop
-  query_row_fault c rest h p mark fault =
+      → turn base QueryState p v (c ∷ rest) ≡ stop
+  query_row_fault c rest v p mark fault =
       simp (fault_no_slash c rest fault, fault_no_question_mark c rest fault, mark, fault) refl
 
   -- a query with a fault stops
-  pub query_stops : (cs rest : List ℕ) (h : Held) → is_faultless cs ≡ false → is_without number_sign cs ≡ true
-      → no_hex_first rest ≡ true → Stops base QueryState h (cs ++ rest) (length cs)
-  query_stops [] rest h fault without first = absurd (true≢false fault)
-  query_stops (c ∷ cs) rest h fault without first =
+  pub query_stops : (cs rest : List ℕ) (v : Variables) → is_faultless cs ≡ false → is_without number_sign cs ≡ true
+      → no_hex_first rest ≡ true → Stops base QueryState v (cs ++ rest) (length cs)
+  query_stops [] rest v fault without first = absurd (true≢false fault)
+  query_stops (c ∷ cs) rest v fault without first =
       let other = without_parts number_sign c cs without in
       let same = unit_before c cs rest first in
       elim (cases_Bool (is_unit_at c cs)) [
         | inl unit ↦
-            ends_step base (λ p. query_row_on base c (cs ++ rest) h p (same ∙ unit))
+            ends_step base (λ p. query_row_on base c (cs ++ rest) v p (same ∙ unit))
             (query_stops cs rest _ (rw unit at fault) other.1 first)
         | inr bad ↦
             ends_within base (omega arith)
-            (stops_here base (λ p. query_row_fault c (cs ++ rest) h p other.0 (same ∙ bad)))
+            (stops_here base (λ p. query_row_fault c (cs ++ rest) v p other.0 (same ∙ bad)))
       ]
 
   -- ---- the fragment
 
-  fragment_row_on : (c : ℕ) (rest : List ℕ) (h : Held) (p : ℕ) → is_unit_at c rest ≡ true
-      → turn base FragmentState p h (c ∷ rest)
-      ≡ onward FragmentState (with_fragment (more_fragment (encoded_code_point false c) h.url.fragment) h)
-  fragment_row_on c rest h p ok = rw ok refl
+  fragment_row_on : (c : ℕ) (rest : List ℕ) (v : Variables) (p : ℕ) → is_unit_at c rest ≡ true
+      → turn base FragmentState p v (c ∷ rest)
+      ≡ onward FragmentState (with_fragment (more_fragment (encoded_code_point false c) v.url.fragment) v)
+  fragment_row_on c rest v p ok = rw ok refl
 
-  fragment_row_fault : (c : ℕ) (rest : List ℕ) (h : Held) (p : ℕ) → is_unit_at c rest ≡ false
-      → turn base FragmentState p h (c ∷ rest) ≡ stop
-  fragment_row_fault c rest h p fault = rw fault refl
+  fragment_row_fault : (c : ℕ) (rest : List ℕ) (v : Variables) (p : ℕ) → is_unit_at c rest ≡ false
+      → turn base FragmentState p v (c ∷ rest) ≡ stop
+  fragment_row_fault c rest v p fault = rw fault refl
 
   -- a fragment with a fault stops
-  pub fragment_stops : (cs rest : List ℕ) (h : Held) → is_faultless cs ≡ false → no_hex_first rest ≡ true
-      → Stops base FragmentState h (cs ++ rest) (length cs)
-  fragment_stops [] rest h fault first = absurd (true≢false fault)
-  fragment_stops (c ∷ cs) rest h fault first =
+  pub fragment_stops : (cs rest : List ℕ) (v : Variables) → is_faultless cs ≡ false → no_hex_first rest ≡ true
+      → Stops base FragmentState v (cs ++ rest) (length cs)
+  fragment_stops [] rest v fault first = absurd (true≢false fault)
+  fragment_stops (c ∷ cs) rest v fault first =
       let same = unit_before c cs rest first in
       elim (cases_Bool (is_unit_at c cs)) [
         | inl unit ↦
-            ends_step base (λ p. fragment_row_on c (cs ++ rest) h p (same ∙ unit))
+            ends_step base (λ p. fragment_row_on c (cs ++ rest) v p (same ∙ unit))
             (fragment_stops cs rest _ (rw unit at fault) first)
         | inr bad ↦
             ends_within base (omega arith)
-            (stops_here base (λ p. fragment_row_fault c (cs ++ rest) h p (same ∙ bad)))
+            (stops_here base (λ p. fragment_row_fault c (cs ++ rest) v p (same ∙ bad)))
       ]
 
   -- ---- the opaque path
 
-  opaque_row_fault : (c : ℕ) (rest : List ℕ) (h : Held) (p : ℕ) → (c == number_sign) ≡ false
+  opaque_row_fault : (c : ℕ) (rest : List ℕ) (v : Variables) (p : ℕ) → (c == number_sign) ≡ false
       → is_unit_at c rest ≡ false
-      → turn base OpaquePathState p h (c ∷ rest) ≡ stop
-  opaque_row_fault c rest h p mark fault =
+      → turn base OpaquePathState p v (c ∷ rest) ≡ stop
+  opaque_row_fault c rest v p mark fault =
       simp (fault_no_slash c rest fault, fault_no_question_mark c rest fault, mark, fault) refl
 
   -- an opaque path with a fault stops
-  pub opaque_path_stops : (cs rest : List ℕ) (h : Held) → is_faultless cs ≡ false
+  pub opaque_path_stops : (cs rest : List ℕ) (v : Variables) → is_faultless cs ≡ false
       → is_without question_mark cs ≡ true → is_without number_sign cs ≡ true
-      → no_hex_first rest ≡ true → Stops base OpaquePathState h (cs ++ rest) (length cs)
-  opaque_path_stops [] rest h fault no_question no_number first = absurd (true≢false fault)
-  opaque_path_stops (c ∷ cs) rest h fault no_question no_number first =
+      → no_hex_first rest ≡ true → Stops base OpaquePathState v (cs ++ rest) (length cs)
+  opaque_path_stops [] rest v fault no_question no_number first = absurd (true≢false fault)
+  opaque_path_stops (c ∷ cs) rest v fault no_question no_number first =
       let question = without_parts question_mark c cs no_question in
       let number = without_parts number_sign c cs no_number in
       let same = unit_before c cs rest first in
       elim (cases_Bool (is_unit_at c cs)) [
         | inl unit ↦
-            ends_step base (λ p. opaque_row_on base c (cs ++ rest) h p question.0 (same ∙ unit))
+            ends_step base (λ p. opaque_row_on base c (cs ++ rest) v p question.0 (same ∙ unit))
             (opaque_path_stops cs rest _ (rw unit at fault) question.1 number.1 first)
         | inr bad ↦
             ends_within base (omega arith)
-            (stops_here base (λ p. opaque_row_fault c (cs ++ rest) h p number.0 (same ∙ bad)))
+            (stops_here base (λ p. opaque_row_fault c (cs ++ rest) v p number.0 (same ∙ bad)))
       ]
 
   -- ---- the path
 
-  path_row_fault : (c : ℕ) (rest : List ℕ) (h : Held) (p : ℕ) → (c == number_sign) ≡ false
+  path_row_fault : (c : ℕ) (rest : List ℕ) (v : Variables) (p : ℕ) → (c == number_sign) ≡ false
       → is_unit_at c rest ≡ false
-      → turn base PathState p h (c ∷ rest) ≡ stop
-  path_row_fault c rest h p mark fault =
+      → turn base PathState p v (c ∷ rest) ≡ stop
+  path_row_fault c rest v p mark fault =
       simp (fault_no_slash c rest fault, fault_no_question_mark c rest fault, mark, fault) refl
 
   -- a path with a fault stops, in whichever segment the fault stands
-  pub path_stops : (cs rest : List ℕ) (h : Held) → is_faultless cs ≡ false
+  pub path_stops : (cs rest : List ℕ) (v : Variables) → is_faultless cs ≡ false
       → is_without question_mark cs ≡ true → is_without number_sign cs ≡ true
-      → no_hex_first rest ≡ true → Stops base PathState h (cs ++ rest) (length cs)
-  path_stops [] rest h fault no_question no_number first = absurd (true≢false fault)
-  path_stops (c ∷ cs) rest h fault no_question no_number first =
+      → no_hex_first rest ≡ true → Stops base PathState v (cs ++ rest) (length cs)
+  path_stops [] rest v fault no_question no_number first = absurd (true≢false fault)
+  path_stops (c ∷ cs) rest v fault no_question no_number first =
       let question = without_parts question_mark c cs no_question in
       let number = without_parts number_sign c cs no_number in
       let same = unit_before c cs rest first in
@@ -144,10 +144,10 @@ module _ (base : Option Url) where
                   rw (eqb-true c slash is)
                   (ends_step base (λ p. refl) (path_stops cs rest _ later question.1 number.1 first))
               | inr other ↦
-                  ends_step base (λ p. path_row_on base c (cs ++ rest) h p other question.0 (same ∙ unit))
+                  ends_step base (λ p. path_row_on base c (cs ++ rest) v p other question.0 (same ∙ unit))
                   (path_stops cs rest _ later question.1 number.1 first)
             ]
         | inr bad ↦
             ends_within base (omega arith)
-            (stops_here base (λ p. path_row_fault c (cs ++ rest) h p number.0 (same ∙ bad)))
+            (stops_here base (λ p. path_row_fault c (cs ++ rest) v p number.0 (same ∙ bad)))
       ]

@@ -8,7 +8,7 @@ use Rattle.uv_model.specs.Path.{starts_with_slash}
 use Rattle.uv_model.specs.Units.{IsUnits}
 use Rattle.uv_model.specs.Records.Url.{Url}
 use Rattle.uv_model.specs.Valid.{MayBeUnits}
-use Rattle.uv_parser.specs.Machine.{State, Held, turn, onward, to_query, to_fragment, QueryState, FragmentState, emptied, with_query, with_fragment, with_more, query_ended, is_special, begins}
+use Rattle.uv_parser.specs.Machine.{State, Variables, turn, onward, to_query, to_fragment, QueryState, FragmentState, emptied, with_query, with_fragment, with_more, query_ended, is_special, begins}
 use Rattle.uv_parser.proofs.Running.Steps.{Ends, ends_onward, ends_step, ends_after, ends_within}
 use Rattle.uv_model.proofs.Texts.UnitsLemmas.{is_faultless-units}
 use Rattle.uv_parser.proofs.Loops.Looping.{query_law, fragment_law}
@@ -17,62 +17,62 @@ use Rattle.uv_parser.proofs.Loops.Looping.{query_law, fragment_law}
 abbrev pub tail : Option (List ℕ) → Option (List ℕ) → List ℕ
 tail query fragment = written_behind question_mark query ++ written_behind number_sign fragment
 
--- held with no buffer and no fragment
-abbrev pub bare : Held → Held
-bare h = emptied (with_fragment None h)
+-- the variables with no buffer and no fragment
+abbrev pub bare : Variables → Variables
+bare v = emptied (with_fragment None v)
 
--- the text's query, encoded for the scheme, else the query that is held
-abbrev pub query_given : Option (List ℕ) → Held → Option (List ℕ)
-query_given None h = h.url.query
-query_given (Some query) h = Some (encoded (is_special h.url.scheme) query)
+-- the text's query, encoded for the scheme, else the query that the URL has
+abbrev pub query_given : Option (List ℕ) → Variables → Option (List ℕ)
+query_given None v = v.url.query
+query_given (Some query) v = Some (encoded (is_special v.url.scheme) query)
 
--- the URL that is held with this query and this fragment
-abbrev pub with_tail : Option (List ℕ) → Option (List ℕ) → Held → Url
-with_tail query fragment h =
-    record (h.url) { query = query_given query h; fragment = option_map (encoded false) fragment }
+-- the URL with this query and this fragment
+abbrev pub with_tail : Option (List ℕ) → Option (List ℕ) → Variables → Url
+with_tail query fragment v =
+    record (v.url) { query = query_given query v; fragment = option_map (encoded false) fragment }
 
 -- The rows of a state that ends a path: at the end it is done, and `?` and `#` begin the query and the fragment.
-pub record TurnsToTail (base : Option Url) (s : State) (h h₁ : Held) : Type 0 where
-  pub at_end : (p : ℕ) → turn base s p h [] ≡ onward s (bare h₁)
-  pub at_query : (p : ℕ) (rest : List ℕ) → turn base s p h (question_mark ∷ rest) ≡ to_query (bare h₁)
-  pub at_fragment : (p : ℕ) (rest : List ℕ) → turn base s p h (number_sign ∷ rest) ≡ to_fragment (bare h₁)
+pub record TurnsToTail (base : Option Url) (s : State) (v v₁ : Variables) : Type 0 where
+  pub at_end : (p : ℕ) → turn base s p v [] ≡ onward s (bare v₁)
+  pub at_query : (p : ℕ) (rest : List ℕ) → turn base s p v (question_mark ∷ rest) ≡ to_query (bare v₁)
+  pub at_fragment : (p : ℕ) (rest : List ℕ) → turn base s p v (number_sign ∷ rest) ≡ to_fragment (bare v₁)
 
 module _ (base : Option Url) where
   -- a fragment that has begun ends the run at its end
-  pub fragment_ends : (cs : List ℕ) (h : Held) → IsUnits cs
-      → Ends base FragmentState (with_fragment (Some []) h) cs (length cs + 1)
-      (with_fragment (Some (encoded false cs)) h).url
-  fragment_ends cs h units =
+  pub fragment_ends : (cs : List ℕ) (v : Variables) → IsUnits cs
+      → Ends base FragmentState (with_fragment (Some []) v) cs (length cs + 1)
+      (with_fragment (Some (encoded false cs)) v).url
+  fragment_ends cs v units =
       rw append-nil at
-      (ends_after base (fragment_law base cs [] [] h (is_faultless-units cs units)) (ends_onward base (λ p. refl)))
+      (ends_after base (fragment_law base cs [] [] v (is_faultless-units cs units)) (ends_onward base (λ p. refl)))
 
   -- a query that has begun ends the run at its end, or at that of a fragment behind it
-  pub query_ends : (cs : List ℕ) (fragment : Option (List ℕ)) (h : Held) → IsUnits cs → MayBeUnits fragment
-      → Ends base QueryState (with_query (Some []) (bare h)) (cs ++ written_behind number_sign fragment)
-      (length (cs ++ written_behind number_sign fragment) + 1) (with_tail (Some cs) fragment h)
-  query_ends cs None h units fragment_units =
+  pub query_ends : (cs : List ℕ) (fragment : Option (List ℕ)) (v : Variables) → IsUnits cs → MayBeUnits fragment
+      → Ends base QueryState (with_query (Some []) (bare v)) (cs ++ written_behind number_sign fragment)
+      (length (cs ++ written_behind number_sign fragment) + 1) (with_tail (Some cs) fragment v)
+  query_ends cs None v units fragment_units =
       ends_within base (omega (arith, length-append cs []))
-      (ends_after base (query_law base cs [] (with_query (Some []) (bare h)) (is_faultless-units cs units))
+      (ends_after base (query_law base cs [] (with_query (Some []) (bare v)) (is_faultless-units cs units))
       (ends_onward base (λ p. refl)))
-  query_ends cs (Some fragment) h units fragment_units =
+  query_ends cs (Some fragment) v units fragment_units =
       ends_within base (omega (arith, length-append cs (number_sign ∷ fragment)))
       (ends_after base
-      (query_law base cs (number_sign ∷ fragment) (with_query (Some []) (bare h)) (is_faultless-units cs units))
+      (query_law base cs (number_sign ∷ fragment) (with_query (Some []) (bare v)) (is_faultless-units cs units))
       (ends_step base (λ p. refl)
-      (fragment_ends fragment (query_ended (with_more cs (with_query (Some []) (bare h)))) fragment_units)))
+      (fragment_ends fragment (query_ended (with_more cs (with_query (Some []) (bare v)))) fragment_units)))
 
   -- behind a path the query and the fragment, where there are any, end the run
-  pub tail_ends : (s : State) (h h₁ : Held) (query fragment : Option (List ℕ))
-      → TurnsToTail base s h h₁ → MayBeUnits query → MayBeUnits fragment
-      → Ends base s h (tail query fragment) (length (tail query fragment) + 1) (with_tail query fragment h₁)
-  tail_ends s h h₁ None None turns query_units fragment_units = ends_onward base turns.at_end
-  tail_ends s h h₁ None (Some fragment) turns query_units fragment_units =
+  pub tail_ends : (s : State) (v v₁ : Variables) (query fragment : Option (List ℕ))
+      → TurnsToTail base s v v₁ → MayBeUnits query → MayBeUnits fragment
+      → Ends base s v (tail query fragment) (length (tail query fragment) + 1) (with_tail query fragment v₁)
+  tail_ends s v v₁ None None turns query_units fragment_units = ends_onward base turns.at_end
+  tail_ends s v v₁ None (Some fragment) turns query_units fragment_units =
       ends_within base (omega arith)
-      (ends_step base (λ p. turns.at_fragment p fragment) (fragment_ends fragment (bare h₁) fragment_units))
-  tail_ends s h h₁ (Some query) fragment turns query_units fragment_units =
+      (ends_step base (λ p. turns.at_fragment p fragment) (fragment_ends fragment (bare v₁) fragment_units))
+  tail_ends s v v₁ (Some query) fragment turns query_units fragment_units =
       ends_within base (omega arith)
       (ends_step base (λ p. turns.at_query p (query ++ written_behind number_sign fragment))
-      (query_ends query fragment h₁ query_units fragment_units))
+      (query_ends query fragment v₁ query_units fragment_units))
 
 -- a tail doesn't begin with `/`, and so neither does a path that doesn't, with a tail behind it
 pub no_slash_before_tail : (path : List ℕ) (query fragment : Option (List ℕ)) → starts_with_slash path ≡ false

@@ -38,10 +38,10 @@ use Rattle.uv_model.proofs.Records.WellFormedLemmas.{IsUrlFragment-encoded}
 -- ---- the host and the port of an authority
 
 -- what stands behind `//`, as it is denoted
-record IsParsedAuthority (kind : Class) (scheme : List ℕ) (parts : Parts) : Type 0 where
+record IsParsedAuthority (class : Class) (scheme : List ℕ) (parts : Parts) : Type 0 where
   value : Host
   valued : authority_host parts ≡ Some value
-  host : IsReadableHost kind (Some value)
+  host : IsReadableHost class (Some value)
   port : IsUrlPort scheme (Some value) parts.port
 
 -- a port may follow a special URL's host
@@ -70,15 +70,15 @@ file_readable host.Empty is = absurd is
 other_port : (scheme host_text : List ℕ) (value : Host) (port_text : Option (List ℕ)) → scheme_class scheme ≡ Other
     → IsTakenOtherHost host_text value → (host_text ≡ [] → port_text ≡ None)
     → MayBePortText port_text → IsUrlPort scheme (Some value) (port_given (default_port scheme) port_text)
-other_port scheme [] value port_text kind taken alone valid = rw (alone refl) tt
-other_port scheme (c ∷ rest) value port_text kind taken alone valid =
+other_port scheme [] value port_text class taken alone valid = rw (alone refl) tt
+other_port scheme (c ∷ rest) value port_text class taken alone valid =
     IsUrlPort-given scheme (Some value) port_text valid
-    (rw kind (other_takes_port (c ∷ rest) value taken (λ nothing. cc)))
+    (rw class (other_takes_port (c ∷ rest) value taken (λ nothing. cc)))
 
 -- by the class
-parsed_authority : (kind : Class) (scheme host_text : List ℕ) (parts : Parts) → scheme_class scheme ≡ kind
-    → parts.host_text ≡ Some host_text → Takes kind scheme host_text parts → IsParsedAuthority kind scheme parts
-parsed_authority Special scheme host_text parts kind text is =
+parsed_authority : (class : Class) (scheme host_text : List ℕ) (parts : Parts) → scheme_class scheme ≡ class
+    → parts.host_text ≡ Some host_text → Takes class scheme host_text parts → IsParsedAuthority class scheme parts
+parsed_authority Special scheme host_text parts class text is =
     let readable = special_readable host_text is.value is.host.parsed in
     record {
       value = is.value;
@@ -87,9 +87,9 @@ parsed_authority Special scheme host_text parts kind text is =
       port =
           rw is.port
           (IsUrlPort-given scheme (Some is.value) parts.port_text is.port_text
-          (rw kind (takes_port-special is.value readable)));
+          (rw class (takes_port-special is.value readable)));
     }
-parsed_authority File scheme host_text parts kind text is =
+parsed_authority File scheme host_text parts class text is =
     elim is.host [
       | inl (value, taken, valued) ↦ record {
         value = value;
@@ -104,14 +104,14 @@ parsed_authority File scheme host_text parts kind text is =
         port = rw is.no_port tt;
       }
     ]
-parsed_authority Other scheme host_text parts kind text is =
+parsed_authority Other scheme host_text parts class text is =
     let (value, without, parsed, valued) = (silent_other_hosts_are_valid host_text parts.host).1 is.host in
     let taken = (other_hosts_are_taken host_text value).0 parsed in
     record {
       value = value;
       valued = sym (other_valued parts host_text value text parsed valued);
       host = other_readable host_text value taken;
-      port = rw is.port (other_port scheme host_text value parts.port_text kind taken is.alone is.port_text);
+      port = rw is.port (other_port scheme host_text value parts.port_text class taken is.alone is.port_text);
     }
 
 -- by the host text
@@ -132,13 +132,13 @@ slashed_segments segments text (inr is) = is.joins.each
 -- the URL that a form with an authority denotes
 abbrev authority_url : Option Url → Form → Parts → Url
 authority_url base form parts =
-    let kind = scheme_class (scheme_in base parts) in
+    let class = scheme_class (scheme_in base parts) in
     record {
       scheme = denoted_scheme base parts.scheme;
       host = authority_host parts;
       port = parts.port;
-      path = Segments (authority_path kind parts.segments);
-      query = denoted_query base kind form parts.query;
+      path = Segments (authority_path class parts.segments);
+      query = denoted_query base class form parts.query;
       fragment = option_map (encoded false) parts.fragment;
     }
 
@@ -147,10 +147,10 @@ with_authority : (base : Option Url) (text : List ℕ) (form : Form) (parts : Pa
     → TakesAuthority base parts → IsUrlScheme (denoted_scheme base parts.scheme) → (form ≡ NoPath → ⊥)
     → IsReadable (authority_url base form parts)
 with_authority base text form parts silent takes scheme other =
-    let kind : Class = scheme_class (scheme_in base parts) in
+    let class : Class = scheme_class (scheme_in base parts) in
     let name : List ℕ = denoted_scheme base parts.scheme in
-    let path : UrlPath = Segments (authority_path kind parts.segments) in
-    let same : kind ≡ scheme_class name = class-denoted base parts parts.scheme refl in
+    let path : UrlPath = Segments (authority_path class parts.segments) in
+    let same : class ≡ scheme_class name = class-denoted base parts parts.scheme refl in
     let is = authority_taken base parts parts.host_text refl takes.0 in
     let port : IsUrlPort name (Some is.value) parts.port
     = IsUrlPort-same name (scheme_in base parts) (Some is.value) parts.port (sym same)
@@ -160,15 +160,15 @@ with_authority base text form parts silent takes scheme other =
       scheme = scheme;
       host =
           subst (λ (k : Class). IsReadableHost k (authority_host parts)) same
-          (subst (λ (h : Option Host). IsReadableHost kind h) (sym is.valued) is.host);
+          (subst (λ (h : Option Host). IsReadableHost class h) (sym is.valued) is.host);
       port = subst (λ (h : Option Host). IsUrlPort name h parts.port) (sym is.valued) port;
       path =
           subst (λ (k : Class). IsUrlPath k (authority_host parts) path) same
-          (subst (λ (h : Option Host). IsUrlPath kind h path) (sym is.valued)
-          (IsUrlPath-authority kind is.value parts.segments each));
+          (subst (λ (h : Option Host). IsUrlPath class h path) (sym is.valued)
+          (IsUrlPath-authority class is.value parts.segments each));
       query =
-          subst (λ (k : Class). IsUrlQuery k (denoted_query base kind form parts.query)) same
-          (IsUrlQuery-own base kind form parts.query silent.query (λ e none. absurd (other e)));
+          subst (λ (k : Class). IsUrlQuery k (denoted_query base class form parts.query)) same
+          (IsUrlQuery-own base class form parts.query silent.query (λ e none. absurd (other e)));
       fragment = IsUrlFragment-encoded parts.fragment silent.fragment;
     }
 

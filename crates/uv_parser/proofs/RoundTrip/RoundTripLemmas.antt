@@ -35,19 +35,19 @@ read_back_from url is =
     ∙ ap Done is.denoted
 
 -- a URL without a host is of class Other
-other_without : (kind : Class) → IsReadableHost kind None → kind ≡ Other
+other_without : (class : Class) → IsReadableHost class None → class ≡ Other
 other_without Special is = absurd is
 other_without File is = absurd is
 other_without Other is = refl
 
 -- and has a segment
-some_without : (kind : Class) → may_be_empty kind None ≡ false
+some_without : (class : Class) → may_be_empty class None ≡ false
 some_without Special = refl
 some_without File = refl
 some_without Other = refl
 
 -- and no port
-takes_nothing : (kind : Class) → takes_port kind None ≡ false
+takes_nothing : (class : Class) → takes_port class None ≡ false
 takes_nothing Special = refl
 takes_nothing File = refl
 takes_nothing Other = refl
@@ -87,8 +87,8 @@ readable_urls_are_read_back url is =
 -- ---- well-formed URLs
 
 -- the host of a well-formed URL is readable where it is stable
-readable_host : (kind : Class) (value : Option Host) → IsUrlHost Wide kind value → MayBeStableHost value
-    → IsReadableHost kind value
+readable_host : (class : Class) (value : Option Host) → IsUrlHost Wide class value → MayBeStableHost value
+    → IsReadableHost class value
 readable_host Special None is stable = absurd is
 readable_host Special (Some (host.Domain form)) is stable = stable
 readable_host Special (Some (host.V4 value)) is stable = stable
@@ -126,9 +126,9 @@ stable_urls_are_read_back url well stable = readable_urls_are_read_back url (rea
 -- ---- what a valid text denotes
 
 -- the host and the port of an authority
-authority_stable : (kind : Class) (setting : Setting) (host_text : List ℕ) (parts : Parts)
+authority_stable : (class : Class) (setting : Setting) (host_text : List ℕ) (parts : Parts)
     → parts.host_text ≡ Some host_text
-    → FitsAuthority kind setting host_text parts
+    → FitsAuthority class setting host_text parts
     → MayBeStableHost (authority_host parts) × MayBePortNumber parts.port
 authority_stable Special setting host_text parts text is = (
   authority_host_stable parts (Some is.value) (Some host_text) is.valued text

@@ -73,14 +73,14 @@ path_above segments text (inr is) =
     (is_faultless-units (join_with_byte slash segments) (IsUnits-join segments is.joins.each)))
 
 -- the path of a URL with a host has segments of a URL
-path_segments : (kind : Class) (value : Host) (segments : List (List ℕ))
-    → IsUrlPath kind (Some value) (Segments segments) → AreUrlSegments segments
-path_segments kind value [] is = tt
-path_segments kind value (segment ∷ rest) is = is
+path_segments : (class : Class) (value : Host) (segments : List (List ℕ))
+    → IsUrlPath class (Some value) (Segments segments) → AreUrlSegments segments
+path_segments class value [] is = tt
+path_segments class value (segment ∷ rest) is = is
 
 -- and denotes itself
-path_denoted : (kind : Class) (value : Host) (segments : List (List ℕ))
-    → IsUrlPath kind (Some value) (Segments segments) → authority_path kind segments ≡ segments
+path_denoted : (class : Class) (value : Host) (segments : List (List ℕ))
+    → IsUrlPath class (Some value) (Segments segments) → authority_path class segments ≡ segments
 path_denoted Special value [] is = absurd (false≢true is)
 path_denoted File value [] is = absurd (false≢true is)
 path_denoted Other value [] is = refl
@@ -91,10 +91,10 @@ path_denoted Other value (segment ∷ rest) is = walk-kept Other [] (segment ∷
 -- ---- the port
 
 -- the port, with its text
-record PortFits (kind : Class) (scheme : List ℕ) (value : Host) (port : Option ℕ) : Type 0 where
+record PortFits (class : Class) (scheme : List ℕ) (value : Host) (port : Option ℕ) : Type 0 where
   text : MayBePortText (option_map decimal port)
   given : port ≡ port_given (default_port scheme) (option_map decimal port)
-  taken : (port ≡ None) ⊎ (takes_port kind (Some value) ≡ true)
+  taken : (port ≡ None) ⊎ (takes_port class (Some value) ≡ true)
 
 -- the port of a URL with its text
 port_fits : (scheme : List ℕ) (value : Host) (port : Option ℕ) → IsUrlPort scheme (Some value) port
@@ -168,10 +168,10 @@ own_special (host.Opaque text) is = absurd is
 own_special host.Empty is = absurd is
 
 -- the parser's grammar takes the host and the port
-takes : (kind : Class) (scheme : List ℕ) (value : Host) (port : Option ℕ) (segments : List (List ℕ))
-    (query fragment : Option (List ℕ)) → IsReadableHost kind (Some value)
-    → PortFits kind scheme value port
-    → Takes kind scheme (serial_host value) (authority_parts scheme value port segments query fragment)
+takes : (class : Class) (scheme : List ℕ) (value : Host) (port : Option ℕ) (segments : List (List ℕ))
+    (query fragment : Option (List ℕ)) → IsReadableHost class (Some value)
+    → PortFits class scheme value port
+    → Takes class scheme (serial_host value) (authority_parts scheme value port segments query fragment)
 takes Special scheme value port segments query fragment is fits = record {
   value = value;
   host = special_taken value is;
@@ -199,22 +199,22 @@ takes Other scheme value port segments query fragment is fits = record {
 }
 
 -- the host is cut where its text ends
-host_cut : (kind : Class) (value : Host) (port : Option ℕ) → IsHostRead (serial_host value)
-    → (port ≡ None) ⊎ (takes_port kind (Some value) ≡ true)
-    → IsHostCut kind (serial_host value) (option_map decimal port)
+host_cut : (class : Class) (value : Host) (port : Option ℕ) → IsHostRead (serial_host value)
+    → (port ≡ None) ⊎ (takes_port class (Some value) ≡ true)
+    → IsHostCut class (serial_host value) (option_map decimal port)
 host_cut Special value port read taken = read.word.ends (option_map decimal port)
 host_cut File value port read taken = rw (no_file_port value port taken) refl
 host_cut Other value port read taken = read.word.ends (option_map decimal port)
 
 -- the host of the parts is the URL's
-host_denoted : (kind : Class) (value : Host) → IsReadableHost kind (Some value)
+host_denoted : (class : Class) (value : Host) → IsReadableHost class (Some value)
     → (parts : Parts) → parts.host ≡ own_value value → parts.host_text ≡ Some (serial_host value)
     → authority_host parts ≡ Some value
 unfolding serial_host
-host_denoted kind (host.Domain form) is parts own text = rw own refl
-host_denoted kind (host.V4 value) is parts own text = rw own refl
-host_denoted kind (host.V6 pieces) is parts own text = rw own refl
-host_denoted kind host.Empty is parts own text = rw own refl
+host_denoted class (host.Domain form) is parts own text = rw own refl
+host_denoted class (host.V4 value) is parts own text = rw own refl
+host_denoted class (host.V6 pieces) is parts own text = rw own refl
+host_denoted class host.Empty is parts own text = rw own refl
 host_denoted Special (host.Opaque name) is parts own text = absurd is
 host_denoted File (host.Opaque name) is parts own text = absurd is
 host_denoted Other (host.Opaque name) is parts own text =

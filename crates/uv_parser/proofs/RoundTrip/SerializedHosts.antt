@@ -117,7 +117,7 @@ nothing_read : IsHostRead []
 nothing_read = record { word = word_of_nothing; read = read_plain [] refl }
 
 -- the text of a well-formed URL's host
-pub host_read : (kind : Class) (value : Host) → IsReadableHost kind (Some value) → IsHostRead (serial_host value)
+pub host_read : (class : Class) (value : Host) → IsReadableHost class (Some value) → IsHostRead (serial_host value)
 unfolding serial_host
 host_read Special (host.Domain form) is = domain_read form is
 host_read Special (host.V4 value) is = ipv4_read value is

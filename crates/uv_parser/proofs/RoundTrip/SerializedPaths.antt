@@ -62,10 +62,10 @@ pub lowercase-scheme : (scheme : List ℕ) → IsUrlScheme scheme → lowercase 
 lowercase-scheme scheme is = lowercase-name scheme (lower scheme (is_ascii-scheme scheme is.spelled) is.lower)
 
 -- a URL's query denotes itself, in a form in which an absent one denotes none
-pub denoted_query-own : (kind : Class) (form : Form) (query : Option (List ℕ))
-    → denoted_query None kind form None ≡ None → IsUrlQuery kind query → denoted_query None kind form query ≡ query
-denoted_query-own kind form (Some query) none is = encoded-query kind (Some query) is
-denoted_query-own kind form None none is = none
+pub denoted_query-own : (class : Class) (form : Form) (query : Option (List ℕ))
+    → denoted_query None class form None ≡ None → IsUrlQuery class query → denoted_query None class form query ≡ query
+denoted_query-own class form (Some query) none is = encoded-query class (Some query) is
+denoted_query-own class form None none is = none
 
 -- ---- without a host
 
@@ -170,13 +170,13 @@ shown_text ([] ∷ next ∷ rest) = refl
 shown_text ((c ∷ cs) ∷ rest) = refl
 
 -- a walk drops the `.`
-shown_walk : (kind : Class) (segments : List (List ℕ)) → AreUrlSegments segments
-    → walk kind [] (shown segments) ≡ segments
+shown_walk : (class : Class) (segments : List (List ℕ)) → AreUrlSegments segments
+    → walk class [] (shown segments) ≡ segments
 unfolding walk is_single_dot is_double_dot
-shown_walk kind [] are = refl
-shown_walk kind ([] ∷ []) are = walk-kept kind [] ([] ∷ []) are
-shown_walk kind ([] ∷ next ∷ rest) are = walk-kept kind [] ([] ∷ next ∷ rest) are
-shown_walk kind ((c ∷ cs) ∷ rest) are = walk-kept kind [] ((c ∷ cs) ∷ rest) are
+shown_walk class [] are = refl
+shown_walk class ([] ∷ []) are = walk-kept class [] ([] ∷ []) are
+shown_walk class ([] ∷ next ∷ rest) are = walk-kept class [] ([] ∷ next ∷ rest) are
+shown_walk class ((c ∷ cs) ∷ rest) are = walk-kept class [] ((c ∷ cs) ∷ rest) are
 
 -- `.` is a segment of a text
 IsSegment-dot : IsSegment (codes ".")

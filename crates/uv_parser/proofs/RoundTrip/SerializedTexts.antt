@@ -56,9 +56,9 @@ quoted_kept (c ∷ rest) ascii without =
     and_from _ _ (and_from _ _ parts.0 (not_quoted c others.0)) (quoted_kept rest parts.1 others.1)
 
 -- a URL's query is encoded as itself
-pub encoded-query : (kind : Class) (query : Option (List ℕ)) → IsUrlQuery kind query
-    → option_map (encoded (quotes kind)) query ≡ query
-encoded-query kind None is = refl
+pub encoded-query : (class : Class) (query : Option (List ℕ)) → IsUrlQuery class query
+    → option_map (encoded (quotes class)) query ≡ query
+encoded-query class None is = refl
 encoded-query Special (Some query) is = ap Some (encoded-kept true query (quoted_kept query is.0.ascii is.1))
 encoded-query File (Some query) is = ap Some (encoded-kept true query (quoted_kept query is.0.ascii is.1))
 encoded-query Other (Some query) is = ap Some (encoded-ascii query is.ascii)
@@ -70,8 +70,8 @@ encoded-fragment None is = refl
 encoded-fragment (Some fragment) is = ap Some (encoded-ascii fragment is.ascii)
 
 -- the query is units
-pub query_units : (kind : Class) (query : Option (List ℕ)) → IsUrlQuery kind query → MayBeUnits query
-query_units kind None is = tt
+pub query_units : (class : Class) (query : Option (List ℕ)) → IsUrlQuery class query → MayBeUnits query
+query_units class None is = tt
 query_units Special (Some query) is = is.0.units
 query_units File (Some query) is = is.0.units
 query_units Other (Some query) is = is.units
@@ -96,20 +96,20 @@ serial_segments-joined segment (next ∷ rest) =
     ap (λ xs. slash ∷ (segment ++ xs)) (serial_segments-joined next rest)
 
 -- one of them is added as it is
-walk_one-kept : (kind : Class) (last : Bool) (path : List (List ℕ)) (segment : List ℕ) → IsUrlSegment segment
-    → walk_one kind last path segment ≡ path ++ (segment ∷ [])
-walk_one-kept kind last path segment is =
+walk_one-kept : (class : Class) (last : Bool) (path : List (List ℕ)) (segment : List ℕ) → IsUrlSegment segment
+    → walk_one class last path segment ≡ path ++ (segment ∷ [])
+walk_one-kept class last path segment is =
     rw (is.no_double_dot, is.no_single_dot) (ap (λ s. path ++ (s ∷ [])) (encoded-ascii segment is.ascii))
 
 -- a walk over them adds them
-pub walk-kept : (kind : Class) (path segments : List (List ℕ)) → AreUrlSegments segments
-    → walk kind path segments ≡ path ++ segments
+pub walk-kept : (class : Class) (path segments : List (List ℕ)) → AreUrlSegments segments
+    → walk class path segments ≡ path ++ segments
 unfolding walk
-walk-kept kind path [] are = sym (append-nil path)
-walk-kept kind path (segment ∷ []) are = walk_one-kept kind true path segment are.0
-walk-kept kind path (segment ∷ next ∷ rest) are =
-    ap (λ start. walk kind start (next ∷ rest)) (walk_one-kept kind false path segment are.0)
-    ∙ walk-kept kind (path ++ (segment ∷ [])) (next ∷ rest) are.1
+walk-kept class path [] are = sym (append-nil path)
+walk-kept class path (segment ∷ []) are = walk_one-kept class true path segment are.0
+walk-kept class path (segment ∷ next ∷ rest) are =
+    ap (λ start. walk class start (next ∷ rest)) (walk_one-kept class false path segment are.0)
+    ∙ walk-kept class (path ++ (segment ∷ [])) (next ∷ rest) are.1
     ∙ append_assoc path (segment ∷ []) (next ∷ rest)
 
 -- ---- ports

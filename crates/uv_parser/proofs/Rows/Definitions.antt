@@ -291,6 +291,7 @@ opaque_ipv6_row =
 
 -- ---- each row
 
+-- the rows of the definitions hold, each by computation
 pub definition_rows_hold : DefinitionRows
 definition_rows_hold = record {
   valid = valid_rows;

@@ -29,6 +29,7 @@ walked_paths_hold : Agree walked_here walked_there walked_paths
 unfolding parser
 walked_paths_hold = agree walked_here walked_there walked_paths refl
 
+-- what the parts of the texts denote, by computation
 pub denotation_rows_hold : DenotationRows
 denotation_rows_hold = (
   authority_readings_hold,

@@ -13,5 +13,6 @@ drive_rows_hold : AllHold drive_rows
 unfolding parser
 drive_rows_hold = all_hold drive_rows refl
 
+-- the rows of class File hold, each by computation
 pub file_rows_hold : FileRows
 file_rows_hold = (host_rows_hold, drive_rows_hold)

@@ -21,5 +21,6 @@ ipv6_fault_rows_hold : AllHold ipv6_fault_rows
 unfolding parser
 ipv6_fault_rows_hold = all_hold ipv6_fault_rows refl
 
+-- the rows of hosts hold, each by computation
 pub host_rows_hold : HostRows
 host_rows_hold = (domain_rows_hold, ipv4_rows_hold, ipv6_rows_hold, ipv6_fault_rows_hold)

@@ -17,5 +17,6 @@ removed_rows_hold : AllHold removed_rows
 unfolding parser
 removed_rows_hold = all_hold removed_rows refl
 
+-- the rows of opaque paths hold, each by computation
 pub opaque_path_rows_hold : OpaquePathRows
 opaque_path_rows_hold = (opaque_rows_hold, unit_rows_hold, removed_rows_hold)

@@ -13,5 +13,6 @@ path_rows_hold : AllHold path_rows
 unfolding parser
 path_rows_hold = all_hold path_rows refl
 
+-- the rows of class Other hold, each by computation
 pub other_rows_hold : OtherRows
 other_rows_hold = (authority_rows_hold, path_rows_hold)

@@ -29,6 +29,7 @@ other_rows_hold : AllHold other_rows
 unfolding parser
 other_rows_hold = all_hold other_rows refl
 
+-- the rows of references hold, each by computation
 pub reference_rows_hold : ReferenceRows
 reference_rows_hold =
     (http_rows_hold, root_rows_hold, drive_rows_hold, file_host_rows_hold, opaque_rows_hold, other_rows_hold)

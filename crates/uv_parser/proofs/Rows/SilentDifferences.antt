@@ -105,7 +105,7 @@ is_file_class File = true
 is_file_class Special = false
 is_file_class Other = false
 
-file_class_is : (kind : Class) → is_file_class kind ≡ true → kind ≡ File
+file_class_is : (class : Class) → is_file_class class ≡ true → class ≡ File
 unfolding is_file_class
 file_class_is File is = refl
 file_class_is Special is = absurd (false≢true is)
@@ -198,7 +198,7 @@ is_plain_class Other = false
 is_plain_class Special = true
 is_plain_class File = true
 
-plain_class_is : (kind : Class) → is_plain_class kind ≡ true → kind ≢ Other
+plain_class_is : (class : Class) → is_plain_class class ≡ true → class ≢ Other
 unfolding is_plain_class
 plain_class_is Other is e = false≢true is
 plain_class_is Special is e = absurd cc
@@ -256,12 +256,12 @@ foreign_host : (base : Option Url) (parts : Parts) (text : List ℕ) (parsed : O
     → class_in base parts.scheme ≢ Other → parts.host_text ≡ Some text → parse_host true text ≡ parsed
     → is_foreign_parsed text parsed ≡ true → HasForeignHost base parts
 unfolding is_foreign_parsed
-foreign_host base parts text None kind given e test = absurd (false≢true test)
-foreign_host base parts text (Some value) kind given e test =
+foreign_host base parts text None class given e test = absurd (false≢true test)
+foreign_host base parts text (Some value) class given e test =
     elim (host_or_differs text value e) [
       | inl is ↦ absurd (not_foreign text value is test)
       | inr differs ↦
-          record { kind = kind; text = text; given = given; host = value; parsed = e; differs = differs }
+          record { class = class; text = text; given = given; host = value; parsed = e; differs = differs }
     ]
 
 finds_host : Finds HasForeignHost tests_host
@@ -275,9 +275,9 @@ finds_host = record {
   where
     by_text : (base : Option Url) (parts : Parts) → class_in base parts.scheme ≢ Other → (text : Option (List ℕ))
         → parts.host_text ≡ text → is_foreign_text text ≡ true → HasForeignHost base parts
-    by_text base parts kind None given test = absurd (false≢true test)
-    by_text base parts kind (Some text) given test =
-        foreign_host base parts text (parse_host true text) kind given refl test
+    by_text base parts class None given test = absurd (false≢true test)
+    by_text base parts class (Some text) given test =
+        foreign_host base parts text (parse_host true text) class given refl test
 
 -- ---- the tables
 

@@ -50,6 +50,7 @@ file_hosts = record {
   backslash = λ value taken. false≢true taken.no_backslash;
 }
 
+-- the rows of hosts hold by class
 pub silent_host_rows : SilentHostRows
 silent_host_rows = record {
   special = special_hosts;

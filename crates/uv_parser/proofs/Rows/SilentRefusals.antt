@@ -29,6 +29,7 @@ drive_rows_hold : AllHold drive_rows
 unfolding parser
 drive_rows_hold = all_hold drive_rows refl
 
+-- the rows of refused texts hold, each by computation
 pub silent_refusal_rows_hold : SilentRefusalRows
 silent_refusal_rows_hold =
     (file_rows_hold, host_rows_hold, domain_rows_hold, number_rows_hold, segment_rows_hold, drive_rows_hold)

@@ -25,5 +25,6 @@ fault_rows_hold : AllHold fault_rows
 unfolding parser
 fault_rows_hold = all_hold fault_rows refl
 
+-- the rows of class Special hold, each by computation
 pub special_rows_hold : SpecialRows
 special_rows_hold = (scheme_rows_hold, authority_rows_hold, port_rows_hold, path_rows_hold, fault_rows_hold)

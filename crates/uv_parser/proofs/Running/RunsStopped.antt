@@ -1,7 +1,7 @@
 -- Runs of the parser machine that stop within the bound on their steps.
 use Rattle.std.proofs.Common.{◌≡◌, ℕ, ◌+◌, ◌*◌, ◌≤◌, ◌⊎◌, List, ◌∷◌, ◌++◌, length, Option, Some, None, refl, ap, ◌∙◌, inl, inr, length-append, arith, true}
 use Rattle.uv_model.specs.Ascii.{colon}
-use Rattle.uv_parser.specs.Machine.{SchemeStartState, SchemeState, empty_held, with_more}
+use Rattle.uv_parser.specs.Machine.{SchemeStartState, SchemeState, empty_variables, with_more}
 use Rattle.uv_parser.specs.Run.{Stopped, run, step_bound, first_outcome, run_from}
 use Rattle.uv_parser.specs.Removed.{first_removed}
 use Rattle.uv_model.specs.Scheme.{is_scheme, lowercase}
@@ -30,7 +30,7 @@ removed_stops base text p removed = record {
 
 -- a text that stops from the first state on
 pub start_stops : (base : Option Url) (text : List ℕ) (k : ℕ) → first_removed text ≡ None → k ≤ step_bound text
-    → Stops base SchemeStartState empty_held text k → RunStops base text
+    → Stops base SchemeStartState empty_variables text k → RunStops base text
 unfolding run
 start_stops base text k kept few stops =
     let last = (ends_within base few stops).goes text 0 refl in
@@ -42,7 +42,7 @@ start_stops base text k kept few stops =
 -- a text with a scheme that stops from the scheme's `:` on
 pub scheme_stops : (base : Option Url) (text scheme rest : List ℕ) (k : ℕ) → first_removed text ≡ None
     → is_scheme scheme ≡ true → text ≡ scheme ++ colon ∷ rest → k ≤ 2 * length rest + 16
-    → Stops base SchemeState (with_more (lowercase scheme) empty_held) (colon ∷ rest) k → RunStops base text
+    → Stops base SchemeState (with_more (lowercase scheme) empty_variables) (colon ∷ rest) k → RunStops base text
 scheme_stops base text scheme rest k kept named whole few stops =
     let few : length scheme + k ≤ step_bound (scheme ++ colon ∷ rest)
     = omega (arith, few, length-append scheme (colon ∷ rest)) in

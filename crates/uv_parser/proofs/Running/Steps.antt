@@ -2,12 +2,12 @@
 -- steps to a bound on them. Each holds of every state, over any base and any text.
 use Rattle.std.proofs.Common.{◌≡◌, ℕ, zero, suc, ◌+◌, ◌-◌, ◌≤◌, List, [], ◌∷◌, Option, drop, refl, sym, ap, subst, ◌∙◌, drop-drop, zero-add, arith}
 use Rattle.uv_model.specs.Records.Url.{Url}
-use Rattle.uv_parser.specs.Machine.{State, Held, onward, again, from_place, stop, turn}
+use Rattle.uv_parser.specs.Machine.{State, Variables, onward, again, from_place, stop, turn}
 use Rattle.uv_parser.specs.Run.{Machine, Outcome, Done, Stopped, Going, settle, step, run_from}
 
--- the machine goes on in this state, at this place, with this held
-abbrev pub at : State → ℕ → Held → Outcome
-at s p h = Going (record { state = s; pointer = p; held = h })
+-- the machine goes on in this state, at this place, with these variables
+abbrev pub at : State → ℕ → Variables → Outcome
+at s p v = Going (record { state = s; pointer = p; variables = v })
 
 -- the rest from the next place on
 pub drop_one : (text : List ℕ) (p c : ℕ) (rest : List ℕ) → drop p text ≡ c ∷ rest → drop (p + 1) text ≡ rest
@@ -31,10 +31,10 @@ HasEnded stopped o = (place : ℕ) × (o ≡ Stopped place)
 
 module _ (base : Option Url) (text : List ℕ) where
   -- one step is the row of the state, settled at the pointer's place
-  pub step_at : (s : State) (p : ℕ) (h : Held) (rest : List ℕ) → drop p text ≡ rest
-      → step base text (record { state = s; pointer = p; held = h }) ≡ settle p rest (turn base s p h rest)
+  pub step_at : (s : State) (p : ℕ) (v : Variables) (rest : List ℕ) → drop p text ≡ rest
+      → step base text (record { state = s; pointer = p; variables = v }) ≡ settle p rest (turn base s p v rest)
   unfolding step
-  step_at s p h rest e = ap (λ r. settle p r (turn base s p h r)) e
+  step_at s p v rest e = ap (λ r. settle p r (turn base s p v r)) e
 
   -- so many steps lead from one outcome to another
   abbrev pub Leads : Outcome → ℕ → Outcome → Type 0
@@ -94,74 +94,75 @@ module _ (base : Option Url) (text : List ℕ) where
 -- ---- laws over the rest of a text
 
 -- From a state with the one rest, so many steps lead to a state with the other rest, in each text and at each place.
-pub record Reaches (base : Option Url) (s : State) (h : Held) (before : List ℕ) (n : ℕ)
-    (s' : State) (h' : Held) (after : List ℕ) : Type 0 where
+pub record Reaches (base : Option Url) (s : State) (v : Variables) (before : List ℕ) (n : ℕ)
+    (s' : State) (h' : Variables) (after : List ℕ) : Type 0 where
   pub goes : (text : List ℕ) (p : ℕ) → drop p text ≡ before
-      → (q : ℕ) × (drop q text ≡ after) × Leads base text (at s p h) n (at s' q h')
+      → (q : ℕ) × (drop q text ≡ after) × Leads base text (at s p v) n (at s' q h')
 
 -- From a state with this rest, a run has ended so after so many steps, in each text and at each place.
-pub record EndsAs (base : Option Url) (s : State) (h : Held) (rest : List ℕ) (n : ℕ) (ending : Ending) : Type 0 where
-  pub goes : (text : List ℕ) (p : ℕ) → drop p text ≡ rest → HasEnded ending (run_from base text (at s p h) n)
+pub record EndsAs (base : Option Url) (s : State) (v : Variables) (rest : List ℕ) (n : ℕ) (ending : Ending)
+    : Type 0 where
+  pub goes : (text : List ℕ) (p : ℕ) → drop p text ≡ rest → HasEnded ending (run_from base text (at s p v) n)
 
 -- it is done with this URL
-abbrev pub Ends : Option Url → State → Held → List ℕ → ℕ → Url → Type 0
-Ends base s h rest n url = EndsAs base s h rest n (done_with url)
+abbrev pub Ends : Option Url → State → Variables → List ℕ → ℕ → Url → Type 0
+Ends base s v rest n url = EndsAs base s v rest n (done_with url)
 
 -- it has stopped
-abbrev pub Stops : Option Url → State → Held → List ℕ → ℕ → Type 0
-Stops base s h rest n = EndsAs base s h rest n stopped
+abbrev pub Stops : Option Url → State → Variables → List ℕ → ℕ → Type 0
+Stops base s v rest n = EndsAs base s v rest n stopped
 
 module _ (base : Option Url) where
   -- no step stays where it is
-  pub reaches_none : (s : State) (h : Held) (rest : List ℕ) → Reaches base s h rest 0 s h rest
-  reaches_none s h rest = record { goes = λ text p e. (p, e, leads_none base text (at s p h)) }
+  pub reaches_none : (s : State) (v : Variables) (rest : List ℕ) → Reaches base s v rest 0 s v rest
+  reaches_none s v rest = record { goes = λ text p e. (p, e, leads_none base text (at s p v)) }
 
   -- a step past one code point, and then more of them
-  pub onward_then : {s : State} {h : Held} {c : ℕ} {rest : List ℕ} {s₁ : State} {h₁ : Held} {k : ℕ}
-      {s₂ : State} {h₂ : Held} {after : List ℕ}
-      → ((p : ℕ) → turn base s p h (c ∷ rest) ≡ onward s₁ h₁)
-      → Reaches base s₁ h₁ rest k s₂ h₂ after → Reaches base s h (c ∷ rest) (suc k) s₂ h₂ after
-  onward_then {s} {h} {c} {rest} {s₁} {h₁} {k} {s₂} {h₂} {after} row later = record {
+  pub onward_then : {s : State} {v : Variables} {c : ℕ} {rest : List ℕ} {s₁ : State} {v₁ : Variables} {k : ℕ}
+      {s₂ : State} {v₂ : Variables} {after : List ℕ}
+      → ((p : ℕ) → turn base s p v (c ∷ rest) ≡ onward s₁ v₁)
+      → Reaches base s₁ v₁ rest k s₂ v₂ after → Reaches base s v (c ∷ rest) (suc k) s₂ v₂ after
+  onward_then {s} {v} {c} {rest} {s₁} {v₁} {k} {s₂} {v₂} {after} row later = record {
     goes = λ text p e.
         let next = later.goes text (p + 1) (drop_one text p c rest e) in
-        let one : step base text (record { state = s; pointer = p; held = h }) ≡ at s₁ (p + 1) h₁
-        = step_at base text s p h (c ∷ rest) e ∙ ap (settle p (c ∷ rest)) (row p) in
+        let one : step base text (record { state = s; pointer = p; variables = v }) ≡ at s₁ (p + 1) v₁
+        = step_at base text s p v (c ∷ rest) e ∙ ap (settle p (c ∷ rest)) (row p) in
         (next.0, next.1, leads_step base text _ k _ _ one next.2);
   }
 
   -- a step that stays at its place, and then more of them
-  pub again_then : {s : State} {h : Held} {rest : List ℕ} {s₁ : State} {h₁ : Held} {k : ℕ}
-      {s₂ : State} {h₂ : Held} {after : List ℕ}
-      → ((p : ℕ) → turn base s p h rest ≡ again s₁ h₁)
-      → Reaches base s₁ h₁ rest k s₂ h₂ after → Reaches base s h rest (suc k) s₂ h₂ after
-  again_then {s} {h} {rest} {s₁} {h₁} {k} {s₂} {h₂} {after} row later = record {
+  pub again_then : {s : State} {v : Variables} {rest : List ℕ} {s₁ : State} {v₁ : Variables} {k : ℕ}
+      {s₂ : State} {v₂ : Variables} {after : List ℕ}
+      → ((p : ℕ) → turn base s p v rest ≡ again s₁ v₁)
+      → Reaches base s₁ v₁ rest k s₂ v₂ after → Reaches base s v rest (suc k) s₂ v₂ after
+  again_then {s} {v} {rest} {s₁} {v₁} {k} {s₂} {v₂} {after} row later = record {
     goes = λ text p e.
         let next = later.goes text p e in
-        let one : step base text (record { state = s; pointer = p; held = h }) ≡ at s₁ p h₁
-        = step_at base text s p h rest e ∙ ap (settle p rest) (row p) in
+        let one : step base text (record { state = s; pointer = p; variables = v }) ≡ at s₁ p v₁
+        = step_at base text s p v rest e ∙ ap (settle p rest) (row p) in
         (next.0, next.1, leads_step base text _ k _ _ one next.2);
   }
 
   -- a step past two code points, and then more of them
-  pub past_two_then : {s : State} {h : Held} {c d : ℕ} {rest : List ℕ} {s₁ : State} {h₁ : Held} {k : ℕ}
-      {s₂ : State} {h₂ : Held} {after : List ℕ}
-      → ((p : ℕ) → turn base s p h (c ∷ d ∷ rest) ≡ from_place (p + 2) s₁ h₁)
-      → Reaches base s₁ h₁ rest k s₂ h₂ after → Reaches base s h (c ∷ d ∷ rest) (suc k) s₂ h₂ after
-  past_two_then {s} {h} {c} {d} {rest} {s₁} {h₁} {k} {s₂} {h₂} {after} row later = record {
+  pub past_two_then : {s : State} {v : Variables} {c d : ℕ} {rest : List ℕ} {s₁ : State} {v₁ : Variables} {k : ℕ}
+      {s₂ : State} {v₂ : Variables} {after : List ℕ}
+      → ((p : ℕ) → turn base s p v (c ∷ d ∷ rest) ≡ from_place (p + 2) s₁ v₁)
+      → Reaches base s₁ v₁ rest k s₂ v₂ after → Reaches base s v (c ∷ d ∷ rest) (suc k) s₂ v₂ after
+  past_two_then {s} {v} {c} {d} {rest} {s₁} {v₁} {k} {s₂} {v₂} {after} row later = record {
     goes = λ text p e.
         let next = later.goes text (p + 2) (drop_two text p c d rest e) in
-        let one : step base text (record { state = s; pointer = p; held = h }) ≡ at s₁ (p + 2) h₁
-        = step_at base text s p h (c ∷ d ∷ rest) e ∙ ap (settle p (c ∷ d ∷ rest)) (row p) in
+        let one : step base text (record { state = s; pointer = p; variables = v }) ≡ at s₁ (p + 2) v₁
+        = step_at base text s p v (c ∷ d ∷ rest) e ∙ ap (settle p (c ∷ d ∷ rest)) (row p) in
         (next.0, next.1, leads_step base text _ k _ _ one next.2);
   }
 
   -- one law behind another
-  pub reaches_then : {s : State} {h : Held} {before : List ℕ} {j : ℕ}
-      {s₁ : State} {h₁ : Held} {between : List ℕ} {k : ℕ}
-      {s₂ : State} {h₂ : Held} {after : List ℕ}
-      → Reaches base s h before j s₁ h₁ between → Reaches base s₁ h₁ between k s₂ h₂ after
-      → Reaches base s h before (j + k) s₂ h₂ after
-  reaches_then {s} {h} {before} {j} {s₁} {h₁} {between} {k} {s₂} {h₂} {after} first later = record {
+  pub reaches_then : {s : State} {v : Variables} {before : List ℕ} {j : ℕ}
+      {s₁ : State} {v₁ : Variables} {between : List ℕ} {k : ℕ}
+      {s₂ : State} {v₂ : Variables} {after : List ℕ}
+      → Reaches base s v before j s₁ v₁ between → Reaches base s₁ v₁ between k s₂ v₂ after
+      → Reaches base s v before (j + k) s₂ v₂ after
+  reaches_then {s} {v} {before} {j} {s₁} {v₁} {between} {k} {s₂} {v₂} {after} first later = record {
     goes = λ text p e.
         let mid = first.goes text p e in
         let last = later.goes text mid.0 mid.1 in
@@ -169,75 +170,76 @@ module _ (base : Option Url) where
   }
 
   -- at the end of the text a step onward ends the run
-  pub ends_onward : {s : State} {h : Held} {s₁ : State} {h₁ : Held}
-      → ((p : ℕ) → turn base s p h [] ≡ onward s₁ h₁) → Ends base s h [] 1 h₁.url
-  ends_onward {s} {h} {s₁} {h₁} row = record {
+  pub ends_onward : {s : State} {v : Variables} {s₁ : State} {v₁ : Variables}
+      → ((p : ℕ) → turn base s p v [] ≡ onward s₁ v₁) → Ends base s v [] 1 v₁.url
+  ends_onward {s} {v} {s₁} {v₁} row = record {
     goes = λ text p e.
-        let one : step base text (record { state = s; pointer = p; held = h }) ≡ Done h₁.url
-        = step_at base text s p h [] e ∙ ap (settle p []) (row p) in
-        leads_step base text _ 0 _ _ one (leads_none base text (Done h₁.url));
+        let one : step base text (record { state = s; pointer = p; variables = v }) ≡ Done v₁.url
+        = step_at base text s p v [] e ∙ ap (settle p []) (row p) in
+        leads_step base text _ 0 _ _ one (leads_none base text (Done v₁.url));
   }
 
   -- a row that stops
-  pub stops_here : {s : State} {h : Held} {rest : List ℕ} → ((p : ℕ) → turn base s p h rest ≡ stop)
-      → Stops base s h rest 1
-  stops_here {s} {h} {rest} row = record {
+  pub stops_here : {s : State} {v : Variables} {rest : List ℕ} → ((p : ℕ) → turn base s p v rest ≡ stop)
+      → Stops base s v rest 1
+  stops_here {s} {v} {rest} row = record {
     goes = λ text p e.
-        let one : step base text (record { state = s; pointer = p; held = h }) ≡ Stopped p
-        = step_at base text s p h rest e ∙ ap (settle p rest) (row p) in
+        let one : step base text (record { state = s; pointer = p; variables = v }) ≡ Stopped p
+        = step_at base text s p v rest e ∙ ap (settle p rest) (row p) in
         (p, leads_step base text _ 0 _ _ one (leads_none base text (Stopped p)));
   }
 
   -- a step past one code point, and behind it the end
-  pub ends_step : {s : State} {h : Held} {c : ℕ} {rest : List ℕ} {s₁ : State} {h₁ : Held} {k : ℕ} {ending : Ending}
-      → ((p : ℕ) → turn base s p h (c ∷ rest) ≡ onward s₁ h₁)
-      → EndsAs base s₁ h₁ rest k ending → EndsAs base s h (c ∷ rest) (suc k) ending
-  ends_step {s} {h} {c} {rest} {s₁} {h₁} {k} {ending} row last = record {
+  pub ends_step : {s : State} {v : Variables} {c : ℕ} {rest : List ℕ} {s₁ : State} {v₁ : Variables}
+      {k : ℕ} {ending : Ending}
+      → ((p : ℕ) → turn base s p v (c ∷ rest) ≡ onward s₁ v₁)
+      → EndsAs base s₁ v₁ rest k ending → EndsAs base s v (c ∷ rest) (suc k) ending
+  ends_step {s} {v} {c} {rest} {s₁} {v₁} {k} {ending} row last = record {
     goes = λ text p e.
-        let one : step base text (record { state = s; pointer = p; held = h }) ≡ at s₁ (p + 1) h₁
-        = step_at base text s p h (c ∷ rest) e ∙ ap (settle p (c ∷ rest)) (row p) in
+        let one : step base text (record { state = s; pointer = p; variables = v }) ≡ at s₁ (p + 1) v₁
+        = step_at base text s p v (c ∷ rest) e ∙ ap (settle p (c ∷ rest)) (row p) in
         subst (HasEnded ending) (sym (leads_step base text _ k _ _ one refl))
         (last.goes text (p + 1) (drop_one text p c rest e));
   }
 
   -- a step that stays at its place, and behind it the end
-  pub ends_again : {s : State} {h : Held} {rest : List ℕ} {s₁ : State} {h₁ : Held} {k : ℕ} {ending : Ending}
-      → ((p : ℕ) → turn base s p h rest ≡ again s₁ h₁)
-      → EndsAs base s₁ h₁ rest k ending → EndsAs base s h rest (suc k) ending
-  ends_again {s} {h} {rest} {s₁} {h₁} {k} {ending} row last = record {
+  pub ends_again : {s : State} {v : Variables} {rest : List ℕ} {s₁ : State} {v₁ : Variables} {k : ℕ} {ending : Ending}
+      → ((p : ℕ) → turn base s p v rest ≡ again s₁ v₁)
+      → EndsAs base s₁ v₁ rest k ending → EndsAs base s v rest (suc k) ending
+  ends_again {s} {v} {rest} {s₁} {v₁} {k} {ending} row last = record {
     goes = λ text p e.
-        let one : step base text (record { state = s; pointer = p; held = h }) ≡ at s₁ p h₁
-        = step_at base text s p h rest e ∙ ap (settle p rest) (row p) in
+        let one : step base text (record { state = s; pointer = p; variables = v }) ≡ at s₁ p v₁
+        = step_at base text s p v rest e ∙ ap (settle p rest) (row p) in
         subst (HasEnded ending) (sym (leads_step base text _ k _ _ one refl)) (last.goes text p e);
   }
 
   -- a step past two code points, and behind it the end
-  pub ends_past_two : {s : State} {h : Held} {c d : ℕ} {rest : List ℕ} {s₁ : State} {h₁ : Held} {k : ℕ}
+  pub ends_past_two : {s : State} {v : Variables} {c d : ℕ} {rest : List ℕ} {s₁ : State} {v₁ : Variables} {k : ℕ}
       {ending : Ending}
-      → ((p : ℕ) → turn base s p h (c ∷ d ∷ rest) ≡ from_place (p + 2) s₁ h₁)
-      → EndsAs base s₁ h₁ rest k ending → EndsAs base s h (c ∷ d ∷ rest) (suc k) ending
-  ends_past_two {s} {h} {c} {d} {rest} {s₁} {h₁} {k} {ending} row last = record {
+      → ((p : ℕ) → turn base s p v (c ∷ d ∷ rest) ≡ from_place (p + 2) s₁ v₁)
+      → EndsAs base s₁ v₁ rest k ending → EndsAs base s v (c ∷ d ∷ rest) (suc k) ending
+  ends_past_two {s} {v} {c} {d} {rest} {s₁} {v₁} {k} {ending} row last = record {
     goes = λ text p e.
-        let one : step base text (record { state = s; pointer = p; held = h }) ≡ at s₁ (p + 2) h₁
-        = step_at base text s p h (c ∷ d ∷ rest) e ∙ ap (settle p (c ∷ d ∷ rest)) (row p) in
+        let one : step base text (record { state = s; pointer = p; variables = v }) ≡ at s₁ (p + 2) v₁
+        = step_at base text s p v (c ∷ d ∷ rest) e ∙ ap (settle p (c ∷ d ∷ rest)) (row p) in
         subst (HasEnded ending) (sym (leads_step base text _ k _ _ one refl))
         (last.goes text (p + 2) (drop_two text p c d rest e));
   }
 
   -- a law, and behind it the end
-  pub ends_after : {s : State} {h : Held} {before : List ℕ} {j : ℕ}
-      {s₁ : State} {h₁ : Held} {after : List ℕ} {k : ℕ} {ending : Ending}
-      → Reaches base s h before j s₁ h₁ after → EndsAs base s₁ h₁ after k ending
-      → EndsAs base s h before (j + k) ending
-  ends_after {s} {h} {before} {j} {s₁} {h₁} {after} {k} {ending} first last = record {
+  pub ends_after : {s : State} {v : Variables} {before : List ℕ} {j : ℕ}
+      {s₁ : State} {v₁ : Variables} {after : List ℕ} {k : ℕ} {ending : Ending}
+      → Reaches base s v before j s₁ v₁ after → EndsAs base s₁ v₁ after k ending
+      → EndsAs base s v before (j + k) ending
+  ends_after {s} {v} {before} {j} {s₁} {v₁} {after} {k} {ending} first last = record {
     goes = λ text p e.
         let mid = first.goes text p e in
         subst (HasEnded ending) (sym (leads_then base text _ _ _ j k mid.2 refl)) (last.goes text mid.0 mid.1);
   }
 
   -- an end within a count of steps is an end within each higher count
-  pub ends_within : {s : State} {h : Held} {rest : List ℕ} {j k : ℕ} {ending : Ending}
-      → j ≤ k → EndsAs base s h rest j ending → EndsAs base s h rest k ending
-  ends_within {s} {h} {rest} {j} {k} {ending} within ends = record {
+  pub ends_within : {s : State} {v : Variables} {rest : List ℕ} {j k : ℕ} {ending : Ending}
+      → j ≤ k → EndsAs base s v rest j ending → EndsAs base s v rest k ending
+  ends_within {s} {v} {rest} {j} {k} {ending} within ends = record {
     goes = λ text p e. ended_within base text ending _ j k within (ends.goes text p e);
   }

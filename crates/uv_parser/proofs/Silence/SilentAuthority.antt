@@ -10,7 +10,7 @@ use Rattle.uv_model.specs.declared.scheme.Class.TheVariants.{Special, Other}
 use Rattle.uv_model.specs.declared.path.UrlPath.TheVariants.{Segments}
 use Rattle.uv_model.specs.Ascii.{slash, backslash, colon}
 use Rattle.uv_model.specs.Records.Denote.{authority_host, authority_path}
-use Rattle.uv_parser.specs.Machine.{begins, AuthorityState, SchemeState, empty_held, is_special, with_more}
+use Rattle.uv_parser.specs.Machine.{begins, AuthorityState, SchemeState, empty_variables, is_special, with_more}
 use Rattle.uv_model.specs.Parts.{Parts, SchemeAuthority, written, written_behind}
 use Rattle.uv_parser.specs.Removed.{first_removed}
 use Rattle.uv_model.specs.Scheme.{default_port, is_scheme, lowercase, scheme_class}
@@ -23,8 +23,8 @@ use Rattle.uv_parser.proofs.Loops.AuthorityLoops.{is_authority_letter}
 use Rattle.uv_parser.proofs.HostParsing.HostsParsed.{parsed_some}
 use Rattle.uv_parser.proofs.Loops.PathLoops.{walking}
 use Rattle.uv_model.proofs.SchemeLemmas.{scheme_class-lowercase}
-use Rattle.uv_parser.proofs.Loops.SchemeStretch.{scheme_held}
-use Rattle.uv_parser.proofs.Silence.SilentSchemes.{EndsBehindScheme, HoldsDenoted, denoted_from_held, runs_kept}
+use Rattle.uv_parser.proofs.Loops.SchemeStretch.{scheme_variables}
+use Rattle.uv_parser.proofs.Silence.SilentSchemes.{EndsBehindScheme, HoldsDenoted, denoted_from_variables, runs_kept}
 use Rattle.uv_parser.proofs.Running.Steps.{Ends, ends_again, ends_within}
 use Rattle.uv_parser.proofs.Loops.Tails.{tail}
 
@@ -76,12 +76,12 @@ module _ (base : Option Url) (parts : Parts) (scheme host_text : List ℕ) (valu
   pub StartsAuthority : Type 0
   StartsAuthority =
       (k : ℕ) (url : Url)
-      → Ends base AuthorityState (scheme_held scheme)
+      → Ends base AuthorityState (scheme_variables scheme)
       (authority ++ (parts.path_text ++ tail parts.query parts.fragment)) k url
-      → Ends base SchemeState (with_more (lowercase scheme) empty_held)
+      → Ends base SchemeState (with_more (lowercase scheme) empty_variables)
       (colon ∷ slash ∷ slash ∷ (authority ++ (parts.path_text ++ tail parts.query parts.fragment))) (k + 4) url
 
-  -- what is held behind the path is what is denoted
+  -- the variables behind the path are what is denoted
   authority_denoted : HasParsed parts scheme host_text value
       → HoldsDenoted base parts SchemeAuthority scheme
       (walking (authority_path (scheme_class (lowercase scheme)) parts.segments)
@@ -120,7 +120,7 @@ module _ (base : Option Url) (parts : Parts) (scheme host_text : List ℕ) (valu
           length-append (authority ++ parts.path_text) (tail parts.query parts.fragment),
           length-append authority parts.path_text,
         );
-        denoted = denoted_from_held base parts SchemeAuthority scheme _ refl form named (authority_denoted has);
+        denoted = denoted_from_variables base parts SchemeAuthority scheme _ refl form named (authority_denoted has);
       } in
       runs_kept base text parts scheme
       (slash ∷ slash ∷ (authority ++ parts.path_text)) after kept
@@ -151,6 +151,7 @@ module _ (base : Option Url) (parts : Parts) (scheme host_text : List ℕ) (valu
 pub not_special : (scheme : List ℕ) → scheme_class scheme ≡ Other → is_special (lowercase scheme) ≡ false
 not_special scheme other = rw (scheme_class-lowercase scheme, other) refl
 
+-- a scheme of class Special is special
 pub is_special_scheme : (scheme : List ℕ) → scheme_class scheme ≡ Special → is_special (lowercase scheme) ≡ true
 is_special_scheme scheme special = rw (scheme_class-lowercase scheme, special) refl
 

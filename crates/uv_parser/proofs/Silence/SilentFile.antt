@@ -7,14 +7,14 @@ use Rattle.uv_model.specs.declared.scheme.Class.TheVariants.{File}
 use Rattle.uv_model.specs.declared.path.UrlPath.TheVariants.{Segments}
 use Rattle.uv_model.specs.Ascii.{slash, colon}
 use Rattle.uv_model.specs.Records.Denote.{authority_path}
-use Rattle.uv_parser.specs.Machine.{Sight, end, slash_mark, query_mark, fragment_mark, another, sight, again, FileHostState, PathStartState, file_host_at, with_more}
+use Rattle.uv_parser.specs.Machine.{AtPointer, end, slash_mark, query_mark, fragment_mark, another, at_pointer, again, FileHostState, PathStartState, file_host_at, with_more}
 use Rattle.uv_model.specs.Parts.{Parts, SchemeAuthority, written, written_behind}
 use Rattle.uv_parser.specs.Removed.{first_removed}
 use Rattle.uv_model.specs.Scheme.{is_scheme, scheme_class}
 use Rattle.uv_parser.specs.Laws.Silence.{RunsSilently}
 use Rattle.uv_model.specs.Records.Url.{Url}
 use Rattle.uv_model.specs.Valid.{MayBeUnits}
-use Rattle.uv_parser.proofs.Loops.AuthorityStarts.{file_held, scheme_starts}
+use Rattle.uv_parser.proofs.Loops.AuthorityStarts.{file_variables, scheme_starts}
 use Rattle.uv_parser.proofs.Loops.AuthorityEnds.{delimits}
 use Rattle.uv_parser.proofs.Loops.AuthorityLoops.{IsDelimiter}
 use Rattle.uv_parser.proofs.Loops.FileHosts.{IsFileRead, file_class, file_host_law, file_host_row, file_scheme}
@@ -22,18 +22,18 @@ use Rattle.uv_parser.proofs.HostParsing.HostsParsed.{parsed_some}
 use Rattle.uv_parser.proofs.Loops.PathLoops.{walking}
 use Rattle.uv_parser.proofs.Loops.PathStarts.{path_start_ends}
 use Rattle.uv_parser.proofs.Silence.SilentAuthority.{valued_some, written_with_authority}
-use Rattle.uv_parser.proofs.Silence.SilentSchemes.{EndsBehindScheme, HoldsDenoted, denoted_from_held, runs_kept}
+use Rattle.uv_parser.proofs.Silence.SilentSchemes.{EndsBehindScheme, HoldsDenoted, denoted_from_variables, runs_kept}
 use Rattle.uv_parser.proofs.Running.Steps.{Ends, ends_after, ends_again, ends_within}
 use Rattle.uv_parser.proofs.Loops.Tails.{tail, with_tail}
 
 -- the URL at the end
 abbrev file_url : Host → List (List ℕ) → Option (List ℕ) → Option (List ℕ) → Url
 file_url value segments query fragment =
-    with_tail query fragment (walking (authority_path (scheme_class (codes "file")) segments) (file_held value))
+    with_tail query fragment (walking (authority_path (scheme_class (codes "file")) segments) (file_variables value))
 
 -- an empty host ends at a delimiter
-empty_host_row : (s : Sight) → IsDelimiter s
-    → file_host_at (file_held host.Empty) s ≡ again PathStartState (file_held host.Empty)
+empty_host_row : (s : AtPointer) → IsDelimiter s
+    → file_host_at (file_variables host.Empty) s ≡ again PathStartState (file_variables host.Empty)
 empty_host_row end is = refl
 empty_host_row slash_mark is = refl
 empty_host_row query_mark is = refl
@@ -45,31 +45,32 @@ module _ (base : Option Url) (segments : List (List ℕ)) (path : List ℕ) (que
     (fragment_units : MayBeUnits fragment) where
   -- from behind the host to the end
   file_path_ends : (value : Host)
-      → Ends base PathStartState (file_held value) (path ++ tail query fragment)
+      → Ends base PathStartState (file_variables value) (path ++ tail query fragment)
       (length path + (length (tail query fragment) + 2))
       (file_url value segments query fragment)
   file_path_ends value =
-      path_start_ends base query fragment query_units fragment_units segments path (file_held value) segmented
+      path_start_ends base query fragment query_units fragment_units segments path (file_variables value) segmented
 
   -- from a host with a text to the end
   pub file_host_ends : (text : List ℕ) (value : Host) → IsFileRead text value
-      → Ends base FileHostState (file_held host.Empty) (text ++ (path ++ tail query fragment))
+      → Ends base FileHostState (file_variables host.Empty) (text ++ (path ++ tail query fragment))
       (length text + suc (length path + (length (tail query fragment) + 2))) (file_url value segments query fragment)
   file_host_ends text value is =
-      ends_after base (file_host_law base text (path ++ tail query fragment) (file_held host.Empty) is.letters)
+      ends_after base (file_host_law base text (path ++ tail query fragment) (file_variables host.Empty) is.letters)
       (ends_again base
-      (λ p. file_host_row is.parsed_value (with_more text (file_held host.Empty)) (sight (path ++ tail query fragment))
+      (λ p. file_host_row is.parsed_value (with_more text (file_variables host.Empty))
+      (at_pointer (path ++ tail query fragment))
       (delimits segments path query fragment segmented) is.drive (parsed_some text is.parsed_value is.parsed) is.parsed
-      ∙ ap (λ v. again PathStartState (file_held v)) is.made)
+      ∙ ap (λ v. again PathStartState (file_variables v)) is.made)
       (file_path_ends value))
 
   -- from an empty host to the end
   pub empty_host_ends :
-      Ends base FileHostState (file_held host.Empty) (path ++ tail query fragment)
+      Ends base FileHostState (file_variables host.Empty) (path ++ tail query fragment)
       (suc (length path + (length (tail query fragment) + 2))) (file_url host.Empty segments query fragment)
   empty_host_ends =
       ends_again base
-      (λ p. empty_host_row (sight (path ++ tail query fragment)) (delimits segments path query fragment segmented))
+      (λ p. empty_host_row (at_pointer (path ++ tail query fragment)) (delimits segments path query fragment segmented))
       (file_path_ends host.Empty)
 
 -- The host text leads to the end, with this value.
@@ -78,22 +79,22 @@ pub record HasFileHost (base : Option Url) (parts : Parts) (text : List ℕ) (va
   pub no_port : parts.port ≡ None
   pub valued : parts.host ≡ Some value
   pub path : MayBePathSlashed parts.segments parts.path_text
-  pub ends : Ends base FileHostState (file_held host.Empty) (text ++ (parts.path_text ++ tail parts.query
+  pub ends : Ends base FileHostState (file_variables host.Empty) (text ++ (parts.path_text ++ tail parts.query
       parts.fragment))
       (length text + suc (length parts.path_text + (length (tail parts.query parts.fragment) + 2)))
       (file_url value parts.segments parts.query parts.fragment)
 
--- what is held behind the path is what is denoted
+-- the variables behind the path are what is denoted
 file_denoted : (base : Option Url) (parts : Parts) (scheme text : List ℕ) (value : Host) → scheme_class scheme ≡ File
     → HasFileHost base parts text value
     → HoldsDenoted base parts SchemeAuthority scheme
-    (walking (authority_path (scheme_class (codes "file")) parts.segments) (file_held value))
-file_denoted base parts scheme text value kind has =
+    (walking (authority_path (scheme_class (codes "file")) parts.segments) (file_variables value))
+file_denoted base parts scheme text value class has =
     record {
-      scheme = sym (file_scheme scheme kind);
+      scheme = sym (file_scheme scheme class);
       host = valued_some parts value has.valued;
       port = sym has.no_port;
-      path = ap (λ k. Segments (authority_path k parts.segments)) (file_class ∙ sym kind);
+      path = ap (λ k. Segments (authority_path k parts.segments)) (file_class ∙ sym class);
       query = refl;
     }
 
@@ -114,7 +115,7 @@ pub file_runs : (base : Option Url) (text : List ℕ) (parts : Parts) (scheme ho
     → parts.form ≡ SchemeAuthority → is_scheme scheme ≡ true → parts.scheme ≡ Some scheme
     → parts.host_text ≡ Some host_text → scheme_class scheme ≡ File → HasFileHost base parts host_text value
     → RunsSilently base text parts
-file_runs base text parts scheme host_text value spelled query fragment kept form is named given kind has =
+file_runs base text parts scheme host_text value spelled query fragment kept form is named given class has =
     let rest = host_text ++ parts.path_text in
     let whole = append_assoc host_text parts.path_text (tail parts.query parts.fragment) in
     let after : EndsBehindScheme base parts scheme (slash ∷ slash ∷ rest)
@@ -124,11 +125,11 @@ file_runs base text parts scheme host_text value spelled query fragment kept for
       url = file_url value parts.segments parts.query parts.fragment;
       named = is;
       ends = rw whole
-          (ends_within base (omega arith) (scheme_starts base scheme _ File _ kind has.ends));
+          (ends_within base (omega arith) (scheme_starts base scheme _ File _ class has.ends));
       few =
           omega (arith, length-append rest (tail parts.query parts.fragment), length-append host_text parts.path_text);
-      denoted = denoted_from_held base parts SchemeAuthority scheme _ refl form named
-          (file_denoted base parts scheme host_text value kind has);
+      denoted = denoted_from_variables base parts SchemeAuthority scheme _ refl form named
+          (file_denoted base parts scheme host_text value class has);
     } in
     runs_kept base text parts scheme (slash ∷ slash ∷ rest) after kept
     (spelled ∙ written_file parts scheme host_text named given has.no_port_text)

@@ -4,7 +4,7 @@ use Rattle.uv_model.specs.declared.scheme.Class.TheVariants.{Other}
 use Rattle.uv_model.specs.declared.path.UrlPath.TheVariants.{Opaque}
 use Rattle.uv_model.specs.Ascii.{colon}
 use Rattle.uv_model.specs.Encoding.{encoded}
-use Rattle.uv_parser.specs.Machine.{Held, OpaquePathState, SchemeState, with_more, with_path, empty_held}
+use Rattle.uv_parser.specs.Machine.{Variables, OpaquePathState, SchemeState, with_more, with_path, empty_variables}
 use Rattle.uv_model.specs.Parts.{Form, Parts, SchemeOpaque, has_scheme}
 use Rattle.uv_parser.specs.SilentTexts.{Silent, TakesForm}
 use Rattle.uv_model.specs.declared.profile.Profile.TheVariants.{Standard}
@@ -16,38 +16,38 @@ use Rattle.uv_model.specs.Records.Url.{Url}
 use Rattle.uv_model.specs.Valid.{FitsForm, FitsScheme, MayBeUnits}
 use Rattle.uv_model.proofs.Paths.JoinedSegments.{faultless_path, without_path}
 use Rattle.uv_parser.proofs.Loops.Looping.{opaque_path_law}
-use Rattle.uv_parser.proofs.Loops.SchemeStretch.{scheme_held, colon_row, scheme_there}
-use Rattle.uv_parser.proofs.Silence.SilentSchemes.{EndsBehindScheme, HoldsDenoted, denoted_from_held, runs_kept, written_without_authority}
+use Rattle.uv_parser.proofs.Loops.SchemeStretch.{scheme_variables, colon_row, scheme_there}
+use Rattle.uv_parser.proofs.Silence.SilentSchemes.{EndsBehindScheme, HoldsDenoted, denoted_from_variables, runs_kept, written_without_authority}
 use Rattle.uv_parser.proofs.Running.Steps.{Ends, ends_step, ends_after}
 use Rattle.uv_parser.proofs.Loops.Tails.{tail, with_tail, TurnsToTail, tail_ends, no_slash_before_tail}
 use Rattle.uv_model.proofs.Cuts.ValidCutLemmas.{written_as_cut}
 
--- what is held behind the path
-abbrev path_held : List ℕ → List ℕ → Held
-path_held scheme path = with_path (Opaque (encoded false path)) (scheme_held scheme)
+-- the variables behind the path
+abbrev path_variables : List ℕ → List ℕ → Variables
+path_variables scheme path = with_path (Opaque (encoded false path)) (scheme_variables scheme)
 
 module _ (base : Option Url) where
   -- behind the path the tail ends the run
   opaque_tail : (scheme path : List ℕ)
-      → TurnsToTail base OpaquePathState (path_held scheme path) (path_held scheme path)
+      → TurnsToTail base OpaquePathState (path_variables scheme path) (path_variables scheme path)
   opaque_tail scheme path = record { at_end = λ p. refl; at_query = λ p rest. refl; at_fragment = λ p rest. refl }
 
   -- from the scheme's `:` to the end
   opaque_ends : (scheme path : List ℕ) (segments : List (List ℕ)) (query fragment : Option (List ℕ))
       → scheme_class scheme ≡ Other → IsPathRelative segments path → MayBeUnits query → MayBeUnits fragment
-      → Ends base SchemeState (with_more (lowercase scheme) empty_held) (colon ∷ (path ++ tail query fragment))
-      (suc (length path + (length (tail query fragment) + 1))) (with_tail query fragment (path_held scheme path))
+      → Ends base SchemeState (with_more (lowercase scheme) empty_variables) (colon ∷ (path ++ tail query fragment))
+      (suc (length path + (length (tail query fragment) + 1))) (with_tail query fragment (path_variables scheme path))
   opaque_ends scheme path segments query fragment other relative query_units fragment_units =
       let no_slash = no_slash_before_tail path query fragment relative.start in
       ends_step base (λ p. colon_row base scheme (path ++ tail query fragment) p ∙ rw (other, no_slash) refl)
       (ends_after base
-      (opaque_path_law base path (tail query fragment) [] (scheme_held scheme) (faultless_path segments path relative)
-      (without_path segments path relative))
+      (opaque_path_law base path (tail query fragment) [] (scheme_variables scheme)
+      (faultless_path segments path relative) (without_path segments path relative))
       (tail_ends base OpaquePathState _ _ query fragment (opaque_tail scheme path) query_units fragment_units))
 
-  -- what is held behind the path is what is denoted
+  -- the variables behind the path are what is denoted
   opaque_denoted : (scheme : List ℕ) (parts : Parts)
-      → HoldsDenoted base parts SchemeOpaque scheme (path_held scheme parts.path_text)
+      → HoldsDenoted base parts SchemeOpaque scheme (path_variables scheme parts.path_text)
   opaque_denoted scheme parts = record { scheme = refl; host = refl; port = refl; path = refl; query = refl }
 
 -- the run of a text with an opaque path on which the parser is silent is done
@@ -63,13 +63,14 @@ opaque_done base text parts silent form =
     let behind : EndsBehindScheme base parts scheme parts.path_text
     = record {
       steps = suc (length parts.path_text + (length (tail parts.query parts.fragment) + 1));
-      url = with_tail parts.query parts.fragment (path_held scheme parts.path_text);
+      url = with_tail parts.query parts.fragment (path_variables scheme parts.path_text);
       named = is;
       ends =
           opaque_ends base scheme parts.path_text fits.2.0 parts.query parts.fragment other fits.2.1
           silent.query silent.fragment;
       few = omega (arith, length-append parts.path_text (tail parts.query parts.fragment));
-      denoted = denoted_from_held base parts SchemeOpaque scheme _ refl form named (opaque_denoted base scheme parts);
+      denoted =
+          denoted_from_variables base parts SchemeOpaque scheme _ refl form named (opaque_denoted base scheme parts);
     } in
     runs_kept base text parts scheme parts.path_text behind silent.kept
     (silent.cut.whole ∙ (sym (written_as_cut parts) ∙ written_without_authority parts scheme named fits.0.host_text))

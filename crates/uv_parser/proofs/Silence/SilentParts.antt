@@ -24,7 +24,7 @@ use Rattle.uv_model.proofs.Cuts.UniqueParts.{absolute_segments, alone_form, auth
 
 -- the host that the parser makes of a host text, by the class
 abbrev HasTakenHost : Class → Option (List ℕ) → Option Host → Type 0
-HasTakenHost kind None host = host ≡ None
+HasTakenHost class None host = host ≡ None
 HasTakenHost Special (Some text) host = (value : Host) × (parse_host true text ≡ Some value) × (host ≡ Some value)
 HasTakenHost File (Some text) host =
     ((value : Host) × IsTakenFileHost text value × (host ≡ Some value)) ⊎ ((text ≡ []) × (host ≡ Some Empty))
@@ -38,9 +38,9 @@ same_host parsed a b is is' = same_value (sym is ∙ is')
     same_value e = cc
 
 -- so a host text has one host
-one_taken_host : (kind : Class) (text : Option (List ℕ)) (host other : Option Host) → HasTakenHost kind text host
-    → HasTakenHost kind text other → host ≡ other
-one_taken_host kind None host other is is' = is ∙ sym is'
+one_taken_host : (class : Class) (text : Option (List ℕ)) (host other : Option Host) → HasTakenHost class text host
+    → HasTakenHost class text other → host ≡ other
+one_taken_host class None host other is is' = is ∙ sym is'
 one_taken_host Special (Some text) host other (a, is, e) (b, is', e') =
     e ∙ (ap Some (same_host (parse_host true text) a b is is') ∙ sym e')
 one_taken_host File (Some text) host other (inl (a, is, e)) (inl (b, is', e')) =
@@ -59,9 +59,9 @@ one_taken_host Other (Some text) host other is is' =
 -- ---- what the texts of a silent text denote
 
 -- The host, the port and the segments are those of the texts.
-record AreTaken (kind : Class) (scheme : List ℕ) (form : Form) (host_text : Option (List ℕ)) (parts : Parts) : Type 0
+record AreTaken (class : Class) (scheme : List ℕ) (form : Form) (host_text : Option (List ℕ)) (parts : Parts) : Type 0
   where
-    host : HasTakenHost kind host_text parts.host
+    host : HasTakenHost class host_text parts.host
     port : parts.port ≡ port_given (default_port scheme) parts.port_text
     segments : parts.segments ≡ segments_of form parts.path_text
 
@@ -72,8 +72,8 @@ slashed_segments segments text (inl (nothing, none)) = rw (nothing, none) refl
 slashed_segments segments text (inr is) = rw is.slashed (joined_segments segments is.behind is.joins)
 
 -- what follows `//` by the class
-taken_by_class : (kind : Class) (scheme host_text : List ℕ) (parts : Parts) → Takes kind scheme host_text parts
-    → MayBePathSlashed parts.segments parts.path_text → AreTaken kind scheme Authority (Some host_text) parts
+taken_by_class : (class : Class) (scheme host_text : List ℕ) (parts : Parts) → Takes class scheme host_text parts
+    → MayBePathSlashed parts.segments parts.path_text → AreTaken class scheme Authority (Some host_text) parts
 taken_by_class Special scheme host_text parts is path = record {
   host = (is.value, is.host.parsed, is.valued);
   port = is.port;
@@ -99,9 +99,9 @@ taken_with_host base parts (Some host_text) is path =
     taken_by_class (class_in base parts.scheme) (scheme_in base parts) host_text parts is path
 
 -- without an authority
-taken_alone : (kind : Class) (scheme : List ℕ) (form : Form) (parts : Parts) → HasNoAuthority parts
-    → parts.segments ≡ segments_of form parts.path_text → AreTaken kind scheme form parts.host_text parts
-taken_alone kind scheme form parts none segments = record {
+taken_alone : (class : Class) (scheme : List ℕ) (form : Form) (parts : Parts) → HasNoAuthority parts
+    → parts.segments ≡ segments_of form parts.path_text → AreTaken class scheme form parts.host_text parts
+taken_alone class scheme form parts none segments = record {
   host = rw none.host_text none.host;
   port = no_port (default_port scheme) parts.port_text parts.port none.port_text none.port;
   segments = segments;

@@ -3,7 +3,7 @@ use Rattle.std.proofs.Common.{◌≡◌, ℕ, suc, ◌+◌, List, [], ◌∷◌,
 use Rattle.uv_model.specs.declared.scheme.Class.TheVariants.{Other}
 use Rattle.uv_model.specs.declared.path.UrlPath.TheVariants.{Segments}
 use Rattle.uv_model.specs.Ascii.{slash, colon}
-use Rattle.uv_parser.specs.Machine.{Held, PathOrAuthorityState, SchemeState, with_more, empty_held}
+use Rattle.uv_parser.specs.Machine.{Variables, PathOrAuthorityState, SchemeState, with_more, empty_variables}
 use Rattle.uv_model.specs.Parts.{Form, Parts, SchemePath, has_scheme}
 use Rattle.uv_parser.specs.SilentTexts.{Silent, TakesForm}
 use Rattle.uv_model.specs.declared.profile.Profile.TheVariants.{Standard}
@@ -16,33 +16,33 @@ use Rattle.uv_model.specs.Valid.{FitsForm, FitsScheme, MayBeUnits}
 use Rattle.uv_parser.proofs.Loops.PathLoops.{walking}
 use Rattle.uv_parser.proofs.Loops.PathStarts.{relative_ends}
 use Rattle.uv_model.proofs.SchemeLemmas.{scheme_class-lowercase}
-use Rattle.uv_parser.proofs.Loops.SchemeStretch.{scheme_held, colon_row, scheme_there}
-use Rattle.uv_parser.proofs.Silence.SilentSchemes.{EndsBehindScheme, HoldsDenoted, denoted_from_held, runs_kept, written_without_authority}
+use Rattle.uv_parser.proofs.Loops.SchemeStretch.{scheme_variables, colon_row, scheme_there}
+use Rattle.uv_parser.proofs.Silence.SilentSchemes.{EndsBehindScheme, HoldsDenoted, denoted_from_variables, runs_kept, written_without_authority}
 use Rattle.uv_parser.proofs.Running.Steps.{Ends, ends_past_two, ends_again}
 use Rattle.uv_parser.proofs.Loops.Tails.{tail, with_tail, no_slash_before_tail}
 use Rattle.uv_model.proofs.Cuts.ValidCutLemmas.{written_as_cut}
 
--- what is held behind the path
-abbrev path_held : List ℕ → List (List ℕ) → Held
-path_held scheme segments = walking (walk (scheme_class (lowercase scheme)) [] segments) (scheme_held scheme)
+-- the variables behind the path
+abbrev path_variables : List ℕ → List (List ℕ) → Variables
+path_variables scheme segments = walking (walk (scheme_class (lowercase scheme)) [] segments) (scheme_variables scheme)
 
 module _ (base : Option Url) where
   -- from the scheme's `:` to the end
   path_ends : (scheme behind : List ℕ) (segments : List (List ℕ)) (query fragment : Option (List ℕ))
       → scheme_class scheme ≡ Other → IsPathRelative segments behind → MayBeUnits query → MayBeUnits fragment
-      → Ends base SchemeState (with_more (lowercase scheme) empty_held)
+      → Ends base SchemeState (with_more (lowercase scheme) empty_variables)
       (colon ∷ slash ∷ (behind ++ tail query fragment)) (suc (suc (length behind + (length (tail query fragment) + 1))))
-      (with_tail query fragment (path_held scheme segments))
+      (with_tail query fragment (path_variables scheme segments))
   path_ends scheme behind segments query fragment other relative query_units fragment_units =
       let no_slash = no_slash_before_tail behind query fragment relative.start in
-      ends_past_two base {s₁ = PathOrAuthorityState} {h₁ = scheme_held scheme}
+      ends_past_two base {s₁ = PathOrAuthorityState} {v₁ = scheme_variables scheme}
       (λ p. colon_row base scheme (slash ∷ (behind ++ tail query fragment)) p ∙ rw other refl)
       (ends_again base (λ p. rw no_slash refl)
-      (relative_ends base query fragment query_units fragment_units segments behind (scheme_held scheme) relative))
+      (relative_ends base query fragment query_units fragment_units segments behind (scheme_variables scheme) relative))
 
-  -- what is held behind the path is what is denoted
+  -- the variables behind the path are what is denoted
   path_denoted : (scheme : List ℕ) (parts : Parts)
-      → HoldsDenoted base parts SchemePath scheme (path_held scheme parts.segments)
+      → HoldsDenoted base parts SchemePath scheme (path_variables scheme parts.segments)
   path_denoted scheme parts =
       record {
         scheme = refl;
@@ -66,13 +66,13 @@ path_done base text parts silent form =
     let behind : EndsBehindScheme base parts scheme (slash ∷ path.behind)
     = record {
       steps = suc (suc (length path.behind + (length (tail parts.query parts.fragment) + 1)));
-      url = with_tail parts.query parts.fragment (path_held scheme parts.segments);
+      url = with_tail parts.query parts.fragment (path_variables scheme parts.segments);
       named = is;
       ends =
           path_ends base scheme path.behind parts.segments parts.query parts.fragment other path.relative
           silent.query silent.fragment;
       few = omega (arith, length-append path.behind (tail parts.query parts.fragment));
-      denoted = denoted_from_held base parts SchemePath scheme _ refl form named (path_denoted base scheme parts);
+      denoted = denoted_from_variables base parts SchemePath scheme _ refl form named (path_denoted base scheme parts);
     } in
     runs_kept base text parts scheme (slash ∷ path.behind) behind silent.kept
     (silent.cut.whole ∙ (sym (written_as_cut parts)

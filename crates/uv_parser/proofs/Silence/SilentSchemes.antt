@@ -8,7 +8,7 @@ use Rattle.uv_model.specs.declared.scheme.Class.TheVariants.{Special, File, Othe
 use Rattle.uv_model.specs.Ascii.{colon}
 use Rattle.uv_model.specs.Records.Denote.{denote, denoted_host, denoted_path, denoted_port, denoted_query, denoted_scheme, quotes}
 use Rattle.uv_model.specs.Encoding.{encoded}
-use Rattle.uv_parser.specs.Machine.{Held, is_special, SchemeStartState, SchemeState, with_more, empty_held}
+use Rattle.uv_parser.specs.Machine.{Variables, is_special, SchemeStartState, SchemeState, with_more, empty_variables}
 use Rattle.uv_model.specs.Parts.{Form, Parts, SchemeAuthority, SchemePath, SchemeOpaque, Authority, PathAbsolute, PathRelative, NoPath, has_scheme, written}
 use Rattle.uv_parser.specs.Run.{Done, run, step_bound}
 use Rattle.uv_parser.specs.Removed.{first_removed}
@@ -26,7 +26,7 @@ use Rattle.uv_parser.proofs.Loops.Tails.{tail, query_given, with_tail}
 
 -- a run from the first place that ends within the bound, on a text without a code point that is removed
 pub run_from_ends : (base : Option Url) (text : List ℕ) (k : ℕ) (url : Url) → first_removed text ≡ None
-    → k ≤ step_bound text → Ends base SchemeStartState empty_held text k url
+    → k ≤ step_bound text → Ends base SchemeStartState empty_variables text k url
     → run base text (step_bound text) ≡ Done url
 unfolding run
 run_from_ends base text k url kept within ends =
@@ -37,7 +37,7 @@ pub record EndsBehindScheme (base : Option Url) (parts : Parts) (scheme middle :
   pub steps : ℕ
   pub url : Url
   pub named : is_scheme scheme ≡ true
-  pub ends : Ends base SchemeState (with_more (lowercase scheme) empty_held)
+  pub ends : Ends base SchemeState (with_more (lowercase scheme) empty_variables)
       (colon ∷ (middle ++ tail parts.query parts.fragment)) steps url
   pub few : steps ≤ 3 * length (middle ++ tail parts.query parts.fragment) + 16
   pub denoted : url ≡ denote base parts
@@ -57,60 +57,71 @@ runs_kept base text parts scheme middle behind kept whole =
 -- ---- the URL
 
 -- a special scheme is one whose queries have `'` encoded
-pub special_of_class : (kind : Class) (scheme : List ℕ) → scheme_class scheme ≡ kind → is_special scheme ≡ quotes kind
+pub special_of_class : (class : Class) (scheme : List ℕ) → scheme_class scheme ≡ class
+    → is_special scheme ≡ quotes class
 special_of_class Special scheme e = rw e refl
 special_of_class File scheme e = rw e refl
 special_of_class Other scheme e = rw e refl
 
 -- the query that the machine gives is the one that is denoted
-query_denoted : (base : Option Url) (kind : Class) (form : Form) (query : Option (List ℕ)) (h : Held)
+query_denoted : (base : Option Url) (class : Class) (form : Form) (query : Option (List ℕ)) (v : Variables)
     → has_scheme form ≡ true
-    → is_special h.url.scheme ≡ quotes kind → h.url.query ≡ None
-    → query_given query h ≡ denoted_query base kind form query
-query_denoted base kind form (Some query) h has special none = rw special refl
-query_denoted base kind SchemeAuthority None h has special none = none
-query_denoted base kind SchemePath None h has special none = none
-query_denoted base kind SchemeOpaque None h has special none = none
-query_denoted base kind Authority None h has special none = absurd (false≢true has)
-query_denoted base kind PathAbsolute None h has special none = absurd (false≢true has)
-query_denoted base kind PathRelative None h has special none = absurd (false≢true has)
-query_denoted base kind NoPath None h has special none = absurd (false≢true has)
+    → is_special v.url.scheme ≡ quotes class → v.url.query ≡ None
+    → query_given query v ≡ denoted_query base class form query
+query_denoted base class form (Some query) v has special none = rw special refl
+query_denoted base class SchemeAuthority None v has special none = none
+query_denoted base class SchemePath None v has special none = none
+query_denoted base class SchemeOpaque None v has special none = none
+query_denoted base class Authority None v has special none = absurd (false≢true has)
+query_denoted base class PathAbsolute None v has special none = absurd (false≢true has)
+query_denoted base class PathRelative None v has special none = absurd (false≢true has)
+query_denoted base class NoPath None v has special none = absurd (false≢true has)
 
--- What is held behind the path has the denoted scheme, host, port and path, and no query.
-pub record HoldsDenoted (base : Option Url) (parts : Parts) (form : Form) (name : List ℕ) (h : Held) : Type 0 where
-  pub scheme : h.url.scheme ≡ lowercase name
-  pub host : h.url.host ≡ denoted_host base form parts
-  pub port : h.url.port ≡ denoted_port base form parts
-  pub path : h.url.path ≡ denoted_path base (scheme_class name) form parts
-  pub query : h.url.query ≡ None
+-- The variables behind the path have the denoted scheme, host, port and path, and no query.
+pub record HoldsDenoted (base : Option Url) (parts : Parts) (form : Form) (name : List ℕ) (v : Variables) : Type 0 where
+  pub scheme : v.url.scheme ≡ lowercase name
+  pub host : v.url.host ≡ denoted_host base form parts
+  pub port : v.url.port ≡ denoted_port base form parts
+  pub path : v.url.path ≡ denoted_path base (scheme_class name) form parts
+  pub query : v.url.query ≡ None
 
--- with the tail it is the denoted URL
-pub denoted_from_held : (base : Option Url) (parts : Parts) (form : Form) (scheme : List ℕ) (h : Held)
-    → has_scheme form ≡ true → parts.form ≡ form → parts.scheme ≡ Some scheme
-    → HoldsDenoted base parts form scheme h → with_tail parts.query parts.fragment h ≡ denote base parts
+-- variables with the denoted scheme, host, port, path and query are with the tail the denoted URL
+pub with_tail_denoted : (base : Option Url) (parts : Parts) (form : Form) (class : Class) (v : Variables)
+    → parts.form ≡ form → class ≡ scheme_class (scheme_in base parts)
+    → v.url.scheme ≡ denoted_scheme base parts.scheme
+    → v.url.host ≡ denoted_host base form parts → v.url.port ≡ denoted_port base form parts
+    → v.url.path ≡ denoted_path base class form parts
+    → query_given parts.query v ≡ denoted_query base class form parts.query
+    → with_tail parts.query parts.fragment v ≡ denote base parts
 unfolding denote
-denoted_from_held base parts form scheme h has of_form named holds =
-    let special : is_special h.url.scheme ≡ quotes (scheme_class scheme)
-    = special_of_class (scheme_class scheme) h.url.scheme
-    (ap scheme_class holds.scheme ∙ scheme_class-lowercase scheme) in
-    let query = query_denoted base (scheme_class scheme) form parts.query h has special holds.query in
-    let kind : scheme_class scheme ≡ scheme_class (scheme_in base parts)
-    = sym (ap (λ o. scheme_class (scheme_or base o)) named) in
-    let name : h.url.scheme ≡ denoted_scheme base parts.scheme = holds.scheme ∙ sym (ap (denoted_scheme base) named) in
-    let path : h.url.path ≡ denoted_path base (scheme_class (scheme_in base parts)) form parts
-    = holds.path ∙ ap (λ k. denoted_path base k form parts) kind in
-    let query : query_given parts.query h ≡ denoted_query base (scheme_class (scheme_in base parts)) form parts.query
-    = query ∙ ap (λ k. denoted_query base k form parts.query) kind in
-    let as_form : with_tail parts.query parts.fragment h ≡ denote_as base form parts
+with_tail_denoted base parts form class v of_form is name host port path query =
+    let path : v.url.path ≡ denoted_path base (scheme_class (scheme_in base parts)) form parts
+    = path ∙ ap (λ k. denoted_path base k form parts) is in
+    let query : query_given parts.query v ≡ denoted_query base (scheme_class (scheme_in base parts)) form parts.query
+    = query ∙ ap (λ k. denoted_query base k form parts.query) is in
+    let as_form : with_tail parts.query parts.fragment v ≡ denote_as base form parts
     = λ i. record {
       scheme = name i;
-      host = holds.host i;
-      port = holds.port i;
+      host = host i;
+      port = port i;
       path = path i;
       query = query i;
       fragment = option_map (encoded false) parts.fragment;
     } in
-    subst (λ (f : Form). with_tail parts.query parts.fragment h ≡ denote_as base f parts) (sym of_form) as_form
+    subst (λ (f : Form). with_tail parts.query parts.fragment v ≡ denote_as base f parts) (sym of_form) as_form
+
+-- and so those of a text with a scheme
+pub denoted_from_variables : (base : Option Url) (parts : Parts) (form : Form) (scheme : List ℕ) (v : Variables)
+    → has_scheme form ≡ true → parts.form ≡ form → parts.scheme ≡ Some scheme
+    → HoldsDenoted base parts form scheme v → with_tail parts.query parts.fragment v ≡ denote base parts
+denoted_from_variables base parts form scheme v has of_form named holds =
+    let special : is_special v.url.scheme ≡ quotes (scheme_class scheme)
+    = special_of_class (scheme_class scheme) v.url.scheme
+    (ap scheme_class holds.scheme ∙ scheme_class-lowercase scheme) in
+    let query = query_denoted base (scheme_class scheme) form parts.query v has special holds.query in
+    with_tail_denoted base parts form (scheme_class scheme) v of_form
+    (sym (ap (λ o. scheme_class (scheme_or base o)) named)) (holds.scheme ∙ sym (ap (denoted_scheme base) named))
+    holds.host holds.port holds.path query
 
 -- ---- the text
 

@@ -32,8 +32,8 @@ use Rattle.uv_model.proofs.Cuts.ValidCutLemmas.{valid_is_cut}
 -- ---- authorities
 
 -- What follows `//` in a valid text is taken, and none of its code points is removed.
-record IsTakenBy (kind : Class) (scheme host_text : List ℕ) (parts : Parts) : Type 0 where
-  takes : Takes kind scheme host_text parts
+record IsTakenBy (class : Class) (scheme host_text : List ℕ) (parts : Parts) : Type 0 where
+  takes : Takes class scheme host_text parts
   above : list_all is_unremoved host_text ≡ true
   port_text : MayBePortText parts.port_text
   path : MayBePathSlashed parts.segments parts.path_text
@@ -120,9 +120,9 @@ taken_other profile base scheme host_text parts (inr (empty, valued, no_text), p
 }
 
 -- by the class
-taken_by_class : (kind : Class) (profile : Profile) (base : Option Url) (scheme : Option (List ℕ)) (host_text : List ℕ)
-    (parts : Parts) → FitsAuthority kind (setting_of profile base scheme) host_text parts
-    → IsTakenBy kind (scheme_or base scheme) host_text parts
+taken_by_class : (class : Class) (profile : Profile) (base : Option Url) (scheme : Option (List ℕ)) (host_text : List ℕ)
+    (parts : Parts) → FitsAuthority class (setting_of profile base scheme) host_text parts
+    → IsTakenBy class (scheme_or base scheme) host_text parts
 taken_by_class Special = taken_special
 taken_by_class File = taken_file
 taken_by_class Other = taken_other

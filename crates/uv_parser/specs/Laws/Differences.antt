@@ -44,7 +44,7 @@ HostDiffers text _ = ⊥
 
 -- The host parser takes the host text of a special URL or of a file URL, which is no valid host text.
 pub record HasForeignHost (base : Option Url) (parts : Parts) : Type 0 where
-  pub kind : class_in base parts.scheme ≢ Other
+  pub class : class_in base parts.scheme ≢ Other
   pub text : List ℕ
   pub given : parts.host_text ≡ Some text
   pub host : Host

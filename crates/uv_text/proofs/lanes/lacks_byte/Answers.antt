@@ -1,8 +1,8 @@
 -- A load more lacks it.
-use Rattle.std.proofs.Common.{◌≡◌, ◌-◌, ℕ, List, true, ap, ◌∙◌, drop, take, length, subst, sym, arith}
+use Rattle.std.proofs.Common.{◌≡◌, ◌-◌, ℕ, List, true, ap, ◌∙◌, drop, take, take_all, length, subst, sym, arith}
 use Rattle.std.proofs.lemmas.List.{drop-drop, length-drop}
 use Rattle.uv_model.specs.Path.{is_without}
-use Rattle.uv_text.proofs.LackLemmas.{behind_n, past, take-whole}
+use Rattle.uv_text.proofs.LackLemmas.{behind_n, past}
 use Rattle.uv_text.proofs.lanes.lacks_byte.Goals as goal
 
 pub loop-at-preserved : goal.loop-at-preserved
@@ -20,7 +20,7 @@ returns c = λ none.
     let from = length xs - 32 in
     let at = c.loop-at.at in
     let last : take 32 (drop from xs) ≡ drop from xs =
-    take-whole 32 (drop from xs) (omega (arith, length-drop from xs)) in
+    take_all 32 (drop from xs) (omega (arith, length-drop from xs)) in
     let here : drop (at - from) (drop from xs) ≡ drop at xs = drop-drop (at - from) from xs
     ∙ ap (λ k. drop k xs) (omega (arith, c.loop-at-test.false)) in
     c.loop-at.invariant.so_far
