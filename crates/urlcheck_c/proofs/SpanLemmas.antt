@@ -140,6 +140,7 @@ valid_bytes bytes p utf8 (profile, base, valid) =
     sym (encodes-chars bytes utf8) ∙ ap encode_utf8_all valid.whole
     ∙ written_bytes p (no_port (setting_of profile base p.scheme) p.form p valid.form)
 
+-- how long the parts are, one behind the other
 pub whole_length : (p : Parts) → length (laid_out p) ≡ whole_extent p
 whole_length p =
     let s = scheme_extent p.scheme in
@@ -155,6 +156,7 @@ regrouped : (bytes front mark : List ℕ) (part : Option (List ℕ)) (back : Lis
     → bytes ≡ front ++ (piece mark part ++ back) → length front ≡ at → IsSpan bytes part (span_of at (length mark) part)
 regrouped bytes front mark part back at same here = rw (same, ← here) (piece_span front mark part back)
 
+-- the spans of the parts in that text
 pub laid_spans : (p : Parts) → AreSpans (laid_out p) p (spans_of p)
 laid_spans p =
     let s = scheme_piece p.scheme in

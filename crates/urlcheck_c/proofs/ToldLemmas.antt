@@ -3,6 +3,7 @@ use Rattle.std.proofs.Common.{inl, inr, sym, ◌∙◌}
 use Rattle.std.specs.Prelude.{Some, None}
 use Rattle.urlcheck_c.specs.Laws.{NoBaseUtf8IsTold, NoProfileIsTold, NoUtf8IsTold}
 
+-- a number that no profile has is told
 pub no_profile_is_told : NoProfileIsTold
 no_profile_is_told number base bytes answer (inl (bare, inl (lacking, found))) is = found
 no_profile_is_told number base bytes answer (inl (bare, inr (profile, some, rest))) is =
@@ -10,6 +11,7 @@ no_profile_is_told number base bytes answer (inl (bare, inr (profile, some, rest
 no_profile_is_told number base bytes answer (inr (profile, url, request, judged)) is =
     absurd (let e = sym request.profile_is ∙ is in cc)
 
+-- a text that is no UTF-8 is told, by each profile
 pub no_utf8_is_told : NoUtf8IsTold
 no_utf8_is_told number base bytes answer (inl (bare, inl (lacking, found))) profile is not_utf8 =
     absurd (let e = sym lacking ∙ is in cc)
@@ -19,6 +21,7 @@ no_utf8_is_told number base bytes answer (inl (bare, inr (other, some, inr (utf8
 no_utf8_is_told number base bytes answer (inr (other, url, request, judged)) profile is not_utf8 =
     absurd (not_utf8 request.utf8)
 
+-- behind a text that is UTF-8, a base that is none is told
 pub no_base_utf8_is_told : NoBaseUtf8IsTold
 no_base_utf8_is_told number base bytes answer (inl (bare, inl (none, found))) q is utf8 wrong =
     absurd (let e = sym none ∙ is in cc)
@@ -26,8 +29,8 @@ no_base_utf8_is_told number base bytes answer (inl (bare, inr (p, some, inl text
     absurd (text.none utf8)
 no_base_utf8_is_told number base bytes answer (inl (bare, inr (p, some, inr (read, inl text)))) q is utf8 wrong =
     text.said
-no_base_utf8_is_told number base bytes answer (inl (bare, inr (p, some, inr (read, inr (whole, rest))))) q is utf8 wrong =
-    absurd (wrong whole)
+no_base_utf8_is_told number base bytes answer (inl (bare, inr (p, some, inr (read, inr judged)))) q is utf8 wrong =
+    absurd (wrong judged.0)
 no_base_utf8_is_told number base bytes answer (inr (p, None, request, judged)) q is utf8 wrong =
     absurd request.base_is
 no_base_utf8_is_told number base bytes answer (inr (p, Some url, request, judged)) q is utf8 wrong =

@@ -31,8 +31,8 @@ pub struct FaultCount {
     pub count: usize,
 }
 
-/// Writes the faults of the bytes alone to the front of `out`, by place and at one place by the rule's number, as many as
-/// it holds, and gives their count. Behind them `out` stays as it is.
+/// Writes the faults of the bytes alone to the front of `out`, by place and at one place by the rule's number, as many
+/// as it holds, and gives their count. Behind them `out` stays as it is.
 #[unsafe(no_mangle)]
 pub extern "C" fn urlcheck_faults(
     alloc: Global,

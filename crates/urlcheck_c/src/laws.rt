@@ -1,5 +1,5 @@
-//! When a verdict is given, each law as the clause of a function that does nothing. The contracts of the exports say what
-//! a verdict means.
+//! When a verdict is given, each law as the clause of a function that does nothing. The contracts of the exports say
+//! what a verdict means.
 ghost use Rattle.urlcheck_c.specs.Laws.{NoBaseUtf8IsTold, NoProfileIsTold, NoUtf8IsTold};
 
 /// The verdict is 6 wherever no profile has the number, 2 wherever the text is no UTF-8 in each profile, and 4 wherever

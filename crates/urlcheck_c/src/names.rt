@@ -1,7 +1,7 @@
 //! The names and the sentences of the rules, and the version.
 ghost use Rattle.std.specs.Prelude.{◌≡◌};
 ghost use Rattle.urlcheck_c.specs.Buffer.{IsWritten};
-ghost use Rattle.urlcheck_c.specs.Names.{name_of_number, rule_sentence, rule_with_number, sentence_of_number};
+ghost use Rattle.urlcheck_c.specs.Names.{name_of_number, rule_with_number, sentence_of_number};
 
 use crate::buffers::write_front;
 use uv_model::Rule;
@@ -46,7 +46,7 @@ fn sentence_of(number: u32) -> &'static str
     ensures { result.now ≡ sentence_of_number number }
 {
     match rule_of(number) {
-        Some(rule) => sentence(rule),
+        Some(rule) => rule.sentence(),
         None => "",
     }
 }
@@ -71,31 +71,5 @@ fn rule_of(number: u32) -> Option<Rule>
         13 => Some(Rule::CodePoint),
         14 => Some(Rule::Percent),
         _ => None,
-    }
-}
-
-// What is wrong at the place of a refusal by the rule.
-fn sentence(rule: Rule) -> &'static str
-    ensures { result.now ≡ rule_sentence rule }
-{
-    match rule {
-        Rule::NoScheme => "there is no scheme and no base",
-        Rule::OpaqueBase => {
-            "there is no scheme, the base has an opaque path, and the text isn't # and a fragment"
-        }
-        Rule::TwoSlashes => "// has to follow this scheme",
-        Rule::HostMissing => "a host has to stand here",
-        Rule::HostDomain => "the host that begins here is no valid domain",
-        Rule::HostNumber => { "the host that begins here ends in a number, and is no IPv4 address" }
-        Rule::HostIpv6 => "the host that begins here is no IPv6 address in brackets",
-        Rule::HostCodePoint => "this code point may not stand in a host",
-        Rule::PortDigit => "this code point of the port is no digit",
-        Rule::PortRange => "the port that begins here is above 65535",
-        Rule::FirstSegmentEmpty => "the path's first segment is empty, and others follow it",
-        Rule::DriveAfterHost => {
-            "the path that begins here begins with /, a drive letter and /, and follows a host"
-        }
-        Rule::CodePoint => "this code point may not stand in a URL",
-        Rule::Percent => "two hex digits have to follow this %",
     }
 }

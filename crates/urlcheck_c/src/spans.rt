@@ -1,7 +1,7 @@
 //! The parts of a text as places in its bytes.
 ghost use Rattle.std.specs.Prelude.{◌≡◌, ◌+◌, ◌<◌, ◌^◌, Option};
 ghost use Rattle.std.specs.Str.{chars};
-ghost use Rattle.uv_grammar.specs.Seen.{seen_option};
+ghost use Rattle.uv_grammar.specs.Slices.{chars_of_option};
 ghost use Rattle.uv_model.specs.declared.profile.Profile.{Profile};
 ghost use Rattle.uv_model.specs.Records.Url.{Url};
 ghost use Rattle.uv_model.specs.Valid.{Valid};
@@ -92,7 +92,7 @@ fn laid(whole: usize, parts: &Parts<'_>) -> Spans
 #[tactic(auto, using(crate::proofs::SeenLemmas::encoded_length))]
 fn taken(mark: usize, part: Option<&str>) -> usize
     requires { mark < 3 }
-    ensures { result ≡ extent mark (seen_option part.entry) }
+    ensures { result ≡ extent mark (chars_of_option part.entry) }
 {
     match part {
         Some(part) => mark + part.len(),
@@ -104,8 +104,8 @@ fn taken(mark: usize, part: Option<&str>) -> usize
 #[tactic(auto, using(crate::proofs::SeenLemmas::encoded_length))]
 fn one_place(at: usize, mark: usize, part: Option<&str>) -> Span
     requires mark { mark < 3 }
-    requires fits { at + extent mark (seen_option part) < 2 ^ 64 }
-    ensures { result ≡ span_of at mark (seen_option part.entry) }
+    requires fits { at + extent mark (chars_of_option part) < 2 ^ 64 }
+    ensures { result ≡ span_of at mark (chars_of_option part.entry) }
 {
     match part {
         Some(part) => Span {

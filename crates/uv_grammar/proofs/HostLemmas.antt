@@ -26,9 +26,9 @@ use Rattle.uv_model.proofs.Complaints.FaultlessHosts.{host_text_faultless, opaqu
 use Rattle.uv_model.proofs.Complaints.RefusalLemmas.{IsLeast-like}
 use Rattle.uv_grammar.specs.declared.judged.Judged.{Judged}
 use Rattle.uv_grammar.specs.declared.judged.Judged.TheVariants.{Valid, Refused}
-use Rattle.uv_grammar.specs.declared.held_host.HeldHost.{HeldHost}
-use Rattle.uv_grammar.specs.declared.held_host.HeldHost.TheVariants.{Made}
-use Rattle.uv_grammar.specs.HeldHost.{FitsHeld, IsHeldText, held}
+use Rattle.uv_grammar.specs.declared.parts_host.PartsHost.{PartsHost}
+use Rattle.uv_grammar.specs.declared.parts_host.PartsHost.TheVariants.{Made}
+use Rattle.uv_grammar.specs.PartsHost.{FitsPartsHost, IsPartsHostText, as_host}
 use Rattle.uv_grammar.specs.HostValues.{FitsHost, FitsSomeHost}
 use Rattle.uv_grammar.specs.Judged.{IsJudged}
 use Rattle.uv_grammar.specs.NoMemory.{HostTakesNoMemory, MakesNoForm}
@@ -41,20 +41,20 @@ nothing_at zero c rest same = cc
 nothing_at (suc place) c rest same = cc
 
 -- an empty text violates no rule by what it holds
-pub nothing_held : (profile : Profile) (class : Class) (place : ℕ) (rule : Rule)
+pub empty_content_fits : (profile : Profile) (class : Class) (place : ℕ) (rule : Rule)
     → HostContentComplaint profile class [] place rule → ⊥
-nothing_held profile Special place HostDomain h = h.0.0.some refl
-nothing_held profile Special place HostNumber h = h.0.0.some refl
-nothing_held profile Special place HostIpv6 h = false≢true h.0.bracket
-nothing_held profile Special place _ h = absurd h.0
-nothing_held profile File place HostDomain h = h.0.0.some refl
-nothing_held profile File place HostNumber h = h.0.0.some refl
-nothing_held profile File place HostIpv6 h = false≢true h.0.bracket
-nothing_held profile File place _ h = absurd h.0
-nothing_held profile Other place HostIpv6 h = false≢true h.0.bracket
-nothing_held profile Other place HostCodePoint h = nothing_at place h.1.code_point h.1.rest h.1.here
-nothing_held profile Other place Percent h = nothing_at place percent_sign h.1.rest h.1.here
-nothing_held profile Other place _ h = absurd h
+empty_content_fits profile Special place HostDomain h = h.0.0.some refl
+empty_content_fits profile Special place HostNumber h = h.0.0.some refl
+empty_content_fits profile Special place HostIpv6 h = false≢true h.0.bracket
+empty_content_fits profile Special place _ h = absurd h.0
+empty_content_fits profile File place HostDomain h = h.0.0.some refl
+empty_content_fits profile File place HostNumber h = h.0.0.some refl
+empty_content_fits profile File place HostIpv6 h = false≢true h.0.bracket
+empty_content_fits profile File place _ h = absurd h.0
+empty_content_fits profile Other place HostIpv6 h = false≢true h.0.bracket
+empty_content_fits profile Other place HostCodePoint h = nothing_at place h.1.code_point h.1.rest h.1.here
+empty_content_fits profile Other place Percent h = nothing_at place percent_sign h.1.rest h.1.here
+empty_content_fits profile Other place _ h = absurd h
 
 -- the rules of an empty host are that of a missing one
 pub empty_rule : (profile : Profile) (class : Class) (port_text : Option (List ℕ)) (path_text : List ℕ) (place : ℕ)
@@ -62,7 +62,7 @@ pub empty_rule : (profile : Profile) (class : Class) (port_text : Option (List �
     → HostComplaint profile class [] port_text path_text place rule
     → (rule ≡ HostMissing) × LacksHost class [] port_text path_text × (place ≡ 0)
 empty_rule profile class port_text path_text place HostMissing h = (refl, h.0, h.1)
-empty_rule profile class port_text path_text place rule h = absurd (nothing_held profile class place rule h)
+empty_rule profile class port_text path_text place rule h = absurd (empty_content_fits profile class place rule h)
 
 -- a missing host
 pub missing_host : (profile : Profile) (class : Class) (port_text : Option (List ℕ)) (path_text : List ℕ)
@@ -84,11 +84,11 @@ empty_silent profile class port_text path_text not place rule h =
 -- ---- a host that isn't empty
 
 -- what it holds violates no rule of a missing host
-held_not_missing : (profile : Profile) (class : Class) (text : List ℕ) (place : ℕ)
+content_not_missing : (profile : Profile) (class : Class) (text : List ℕ) (place : ℕ)
     → HostContentComplaint profile class text place HostMissing → ⊥
-held_not_missing profile Special text place h = h.0
-held_not_missing profile File text place h = h.0
-held_not_missing profile Other text place h = h
+content_not_missing profile Special text place h = h.0
+content_not_missing profile File text place h = h.0
+content_not_missing profile Other text place h = h
 
 lacks_nothing : (class : Class) (text : List ℕ) (port_text : Option (List ℕ)) (path_text : List ℕ) → text ≢ []
     → LacksHost class text port_text path_text → ⊥
@@ -96,40 +96,44 @@ lacks_nothing Special text port_text path_text some h = some h
 lacks_nothing File text port_text path_text some h = some h.0
 lacks_nothing Other text port_text path_text some h = some h.0
 
-pub held_to : (profile : Profile) (class : Class) (text : List ℕ) (port_text : Option (List ℕ)) (path_text : List ℕ)
-    (place : ℕ) (rule : Rule)
+-- a complaint of what a host holds is one of the host
+pub content_to_host : (profile : Profile) (class : Class) (text : List ℕ) (port_text : Option (List ℕ))
+    (path_text : List ℕ) (place : ℕ) (rule : Rule)
     → HostContentComplaint profile class text place rule
     → HostComplaint profile class text port_text path_text place rule
-held_to profile class text port_text path_text place HostMissing h =
-    absurd (held_not_missing profile class text place h)
-held_to profile class text port_text path_text place _ h = h
+content_to_host profile class text port_text path_text place HostMissing h =
+    absurd (content_not_missing profile class text place h)
+content_to_host profile class text port_text path_text place _ h = h
 
-pub held_from : (profile : Profile) (class : Class) (text : List ℕ) (port_text : Option (List ℕ)) (path_text : List ℕ)
+-- and a complaint of a host that isn't empty is one of what it holds
+pub content_from_host : (profile : Profile) (class : Class) (text : List ℕ) (port_text : Option (List ℕ))
+    (path_text : List ℕ)
     → text ≢ []
     → (place : ℕ) (rule : Rule)
     → HostComplaint profile class text port_text path_text place rule
     → HostContentComplaint profile class text place rule
-held_from profile class text port_text path_text some place HostMissing h =
+content_from_host profile class text port_text path_text some place HostMissing h =
     absurd (lacks_nothing class text port_text path_text some h.0)
-held_from profile class text port_text path_text some place _ h = h
+content_from_host profile class text port_text path_text some place _ h = h
 
 -- the answer on what a host holds is the answer on the host
-pub held_answer : (profile : Profile) (class : Class) (text : List ℕ) (port_text : Option (List ℕ)) (path_text : List ℕ)
+pub content_answer : (profile : Profile) (class : Class) (text : List ℕ) (port_text : Option (List ℕ))
+    (path_text : List ℕ)
     → text ≢ []
-    → (answer : Judged (Option HeldHost)) → IsJudged (FitsHeld (FitsSomeHost profile class text))
+    → (answer : Judged (Option PartsHost)) → IsJudged (FitsPartsHost (FitsSomeHost profile class text))
     (HostContentComplaint profile class text) answer
-    → IsJudged (FitsHeld (FitsHost profile class text port_text path_text))
+    → IsJudged (FitsPartsHost (FitsHost profile class text port_text path_text))
     (HostComplaint profile class text port_text path_text) answer
-held_answer profile class text port_text path_text some (Valid host) is = (
+content_answer profile class text port_text path_text some (Valid host) is = (
   inl (some, is.0),
   IsLeast-like (HostContentComplaint profile class text) (HostComplaint profile class text port_text path_text)
-      (held_to profile class text port_text path_text)
-      (held_from profile class text port_text path_text some) None is.1,
+      (content_to_host profile class text port_text path_text)
+      (content_from_host profile class text port_text path_text some) None is.1,
 )
-held_answer profile class text port_text path_text some (Refused refusal) is =
+content_answer profile class text port_text path_text some (Refused refusal) is =
     IsLeast-like (HostContentComplaint profile class text) (HostComplaint profile class text port_text path_text)
-    (held_to profile class text port_text path_text) (held_from profile class text port_text path_text some)
-    (Some refusal) is
+    (content_to_host profile class text port_text path_text)
+    (content_from_host profile class text port_text path_text some) (Some refusal) is
 
 -- ---- the host strings of special and file URLs
 
@@ -163,24 +167,24 @@ fault_least profile text rule h = record {
 -- ---- answers on host strings
 
 -- the answer on a valid host string
-pub text_answer : (profile : Profile) (text : List ℕ) (host : HeldHost) → IsHeldText profile text host
-    → IsJudged (IsHeldText profile text) (HostContentComplaint profile Special text) (Valid host)
-text_answer profile text host is = (is, λ place rule h. host_text_faultless profile text (held host) is rule h.0)
+pub text_answer : (profile : Profile) (text : List ℕ) (host : PartsHost) → IsPartsHostText profile text host
+    → IsJudged (IsPartsHostText profile text) (HostContentComplaint profile Special text) (Valid host)
+text_answer profile text host is = (is, λ place rule h. host_text_faultless profile text (as_host host) is rule h.0)
 
 -- the answer of a file URL
-pub file_answer : (profile : Profile) (text : List ℕ) (host file_host : HeldHost) → IsHeldText profile text host
-    → held file_host ≡ without_localhost (held host)
-    → IsJudged (FitsHeld (FitsSomeHost profile File text)) (HostContentComplaint profile File text) (Valid
+pub file_answer : (profile : Profile) (text : List ℕ) (host file_host : PartsHost) → IsPartsHostText profile text host
+    → as_host file_host ≡ without_localhost (as_host host)
+    → IsJudged (FitsPartsHost (FitsSomeHost profile File text)) (HostContentComplaint profile File text) (Valid
     (Some file_host))
 file_answer profile text host file_host is same = (
-  rw same (file_host_fits profile text (held host) is),
+  rw same (file_host_fits profile text (as_host host) is),
   λ place rule h. host_text_faultless profile text
-      (held host) is rule h.0,
+      (as_host host) is rule h.0,
 )
 
 -- the answer of any other URL on an IPv6 text in brackets
 pub bracketed_answer : (text pieces : List ℕ) → IsBracketedIpv6 text pieces
-    → IsJudged (FitsHeld (IsOpaqueHostText text)) (OpaqueHostComplaint text) (Valid (Some (Made (V6 pieces))))
+    → IsJudged (FitsPartsHost (IsOpaqueHostText text)) (OpaqueHostComplaint text) (Valid (Some (Made (V6 pieces))))
 bracketed_answer text pieces is = (is, opaque_host_faultless text (Some (V6 pieces)) is)
 
 -- a host that is neither empty nor in brackets

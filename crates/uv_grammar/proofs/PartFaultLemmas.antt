@@ -35,7 +35,7 @@ use Rattle.uv_grammar.specs.declared.judged.Judged.TheVariants.{Valid, Refused}
 use Rattle.uv_grammar.specs.Judged.{IsJudged, refusal_of}
 use Rattle.uv_grammar.specs.PartComplaints.{OfFragment, OfPath, OfPathStart, OfQuery}
 use Rattle.uv_grammar.specs.Scan.{DigitComplaint, HostUnitComplaint}
-use Rattle.uv_grammar.proofs.HostLemmas.{empty_rule, held_from, one_rule}
+use Rattle.uv_grammar.proofs.HostLemmas.{empty_rule, content_from_host, one_rule}
 use Rattle.uv_grammar.proofs.PortLemmas.{digits_only}
 use Rattle.uv_grammar.proofs.ScanLemmas.{HasOneAtMost, adds_both, adds_fault, adds_like}
 
@@ -109,9 +109,9 @@ host_one_at_most profile class [] port_text path_text whole place other rule sec
     let two = empty_rule profile class port_text path_text other second k in
     (one.2 ∙ sym two.2, one.0 ∙ sym two.0)
 host_one_at_most profile class (c ∷ rest) port_text path_text whole place other rule second h k =
-    held class whole place other rule second
-    (held_from profile class (c ∷ rest) port_text path_text some place rule h)
-    (held_from profile class (c ∷ rest) port_text path_text some other second k)
+    of_content class whole place other rule second
+    (content_from_host profile class (c ∷ rest) port_text path_text some place rule h)
+    (content_from_host profile class (c ∷ rest) port_text path_text some other second k)
   where
     some : (c ∷ rest) ≢ []
     some same = cc
@@ -122,19 +122,19 @@ host_one_at_most profile class (c ∷ rest) port_text path_text whole place othe
       | inr other ↦ absurd (false≢true (sym none ∙ ap not other))
     ]
 
-    held : (class : Class) → is_scanned class (c ∷ rest) ≡ false
+    of_content : (class : Class) → is_scanned class (c ∷ rest) ≡ false
         → HasOneAtMost (HostContentComplaint profile class (c ∷ rest))
-    held Special none place other rule second h k =
+    of_content Special none place other rule second h k =
         (h.1 ∙ sym k.1, one_rule profile (c ∷ rest) rule second h.0 k.0)
-    held File none place other rule second h k =
+    of_content File none place other rule second h k =
         (h.1 ∙ sym k.1, one_rule profile (c ∷ rest) rule second h.0 k.0)
-    held Other none place other HostIpv6 HostIpv6 h k = (h.1 ∙ sym k.1, refl)
-    held Other none place other HostCodePoint second h k = absurd (false≢true (sym h.0 ∙ bracketed none))
-    held Other none place other Percent second h k = absurd (false≢true (sym h.0 ∙ bracketed none))
-    held Other none place other HostIpv6 HostCodePoint h k = absurd (false≢true (sym k.0 ∙ bracketed none))
-    held Other none place other HostIpv6 Percent h k = absurd (false≢true (sym k.0 ∙ bracketed none))
-    held Other none place other HostIpv6 _ h k = absurd k
-    held Other none place other _ second h k = absurd h
+    of_content Other none place other HostIpv6 HostIpv6 h k = (h.1 ∙ sym k.1, refl)
+    of_content Other none place other HostCodePoint second h k = absurd (false≢true (sym h.0 ∙ bracketed none))
+    of_content Other none place other Percent second h k = absurd (false≢true (sym h.0 ∙ bracketed none))
+    of_content Other none place other HostIpv6 HostCodePoint h k = absurd (false≢true (sym k.0 ∙ bracketed none))
+    of_content Other none place other HostIpv6 Percent h k = absurd (false≢true (sym k.0 ∙ bracketed none))
+    of_content Other none place other HostIpv6 _ h k = absurd k
+    of_content Other none place other _ second h k = absurd h
 
 -- the fault of such a host is all that is added
 pub host_fault_adds : (setting : Setting) (cut : Cut) (class : Class) (host_text : List ℕ) (before after : List Refusal)

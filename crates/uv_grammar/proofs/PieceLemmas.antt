@@ -4,7 +4,7 @@ use Rattle.std.specs.Prelude.{◌==◌}
 use Rattle.std.specs.List.{slice_split, onto_first}
 use Rattle.std.specs.Borrow.{Bor}
 use Rattle.std.specs.Str.{chars, IsUtf8}
-use Rattle.uv_grammar.specs.Seen.{seen_each}
+use Rattle.uv_grammar.specs.Slices.{chars_of_each}
 use Rattle.std.proofs.lemmas.Bool.{and_parts, cases_Bool, cases_lt}
 use Rattle.std.proofs.lemmas.Str.{encode_ascii, encodes-chars, chars-encodes, scalars-chars}
 use Rattle.std.proofs.Math.Utf8.{encodes, encode, scalars, scalar}
@@ -94,16 +94,16 @@ map_spelled : (parts : List (List ℕ)) → AreScalars parts → map chars (map 
 map_spelled [] each = refl
 map_spelled (part ∷ parts) each = rw (chars-encodes part each.0) (ap (λ p. part ∷ p) (map_spelled parts each.1))
 
--- slices are seen by the code points of their bytes
-seen_each-items : (items : List (Bor (List ℕ))) → seen_each items ≡ map chars (map (λ x. x.now) items)
-seen_each-items [] = refl
-seen_each-items (item ∷ items) = ap (λ p. chars item.now ∷ p) (seen_each-items items)
+-- the code points of slices are those of their bytes
+chars_of_each-items : (items : List (Bor (List ℕ))) → chars_of_each items ≡ map chars (map (λ x. x.now) items)
+chars_of_each-items [] = refl
+chars_of_each-items (item ∷ items) = ap (λ p. chars item.now ∷ p) (chars_of_each-items items)
 
--- the slices between the slashes are seen as the texts between the slashes
-pub pieces_seen : (bytes : List ℕ) (items : List (Bor (List ℕ))) → IsUtf8 bytes
-    → map (λ x. x.now) items ≡ slice_split (λ b. b == slash) bytes → seen_each items ≡ pieces (chars bytes)
-pieces_seen bytes items utf8 same =
-    seen_each-items items ∙ (ap (map chars) same
+-- the code points of the slices between the slashes are the texts between the slashes
+pub pieces_of_slices : (bytes : List ℕ) (items : List (Bor (List ℕ))) → IsUtf8 bytes
+    → map (λ x. x.now) items ≡ slice_split (λ b. b == slash) bytes → chars_of_each items ≡ pieces (chars bytes)
+pieces_of_slices bytes items utf8 same =
+    chars_of_each-items items ∙ (ap (map chars) same
     ∙ (ap (λ s. map chars (pieces s)) (sym (encodes-chars bytes utf8))
     ∙ (ap (map chars) (pieces-encodes (chars bytes))
     ∙ map_spelled (pieces (chars bytes)) (pieces_scalars (chars bytes) (scalars-chars bytes utf8)))))

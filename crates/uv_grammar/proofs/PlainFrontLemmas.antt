@@ -33,6 +33,7 @@ front_boundary bytes end utf8 front =
     IsCharBoundary-from_take bytes end utf8 front.0
     (IsUtf8-from_ascii (take end bytes) (IsAscii-from_test (take end bytes) front.1))
 
+-- the two sides of the cut behind an ASCII front
 pub front_cut : (bytes front rest : List ℕ) (end : ℕ) → HasAsciiFront bytes end → front ≡ take end bytes → rest
     ≡ drop end bytes
     → IsFrontCut bytes end front rest
@@ -49,6 +50,7 @@ front_cut bytes front rest end has is_front is_rest =
           ∙ (ap (λ s. s ++ chars (drop end bytes)) same ∙ ap (λ s. take end bytes ++ chars s) (sym is_rest));
     }
 
+-- the special schemes but `file`, each by its name
 pub https_special : scheme_class (codes "https") ≡ Special
 unfolding scheme_class default_port
 https_special = refl
@@ -129,9 +131,11 @@ first_byte mark (b ∷ bytes) some first = ap (λ n. n ∷ bytes) first
 pub no_part : (mark : ℕ) (text : List ℕ) → IsPartCut mark text None text
 no_part mark text = record { joined = refl; units = tt }
 
+-- one ASCII byte is an ASCII front
 pub byte_ascii : (mark : ℕ) (bytes : List ℕ) → mark < 128 → bytes ≡ mark ∷ drop 1 bytes → HasAsciiFront bytes 1
 byte_ascii mark bytes small same = rw same (omega arith, rw (lt-ltb mark 128 small) refl)
 
+-- a text that begins with the mark has a part of units behind it
 pub some_part : (mark : ℕ) (bytes none behind front rest : List ℕ) (ranges : List (ℕ × ℕ)) → bytes ≡ mark ∷ drop 1 bytes
     → IsFrontCut bytes 1 none behind → HoldsUrlBytes ranges → HasHexDigits ranges
     → IsUnitSplit ranges (chars behind) (chars front) (chars rest)

@@ -1,10 +1,10 @@
 -- A link of plain parts is valid with them.
-use Rattle.std.proofs.Common.{◌≡◌, ◌≢◌, ℕ, Bool, true, false, ◌==◌, List, [], ◌∷◌, ◌++◌, Option, Some, None, refl, sym, ap, ◌∙◌, subst, inl, inr, arith, append_assoc, append-nil, eqb-true}
+use Rattle.std.proofs.Common.{◌≡◌, ◌≢◌, ℕ, true, false, ◌==◌, List, [], ◌∷◌, ◌++◌, Option, Some, None, refl, sym, ap, ◌∙◌, subst, inl, inr, arith, append_assoc, append-nil}
 use Rattle.std.specs.Prelude.{◌+◌}
-use Rattle.std.specs.Char.{is_ascii_alphabetic, is_ascii_digit}
+use Rattle.std.specs.Char.{is_ascii_digit}
 use Rattle.std.specs.List.{list_all}
 use Rattle.std.specs.Str.{chars}
-use Rattle.std.proofs.lemmas.Bool.{and_parts, and_from, cases_Bool, false≢true}
+use Rattle.std.proofs.lemmas.Bool.{and_parts, cases_Bool, false≢true}
 use Rattle.std.proofs.lemmas.Bool.Decides.{nat_tests}
 use Rattle.std.proofs.lemmas.List.Sums.{list_all-from_AllPass}
 use Rattle.std.proofs.lemmas.Option.{none-some}
@@ -22,10 +22,12 @@ use Rattle.uv_model.specs.Cut.{Cut, IsCut, EndsAtPort, IsHostCut, is_within, is_
 use Rattle.uv_model.specs.Hosts.Domain.{IsDomain, is_form_code_point}
 use Rattle.uv_model.specs.Parts.{written_behind}
 use Rattle.uv_model.specs.Path.{is_without}
-use Rattle.uv_model.specs.Scheme.{default_port, is_scheme, is_scheme_code_point}
+use Rattle.uv_model.specs.Scheme.{default_port}
 use Rattle.uv_model.specs.Records.Url.{Url}
 use Rattle.uv_model.specs.Setting.{Setting, setting_of}
 use Rattle.uv_model.proofs.Hosts.DomainLemmas.{IsAscii-form}
+use Rattle.uv_model.proofs.Cuts.HostCutLemmas.{is_without-passes}
+use Rattle.uv_model.proofs.Cuts.ValidCutLemmas.{scheme_without}
 use Rattle.uv_model.proofs.Texts.MarkLemmas.{is_without-append, is_without-more, has_mark}
 use Rattle.uv_model.proofs.Complaints.UnitComplaintLemmas.{no_complaint-faultless}
 use Rattle.uv_grammar.specs.Built.{built}
@@ -34,32 +36,6 @@ use Rattle.uv_grammar.specs.PartValues.{FitsHostPart, FitsPortPart}
 use Rattle.uv_grammar.specs.PlainLinks.{IsNameCut, IsPartCut, IsPathCut, IsPortCut, IsSpecialCut, MayBeUnits}
 use Rattle.uv_grammar.specs.Verdict.{IsAccepted}
 use Rattle.uv_grammar.proofs.VerdictLemmas.{accepted}
-
--- ---- marks that a text lacks
-
--- code points that pass a test hold no mark that fails it
-without_foreign : (p : ℕ → Bool) (mark : ℕ) → p mark ≡ false → (text : List ℕ) → list_all p text ≡ true
-    → is_without mark text ≡ true
-without_foreign p mark fails [] each = refl
-without_foreign p mark fails (c ∷ rest) each =
-    let parts = and_parts (p c) (list_all p rest) each in
-    is_without-more mark c rest (other c parts.0) (without_foreign p mark fails rest parts.1)
-  where
-    other : (c : ℕ) → p c ≡ true → (c == mark) ≡ false
-    other c passes = elim (cases_Bool (c == mark)) [
-      | inl same ↦ absurd (false≢true (sym fails ∙ (ap p (sym (eqb-true c mark same)) ∙ passes)))
-      | inr different ↦ different
-    ]
-
-letter_in_scheme : (c : ℕ) → is_ascii_alphabetic c ≡ true → is_scheme_code_point c ≡ true
-letter_in_scheme c letter = grind (arith, nat_tests)
-
-scheme_without : (mark : ℕ) → is_scheme_code_point mark ≡ false → (scheme : List ℕ) → is_scheme scheme ≡ true
-    → is_without mark scheme ≡ true
-scheme_without mark fails [] is = absurd (false≢true is)
-scheme_without mark fails (c ∷ rest) is =
-    let parts = and_parts (is_ascii_alphabetic c) (list_all is_scheme_code_point rest) is in
-    without_foreign is_scheme_code_point mark fails (c ∷ rest) (and_from _ _ (letter_in_scheme c parts.0) parts.1)
 
 -- the name of a domain that is its own form
 form_each : (name form : List ℕ) → IsDomain Standard name form → list_all (is_form_code_point Standard) form ≡ true
@@ -79,22 +55,20 @@ plain_cut scheme name port_text path query fragment = record {
 }
 
 -- what stands before the query lacks a mark that each part lacks
-start_without : (mark : ℕ) (scheme name port path : List ℕ) → (mark == colon) ≡ false → (mark == slash) ≡ false
-    → is_without mark scheme ≡ true → is_without mark name ≡ true → is_without mark port ≡ true
+start_without : (mark : ℕ) (scheme name port path : List ℕ) → (slash == mark) ≡ false
+    → is_without mark (scheme ++ colon ∷ []) ≡ true → is_without mark name ≡ true → is_without mark port ≡ true
     → is_without mark path ≡ true
     → is_without mark ((scheme ++ colon ∷ []) ++ ((slash ∷ slash ∷ (name ++ port)) ++ path)) ≡ true
-start_without mark scheme name port path no_colon no_slash a b p c =
-    let colon_other : (colon == mark) ≡ false = grind (arith, nat_tests) in
-    let slash_other : (slash == mark) ≡ false = grind (arith, nat_tests) in
-    is_without-append mark (scheme ++ colon ∷ []) ((slash ∷ slash ∷ (name ++ port)) ++ path)
-    (is_without-append mark scheme (colon ∷ []) a (is_without-more mark colon [] colon_other refl))
+start_without mark scheme name port path slash_other a b p c =
+    is_without-append mark (scheme ++ colon ∷ []) ((slash ∷ slash ∷ (name ++ port)) ++ path) a
     (is_without-append mark (slash ∷ slash ∷ (name ++ port)) path
     (is_without-more mark slash (slash ∷ (name ++ port)) slash_other
     (is_without-more mark slash (name ++ port) slash_other (is_without-append mark name port b p)))
     c)
 
 -- a query lacks `#`
-part_without : (part : Option (List ℕ)) → MayBeUnits part → is_without number_sign (written_behind question_mark part) ≡ true
+part_without : (part : Option (List ℕ)) → MayBeUnits part
+    → is_without number_sign (written_behind question_mark part) ≡ true
 part_without None units = refl
 part_without (Some text) units = is_without-more number_sign question_mark text refl units.no_number_sign
 
@@ -103,7 +77,7 @@ port_without : (mark : ℕ) (port_text : Option (List ℕ)) → (colon == mark) 
     → MayBePortText port_text → is_without mark (written_behind colon port_text) ≡ true
 port_without mark None other fails valid = refl
 port_without mark (Some text) other fails valid =
-    is_without-more mark colon text other (without_foreign is_ascii_digit mark fails text valid.digits)
+    is_without-more mark colon text other (is_without-passes is_ascii_digit mark text fails valid.digits)
 
 -- a host of a form's code points has no brackets
 outside : (c : ℕ) → is_form_code_point Standard c ≡ true → is_within false c ≡ false
@@ -121,7 +95,7 @@ no_brackets (c ∷ rest) each =
 ends_at_port : (name : List ℕ) (port_text : Option (List ℕ)) → list_all (is_form_code_point Standard) name ≡ true
     → EndsAtPort name port_text
 ends_at_port name port_text each =
-    let none : is_without colon name ≡ true = without_foreign (is_form_code_point Standard) colon refl name each in
+    let none : is_without colon name ≡ true = is_without-passes (is_form_code_point Standard) colon name refl each in
     record {
       none_before = λ front rest same.
           absurd (false≢true (sym (has_mark colon front rest) ∙ (ap (is_without colon) (sym same) ∙ none)));
@@ -189,21 +163,21 @@ plain_is_cut base text scheme name form port_text port path query fragment own l
       front =
           is_without-append number_sign (written_start (plain_cut scheme name port_text path query fragment))
           (written_behind question_mark query)
-          (start_without number_sign scheme name ported path refl refl
-          (scheme_without number_sign refl scheme l.special.named)
-          (without_foreign (is_form_code_point Standard) number_sign refl name each)
+          (start_without number_sign scheme name ported path refl
+          (scheme_without number_sign scheme refl refl refl l.special.named)
+          (is_without-passes (is_form_code_point Standard) number_sign name refl each)
           (port_without number_sign port_text refl refl l.port_cut.valid)
           l.path_cut.units.no_number_sign)
           (part_without query l.query_cut.units);
       start =
-          start_without question_mark scheme name ported path refl refl
-          (scheme_without question_mark refl scheme l.special.named)
-          (without_foreign (is_form_code_point Standard) question_mark refl name each)
+          start_without question_mark scheme name ported path refl
+          (scheme_without question_mark scheme refl refl refl l.special.named)
+          (is_without-passes (is_form_code_point Standard) question_mark name refl each)
           (port_without question_mark port_text refl refl l.port_cut.valid)
           (l.path_cut.units.no_question_mark refl);
       scheme = l.special.named;
       authority = (
-        is_without-append slash name ported (without_foreign (is_form_code_point Standard) slash refl name each)
+        is_without-append slash name ported (is_without-passes (is_form_code_point Standard) slash name refl each)
             (port_without slash port_text refl refl l.port_cut.valid),
         l.path_cut.slashed,
         subst (λ k. IsHostCut k name port_text) (sym l.special.special) (ends_at_port name port_text each),

@@ -1,7 +1,7 @@
 pub mod Built
 pub mod Faults
 pub mod Form
-pub mod HeldHost
+pub mod PartsHost
 pub mod HostValues
 pub mod Judged
 pub mod Laws
@@ -10,7 +10,7 @@ pub mod PartComplaints
 pub mod PartValues
 pub mod PlainLinks
 pub mod Scan
-pub mod Seen
+pub mod Slices
 pub mod TextSplits
 pub mod StartRules
 pub mod Verdict

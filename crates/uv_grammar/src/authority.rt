@@ -1,16 +1,16 @@
 //! The host and the port of a cut text.
 ghost use Rattle.std.specs.Prelude.{◌≡◌, IfOk, IsOk};
 ghost use Rattle.uv_model.specs.Complaints.Complaint.{HostPartComplaint, PortPartComplaint};
-ghost use Rattle.uv_grammar.specs.HeldHost.{FitsHeld};
+ghost use Rattle.uv_grammar.specs.PartsHost.{FitsPartsHost};
 ghost use Rattle.uv_grammar.specs.Judged.{IsJudged};
 ghost use Rattle.uv_grammar.specs.NoMemory.{HostPartTakesNoMemory};
 ghost use Rattle.uv_grammar.specs.PartComplaints.{IsCountable};
 ghost use Rattle.uv_grammar.specs.PartValues.{FitsHostPart, FitsPortPart, without_default};
 
 use crate::cut::Cut;
-use crate::held_host::HeldHost;
 use crate::host::judge_host;
 use crate::judged::Judged;
+use crate::parts_host::PartsHost;
 use crate::places::{host_place, port_place, refusal_behind};
 use crate::port::judge_port;
 use crate::setting::Setting;
@@ -21,10 +21,10 @@ pub(crate) fn judge_host_part<'t>(
     alloc: Global,
     cut: &Cut<'t>,
     setting: &Setting,
-) -> Result<Judged<Option<HeldHost<'t>>>, AllocError>
+) -> Result<Judged<Option<PartsHost<'t>>>, AllocError>
     requires { IsCountable cut.now }
     ensures answer { IfOk result
-        (IsJudged (FitsHeld (FitsHostPart setting.now cut.now)) (HostPartComplaint setting.now cut.now)) }
+        (IsJudged (FitsPartsHost (FitsHostPart setting.now cut.now)) (HostPartComplaint setting.now cut.now)) }
     ensures memory { HostPartTakesNoMemory setting.now cut.now.host_text → IsOk result }
 {
     let Some(host_text) = cut.host_text else {

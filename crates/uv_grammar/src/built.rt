@@ -3,17 +3,17 @@ ghost use Rattle.std.specs.Prelude.{◌≡◌, false, option_map, true};
 ghost use Rattle.std.specs.Str.{chars};
 ghost use Rattle.uv_grammar.specs.Built.{built, form_of, form_with};
 ghost use Rattle.uv_grammar.specs.Form.{seen_form};
-ghost use Rattle.uv_grammar.specs.HeldHost.{held};
+ghost use Rattle.uv_grammar.specs.PartsHost.{as_host};
 
 use crate::cut::Cut;
 use crate::form::Form;
-use crate::held_host::HeldHost;
 use crate::marks::beginnings::has_slash;
 use crate::parts::Parts;
+use crate::parts_host::PartsHost;
 
 /// The parts of a cut text.
-pub(crate) fn build<'t>(cut: Cut<'t>, host: Option<HeldHost<'t>>, port: Option<u16>) -> Parts<'t>
-    ensures { result ≡ built cut.entry (option_map held host.entry) port }
+pub(crate) fn build<'t>(cut: Cut<'t>, host: Option<PartsHost<'t>>, port: Option<u16>) -> Parts<'t>
+    ensures { result ≡ built cut.entry (option_map as_host host.entry) port }
 {
     let form = form_of(&cut);
     Parts {

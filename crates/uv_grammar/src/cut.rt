@@ -3,7 +3,7 @@ ghost use Rattle.std.specs.Prelude.{◌≡◌, MatchOption, false, option_copied
 ghost use Rattle.std.specs.Str.{chars};
 ghost use Rattle.uv_model.specs.Cut.{IsCut, host_before, is_within, port_behind, starts_with_two_slashes};
 ghost use Rattle.uv_model.specs.Setting.{setting_of};
-ghost use Rattle.uv_grammar.specs.Seen.{seen, seen_option};
+ghost use Rattle.uv_grammar.specs.Slices.{chars_of, chars_of_option};
 ghost use Rattle.uv_grammar.specs.TextSplits.{IsPortMark, SplitsAuthority, SplitsHost, SplitsMiddle, SplitsScheme};
 
 use crate::marks::beginnings::is_scheme_text;
@@ -26,17 +26,17 @@ pub(crate) struct Cut<'t> {
 
 impl<'t> Model for Cut<'t> {
     ghost use Rattle.uv_model.specs.Cut.{Cut};
-    ghost use Rattle.uv_grammar.specs.Seen.{seen, seen_option};
+    ghost use Rattle.uv_grammar.specs.Slices.{chars_of, chars_of_option};
 
     ghost Value = { Cut };
 
     ghost view = { λ c. record {
-      scheme = seen_option c.scheme;
-      host_text = seen_option c.host_text;
-      port_text = seen_option c.port_text;
-      path_text = seen c.path_text;
-      query = seen_option c.query;
-      fragment = seen_option c.fragment;
+      scheme = chars_of_option c.scheme;
+      host_text = chars_of_option c.host_text;
+      port_text = chars_of_option c.port_text;
+      path_text = chars_of c.path_text;
+      query = chars_of_option c.query;
+      fragment = chars_of_option c.fragment;
     } };
 }
 
@@ -67,7 +67,8 @@ pub(crate) fn cut_text<'t, 'b>(
 
 // The texts of the host and the port, where there is an authority, and of the path.
 fn split_middle<'t>(text: &'t str, class: Class) -> (Option<&'t str>, Option<&'t str>, &'t str)
-    ensures { SplitsMiddle class (chars text.now) (seen_option result.0) (seen_option result.1) (seen result.2) }
+    ensures { SplitsMiddle class (chars text.now) (chars_of_option result.0) (chars_of_option result.1)
+        (chars_of result.2) }
 {
     match split_authority(text) {
         Some((authority, path_text)) => {
@@ -80,7 +81,7 @@ fn split_middle<'t>(text: &'t str, class: Class) -> (Option<&'t str>, Option<&'t
 
 /// The scheme, where the text begins with one and `:`, and the rest.
 pub(crate) fn split_scheme<'t>(text: &'t str) -> (Option<&'t str>, &'t str)
-    ensures { SplitsScheme (chars text.now) (seen_option result.0) (seen result.1) }
+    ensures { SplitsScheme (chars text.now) (chars_of_option result.0) (chars_of result.1) }
 {
     match split_at_mark(text, ':') {
         (front, Some(rest)) => {
@@ -97,7 +98,7 @@ pub(crate) fn split_scheme<'t>(text: &'t str) -> (Option<&'t str>, &'t str)
 // The authority and the path, where the text begins with `//`.
 fn split_authority<'t>(text: &'t str) -> Option<(&'t str, &'t str)>
     ensures { MatchOption result (starts_with_two_slashes (chars text.now) ≡ false)
-        (λ r. SplitsAuthority (chars text.now) (seen r.0) (seen r.1)) }
+        (λ r. SplitsAuthority (chars text.now) (chars_of r.0) (chars_of r.1)) }
 {
     match behind_slash(text) {
         Some(rest) => match behind_slash(rest) {
@@ -110,7 +111,7 @@ fn split_authority<'t>(text: &'t str) -> Option<(&'t str, &'t str)>
 
 // The host of an authority and the text of its port, by the class.
 fn split_host<'t>(authority: &'t str, class: Class) -> (&'t str, Option<&'t str>)
-    ensures { SplitsHost class (chars authority.now) (seen result.0) (seen_option result.1) }
+    ensures { SplitsHost class (chars authority.now) (chars_of result.0) (chars_of_option result.1) }
 {
     match class {
         Class::File => (authority, None),
@@ -120,8 +121,8 @@ fn split_host<'t>(authority: &'t str, class: Class) -> (&'t str, Option<&'t str>
 
 // The host of an authority and the text of its port, where it isn't the authority of a file URL.
 fn split_port<'t>(authority: &'t str) -> (&'t str, Option<&'t str>)
-    ensures host { seen result.0 ≡ host_before false (chars authority.now) }
-    ensures port { seen_option result.1 ≡ port_behind false (chars authority.now) }
+    ensures host { chars_of result.0 ≡ host_before false (chars authority.now) }
+    ensures port { chars_of_option result.1 ≡ port_behind false (chars authority.now) }
 {
     match port_mark(authority.as_bytes()) {
         Some(end) => (&authority[..end], Some(&authority[end + 1..])),

@@ -7,15 +7,15 @@ ghost use Rattle.uv_model.specs.Complaints.OpaqueHostComplaint.{OpaqueHostCompla
 ghost use Rattle.uv_model.specs.Hosts.OpaqueHost.{starts_with_bracket};
 ghost use Rattle.uv_host.specs.Domains.{IsPlainAnswer};
 ghost use Rattle.uv_model.specs.Valid.{IsOpaqueHostText, without_localhost};
-ghost use Rattle.uv_grammar.specs.HeldHost.{FitsHeld, IsHeldText, held};
+ghost use Rattle.uv_grammar.specs.PartsHost.{FitsPartsHost, IsPartsHostText, as_host};
 ghost use Rattle.uv_grammar.specs.HostValues.{FitsHost, FitsSomeHost};
 ghost use Rattle.uv_grammar.specs.Judged.{IsJudged};
 ghost use Rattle.uv_grammar.specs.NoMemory.{HostTakesNoMemory, MakesNoForm};
-ghost use Rattle.uv_grammar.specs.Seen.{seen_option};
+ghost use Rattle.uv_grammar.specs.Slices.{chars_of_option};
 
-use crate::held_host::{AsciiText, HeldHost};
 use crate::judged::Judged;
 use crate::marks::beginnings::{has_bracket, has_slash};
+use crate::parts_host::{AsciiText, PartsHost};
 use std::alloc::{AllocError, Global};
 use uv_host::{
     DomainAnswer, PlainAnswer, bracketed_ipv6, domain, ipv4, opaque_fault, plain_answer,
@@ -31,10 +31,11 @@ pub(crate) fn judge_host<'t>(
     port_text: Option<&str>,
     path_text: &str,
     profile: Profile,
-) -> Result<Judged<Option<HeldHost<'t>>>, AllocError>
+) -> Result<Judged<Option<PartsHost<'t>>>, AllocError>
     ensures answer { IfOk result (IsJudged
-        (FitsHeld (FitsHost profile class (chars host_text.now) (seen_option port_text.entry) (chars path_text.now)))
-        (HostComplaint profile class (chars host_text.now) (seen_option port_text.entry) (chars path_text.now))) }
+        (FitsPartsHost (FitsHost profile class (chars host_text.now) (chars_of_option port_text.entry)
+        (chars path_text.now)))
+        (HostComplaint profile class (chars host_text.now) (chars_of_option port_text.entry) (chars path_text.now))) }
     ensures memory { HostTakesNoMemory profile class (chars host_text.now) → IsOk result }
 {
     if host_text.is_empty() {
@@ -52,10 +53,10 @@ fn judge_empty_host<'t>(
     class: Class,
     port_text: Option<&str>,
     path_text: &str,
-) -> Judged<Option<HeldHost<'t>>>
+) -> Judged<Option<PartsHost<'t>>>
     ensures { (profile : Profile)
-        → IsJudged (FitsHeld (FitsHost profile class [] (seen_option port_text.entry) (chars path_text.now)))
-        (HostComplaint profile class [] (seen_option port_text.entry) (chars path_text.now)) result }
+        → IsJudged (FitsPartsHost (FitsHost profile class [] (chars_of_option port_text.entry) (chars path_text.now)))
+        (HostComplaint profile class [] (chars_of_option port_text.entry) (chars path_text.now)) result }
 {
     let is_missing = match class {
         Class::Special => true,
@@ -68,7 +69,7 @@ fn judge_empty_host<'t>(
             rule: Rule::HostMissing,
         })
     } else {
-        Judged::Valid(Some(HeldHost::Made(Host::Empty)))
+        Judged::Valid(Some(PartsHost::Made(Host::Empty)))
     }
 }
 
@@ -77,9 +78,9 @@ fn judge_special_host<'t>(
     alloc: Global,
     text: &'t str,
     profile: Profile,
-) -> Result<Judged<Option<HeldHost<'t>>>, AllocError>
+) -> Result<Judged<Option<PartsHost<'t>>>, AllocError>
     requires { chars text.now ≢ [] }
-    ensures answer { IfOk result (IsJudged (FitsHeld (FitsSomeHost profile Class.Special (chars text.now)))
+    ensures answer { IfOk result (IsJudged (FitsPartsHost (FitsSomeHost profile Class.Special (chars text.now)))
         (HostContentComplaint profile Class.Special (chars text.now))) }
     ensures memory { MakesNoForm profile (chars text.now) → IsOk result }
 {
@@ -94,9 +95,9 @@ fn judge_file_host<'t>(
     alloc: Global,
     text: &'t str,
     profile: Profile,
-) -> Result<Judged<Option<HeldHost<'t>>>, AllocError>
+) -> Result<Judged<Option<PartsHost<'t>>>, AllocError>
     requires { chars text.now ≢ [] }
-    ensures answer { IfOk result (IsJudged (FitsHeld (FitsSomeHost profile Class.File (chars text.now)))
+    ensures answer { IfOk result (IsJudged (FitsPartsHost (FitsSomeHost profile Class.File (chars text.now)))
         (HostContentComplaint profile Class.File (chars text.now))) }
     ensures memory { MakesNoForm profile (chars text.now) → IsOk result }
 {
@@ -107,16 +108,16 @@ fn judge_file_host<'t>(
 }
 
 // The empty host in place of the domain `localhost`.
-fn without_localhost(host: HeldHost<'_>) -> HeldHost<'_>
-    ensures { held result ≡ without_localhost (held host.entry) }
+fn without_localhost(host: PartsHost<'_>) -> PartsHost<'_>
+    ensures { as_host result ≡ without_localhost (as_host host.entry) }
 {
     match host {
-        HeldHost::Made(host) => HeldHost::Made(made_without_localhost(host)),
-        HeldHost::Plain(name) => {
+        PartsHost::Made(host) => PartsHost::Made(made_without_localhost(host)),
+        PartsHost::Plain(name) => {
             if is_localhost(name.as_str()) {
-                HeldHost::Made(Host::Empty)
+                PartsHost::Made(Host::Empty)
             } else {
-                HeldHost::Plain(name)
+                PartsHost::Plain(name)
             }
         }
     }
@@ -149,9 +150,9 @@ fn judge_host_text<'t>(
     alloc: Global,
     text: &'t str,
     profile: Profile,
-) -> Result<Judged<HeldHost<'t>>, AllocError>
+) -> Result<Judged<PartsHost<'t>>, AllocError>
     requires { chars text.now ≢ [] }
-    ensures answer { IfOk result (IsJudged (IsHeldText profile (chars text.now))
+    ensures answer { IfOk result (IsJudged (IsPartsHostText profile (chars text.now))
         (HostContentComplaint profile Class.Special (chars text.now))) }
     ensures memory { MakesNoForm profile (chars text.now) → IsOk result }
 {
@@ -159,13 +160,13 @@ fn judge_host_text<'t>(
         return Ok(judge_bracketed_host(text));
     }
     if let Some(value) = ipv4(text) {
-        return Ok(Judged::Valid(HeldHost::Made(Host::V4(value))));
+        return Ok(Judged::Valid(PartsHost::Made(Host::V4(value))));
     }
     if let Some(answer) = plain_answer(text) {
         return Ok(judge_plain_name(text, answer));
     }
     match domain(alloc, text, profile)? {
-        DomainAnswer::Ascii(form) => Ok(Judged::Valid(HeldHost::Made(Host::Domain(Text::of(
+        DomainAnswer::Ascii(form) => Ok(Judged::Valid(PartsHost::Made(Host::Domain(Text::of(
             form,
         ))))),
         DomainAnswer::Number => Ok(Judged::Refused(at_start(Rule::HostNumber))),
@@ -174,27 +175,27 @@ fn judge_host_text<'t>(
 }
 
 // A host string that is a plain name, and neither an IPv4 text nor empty.
-fn judge_plain_name(text: &str, answer: PlainAnswer) -> Judged<HeldHost<'_>>
+fn judge_plain_name(text: &str, answer: PlainAnswer) -> Judged<PartsHost<'_>>
     requires text { ShouldBeDomain (chars text.now) }
     requires answer { (profile : Profile) → IsPlainAnswer profile (chars text.now) text.now answer }
-    ensures { (profile : Profile) → IsJudged (IsHeldText profile (chars text.now))
+    ensures { (profile : Profile) → IsJudged (IsPartsHostText profile (chars text.now))
         (HostContentComplaint profile Class.Special (chars text.now)) result }
 {
     match answer {
-        PlainAnswer::Domain => Judged::Valid(HeldHost::Plain(AsciiText::of(text))),
+        PlainAnswer::Domain => Judged::Valid(PartsHost::Plain(AsciiText::of(text))),
         PlainAnswer::Number => Judged::Refused(at_start(Rule::HostNumber)),
         PlainAnswer::Not => Judged::Refused(at_start(Rule::HostDomain)),
     }
 }
 
 // A host string that begins with `[`.
-fn judge_bracketed_host(text: &str) -> Judged<HeldHost<'_>>
+fn judge_bracketed_host(text: &str) -> Judged<PartsHost<'_>>
     requires { starts_with_bracket (chars text.now) ≡ true }
-    ensures { (profile : Profile) → IsJudged (IsHeldText profile (chars text.now))
+    ensures { (profile : Profile) → IsJudged (IsPartsHostText profile (chars text.now))
         (HostContentComplaint profile Class.Special (chars text.now)) result }
 {
     match bracketed_ipv6(text) {
-        Some(pieces) => Judged::Valid(HeldHost::Made(Host::V6(pieces))),
+        Some(pieces) => Judged::Valid(PartsHost::Made(Host::V6(pieces))),
         None => Judged::Refused(at_start(Rule::HostIpv6)),
     }
 }
@@ -207,15 +208,16 @@ fn at_start(rule: Rule) -> Refusal
 }
 
 // The host of any other URL, which isn't empty.
-fn judge_opaque_host(text: &str) -> Judged<Option<HeldHost<'_>>>
+fn judge_opaque_host(text: &str) -> Judged<Option<PartsHost<'_>>>
     requires { chars text.now ≢ [] }
-    ensures { IsJudged (FitsHeld (IsOpaqueHostText (chars text.now))) (OpaqueHostComplaint (chars text.now)) result }
+    ensures { IsJudged (FitsPartsHost (IsOpaqueHostText (chars text.now)))
+        (OpaqueHostComplaint (chars text.now)) result }
 {
     if let Some(refusal) = opaque_fault(text) {
         return Judged::Refused(refusal);
     }
     match bracketed_ipv6(text) {
-        Some(pieces) => Judged::Valid(Some(HeldHost::Made(Host::V6(pieces)))),
+        Some(pieces) => Judged::Valid(Some(PartsHost::Made(Host::V6(pieces)))),
         None => Judged::Valid(None),
     }
 }

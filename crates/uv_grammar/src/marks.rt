@@ -4,7 +4,7 @@ ghost use Rattle.std.specs.Str.{chars};
 ghost use Rattle.uv_model.specs.Ascii.{slash};
 ghost use Rattle.uv_model.specs.Path.{is_without, starts_with_slash};
 ghost use Rattle.uv_model.specs.Parts.{written_behind};
-ghost use Rattle.uv_grammar.specs.Seen.{seen, seen_option};
+ghost use Rattle.uv_grammar.specs.Slices.{chars_of, chars_of_option};
 ghost use Rattle.uv_grammar.specs.TextSplits.{SplitsAtSlash};
 
 pub(crate) mod beginnings;
@@ -14,8 +14,8 @@ use uv_text::lacks_mark;
 /// What stands before the first such mark, and what follows it where there is one.
 pub(crate) fn split_at_mark<'t>(text: &'t str, mark: char) -> (&'t str, Option<&'t str>)
     requires { mark < 128 }
-    ensures joined { chars text.now ≡ seen result.0 ++ written_behind mark (seen_option result.1) }
-    ensures first { is_without mark (seen result.0) ≡ true }
+    ensures joined { chars text.now ≡ chars_of result.0 ++ written_behind mark (chars_of_option result.1) }
+    ensures first { is_without mark (chars_of result.0) ≡ true }
 {
     if lacks_mark(text, mark as u8) {
         return (text, None);
@@ -28,7 +28,7 @@ pub(crate) fn split_at_mark<'t>(text: &'t str, mark: char) -> (&'t str, Option<&
 
 /// What stands before the first `/`, and what begins with it.
 pub(crate) fn split_at_slash<'t>(text: &'t str) -> (&'t str, &'t str)
-    ensures { SplitsAtSlash (chars text.now) (seen result.0) (seen result.1) }
+    ensures { SplitsAtSlash (chars text.now) (chars_of result.0) (chars_of result.1) }
 {
     match text.find('/') {
         Some(end) => (&text[..end], &text[end..]),
@@ -39,7 +39,7 @@ pub(crate) fn split_at_slash<'t>(text: &'t str) -> (&'t str, &'t str)
 /// What follows a `/` at the text's start.
 pub(crate) fn behind_slash<'t>(text: &'t str) -> Option<&'t str>
     ensures { MatchOption result (starts_with_slash (chars text.now) ≡ false)
-        (λ r. chars text.now ≡ slash ∷ seen r) }
+        (λ r. chars text.now ≡ slash ∷ chars_of r) }
 {
     text.strip_prefix('/')
 }

@@ -3,14 +3,14 @@ ghost use Rattle.std.specs.Prelude.{◌≡◌, ℕ, List, IfOk, option_map};
 ghost use Rattle.std.specs.Str.{chars};
 ghost use Rattle.std.specs.Iterator.{YieldsFirstBy, item_count};
 ghost use Rattle.uv_grammar.specs.Form.{seen_form};
-ghost use Rattle.uv_grammar.specs.HeldHost.{referred};
-ghost use Rattle.uv_grammar.specs.Seen.{seen, seen_option};
+ghost use Rattle.uv_grammar.specs.PartsHost.{referred};
+ghost use Rattle.uv_grammar.specs.Slices.{chars_of, chars_of_option};
 ghost use Rattle.uv_grammar.specs.Built.{left_segments, segments_in, segments_of};
 
 use crate::cut::Cut;
 use crate::form::Form;
-use crate::held_host::{HeldHost, HostRef};
 use crate::marks::{behind_slash, split_at_mark};
+use crate::parts_host::{HostRef, PartsHost};
 use std::alloc::{AllocError, Global};
 use std::marker::{Model, PhantomData};
 use uv_model::Host;
@@ -20,7 +20,7 @@ use uv_model::Host;
 pub struct Parts<'t> {
     pub(crate) form: Form,
     pub(crate) cut: Cut<'t>,
-    pub(crate) host: Option<HeldHost<'t>>,
+    pub(crate) host: Option<PartsHost<'t>>,
     pub(crate) port: Option<u16>,
 }
 
@@ -28,7 +28,7 @@ impl<'t> Model for Parts<'t> {
     ghost use Rattle.uv_model.specs.Parts.{Parts};
     ghost use Rattle.std.specs.Prelude.{option_map};
     ghost use Rattle.uv_grammar.specs.Form.{seen_form};
-    ghost use Rattle.uv_grammar.specs.HeldHost.{held};
+    ghost use Rattle.uv_grammar.specs.PartsHost.{as_host};
     ghost use Rattle.uv_grammar.specs.Built.{segments_in};
 
     ghost Value = { Parts };
@@ -37,7 +37,7 @@ impl<'t> Model for Parts<'t> {
       form = seen_form p.form;
       scheme = p.cut.scheme;
       host_text = p.cut.host_text;
-      host = option_map held p.host;
+      host = option_map as_host p.host;
       port_text = p.cut.port_text;
       port = p.port;
       path_text = p.cut.path_text;
@@ -57,14 +57,14 @@ impl<'t> Parts<'t> {
 
     /// The scheme, in the case in which it is written.
     pub fn scheme(&self) -> Option<&'t str>
-        ensures { seen_option result ≡ self.now.scheme }
+        ensures { chars_of_option result ≡ self.now.scheme }
     {
         self.cut.scheme
     }
 
     /// The host's text, where there is an authority.
     pub fn host_text(&self) -> Option<&'t str>
-        ensures { seen_option result ≡ self.now.host_text }
+        ensures { chars_of_option result ≡ self.now.host_text }
     {
         self.cut.host_text
     }
@@ -91,7 +91,7 @@ impl<'t> Parts<'t> {
 
     /// The port's text, where there is a `:` of a port.
     pub fn port_text(&self) -> Option<&'t str>
-        ensures { seen_option result ≡ self.now.port_text }
+        ensures { chars_of_option result ≡ self.now.port_text }
     {
         self.cut.port_text
     }
@@ -105,7 +105,7 @@ impl<'t> Parts<'t> {
 
     /// The path, with its `/` at the start.
     pub fn path_text(&self) -> &'t str
-        ensures { seen result ≡ self.now.path_text }
+        ensures { chars_of result ≡ self.now.path_text }
     {
         self.cut.path_text
     }
@@ -119,14 +119,14 @@ impl<'t> Parts<'t> {
 
     /// The query, without its `?`.
     pub fn query(&self) -> Option<&'t str>
-        ensures { seen_option result ≡ self.now.query }
+        ensures { chars_of_option result ≡ self.now.query }
     {
         self.cut.query
     }
 
     /// The fragment, without its `#`.
     pub fn fragment(&self) -> Option<&'t str>
-        ensures { seen_option result ≡ self.now.fragment }
+        ensures { chars_of_option result ≡ self.now.fragment }
     {
         self.cut.fragment
     }
@@ -141,12 +141,12 @@ pub struct Segments<'p, 't> {
 
 impl<'p, 't> Model for Segments<'p, 't> {
     ghost use Rattle.std.specs.Prelude.{ℕ, List};
-    ghost use Rattle.uv_grammar.specs.Seen.{seen_option};
+    ghost use Rattle.uv_grammar.specs.Slices.{chars_of_option};
     ghost use Rattle.uv_grammar.specs.Built.{left_segments};
 
     ghost Value = { List (List ℕ) };
 
-    ghost view = { λ s. left_segments (seen_option s.left) };
+    ghost view = { λ s. left_segments (chars_of_option s.left) };
 }
 
 impl<'p, 't> Segments<'p, 't> {
@@ -163,7 +163,7 @@ impl<'p, 't> Segments<'p, 't> {
 
 // The text of the segments of a path by its form: what stands behind a `/` at its start, where there are any.
 fn segments_text<'t>(form: Form, path_text: &'t str) -> Option<&'t str>
-    ensures { left_segments (seen_option result) ≡ segments_in (seen_form form) (chars path_text.now) }
+    ensures { left_segments (chars_of_option result) ≡ segments_in (seen_form form) (chars path_text.now) }
 {
     match form {
         Form::SchemeOpaque => None,
@@ -173,7 +173,7 @@ fn segments_text<'t>(form: Form, path_text: &'t str) -> Option<&'t str>
 
 // What stands behind a `/` at the start of a path that isn't empty.
 fn behind_first<'t>(path_text: &'t str) -> Option<&'t str>
-    ensures { left_segments (seen_option result) ≡ segments_of (chars path_text.now) }
+    ensures { left_segments (chars_of_option result) ≡ segments_of (chars path_text.now) }
 {
     if path_text.is_empty() {
         return None;
@@ -187,7 +187,7 @@ fn behind_first<'t>(path_text: &'t str) -> Option<&'t str>
 impl<'p, 't> Iterator for Segments<'p, 't> {
     type Item = &'t str;
 
-    ghost next_gives = { YieldsFirstBy seen (λ s. s) };
+    ghost next_gives = { YieldsFirstBy chars_of (λ s. s) };
 
     ghost remaining = { item_count (λ s. s) };
 

@@ -11,25 +11,25 @@ ghost use Rattle.uv_model.specs.Path.{starts_with_slash};
 ghost use Rattle.uv_model.specs.Records.Url.{Url};
 ghost use Rattle.uv_model.specs.Scheme.{default_port};
 ghost use Rattle.uv_grammar.specs.PlainLinks.{HasAsciiFront, IsFrontCut, IsNameCut, IsPartCut, IsPathCut, IsPortCut, IsSpecialCut, IsSpecialFront};
-ghost use Rattle.uv_grammar.specs.Seen.{seen, seen_option};
+ghost use Rattle.uv_grammar.specs.Slices.{chars_of, chars_of_option};
 ghost use Rattle.uv_grammar.specs.Verdict.{IsAccepted};
 
 use crate::authority::without_default;
 use crate::cut::{Cut, split_scheme};
 use crate::form::Form;
-use crate::held_host::{AsciiText, HeldHost};
 use crate::judged::Judged;
 use crate::marks::beginnings::{has_slash, has_two_slashes};
 use crate::marks::behind_slash;
 use crate::parts::Parts;
+use crate::parts_host::{AsciiText, PartsHost};
 use crate::port::judge_port;
 use uv_host::{is_plain_domain, name_front};
 use uv_model::{Class, class_of, default_port};
 use uv_text::{ByteClass, split_units};
 
 /// The parts of a link that is plain: a special scheme, `://`, a domain that is its own ASCII form, a port or none, and
-/// a path, a query and a fragment of URL units. By each profile and against any base it is valid with these parts. Where
-/// there are none, that says nothing.
+/// a path, a query and a fragment of URL units. By each profile and against any base it is valid with these parts.
+/// Where there are none, that says nothing.
 pub(crate) fn plain_link<'t>(text: &'t str) -> Option<Parts<'t>>
     ensures { IfSome result (λ parts. (profile : Profile) (base : Option Url)
         → IsAccepted profile base (chars text.now) parts) }
@@ -62,14 +62,14 @@ pub(crate) fn plain_link<'t>(text: &'t str) -> Option<Parts<'t>>
     Some(Parts {
         form: Form::SchemeAuthority,
         cut,
-        host: Some(HeldHost::Plain(AsciiText::of(name))),
+        host: Some(PartsHost::Plain(AsciiText::of(name))),
         port,
     })
 }
 
 // A special scheme but `file`, in lower case or with a capital at its start, and what stands behind its `://`.
 fn split_special<'t>(text: &'t str) -> Option<(&'t str, &'t str)>
-    ensures { IfSome result (λ r. IsSpecialCut (chars text.now) (seen r.0) (seen r.1)) }
+    ensures { IfSome result (λ r. IsSpecialCut (chars text.now) (chars_of r.0) (chars_of r.1)) }
 {
     let Some(end) = special_end(text.as_bytes()) else {
         return split_upper(text);
@@ -81,7 +81,7 @@ fn split_special<'t>(text: &'t str) -> Option<(&'t str, &'t str)>
 
 // The same of a scheme that begins with a capital.
 fn split_upper<'t>(text: &'t str) -> Option<(&'t str, &'t str)>
-    ensures { IfSome result (λ r. IsSpecialCut (chars text.now) (seen r.0) (seen r.1)) }
+    ensures { IfSome result (λ r. IsSpecialCut (chars text.now) (chars_of r.0) (chars_of r.1)) }
 {
     if !begins_upper(text.as_bytes()) {
         return None;
@@ -109,7 +109,7 @@ fn begins_upper(bytes: &[u8]) -> bool {
 
 // What follows `//` at the text's start.
 fn behind_two_slashes<'t>(text: &'t str) -> Option<&'t str>
-    ensures { IfSome result (λ r. chars text.now ≡ slash ∷ slash ∷ seen r) }
+    ensures { IfSome result (λ r. chars text.now ≡ slash ∷ slash ∷ chars_of r) }
 {
     match behind_slash(text) {
         Some(rest) => behind_slash(rest),
@@ -155,7 +155,7 @@ fn begins_with(bytes: &[u8], mark: u8) -> bool
 
 // A plain domain, and what follows it.
 fn split_name<'t>(text: &'t str) -> Option<(&'t str, &'t str)>
-    ensures { IfSome result (λ r. IsNameCut (chars text.now) (seen r.0) r.0.now (seen r.1)) }
+    ensures { IfSome result (λ r. IsNameCut (chars text.now) (chars_of r.0) r.0.now (chars_of r.1)) }
 {
     let Some(end) = name_front(text.as_bytes()) else {
         return None;
@@ -170,8 +170,8 @@ fn split_name<'t>(text: &'t str) -> Option<(&'t str, &'t str)>
 
 // The text of a valid port, where there is a `:`, its number where it isn't the scheme's default, and what follows it.
 fn split_port<'t>(text: &'t str, scheme: &str) -> Option<(Option<&'t str>, Option<u16>, &'t str)>
-    ensures { IfSome result (λ r. IsPortCut (default_port (chars scheme.now)) (chars text.now) (seen_option r.0) r.1
-        (seen r.2)) }
+    ensures { IfSome result (λ r. IsPortCut (default_port (chars scheme.now)) (chars text.now) (chars_of_option r.0) r.1
+        (chars_of r.2)) }
 {
     if !begins_with(text.as_bytes(), b':') {
         return Some((None, None, text));
@@ -196,7 +196,7 @@ fn digits_front(bytes: &[u8]) -> usize
 
 // A path of units, and what follows it.
 fn split_path<'t>(text: &'t str) -> Option<(&'t str, &'t str)>
-    ensures { IfSome result (λ r. IsPathCut (chars text.now) (seen r.0) (seen r.1)) }
+    ensures { IfSome result (λ r. IsPathCut (chars text.now) (chars_of r.0) (chars_of r.1)) }
 {
     let class = ByteClass::path();
     let (path_text, rest) = split_units(text, &class);
@@ -221,7 +221,7 @@ fn begins_path(text: &str) -> bool
 // The units behind a mark, where the text begins with it, and what follows.
 fn split_part<'t>(text: &'t str, mark: u8) -> (Option<&'t str>, &'t str)
     requires { mark < 128 }
-    ensures { IsPartCut mark (chars text.now) (seen_option result.0) (seen result.1) }
+    ensures { IsPartCut mark (chars text.now) (chars_of_option result.0) (chars_of result.1) }
 {
     if !begins_with(text.as_bytes(), mark) {
         return (None, text);

@@ -3,7 +3,7 @@ ghost use Rattle.std.specs.Prelude.{◌≡◌, option_copied};
 ghost use Rattle.std.specs.Str.{chars};
 ghost use Rattle.uv_model.specs.Scheme.{default_port, scheme_class};
 ghost use Rattle.uv_model.specs.Setting.{scheme_or, setting_of};
-ghost use Rattle.uv_grammar.specs.Seen.{seen_option};
+ghost use Rattle.uv_grammar.specs.Slices.{chars_of_option};
 
 use std::marker::Model;
 use uv_model::{Class, Profile, Record, default_port, is_name};
@@ -39,7 +39,7 @@ impl<'b> Setting<'b> {
         scheme: Option<&str>,
         profile: Profile,
     ) -> Setting<'b>
-        ensures { result ≡ setting_of profile (option_copied base.entry) (seen_option scheme.entry) }
+        ensures { result ≡ setting_of profile (option_copied base.entry) (chars_of_option scheme.entry) }
     {
         let scheme = scheme_against(base, scheme);
         let default_port = default_port(scheme);
@@ -54,7 +54,7 @@ impl<'b> Setting<'b> {
 
 // The scheme, or else the base's, or else nothing.
 fn scheme_against<'s>(base: Option<&'s Record>, scheme: Option<&'s str>) -> &'s str
-    ensures { chars result.now ≡ scheme_or (option_copied base.entry) (seen_option scheme.entry) }
+    ensures { chars result.now ≡ scheme_or (option_copied base.entry) (chars_of_option scheme.entry) }
 {
     match (scheme, base) {
         (Some(scheme), _) => scheme,

@@ -1,6 +1,6 @@
 //! The rules that a text can violate, and refusals.
 ghost use Rattle.std.specs.Prelude.{◌≡◌, MatchOption};
-ghost use Rattle.uv_model.specs.Complaints.Rule.{IsNoName, named_rule, rule_name, rule_number};
+ghost use Rattle.uv_model.specs.Complaints.Rule.{IsNoName, named_rule, rule_name, rule_number, rule_sentence};
 
 /// A rule of valid URL strings (URL Standard, sections 3.4 and 4.3) that a text violates, by number.
 #[derive(Clone, Copy, Debug, PartialEq, Eq)]
@@ -77,6 +77,34 @@ impl Rule {
             Rule::DriveAfterHost => "drive-after-host",
             Rule::CodePoint => "code-point",
             Rule::Percent => "percent",
+        }
+    }
+
+    /// What is wrong at the place of a refusal by the rule, in a sentence without its end.
+    pub fn sentence(self) -> &'static str
+        ensures { result.now ≡ rule_sentence self }
+    {
+        match self {
+            Rule::NoScheme => "there is no scheme and no base",
+            Rule::OpaqueBase => {
+                "there is no scheme, the base has an opaque path, and the text isn't # and a fragment"
+            }
+            Rule::TwoSlashes => "// has to follow this scheme",
+            Rule::HostMissing => "a host has to stand here",
+            Rule::HostDomain => "the host that begins here is no valid domain",
+            Rule::HostNumber => {
+                "the host that begins here ends in a number, and is no IPv4 address"
+            }
+            Rule::HostIpv6 => "the host that begins here is no IPv6 address in brackets",
+            Rule::HostCodePoint => "this code point may not stand in a host",
+            Rule::PortDigit => "this code point of the port is no digit",
+            Rule::PortRange => "the port that begins here is above 65535",
+            Rule::FirstSegmentEmpty => "the path's first segment is empty, and others follow it",
+            Rule::DriveAfterHost => {
+                "the path that begins here begins with /, a drive letter and /, and follows a host"
+            }
+            Rule::CodePoint => "this code point may not stand in a URL",
+            Rule::Percent => "two hex digits have to follow this %",
         }
     }
 

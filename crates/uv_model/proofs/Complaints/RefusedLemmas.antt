@@ -72,10 +72,12 @@ query_begins cut start le =
     (omega arith))
     (fragment_begins cut start (omega arith))
 
+-- a test counts one at most
 pub one_at_most : (test : Bool) → (if test then 1 else 0) ≤ 1
 one_at_most true = omega arith
 one_at_most false = omega arith
 
+-- the second slash of a path stands in its text
 pub second_slash_within : (text : List ℕ) → second_slash text ≤ length text
 second_slash_within [] = omega arith
 second_slash_within (c ∷ []) = omega arith
@@ -104,28 +106,33 @@ port_all_begin setting cut =
 
 -- ---- each part before all that follow it
 
+-- the query before the fragment
 pub query_first : (cut : Cut) → Precedes (OfQuery cut) (FromFragment cut)
 query_first cut =
     precedes (OfQuery cut) (FromFragment cut) (fragment_place cut) 0 13 (omega arith) (query_ends cut)
     (fragment_begins cut (fragment_place cut) (omega arith))
 
+-- the path before the query
 pub path_first : (cut : Cut) → Precedes (OfPath cut) (FromQuery cut)
 path_first cut =
     let query = query_behind_path cut in
     precedes (OfPath cut) (FromQuery cut) (path_place cut + length cut.path_text) 0 13 (omega arith)
     (held_ends (path_place cut) cut.path_text) (query_begins cut _ (omega arith))
 
+-- the path's start before what the path holds
 pub path_start_first : (setting : Setting) (cut : Cut) → Precedes (OfPathStart setting cut) (FromPath cut)
 path_start_first setting cut =
     precedes (OfPathStart setting cut) (FromPath cut) (path_place cut + second_slash cut.path_text) 12 13 (omega arith)
     (path_start_ends setting cut) (path_begins setting cut)
 
+-- the port before the path's start
 pub port_first : (setting : Setting) (cut : Cut) → Precedes (PortPartComplaint cut) (FromPathStart setting cut)
 port_first setting cut =
     precedes (PortPartComplaint cut) (FromPathStart setting cut) (path_place cut) 10 11 (omega arith)
     (port_part_ends cut)
     (path_start_all_begin setting cut)
 
+-- the host before the port
 pub host_first : (setting : Setting) (cut : Cut) → Precedes (HostPartComplaint setting cut) (FromPort setting cut)
 host_first setting cut =
     precedes (HostPartComplaint setting cut) (FromPort setting cut) (host_end cut) 4 9 (omega arith)
@@ -149,6 +156,7 @@ held_begin cut =
     (omega arith) (omega arith))
     (query_begins cut (slashes_place cut) (omega arith))
 
+-- the start of the text before what the path, the query and the fragment hold
 pub start_before_held : (setting : Setting) (text : List ℕ) (cut : Cut)
     → Precedes (StartComplaint setting text cut) (FromPath cut)
 start_before_held setting text cut =
@@ -177,6 +185,7 @@ from_parts setting text cut started place rule (inr (inl port)) = inr (inl (star
 from_parts setting text cut started place rule (inr (inr (inl start))) = inr (inl (started, inr (inr start)))
 from_parts setting text cut started place rule (inr (inr (inr held))) = inr (inr held)
 
+-- and those of the parts are all there are
 pub to_parts : (setting : Setting) (text : List ℕ) (cut : Cut) → IsStarted setting text cut → (place : ℕ) (rule : Rule)
     → ComplaintOf setting text cut place rule → FromHost setting cut place rule
 to_parts setting text cut started place rule (inl start) = absurd (started place rule start)

@@ -65,6 +65,7 @@ pub record IsPathWord (text : List ℕ) : Type 0 where
   pub no_question_mark : is_without question_mark text ≡ true
   pub no_number_sign : is_without number_sign text ≡ true
 
+-- joined segments are such a text
 pub word_of_segments : (segments : List (List ℕ)) (text : List ℕ) → JoinsTo segments text → IsPathWord text
 word_of_segments segments text is = record {
   no_question_mark = rw is.joined (no_question_mark-join segments is.each);

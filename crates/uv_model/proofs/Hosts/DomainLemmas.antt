@@ -198,6 +198,7 @@ domain_no_number profile text a ha (b, is, number) =
 wide_permitted : (c : ℕ) → is_permitted Standard c ≡ true → is_permitted Wide c ≡ true
 wide_permitted c h = grind (arith, nat_tests)
 
+-- a form's code point is one in the wide profile too
 pub wide_letter : (c : ℕ) → is_form_code_point Standard c ≡ true → is_form_code_point Wide c ≡ true
 wide_letter c h = grind (arith, nat_tests)
 

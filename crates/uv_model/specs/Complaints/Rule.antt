@@ -1,4 +1,4 @@
--- The rules of valid URL strings (URL Standard, sections 3.4 and 4.3), by their numbers and names.
+-- The rules of valid URL strings (URL Standard, sections 3.4 and 4.3), by their numbers, names and sentences.
 use Rattle.std.specs.Prelude.{◌≢◌, ℕ, List, [], ◌∷◌, codes, Option, find}
 use Rattle.std.specs.Str.{bytes_eq}
 use Rattle.uv_model.specs.declared.rule.Rule.{Rule}
@@ -37,6 +37,24 @@ rule_name FirstSegmentEmpty = codes "first-segment-empty"
 rule_name DriveAfterHost = codes "drive-after-host"
 rule_name CodePoint = codes "code-point"
 rule_name Percent = codes "percent"
+
+-- what is wrong at the place of a refusal by a rule
+abbrev pub rule_sentence : Rule → List ℕ
+rule_sentence NoScheme = codes "there is no scheme and no base"
+rule_sentence OpaqueBase =
+    codes "there is no scheme, the base has an opaque path, and the text isn't # and a fragment"
+rule_sentence TwoSlashes = codes "// has to follow this scheme"
+rule_sentence HostMissing = codes "a host has to stand here"
+rule_sentence HostDomain = codes "the host that begins here is no valid domain"
+rule_sentence HostNumber = codes "the host that begins here ends in a number, and is no IPv4 address"
+rule_sentence HostIpv6 = codes "the host that begins here is no IPv6 address in brackets"
+rule_sentence HostCodePoint = codes "this code point may not stand in a host"
+rule_sentence PortDigit = codes "this code point of the port is no digit"
+rule_sentence PortRange = codes "the port that begins here is above 65535"
+rule_sentence FirstSegmentEmpty = codes "the path's first segment is empty, and others follow it"
+rule_sentence DriveAfterHost = codes "the path that begins here begins with /, a drive letter and /, and follows a host"
+rule_sentence CodePoint = codes "this code point may not stand in a URL"
+rule_sentence Percent = codes "two hex digits have to follow this %"
 
 -- the rules in the order of their numbers
 abbrev pub rules_in_order : List Rule

@@ -5,10 +5,10 @@ use Rattle.std.proofs.lemmas.Result.{on_ok_weaker}
 use Rattle.uv_model.specs.Complaints.Complaint.{Behind, HostPartComplaint}
 use Rattle.uv_model.specs.Cut.{Cut}
 use Rattle.uv_grammar.specs.Faults.{AddsComplaints}
-use Rattle.uv_grammar.specs.HeldHost.{FitsHeld}
+use Rattle.uv_grammar.specs.PartsHost.{FitsPartsHost}
 use Rattle.uv_grammar.specs.PartValues.{FitsHostPart}
 use Rattle.uv_grammar.specs.Scan.{HostUnitComplaint}
-use Rattle.uv_grammar.specs.Seen.{seen_option}
+use Rattle.uv_grammar.specs.Slices.{chars_of_option}
 use Rattle.uv_model.specs.Setting.{Setting}
 use Rattle.uv_grammar.proofs.PartFaultLemmas.{host_fault_adds, host_scan_adds, judged_least}
 use Rattle.uv_grammar.proofs.all_faults.push_host_faults.Goals as goal
@@ -18,7 +18,7 @@ returns-then-is_scanned c =
     on_ok_weaker c.push_scan.result
     (λ adds. host_scan_adds c.args.setting.now c.args.cut.now c.setting.inside.class
     (chars c.in-Some.host_text.now) c.args.found.now.items c.push_scan.new.found.items
-    (ap (λ (cut : Cut). cut.host_text) (sym c.cut.view_is) ∙ ap seen_option c.in-Some.is)
+    (ap (λ (cut : Cut). cut.host_text) (sym c.cut.view_is) ∙ ap chars_of_option c.in-Some.is)
     (ap (λ (s : Setting). s.class) c.setting.view_is)
     (sym c.is_scanned.ensures ∙ c.if-is_scanned.true)
     (subst (λ (n : ℕ). AddsComplaints (Behind n (HostUnitComplaint (chars c.in-Some.host_text.now)))
@@ -30,10 +30,11 @@ returns c =
     on_ok_weaker c.push_fault.result
     (λ joined. host_fault_adds c.args.setting.now c.args.cut.now c.setting.inside.class
     (chars c.in-Some.host_text.now) c.args.found.now.items c.push_fault.new.found.items c.into_refusal.result
-    (ap (λ (cut : Cut). cut.host_text) (sym c.cut.view_is) ∙ ap seen_option c.in-Some.is)
+    (ap (λ (cut : Cut). cut.host_text) (sym c.cut.view_is) ∙ ap chars_of_option c.in-Some.is)
     (ap (λ (s : Setting). s.class) c.setting.view_is)
     (sym c.is_scanned.ensures ∙ c.if-is_scanned.false)
-    (rw c.into_refusal.ensures (judged_least (FitsHeld (FitsHostPart c.args.setting.now c.args.cut.now))
-    (HostPartComplaint c.args.setting.now c.args.cut.now) c.in_ok-judge_host_part.field-0 c.in_ok-judge_host_part.ensures.answer))
+    (rw c.into_refusal.ensures (judged_least (FitsPartsHost (FitsHostPart c.args.setting.now c.args.cut.now))
+    (HostPartComplaint c.args.setting.now c.args.cut.now)
+    c.in_ok-judge_host_part.field-0 c.in_ok-judge_host_part.ensures.answer))
     joined)
     c.push_fault.ensures

@@ -3,7 +3,7 @@ use Rattle.std.proofs.Common.{arith}
 use Rattle.std.specs.Prelude.{option_copied, option_map}
 use Rattle.std.specs.Str.{chars}
 use Rattle.std.proofs.lemmas.Bool.{false≢true}
-use Rattle.uv_grammar.specs.HeldHost.{held}
+use Rattle.uv_grammar.specs.PartsHost.{as_host}
 use Rattle.uv_grammar.proofs.VerdictLemmas.{accepted, countable, host_without_memory, refused_behind, refused_host, refused_port, refused_start}
 use Rattle.uv_grammar.proofs.checker.check_by_parts.Goals as goal
 
@@ -54,7 +54,7 @@ returns-clause-answer c =
     accepted c.args.profile (option_copied c.args.base) (chars c.args.text.now) c.cut_text-cut.result.0
     c.cut_text-cut.result.1 c.cut_text-cut.ensures.cut c.cut_text-cut.ensures.setting c.in_default.ensures
     c.build.result (record {
-      host = option_map held c.in-Valid.host;
+      host = option_map as_host c.in-Valid.host;
       port = c.in-Valid-judge_port_part.port;
       built = c.build.ensures;
       fits_host = (rw c.in-Valid.is at c.in_ok-host.ensures.answer).0;

@@ -4,11 +4,11 @@ use Rattle.std.specs.Str.{chars}
 use Rattle.std.proofs.lemmas.Result.{IfOk-weaker}
 use Rattle.uv_model.specs.declared.scheme.Class.TheVariants.{Special, File, Other}
 use Rattle.uv_model.specs.Complaints.Complaint.{HostContentComplaint, HostComplaint}
-use Rattle.uv_grammar.specs.HeldHost.{FitsHeld}
+use Rattle.uv_grammar.specs.PartsHost.{FitsPartsHost}
 use Rattle.uv_grammar.specs.HostValues.{FitsHost, FitsSomeHost}
 use Rattle.uv_grammar.specs.Judged.{IsJudged}
-use Rattle.uv_grammar.specs.Seen.{seen_option}
-use Rattle.uv_grammar.proofs.HostLemmas.{held_answer, makes_no_form, no_chars, some_chars}
+use Rattle.uv_grammar.specs.Slices.{chars_of_option}
+use Rattle.uv_grammar.proofs.HostLemmas.{content_answer, makes_no_form, no_chars, some_chars}
 use Rattle.uv_grammar.proofs.host.judge_host.Goals as goal
 
 pub returns-then-is_empty-clause-answer : goal.returns-then-is_empty-clause-answer
@@ -24,13 +24,13 @@ pub returns-in-Special-clause-answer : goal.returns-in-Special-clause-answer
 returns-in-Special-clause-answer c =
     let some = some_chars c.args.host_text.now c.utf8.host_text (sym c.is_empty.ensures ∙ c.if-is_empty.false) in
     rw c.in-Special.is (IfOk-weaker c.judge_special_host.result
-    (IsJudged (FitsHeld (FitsSomeHost c.args.profile Special (chars c.args.host_text.now)))
+    (IsJudged (FitsPartsHost (FitsSomeHost c.args.profile Special (chars c.args.host_text.now)))
     (HostContentComplaint c.args.profile Special (chars c.args.host_text.now)))
-    (IsJudged (FitsHeld (FitsHost c.args.profile Special (chars c.args.host_text.now) (seen_option c.args.port_text)
+    (IsJudged (FitsPartsHost (FitsHost c.args.profile Special (chars c.args.host_text.now)
+    (chars_of_option c.args.port_text) (chars c.args.path_text.now)))
+    (HostComplaint c.args.profile Special (chars c.args.host_text.now) (chars_of_option c.args.port_text)
     (chars c.args.path_text.now)))
-    (HostComplaint c.args.profile Special (chars c.args.host_text.now) (seen_option c.args.port_text)
-    (chars c.args.path_text.now)))
-    (held_answer c.args.profile Special (chars c.args.host_text.now) (seen_option c.args.port_text)
+    (content_answer c.args.profile Special (chars c.args.host_text.now) (chars_of_option c.args.port_text)
     (chars c.args.path_text.now) some)
     c.judge_special_host.ensures.answer)
 
@@ -42,13 +42,13 @@ pub returns-in-File-clause-answer : goal.returns-in-File-clause-answer
 returns-in-File-clause-answer c =
     let some = some_chars c.args.host_text.now c.utf8.host_text (sym c.is_empty.ensures ∙ c.if-is_empty.false) in
     rw c.in-File.is (IfOk-weaker c.judge_file_host.result
-    (IsJudged (FitsHeld (FitsSomeHost c.args.profile File (chars c.args.host_text.now)))
+    (IsJudged (FitsPartsHost (FitsSomeHost c.args.profile File (chars c.args.host_text.now)))
     (HostContentComplaint c.args.profile File (chars c.args.host_text.now)))
-    (IsJudged (FitsHeld (FitsHost c.args.profile File (chars c.args.host_text.now) (seen_option c.args.port_text)
+    (IsJudged (FitsPartsHost (FitsHost c.args.profile File (chars c.args.host_text.now)
+    (chars_of_option c.args.port_text) (chars c.args.path_text.now)))
+    (HostComplaint c.args.profile File (chars c.args.host_text.now) (chars_of_option c.args.port_text)
     (chars c.args.path_text.now)))
-    (HostComplaint c.args.profile File (chars c.args.host_text.now) (seen_option c.args.port_text)
-    (chars c.args.path_text.now)))
-    (held_answer c.args.profile File (chars c.args.host_text.now) (seen_option c.args.port_text)
+    (content_answer c.args.profile File (chars c.args.host_text.now) (chars_of_option c.args.port_text)
     (chars c.args.path_text.now) some)
     c.judge_file_host.ensures.answer)
 
@@ -60,7 +60,7 @@ pub returns-in-Other-clause-answer : goal.returns-in-Other-clause-answer
 returns-in-Other-clause-answer c =
     let some = some_chars c.args.host_text.now c.utf8.host_text (sym c.is_empty.ensures ∙ c.if-is_empty.false) in
     rw c.in-Other.is
-    (held_answer c.args.profile Other (chars c.args.host_text.now) (seen_option c.args.port_text)
+    (content_answer c.args.profile Other (chars c.args.host_text.now) (chars_of_option c.args.port_text)
     (chars c.args.path_text.now) some
     c.judge_opaque_host.result c.judge_opaque_host.ensures)
 

@@ -4,7 +4,7 @@ use Rattle.std.proofs.lemmas.Bool.{false≢true}
 use Rattle.std.specs.Str.{chars}
 use Rattle.std.specs.String.{string_bytes}
 use Rattle.uv_model.specs.declared.host.Host.TheVariants.{V4}
-use Rattle.uv_grammar.specs.declared.held_host.HeldHost.TheVariants.{Made}
+use Rattle.uv_grammar.specs.declared.parts_host.PartsHost.TheVariants.{Made}
 use Rattle.uv_model.proofs.Hosts.DomainLemmas.{IsAscii-form}
 use Rattle.uv_grammar.specs.NoMemory.{MakesNoForm}
 use Rattle.uv_grammar.proofs.HostLemmas.{text_answer}

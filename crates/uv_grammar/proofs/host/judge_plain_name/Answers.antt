@@ -3,7 +3,7 @@ use Rattle.std.specs.Str.{chars}
 use Rattle.uv_model.specs.declared.profile.Profile.TheVariants.{Standard}
 use Rattle.uv_model.specs.declared.rule.Rule.TheVariants.{HostDomain, HostNumber}
 use Rattle.uv_model.proofs.Hosts.DomainLemmas.{IsAscii-form}
-use Rattle.uv_grammar.specs.declared.held_host.HeldHost.TheVariants.{Plain}
+use Rattle.uv_grammar.specs.declared.parts_host.PartsHost.TheVariants.{Plain}
 use Rattle.uv_grammar.proofs.HostLemmas.{fault_least, text_answer}
 use Rattle.uv_grammar.proofs.host.judge_plain_name.Goals as goal
 

@@ -5,34 +5,39 @@ use Rattle.uv_model.specs.declared.profile.Profile.TheVariants.{Standard}
 use Rattle.uv_model.specs.Ascii.{number_sign}
 use Rattle.uv_model.proofs.Hosts.DomainLemmas.{IsAscii-form}
 use Rattle.uv_grammar.specs.PlainLinks.{IsPartCut}
-use Rattle.uv_grammar.specs.Seen.{seen, seen_option}
+use Rattle.uv_grammar.specs.Slices.{chars_of, chars_of_option}
 use Rattle.uv_grammar.proofs.HostLemmas.{no_chars}
 use Rattle.uv_grammar.proofs.PlainLinkLemmas.{plain_accepted}
 use Rattle.uv_grammar.proofs.plain_links.plain_link.Goals as goal
 
 pub of-requires : goal.of-requires
-of-requires c = IsAscii-form Standard (seen c.in-Some-split_name.name) c.in-Some-split_name.name.now (c.in-Some-split_name.ensures.domain Standard).0
+of-requires c =
+    let name = c.in-Some-split_name.name in
+    IsAscii-form Standard (chars_of name) name.now (c.in-Some-split_name.ensures.domain Standard).0
 
 pub returns : goal.returns
 returns c = λ profile base.
     rw c.of.ensures
-    (plain_accepted profile base (chars c.args.text.now) (seen c.in-Some.scheme) (seen c.in-Some-split_name.name)
-    c.in-Some-split_name.name.now (seen_option c.in-Some-split_port.port_text) c.in-Some-split_port.port
-    (seen c.in-Some-split_path.path_text) (seen_option c.split_part.result.0)
-    (seen_option c.split_part-2.result.0) refl
+    (plain_accepted profile base (chars c.args.text.now) (chars_of c.in-Some.scheme)
+    (chars_of c.in-Some-split_name.name) c.in-Some-split_name.name.now
+    (chars_of_option c.in-Some-split_port.port_text) c.in-Some-split_port.port
+    (chars_of c.in-Some-split_path.path_text) (chars_of_option c.split_part.result.0)
+    (chars_of_option c.split_part-2.result.0) refl
     (record {
-      behind = seen c.in-Some.behind;
-      rest = seen c.in-Some-split_name.rest;
-      after = seen c.in-Some-split_port.rest;
-      tail = seen c.in-Some-split_path.rest;
-      end = seen c.split_part.result.1;
+      behind = chars_of c.in-Some.behind;
+      rest = chars_of c.in-Some-split_name.rest;
+      after = chars_of c.in-Some-split_port.rest;
+      tail = chars_of c.in-Some-split_path.rest;
+      end = chars_of c.split_part.result.1;
       special = c.in-Some.ensures;
       named = c.in-Some-split_name.ensures;
       port_cut = c.in-Some-split_port.ensures;
       path_cut = c.in-Some-split_path.ensures;
       query_cut = c.split_part.ensures;
       fragment_cut =
-          subst (λ (s : List ℕ). IsPartCut number_sign (seen c.split_part.result.1) (seen_option c.split_part-2.result.0) s)
+          subst
+          (λ (s : List ℕ).
+          IsPartCut number_sign (chars_of c.split_part.result.1) (chars_of_option c.split_part-2.result.0) s)
           (no_chars c.split_part-2.result.1.now (sym c.is_empty.ensures ∙ c.if-not-is_empty.false))
           c.split_part-2.ensures;
     }))

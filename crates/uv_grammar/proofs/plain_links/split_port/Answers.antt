@@ -23,9 +23,10 @@ returns-then-not-begins_with c = no_port (default_port (chars c.args.scheme.now)
 
 pub returns-in-Valid : goal.returns-in-Valid
 returns-in-Valid c =
-    some_port (default_port
-    (chars c.args.scheme.now)) c.args.text.now c.split_front.result.0.now c.split_front.result.1.now
-    c.split_front-2.result.0.now c.split_front-2.result.1.now c.digits_front.result c.in-Valid.number c.without_default-port.result
+    some_port (default_port (chars c.args.scheme.now)) c.args.text.now
+    c.split_front.result.0.now c.split_front.result.1.now
+    c.split_front-2.result.0.now c.split_front-2.result.1.now
+    c.digits_front.result c.in-Valid.number c.without_default-port.result
     (subst (λ (s : List ℕ). s ≡ colon ∷ drop 1 s) c.as_bytes.ensures.value
     (c.begins_with.ensures c.if-not-begins_with.false))
     c.split_front.ensures c.split_front-2.ensures c.in-Valid.ensures.0

@@ -1,7 +1,7 @@
 //! The host of the parts of a text, made or a slice of the text, and the view that is lent of it.
 ghost use Rattle.std.specs.Prelude.{◌≡◌, IfOk};
 ghost use Rattle.std.specs.Str.{IsAscii, chars};
-ghost use Rattle.uv_grammar.specs.HeldHost.{held, referred};
+ghost use Rattle.uv_grammar.specs.PartsHost.{as_host, referred};
 
 use std::alloc::{AllocError, Global};
 use std::marker::Model;
@@ -52,31 +52,31 @@ impl<'t> AsciiText<'t> {
 
 /// A host that parts hold.
 #[derive(Drop)]
-pub(crate) enum HeldHost<'t> {
+pub(crate) enum PartsHost<'t> {
     /// A host with a value of its own.
     Made(Host),
     /// A domain that is its own ASCII form, as a slice of the text.
     Plain(AsciiText<'t>),
 }
 
-impl<'t> HeldHost<'t> {
+impl<'t> PartsHost<'t> {
     /// The host, lent.
     pub(crate) fn lent(&self) -> HostRef<'_>
-        ensures { referred result ≡ held self.now }
+        ensures { referred result ≡ as_host self.now }
     {
         match self {
-            HeldHost::Made(host) => lent(host),
-            HeldHost::Plain(name) => HostRef::Domain(AsciiText::of(name.as_str())),
+            PartsHost::Made(host) => lent(host),
+            PartsHost::Plain(name) => HostRef::Domain(AsciiText::of(name.as_str())),
         }
     }
 
     /// The host given back, copied only where it is a slice of the text. The error is want of memory.
     pub(crate) fn into_host(self, alloc: Global) -> Result<Host, AllocError>
-        ensures { IfOk result (λ host. host ≡ held self.entry) }
+        ensures { IfOk result (λ host. host ≡ as_host self.entry) }
     {
         match self {
-            HeldHost::Made(host) => Ok(host),
-            HeldHost::Plain(name) => Ok(Host::Domain(name.copy(alloc)?)),
+            PartsHost::Made(host) => Ok(host),
+            PartsHost::Plain(name) => Ok(Host::Domain(name.copy(alloc)?)),
         }
     }
 }
