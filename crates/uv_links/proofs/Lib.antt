@@ -1,6 +1,3 @@
-pub mod LineLemmas
-pub mod ReportLemmas
+pub mod ReportedLemmas
 pub mod ReportRowsLemmas
-pub mod StandsLemmas
-pub mod PassLemmas
 pub mod OwnTextLemmas

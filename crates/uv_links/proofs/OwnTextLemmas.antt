@@ -10,23 +10,22 @@ use Rattle.std.proofs.lemmas.List.Folds.{list_all-append}
 use Rattle.uv_model.specs.declared.profile.Profile.{Profile}
 use Rattle.uv_model.specs.declared.scheme.Class.{Class}
 use Rattle.uv_model.specs.declared.scheme.Class.TheVariants.{Special}
-use Rattle.uv_model.specs.declared.host.Host.{Host}
 use Rattle.uv_model.specs.declared.host.Host.TheVariants.{Domain}
-use Rattle.uv_model.specs.declared.path.UrlPath.{UrlPath}
 use Rattle.uv_model.specs.declared.path.UrlPath.TheVariants.{Segments}
 use Rattle.uv_model.specs.Ascii.{apostrophe, slash, colon, question_mark, number_sign}
 use Rattle.uv_model.specs.Encoding.{encoded}
 use Rattle.uv_model.specs.Parts.{SchemeAuthority, Parts, written, written_scheme, written_authority, written_behind}
 use Rattle.uv_model.specs.Path.{MayBePathSlashed, is_double_dot, is_single_dot, walk, walk_one}
-use Rattle.uv_model.specs.Records.Denote.{authority_path, denote, denoted_scheme, denoted_host, denoted_port, denoted_path, denoted_query}
+use Rattle.uv_model.specs.Records.Denote.{authority_path, denote, denoted_scheme, denoted_port, denoted_path, denoted_query}
 use Rattle.uv_model.specs.Records.Serialize.{serial, serial_host, serial_segments}
 use Rattle.uv_model.specs.Records.Url.{Url}
 use Rattle.uv_model.specs.Scheme.{default_port, scheme_class}
 use Rattle.uv_model.specs.Setting.{Setting, scheme_or, setting_of}
-use Rattle.uv_model.specs.Valid.{FitsAuthority, FitsForm, FitsHostText, IsSpecialAuthority, Valid, scheme_in}
+use Rattle.uv_model.specs.Valid.{FitsAuthority, FitsForm, FitsHostText, IsSpecialAuthority, Valid}
 use Rattle.uv_model.proofs.Paths.SlashedPaths.{slashed_or_none}
 use Rattle.uv_model.proofs.Texts.AsciiLemmas.{IsAscii-from_test}
 use Rattle.uv_model.proofs.Texts.EncodingLemmas.{is_kept, encoded_code_point-kept}
+use Rattle.uv_resolve.proofs.RecordLemmas.{fields, denote-fields}
 use Rattle.uv_links.specs.OwnText.{HasOwnScheme, IsOwnScheme, IsOwnText, is_kept_segment, is_never_encoded}
 use Rattle.uv_links.specs.Report.{DenotesText}
 
@@ -122,26 +121,6 @@ fragment-kept None h = refl
 fragment-kept (Some fragment) h = ap Some (encoded-kept false fragment (behind number_sign fragment h))
 
 -- ---- the whole text
-
--- a URL by its fields
-abbrev pub fields : List ℕ → Option Host → Option ℕ → UrlPath → Option (List ℕ) → Option (List ℕ) → Url
-fields scheme host port path query fragment =
-    record { scheme = scheme; host = host; port = port; path = path; query = query; fragment = fragment }
-
--- six fields that are those of the denoted URL
-denote-fields : (base : Option Url) (parts : Parts) (class : Class) (scheme : List ℕ) (host : Option Host)
-    (port : Option ℕ) (path : UrlPath) (query fragment : Option (List ℕ))
-    → class ≡ scheme_class (scheme_in base parts)
-    → scheme ≡ denoted_scheme base parts.scheme
-    → host ≡ denoted_host base parts.form parts
-    → port ≡ denoted_port base parts.form parts
-    → path ≡ denoted_path base class parts.form parts
-    → query ≡ denoted_query base class parts.form parts.query
-    → fragment ≡ option_map (encoded false) parts.fragment
-    → fields scheme host port path query fragment ≡ denote base parts
-unfolding denote
-denote-fields base parts class scheme host port path query fragment e e1 e2 e3 e4 e5 e6 =
-    rw (e1, e2, e3, e4, e5, e6, e) refl
 
 -- what a text with such a scheme and host is
 abbrev pub spelled : List ℕ → List ℕ → List ℕ → Option (List ℕ) → Option (List ℕ) → List ℕ
@@ -274,6 +253,7 @@ own_scheme : (bytes name : List ℕ) → IsOwnScheme name → list_all is_ascii 
 own_scheme bytes name own ascii e =
     subst IsOwnScheme (sym (ascii_chars bytes name (IsAscii-from_test name ascii) e)) own
 
+-- `https` and `http` are schemes that stand as they are written
 pub https : (bytes : List ℕ) → bytes ≡ codes "https" → IsOwnScheme (chars bytes)
 https bytes e = own_scheme bytes (codes "https") https_is_own refl e
 

@@ -20,5 +20,6 @@ report_rows = record {
   too_long = λ setting is. rw is (lit< tt);
 }
 
+-- the rows of lists hold, each by computation
 pub list_rows : ListRows
 list_rows = (line_rows, report_rows)

@@ -1,11 +1,10 @@
 pub mod Fault
 pub mod Judgement
 pub mod Limits
-pub mod Lines
 pub mod Outcome
 pub mod OwnText
-pub mod Progress
 pub mod Report
 pub mod ReportRows
+pub mod Reporting
 pub mod Run
 pub mod Second

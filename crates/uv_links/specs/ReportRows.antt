@@ -1,7 +1,7 @@
 -- Lists and reports that are written out: the lines of a list, and the text of a report.
 use Rattle.std.specs.Prelude.{◌≡◌, ℕ, List, [], ◌∷◌, ◌++◌, codes}
 use Rattle.uv_model.specs.declared.rule.Rule.TheVariants.{NoScheme, HostDomain}
-use Rattle.uv_links.specs.Lines.{lines_of}
+use Rattle.uv_lines.specs.Lines.{lines_of}
 use Rattle.uv_links.specs.Report.{ListSetting, Said, Same, Refused, NotUtf8, TooLong, Differs, IsSaid, report_line, report_lines, tally, count_line}
 
 -- CR and LF

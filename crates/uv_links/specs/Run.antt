@@ -4,10 +4,12 @@ use Rattle.std.specs.Io.KnownBytes.{Appends, Keeps}
 use Rattle.uv_links.specs.declared.counts.Counts.{Counts}
 use Rattle.uv_links.specs.declared.fault.LinkFault.{LinkFault}
 use Rattle.uv_links.specs.declared.fault.LinkFault.TheVariants.{Memory, Read, Write, Overflow, BaseDiffers, TooManyLines, Endless}
-use Rattle.uv_links.specs.declared.progress.Progress.{Progress}
-use Rattle.uv_links.specs.Lines.{closed_lines, lines_of}
-use Rattle.uv_links.specs.Progress.{Stands}
-use Rattle.uv_links.specs.Report.{ListSetting, IsReport, IsReportOfFirst}
+use Rattle.uv_lines.specs.Lines.{closed_lines, lines_of}
+use Rattle.uv_lines.specs.declared.fault.LineFault.{LineFault}
+use Rattle.uv_lines.specs.declared.fault.LineFault.TheVariants as stopped
+use Rattle.uv_links.specs.declared.fault.RoomFault.{RoomFault}
+use Rattle.uv_links.specs.Fault.{fault_of_room}
+use Rattle.uv_links.specs.Report.{ListSetting, IsReport, IsReportOfFirst, count_line}
 use Rattle.uv_links.specs.Second.{AgreesOnBase}
 
 -- the whole report on the bytes was written, on no more lines than may come, and these are its counts
@@ -69,35 +71,17 @@ abbrev pub writes_failed : LinkFault → ℕ
 writes_failed Write = 1
 writes_failed _ = 0
 
--- before the first piece nothing has come, and nothing waits to be written
-pub record IsNew (p : Progress) : Type 0 where
-  pub begun : p.begun.items ≡ []
-  pub text : p.text.items ≡ []
-  pub counts : p.counts ≡ record { lines = 0; ok = 0; bad = 0; differs = 0 }
+-- the same fault of a run over lines
+abbrev pub fault_of_run : LineFault RoomFault → LinkFault
+fault_of_run (stopped.Report fault) = fault_of_room fault
+fault_of_run stopped.Memory = Memory
+fault_of_run stopped.Read = Read
+fault_of_run stopped.Write = Write
+fault_of_run stopped.TooManyLines = TooManyLines
+fault_of_run stopped.Endless = Endless
 
--- between two pieces nothing waits to be written
-pub record At (old : Option (List ℕ)) (read : List ℕ) (p : Progress) (new : Option (List ℕ)) : Type 0 where
-  pub written : List ℕ
-  pub wrote : Appends old new written
-  pub stands : Stands written read p
-  pub none : p.text.items ≡ []
-
--- what a fault leaves while a piece is passed on
-abbrev pub PassFault : LinkFault → ListSetting → ℕ → Option (List ℕ) → List ℕ → Option (List ℕ) → Type 0
-PassFault Write setting most old read new = WroteFront setting old read new
-PassFault Memory setting most old read new =
-    (count : ℕ) × (count ≤ length (closed_lines read)) × WroteFirst setting old read count new
-PassFault Overflow setting most old read new =
-    (count : ℕ) × (count ≤ length (closed_lines read)) × WroteFirst setting old read count new
-PassFault TooManyLines setting most old read new =
-    WroteFirst setting old read most new × (most < length (lines_of read))
-PassFault _ setting most old read new = ⊥
-
--- and at the end of the list
-abbrev pub FinishFault : LinkFault → ListSetting → Option (List ℕ) → List ℕ → Option (List ℕ) → Type 0
-FinishFault Write setting old read new = WroteFront setting old read new
-FinishFault Memory setting old read new =
-    (count : ℕ) × (count ≤ length (lines_of read)) × WroteFirst setting old read count new
-FinishFault Overflow setting old read new =
-    (count : ℕ) × (count ≤ length (lines_of read)) × WroteFirst setting old read count new
-FinishFault _ setting old read new = ⊥
+-- what a fault leaves while the line of counts is written
+abbrev pub LeavesCounts : LinkFault → Counts → Option (List ℕ) → Option (List ℕ) → Type 0
+LeavesCounts Memory counts old new = Appends old new []
+LeavesCounts Write counts old new = (front : ℕ) × Appends old new (take front (count_line counts))
+LeavesCounts _ counts old new = ⊥

@@ -4,8 +4,8 @@ use Rattle.url.specs.Parser.{parse_url}
 use Rattle.url.specs.Parts.{Parts, serialize}
 use Rattle.url.specs.declared.error.ParseError.{ParseError}
 use Rattle.url.specs.declared.error.ParseError.TheVariants as error
-use Rattle.uv_links.specs.declared.fault.LinkFault.{LinkFault}
-use Rattle.uv_links.specs.declared.fault.LinkFault.TheVariants as fault
+use Rattle.uv_links.specs.declared.fault.RoomFault.{RoomFault}
+use Rattle.uv_links.specs.declared.fault.RoomFault.TheVariants as fault
 use Rattle.uv_model.specs.Records.Serialize.{serial}
 use Rattle.uv_model.specs.Records.Url.{Url}
 
@@ -44,7 +44,7 @@ IsReadAs base text written (Some url) =
 
 -- the fault that its error stands for: want of memory, and a text longer than its own can be; every other error refuses
 -- the text
-abbrev pub room_fault : ParseError → Option LinkFault
+abbrev pub room_fault : ParseError → Option RoomFault
 room_fault error.OutOfMemory = Some fault.Memory
 room_fault error.Overflow = Some fault.Overflow
 room_fault _ = None

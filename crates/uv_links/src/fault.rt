@@ -1,8 +1,10 @@
 //! Why a run over a list of links stopped.
 ghost use Rattle.std.specs.Prelude.{◌≡◌};
 ghost use Rattle.uv_links.specs.declared.fault.LinkFault.TheVariants as fault;
+ghost use Rattle.uv_links.specs.declared.fault.RoomFault.TheVariants as room;
+ghost use Rattle.uv_links.specs.Fault as spec;
 
-use std::alloc::{AllocError, AllocFailed};
+use std::alloc::AllocError;
 use thiserror::Error;
 
 /// Why a run over a list of links stopped, and what it had written by then. How far the reader was read is open.
@@ -40,10 +42,29 @@ impl From<AllocError> for LinkFault {
     }
 }
 
-impl<T: Drop> From<AllocFailed<T>> for LinkFault {
-    ghost from_gives = { λ _ given. given ≡ fault.Memory };
+/// Why nothing is said of a line.
+#[derive(Clone, Copy, Debug, PartialEq, Eq)]
+pub(crate) enum RoomFault {
+    /// A growth was refused.
+    Memory,
+    /// A text is longer than the second parser's can be.
+    Overflow,
+}
 
-    fn from(_error: AllocFailed<T>) -> LinkFault {
-        LinkFault::Memory
+impl From<AllocError> for RoomFault {
+    ghost from_gives = { λ _ given. given ≡ room.Memory };
+
+    fn from(_error: AllocError) -> RoomFault {
+        RoomFault::Memory
+    }
+}
+
+/// The fault of a run that wants the same room.
+pub(crate) fn fault_of_room(fault: RoomFault) -> LinkFault
+    ensures { result ≡ spec.fault_of_room fault }
+{
+    match fault {
+        RoomFault::Memory => LinkFault::Memory,
+        RoomFault::Overflow => LinkFault::Overflow,
     }
 }

@@ -1,12 +1,12 @@
 //! The judgement of a line.
 ghost use Rattle.std.specs.Prelude.{◌≡◌, ◌≤◌, IfOk, IfErr, Some, length, option_copied};
 ghost use Rattle.std.specs.Str.{IsUtf8};
-ghost use Rattle.uv_links.specs.Fault.{IsBaseFault, IsWantOfRoom};
+ghost use Rattle.uv_links.specs.Fault.{IsBaseFault};
 ghost use Rattle.uv_links.specs.Judgement.{judged_said};
 ghost use Rattle.uv_links.specs.Report.{DenotesText, IsSaid};
 ghost use Rattle.uv_links.specs.Second.{AgreesOnBase, IsReadAs, second_base};
 
-use crate::fault::LinkFault;
+use crate::fault::{LinkFault, RoomFault, fault_of_room};
 use crate::judgement::Judgement;
 use crate::own_text::is_own_text;
 use crate::second::read_as;
@@ -75,9 +75,8 @@ impl<'b> Judge<'b> {
     }
 
     /// What is said of a line.
-    pub(crate) fn judge(&self, alloc: Global, line: &[u8]) -> Result<Judgement, LinkFault>
-        ensures said { IfOk result (λ j. IsSaid self.now line.now (judged_said j)) }
-        ensures room { IfErr result IsWantOfRoom }
+    pub(crate) fn judge(&self, alloc: Global, line: &[u8]) -> Result<Judgement, RoomFault>
+        ensures { IfOk result (λ j. IsSaid self.now line.now (judged_said j)) }
     {
         if line.len() > self.line_bytes {
             return Ok(Judgement::TooLong);
@@ -89,10 +88,9 @@ impl<'b> Judge<'b> {
     }
 
     // What is said of a line that isn't too long and is UTF-8.
-    fn judge_text(&self, alloc: Global, text: &str) -> Result<Judgement, LinkFault>
+    fn judge_text(&self, alloc: Global, text: &str) -> Result<Judgement, RoomFault>
         requires { length text.now ≤ self.now.line_bytes }
-        ensures said { IfOk result (λ j. IsSaid self.now text.now (judged_said j)) }
-        ensures room { IfErr result IsWantOfRoom }
+        ensures { IfOk result (λ j. IsSaid self.now text.now (judged_said j)) }
     {
         match check(alloc, text, self.base, self.profile) {
             Ok(Verdict::Yes(parts)) => {
@@ -103,15 +101,14 @@ impl<'b> Judge<'b> {
                 }
             }
             Ok(Verdict::No(refusal)) => Ok(Judgement::Refused(refusal)),
-            Err(AllocError) => Err(LinkFault::Memory),
+            Err(AllocError) => Err(RoomFault::Memory),
         }
     }
 
     // The same, with the record that the text denotes.
-    fn judge_by_record(&self, alloc: Global, text: &str) -> Result<Judgement, LinkFault>
+    fn judge_by_record(&self, alloc: Global, text: &str) -> Result<Judgement, RoomFault>
         requires { length text.now ≤ self.now.line_bytes }
-        ensures said { IfOk result (λ j. IsSaid self.now text.now (judged_said j)) }
-        ensures room { IfErr result IsWantOfRoom }
+        ensures { IfOk result (λ j. IsSaid self.now text.now (judged_said j)) }
     {
         match resolve(alloc, text, self.base, self.profile) {
             Ok(record) => {
@@ -119,16 +116,15 @@ impl<'b> Judge<'b> {
                 self.compare(alloc, text, written.as_str())
             }
             Err(ResolveFault::Refused(refusal)) => Ok(Judgement::Refused(refusal)),
-            Err(ResolveFault::Memory(_)) => Err(LinkFault::Memory),
+            Err(ResolveFault::Memory(_)) => Err(RoomFault::Memory),
         }
     }
 
     // What is said of a text that denotes a URL with this text.
-    fn compare(&self, alloc: Global, text: &str, written: &str) -> Result<Judgement, LinkFault>
+    fn compare(&self, alloc: Global, text: &str, written: &str) -> Result<Judgement, RoomFault>
         requires short { length text.now ≤ self.now.line_bytes }
         requires denotes { DenotesText self.now.profile self.now.base text.now written.now }
-        ensures said { IfOk result (λ j. IsSaid self.now text.now (judged_said j)) }
-        ensures room { IfErr result IsWantOfRoom }
+        ensures { IfOk result (λ j. IsSaid self.now text.now (judged_said j)) }
     {
         match self.read(alloc, text, written)? {
             Some(url) => Ok(Judgement::Same(url)),
@@ -137,10 +133,9 @@ impl<'b> Judge<'b> {
     }
 
     // The second parser's URL of a text, where it has this text.
-    fn read(&self, alloc: Global, text: &str, written: &str) -> Result<Option<Url>, LinkFault>
-        ensures same { IfOk result (λ url.
+    fn read(&self, alloc: Global, text: &str, written: &str) -> Result<Option<Url>, RoomFault>
+        ensures { IfOk result (λ url.
             IsReadAs (second_base self.now.base) text.now written.now url) }
-        ensures room { IfErr result IsWantOfRoom }
     {
         read_as(alloc, self.second.as_ref(), text, written)
     }
@@ -153,8 +148,9 @@ fn agreed(alloc: Global, base: &Record) -> Result<Url, LinkFault>
     ensures fault { IfErr result (IsBaseFault (Some base.now)) }
 {
     let written = base.text(alloc)?;
-    match read_as(alloc, None, written.as_str(), written.as_str())? {
-        Some(url) => Ok(url),
-        None => Err(LinkFault::BaseDiffers),
+    match read_as(alloc, None, written.as_str(), written.as_str()) {
+        Ok(Some(url)) => Ok(url),
+        Ok(None) => Err(LinkFault::BaseDiffers),
+        Err(fault) => Err(fault_of_room(fault)),
     }
 }

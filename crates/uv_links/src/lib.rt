@@ -2,7 +2,6 @@
 #![tactic(auto)]
 
 mod counts;
-mod ending;
 mod fault;
 mod judge;
 mod judgement;
@@ -10,11 +9,9 @@ pub mod laws;
 mod limits;
 mod outcome;
 mod own_text;
-mod passing;
-mod progress;
+mod reporter;
 mod run;
 mod second;
-mod taking;
 
 pub use counts::Counts;
 pub use fault::LinkFault;

@@ -2,7 +2,7 @@
 ghost use Rattle.std.specs.Prelude.{◌≡◌, IsTrue, Some};
 ghost use Rattle.std.specs.List.{list_all};
 ghost use Rattle.std.specs.Str.{IsAscii, chars};
-ghost use Rattle.uv_grammar.specs.Seen.{seen_option};
+ghost use Rattle.uv_grammar.specs.Slices.{chars_of_option};
 ghost use Rattle.uv_links.specs.OwnText.{HasNoPort, HasOwnHost, HasOwnPath, HasOwnScheme, IsOwnScheme, IsOwnText, is_kept_segment, is_never_encoded};
 
 use uv_grammar::{Form, HostRef, Parts};
@@ -37,7 +37,7 @@ fn is_never_encoded(text: &str) -> bool
 
 // Whether there is a special scheme in lower case.
 fn has_own_scheme(scheme: Option<&str>) -> bool
-    ensures { IsTrue result → HasOwnScheme (seen_option scheme.entry) }
+    ensures { IsTrue result → HasOwnScheme (chars_of_option scheme.entry) }
 {
     match scheme {
         Some(scheme) => is_own_scheme(scheme),
@@ -71,7 +71,7 @@ fn has_own_host(parts: &Parts<'_>) -> bool
 // Whether the text is the form of its domain.
 fn is_form(form: &str, text: Option<&str>) -> bool
     requires { IsAscii form.now }
-    ensures { IsTrue result → seen_option text.entry ≡ Some form.now }
+    ensures { IsTrue result → chars_of_option text.entry ≡ Some form.now }
 {
     match text {
         Some(text) => is_text(text, form),

@@ -1,19 +1,19 @@
 //! A run over a list of links.
-ghost use Rattle.std.specs.Prelude.{◌≡◌, ℕ, ◌+◌, ◌-◌, ◌^◌, ◌<◌, List, IfErr, IfOk, OnOk, length, option_copied, vec_len};
-ghost use Rattle.std.specs.Io.KnownBytes.{Consumes, IsAtEnd};
-ghost use Rattle.uv_links.specs.Run.{IsNew, Leaves, Reports, reads_failed, writes_failed};
+ghost use Rattle.std.specs.Prelude.{◌≡◌, ℕ, ◌+◌, ◌-◌, ◌^◌, ◌<◌, List, IfErr, IfOk, OnOk, option_copied};
+ghost use Rattle.std.specs.Io.KnownBytes.{Appends, Consumes, IsAtEnd};
+ghost use Rattle.uv_links.specs.Report.{count_line};
+ghost use Rattle.uv_links.specs.Run as spec;
+ghost use Rattle.uv_links.specs.Run.{Leaves, LeavesCounts, Reports, reads_failed, writes_failed};
 ghost use Rattle.uv_links.specs.Second.{AgreesOnBase};
 
-use crate::counts::Counts;
-use crate::fault::LinkFault;
+use crate::counts::{Counts, count_text};
+use crate::fault::{LinkFault, RoomFault, fault_of_room};
 use crate::judge::Judge;
 use crate::limits::LinkLimits;
-use crate::progress::Progress;
-use std::alloc::{AllocError, Global};
-use uv_model::{DeviceFault, Profile, Record, Sink, Source};
-
-// How many bytes of the list are read at a time.
-const PIECE_BYTES: usize = 65_536;
+use crate::reporter::LinkReporter;
+use std::alloc::Global;
+use uv_lines::{LineFault, LineLimits, run_lines};
+use uv_model::{DeviceFault, Profile, Record, Sink, Source, write_whole};
 
 /// Reports on a list of links: each of its lines is judged by the profile, against the base where there is one, and
 /// each accepted line compared with the crate `url`.
@@ -59,61 +59,48 @@ pub fn run_links<R: Source, W: Sink>(
         Ok(judge) => judge,
         Err(fault) => return Err(fault),
     };
-    let Ok(mut piece) = empty_piece(alloc) else {
+    let limits = LineLimits {
+        line_bytes: limits.line_bytes(),
+        lines: limits.lines(),
+    };
+    let reporter = LinkReporter::new(alloc, judge);
+    let (reporter, answer) = run_lines(alloc, reader, writer, reporter, limits);
+    match answer {
+        Ok(()) => match write_counts(alloc, writer, reporter.counts()) {
+            Ok(()) => Ok(reporter.counts()),
+            Err(fault) => Err(fault),
+        },
+        Err(fault) => Err(fault_of_run(fault)),
+    }
+}
+
+// Writes the line of counts.
+fn write_counts<W: Sink>(alloc: Global, writer: &mut W, counts: Counts) -> Result<(), LinkFault>
+    requires { W.failed writer.old < 2 ^ 64 - 1 }
+    ensures whole { OnOk result (Appends (W.contents writer.old) (W.contents writer.new) (count_line counts)) }
+    ensures quiet { OnOk result (W.failed writer.new ≡ W.failed writer.old) }
+    ensures fault { IfErr result (λ e. LeavesCounts e counts (W.contents writer.old) (W.contents writer.new)
+        × (W.failed writer.new ≡ W.failed writer.old + writes_failed e)) }
+{
+    let Ok(line) = count_text(alloc, counts) else {
         return Err(LinkFault::Memory);
     };
-    let mut progress = Progress::new(alloc, judge, limits.lines());
-    match run_pieces(alloc, reader, writer, &mut progress, piece.as_mut_slice()) {
-        Ok(counts) => Ok(counts),
-        Err(fault) => Err(fault),
+    match write_whole(writer, line.as_bytes()) {
+        Ok(()) => Ok(()),
+        Err(DeviceFault) => Err(LinkFault::Write),
     }
 }
 
-// Room for a piece.
-fn empty_piece(alloc: Global) -> Result<Vec<u8>, AllocError>
-    ensures { IfOk result (λ piece. 0 < vec_len piece) }
+// The same fault of a run over links.
+fn fault_of_run(fault: LineFault<RoomFault>) -> LinkFault
+    ensures { result ≡ spec.fault_of_run fault }
 {
-    vec![in alloc; 0; PIECE_BYTES]
-}
-
-// Reads the list piece by piece, and reports on it.
-#[tactic(none)]
-fn run_pieces<R: Source, W: Sink>(
-    alloc: Global,
-    reader: &mut R,
-    writer: &mut W,
-    progress: &mut Progress<'_>,
-    piece: &mut [u8],
-) -> Result<Counts, LinkFault>
-    requires reads { R.failed reader.old < 2 ^ 64 - 1 }
-    requires writes { W.failed writer.old < 2 ^ 64 - 1 }
-    requires room { 0 < length piece.old }
-    requires start { IsNew progress.old }
-    ensures report { IfOk result (λ counts. (read : List ℕ)
-        × Consumes (R.remaining reader.old) (R.remaining reader.new) read × IsAtEnd (R.remaining reader.new)
-        × Reports progress.old.judge progress.old.most (W.contents writer.old) read counts (W.contents writer.new)) }
-    ensures fault { IfErr result (λ e. (read : List ℕ) × Consumes (R.remaining reader.old) (R.remaining reader.new) read
-        × Leaves e progress.old.judge progress.old.most (W.contents writer.old) read (IsAtEnd (R.remaining reader.new))
-        (W.contents writer.new) × (R.failed reader.new ≡ R.failed reader.old + reads_failed e)
-        × (W.failed writer.new ≡ W.failed writer.old + writes_failed e)) }
-    ensures quiet { OnOk result ((R.failed reader.new ≡ R.failed reader.old)
-        × (W.failed writer.new ≡ W.failed writer.old)) }
-{
-    for _turn in 0..u64::MAX {
-        match reader.read(piece) {
-            Err(DeviceFault) => return Err(LinkFault::Read),
-            Ok(0) => {
-                return match progress.finish(alloc, writer) {
-                    Ok(counts) => Ok(counts),
-                    Err(fault) => Err(fault),
-                };
-            }
-            Ok(count) => {
-                if let Err(fault) = progress.pass(alloc, writer, &piece[..count]) {
-                    return Err(fault);
-                }
-            }
-        }
+    match fault {
+        LineFault::Report(fault) => fault_of_room(fault),
+        LineFault::Memory => LinkFault::Memory,
+        LineFault::Read => LinkFault::Read,
+        LineFault::Write => LinkFault::Write,
+        LineFault::TooManyLines => LinkFault::TooManyLines,
+        LineFault::Endless => LinkFault::Endless,
     }
-    Err(LinkFault::Endless)
 }

@@ -1,10 +1,9 @@
 //! The second parser: what the crate `url` makes of a text.
-ghost use Rattle.std.specs.Prelude.{◌≡◌, IfOk, IfErr, option_copied};
+ghost use Rattle.std.specs.Prelude.{◌≡◌, IfOk, option_copied};
 ghost use Rattle.url.specs.Parser.{Gives, parse_url};
-ghost use Rattle.uv_links.specs.Fault.{IsWantOfRoom};
 ghost use Rattle.uv_links.specs.Second.{IsReadAs, parsed, room_fault};
 
-use crate::fault::LinkFault;
+use crate::fault::RoomFault;
 use std::alloc::Global;
 use url::{ParseError, ParseResult, Url};
 
@@ -15,9 +14,8 @@ pub(crate) fn read_as(
     base: Option<&Url>,
     text: &str,
     written: &str,
-) -> Result<Option<Url>, LinkFault>
-    ensures url { IfOk result (IsReadAs (option_copied base.entry) text.now written.now) }
-    ensures room { IfErr result IsWantOfRoom }
+) -> Result<Option<Url>, RoomFault>
+    ensures { IfOk result (IsReadAs (option_copied base.entry) text.now written.now) }
 {
     let Some(url) = second_url(alloc, base, text)? else {
         return Ok(None);
@@ -30,9 +28,8 @@ pub(crate) fn read_as(
 }
 
 // The URL that the second parser makes of a text, alone or against a base; none where it refuses the text.
-fn second_url(alloc: Global, base: Option<&Url>, text: &str) -> Result<Option<Url>, LinkFault>
-    ensures url { IfOk result (λ url. url ≡ parsed (parse_url (option_copied base.entry) text.now)) }
-    ensures room { IfErr result IsWantOfRoom }
+fn second_url(alloc: Global, base: Option<&Url>, text: &str) -> Result<Option<Url>, RoomFault>
+    ensures { IfOk result (λ url. url ≡ parsed (parse_url (option_copied base.entry) text.now)) }
 {
     match parse(alloc, base, text) {
         Ok(url) => Ok(Some(url)),
@@ -44,12 +41,12 @@ fn second_url(alloc: Global, base: Option<&Url>, text: &str) -> Result<Option<Ur
 }
 
 // The fault that the second parser's error stands for; none where it refuses the text.
-fn room_fault(error: ParseError) -> Option<LinkFault>
+fn room_fault(error: ParseError) -> Option<RoomFault>
     ensures { result ≡ room_fault error }
 {
     match error {
-        ParseError::OutOfMemory => Some(LinkFault::Memory),
-        ParseError::Overflow => Some(LinkFault::Overflow),
+        ParseError::OutOfMemory => Some(RoomFault::Memory),
+        ParseError::Overflow => Some(RoomFault::Overflow),
         _ => None,
     }
 }

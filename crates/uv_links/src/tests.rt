@@ -2,6 +2,7 @@
 ghost use Rattle.std.specs.Prelude.{◌+◌, ◌<◌, None};
 
 mod devices;
+mod record_texts;
 
 use super::*;
 use std::alloc::Global;

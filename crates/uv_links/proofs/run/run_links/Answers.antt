@@ -1,21 +1,17 @@
--- The base's text first, and then the pieces.
-use Rattle.std.proofs.Common.{◌≡◌, ◌+◌, ◌<◌, ◌∙◌, ℕ, List, [], length, option_copied, arith, refl, sym, ap, subst, add-zero}
+-- The base's text first, then the lines, and the line of counts.
+use Rattle.std.proofs.Common.{◌≡◌, ◌+◌, ◌∙◌, [], option_copied, sym, ap, subst, add-zero}
 use Rattle.std.proofs.KnownBytes.{Consumes-nil}
-use Rattle.std.specs.Io.KnownBytes.{IsAtEnd}
-use Rattle.uv_links.specs.declared.fault.LinkFault.TheVariants.{Memory}
-use Rattle.uv_links.specs.Report.{ListSetting}
-use Rattle.uv_links.specs.Run.{Leaves, Reports}
-use Rattle.uv_links.proofs.PassLemmas.{base-left}
+use Rattle.std.specs.Io.KnownBytes.{Appends, IsAtEnd}
+use Rattle.uv_lines.specs.declared.limits.LineLimits.{LineLimits}
+use Rattle.uv_lines.specs.Run as run
+use Rattle.uv_links.specs.Report.{ListSetting, count_line}
+use Rattle.uv_links.specs.Reporting.{Says}
+use Rattle.uv_links.specs.Run.{Leaves, LeavesCounts, Reports, reads_failed, writes_failed}
+use Rattle.uv_links.proofs.ReportedLemmas.{base-left, counts-left, counts-reads, fresh, run-left, run-reads, run-reports, run-writes}
 use Rattle.uv_links.proofs.run.run_links.Goals as goal
 
 pub new-requires : goal.new-requires
 new-requires g c = c.line_bytes.ensures.bounded
-
-pub new-progress-requires : goal.new-progress-requires
-new-progress-requires g c = c.lines.ensures.bounded
-
-pub same-judge : goal.same-judge
-same-judge g c = refl
 
 pub returns-in-Err-clause-fault : goal.returns-in-Err-clause-fault
 returns-in-Err-clause-fault g c =
@@ -35,82 +31,146 @@ returns-in-Err-clause-failed g c =
     let writes = g.W.Sink.failed c.args.writer.now in
     (sym (add-zero reads) ∙ ap (λ n. reads + n) (sym left.1), sym (add-zero writes) ∙ ap (λ n. writes + n) (sym left.2))
 
-pub returns-in_default-clause-fault : goal.returns-in_default-clause-fault
-returns-in_default-clause-fault g c =
+pub run_lines-reporter-requires-clause-reads : goal.run_lines-reporter-requires-clause-reads
+run_lines-reporter-requires-clause-reads g c = c.requires.reads
+
+pub run_lines-reporter-requires-clause-writes : goal.run_lines-reporter-requires-clause-writes
+run_lines-reporter-requires-clause-writes g c = c.requires.writes
+
+pub run_lines-reporter-requires-clause-short : goal.run_lines-reporter-requires-clause-short
+run_lines-reporter-requires-clause-short g c = c.line_bytes-2.ensures.bounded
+
+pub run_lines-reporter-requires-clause-few : goal.run_lines-reporter-requires-clause-few
+run_lines-reporter-requires-clause-few g c = c.lines.ensures.bounded
+
+pub run_lines-reporter-requires-clause-start : goal.run_lines-reporter-requires-clause-start
+run_lines-reporter-requires-clause-start g c = ap (λ r. r.counts.lines) c.new-reporter.ensures
+
+pub write_counts-requires : goal.write_counts-requires
+write_counts-requires g c =
+    let quiet = rw c.in-Ok-answer.is at c.run_lines-reporter.ensures.quiet in
+    rw quiet.1 c.requires.writes
+
+pub returns-in-Ok-write_counts-clause-report : goal.returns-in-Ok-write_counts-clause-report
+returns-in-Ok-write_counts-clause-report g c =
     let setting : ListSetting = record
     { profile = c.args.profile; base = option_copied c.args.base; line_bytes = c.args.limits.line_bytes } in
-    let left = base-left Memory setting c.args.limits.lines (g.W.Sink.contents c.args.writer.now)
-    (IsAtEnd (g.R.Source.remaining c.args.reader.now)) (tt {0}) in
-    ([], Consumes-nil (g.R.Source.remaining c.args.reader.now), left.0)
-
-pub returns-in_default-clause-failed : goal.returns-in_default-clause-failed
-returns-in_default-clause-failed g c =
-    (sym (add-zero (g.R.Source.failed c.args.reader.now)), sym (add-zero (g.W.Sink.failed c.args.writer.now)))
-
-pub run_pieces-requires-clause-reads : goal.run_pieces-requires-clause-reads
-run_pieces-requires-clause-reads g c = c.requires.reads
-
-pub run_pieces-requires-clause-writes : goal.run_pieces-requires-clause-writes
-run_pieces-requires-clause-writes g c = c.requires.writes
-
-pub run_pieces-requires-clause-room : goal.run_pieces-requires-clause-room
-run_pieces-requires-clause-room g c =
-    let size = c.as_mut_slice.ensures.len in
-    let some = c.in-Ok-empty_piece.ensures in
-    omega (arith, size, some)
-
-pub run_pieces-requires-clause-start : goal.run_pieces-requires-clause-start
-run_pieces-requires-clause-start g c =
-    let new = c.new-progress.ensures in
-    record { begun = new.begun; text = new.text; counts = new.counts }
-
-pub returns-in-Ok-run_pieces-clause-report : goal.returns-in-Ok-run_pieces-clause-report
-returns-in-Ok-run_pieces-clause-report g c =
-    let setting : ListSetting = record
-    { profile = c.args.profile; base = option_copied c.args.base; line_bytes = c.args.limits.line_bytes } in
-    let is : c.new-progress.result.judge ≡ setting =
-    c.new-progress.ensures.setting.0 ∙ c.in-Ok.ensures.setting
+    let limits : LineLimits = record { line_bytes = c.args.limits.line_bytes; lines = c.args.limits.lines } in
+    let given : LineLimits = record { line_bytes = c.line_bytes-2.result; lines = c.lines.result } in
+    let same_limits : given ≡ limits =
+    ap (λ n. let l : LineLimits = record { line_bytes = n; lines = c.lines.result } in l) c.line_bytes-2.ensures.value
+    ∙ ap (λ n. let l : LineLimits = record { line_bytes = c.args.limits.line_bytes; lines = n } in l)
+    c.lines.ensures.value in
+    let starts : c.new-reporter.result ≡ fresh setting =
+    c.new-reporter.ensures ∙ ap fresh (c.in-Ok.ensures.setting
     ∙ ap (λ n. let s : ListSetting =
     record { profile = c.args.profile; base = option_copied c.args.base; line_bytes = n } in s)
-    c.line_bytes.ensures.value in
-    let most : c.new-progress.result.most ≡ c.args.limits.lines = c.new-progress.ensures.setting.1
-    ∙ c.lines.ensures.value in
-    let r = c.in-Ok-run_pieces.ensures.report in
+    c.line_bytes.ensures.value) in
     let old = g.W.Sink.contents c.args.writer.now in
-    let new = g.W.Sink.contents c.run_pieces.new.writer in (
+    let now = g.W.Sink.contents c.run_lines-reporter.new.writer in
+    let q = c.run_lines-reporter.result.0 in
+    let at_end = IsAtEnd (g.R.Source.remaining c.run_lines-reporter.new.reader) in
+    let new = g.W.Sink.contents c.write_counts.new.writer in
+    let r = rw c.in-Ok-answer.is at c.run_lines-reporter.ensures.report in
+    let all : run.WroteAll Says limits (fresh setting) old r.0 q now =
+    subst (λ l. run.WroteAll Says l (fresh setting) old r.0 q now) same_limits
+    (subst (λ p. run.WroteAll Says given p old r.0 q now) starts r.3) in
+    let whole : Appends now new (count_line q.counts) =
+    subst (λ k. Appends now new (count_line k)) c.counts.ensures c.in-Ok-write_counts.ensures.whole in (
       r.0,
       r.1,
       r.2,
-      subst (λ n. Reports setting n old r.0 c.in-Ok-run_pieces.counts new) most
-          (subst (λ j. Reports j c.new-progress.result.most old r.0 c.in-Ok-run_pieces.counts new) is r.3),
+      subst (λ k. Reports setting c.args.limits.lines old r.0 k new) (sym c.counts-in-Ok-write_counts.ensures)
+          (run-reports setting c.args.limits.lines old now new r.0 q all whole),
     )
 
-pub returns-in-Ok-run_pieces-clause-base : goal.returns-in-Ok-run_pieces-clause-base
-returns-in-Ok-run_pieces-clause-base g c = c.in-Ok.ensures.agrees
+pub returns-in-Ok-write_counts-clause-base : goal.returns-in-Ok-write_counts-clause-base
+returns-in-Ok-write_counts-clause-base g c = c.in-Ok.ensures.agrees
 
-pub returns-in-Ok-run_pieces-clause-quiet : goal.returns-in-Ok-run_pieces-clause-quiet
-returns-in-Ok-run_pieces-clause-quiet g c = c.in-Ok-run_pieces.ensures.quiet
+pub returns-in-Ok-write_counts-clause-quiet : goal.returns-in-Ok-write_counts-clause-quiet
+returns-in-Ok-write_counts-clause-quiet g c =
+    let quiet = rw c.in-Ok-answer.is at c.run_lines-reporter.ensures.quiet in
+    (quiet.0, c.in-Ok-write_counts.ensures.quiet ∙ quiet.1)
+
+pub returns-in-Ok-answer-clause-fault : goal.returns-in-Ok-answer-clause-fault
+returns-in-Ok-answer-clause-fault g c =
+    let setting : ListSetting = record
+    { profile = c.args.profile; base = option_copied c.args.base; line_bytes = c.args.limits.line_bytes } in
+    let limits : LineLimits = record { line_bytes = c.args.limits.line_bytes; lines = c.args.limits.lines } in
+    let given : LineLimits = record { line_bytes = c.line_bytes-2.result; lines = c.lines.result } in
+    let same_limits : given ≡ limits =
+    ap (λ n. let l : LineLimits = record { line_bytes = n; lines = c.lines.result } in l) c.line_bytes-2.ensures.value
+    ∙ ap (λ n. let l : LineLimits = record { line_bytes = c.args.limits.line_bytes; lines = n } in l)
+    c.lines.ensures.value in
+    let starts : c.new-reporter.result ≡ fresh setting =
+    c.new-reporter.ensures ∙ ap fresh (c.in-Ok.ensures.setting
+    ∙ ap (λ n. let s : ListSetting =
+    record { profile = c.args.profile; base = option_copied c.args.base; line_bytes = n } in s)
+    c.line_bytes.ensures.value) in
+    let old = g.W.Sink.contents c.args.writer.now in
+    let now = g.W.Sink.contents c.run_lines-reporter.new.writer in
+    let q = c.run_lines-reporter.result.0 in
+    let at_end = IsAtEnd (g.R.Source.remaining c.run_lines-reporter.new.reader) in
+    let new = g.W.Sink.contents c.write_counts.new.writer in
+    let r = rw c.in-Ok-answer.is at c.run_lines-reporter.ensures.report in
+    let all : run.WroteAll Says limits (fresh setting) old r.0 q now =
+    subst (λ l. run.WroteAll Says l (fresh setting) old r.0 q now) same_limits
+    (subst (λ p. run.WroteAll Says given p old r.0 q now) starts r.3) in
+    let left : LeavesCounts c.in-Err-write_counts.fault q.counts now new =
+    subst (λ k. LeavesCounts c.in-Err-write_counts.fault k now new) c.counts.ensures
+    c.in-Err-write_counts.ensures.fault.0 in (
+      r.0,
+      r.1,
+      counts-left c.in-Err-write_counts.fault setting c.args.limits.lines old now new r.0 at_end q all r.2 left,
+    )
+
+pub returns-in-Ok-answer-clause-failed : goal.returns-in-Ok-answer-clause-failed
+returns-in-Ok-answer-clause-failed g c =
+    let quiet = rw c.in-Ok-answer.is at c.run_lines-reporter.ensures.quiet in
+    let e = c.in-Err-write_counts.fault in
+    let reads = g.R.Source.failed c.args.reader.now in
+    let left = c.in-Err-write_counts.ensures.fault in (
+      quiet.0 ∙ sym (add-zero reads) ∙ ap (λ n. reads + n) (sym (counts-reads e c.counts.result
+          (g.W.Sink.contents c.run_lines-reporter.new.writer) (g.W.Sink.contents c.write_counts.new.writer) left.0)),
+      left.1 ∙ ap (λ n. n + writes_failed e) quiet.1,
+    )
 
 pub returns-clause-fault : goal.returns-clause-fault
 returns-clause-fault g c =
     let setting : ListSetting = record
     { profile = c.args.profile; base = option_copied c.args.base; line_bytes = c.args.limits.line_bytes } in
-    let is : c.new-progress.result.judge ≡ setting =
-    c.new-progress.ensures.setting.0 ∙ c.in-Ok.ensures.setting
+    let limits : LineLimits = record { line_bytes = c.args.limits.line_bytes; lines = c.args.limits.lines } in
+    let given : LineLimits = record { line_bytes = c.line_bytes-2.result; lines = c.lines.result } in
+    let same_limits : given ≡ limits =
+    ap (λ n. let l : LineLimits = record { line_bytes = n; lines = c.lines.result } in l) c.line_bytes-2.ensures.value
+    ∙ ap (λ n. let l : LineLimits = record { line_bytes = c.args.limits.line_bytes; lines = n } in l)
+    c.lines.ensures.value in
+    let starts : c.new-reporter.result ≡ fresh setting =
+    c.new-reporter.ensures ∙ ap fresh (c.in-Ok.ensures.setting
     ∙ ap (λ n. let s : ListSetting =
     record { profile = c.args.profile; base = option_copied c.args.base; line_bytes = n } in s)
-    c.line_bytes.ensures.value in
-    let most : c.new-progress.result.most ≡ c.args.limits.lines = c.new-progress.ensures.setting.1
-    ∙ c.lines.ensures.value in
-    let r = c.in-Err-run_pieces.ensures.fault in
+    c.line_bytes.ensures.value) in
     let old = g.W.Sink.contents c.args.writer.now in
-    let new = g.W.Sink.contents c.run_pieces.new.writer in
-    let at_end = IsAtEnd (g.R.Source.remaining c.run_pieces.new.reader) in (
+    let now = g.W.Sink.contents c.run_lines-reporter.new.writer in
+    let q = c.run_lines-reporter.result.0 in
+    let at_end = IsAtEnd (g.R.Source.remaining c.run_lines-reporter.new.reader) in
+    let e = c.in-Err-answer.fault in
+    let r = rw c.in-Err-answer.is at c.run_lines-reporter.ensures.fault in
+    let left : run.Leaves Says limits (fresh setting) e old r.0 at_end q now =
+    subst (λ l. run.Leaves Says l (fresh setting) e old r.0 at_end q now) same_limits
+    (subst (λ p. run.Leaves Says given p e old r.0 at_end q now) starts r.2) in (
       r.0,
       r.1,
-      subst (λ n. Leaves c.in-Err-run_pieces.fault setting n old r.0 at_end new) most
-          (subst (λ j. Leaves c.in-Err-run_pieces.fault j c.new-progress.result.most old r.0 at_end new) is r.2),
+      subst (λ f. Leaves f setting c.args.limits.lines old r.0 at_end now) (sym c.fault_of_run.ensures)
+          (run-left e setting c.args.limits.lines old r.0 at_end q now left),
     )
 
 pub returns-clause-failed : goal.returns-clause-failed
-returns-clause-failed g c = let r = c.in-Err-run_pieces.ensures.fault in (r.3, r.4)
+returns-clause-failed g c =
+    let e = c.in-Err-answer.fault in
+    let r = rw c.in-Err-answer.is at c.run_lines-reporter.ensures.failed in
+    let reads = g.R.Source.failed c.args.reader.now in
+    let writes = g.W.Sink.failed c.args.writer.now in (
+      r.0 ∙ ap (λ n. reads + n) (run-reads e ∙ ap (λ f. reads_failed f) (sym c.fault_of_run.ensures)),
+      r.1 ∙ ap (λ n. writes + n) (run-writes e ∙ ap (λ f. writes_failed f) (sym c.fault_of_run.ensures)),
+    )

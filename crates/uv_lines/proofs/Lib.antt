@@ -1,0 +1,4 @@
+mod LineLemmas
+mod ReportedLemmas
+mod StandsLemmas
+mod PassLemmas

@@ -1,0 +1,4 @@
+pub mod Lines
+pub mod Reported
+pub mod Progress
+pub mod Run

@@ -1,0 +1,36 @@
+-- The lines of a list. A line ends with LF, and one CR before that LF is no part of it; what follows the last
+-- LF is a line where it isn't empty, and a CR at its end stays.
+use Rattle.std.specs.Prelude.{ℕ, List, [], ◌∷◌, ◌++◌, Option, Some, None, length, map, nat_le, if◌then◌else◌, ◌==◌}
+use Rattle.std.specs.Str.Lines.{strip_carriage_return}
+
+-- LF, U+000A
+abbrev pub line_feed : ℕ
+line_feed = 10
+
+-- a byte before the first of the texts that LF ends, or before the last text where there is none
+abbrev pub put_front : ℕ → List (List ℕ) → List ℕ → (List (List ℕ)) × List ℕ
+put_front x [] last = ([], x ∷ last)
+put_front x (l ∷ ls) last = ((x ∷ l) ∷ ls, last)
+
+-- what stands before each LF, and what follows the last one
+abbrev pub split : List ℕ → (List (List ℕ)) × List ℕ
+split [] = ([], [])
+split (x ∷ xs) =
+    if x == line_feed then ([] ∷ (split xs).0, (split xs).1) else put_front x (split xs).0 (split xs).1
+
+-- the lines that an LF ends, each without the one CR before it
+abbrev pub closed_lines : List ℕ → List (List ℕ)
+closed_lines bytes = map strip_carriage_return (split bytes).0
+
+-- a last line that no LF ends, where there is one
+abbrev pub open_lines : List ℕ → List (List ℕ)
+open_lines [] = []
+open_lines (x ∷ xs) = (x ∷ xs) ∷ []
+
+-- all lines
+abbrev pub lines_of : List ℕ → List (List ℕ)
+lines_of bytes = closed_lines bytes ++ open_lines (split bytes).1
+
+-- a line as it is reported on: none where it has more bytes than a line may have
+abbrev pub seen : ℕ → List ℕ → Option (List ℕ)
+seen line_bytes line = if nat_le (length line) line_bytes then Some line else None

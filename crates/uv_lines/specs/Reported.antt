@@ -1,0 +1,20 @@
+-- What a reporter says of lines, one after the other. It goes from state to state: what it says of a line may depend on
+-- the lines before it, as a number does.
+use Rattle.std.specs.Prelude.{◌≡◌, ℕ, List, [], ◌∷◌, ◌++◌, Option}
+use Rattle.std.specs.Io.KnownBytes.{Appends}
+use Rattle.uv_lines.specs.Lines.{seen}
+
+-- from one state to another the lines were reported on, by this text
+abbrev pub Reported : {S : Type 0} → (S → Option (List ℕ) → List ℕ → S → Type 0) → ℕ → S → List (List ℕ) → List ℕ → S
+    → Type 0
+Reported reports line_bytes start [] text now = (text ≡ []) × (now ≡ start)
+Reported {S} reports line_bytes start (line ∷ lines) text now =
+    (front : List ℕ) × (rest : List ℕ) × (next : S) × reports start (seen line_bytes line) front next
+    × Reported reports line_bytes next lines rest now × (text ≡ front ++ rest)
+
+-- they were, and the text was written
+pub record Wrote {S : Type 0} (reports : S → Option (List ℕ) → List ℕ → S → Type 0) (line_bytes : ℕ) (start : S)
+    (lines : List (List ℕ)) (old new : Option (List ℕ)) (now : S) : Type 0 where
+  pub text : List ℕ
+  pub reported : Reported reports line_bytes start lines text now
+  pub wrote : Appends old new text

@@ -1,0 +1,93 @@
+-- What a run has written, and what its faults leave.
+use Rattle.std.specs.Prelude.{◌≡◌, ℕ, ◌-◌, ◌^◌, ◌≤◌, ◌<◌, ◌⊎◌, List, [], Option, length, take}
+use Rattle.std.specs.Io.KnownBytes.{Appends}
+use Rattle.uv_lines.specs.declared.fault.LineFault.{LineFault}
+use Rattle.uv_lines.specs.declared.fault.LineFault.TheVariants.{Report, Memory, Read, Write, TooManyLines, Endless}
+use Rattle.uv_lines.specs.declared.limits.LineLimits.{LineLimits}
+use Rattle.uv_lines.specs.Lines.{closed_lines, lines_of}
+use Rattle.uv_lines.specs.Progress.{IsReportOfFirst, Stands}
+use Rattle.uv_lines.specs.Reported.{Wrote}
+
+-- the report on the bytes was written, on no more lines than may come
+pub record WroteAll {S : Type 0} (reports : S → Option (List ℕ) → List ℕ → S → Type 0) (limits : LineLimits)
+    (start : S) (old : Option (List ℕ)) (read : List ℕ) (now : S) (new : Option (List ℕ)) : Type 0 where
+  pub wrote : Wrote reports limits.line_bytes start (lines_of read) old new now
+  pub few : length (lines_of read) ≤ limits.lines
+
+-- the report on so many of the first lines was written
+abbrev pub WroteFirst : {S : Type 0} → (S → Option (List ℕ) → List ℕ → S → Type 0) → LineLimits → S
+    → Option (List ℕ) → List ℕ → ℕ → S → Option (List ℕ) → Type 0
+WroteFirst reports limits start old read count now new =
+    Wrote reports limits.line_bytes start (take count (lines_of read)) old new now
+
+-- a beginning of the report on some of the first lines was written, perhaps cut within what is said of a line
+pub record WroteFront {S : Type 0} (reports : S → Option (List ℕ) → List ℕ → S → Type 0) (limits : LineLimits)
+    (start : S) (old : Option (List ℕ)) (read : List ℕ) (now : S) (new : Option (List ℕ)) : Type 0 where
+  pub count : ℕ
+  pub within : count ≤ length (lines_of read)
+  pub text : List ℕ
+  pub reported : IsReportOfFirst reports limits.line_bytes start read count now text
+  pub front : ℕ
+  pub wrote : Appends old new (take front text)
+
+-- The report on some of the first lines was written. They are lines that an LF has ended, but for a last one without
+-- LF where no byte is left to come.
+abbrev pub WroteLines : {S : Type 0} → (S → Option (List ℕ) → List ℕ → S → Type 0) → LineLimits → S
+    → Option (List ℕ) → List ℕ → Type 0 → S → Option (List ℕ) → Type 0
+WroteLines reports limits start old read at_end now new =
+    (count : ℕ) × (count ≤ length (lines_of read)) × ((count ≤ length (closed_lines read)) ⊎ at_end)
+    × WroteFirst reports limits start old read count now new
+
+-- what a fault of a run leaves, when these bytes were read
+abbrev pub Leaves : {S F : Type 0} → (S → Option (List ℕ) → List ℕ → S → Type 0) → LineLimits → S → LineFault F
+    → Option (List ℕ) → List ℕ → Type 0 → S → Option (List ℕ) → Type 0
+Leaves reports limits start (Report fault) old read at_end now new =
+    WroteLines reports limits start old read at_end now new
+Leaves reports limits start Memory old read at_end now new =
+    WroteLines reports limits start old read at_end now new
+Leaves reports limits start Read old read at_end now new =
+    WroteFirst reports limits start old read (length (closed_lines read)) now new
+Leaves reports limits start Write old read at_end now new = WroteFront reports limits start old read now new
+Leaves reports limits start TooManyLines old read at_end now new =
+    WroteFirst reports limits start old read limits.lines now new × (limits.lines < length (lines_of read))
+Leaves reports limits start Endless old read at_end now new =
+    WroteFirst reports limits start old read (length (closed_lines read)) now new × (2 ^ 64 - 1 ≤ length read)
+
+-- how many failed reads and writes a fault stands for
+abbrev pub reads_failed : {F : Type 0} → LineFault F → ℕ
+reads_failed Read = 1
+reads_failed _ = 0
+
+-- the same of writes
+abbrev pub writes_failed : {F : Type 0} → LineFault F → ℕ
+writes_failed Write = 1
+writes_failed _ = 0
+
+-- between two pieces nothing waits to be written
+pub record At {S : Type 0} (reports : S → Option (List ℕ) → List ℕ → S → Type 0) (lines : S → ℕ) (line_bytes : ℕ)
+    (start : S) (old : Option (List ℕ)) (read : List ℕ) (now : S) (begun text : List ℕ) (new : Option (List ℕ))
+    : Type 0 where
+  pub written : List ℕ
+  pub wrote : Appends old new written
+  pub stands : Stands reports lines line_bytes start written read now begun text
+  pub none : text ≡ []
+
+-- what a fault leaves while a piece is passed on
+abbrev pub PassFault : {S F : Type 0} → (S → Option (List ℕ) → List ℕ → S → Type 0) → LineLimits → S → LineFault F
+    → Option (List ℕ) → List ℕ → S → Option (List ℕ) → Type 0
+PassFault reports limits start Write old read now new = WroteFront reports limits start old read now new
+PassFault reports limits start (Report fault) old read now new =
+    (count : ℕ) × (count ≤ length (closed_lines read)) × WroteFirst reports limits start old read count now new
+PassFault reports limits start Memory old read now new =
+    (count : ℕ) × (count ≤ length (closed_lines read)) × WroteFirst reports limits start old read count now new
+PassFault reports limits start TooManyLines old read now new =
+    WroteFirst reports limits start old read limits.lines now new × (limits.lines < length (lines_of read))
+PassFault reports limits start _ old read now new = ⊥
+
+-- and at the end of the list
+abbrev pub FinishFault : {S F : Type 0} → (S → Option (List ℕ) → List ℕ → S → Type 0) → LineLimits → S → LineFault F
+    → Option (List ℕ) → List ℕ → S → Option (List ℕ) → Type 0
+FinishFault reports limits start Write old read now new = WroteFront reports limits start old read now new
+FinishFault reports limits start (Report fault) old read now new =
+    (count : ℕ) × (count ≤ length (lines_of read)) × WroteFirst reports limits start old read count now new
+FinishFault reports limits start _ old read now new = ⊥

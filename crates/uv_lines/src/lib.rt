@@ -1,0 +1,19 @@
+//! The lines of a list, read piece by piece, each reported on where it ends.
+#![tactic(auto)]
+
+mod ending;
+mod fault;
+mod limits;
+mod passing;
+mod progress;
+mod reporter;
+mod run;
+mod taking;
+
+pub use fault::LineFault;
+pub use limits::LineLimits;
+pub use reporter::Reporter;
+pub use run::run_lines;
+
+#[cfg(test)]
+mod tests;

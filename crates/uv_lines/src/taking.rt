@@ -1,0 +1,235 @@
+//! The lines of a piece, each reported on where it ends.
+ghost use Rattle.std.specs.Prelude.{◌≡◌, ℕ, ◌+◌, ◌-◌, ◌^◌, ◌<◌, List, [], ◌∷◌, ◌++◌, IfErr, IfSome, None, OnOk, OnErr, drop, length, take, vec_len};
+ghost use Rattle.std.specs.Str.Lines.{strip_carriage_return};
+ghost use Rattle.uv_lines.specs.Lines.{line_feed, seen, split};
+ghost use Rattle.uv_lines.specs.Progress.{Adds, Stands, TakeFault, ended};
+
+use crate::fault::LineFault;
+use crate::progress::Progress;
+use crate::reporter::Reporter;
+use memchr::memchr;
+use std::alloc::{AllocError, Global};
+
+impl<R: Reporter> Progress<R> {
+    /// Takes a piece of the list: reports on each line that ends in it, and keeps what of the next one decides what is
+    /// said of it.
+    ///
+    /// After a fault the text that waits holds the report on whole lines: on as many as may come, where a further line
+    /// began.
+    pub(crate) fn take_piece(
+        &mut self,
+        alloc: Global,
+        piece: &[u8],
+    ) -> Result<(), LineFault<R::Fault>>
+        ensures setting { self.new.limits ≡ self.old.limits }
+        ensures stands { OnOk result ((start : R) (written read : List ℕ)
+            → Stands R.reports R.lines self.old.limits.line_bytes start written read self.old.reporter
+            self.old.begun.items self.old.text.items
+            → Stands R.reports R.lines self.old.limits.line_bytes start written (read ++ piece.now) self.new.reporter
+            self.new.begun.items self.new.text.items) }
+        ensures fault { IfErr result (λ e. (start : R) (written read : List ℕ)
+            → Stands R.reports R.lines self.old.limits.line_bytes start written read self.old.reporter
+            self.old.begun.items self.old.text.items
+            → TakeFault R.reports self.old.limits start e (read ++ piece.now) self.new.reporter
+            (written ++ self.new.text.items)) }
+    {
+        let mut start = 0;
+        while let Some(length) = line_end(&piece[start..]) {
+            if let Err(fault) = self.close_line(alloc, &piece[start..start + length]) {
+                return Err(fault);
+            }
+            start += length + 1;
+        }
+        match self.begin_line(&piece[start..]) {
+            Ok(()) => Ok(()),
+            Err(fault) => Err(fault),
+        }
+    }
+
+    // Reports on the line that an LF ends behind this front of a piece.
+    fn close_line(&mut self, alloc: Global, front: &[u8]) -> Result<(), LineFault<R::Fault>>
+        requires { split front.now ≡ ([], front.now) }
+        ensures setting { self.new.limits ≡ self.old.limits }
+        ensures stands { OnOk result ((start : R) (written read : List ℕ)
+            → Stands R.reports R.lines self.old.limits.line_bytes start written read self.old.reporter
+            self.old.begun.items self.old.text.items
+            → Stands R.reports R.lines self.old.limits.line_bytes start written
+            (read ++ (front.now ++ line_feed ∷ [])) self.new.reporter self.new.begun.items self.new.text.items) }
+        ensures fault { IfErr result (λ e. (start : R) (written read rest : List ℕ)
+            → Stands R.reports R.lines self.old.limits.line_bytes start written read self.old.reporter
+            self.old.begun.items self.old.text.items
+            → TakeFault R.reports self.old.limits start e (read ++ (front.now ++ line_feed ∷ rest)) self.new.reporter
+            (written ++ self.new.text.items)) }
+    {
+        if !self.begun.is_empty() {
+            return match self.close_begun_line(alloc, front) {
+                Ok(()) => Ok(()),
+                Err(fault) => Err(fault),
+            };
+        }
+        if self.reporter.line_count() == self.limits.lines {
+            return Err(LineFault::TooManyLines);
+        }
+        match self.report_whole(alloc, without_return(front)) {
+            Ok(()) => Ok(()),
+            Err(fault) => Err(LineFault::Report(fault)),
+        }
+    }
+
+    // The same where a line has begun.
+    fn close_begun_line(&mut self, alloc: Global, front: &[u8]) -> Result<(), LineFault<R::Fault>>
+        requires begun { 0 < vec_len self.old.begun }
+        requires line { split front.now ≡ ([], front.now) }
+        ensures setting { self.new.limits ≡ self.old.limits }
+        ensures stands { OnOk result ((start : R) (written read : List ℕ)
+            → Stands R.reports R.lines self.old.limits.line_bytes start written read self.old.reporter
+            self.old.begun.items self.old.text.items
+            → Stands R.reports R.lines self.old.limits.line_bytes start written
+            (read ++ (front.now ++ line_feed ∷ [])) self.new.reporter self.new.begun.items self.new.text.items) }
+        ensures fault { IfErr result (λ e. (start : R) (written read rest : List ℕ)
+            → Stands R.reports R.lines self.old.limits.line_bytes start written read self.old.reporter
+            self.old.begun.items self.old.text.items
+            → TakeFault R.reports self.old.limits start e (read ++ (front.now ++ line_feed ∷ rest)) self.new.reporter
+            (written ++ self.new.text.items)) }
+    {
+        if let Err(AllocError) = self.keep(front) {
+            return Err(LineFault::Memory);
+        }
+        match self.report_begun(alloc, true) {
+            Ok(()) => Ok(()),
+            Err(fault) => Err(LineFault::Report(fault)),
+        }
+    }
+
+    // Keeps the end of a piece, in which a line goes on or begins.
+    fn begin_line(&mut self, rest: &[u8]) -> Result<(), LineFault<R::Fault>>
+        requires { split rest.now ≡ ([], rest.now) }
+        ensures setting { self.new.limits ≡ self.old.limits }
+        ensures stands { OnOk result ((start : R) (written read : List ℕ)
+            → Stands R.reports R.lines self.old.limits.line_bytes start written read self.old.reporter
+            self.old.begun.items self.old.text.items
+            → Stands R.reports R.lines self.old.limits.line_bytes start written (read ++ rest.now) self.new.reporter
+            self.new.begun.items self.new.text.items) }
+        ensures fault { IfErr result (λ e. (start : R) (written read : List ℕ)
+            → Stands R.reports R.lines self.old.limits.line_bytes start written read self.old.reporter
+            self.old.begun.items self.old.text.items
+            → TakeFault R.reports self.old.limits start e (read ++ rest.now) self.new.reporter
+            (written ++ self.new.text.items)) }
+    {
+        if rest.is_empty() {
+            return Ok(());
+        }
+        if self.begun.is_empty() && self.reporter.line_count() == self.limits.lines {
+            return Err(LineFault::TooManyLines);
+        }
+        match self.keep(rest) {
+            Ok(()) => Ok(()),
+            Err(AllocError) => Err(LineFault::Memory),
+        }
+    }
+
+    // Keeps what of a line's next bytes decides what is said of it: two bytes more than a line may have, with or
+    // without a CR at their end, are too many.
+    fn keep(&mut self, more: &[u8]) -> Result<(), AllocError>
+        requires { R.lines self.old.reporter < self.old.limits.lines }
+        ensures kept { OnOk result (self.new.begun.items ≡
+            take (self.old.limits.line_bytes + 2) (self.old.begun.items ++ more.now)) }
+        ensures none { OnErr result (self.new.begun.items ≡ self.old.begun.items) }
+        ensures rest { (self.new.reporter ≡ self.old.reporter) × (self.new.limits ≡ self.old.limits)
+            × (self.new.text.items ≡ self.old.text.items) }
+    {
+        let room = self.limits.line_bytes + 2 - self.begun.len();
+        let count = room.min(more.len());
+        match self.begun.extend_from_slice(&more[..count]) {
+            Ok(()) => Ok(()),
+            Err(AllocError) => Err(AllocError),
+        }
+    }
+
+    // Reports on a line of which no front is kept.
+    fn report_whole(&mut self, alloc: Global, line: &[u8]) -> Result<(), R::Fault>
+        requires few { R.lines self.old.reporter < self.old.limits.lines }
+        requires none { vec_len self.old.begun ≡ 0 }
+        ensures setting { self.new.limits ≡ self.old.limits }
+        ensures begun { self.new.begun.items ≡ self.old.begun.items }
+        ensures added { OnOk result (Adds R.reports R.lines self.old.reporter self.old.text.items
+            (seen self.old.limits.line_bytes line.now) self.new.reporter self.new.text.items) }
+        ensures none { OnErr result ((self.new.reporter ≡ self.old.reporter)
+            × (self.new.text.items ≡ self.old.text.items)) }
+    {
+        let line_bytes = self.limits.line_bytes;
+        report_on(alloc, &mut self.reporter, line_bytes, line, &mut self.text)
+    }
+
+    /// Reports on the line that has begun, which an LF has ended or the end of the list.
+    pub(crate) fn report_begun(&mut self, alloc: Global, is_closed: bool) -> Result<(), R::Fault>
+        requires { R.lines self.old.reporter < self.old.limits.lines }
+        ensures setting { self.new.limits ≡ self.old.limits }
+        ensures begun { OnOk result (self.new.begun.items ≡ []) }
+        ensures added { OnOk result (Adds R.reports R.lines self.old.reporter self.old.text.items
+            (seen self.old.limits.line_bytes (ended is_closed self.old.begun.items)) self.new.reporter
+            self.new.text.items) }
+        ensures none { OnErr result ((self.new.reporter ≡ self.old.reporter)
+            × (self.new.text.items ≡ self.old.text.items)) }
+    {
+        let line_bytes = self.limits.line_bytes;
+        let line = line_ended(self.begun.as_slice(), is_closed);
+        match report_on(alloc, &mut self.reporter, line_bytes, line, &mut self.text) {
+            Ok(()) => {
+                self.begun.clear();
+                Ok(())
+            }
+            Err(fault) => Err(fault),
+        }
+    }
+}
+
+// Reports on a line, which may have more bytes than a line may have.
+fn report_on<R: Reporter>(
+    alloc: Global,
+    reporter: &mut R,
+    line_bytes: usize,
+    line: &[u8],
+    text: &mut Vec<u8>,
+) -> Result<(), R::Fault>
+    requires { R.lines reporter.old < 2 ^ 64 - 1 }
+    ensures added { OnOk result (Adds R.reports R.lines reporter.old text.old.items (seen line_bytes line.now)
+        reporter.new text.new.items) }
+    ensures none { OnErr result ((reporter.new ≡ reporter.old) × (text.new.items ≡ text.old.items)) }
+{
+    if line.len() <= line_bytes {
+        reporter.report(alloc, Some(line), text)
+    } else {
+        reporter.report(alloc, None, text)
+    }
+}
+
+// How many bytes stand before the next LF, where there is one.
+fn line_end(rest: &[u8]) -> Option<usize>
+    ensures some { IfSome result (λ at. (at < length rest.now) × (split (take at rest.now) ≡ ([], take at rest.now))
+        × (drop at rest.now ≡ line_feed ∷ drop (at + 1) rest.now)) }
+    ensures none { result ≡ None → split rest.now ≡ ([], rest.now) }
+{
+    memchr(b'\n', rest)
+}
+
+// A line as its end leaves it.
+fn line_ended(line: &[u8], is_closed: bool) -> &[u8]
+    ensures { result.now ≡ ended is_closed line.now }
+{
+    if is_closed {
+        without_return(line)
+    } else {
+        line
+    }
+}
+
+// A line without the one CR at its end, if it has one.
+fn without_return(line: &[u8]) -> &[u8]
+    ensures { result.now ≡ strip_carriage_return line.now }
+{
+    match line.split_last() {
+        Some((b'\r', front)) => front,
+        _ => line,
+    }
+}

@@ -1,0 +1,111 @@
+//! Runs over lists written out, with a reporter that says the number of each line and how many bytes it has.
+ghost use Rattle.std.specs.Prelude.{◌≤◌};
+
+use super::*;
+use std::alloc::{AllocError, Global};
+use std::test::Fail;
+use uv_model::{FromReader, ToWriter};
+
+// Says `NUMBER:BYTES `, and `NUMBER:- ` of a line that is too long.
+#[derive(Drop)]
+struct Lengths {
+    lines: u64,
+}
+
+impl Reporter for Lengths {
+    type Fault = AllocError;
+
+    ghost lines = { λ r. r.lines };
+
+    ghost reports = { λ before line text after. Unit {0} };
+
+    fn report(
+        &mut self,
+        alloc: Global,
+        line: Option<&[u8]>,
+        text: &mut Vec<u8>,
+    ) -> Result<(), AllocError> {
+        let number = self.lines + 1;
+        let said = match line {
+            Some(line) => {
+                let size = line.len();
+                format!(in alloc; "{number}:{size} ")?
+            }
+            None => format!(in alloc; "{number}:- ")?,
+        };
+        text.extend_from_slice(said.as_bytes())?;
+        self.lines = number;
+        Ok(())
+    }
+
+    fn line_count(&self) -> u64 {
+        self.lines
+    }
+}
+
+// What a run over these bytes answers and writes, and how many lines it reported on.
+fn ran(
+    alloc: Global,
+    bytes: &[u8],
+    limits: LineLimits,
+) -> (Result<(), LineFault<AllocError>>, u64, Vec<u8>)
+    requires { (limits.line_bytes ≤ 65536) × (limits.lines ≤ 1000000000) }
+{
+    let mut reader = FromReader::new(bytes);
+    let mut writer = ToWriter::new(Vec::new(alloc));
+    let reporter = Lengths { lines: 0 };
+    let (reporter, answer) = run_lines(alloc, &mut reader, &mut writer, reporter, limits);
+    (answer, reporter.lines, writer.into_writer())
+}
+
+// The lines of lists, with an empty line, a CR before LF and at the end, no line, and lines of the most bytes and more.
+#[test]
+fn reports_on_lines_in_order(rt: HostRuntime) -> Result<(), Fail> {
+    let rows: [(&[u8], &str, u64); 7] = [
+        (b"a\n\nbcd\n", "1:1 2:0 3:3 ", 3),
+        (b"a\r\n\r\nb", "1:1 2:0 3:1 ", 3),
+        (b"a\r", "1:2 ", 1),
+        (b"a\r\r\n", "1:2 ", 1),
+        (b"", "", 0),
+        (b"abcd\nabcde\nabcd\r\nabcde\r\n", "1:4 2:- 3:4 4:- ", 4),
+        (b"abcdefgh", "1:- ", 1),
+    ];
+    let limits = LineLimits {
+        line_bytes: 4,
+        lines: 100,
+    };
+    for (bytes, want, lines) in rows {
+        let (answer, count, written) = ran(rt.alloc(), bytes, limits);
+        assert_eq!(rt; answer, Ok(()));
+        assert_eq!(rt; count, lines);
+        assert_eq!(rt; written.as_slice(), want.as_bytes());
+    }
+    Ok(())
+}
+
+// Behind as many lines as may come a further one is a fault, and what was said of those is out.
+#[test]
+fn stops_behind_the_last_line_that_may_come(rt: HostRuntime) -> Result<(), Fail> {
+    let two = LineLimits {
+        line_bytes: 4,
+        lines: 2,
+    };
+    let rows: [(&[u8], bool); 4] = [
+        (b"a\nb\n", true),
+        (b"a\nb\n\n", false),
+        (b"a\nb\nc", false),
+        (b"a\nb", true),
+    ];
+    for (bytes, ends) in rows {
+        let (answer, count, written) = ran(rt.alloc(), bytes, two);
+        let want = if ends {
+            Ok(())
+        } else {
+            Err(LineFault::TooManyLines)
+        };
+        assert_eq!(rt; answer, want);
+        assert_eq!(rt; count, 2);
+        assert_eq!(rt; written.as_slice(), b"1:1 2:1 ".as_slice());
+    }
+    Ok(())
+}

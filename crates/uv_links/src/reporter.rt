@@ -1,0 +1,131 @@
+//! The report on the lines of a list.
+ghost use Rattle.std.specs.Prelude.{◌≡◌, ◌+◌, ◌-◌, ◌^◌, ◌<◌, ◌++◌, OnOk, IfOk, OnErr, option_copied};
+ghost use Rattle.uv_lines.specs.Progress.{Adds};
+ghost use Rattle.uv_links.specs.Judgement.{judged_said};
+ghost use Rattle.uv_links.specs.Report.{counted, report_line};
+ghost use Rattle.uv_links.specs.Reporting.{IsSeenSaid, Says, none_counted};
+
+use crate::counts::Counts;
+use crate::fault::RoomFault;
+use crate::judge::Judge;
+use crate::judgement::Judgement;
+use crate::outcome::push_line;
+use std::alloc::{AllocError, Global};
+use std::marker::Model;
+use uv_lines::Reporter;
+
+/// What reports on a list of links: the judge of its lines, and the counts of the lines before.
+#[derive(Drop)]
+pub(crate) struct LinkReporter<'b> {
+    judge: Judge<'b>,
+    counts: Counts,
+    // The last line of the report, whose memory is kept for the next one.
+    line: String,
+}
+
+impl<'b> Model for LinkReporter<'b> {
+    ghost use Rattle.std.specs.Prelude.{◌≡◌, ◌+◌};
+    ghost use Rattle.uv_links.specs.Reporting.{Reporting};
+
+    ghost Value = { Reporting };
+
+    ghost view = { λ r. record { setting = r.judge; counts = r.counts } };
+
+    ghost invariant = { λ r. r.counts.ok + r.counts.bad + r.counts.differs ≡ r.counts.lines };
+}
+
+impl<'b> LinkReporter<'b> {
+    /// What reports on a list before its first line.
+    pub(crate) fn new(alloc: Global, judge: Judge<'b>) -> LinkReporter<'b>
+        ensures { result ≡ record { setting = judge.entry; counts = none_counted } }
+    {
+        let counts = Counts {
+            lines: 0,
+            ok: 0,
+            bad: 0,
+            differs: 0,
+        };
+        LinkReporter {
+            judge,
+            counts,
+            line: String::new(alloc),
+        }
+    }
+
+    /// The counts of the lines on which it has reported.
+    pub(crate) fn counts(&self) -> Counts
+        ensures { result ≡ self.now.counts }
+    {
+        self.counts
+    }
+
+    // Appends the line of the report, and counts it.
+    fn add(&mut self, judgement: Judgement, text: &mut Vec<u8>) -> Result<(), AllocError>
+        requires { self.old.counts.lines < 2 ^ 64 - 1 }
+        ensures text { OnOk result (text.new.items
+            ≡ text.old.items ++ report_line (self.old.counts.lines + 1) (judged_said judgement)) }
+        ensures counted { OnOk result (self.new
+            ≡ record { setting = self.old.setting; counts = counted self.old.counts (judged_said judgement) }) }
+        ensures none { OnErr result ((self.new ≡ self.old) × (text.new.items ≡ text.old.items)) }
+    {
+        let number = self.counts.lines + 1;
+        self.line.clear();
+        push_line(&mut self.line, number, &judgement.outcome())?;
+        text.extend_from_slice(self.line.as_bytes())?;
+        self.counts = with_line(self.counts, &judgement);
+        Ok(())
+    }
+}
+
+impl<'b> Reporter for LinkReporter<'b> {
+    ghost use Rattle.uv_links.specs.Reporting.{Says};
+
+    type Fault = RoomFault;
+
+    ghost lines = { λ r. r.counts.lines };
+
+    ghost reports = { Says };
+
+    fn report(
+        &mut self,
+        alloc: Global,
+        line: Option<&[u8]>,
+        text: &mut Vec<u8>,
+    ) -> Result<(), RoomFault> {
+        let judgement = judge_seen(alloc, &self.judge, line)?;
+        match self.add(judgement, text) {
+            Ok(()) => Ok(()),
+            Err(AllocError) => Err(RoomFault::Memory),
+        }
+    }
+
+    fn line_count(&self) -> u64 {
+        self.counts.lines
+    }
+}
+
+// What is said of a line; none stands for one that is too long.
+fn judge_seen(alloc: Global, judge: &Judge<'_>, line: Option<&[u8]>) -> Result<Judgement, RoomFault>
+    ensures { IfOk result (λ j. IsSeenSaid judge.now (option_copied line.entry) (judged_said j)) }
+{
+    match line {
+        Some(line) => judge.judge(alloc, line),
+        None => Ok(Judgement::TooLong),
+    }
+}
+
+// The counts with a further line.
+fn with_line(counts: Counts, judgement: &Judgement) -> Counts
+    requires few { counts.lines < 2 ^ 64 - 1 }
+    requires whole { counts.ok + counts.bad + counts.differs ≡ counts.lines }
+    ensures { result ≡ counted counts (judged_said judgement.now) }
+{
+    let mut counts = counts;
+    counts.lines += 1;
+    match judgement {
+        Judgement::Same(_) => counts.ok += 1,
+        Judgement::Refused(_) | Judgement::NotUtf8 | Judgement::TooLong => counts.bad += 1,
+        Judgement::Differs => counts.differs += 1,
+    }
+    counts
+}
