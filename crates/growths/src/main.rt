@@ -1,7 +1,7 @@
 //! Makes one call of the library, which standard input names, and prints its answer: the driver of bench/growths.py,
 //! which has each of the call's growths refused in turn. The first line says how many growths to make before the call,
-//! the second names the call, the third has the base, empty where there is none, and the rest is the text, the list or
-//! the vector file.
+//! the second names the call, the third the profile, the fourth has the base, empty where there is none, and the rest
+//! is the text, the list or the vector file, which is judged by the standard profile.
 //! No other growth is made but by the call and, where there is a base, by what resolves it. The status is 3 where the
 //! call wants memory.
 #![tactic(auto)]
@@ -11,7 +11,7 @@ use std::io::{self, Read};
 use std::process::ExitCode;
 use std::str;
 use uv_cli::{CliFault, run_check, run_faults, run_vectors};
-use uv_grammar::{Verdict, check};
+use uv_grammar::{Verdict, check, faults};
 use uv_host::{DomainAnswer, domain};
 use uv_links::{LinkFault, LinkLimits, run_links};
 use uv_model::{FromReader, Host, Profile, Record, Refusal, ToWriter, UrlPath};
@@ -22,6 +22,7 @@ use uv_resolve::{ResolveFault, resolve};
 struct Asked<'b> {
     before: usize,
     call: &'b str,
+    profile: Profile,
     base: Option<&'b str>,
     text: &'b str,
 }
@@ -55,14 +56,24 @@ fn asked_in(bytes: &[u8]) -> Option<Asked<'_>> {
     let text = str::from_utf8(bytes).ok()?;
     let (before, rest) = text.split_once('\n')?;
     let (call, rest) = rest.split_once('\n')?;
+    let (profile, rest) = rest.split_once('\n')?;
     let (base, text) = rest.split_once('\n')?;
     let base = if base.is_empty() { None } else { Some(base) };
     Some(Asked {
         before: before.parse().ok()?,
         call,
+        profile: profile_of(profile)?,
         base,
         text,
     })
+}
+
+fn profile_of(name: &str) -> Option<Profile> {
+    match name {
+        "standard" => Some(Profile::Standard),
+        "wide" => Some(Profile::Wide),
+        _ => None,
+    }
 }
 
 // Makes so many growths, and gives their memory back.
@@ -76,14 +87,14 @@ fn grow(alloc: Global, count: usize) -> Result<(), AllocError> {
 // Calls what is asked for, over the base's record where the call takes one.
 fn ended<R: Print + AllocGlobal>(rt: &R, asked: &Asked<'_>) -> End {
     match asked.call {
-        "domain" => domain_ended(rt, asked.text),
+        "domain" => domain_ended(rt, asked),
         "run_check" | "run_faults" => check_ended(rt, asked),
         "run_vectors" => vectors_ended(rt, asked.text),
         _ => {
             let Some(base) = asked.base else {
                 return record_ended(rt, asked, None);
             };
-            match resolve(rt.alloc(), base, None, Profile::Standard) {
+            match resolve(rt.alloc(), base, None, asked.profile) {
                 Ok(base) => record_ended(rt, asked, Some(&base)),
                 Err(ResolveFault::Memory(_)) => End::Memory,
                 Err(ResolveFault::Refused(_)) => End::NotAsked,
@@ -94,15 +105,16 @@ fn ended<R: Print + AllocGlobal>(rt: &R, asked: &Asked<'_>) -> End {
 
 fn record_ended<R: Print + AllocGlobal>(rt: &R, asked: &Asked<'_>, base: Option<&Record>) -> End {
     match asked.call {
-        "check" => verdict_ended(rt, asked.text, base),
-        "resolve" => resolve_ended(rt, asked.text, base),
-        "run_links" => links_ended(rt, asked.text, base),
+        "check" => verdict_ended(rt, asked, base),
+        "faults" => faults_ended(rt, asked, base),
+        "resolve" => resolve_ended(rt, asked, base),
+        "run_links" => links_ended(rt, asked, base),
         _ => End::NotAsked,
     }
 }
 
-fn domain_ended<R: Print + AllocGlobal>(rt: &R, text: &str) -> End {
-    match domain(rt.alloc(), text, Profile::Standard) {
+fn domain_ended<R: Print + AllocGlobal>(rt: &R, asked: &Asked<'_>) -> End {
+    match domain(rt.alloc(), asked.text, asked.profile) {
         Ok(DomainAnswer::Ascii(form)) => printed(println!(rt; "{form}")),
         Ok(DomainAnswer::Number) => printed(println!(rt; "a number")),
         Ok(DomainAnswer::Not) => printed(println!(rt; "no domain")),
@@ -110,8 +122,8 @@ fn domain_ended<R: Print + AllocGlobal>(rt: &R, text: &str) -> End {
     }
 }
 
-fn verdict_ended<R: Print + AllocGlobal>(rt: &R, text: &str, base: Option<&Record>) -> End {
-    match check(rt.alloc(), text, base, Profile::Standard) {
+fn verdict_ended<R: Print + AllocGlobal>(rt: &R, asked: &Asked<'_>, base: Option<&Record>) -> End {
+    match check(rt.alloc(), asked.text, base, asked.profile) {
         Ok(Verdict::Yes(parts)) => {
             let path = parts.path_text();
             printed(println!(rt; "valid, with the path {path}"))
@@ -121,8 +133,23 @@ fn verdict_ended<R: Print + AllocGlobal>(rt: &R, text: &str, base: Option<&Recor
     }
 }
 
-fn resolve_ended<R: Print + AllocGlobal>(rt: &R, text: &str, base: Option<&Record>) -> End {
-    match resolve(rt.alloc(), text, base, Profile::Standard) {
+fn faults_ended<R: Print + AllocGlobal>(rt: &R, asked: &Asked<'_>, base: Option<&Record>) -> End {
+    match faults(rt.alloc(), asked.text, base, asked.profile) {
+        Ok(found) if found.is_empty() => printed(println!(rt; "no fault")),
+        Ok(found) => printed(print_faults(rt, found.as_slice())),
+        Err(AllocError) => End::Memory,
+    }
+}
+
+fn print_faults<R: Print>(rt: &R, found: &[Refusal]) -> io::Result<()> {
+    for fault in found {
+        print_refusal(rt, *fault)?;
+    }
+    Ok(())
+}
+
+fn resolve_ended<R: Print + AllocGlobal>(rt: &R, asked: &Asked<'_>, base: Option<&Record>) -> End {
+    match resolve(rt.alloc(), asked.text, base, asked.profile) {
         Ok(record) => printed(print_record(rt, &record)),
         Err(ResolveFault::Refused(refusal)) => printed(print_refusal(rt, refusal)),
         Err(ResolveFault::Memory(_)) => End::Memory,
@@ -181,17 +208,17 @@ fn print_path<R: Print>(rt: &R, path: &UrlPath) -> io::Result<()> {
     }
 }
 
-fn links_ended<R: Print + AllocGlobal>(rt: &R, list: &str, base: Option<&Record>) -> End {
+fn links_ended<R: Print + AllocGlobal>(rt: &R, asked: &Asked<'_>, base: Option<&Record>) -> End {
     let mut page = [0; 1024];
     let mut out = ToWriter::new(page.as_mut_slice());
-    let mut reader = FromReader::new(list.as_bytes());
+    let mut reader = FromReader::new(asked.text.as_bytes());
     let answer = run_links(
         rt.alloc(),
         &mut reader,
         &mut out,
         base,
         LinkLimits::standard(),
-        Profile::Standard,
+        asked.profile,
     );
     let room = out.into_writer().len();
     let end = printed(print_page(rt, &page, room));
@@ -207,9 +234,9 @@ fn check_ended<R: Print + AllocGlobal>(rt: &R, asked: &Asked<'_>) -> End {
     let mut out = ToWriter::new(page.as_mut_slice());
     let (alloc, text, base) = (rt.alloc(), asked.text, asked.base);
     let answer = if asked.call == "run_check" {
-        run_check(alloc, text, base, Profile::Standard, &mut out)
+        run_check(alloc, text, base, asked.profile, &mut out)
     } else {
-        run_faults(alloc, text, base, Profile::Standard, &mut out)
+        run_faults(alloc, text, base, asked.profile, &mut out)
     };
     let room = out.into_writer().len();
     let end = printed(print_page(rt, &page, room));

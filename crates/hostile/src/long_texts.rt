@@ -311,6 +311,17 @@ fn judges_long_texts_written_out(rt: HostRuntime) -> Result<(), Fail> {
     judges_one(&rt, ("http://h/", "../", ""), 500_000, None)
 }
 
+// Faults behind more than one lane of bytes, at their places in code points.
+#[test]
+fn judges_faults_behind_lanes(rt: HostRuntime) -> Result<(), Fail> {
+    let behind_path = Some((109, Rule::CodePoint));
+    judges_one(&rt, ("http://h/", "a", " "), 100, behind_path)?;
+    let behind_letters = Some((49, Rule::Percent));
+    judges_one(&rt, ("http://h/", "é", "%4"), 40, behind_letters)?;
+    let in_host = Some((70, Rule::HostCodePoint));
+    judges_one(&rt, ("foo://", "a", "^/"), 64, in_host)
+}
+
 // The default port behind many zeros is no port, and many double dots leave one empty segment.
 #[test]
 fn resolves_long_texts_written_out(rt: HostRuntime) -> Result<(), Fail> {

@@ -7,11 +7,11 @@ use Rattle.uv_cli.specs.declared.ends.End.{End}
 use Rattle.uv_cli.specs.declared.ends.End.TheVariants.{Valid, Refused, Shown, Words, BaseRefused, Fault, Stopped, Vectors, Unread}
 use Rattle.uv_cli.specs.declared.fault.CliFault.TheVariants.{Memory, Write}
 use Rattle.uv_cli.specs.Check.{IsBase}
-use Rattle.uv_cli.specs.Jobs.{HasListed, HasListedAgainst, Seen}
+use Rattle.uv_cli.specs.Jobs.{Device, HasListed, HasListedAgainst}
 
 -- the same against the base's text
 pub listed_against : (profile : Profile) (base : Option (Bor (List ℕ))) (url : Option Url) (end : End)
-    (input rest old new : Seen)
+    (input rest old new : Device)
     → IsBase profile base url → HasListedAgainst profile url end input rest old new
     → HasListed profile base end input rest old new
 listed_against profile base url Valid input rest old new is listed = (url, is, listed)

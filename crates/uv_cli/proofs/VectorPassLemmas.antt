@@ -24,8 +24,8 @@ use Rattle.uv_cli.specs.Vectors.Passes.{IsAsExpected, PassesAgainst}
 -- ---- one URL, one refusal
 
 -- a text denotes one URL
-denoted_is_one : (profile : Profile) (base : Option Url) (text : List ℕ) (url other : Url) → Denotes profile base text url
-    → Denotes profile base text other → url ≡ other
+denoted_is_one : (profile : Profile) (base : Option Url) (text : List ℕ) (url other : Url)
+    → Denotes profile base text url → Denotes profile base text other → url ≡ other
 denoted_is_one profile base text url other one two =
     let (parts, valid, is) = one in
     let (again, valid_again, is_again) = two in
@@ -73,8 +73,9 @@ least_is_one complaint refusal other one two =
 -- ---- the answers
 
 -- whether a written text is the one that is expected of a valid text
-pub decides_text : (base : Option Url) (input text written : List ℕ) (url : Url) → Denotes Standard base (chars input) url
-    → written ≡ serial url → Decides (bytes_eq written text) (DenotesText Standard base input text)
+pub decides_text : (base : Option Url) (input text written : List ℕ) (url : Url)
+    → Denotes Standard base (chars input) url → written ≡ serial url
+    → Decides (bytes_eq written text) (DenotesText Standard base input text)
 decides_text base input text written url denotes is = (
   λ same. (url, denotes, sym ((bytes_eq-Decides written text).0 same) ∙ is),
   λ expected. let (other, again, other_is) = expected in
@@ -97,8 +98,8 @@ denoted_is_not_refused base text url refusal denotes refused =
     refused.none parts valid
 
 -- a text has one refusal
-pub refusal_is_one : (base : Option Url) (text : List ℕ) (refusal other : Refusal) → IsRefused Standard base text refusal
-    → IsRefused Standard base text other → refusal ≡ other
+pub refusal_is_one : (base : Option Url) (text : List ℕ) (refusal other : Refusal)
+    → IsRefused Standard base text refusal → IsRefused Standard base text other → refusal ≡ other
 refusal_is_one base text refusal other one two = least_is_one _ refusal other one.least two.least
 
 -- whether the refusal that a text has is this one
@@ -111,8 +112,8 @@ decides_refusal base text found refusal answer is decides = (
 )
 
 -- a text that has a URL doesn't have the refusal
-pub decides_no_refusal : (base : Option Url) (text : List ℕ) (url : Url) (refusal : Refusal) → Denotes Standard base text url
-    → Decides false (IsRefused Standard base text refusal)
+pub decides_no_refusal : (base : Option Url) (text : List ℕ) (url : Url) (refusal : Refusal)
+    → Denotes Standard base text url → Decides false (IsRefused Standard base text refusal)
 decides_no_refusal base text url refusal denotes = (
   λ yes. absurd (false≢true yes),
   λ refused. absurd (denoted_is_not_refused base text url refusal denotes refused),

@@ -23,7 +23,8 @@ all_zip_push R (a ∷ xs) (b ∷ ys) x y all one = (all.0, all_zip_push R xs ys 
 
 -- the line of one answer more
 case_lines-push : (number : ℕ) (answers : List Bool) (answer : Bool)
-    → case_lines number (answers ++ answer ∷ []) ≡ case_lines number answers ++ case_line (number + length answers) answer
+    → case_lines number (answers ++ answer ∷ [])
+    ≡ case_lines number answers ++ case_line (number + length answers) answer
 case_lines-push number [] answer =
     append-nil (case_line number answer) ∙ ap (λ n. case_line n answer) (omega arith)
 case_lines-push number (first ∷ rest) answer =
@@ -42,7 +43,8 @@ failures_push values value answer count lines before judged = record {
   judged = all_zip_push Judges values before.answers value answer before.judged judged;
   counted = ap (λ n. n + fails answer) before.counted ∙ sym (sum_by_push fails before.answers answer);
   listed =
-      ap₂ (λ l n. l ++ case_line (1 + n) answer) before.listed (sym (AllZip-long Judges values before.answers before.judged))
+      ap₂ (λ l n. l ++ case_line (1 + n) answer) before.listed
+      (sym (AllZip-long Judges values before.answers before.judged))
       ∙ sym (case_lines-push 1 before.answers answer);
 }
 
@@ -91,13 +93,16 @@ passed_and_failed (false ∷ rest) =
     omega (arith, h, pass, fail)
 
 -- the report of the failures and the counts
-pub report_of : (values : List Data) (end : VectorEnd) (size count : ℕ) (lines text : List ℕ) → HasFailures values count lines
-    → size ≡ length values → text ≡ lines ++ vector_counts size (size - count) count → end ≡ end_by count
+pub report_of : (values : List Data) (end : VectorEnd) (size count : ℕ) (lines text : List ℕ)
+    → HasFailures values count lines → size ≡ length values
+    → text ≡ lines ++ vector_counts size (size - count) count → end ≡ end_by count
     → IsReportOn values end text
 report_of values end size count lines text failures sized whole ends =
-    let all : size ≡ length failures.answers = sized ∙ sym (AllZip-long Judges values failures.answers failures.judged) in
+    let all : size ≡ length failures.answers =
+    sized ∙ sym (AllZip-long Judges values failures.answers failures.judged) in
     let both = passed_and_failed failures.answers in
-    let pass : size - count ≡ passed failures.answers = (let same = failures.counted in omega (arith, all, both, same)) in
+    let same = failures.counted in
+    let pass : size - count ≡ passed failures.answers = omega (arith, all, both, same) in
     record {
       answers = failures.answers;
       judged = failures.judged;

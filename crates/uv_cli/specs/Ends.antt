@@ -14,6 +14,8 @@ use Rattle.uv_cli.specs.declared.check.CheckEnd.{CheckEnd}
 use Rattle.uv_cli.specs.declared.check.CheckEnd.TheVariants as check
 use Rattle.uv_cli.specs.declared.check.Complaints.{Complaints}
 use Rattle.uv_cli.specs.declared.check.Complaints.TheVariants as complaints
+use Rattle.uv_cli.specs.declared.explain.ExplainEnd.{ExplainEnd}
+use Rattle.uv_cli.specs.declared.explain.ExplainEnd.TheVariants as explain
 use Rattle.uv_cli.specs.declared.fault.CliFault.{CliFault}
 use Rattle.uv_cli.specs.declared.fault.CliFault.TheVariants as cli
 use Rattle.uv_cli.specs.declared.ends.End.{End}
@@ -53,6 +55,12 @@ end_of_list (Err fault) = Stopped fault
 abbrev pub end_of_vectors : Result VectorEnd CliFault → End
 end_of_vectors (Ok end) = Vectors end
 end_of_vectors (Err fault) = Fault fault
+
+-- the end of what an explanation gave: the name of no rule is a refused word
+abbrev pub end_of_explanation : Result ExplainEnd CliFault → End
+end_of_explanation (Ok explain.Explained) = Shown
+end_of_explanation (Ok explain.Unknown) = Words
+end_of_explanation (Err fault) = Fault fault
 
 -- the end where a vector file isn't read
 abbrev pub end_without_file : FileFault → End

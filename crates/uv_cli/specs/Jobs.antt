@@ -15,23 +15,25 @@ use Rattle.uv_words.specs.declared.words.Job.{Job}
 use Rattle.uv_words.specs.declared.words.Job.TheVariants as job
 use Rattle.uv_cli.specs.declared.check.CheckEnd.TheVariants as check
 use Rattle.uv_cli.specs.declared.check.Complaints.{Complaints}
+use Rattle.uv_cli.specs.declared.explain.ExplainEnd.TheVariants as explain
 use Rattle.uv_cli.specs.declared.fault.CliFault.TheVariants as cli
 use Rattle.uv_cli.specs.declared.ends.End.{End}
 use Rattle.uv_cli.specs.declared.ends.End.TheVariants as end
 use Rattle.uv_cli.specs.Check.{HasWritten, HasWrittenFront, IsBase, IsBaseRefused, RunsAgainst}
 use Rattle.uv_cli.specs.Ends.{complaints_of, profile_of}
+use Rattle.uv_cli.specs.Explain.{HasExplained, HasExplainedFront}
 use Rattle.uv_cli.specs.Vectors.Run.{WritesVectors, WritesVectorsFront, is_judged}
 
 -- A device as contracts see it: the bytes that a source has still to give or that a sink holds, where it tells them,
 -- and how many of its calls have failed.
-pub record Seen : Type 0 where
+pub record Device : Type 0 where
   pub bytes : Option (List ℕ)
   pub failed : ℕ
 
 -- ---- a check
 
 -- what was written of the text against the base's text
-abbrev pub HasChecked : Complaints → Profile → Option (Bor (List ℕ)) → List ℕ → End → Seen → Seen → Type 0
+abbrev pub HasChecked : Complaints → Profile → Option (Bor (List ℕ)) → List ℕ → End → Device → Device → Type 0
 HasChecked complaints profile base text end.Valid old new =
     HasWritten complaints profile base text check.Valid old.bytes new.bytes
 HasChecked complaints profile base text end.Refused old new =
@@ -59,7 +61,7 @@ most_lines = 1000000000
 
 -- the list was read to its end, the whole report on it was written, and these are its counts
 pub record HasReported (profile : Profile) (base : Option Url) (counts : Counts)
-    (input rest old new : Seen) : Type 0 where
+    (input rest old new : Device) : Type 0 where
   pub read : List ℕ
   pub consumed : Consumes input.bytes rest.bytes read
   pub at_end : IsAtEnd rest.bytes
@@ -69,14 +71,14 @@ pub record HasReported (profile : Profile) (base : Option Url) (counts : Counts)
 
 -- the report stopped with this fault
 pub record HasStopped (profile : Profile) (base : Option Url) (fault : LinkFault)
-    (input rest old new : Seen) : Type 0 where
+    (input rest old new : Device) : Type 0 where
   pub read : List ℕ
   pub consumed : Consumes input.bytes rest.bytes read
   pub leaves : Leaves fault (list_setting profile base) most_lines old.bytes read (IsAtEnd rest.bytes) new.bytes
   pub failed : (rest.failed ≡ input.failed + reads_failed fault) × (new.failed ≡ old.failed + writes_failed fault)
 
 -- what was read and written of the list against a URL as base
-abbrev pub HasListedAgainst : Profile → Option Url → End → Seen → Seen → Seen → Seen → Type 0
+abbrev pub HasListedAgainst : Profile → Option Url → End → Device → Device → Device → Device → Type 0
 HasListedAgainst profile base end.Valid input rest old new =
     (counts : Counts) × HasReported profile base counts input rest old new × (counts.ok ≡ counts.lines)
 HasListedAgainst profile base end.Refused input rest old new =
@@ -85,7 +87,7 @@ HasListedAgainst profile base (end.Stopped fault) input rest old new = HasStoppe
 HasListedAgainst profile base _ input rest old new = ⊥
 
 -- the same against the base's text, which is judged alone, before anything is read or written
-abbrev pub HasListed : Profile → Option (Bor (List ℕ)) → End → Seen → Seen → Seen → Seen → Type 0
+abbrev pub HasListed : Profile → Option (Bor (List ℕ)) → End → Device → Device → Device → Device → Type 0
 HasListed profile base (end.BaseRefused refusal) input rest old new =
     IsBaseRefused profile base refusal × (rest ≡ input) × (new ≡ old)
 HasListed profile base (end.Fault cli.Memory) input rest old new = (rest ≡ input) × (new ≡ old)
@@ -95,7 +97,7 @@ HasListed profile base end input rest old new =
 -- ---- a vector file
 
 -- what a run over the bytes of a vector file has written
-abbrev pub HasRunVectors : List ℕ → End → Seen → Seen → Type 0
+abbrev pub HasRunVectors : List ℕ → End → Device → Device → Type 0
 HasRunVectors bytes (end.Vectors ended) old new =
     WritesVectors bytes ended old.bytes new.bytes × (is_judged ended ≡ false → new ≡ old)
 HasRunVectors bytes (end.Fault cli.Memory) old new = new ≡ old
@@ -103,18 +105,32 @@ HasRunVectors bytes (end.Fault cli.Write) old new =
     WritesVectorsFront bytes old.bytes new.bytes × (new.failed ≡ old.failed + 1)
 HasRunVectors bytes _ old new = ⊥
 
+-- ---- an explanation
+
+-- what was written of the rule with this name, or of each rule
+abbrev pub HasRunExplain : Option (Bor (List ℕ)) → End → Device → Device → Type 0
+HasRunExplain rule end.Shown old new =
+    HasExplained rule explain.Explained old.bytes new.bytes × (new.failed ≡ old.failed)
+HasRunExplain rule end.Words old new = HasExplained rule explain.Unknown old.bytes new.bytes × (new ≡ old)
+HasRunExplain rule (end.Fault cli.Memory) old new = new ≡ old
+HasRunExplain rule (end.Fault cli.Write) old new =
+    HasExplainedFront rule old.bytes new.bytes × (new.failed ≡ old.failed + 1)
+HasRunExplain rule _ old new = ⊥
+
 -- ---- a job
 
--- it holds of the job's base, as it is lent to the run
-abbrev pub AtBase : Option (String Global) → (Option (Bor (List ℕ)) → Type 0) → Type 0
-AtBase base P =
-    (lent : Option (Bor (List ℕ))) × (option_map (λ text. text.now) lent ≡ option_map string_bytes base) × P lent
+-- it holds of a text of the job that may be absent, as it is lent to the run
+abbrev pub AtLent : Option (String Global) → (Option (Bor (List ℕ)) → Type 0) → Type 0
+AtLent text P =
+    (lent : Option (Bor (List ℕ))) × (option_map (λ t. t.now) lent ≡ option_map string_bytes text) × P lent
 
 -- what the job has read and written, where its file has these bytes
-abbrev pub HasDone : Job → List ℕ → End → Seen → Seen → Seen → Seen → Type 0
+abbrev pub HasDone : Job → List ℕ → End → Device → Device → Device → Device → Type 0
 HasDone (job.Check text base all wide) bytes end input rest old new =
-    AtBase base (λ lent. HasChecked (complaints_of all) (profile_of wide) lent (chars (string_bytes text)) end old new
+    AtLent base (λ lent. HasChecked (complaints_of all) (profile_of wide) lent (chars (string_bytes text)) end old new
     × RunsAgainst (profile_of wide) lent (chars (string_bytes text))) × (rest ≡ input)
 HasDone (job.Links base wide) bytes end input rest old new =
-    AtBase base (λ lent. HasListed (profile_of wide) lent end input rest old new)
+    AtLent base (λ lent. HasListed (profile_of wide) lent end input rest old new)
 HasDone (job.Vectors file) bytes end input rest old new = HasRunVectors bytes end old new × (rest ≡ input)
+HasDone (job.Explain rule) bytes end input rest old new =
+    AtLent rule (λ lent. HasRunExplain lent end old new) × (rest ≡ input)

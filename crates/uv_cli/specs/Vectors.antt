@@ -2,5 +2,5 @@
 pub mod Case
 pub mod Passes
 pub mod Report
-pub mod Seen
+pub mod Views
 pub mod Run

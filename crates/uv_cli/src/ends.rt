@@ -4,6 +4,7 @@ ghost use Rattle.uv_cli.specs.Ends as spec;
 ghost use Rattle.uv_cli.specs.Ends.{base_refused_text, error_text, malformed_text, status_of, stopped_text, vectors_text};
 
 use crate::check::CheckEnd;
+use crate::explain::ExplainEnd;
 use crate::fault::CliFault;
 use crate::vectors::{FileFault, VectorEnd};
 use std::alloc::{AllocError, Global};
@@ -18,7 +19,7 @@ pub enum End {
     Valid,
     /// The text is refused, or a line of the list isn't ok.
     Refused,
-    /// Help or the version was asked for, and shown.
+    /// Help, the version or an explanation was asked for, and shown.
     Shown,
     /// The words of the command line are refused.
     Words,
@@ -72,6 +73,17 @@ pub(crate) fn end_of_vectors(gave: Result<VectorEnd, CliFault>) -> End
     }
 }
 
+/// The end of what an explanation gave: the name of no rule is a refused word.
+pub(crate) fn end_of_explanation(gave: Result<ExplainEnd, CliFault>) -> End
+    ensures { result ≡ spec.end_of_explanation gave }
+{
+    match gave {
+        Ok(ExplainEnd::Explained) => End::Shown,
+        Ok(ExplainEnd::Unknown) => End::Words,
+        Err(reason) => End::Fault(reason),
+    }
+}
+
 /// The end where a vector file isn't read.
 pub(crate) fn end_without_file(fault: FileFault) -> End
     ensures { result ≡ spec.end_without_file fault }
@@ -111,9 +123,9 @@ pub(crate) fn end_after_output(end: End, is_out: bool) -> End
     }
 }
 
-/// The exit status: 0 where the text is valid, every line ok, every case passed, or help shown; 1 where one is refused,
-/// differs or fails; 2 where the words, the base or the vector file are refused or the base differs; 3 for any other
-/// fault.
+/// The exit status: 0 where the text is valid, every line ok, every case passed, or help or an explanation shown; 1
+/// where one is refused, differs or fails; 2 where the words, the base or the vector file are refused or the base
+/// differs; 3 for any other fault.
 pub fn status(end: End) -> u8
     ensures { result ≡ status_of end }
 {

@@ -2,10 +2,11 @@
 ghost use Rattle.std.specs.Prelude.{◌≡◌, ◌-◌, ◌^◌, ◌<◌, chars};
 ghost use Rattle.uv_cli.specs.Check.{RunsAgainst};
 ghost use Rattle.uv_cli.specs.Ends as spec;
-ghost use Rattle.uv_cli.specs.Jobs.{HasChecked, HasDone, HasRunVectors};
+ghost use Rattle.uv_cli.specs.Jobs.{HasChecked, HasDone, HasRunExplain, HasRunVectors};
 
 use crate::check::{Complaints, run_check, run_faults};
-use crate::ends::{End, end_of_check, end_of_vectors};
+use crate::ends::{End, end_of_check, end_of_explanation, end_of_vectors};
+use crate::explain::run_explain;
 use crate::links::list_links;
 use crate::vectors::run_vectors;
 use std::alloc::Global;
@@ -13,7 +14,7 @@ use uv_model::{Profile, Sink, Source};
 use uv_words::Job;
 
 /// Does what a job asks for: it checks the job's text, against the job's base and by the profile that the job names, or
-/// reports on the lines of the input, or runs the cases of a vector file.
+/// reports on the lines of the input, or runs the cases of a vector file, or explains the job's rule, or each rule.
 ///
 /// The file has the bytes of the job's file, and only a run of vectors looks at it. The input is read only by a list,
 /// and the output isn't flushed.
@@ -50,7 +51,18 @@ pub fn run_job<I: Source, S: Sink>(
             list_links(alloc, base.as_deref(), profile_of(*wide), input, out)
         }
         Job::Vectors { .. } => vectors_run(alloc, file, out),
+        Job::Explain { rule } => explained(alloc, rule.as_deref(), out),
     }
+}
+
+// Explains the rule with a name, or each rule.
+fn explained<S: Sink>(alloc: Global, rule: Option<&str>, out: &mut S) -> End
+    requires { S.failed out.old < 2 ^ 64 - 1 }
+    ensures { HasRunExplain rule.entry result
+        (record { bytes = S.contents out.old; failed = S.failed out.old })
+        (record { bytes = S.contents out.new; failed = S.failed out.new }) }
+{
+    end_of_explanation(run_explain(alloc, rule, out))
 }
 
 // Runs the cases of a vector file.

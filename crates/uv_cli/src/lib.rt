@@ -3,6 +3,7 @@
 
 mod check;
 mod ends;
+mod explain;
 mod fault;
 mod jobs;
 mod links;
@@ -12,6 +13,7 @@ pub mod vectors;
 
 pub use check::{CheckEnd, run_check, run_faults};
 pub use ends::{End, error_line, status};
+pub use explain::{ExplainEnd, run_explain};
 pub use fault::CliFault;
 pub use jobs::run_job;
 pub use uv_words::{Job, WordsFault, read_words};

@@ -42,8 +42,8 @@ pub(crate) fn fault_lines(alloc: Global, found: &[Refusal]) -> Result<String, Al
     Ok(text)
 }
 
-// A name, a text and a line feed.
-fn push_line(text: &mut String, name: &str, value: &str) -> Result<(), AllocError>
+/// Pushes a name, a text and a line feed.
+pub(crate) fn push_line(text: &mut String, name: &str, value: &str) -> Result<(), AllocError>
     ensures { OnOk result (string_bytes text.new ≡ string_bytes text.old ++ line name.now value.now) }
 {
     text.push_str(name)?;
@@ -52,7 +52,12 @@ fn push_line(text: &mut String, name: &str, value: &str) -> Result<(), AllocErro
     Ok(())
 }
 
-fn push_present(text: &mut String, name: &str, value: Option<&str>) -> Result<(), AllocError>
+/// Pushes such a line where the text is present.
+pub(crate) fn push_present(
+    text: &mut String,
+    name: &str,
+    value: Option<&str>,
+) -> Result<(), AllocError>
     ensures { OnOk result (string_bytes text.new ≡ string_bytes text.old
         ++ line_of name.now (option_copied value.entry)) }
 {

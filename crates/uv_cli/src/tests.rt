@@ -3,6 +3,7 @@
 ghost use Rattle.std.specs.Prelude.{None};
 
 mod devices;
+mod explain;
 mod faults;
 mod memory;
 
@@ -151,7 +152,8 @@ fn checks_special(rt: HostRuntime) -> Result<(), Fail> {
             (
                 "http://aaaaaaaaaaaaaaaaaaaaaaaaaaaaaaaaaaaaaaaaaaaaaaaaaaaaaaaaaaaaaaa/",
                 None,
-                "valid\nscheme http\nhost domain aaaaaaaaaaaaaaaaaaaaaaaaaaaaaaaaaaaaaaaaaaaaaaaaaaaaaaaaaaaaaaa\nsegment \n",
+                "valid\nscheme http\n\
+                 host domain aaaaaaaaaaaaaaaaaaaaaaaaaaaaaaaaaaaaaaaaaaaaaaaaaaaaaaaaaaaaaaa\nsegment \n",
             ),
         ],
     )

@@ -23,8 +23,8 @@ use uv_model::{DeviceFault, Sink, write_whole};
 /// The most bytes that a vector file may have.
 pub const MOST_BYTES: usize = 16_777_216;
 
-/// How a run over a vector file ends. Where more than one end fits, it is the first of `TooLarge`, `NotJson`, `NotArray`
-/// and `Malformed`, and of those nothing is written.
+/// How a run over a vector file ends. Where more than one end fits, it is the first of `TooLarge`, `NotJson`,
+/// `NotArray` and `Malformed`, and of those nothing is written.
 #[derive(Clone, Copy, Debug, PartialEq, Eq)]
 pub enum VectorEnd {
     /// Every case passes, and the report was written.
@@ -48,12 +48,12 @@ enum Ending {
     Report(VectorEnd, String),
 }
 
-/// Runs the cases of a vector file by the standard profile, and writes the report: `fail N` for each case that fails, in
-/// order and numbered from 1, and `vectors L pass P fail F`.
+/// Runs the cases of a vector file by the standard profile, and writes the report: `fail N` for each case that fails,
+/// in order and numbered from 1, and `vectors L pass P fail F`.
 ///
-/// A case passes where its base, if it has one, is valid alone, and where its input against it has the record's text, or
-/// the refusal, that the case expects. No case is judged before all of them have been read. A fault of memory leaves the
-/// output as it was; a fault of a write leaves a beginning of the report.
+/// A case passes where its base, if it has one, is valid alone, and where its input against it has the record's text,
+/// or the refusal, that the case expects. No case is judged before all of them have been read. A fault of memory leaves
+/// the output as it was; a fault of a write leaves a beginning of the report.
 pub fn run_vectors<S: Sink>(alloc: Global, bytes: &[u8], out: &mut S) -> Result<VectorEnd, CliFault>
     requires { S.failed out.old < 2 ^ 64 - 1 }
     ensures written { IfOk result (λ end.

@@ -1,14 +1,14 @@
 //! The commands of the program, with their help.
 ghost use Rattle.std.specs.Prelude.{◌≡◌, IfOk, false};
 ghost use Rattle.clap.specs.Words.{app_of, rule_of};
-ghost use Rattle.uv_words.specs.Commands.{all_rule, base_rule, check_command, links_command, text_rule, file_rule};
-ghost use Rattle.uv_words.specs.Commands.{urlcheck, vectors_command, wide_rule, IsApp};
+ghost use Rattle.uv_words.specs.Commands.{all_rule, base_rule, check_command, explain_command, links_command};
+ghost use Rattle.uv_words.specs.Commands.{file_rule, name_rule, text_rule, urlcheck, vectors_command, wide_rule, IsApp};
 
 use clap::{Arg, ArgAction, Command};
 use std::alloc::{AllocError, Global};
 
 const STATUSES: &str = "Exit statuses:
-  0  the text is valid, each line is ok, or each vector passes
+  0  the text is valid, each line is ok, each vector passes, or a rule is explained
   1  the text is refused, a line isn't ok, or a vector fails
   2  the words, the base or the vector file are refused
   3  memory ran out, or a file or a device failed
@@ -32,9 +32,16 @@ const VECTORS_EXAMPLES: &str =
 Example:
   urlcheck vectors vectors/standard.json";
 
-/// The commands of the program `urlcheck`.
-pub(crate) fn urlcheck<'a>(alloc: Global) -> Result<Command<'a>, AllocError>
-    ensures { IfOk result (λ c. app_of c ≡ urlcheck) }
+const EXPLAIN_EXAMPLES: &str =
+    "Prints what the rule asks, its section of the URL Standard, and a text that it refuses.
+Without RULE it prints this of each rule.
+
+Example:
+  urlcheck explain host-missing";
+
+/// The commands of the program `urlcheck`, where the RULE of `explain` is one of the names.
+pub(crate) fn urlcheck<'a>(alloc: Global, rules: &'a [&'a str]) -> Result<Command<'a>, AllocError>
+    ensures { IfOk result (λ c. app_of c ≡ urlcheck rules.entry) }
 {
     Command::new(alloc, "urlcheck")
         .version("0.1.0")
@@ -43,7 +50,8 @@ pub(crate) fn urlcheck<'a>(alloc: Global) -> Result<Command<'a>, AllocError>
         .subcommand_required(true)
         .subcommand(check(alloc)?)?
         .subcommand(links(alloc)?)?
-        .subcommand(vectors(alloc)?)
+        .subcommand(vectors(alloc)?)?
+        .subcommand(explain(alloc, rules)?)
 }
 
 fn check<'a>(alloc: Global) -> Result<Command<'a>, AllocError>
@@ -75,6 +83,15 @@ fn vectors<'a>(alloc: Global) -> Result<Command<'a>, AllocError>
         .about("Runs the vectors of a file")
         .after_help(VECTORS_EXAMPLES)
         .arg(file(alloc))
+}
+
+fn explain<'a>(alloc: Global, rules: &'a [&'a str]) -> Result<Command<'a>, AllocError>
+    ensures { IfOk result (IsApp (explain_command rules.entry)) }
+{
+    Command::new(alloc, "explain")
+        .about("Says what a rule asks")
+        .after_help(EXPLAIN_EXAMPLES)
+        .arg(name(alloc, rules))
 }
 
 fn base<'a>(alloc: Global) -> Arg<'a>
@@ -123,4 +140,13 @@ fn file<'a>(alloc: Global) -> Arg<'a>
     Arg::new(alloc, "FILE")
         .required(true)
         .help("The file of vectors, a JSON array")
+}
+
+fn name<'a>(alloc: Global, rules: &'a [&'a str]) -> Arg<'a>
+    ensures rule { rule_of result ≡ name_rule rules.entry }
+    ensures local { result.global ≡ false }
+{
+    Arg::new(alloc, "RULE")
+        .value_parser(rules)
+        .help("The rule's name; without it, each rule is explained")
 }

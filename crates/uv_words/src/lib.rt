@@ -2,6 +2,7 @@
 #![tactic(auto)]
 
 mod commands;
+mod rules;
 mod words;
 
 pub use words::{Job, WordsFault, read_words};

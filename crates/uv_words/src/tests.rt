@@ -7,7 +7,7 @@ use std::test::Fail;
 // Words behind the program's name, and the job that they ask for.
 #[test]
 fn reads_jobs(rt: HostRuntime) -> Result<(), Fail> {
-    let rows: [(&[&str], &str); 10] = [
+    let rows: [(&[&str], &str); 12] = [
         (
             &["urlcheck", "check", ""],
             "Ok(Some(Check { text: \"\", base: None, all: false, wide: false }))",
@@ -48,6 +48,11 @@ fn reads_jobs(rt: HostRuntime) -> Result<(), Fail> {
             &["urlcheck", "vectors", "a b"],
             "Ok(Some(Vectors { file: \"a b\" }))",
         ),
+        (&["urlcheck", "explain"], "Ok(Some(Explain { rule: None }))"),
+        (
+            &["urlcheck", "explain", "host-missing"],
+            "Ok(Some(Explain { rule: Some(\"host-missing\") }))",
+        ),
     ];
     for (words, want) in rows {
         let asked = read_words(rt.alloc(), words);
@@ -68,7 +73,7 @@ fn kind_of(asked: &Result<Option<Job>, WordsFault>) -> Option<ErrorKind> {
 // Words that ask for no job, and why.
 #[test]
 fn refuses_words(rt: HostRuntime) {
-    let rows: [(&[&str], ErrorKind); 12] = [
+    let rows: [(&[&str], ErrorKind); 16] = [
         (&["urlcheck"], ErrorKind::MissingSubcommand),
         (&["urlcheck", "-x"], ErrorKind::UnknownArgument),
         (&["urlcheck", "chek", "a"], ErrorKind::InvalidSubcommand),
@@ -81,6 +86,13 @@ fn refuses_words(rt: HostRuntime) {
         ),
         (&["urlcheck", "links", "x"], ErrorKind::UnknownArgument),
         (&["urlcheck", "vectors"], ErrorKind::MissingRequiredArgument),
+        (&["urlcheck", "explain", "host"], ErrorKind::InvalidValue),
+        (&["urlcheck", "explain", "PERCENT"], ErrorKind::InvalidValue),
+        (&["urlcheck", "explain", ""], ErrorKind::InvalidValue),
+        (
+            &["urlcheck", "explain", "percent", "percent"],
+            ErrorKind::UnknownArgument,
+        ),
         (&["urlcheck", "--help"], ErrorKind::DisplayHelp),
         (&["urlcheck", "check", "--help"], ErrorKind::DisplayHelp),
         (&["urlcheck", "--version"], ErrorKind::DisplayVersion),

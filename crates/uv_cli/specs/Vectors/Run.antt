@@ -44,8 +44,8 @@ EndsValueUnjudged value ends.NotArray = as_array value ≡ None
 EndsValueUnjudged value (ends.Malformed number) = HasArray value (IsFirstMalformed number)
 EndsValueUnjudged value _ = ⊥
 
--- A run that judges no case of the bytes ends so: there are too many; else they are no JSON; else no array; else a value
--- of it is no case.
+-- A run that judges no case of the bytes ends so: there are too many; else they are no JSON; else no array; else a
+-- value of it is no case.
 abbrev pub EndsUnjudged : List ℕ → VectorEnd → Type 0
 EndsUnjudged bytes ends.TooLarge = MOST_BYTES < length bytes
 EndsUnjudged bytes ends.NotJson = (length bytes ≤ MOST_BYTES) × ((value : Data) → IsJson bytes value → ⊥)
@@ -86,4 +86,5 @@ WritesVectors bytes end old new = EndsUnjudged bytes end
 -- a front of the report was written
 abbrev pub WritesVectorsFront : List ℕ → Option (List ℕ) → Option (List ℕ) → Type 0
 WritesVectorsFront bytes old new =
-    (end : VectorEnd) × (text : List ℕ) × IsFileReport bytes end text × ((count : ℕ) × Appends old new (take count text))
+    (end : VectorEnd) × (text : List ℕ) × IsFileReport bytes end text
+    × ((count : ℕ) × Appends old new (take count text))

@@ -1,9 +1,11 @@
-//! Checks over sinks that play a list of answers: each write fails in turn, behind short ones, in both profiles.
+//! Checks over sinks that play a list of answers: each write fails in turn, behind short ones, in both profiles, of the
+//! least complaint and of all of them.
 
 use super::*;
+use crate::check::{Complaints, run_faults};
 use uv_model::ScriptSink;
 
-// A text, its base, the profile, and what a check writes of it.
+// A text, its base, the profile, and what is written of it.
 #[derive(Clone, Copy)]
 struct Row<'r> {
     text: &'r str,
@@ -15,7 +17,8 @@ struct Row<'r> {
 const LONG_OUTPUT: &str =
     "valid\nscheme https\nhost domain example.com\nsegment b\nquery x=%27y%27\nfragment %C3%A9\n";
 
-const ROWS: [Row<'static>; 6] = [
+// What a check writes with the least complaint alone.
+const LEAST: [Row<'static>; 6] = [
     Row {
         text: "https://EXAMPLE.com:443/a/../b?x='y'#\u{E9}",
         base: None,
@@ -54,6 +57,46 @@ const ROWS: [Row<'static>; 6] = [
     },
 ];
 
+// What a check writes with all complaints.
+const ALL: [Row<'static>; 6] = [
+    Row {
+        text: "https://EXAMPLE.com:443/a/../b?x='y'#\u{E9}",
+        base: None,
+        profile: Profile::Standard,
+        output: LONG_OUTPUT,
+    },
+    Row {
+        text: "/D:?q",
+        base: Some("file:///C:/d/f"),
+        profile: Profile::Wide,
+        output: "valid\nscheme file\nhost empty\nsegment D:\nquery q\n",
+    },
+    Row {
+        text: "http://x_y//a b",
+        base: None,
+        profile: Profile::Standard,
+        output: "refused 7 host-domain\nrefused 11 first-segment-empty\nrefused 13 code-point\n",
+    },
+    Row {
+        text: "http://x_y//a b",
+        base: None,
+        profile: Profile::Wide,
+        output: "refused 13 code-point\n",
+    },
+    Row {
+        text: "a b?%4",
+        base: Some("http://h/"),
+        profile: Profile::Standard,
+        output: "refused 1 code-point\nrefused 4 percent\n",
+    },
+    Row {
+        text: "a b?%4",
+        base: Some("http://x_y//"),
+        profile: Profile::Wide,
+        output: "refused 1 code-point\nrefused 4 percent\n",
+    },
+];
+
 // More writes than a check of the rows makes.
 const MOST_WRITES: usize = 200;
 
@@ -61,11 +104,16 @@ const MOST_WRITES: usize = 200;
 // output is written.
 fn writes_all(
     rt: &(impl Abort + AllocGlobal),
+    complaints: Complaints,
     row: &Row<'_>,
     writes: &[Result<usize, DeviceFault>],
 ) -> Result<bool, Fail> {
     let mut out = ScriptSink::new(rt.alloc(), row.output.len(), writes)?;
-    let answer = run_check(rt.alloc(), row.text, row.base, row.profile, &mut out);
+    let (alloc, text, base, profile) = (rt.alloc(), row.text, row.base, row.profile);
+    let answer = match complaints {
+        Complaints::Least => run_check(alloc, text, base, profile, &mut out),
+        Complaints::All => run_faults(alloc, text, base, profile, &mut out),
+    };
     if answer.is_ok() {
         assert_eq!(rt; out.bytes(), row.output.as_bytes());
         return Ok(true);
@@ -80,12 +128,13 @@ fn writes_all(
 // Each write behind so many short ones fails in turn, until none does.
 fn fails_each_write(
     rt: &(impl Abort + AllocGlobal),
+    complaints: Complaints,
     row: &Row<'_>,
     length: usize,
 ) -> Result<(), Fail> {
     let mut writes = Vec::new(rt.alloc());
     for _ in 0..MOST_WRITES {
-        if writes_all(rt, row, &writes)? {
+        if writes_all(rt, complaints, row, &writes)? {
             return Ok(());
         }
         writes.push(Ok(length))?;
@@ -93,14 +142,28 @@ fn fails_each_write(
     Err("no check was whole".into())
 }
 
-#[test]
-fn tells_each_failed_write(rt: HostRuntime) -> Result<(), Fail> {
-    for row in &ROWS {
+// Of each row, each write behind short ones of every length fails in turn.
+fn tells_each(
+    rt: &(impl Abort + AllocGlobal),
+    complaints: Complaints,
+    rows: &[Row<'_>],
+) -> Result<(), Fail> {
+    for row in rows {
         for length in 1..8 {
-            fails_each_write(&rt, row, length)?;
+            fails_each_write(rt, complaints, row, length)?;
         }
     }
     Ok(())
+}
+
+#[test]
+fn tells_each_failed_write(rt: HostRuntime) -> Result<(), Fail> {
+    tells_each(&rt, Complaints::Least, &LEAST)
+}
+
+#[test]
+fn tells_each_failed_write_of_all_faults(rt: HostRuntime) -> Result<(), Fail> {
+    tells_each(&rt, Complaints::All, &ALL)
 }
 
 // A sink that takes nothing, and one whose write fails within the output.

@@ -8,7 +8,7 @@ ghost use Rattle.uv_grammar.specs.Verdict.{IsRefused};
 ghost use Rattle.uv_links.specs.Report.{DenotesText};
 ghost use Rattle.uv_cli.specs.Vectors.Case.{Expectation, Vector, base_of, expected_of, has_known_keys, is_known, refusal_of, vector_of};
 ghost use Rattle.uv_cli.specs.Vectors.Passes.{IsAsExpected, Judges, Passes, PassesAgainst};
-ghost use Rattle.uv_cli.specs.Vectors.Seen.{expected_seen, value_seen};
+ghost use Rattle.uv_cli.specs.Vectors.Views.{expected_view, value_view};
 
 use serde_json::{Map, Value};
 use std::alloc::{AllocError, Global};
@@ -36,14 +36,14 @@ pub(crate) struct VectorCase<'v> {
 impl<'v> Model for VectorCase<'v> {
     ghost use Rattle.std.specs.Prelude.{option_copied};
     ghost use Rattle.uv_cli.specs.Vectors.Case.{Vector};
-    ghost use Rattle.uv_cli.specs.Vectors.Seen.{expected_seen};
+    ghost use Rattle.uv_cli.specs.Vectors.Views.{expected_view};
 
     ghost Value = { Vector };
 
     ghost view = { λ c. record {
       input = c.input.now;
       base = option_copied c.base;
-      expected = expected_seen c.expected;
+      expected = expected_view c.expected;
     } };
 }
 
@@ -170,7 +170,7 @@ fn all_keys_known(members: &Map<String, Value>) -> bool
 
 // The base: none where the key is absent or null. Nothing where the value is neither null nor a string.
 fn base_in<'v>(found: Option<&'v Value>) -> Option<Option<&'v str>>
-    ensures { option_map option_copied result ≡ base_of (value_seen found.entry) }
+    ensures { option_map option_copied result ≡ base_of (value_view found.entry) }
 {
     match found {
         None => Some(None),
@@ -188,8 +188,8 @@ fn expected_in<'v>(
     place: Option<&'v Value>,
     rule: Option<&'v Value>,
 ) -> Option<Expected<'v>>
-    ensures { option_map expected_seen result
-        ≡ expected_of (value_seen text.entry) (value_seen place.entry) (value_seen rule.entry) }
+    ensures { option_map expected_view result
+        ≡ expected_of (value_view text.entry) (value_view place.entry) (value_view rule.entry) }
 {
     match (text, place, rule) {
         (Some(text), None, None) => Some(Expected::Text(text.as_str()?)),

@@ -10,8 +10,8 @@ returns-in-None c =
     let case = c.args.self.now in
     let base : case.base ≡ None =
     sym (ap (λ (v : Vector). v.base) c.self.view_is) ∙ ap option_copied c.in-None.is in
-    subst (λ b. IfOk c.is_as_expected.result (λ answer. Decides answer (PassesAgainst b case.input case.expected))) (sym base)
-    c.is_as_expected.ensures
+    subst (λ b. IfOk c.is_as_expected.result (λ answer. Decides answer (PassesAgainst b case.input case.expected)))
+    (sym base) c.is_as_expected.ensures
 
 pub returns-in-Some : goal.returns-in-Some
 returns-in-Some c =

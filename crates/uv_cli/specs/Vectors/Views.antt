@@ -1,4 +1,4 @@
--- What the code's values are seen as.
+-- The views of the code's values.
 use Rattle.std.specs.Prelude.{List, ℕ, Option, option_map}
 use Rattle.std.specs.Borrow.{Bor}
 use Rattle.serde_json.specs.Data.{Data}
@@ -9,10 +9,10 @@ use Rattle.uv_cli.specs.declared.vectors.case.Expected.TheVariants as expected
 use Rattle.uv_cli.specs.Vectors.Case.{Expectation, denotes, refuses}
 
 -- the data of a value that was found
-abbrev pub value_seen : Option (Bor Value) → Option Data
-value_seen found = option_map (λ value. view value.now) found
+abbrev pub value_view : Option (Bor Value) → Option Data
+value_view found = option_map (λ value. view value.now) found
 
 -- what a case expects
-abbrev pub expected_seen : Expected → Expectation
-expected_seen (expected.Text text) = denotes text.now
-expected_seen (expected.Refusal refusal) = refuses refusal
+abbrev pub expected_view : Expected → Expectation
+expected_view (expected.Text text) = denotes text.now
+expected_view (expected.Refusal refusal) = refuses refusal

@@ -1,0 +1,52 @@
+-- What an explanation of a rule says: the rule, what it asks, its section of the URL Standard, a text that is refused
+-- by it, and that text mended.
+use Rattle.std.specs.Prelude.{◌≡◌, ℕ, List, [], ◌∷◌, ◌++◌, codes, flat_map, Option, Some, None, option_map, take}
+use Rattle.std.specs.Borrow.{Bor}
+use Rattle.std.specs.Io.KnownBytes.{Appends}
+use Rattle.uv_model.specs.declared.rule.Rule.{Rule}
+use Rattle.uv_model.specs.Complaints.Rule.{named_rule, rule_name, rule_sentence, rules_in_order}
+use Rattle.uv_report.specs.Explanation.{rule_asks, rule_base, rule_mended, rule_place, rule_section, rule_wrong}
+use Rattle.uv_cli.specs.declared.explain.ExplainEnd.{ExplainEnd}
+use Rattle.uv_cli.specs.declared.explain.ExplainEnd.TheVariants.{Explained, Unknown}
+use Rattle.uv_cli.specs.CheckText.{line, line_of, refused_text}
+
+-- the lines of a rule: its name, what is wrong at the place of a refusal, what the rule asks, and its section
+abbrev pub rule_lines : Rule → List ℕ
+rule_lines rule =
+    line (codes "rule ") (rule_name rule) ++ (line (codes "means ") (rule_sentence rule)
+    ++ (line (codes "asks ") (rule_asks rule) ++ line (codes "section ") (rule_section rule)))
+
+-- the lines of its example: the base, where there is one, the wrong text with what a check writes of it, and the text
+-- mended
+abbrev pub example_lines : Rule → List ℕ
+example_lines rule =
+    line_of (codes "base ") (rule_base rule) ++ (line (codes "text ") (rule_wrong rule)
+    ++ (refused_text (record { place = rule_place rule; rule = rule }) ++ line (codes "mended ") (rule_mended rule)))
+
+-- the explanation of a rule
+unfoldable pub explanation_text : Rule → List ℕ
+explanation_text rule = rule_lines rule ++ example_lines rule
+
+-- an explanation behind another one, with an empty line between the two
+abbrev pub next_text : Rule → List ℕ
+next_text rule = codes "\n" ++ explanation_text rule
+
+-- the explanations of rules
+abbrev pub explanations_text : List Rule → List ℕ
+explanations_text [] = []
+explanations_text (rule ∷ rest) = explanation_text rule ++ flat_map next_text rest
+
+-- what is written where this name is asked for, or none; nothing where it is the name of no rule
+abbrev pub explained : Option (Bor (List ℕ)) → Option (List ℕ)
+explained None = Some (explanations_text rules_in_order)
+explained (Some name) = option_map explanation_text (named_rule name.now)
+
+-- what was asked for was written, or it is the name of no rule
+abbrev pub HasExplained : Option (Bor (List ℕ)) → ExplainEnd → Option (List ℕ) → Option (List ℕ) → Type 0
+HasExplained rule Explained old new = (text : List ℕ) × (explained rule ≡ Some text) × Appends old new text
+HasExplained rule Unknown old new = explained rule ≡ None
+
+-- a front of what was asked for was written
+abbrev pub HasExplainedFront : Option (Bor (List ℕ)) → Option (List ℕ) → Option (List ℕ) → Type 0
+HasExplainedFront rule old new =
+    (text : List ℕ) × (explained rule ≡ Some text) × ((count : ℕ) × Appends old new (take count text))

@@ -1,0 +1,131 @@
+//! The command `explain`: what a rule asks, its section of the URL Standard, and an example, of one rule or of each.
+ghost use Rattle.std.specs.Prelude.{◌≡◌, ◌++◌, ◌+◌, ◌-◌, ◌^◌, ◌<◌, IfOk, OnOk, option_map, string_bytes};
+ghost use Rattle.uv_cli.specs.Explain.{HasExplained, HasExplainedFront, example_lines, explained, explanation_text};
+ghost use Rattle.uv_cli.specs.Explain.{explanations_text, rule_lines};
+ghost use Rattle.uv_model.specs.Complaints.Rule.{rules_in_order};
+
+use crate::fault::CliFault;
+use crate::report::{push_line, push_present, refused_line};
+use std::alloc::{AllocError, Global};
+use uv_model::{DeviceFault, Refusal, Rule, Sink, write_whole};
+use uv_report::explain;
+
+/// How an explanation ends.
+#[derive(Clone, Copy, Debug, PartialEq, Eq)]
+pub enum ExplainEnd {
+    /// What was asked for was written.
+    Explained,
+    /// The name is that of no rule. Nothing was written.
+    Unknown,
+}
+
+/// Writes what the rule with a name asks, where it stands, and an example; without a name it writes this of each rule,
+/// in the order of their numbers, with an empty line between two.
+///
+/// An error of memory leaves the output as it was; an error of a write leaves a beginning of what was to be written.
+pub fn run_explain<S: Sink>(
+    alloc: Global,
+    rule: Option<&str>,
+    out: &mut S,
+) -> Result<ExplainEnd, CliFault>
+    requires { S.failed out.old < 2 ^ 64 - 1 }
+    ensures written { IfOk result (λ end. HasExplained rule.entry end (S.contents out.old) (S.contents out.new)) }
+    ensures unknown { result ≡ Ok ExplainEnd.Unknown → out.new ≡ out.old }
+    ensures quiet { OnOk result (S.failed out.new ≡ S.failed out.old) }
+    ensures memory { result ≡ Err CliFault.Memory → out.new ≡ out.old }
+    ensures front { result ≡ Err CliFault.Write →
+        HasExplainedFront rule.entry (S.contents out.old) (S.contents out.new) }
+    ensures failed { result ≡ Err CliFault.Write → S.failed out.new ≡ S.failed out.old + 1 }
+{
+    let Some(text) = text_of(alloc, rule)? else {
+        return Ok(ExplainEnd::Unknown);
+    };
+    match write_whole(out, text.as_bytes()) {
+        Ok(()) => Ok(ExplainEnd::Explained),
+        Err(DeviceFault) => Err(CliFault::Write),
+    }
+}
+
+// What is written where this name is asked for, or none.
+fn text_of(alloc: Global, rule: Option<&str>) -> Result<Option<String>, AllocError>
+    ensures { IfOk result (λ text. option_map string_bytes text ≡ explained rule.entry) }
+{
+    let Some(name) = rule else {
+        return Ok(Some(explanations(alloc, rules_in_order().as_slice())?));
+    };
+    match Rule::of_name(name) {
+        Some(rule) => Ok(Some(explanation(alloc, rule)?)),
+        None => Ok(None),
+    }
+}
+
+// The rules in the order of their numbers.
+fn rules_in_order() -> [Rule; 14]
+    ensures { result ≡ rules_in_order }
+{
+    [
+        Rule::NoScheme,
+        Rule::OpaqueBase,
+        Rule::TwoSlashes,
+        Rule::HostMissing,
+        Rule::HostDomain,
+        Rule::HostNumber,
+        Rule::HostIpv6,
+        Rule::HostCodePoint,
+        Rule::PortDigit,
+        Rule::PortRange,
+        Rule::FirstSegmentEmpty,
+        Rule::DriveAfterHost,
+        Rule::CodePoint,
+        Rule::Percent,
+    ]
+}
+
+// The explanations of rules, with an empty line between two.
+fn explanations(alloc: Global, rules: &[Rule]) -> Result<String, AllocError>
+    ensures { IfOk result (λ text. string_bytes text ≡ explanations_text rules.now) }
+{
+    let Some((first, rest)) = rules.split_first() else {
+        return Ok(String::new(alloc));
+    };
+    let mut text = explanation(alloc, *first)?;
+    for rule in rest {
+        text.push_str("\n")?;
+        text.push_str(explanation(alloc, *rule)?.as_str())?;
+    }
+    Ok(text)
+}
+
+// The explanation of a rule.
+#[tactic(auto, unfolding(crate::specs::Explain::explanation_text))]
+fn explanation(alloc: Global, rule: Rule) -> Result<String, AllocError>
+    ensures { IfOk result (λ text. string_bytes text ≡ explanation_text rule) }
+{
+    let mut text = String::new(alloc);
+    push_rule(&mut text, rule)?;
+    push_example(alloc, &mut text, rule)?;
+    Ok(text)
+}
+
+// Pushes what a rule is called, what it asks, and where it stands.
+fn push_rule(text: &mut String, rule: Rule) -> Result<(), AllocError>
+    ensures { OnOk result (string_bytes text.new ≡ string_bytes text.old ++ rule_lines rule) }
+{
+    let explanation = explain(rule);
+    push_line(text, "rule ", rule.name())?;
+    push_line(text, "means ", rule.sentence())?;
+    push_line(text, "asks ", explanation.asks)?;
+    push_line(text, "section ", explanation.section)
+}
+
+// Pushes a text that a rule refuses, and that text mended.
+fn push_example(alloc: Global, text: &mut String, rule: Rule) -> Result<(), AllocError>
+    ensures { OnOk result (string_bytes text.new ≡ string_bytes text.old ++ example_lines rule) }
+{
+    let explanation = explain(rule);
+    let place = explanation.place;
+    push_present(text, "base ", explanation.base)?;
+    push_line(text, "text ", explanation.wrong)?;
+    text.push_str(refused_line(alloc, Refusal { place, rule })?.as_str())?;
+    push_line(text, "mended ", explanation.mended)
+}

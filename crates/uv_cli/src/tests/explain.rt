@@ -1,0 +1,96 @@
+//! Explanations of rules: their lines, as docs/RULES.md and the README's table have them, and each failed write.
+
+use crate::explain::{ExplainEnd, run_explain};
+use crate::fault::CliFault;
+use std::process::Abort;
+use std::test::Fail;
+use uv_model::{DeviceFault, ScriptSink, Sink, ToWriter};
+
+const HOST_MISSING: &str = "rule host-missing
+means a host has to stand here
+asks Behind //, ftp, http, https, ws and wss have a host, file a host or a path, and a port follows a host.
+section 3.4, 4.3
+text https:///a
+refused 8 host-missing
+mended https://example.com/a
+";
+
+const OPAQUE_BASE: &str = "rule opaque-base
+means there is no scheme, the base has an opaque path, and the text isn't # and a fragment
+asks Against a base whose path is opaque, a text without a scheme is # and a fragment, and nothing else.
+section 4.3 and 4.4, no scheme state
+base urn:isbn:0451450523
+text x
+refused 0 opaque-base
+mended #x
+";
+
+// The names of the rules, in the order of docs/RULES.md.
+const NAMES: &str =
+    "no-scheme opaque-base two-slashes host-missing host-domain host-number host-ipv6 host-code-point \
+    port-digit port-range first-segment-empty drive-after-host code-point percent";
+
+// What is written where this name is asked for, or none.
+fn written(
+    rt: &(impl Abort + AllocGlobal),
+    rule: Option<&str>,
+) -> Result<(ExplainEnd, Vec<u8>), Fail> {
+    let mut out = ToWriter::new(Vec::new(rt.alloc()));
+    let end = run_explain(rt.alloc(), rule, &mut out)?;
+    Ok((end, out.into_writer()))
+}
+
+#[test]
+fn explains_a_rule(rt: HostRuntime) -> Result<(), Fail> {
+    for (name, want) in [("host-missing", HOST_MISSING), ("opaque-base", OPAQUE_BASE)] {
+        let (end, lines) = written(&rt, Some(name))?;
+        assert_eq!(rt; end, ExplainEnd::Explained);
+        assert_eq!(rt; lines.as_slice(), want.as_bytes());
+    }
+    Ok(())
+}
+
+// Without a name each rule is explained as with its own, and an empty line stands between two.
+#[test]
+fn explains_each_rule(rt: HostRuntime) -> Result<(), Fail> {
+    let mut want = Vec::new(rt.alloc());
+    for name in NAMES.split(' ') {
+        if !want.is_empty() {
+            want.push(b'\n')?;
+        }
+        let (end, lines) = written(&rt, Some(name))?;
+        assert_eq!(rt; end, ExplainEnd::Explained, "at {name}");
+        want.extend_from_slice(lines.as_slice())?;
+    }
+    let (end, lines) = written(&rt, None)?;
+    assert_eq!(rt; end, ExplainEnd::Explained);
+    assert_eq!(rt; lines.as_slice(), want.as_slice());
+    Ok(())
+}
+
+// The names of no rule: nothing is written.
+#[test]
+fn knows_no_other_names(rt: HostRuntime) -> Result<(), Fail> {
+    for name in ["", "host", "Percent", "percent ", "not-utf8", "no-scheme\n"] {
+        let (end, lines) = written(&rt, Some(name))?;
+        assert_eq!(rt; end, ExplainEnd::Unknown, "at {name}");
+        assert!(rt; lines.is_empty(), "at {name}");
+    }
+    Ok(())
+}
+
+// Each write behind so many short ones fails in turn: a beginning is written.
+#[test]
+fn tells_each_failed_write(rt: HostRuntime) -> Result<(), Fail> {
+    let mut writes: Vec<Result<usize, DeviceFault>> = Vec::new(rt.alloc());
+    for _ in 0..HOST_MISSING.len() / 7 {
+        let mut out = ScriptSink::new(rt.alloc(), HOST_MISSING.len(), writes.as_slice())?;
+        let answer = run_explain(rt.alloc(), Some("host-missing"), &mut out);
+        assert_eq!(rt; answer, Err(CliFault::Write));
+        assert_eq!(rt; out.failures(), 1);
+        assert_eq!(rt; out.bytes().len(), 7 * writes.len());
+        assert!(rt; HOST_MISSING.as_bytes().starts_with(out.bytes()));
+        writes.push(Ok(7))?;
+    }
+    Ok(())
+}

@@ -1,0 +1,23 @@
+-- A diagnostic as a workflow command of GitHub (Workflow commands for GitHub Actions, Setting an error message).
+use Rattle.std.specs.Prelude.{ℕ, List, ◌++◌, codes, decimal}
+use Rattle.uv_report.specs.declared.diagnostic.Diagnostic.{Diagnostic}
+use Rattle.uv_report.specs.declared.escapes.Escapes.TheVariants.{Message, Property}
+use Rattle.uv_report.specs.declared.finding.Finding.{Finding}
+use Rattle.uv_report.specs.Escapes.{escaped}
+use Rattle.uv_report.specs.Finding.{finding_column, finding_name, finding_sentence}
+
+-- `::error file=FILE,line=LINE,col=COLUMN`
+unfoldable pub command_place : Diagnostic → List ℕ
+command_place diagnostic =
+    codes "::error file=" ++ (escaped Property diagnostic.file.now ++ (codes ",line=" ++ (decimal diagnostic.line
+    ++ (codes ",col=" ++ decimal (finding_column diagnostic.finding)))))
+
+-- `,title=RULE::SENTENCE` and a line feed
+unfoldable pub command_text : Finding → List ℕ
+command_text finding =
+    codes ",title=" ++ (escaped Property (finding_name finding) ++ (codes "::"
+    ++ (escaped Message (finding_sentence finding) ++ codes "\n")))
+
+-- the whole command
+unfoldable pub github_text : Diagnostic → List ℕ
+github_text diagnostic = command_place diagnostic ++ command_text diagnostic.finding

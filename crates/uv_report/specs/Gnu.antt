@@ -1,0 +1,22 @@
+-- A diagnostic as compilers write it (GNU Coding Standards, Formatting Error Messages).
+use Rattle.std.specs.Prelude.{ℕ, List, ◌++◌, codes, decimal}
+use Rattle.uv_report.specs.declared.diagnostic.Diagnostic.{Diagnostic}
+use Rattle.uv_report.specs.declared.escapes.Escapes.TheVariants.{Shown}
+use Rattle.uv_report.specs.declared.finding.Finding.{Finding}
+use Rattle.uv_report.specs.Escapes.{escaped}
+use Rattle.uv_report.specs.Finding.{finding_column, finding_name, finding_sentence}
+
+-- `FILE:LINE:COLUMN`
+unfoldable pub gnu_position : Diagnostic → List ℕ
+gnu_position diagnostic =
+    escaped Shown diagnostic.file.now ++ (codes ":" ++ (decimal diagnostic.line ++ (codes ":"
+    ++ decimal (finding_column diagnostic.finding))))
+
+-- `: error: SENTENCE [RULE]` and a line feed
+unfoldable pub gnu_words : Finding → List ℕ
+gnu_words finding =
+    codes ": error: " ++ (finding_sentence finding ++ (codes " [" ++ (finding_name finding ++ codes "]\n")))
+
+-- `FILE:LINE:COLUMN: error: SENTENCE [RULE]` and a line feed
+unfoldable pub gnu_text : Diagnostic → List ℕ
+gnu_text diagnostic = gnu_position diagnostic ++ gnu_words diagnostic.finding

@@ -1,0 +1,22 @@
+-- A diagnostic as an object of JSON.
+use Rattle.std.specs.Prelude.{ℕ, List, ◌++◌, codes}
+use Rattle.serde_json.specs.Data.{Data, number, unsigned, string, object, member, no_members}
+use Rattle.serde_json.specs.Written.{compact_text}
+use Rattle.uv_report.specs.declared.diagnostic.Diagnostic.{Diagnostic}
+use Rattle.uv_report.specs.declared.escapes.Escapes.TheVariants.{Shown}
+use Rattle.uv_report.specs.Escapes.{escaped}
+use Rattle.uv_report.specs.Finding.{finding_column, finding_name, finding_sentence}
+
+-- the object of a diagnostic, its members by their names' order
+abbrev pub json_value : Diagnostic → Data
+json_value diagnostic =
+    object (member (codes "column") (number (unsigned (finding_column diagnostic.finding)))
+    (member (codes "file") (string diagnostic.file.now)
+    (member (codes "line") (number (unsigned diagnostic.line))
+    (member (codes "message") (string (finding_sentence diagnostic.finding))
+    (member (codes "rule") (string (finding_name diagnostic.finding))
+    (member (codes "text") (string (escaped Shown diagnostic.text.now)) no_members))))))
+
+-- its text without spaces, and a line feed
+unfoldable pub json_text : Diagnostic → List ℕ
+json_text diagnostic = compact_text (json_value diagnostic) ++ codes "\n"

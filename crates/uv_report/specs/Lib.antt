@@ -1,0 +1,12 @@
+-- The definitions, in the order in which to read them.
+pub mod Explanation
+pub mod Finding
+pub mod Escapes
+pub mod Format
+pub mod Gnu
+pub mod Caret
+pub mod Github
+pub mod Checkstyle
+pub mod Json
+pub mod Sarif
+pub mod Report

@@ -1,0 +1,43 @@
+-- What a report is made of, in each format: a beginning, for each file with diagnostics a beginning of its own, its
+-- diagnostics and an end, and then an end.
+use Rattle.std.specs.Prelude.{ℕ, Bool, List, []}
+use Rattle.uv_report.specs.declared.diagnostic.Diagnostic.{Diagnostic}
+use Rattle.uv_report.specs.declared.format.Format.{Format}
+use Rattle.uv_report.specs.declared.format.Format.TheVariants.{Gnu, Caret, Json, Github, Sarif, Checkstyle}
+use Rattle.uv_report.specs.Caret.{caret_text}
+use Rattle.uv_report.specs.Checkstyle.{checkstyle_text, document_begin, document_end, file_begin, file_end}
+use Rattle.uv_report.specs.Github.{github_text}
+use Rattle.uv_report.specs.Gnu.{gnu_text}
+use Rattle.uv_report.specs.Json.{json_text}
+use Rattle.uv_report.specs.Sarif.{sarif_begin, sarif_end, sarif_text}
+
+-- what a report begins with
+abbrev pub begin_text : Format → List ℕ
+begin_text Sarif = sarif_begin
+begin_text Checkstyle = document_begin
+begin_text _ = []
+
+-- what stands before the diagnostics of a file
+abbrev pub file_begin_text : Format → List ℕ → List ℕ
+file_begin_text Checkstyle file = file_begin file
+file_begin_text _ file = []
+
+-- a diagnostic, which is the first one of the report or isn't
+abbrev pub diagnostic_text : Format → Bool → Diagnostic → List ℕ
+diagnostic_text Gnu is_first diagnostic = gnu_text diagnostic
+diagnostic_text Caret is_first diagnostic = caret_text diagnostic
+diagnostic_text Json is_first diagnostic = json_text diagnostic
+diagnostic_text Github is_first diagnostic = github_text diagnostic
+diagnostic_text Sarif is_first diagnostic = sarif_text is_first diagnostic
+diagnostic_text Checkstyle is_first diagnostic = checkstyle_text diagnostic
+
+-- what stands behind the diagnostics of a file
+abbrev pub file_end_text : Format → List ℕ
+file_end_text Checkstyle = file_end
+file_end_text _ = []
+
+-- what a report ends with
+abbrev pub end_text : Format → List ℕ
+end_text Sarif = sarif_end
+end_text Checkstyle = document_end
+end_text _ = []

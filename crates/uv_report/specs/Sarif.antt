@@ -1,0 +1,83 @@
+-- A diagnostic as a result of SARIF 2.1.0 (sections 3.27 to 3.30), and the document round the results.
+use Rattle.std.specs.Prelude.{ℕ, Bool, true, false, List, [], ◌++◌, codes, flat_map}
+use Rattle.percent_encoding.specs.Percent.{percent_encode}
+use Rattle.serde_json.specs.Data.{Data, number, unsigned, string, array, no_items, item, object, member, no_members}
+use Rattle.serde_json.specs.Written.{compact_text}
+use Rattle.uv_model.specs.declared.rule.Rule.{Rule}
+use Rattle.uv_model.specs.Complaints.Rule.{rules_in_order}
+use Rattle.uv_report.specs.declared.sarif.TheConstants.{NO_PATH}
+use Rattle.uv_report.specs.declared.diagnostic.Diagnostic.{Diagnostic}
+use Rattle.uv_report.specs.declared.finding.Finding.{Finding}
+use Rattle.uv_report.specs.declared.finding.Finding.TheVariants.{Refused, NotUtf8, TooLong}
+use Rattle.uv_report.specs.Finding.{finding_column, finding_help, finding_index, finding_name, finding_sentence}
+
+-- an object with a text alone
+abbrev pub message : List ℕ → Data
+message text = object (member (codes "text") (string text) no_members)
+
+-- ---- the rules (section 3.49)
+
+-- the rule of a finding
+abbrev pub rule_value : Finding → Data
+rule_value finding =
+    object (member (codes "help") (message (finding_help finding))
+    (member (codes "id") (string (finding_name finding))
+    (member (codes "shortDescription") (message (finding_sentence finding)) no_members)))
+
+-- its text
+unfoldable pub rule_text : Finding → List ℕ
+rule_text finding = compact_text (rule_value finding)
+
+-- a rule of valid URL strings behind a comma
+unfoldable pub next_rule : Rule → List ℕ
+next_rule rule = codes "," ++ rule_text (Refused (record { place = 0; rule = rule }))
+
+-- all of them, in the order of their indices
+unfoldable pub all_rules : List ℕ
+all_rules =
+    rule_text NotUtf8 ++ (codes "," ++ (rule_text TooLong ++ flat_map next_rule rules_in_order))
+
+-- ---- the document
+
+-- what it begins with
+unfoldable pub sarif_begin : List ℕ
+sarif_begin =
+    codes "{\"$schema\":\"https://json.schemastore.org/sarif-2.1.0.json\",\"version\":\"2.1.0\","
+    ++ (codes "\"runs\":[{\"columnKind\":\"unicodeCodePoints\",\"tool\":{\"driver\":{"
+    ++ (codes "\"name\":\"urlcheck\",\"version\":\"0.1.0\",\"rules\":["
+    ++ (all_rules ++ codes "]}},\"results\":[\n")))
+
+-- what it ends with
+abbrev pub sarif_end : List ℕ
+sarif_end = codes "]}]}\n"
+
+-- ---- the results
+
+-- where a diagnostic is: the file's name as the path of a URI reference, and the line and the column
+abbrev pub location_value : Diagnostic → Data
+location_value diagnostic =
+    object (member (codes "physicalLocation") (object
+    (member (codes "artifactLocation") (object
+    (member (codes "uri") (string (percent_encode NO_PATH diagnostic.file.now)) no_members))
+    (member (codes "region") (object
+    (member (codes "startColumn") (number (unsigned (finding_column diagnostic.finding)))
+    (member (codes "startLine") (number (unsigned diagnostic.line)) no_members))) no_members))) no_members)
+
+-- the result of a diagnostic
+abbrev pub result_value : Diagnostic → Data
+result_value diagnostic =
+    object (member (codes "level") (string (codes "error"))
+    (member (codes "locations") (array (item (location_value diagnostic) no_items))
+    (member (codes "message") (message (finding_sentence diagnostic.finding))
+    (member (codes "ruleId") (string (finding_name diagnostic.finding))
+    (member (codes "ruleIndex") (number (unsigned (finding_index diagnostic.finding))) no_members)))))
+
+-- a comma before each result but the first
+abbrev pub separator : Bool → List ℕ
+separator true = []
+separator false = codes ","
+
+-- a result, and a line feed
+unfoldable pub sarif_text : Bool → Diagnostic → List ℕ
+sarif_text is_first diagnostic =
+    separator is_first ++ (compact_text (result_value diagnostic) ++ codes "\n")

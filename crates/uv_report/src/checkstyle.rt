@@ -1,0 +1,58 @@
+//! Diagnostics as a document of Checkstyle, in XML.
+ghost use Rattle.std.specs.Prelude.{◌≡◌, ◌++◌, OnOk, string_bytes};
+ghost use Rattle.uv_report.specs.Checkstyle.{checkstyle_text, error_place, error_text, file_begin};
+
+use crate::diagnostic::Diagnostic;
+use crate::escapes::{Escapes, push_escaped};
+use crate::finding::Finding;
+use crate::gnu::push_number;
+use std::alloc::AllocError;
+
+/// Pushes the start tag of a file.
+#[tactic(auto, unfolding(crate::specs::Checkstyle::file_begin))]
+pub(crate) fn push_checkstyle_file(text: &mut String, file: &str) -> Result<(), AllocError>
+    ensures { OnOk result (string_bytes text.new ≡ string_bytes text.old ++ file_begin file.now) }
+{
+    text.push_str("<file name=\"")?;
+    push_escaped(text, file, Escapes::Attribute)?;
+    text.push_str("\">\n")?;
+    Ok(())
+}
+
+/// Pushes the element of a diagnostic, and a line feed.
+#[tactic(auto, unfolding(crate::specs::Checkstyle::checkstyle_text))]
+pub(crate) fn push_checkstyle(
+    text: &mut String,
+    diagnostic: &Diagnostic<'_>,
+) -> Result<(), AllocError>
+    ensures { OnOk result (string_bytes text.new ≡ string_bytes text.old ++ checkstyle_text diagnostic.now) }
+{
+    push_place(text, diagnostic)?;
+    push_message(text, diagnostic.finding)?;
+    Ok(())
+}
+
+// Pushes the element's name, the line and the column.
+#[tactic(auto, unfolding(crate::specs::Checkstyle::error_place))]
+fn push_place(text: &mut String, diagnostic: &Diagnostic<'_>) -> Result<(), AllocError>
+    ensures { OnOk result (string_bytes text.new ≡ string_bytes text.old ++ error_place diagnostic.now) }
+{
+    text.push_str("<error line=\"")?;
+    push_number(text, diagnostic.line)?;
+    text.push_str("\" column=\"")?;
+    push_number(text, diagnostic.finding.column() as u64)?;
+    text.push_str("\" severity=\"error\" message=\"")?;
+    Ok(())
+}
+
+// Pushes the finding's sentence and its name.
+#[tactic(auto, unfolding(crate::specs::Checkstyle::error_text))]
+fn push_message(text: &mut String, finding: Finding) -> Result<(), AllocError>
+    ensures { OnOk result (string_bytes text.new ≡ string_bytes text.old ++ error_text finding) }
+{
+    push_escaped(text, finding.sentence(), Escapes::Attribute)?;
+    text.push_str("\" source=\"urlcheck.")?;
+    push_escaped(text, finding.name(), Escapes::Attribute)?;
+    text.push_str("\"/>\n")?;
+    Ok(())
+}

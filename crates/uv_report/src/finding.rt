@@ -1,0 +1,81 @@
+//! What is wrong with a line.
+ghost use Rattle.std.specs.Prelude.{◌≡◌};
+ghost use Rattle.uv_report.specs.Finding.{finding_column, finding_help, finding_index, finding_name, finding_place, finding_sentence};
+
+use crate::explanation::explain;
+use uv_model::Refusal;
+
+/// What is wrong with a line of a file: as a text it is refused, or it is no text that is judged.
+#[derive(Clone, Copy, Debug, PartialEq, Eq)]
+pub enum Finding {
+    /// The line violates a rule of valid URL strings at a place.
+    Refused(Refusal),
+    /// The line isn't UTF-8.
+    NotUtf8,
+    /// The line has more than 65,536 bytes.
+    TooLong,
+}
+
+impl Finding {
+    /// The name of the violated rule, else `not-utf8` or `line-too-long`.
+    pub fn name(self) -> &'static str
+        ensures { result.now ≡ finding_name self }
+    {
+        match self {
+            Finding::Refused(refusal) => refusal.rule.name(),
+            Finding::NotUtf8 => "not-utf8",
+            Finding::TooLong => "line-too-long",
+        }
+    }
+
+    /// What is wrong, in a sentence without its end.
+    pub fn sentence(self) -> &'static str
+        ensures { result.now ≡ finding_sentence self }
+    {
+        match self {
+            Finding::Refused(refusal) => refusal.rule.sentence(),
+            Finding::NotUtf8 => "this line isn't UTF-8",
+            Finding::TooLong => "this line has more than 65536 bytes",
+        }
+    }
+
+    /// What a line is asked, in a sentence or two.
+    pub fn help(self) -> &'static str
+        ensures { result.now ≡ finding_help self }
+    {
+        match self {
+            Finding::Refused(refusal) => explain(refusal.rule).asks,
+            Finding::NotUtf8 => "A line is a text in UTF-8.",
+            Finding::TooLong => "A line has at most 65536 bytes.",
+        }
+    }
+
+    /// Where its rule stands among all that can be wrong, from 0: the two that are no refusal come first.
+    pub(crate) fn index(self) -> u64
+        ensures { result ≡ finding_index self }
+    {
+        match self {
+            Finding::Refused(refusal) => u64::from(refusal.rule.number()) + 1,
+            Finding::NotUtf8 => 0,
+            Finding::TooLong => 1,
+        }
+    }
+
+    /// The place at which it is wrong: a number of code points from the line's start, from 0. It is 0 for a line that
+    /// isn't judged.
+    pub fn place(self) -> usize
+        ensures { result ≡ finding_place self }
+    {
+        match self {
+            Finding::Refused(refusal) => refusal.place,
+            Finding::NotUtf8 | Finding::TooLong => 0,
+        }
+    }
+
+    /// The column of that place: columns count from 1.
+    pub fn column(self) -> usize
+        ensures { result ≡ finding_column self }
+    {
+        self.place().saturating_add(1)
+    }
+}

@@ -1,0 +1,46 @@
+//! Diagnostics as workflow commands of GitHub.
+ghost use Rattle.std.specs.Prelude.{◌≡◌, ◌++◌, OnOk, string_bytes};
+ghost use Rattle.uv_report.specs.Github.{command_place, command_text, github_text};
+
+use crate::diagnostic::Diagnostic;
+use crate::escapes::{Escapes, push_escaped};
+use crate::finding::Finding;
+use crate::gnu::push_number;
+use std::alloc::AllocError;
+
+/// Pushes the command `error` with its properties and its message, and a line feed.
+#[tactic(auto, unfolding(crate::specs::Github::github_text))]
+pub(crate) fn push_github(text: &mut String, diagnostic: &Diagnostic<'_>) -> Result<(), AllocError>
+    ensures { OnOk result (string_bytes text.new ≡ string_bytes text.old ++ github_text diagnostic.now) }
+{
+    push_place(text, diagnostic)?;
+    push_message(text, diagnostic.finding)?;
+    Ok(())
+}
+
+// Pushes the command's name, the file, the line and the column.
+#[tactic(auto, unfolding(crate::specs::Github::command_place))]
+fn push_place(text: &mut String, diagnostic: &Diagnostic<'_>) -> Result<(), AllocError>
+    ensures { OnOk result (string_bytes text.new ≡ string_bytes text.old ++ command_place diagnostic.now) }
+{
+    text.push_str("::error file=")?;
+    push_escaped(text, diagnostic.file, Escapes::Property)?;
+    text.push_str(",line=")?;
+    push_number(text, diagnostic.line)?;
+    text.push_str(",col=")?;
+    push_number(text, diagnostic.finding.column() as u64)?;
+    Ok(())
+}
+
+// Pushes the finding's name as the title, and its sentence as the message.
+#[tactic(auto, unfolding(crate::specs::Github::command_text))]
+fn push_message(text: &mut String, finding: Finding) -> Result<(), AllocError>
+    ensures { OnOk result (string_bytes text.new ≡ string_bytes text.old ++ command_text finding) }
+{
+    text.push_str(",title=")?;
+    push_escaped(text, finding.name(), Escapes::Property)?;
+    text.push_str("::")?;
+    push_escaped(text, finding.sentence(), Escapes::Message)?;
+    text.push_str("\n")?;
+    Ok(())
+}

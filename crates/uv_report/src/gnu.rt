@@ -1,0 +1,53 @@
+//! Diagnostics as compilers write them.
+ghost use Rattle.std.specs.Prelude.{◌≡◌, ◌++◌, OnOk, decimal, string_bytes};
+ghost use Rattle.uv_report.specs.Gnu.{gnu_position, gnu_text, gnu_words};
+
+use crate::diagnostic::Diagnostic;
+use crate::escapes::{Escapes, push_escaped};
+use crate::finding::Finding;
+use itoa::Buffer;
+use std::alloc::AllocError;
+
+/// Pushes `FILE:LINE:COLUMN: error: SENTENCE [RULE]` and a line feed.
+#[tactic(auto, unfolding(crate::specs::Gnu::gnu_text))]
+pub(crate) fn push_gnu(text: &mut String, diagnostic: &Diagnostic<'_>) -> Result<(), AllocError>
+    ensures { OnOk result (string_bytes text.new ≡ string_bytes text.old ++ gnu_text diagnostic.now) }
+{
+    push_position(text, diagnostic)?;
+    push_words(text, diagnostic.finding)?;
+    Ok(())
+}
+
+// Pushes the file's name, the line and the column.
+#[tactic(auto, unfolding(crate::specs::Gnu::gnu_position))]
+fn push_position(text: &mut String, diagnostic: &Diagnostic<'_>) -> Result<(), AllocError>
+    ensures { OnOk result (string_bytes text.new ≡ string_bytes text.old ++ gnu_position diagnostic.now) }
+{
+    push_escaped(text, diagnostic.file, Escapes::Shown)?;
+    text.push_str(":")?;
+    push_number(text, diagnostic.line)?;
+    text.push_str(":")?;
+    push_number(text, diagnostic.finding.column() as u64)?;
+    Ok(())
+}
+
+// Pushes the sentence and the name of a finding.
+#[tactic(auto, unfolding(crate::specs::Gnu::gnu_words))]
+fn push_words(text: &mut String, finding: Finding) -> Result<(), AllocError>
+    ensures { OnOk result (string_bytes text.new ≡ string_bytes text.old ++ gnu_words finding) }
+{
+    text.push_str(": error: ")?;
+    text.push_str(finding.sentence())?;
+    text.push_str(" [")?;
+    text.push_str(finding.name())?;
+    text.push_str("]\n")?;
+    Ok(())
+}
+
+/// Pushes a number in decimal digits.
+pub(crate) fn push_number(text: &mut String, number: u64) -> Result<(), AllocError>
+    ensures { OnOk result (string_bytes text.new ≡ string_bytes text.old ++ decimal number) }
+{
+    let mut buffer = Buffer::new();
+    text.push_str(buffer.format(number))
+}

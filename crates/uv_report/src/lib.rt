@@ -1,0 +1,25 @@
+//! Diagnostics: what is wrong with a line of a file, in the formats that people and tools read; and what each rule
+//! asks, with an example.
+#![tactic(auto)]
+
+mod caret;
+mod checkstyle;
+mod diagnostic;
+mod escapes;
+mod explanation;
+mod finding;
+mod format;
+mod github;
+mod gnu;
+mod json;
+mod report;
+mod sarif;
+
+pub use diagnostic::Diagnostic;
+pub use explanation::{Explanation, explain};
+pub use finding::Finding;
+pub use format::Format;
+pub use report::{push_begin, push_diagnostic, push_end, push_file_begin, push_file_end};
+
+#[cfg(test)]
+mod tests;

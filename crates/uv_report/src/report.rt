@@ -1,0 +1,120 @@
+//! Reports in any format. A report is a beginning, then for each file with diagnostics its own beginning, its
+//! diagnostics and its end, and then an end.
+ghost use Rattle.std.specs.Prelude.{◌≡◌, ◌++◌, IfOk, OnErr, OnOk, string_bytes};
+ghost use Rattle.uv_report.specs.Report.{begin_text, diagnostic_text, end_text, file_begin_text, file_end_text};
+
+use crate::caret::push_caret;
+use crate::checkstyle::{push_checkstyle, push_checkstyle_file};
+use crate::diagnostic::Diagnostic;
+use crate::format::Format;
+use crate::github::push_github;
+use crate::gnu::push_gnu;
+use crate::json::push_json;
+use crate::sarif::{push_sarif, push_sarif_begin};
+use std::alloc::{AllocError, Global};
+
+/// Pushes what a report begins with. Where a growth is refused, the text stays as it was.
+pub fn push_begin(alloc: Global, text: &mut String, format: Format) -> Result<(), AllocError>
+    ensures ok { OnOk result (string_bytes text.new ≡ string_bytes text.old ++ begin_text format) }
+    ensures err { OnErr result (string_bytes text.new ≡ string_bytes text.old) }
+{
+    let begin = begin_of(alloc, format)?;
+    text.push_str(begin.as_str())
+}
+
+// What a report begins with.
+fn begin_of(alloc: Global, format: Format) -> Result<String, AllocError>
+    ensures { IfOk result (λ begin. string_bytes begin ≡ begin_text format) }
+{
+    let mut begin = String::new(alloc);
+    match format {
+        Format::Sarif => push_sarif_begin(alloc, &mut begin)?,
+        Format::Checkstyle => {
+            begin.push_str(
+                "<?xml version=\"1.0\" encoding=\"UTF-8\"?>\n<checkstyle version=\"4.3\">\n",
+            )?
+        }
+        Format::Gnu | Format::Caret | Format::Json | Format::Github => {}
+    }
+    Ok(begin)
+}
+
+/// Pushes what stands before the diagnostics of a file: a start tag in Checkstyle's format, and nothing in another.
+/// It is called for a file that has a diagnostic. Where a growth is refused, the text stays as it was.
+pub fn push_file_begin(
+    alloc: Global,
+    text: &mut String,
+    format: Format,
+    file: &str,
+) -> Result<(), AllocError>
+    ensures ok { OnOk result (string_bytes text.new ≡ string_bytes text.old ++ file_begin_text format file.now) }
+    ensures err { OnErr result (string_bytes text.new ≡ string_bytes text.old) }
+{
+    let mut begin = String::new(alloc);
+    if format == Format::Checkstyle {
+        push_checkstyle_file(&mut begin, file)?;
+    }
+    text.push_str(begin.as_str())
+}
+
+/// Pushes a diagnostic. In SARIF a comma stands before each but the first one of the report. Where a growth is refused,
+/// the text stays as it was.
+pub fn push_diagnostic(
+    alloc: Global,
+    text: &mut String,
+    format: Format,
+    diagnostic: &Diagnostic<'_>,
+    is_first: bool,
+) -> Result<(), AllocError>
+    ensures ok { OnOk result (string_bytes text.new
+        ≡ string_bytes text.old ++ diagnostic_text format is_first diagnostic.now) }
+    ensures err { OnErr result (string_bytes text.new ≡ string_bytes text.old) }
+{
+    let told = text_of(alloc, format, diagnostic, is_first)?;
+    text.push_str(told.as_str())
+}
+
+// The text of a diagnostic.
+fn text_of(
+    alloc: Global,
+    format: Format,
+    diagnostic: &Diagnostic<'_>,
+    is_first: bool,
+) -> Result<String, AllocError>
+    ensures { IfOk result (λ told. string_bytes told ≡ diagnostic_text format is_first diagnostic.now) }
+{
+    let mut told = String::new(alloc);
+    match format {
+        Format::Gnu => push_gnu(&mut told, diagnostic)?,
+        Format::Caret => push_caret(&mut told, diagnostic)?,
+        Format::Json => push_json(alloc, &mut told, diagnostic)?,
+        Format::Github => push_github(&mut told, diagnostic)?,
+        Format::Sarif => push_sarif(alloc, &mut told, diagnostic, is_first)?,
+        Format::Checkstyle => push_checkstyle(&mut told, diagnostic)?,
+    }
+    Ok(told)
+}
+
+/// Pushes what stands behind the diagnostics of a file: an end tag in the format of Checkstyle, and nothing in another.
+/// Where a growth is refused, the text stays as it was.
+pub fn push_file_end(text: &mut String, format: Format) -> Result<(), AllocError>
+    ensures ok { OnOk result (string_bytes text.new ≡ string_bytes text.old ++ file_end_text format) }
+    ensures err { OnErr result (string_bytes text.new ≡ string_bytes text.old) }
+{
+    text.push_str(match format {
+        Format::Checkstyle => "</file>\n",
+        Format::Gnu | Format::Caret | Format::Json | Format::Github | Format::Sarif => "",
+    })
+}
+
+/// Pushes what a report ends with. Where a growth is refused, the text stays as it was.
+pub fn push_end(text: &mut String, format: Format) -> Result<(), AllocError>
+    ensures ok { OnOk result (string_bytes text.new ≡ string_bytes text.old ++ end_text format) }
+    ensures err { OnErr result (string_bytes text.new ≡ string_bytes text.old) }
+{
+    text.push_str(match format {
+        Format::Sarif => "]}]}\n",
+        Format::Checkstyle => "</checkstyle>\n",
+        Format::Gnu | Format::Caret | Format::Json | Format::Github => "",
+    })
+}

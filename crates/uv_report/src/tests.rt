@@ -1,0 +1,191 @@
+//! Diagnostics in each format, written out by hand from the documents of the formats.
+
+use crate::{
+    Diagnostic, Finding, Format, push_begin, push_diagnostic, push_end, push_file_begin,
+    push_file_end,
+};
+use serde_json::Value;
+use std::alloc::{AllocError, Global};
+use std::test::Fail;
+use uv_model::{Refusal, Rule};
+
+// A diagnostic on the third line of a file.
+fn refused<'a>(file: &'a str, rule: Rule, place: usize, text: &'a str) -> Diagnostic<'a> {
+    Diagnostic {
+        file,
+        line: 3,
+        finding: Finding::Refused(Refusal { place, rule }),
+        text,
+    }
+}
+
+// A report on one diagnostic.
+fn report(
+    alloc: Global,
+    format: Format,
+    diagnostic: &Diagnostic<'_>,
+) -> Result<String, AllocError> {
+    let mut text = String::new(alloc);
+    push_begin(alloc, &mut text, format)?;
+    push_file_begin(alloc, &mut text, format, diagnostic.file)?;
+    push_diagnostic(alloc, &mut text, format, diagnostic, true)?;
+    push_file_end(&mut text, format)?;
+    push_end(&mut text, format)?;
+    Ok(text)
+}
+
+#[test]
+fn writes_a_line_as_compilers_do(rt: HostRuntime) -> Result<(), Fail> {
+    let found = refused("docs/a.md", Rule::CodePoint, 10, "http://h/a b");
+    assert_eq!(rt;
+        report(rt.alloc(), Format::Gnu, &found)?.as_str(),
+        "docs/a.md:3:11: error: this code point may not stand in a URL [code-point]\n"
+    );
+    let unread = Diagnostic {
+        file: "-",
+        line: 1,
+        finding: Finding::NotUtf8,
+        text: "\u{FFFD}",
+    };
+    assert_eq!(rt;
+        report(rt.alloc(), Format::Gnu, &unread)?.as_str(),
+        "-:1:1: error: this line isn't UTF-8 [not-utf8]\n"
+    );
+    Ok(())
+}
+
+#[test]
+fn puts_a_caret_below_the_place(rt: HostRuntime) -> Result<(), Fail> {
+    for (text, place, lines) in [
+        ("http://h/a b", 10, "http://h/a b\n          ^\n"),
+        (
+            "\u{65E5}\u{672C}\ta b",
+            4,
+            "\u{65E5}\u{672C}\ta b\n    \t ^\n",
+        ),
+        ("e\u{301} ", 2, "e\u{301} \n ^\n"),
+        (
+            "\u{1B}[31m\u{202E} x",
+            6,
+            "\u{FFFD}[31m\u{FFFD} x\n      ^\n",
+        ),
+        ("", 0, "\n^\n"),
+    ] {
+        let found = refused("f", Rule::CodePoint, place, text);
+        let mut wanted = report(rt.alloc(), Format::Gnu, &found)?;
+        wanted.push_str(lines)?;
+        assert_eq!(rt;
+            report(rt.alloc(), Format::Caret, &found)?.as_str(),
+            wanted.as_str()
+        );
+    }
+    Ok(())
+}
+
+#[test]
+fn writes_an_object_of_json(rt: HostRuntime) -> Result<(), Fail> {
+    let found = refused("a\"b.md", Rule::NoScheme, 0, "x\\\u{1B}\ty");
+    assert_eq!(rt;
+        report(rt.alloc(), Format::Json, &found)?.as_str(),
+        "{\"column\":1,\"file\":\"a\\\"b.md\",\"line\":3,\"message\":\"there is no scheme and no base\",\
+        \"rule\":\"no-scheme\",\"text\":\"x\\\\\u{FFFD}\\ty\"}\n"
+    );
+    Ok(())
+}
+
+#[test]
+fn escapes_the_properties_and_the_message_of_a_command(rt: HostRuntime) -> Result<(), Fail> {
+    let found = refused("C:\\a,b%\r\n.md", Rule::Percent, 9, "http://h/%4");
+    assert_eq!(rt;
+        report(rt.alloc(), Format::Github, &found)?.as_str(),
+        "::error file=C%3A\\a%2Cb%25%0D%0A.md,line=3,col=10,title=percent::two hex digits have to follow this %25\n"
+    );
+    Ok(())
+}
+
+#[test]
+fn writes_a_document_of_checkstyle(rt: HostRuntime) -> Result<(), Fail> {
+    let found = refused(
+        "a&b<\">\t\n\r\u{1}\u{FFFE}",
+        Rule::PortRange,
+        9,
+        "http://h:65536/",
+    );
+    assert_eq!(rt;
+        report(rt.alloc(), Format::Checkstyle, &found)?.as_str(),
+        "<?xml version=\"1.0\" encoding=\"UTF-8\"?>\n<checkstyle version=\"4.3\">\n\
+        <file name=\"a&amp;b&lt;&quot;&gt;&#9;&#10;&#13;\u{FFFD}\u{FFFD}\">\n\
+        <error line=\"3\" column=\"10\" severity=\"error\" message=\"the port that begins here is above 65535\" \
+        source=\"urlcheck.port-range\"/>\n</file>\n</checkstyle>\n"
+    );
+    Ok(())
+}
+
+// The text at a pointer of a document.
+fn text_at<'v>(document: &'v Value, pointer: &str) -> Option<&'v str> {
+    document.pointer(pointer).and_then(Value::as_str)
+}
+
+#[test]
+fn writes_a_document_of_sarif(rt: HostRuntime) -> Result<(), Fail> {
+    let alloc = rt.alloc();
+    let found = refused("a b/\u{E9}.md", Rule::HostDomain, 7, "http://a_b/");
+    let mut text = String::new(alloc);
+    push_begin(alloc, &mut text, Format::Sarif)?;
+    push_diagnostic(alloc, &mut text, Format::Sarif, &found, true)?;
+    push_diagnostic(alloc, &mut text, Format::Sarif, &found, false)?;
+    push_end(&mut text, Format::Sarif)?;
+    let document = Value::from_str(alloc, text.as_str())?;
+    for (pointer, wanted) in [
+        ("/version", "2.1.0"),
+        ("/runs/0/columnKind", "unicodeCodePoints"),
+        ("/runs/0/tool/driver/name", "urlcheck"),
+        ("/runs/0/tool/driver/rules/0/id", "not-utf8"),
+        ("/runs/0/tool/driver/rules/1/id", "line-too-long"),
+        ("/runs/0/tool/driver/rules/6/id", "host-domain"),
+        ("/runs/0/tool/driver/rules/15/id", "percent"),
+        ("/runs/0/results/1/ruleId", "host-domain"),
+        ("/runs/0/results/1/level", "error"),
+        (
+            "/runs/0/results/1/message/text",
+            "the host that begins here is no valid domain",
+        ),
+        (
+            "/runs/0/results/1/locations/0/physicalLocation/artifactLocation/uri",
+            "a%20b/%C3%A9.md",
+        ),
+    ] {
+        assert_eq!(rt; text_at(&document, pointer), Some(wanted), "at {pointer}");
+    }
+    for (pointer, wanted) in [
+        ("/runs/0/results/0/ruleIndex", 6),
+        (
+            "/runs/0/results/0/locations/0/physicalLocation/region/startLine",
+            3,
+        ),
+        (
+            "/runs/0/results/0/locations/0/physicalLocation/region/startColumn",
+            8,
+        ),
+    ] {
+        assert_eq!(rt;
+            document.pointer(pointer).and_then(Value::as_u64),
+            Some(wanted),
+            "at {pointer}"
+        );
+    }
+    Ok(())
+}
+
+#[test]
+fn finds_each_format_by_its_name(rt: HostRuntime) {
+    for name in ["gnu", "caret", "json", "github", "sarif", "checkstyle"] {
+        match Format::of_name(name) {
+            Some(format) => assert_eq!(rt; format.name(), name),
+            None => panic!(rt; "no format {name}"),
+        }
+    }
+    for text in ["", "GNU", "jso", "jsonl", "xml"] {
+        assert_eq!(rt; Format::of_name(text), None);
+    }
+}
