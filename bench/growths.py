@@ -4,10 +4,10 @@
     bench/growths.py            compares the record, and fails where it differs
     bench/growths.py --write    writes it
 
-It runs the crate `growths` by `rt try --fail-alloc 200 --cases`, once for each call, each text and each n from 1: the
-200th growth of the process fails, and the driver makes 200 - n growths before the call, so it is the call's nth. A run
-without memory ends with the status 3 and has written whole lines of the answer or nothing; from the first n on at which
-no growth is refused, each run gives the answer that is written here.
+It runs the crate `growths` by `rt try --fail-alloc 200 --cases`, once for each call, each profile, each text and each n
+from 1: the 200th growth of the process fails, and the driver makes 200 - n growths before the call, so it is the call's
+nth. A run without memory ends with the status 3 and has written whole lines of the answer or nothing; from the first n
+on at which no growth is refused, each run gives the answer that is written here.
 """
 import pathlib
 import re
@@ -16,43 +16,66 @@ import sys
 import tempfile
 
 FAILS = 200
-# At most so many growths does a call make.
-MOST = {"domain": 10, "check": 10, "resolve": 20, "run_check": 30, "run_faults": 30, "run_links": 60, "run_vectors": 150}
+# A call makes at most so many growths; one that stands in the record is tried with so many more than are written there.
+MOST = {"domain": 10, "check": 12, "faults": 14, "resolve": 16, "run_check": 20, "run_faults": 20, "run_links": 60,
+        "run_vectors": 50}
+MORE = 2
 ROOT = pathlib.Path(__file__).resolve().parent.parent
 RECORD = ROOT / "docs" / "GROWTHS.md"
 
-# Texts with a base, what a check prints of their record, or of their refusal, and their path text.
+PROFILES = "standard", "wide"
+BOTH = PROFILES
+STANDARD, WIDE = PROFILES[:1], PROFILES[1:]
+
+# Texts with a base and the profiles, what a check prints of their record, or of their faults, and their path text.
 LONG = "https://EXAMPLE.com:443/a/../b?x='y'#\u00e9"
 FILE = "file:///C:/d/f"
 TEXTS = [
-    (LONG, "", "scheme https\nhost domain example.com\nsegment b\nquery x=%27y%27\nfragment %C3%A9\n", "/a/../b"),
-    ("/x", FILE, "scheme file\nhost empty\nsegment C:\nsegment x\n", "/x"),
-    ("/D:?q", FILE, "scheme file\nhost empty\nsegment D:\nquery q\n", "/D:"),
-    ("/..", FILE, "scheme file\nhost empty\nsegment C:\nsegment \n", "/.."),
-    ("C:/x", FILE, "scheme c\nsegment x\n", "/x"),
-    ("https://b\u00fccher.example/", "", "scheme https\nhost domain xn--bcher-kva.example\nsegment \n", "/"),
-    ("http://example.com./", "", "scheme http\nhost domain example.com.\nsegment \n", "/"),
-    ("http://\u00ad/", "", "refused 7 host-domain\n", None),
-    ("a", "http://h/", "scheme http\nhost domain h\nsegment a\n", "a"),
-    ("http://x_y/", "http://h/", "refused 7 host-domain\n", None),
-    ("urn:a", "", "scheme urn\nopaque a\n", "a"),
-    ("x", "", "refused 0 no-scheme\n", None),
-    ("http://h:65536/", "", "refused 9 port-range\n", None),
-    ("http://h/a b", "", "refused 10 code-point\n", None),
+    (BOTH, LONG, "", "scheme https\nhost domain example.com\nsegment b\nquery x=%27y%27\nfragment %C3%A9\n", "/a/../b"),
+    (BOTH, "/x", FILE, "scheme file\nhost empty\nsegment C:\nsegment x\n", "/x"),
+    (BOTH, "/D:?q", FILE, "scheme file\nhost empty\nsegment D:\nquery q\n", "/D:"),
+    (BOTH, "/..", FILE, "scheme file\nhost empty\nsegment C:\nsegment \n", "/.."),
+    (BOTH, "C:/x", FILE, "scheme c\nsegment x\n", "/x"),
+    (BOTH, "https://b\u00fccher.example/", "",
+     "scheme https\nhost domain xn--bcher-kva.example\nsegment \n", "/"),
+    (BOTH, "http://example.com./", "", "scheme http\nhost domain example.com.\nsegment \n", "/"),
+    (BOTH, "http://\u00ad/", "", "refused 7 host-domain\n", None),
+    (BOTH, "a", "http://h/", "scheme http\nhost domain h\nsegment a\n", "a"),
+    (STANDARD, "http://x_y/", "http://h/", "refused 7 host-domain\n", None),
+    (WIDE, "http://x_y/", "http://h/", "scheme http\nhost domain x_y\nsegment \n", "/"),
+    (WIDE, "a", "http://a_b/", "scheme http\nhost domain a_b\nsegment a\n", "a"),
+    (STANDARD, "http://h//a", "", "refused 9 first-segment-empty\n", None),
+    (WIDE, "http://h//a", "", "scheme http\nhost domain h\nsegment \nsegment a\n", "//a"),
+    (WIDE, "b", "http://h//a", "scheme http\nhost domain h\nsegment \nsegment b\n", "b"),
+    (WIDE, "..", "http://h//a", "scheme http\nhost domain h\nsegment \n", ".."),
+    (STANDARD, "http://a_b//c d", "",
+     "refused 7 host-domain\nrefused 11 first-segment-empty\nrefused 13 code-point\n", None),
+    (WIDE, "http://a_b//c d", "", "refused 13 code-point\n", None),
+    (BOTH, "urn:a", "", "scheme urn\nopaque a\n", "a"),
+    (BOTH, "x", "", "refused 0 no-scheme\n", None),
+    (BOTH, "http://h:65536/", "", "refused 9 port-range\n", None),
+    (BOTH, "http://h/a b", "", "refused 10 code-point\n", None),
 ]
 DOMAINS = [
-    ("EXAMPLE.com", "example.com\n"),
-    ("b\u00fccher.example", "xn--bcher-kva.example\n"),
-    ("example.com.", "example.com.\n"),
-    ("\u00ad", "no domain\n"),
+    (BOTH, "EXAMPLE.com", "example.com\n"),
+    (BOTH, "b\u00fccher.example", "xn--bcher-kva.example\n"),
+    (BOTH, "example.com.", "example.com.\n"),
+    (BOTH, "\u00ad", "no domain\n"),
+    (STANDARD, "A_b", "no domain\n"),
+    (WIDE, "A_b", "a_b\n"),
 ]
 LISTS = [
-    ("a\n\nhttp://x_y/\n", "http://h/",
+    (STANDARD, "a\n\nhttp://x_y/\n", "http://h/",
      "1 ok http://h/a\n2 ok http://h/\n3 bad 7 host-domain\nlinks 3 ok 2 bad 1 differs 0\n"),
-    (LONG + "\nhttps://b\u00fccher.example/\n", "",
+    (WIDE, "a\n\nhttp://x_y/\n", "http://h/",
+     "1 ok http://h/a\n2 ok http://h/\n3 ok http://x_y/\nlinks 3 ok 3 bad 0 differs 0\n"),
+    (WIDE, "a\nhttp://h//a\nx y\n", "http://a_b/",
+     "1 ok http://a_b/a\n2 ok http://h//a\n3 bad 1 code-point\nlinks 3 ok 2 bad 1 differs 0\n"),
+    (WIDE, "b\n..\n", "http://h//a", "1 ok http://h//b\n2 ok http://h/\nlinks 2 ok 2 bad 0 differs 0\n"),
+    (BOTH, LONG + "\nhttps://b\u00fccher.example/\n", "",
      "1 ok https://example.com/b?x=%27y%27#%C3%A9\n2 ok https://xn--bcher-kva.example/\n"
      "links 2 ok 2 bad 0 differs 0\n"),
-    ("/x\n/D:?q\n/..\nC:/x\n", FILE,
+    (BOTH, "/x\n/D:?q\n/..\nC:/x\n", FILE,
      "1 ok file:///C:/x\n2 ok file:///D:?q\n3 ok file:///C:/\n4 ok c:/x\nlinks 4 ok 4 bad 0 differs 0\n"),
 ]
 VECTORS = [
@@ -62,18 +85,29 @@ VECTORS = [
 
 
 def calls():
-    """Each call with its base, its text and its answer."""
-    for text, want in DOMAINS:
-        yield "domain", "", text, want
-    for text, base, lines, path in TEXTS:
-        yield "check", base, text, lines if path is None else f"valid, with the path {path}\n"
-        yield "resolve", base, text, lines
-        for call in "run_check", "run_faults":
-            yield call, base, text, lines if path is None else "valid\n" + lines
-    for text, base, want in LISTS:
-        yield "run_links", base, text, want
+    """Each call with its profile, its base, its text and its answer."""
+    for profiles, text, want in DOMAINS:
+        for profile in profiles:
+            yield "domain", profile, "", text, want
+    for profiles, text, base, lines, path in TEXTS:
+        for profile in profiles:
+            for call, want in answers(lines, path):
+                yield call, profile, base, text, want
+    for profiles, text, base, want in LISTS:
+        for profile in profiles:
+            yield "run_links", profile, base, text, want
     for text, want in VECTORS:
-        yield "run_vectors", "", text, want
+        yield "run_vectors", "standard", "", text, want
+
+
+def answers(lines, path):
+    """What each call prints of a text, by what a check prints, and by the path's text where the text is valid."""
+    if path is None:
+        least = lines[:lines.index("\n") + 1]
+        return [("check", least), ("faults", lines), ("resolve", least), ("run_check", least), ("run_faults", lines)]
+    whole = "valid\n" + lines
+    return [("check", f"valid, with the path {path}\n"), ("faults", "no fault\n"), ("resolve", lines),
+            ("run_check", whole), ("run_faults", whole)]
 
 
 def tried(cases):
@@ -105,26 +139,39 @@ def growths_of(runs, want, what):
 
 
 def main():
-    asked = [it for it in calls() if len(sys.argv) < 3 or it[0] == sys.argv[2]]
-    cases = {f"{k:03}.{n:03}": f"{FAILS - n}\n{call}\n{base}\n{text}"
-             for k, (call, base, text, _) in enumerate(asked) for n in range(1, MOST[call] + 1)}
+    asked = list(calls())
+    written = recorded()
+    tries = [range(1, written.get(cells(*it[:4]), MOST[it[0]]) + MORE + 1) for it in asked]
+    cases = {f"{k:03}.{n:03}": f"{FAILS - n}\n{call}\n{profile}\n{base}\n{text}"
+             for k, (call, profile, base, text, _) in enumerate(asked) for n in tries[k]}
     found = tried(cases)
     counts = {}
-    lines = [RECORD.read_text().split("\n| Call |")[0] if RECORD.exists() else "", "",
-             "| Call | Base | Text | Growths | Answer |", "|---|---|---|---|---|"]
-    for k, (call, base, text, want) in enumerate(asked):
-        runs = [found[f"{k:03}.{n:03}"] for n in range(1, MOST[call] + 1)]
-        count = counts[call, text] = growths_of(runs, want, f"{call} of {text!r}")
-        shown = [json_like(it) for it in (base, text, want)]
-        lines.append(f"| `{call}` | {shown[0]} | {shown[1]} | {count} | {shown[2]} |")
-    if counts["resolve", "http://h/a b"] != counts["check", "http://h/a b"]:
-        sys.exit("growths: resolve makes growths of its own for a refused text")
-    record = "\n".join(lines).lstrip("\n") + "\n"
+    lines = [RECORD.read_text().split("\n| Call |")[0].rstrip("\n"), "",
+             "| Call | Profile | Base | Text | Growths | Answer |", "|---|---|---|---|---|---|"]
+    for k, (call, profile, base, text, want) in enumerate(asked):
+        runs = [found[f"{k:03}.{n:03}"] for n in tries[k]]
+        count = counts[call, profile, text] = growths_of(runs, want, f"{call} of {text!r}, {profile}")
+        lines.append(f"| {cells(call, profile, base, text)} | {count} | {json_like(want)} |")
+    for profile in PROFILES:
+        if counts["resolve", profile, "http://h/a b"] != counts["check", profile, "http://h/a b"]:
+            sys.exit("growths: resolve makes growths of its own for a refused text")
+    record = "\n".join(lines) + "\n"
     if "--write" in sys.argv[1:]:
         RECORD.write_text(record)
     elif record != RECORD.read_text():
         sys.exit("growths: docs/GROWTHS.md differs: bench/growths.py --write writes it anew")
     print(f"growths: {len(asked)} calls, {len(cases)} runs")
+
+
+def recorded():
+    """The number of growths of each call in the record, by the call's cells."""
+    rows = re.findall(r"^\| (`\w+` \| .*) \| (\d+) \| .* \|$", RECORD.read_text(), re.M)
+    return {row: int(count) for row, count in rows}
+
+
+def cells(call, profile, base, text):
+    """The cells of the table that name a call."""
+    return f"`{call}` | {profile} | {json_like(base)} | {json_like(text)}"
 
 
 def json_like(text):

@@ -1,0 +1,43 @@
+# The completions of bash, from the rows of words.awk.
+
+# the options and listed values that a command takes, and whether it takes files
+{
+    if ($2 == "option") words[$1] = words[$1] " " $3
+    if ($2 == "argument" && $6 != "") words[$1] = words[$1] " " $6
+    if ($2 == "argument" && $4 == "FILE") takes_files[$1] = 1
+    if ($2 == "option" && $4 != "") values = values sprintf("        %s:%s) words='%s' ;;\n", $1, $3, $6)
+    if ($2 == "command") {
+        commands = commands " " $3
+        order[++count] = $3
+    }
+}
+
+END {
+    print "# Completions of urlcheck for bash, made by make-manual."
+    print "_urlcheck() {"
+    print "    local word=${COMP_WORDS[COMP_CWORD]} previous=${COMP_WORDS[COMP_CWORD - 1]} command= words= i"
+    print "    for ((i = 1; i < COMP_CWORD; i++)); do"
+    print "        if [[ ${COMP_WORDS[i]} != -* ]]; then command=${COMP_WORDS[i]}; break; fi"
+    print "    done"
+    print "    case $command:$previous in"
+    printf "%s", values
+    print "        *)"
+    print "            case $command in"
+    printf "                '') words='%s%s' ;;\n", substr(commands, 2), words[""]
+    for (i = 1; i <= count; i++) {
+        if (order[i] == "help") given = commands
+        else given = words[order[i]]
+        printf "                %s) words='%s' ;;\n", order[i], substr(given, 2)
+    }
+    print "            esac ;;"
+    print "    esac"
+    print "    mapfile -t COMPREPLY < <(compgen -W \"$words\" -- \"$word\")"
+    for (i = 1; i <= count; i++) if (order[i] in takes_files) files = files (files == "" ? "" : " | ") order[i]
+    print "    case $command in"
+    printf "        %s)\n", files
+    print "            compopt -o filenames"
+    print "            mapfile -t -O ${#COMPREPLY[@]} COMPREPLY < <(compgen -f -- \"$word\") ;;"
+    print "    esac"
+    print "}"
+    print "complete -F _urlcheck urlcheck"
+}

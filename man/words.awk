@@ -1,0 +1,37 @@
+# What may stand in the words, from the help of the program and then of each of its commands: a row each, its fields
+# parted by tabs. They are the command, or nothing for the program's own; command, option or argument; its name; the
+# name of its value, if it has one; what it means; and the values that it may have, if they are listed.
+
+FNR == 1 { command = section = "" }
+
+/^Usage: urlcheck [a-z]/ { command = $3 }
+
+/^[A-Z][a-z]*:$/ { section = $1; next }
+
+/^$/ { section = ""; next }
+
+section == "Commands:" || section == "Options:" || section == "Arguments:" {
+    text = $0
+    sub(/^ +/, "", text)
+    meaning = values = value = ""
+    if (match(text, /  +/)) {
+        meaning = substr(text, RSTART + RLENGTH)
+        text = substr(text, 1, RSTART - 1)
+    }
+    if (match(meaning, / *\[possible values: [^]]*\]/)) {
+        values = substr(meaning, RSTART, RLENGTH)
+        meaning = substr(meaning, 1, RSTART - 1)
+        gsub(/^ *\[possible values: |\]|,/, "", values)
+    }
+    kind = tolower(substr(section, 1, length(section) - 2))
+    name = text
+    if (kind == "option") {
+        count = split(text, part, /,? /)
+        for (i = 1; i <= count; i++) {
+            if (part[i] ~ /^--/) name = part[i]
+            else if (part[i] !~ /^-/) value = part[i]
+        }
+    } else if (kind == "argument") value = text
+    gsub(/[][<>.]/, "", value)
+    printf "%s\t%s\t%s\t%s\t%s\t%s\n", command, kind, name, value, meaning, values
+}

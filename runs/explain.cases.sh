@@ -1,0 +1,98 @@
+# The explanations of the rules: they and the two tables of the documents say the same, and each example is refused and
+# mended as its explanation says.
+
+top=$(dirname "$here")
+"$program" explain >"$room/explained" 2>"$room/err"
+ends_with 0 $? '' 'explain'
+
+# names_sections FILE : the names and the sections of the rules in the table of docs/RULES.md
+names_sections() {
+    awk -F ' *[|] *' '$2 ~ /^[0-9]+$/ { gsub(/`/, "", $3); print $3 "\t" $4 }' "$1"
+}
+
+# names_sentences FILE : the names of the rules, and what is wrong at the place, in the table of the README
+names_sentences() {
+    awk -F ' *[|] *' '/^[|] Rule / { within = 1; next } !/^[|]/ { within = 0 }
+        within && $2 !~ /^-/ { gsub(/`/, "", $2); gsub(/`/, "", $3); print $2 "\t" $3 }' "$1"
+}
+
+# explained KEY FILE : the names of the rules, and their lines that begin with the key
+explained() {
+    awk -v key="$1" '$1 == "rule" { name = $2 } $1 == key { print name "\t" substr($0, length(key) + 2) }' "$2"
+}
+
+# holds_together EXPLAINED README RULES : the three have the same rules in the same order, with one text each
+holds_together() {
+    [ "$(explained rule "$1" | wc -l)" = 14 ] &&
+        names_sections "$3" | cmp -s - <(explained section "$1") &&
+        names_sentences "$2" | cmp -s - <(explained means "$1")
+}
+
+count=$((count + 1))
+holds_together "$room/explained" "$top/README.md" "$top/docs/RULES.md" ||
+    fail 'explain, the README and docs/RULES.md differ'
+
+# A table that says something else is told apart: another section, another sentence, a row less, two rows in another order.
+differs() {
+    count=$((count + 1))
+    if cmp -s "$2" "$3"; then fail "$1: the table stayed as it was"; fi
+    case $2 in
+        */README.md) ! holds_together "$room/explained" "$3" "$top/docs/RULES.md" ;;
+        *) ! holds_together "$room/explained" "$top/README.md" "$3" ;;
+    esac || fail "explain and a table with $1 are the same"
+}
+sed 's/4\.3, URL units/4.3, URL code points/' "$top/docs/RULES.md" >"$room/table"
+differs 'another section' "$top/docs/RULES.md" "$room/table"
+sed 's/two hex digits have to/two digits have to/' "$top/README.md" >"$room/table"
+differs 'another sentence' "$top/README.md" "$room/table"
+sed '/^| 14 |/d' "$top/docs/RULES.md" >"$room/table"
+differs 'a row less' "$top/docs/RULES.md" "$room/table"
+awk '/^[|] `code-point`/ { row = $0; next } { print } /^[|] `percent`/ { print row }' "$top/README.md" >"$room/table"
+differs 'two rows in another order' "$top/README.md" "$room/table"
+
+# example NAME BASE TEXT REFUSED MENDED : a check of the texts of an explanation says what the explanation says
+example() {
+    local name=$1 text=$3 refused=$4 mended=$5 base=()
+    if [ -n "$2" ]; then base=(--base "$2"); fi
+    expect 1 "$refused\\n" '' check "${base[@]}" -- "$text"
+    case $refused in
+        "refused "*" $name") ;;
+        *) fail "explain $name: its example is $refused" ;;
+    esac
+    "$program" check "${base[@]}" -- "$mended" >"$room/out" 2>"$room/err"
+    ends_with 0 $? '' "the mended example of $name"
+}
+base=
+while IFS= read -r entry; do
+    case $entry in
+        'rule '*) name=${entry#rule } base= ;;
+        'base '*) base=${entry#base } ;;
+        'text '*) text=${entry#text } ;;
+        'refused '*) refused=$entry ;;
+        'mended '*) example "$name" "$base" "$text" "$refused" "${entry#mended }" ;;
+    esac
+done <"$room/explained"
+
+# One rule is explained as among all, and a word that names none is refused with the fourteen names.
+"$program" explain percent >"$room/out" 2>"$room/err"
+ends_with 0 $? '' 'explain percent'
+sed -n '/^rule percent$/,$p' "$room/explained" | cmp -s - "$room/out" || fail "explain percent: it wrote $(cat "$room/out")"
+for word in host PERCENT ''; do
+    "$program" explain "$word" >"$room/out" 2>"$room/err"
+    ended=$?
+    count=$((count + 1))
+    [ $ended = 2 ] || fail "explain '$word': status $ended, and not 2"
+    [ ! -s "$room/out" ] || fail "explain '$word': it wrote $(cat "$room/out")"
+    grep -qF "'$word'" "$room/err" || grep -qF 'a value is required' "$room/err" ||
+        fail "explain '$word': on standard error: $(cat "$room/err")"
+    grep -qF "$(explained rule "$room/explained" | cut -f 1 | paste -sd , - | sed 's/,/, /g')" "$room/err" ||
+        fail "explain '$word': not all names: $(cat "$room/err")"
+    [ "$(tail -n 1 "$room/err")" = words ] || fail "explain '$word': its last word is $(tail -n 1 "$room/err")"
+done
+
+# The output can't be written.
+for words in 'explain' 'explain percent'; do
+    "$program" $words >/dev/full 2>"$room/err"
+    ends_with 3 $? 'write\n' "$words to a full device"
+done
+all_cases 40

@@ -1,0 +1,59 @@
+# The manual page and the completions are those that make-manual makes of the program's help, and they can be read.
+
+top=$(dirname "$here")
+bash "$top/make-manual" "$program" "$room/made" >"$room/out" 2>"$room/err"
+ends_with 0 $? '' 'make-manual'
+for file in man/urlcheck.1 completions/urlcheck.bash completions/_urlcheck completions/urlcheck.fish; do
+    count=$((count + 1))
+    [ -s "$room/made/$file" ] || fail "$file: nothing was made"
+    cmp -s "$room/made/$file" "$top/$file" || fail "$file is old; ./make-manual crates/urlcheck/out/urlcheck . makes it anew"
+done
+
+# A program without help, and one whose help names no command: nothing is made.
+printf '#!/bin/sh\n' >"$room/silent"
+chmod +x "$room/silent"
+bash "$top/make-manual" "$room/silent" "$room/none" >"$room/out" 2>"$room/err"
+ends_with 1 $? 'make-manual: no help by --help\n' 'make-manual of a program without help'
+printf '#!/bin/sh\necho "Usage: urlcheck"\n' >"$room/silent"
+bash "$top/make-manual" "$room/silent" "$room/none" >"$room/out" 2>"$room/err"
+ends_with 1 $? 'make-manual: the help names no command\n' 'make-manual of a program without commands'
+[ ! -e "$room/none" ] || fail 'make-manual made something of a program without help'
+
+# Each command of the help has its part of the page.
+count=$((count + 1))
+for command in $("$program" --help | sed -n '/^Commands:$/,/^$/s/^  \([a-z]*\) .*/\1/p'); do
+    [ "$command" = help ] || grep -q "^\.SS \"urlcheck $command" "$top/man/urlcheck.1" || fail "the page lacks $command"
+done
+
+# The page and the completions are read without a warning by what is installed of their readers.
+# reads READER WORD.. : the reader has nothing to say
+reads() {
+    count=$((count + 1))
+    command -v "$1" >/dev/null || return 0
+    "$@" >"$room/out" 2>"$room/err" || fail "$*: status $?"
+    [ ! -s "$room/err" ] || fail "$*: $(cat "$room/err")"
+}
+reads groff -ww -man -Tutf8 "$top/man/urlcheck.1"
+reads bash -n "$top/completions/urlcheck.bash"
+reads zsh -n "$top/completions/_urlcheck"
+reads fish -n "$top/completions/urlcheck.fish"
+
+# completes WORDS WORD.. : behind these words bash completes the last one so
+completes() {
+    local wanted=$1
+    shift
+    count=$((count + 1))
+    COMP_WORDS=(urlcheck "$@")
+    COMP_CWORD=$#
+    COMPREPLY=()
+    (cd "$room" && _urlcheck 2>/dev/null; echo "${COMPREPLY[*]}") >"$room/out"
+    [ "$(cat "$room/out")" = "$wanted" ] || fail "completions of '$*': $(cat "$room/out")"
+}
+. "$top/completions/urlcheck.bash"
+completes 'check' c
+completes '--base' check --ba
+completes '' check --base h
+completes 'port-digit port-range percent' explain p
+completes 'made' vectors ma
+completes 'explain' help ex
+all_cases 18
