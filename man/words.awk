@@ -1,6 +1,7 @@
 # What may stand in the words, from the help of the program and then of each of its commands: a row each, its fields
 # parted by tabs. They are the command, or nothing for the program's own; command, option or argument; its name; the
-# name of its value, if it has one; what it means; and the values that it may have, if they are listed.
+# name of its value, if it has one; what it means; and the values that it may have, if they are known. Variable: rules,
+# the names of the rules.
 
 FNR == 1 { command = section = "" }
 
@@ -13,15 +14,10 @@ FNR == 1 { command = section = "" }
 section == "Commands:" || section == "Options:" || section == "Arguments:" {
     text = $0
     sub(/^ +/, "", text)
-    meaning = values = value = ""
+    meaning = value = ""
     if (match(text, /  +/)) {
         meaning = substr(text, RSTART + RLENGTH)
         text = substr(text, 1, RSTART - 1)
-    }
-    if (match(meaning, / *\[possible values: [^]]*\]/)) {
-        values = substr(meaning, RSTART, RLENGTH)
-        meaning = substr(meaning, 1, RSTART - 1)
-        gsub(/^ *\[possible values: |\]|,/, "", values)
     }
     kind = tolower(substr(section, 1, length(section) - 2))
     name = text
@@ -33,5 +29,5 @@ section == "Commands:" || section == "Options:" || section == "Arguments:" {
         }
     } else if (kind == "argument") value = text
     gsub(/[][<>.]/, "", value)
-    printf "%s\t%s\t%s\t%s\t%s\t%s\n", command, kind, name, value, meaning, values
+    printf "%s\t%s\t%s\t%s\t%s\t%s\n", command, kind, name, value, meaning, value == "RULE" ? rules : ""
 }

@@ -73,21 +73,12 @@ while IFS= read -r entry; do
     esac
 done <"$room/explained"
 
-# One rule is explained as among all, and a word that names none is refused with the fourteen names.
+# One rule is explained as among all, and a word that names none is refused.
 "$program" explain percent >"$room/out" 2>"$room/err"
 ends_with 0 $? '' 'explain percent'
 sed -n '/^rule percent$/,$p' "$room/explained" | cmp -s - "$room/out" || fail "explain percent: it wrote $(cat "$room/out")"
-for word in host PERCENT ''; do
-    "$program" explain "$word" >"$room/out" 2>"$room/err"
-    ended=$?
-    count=$((count + 1))
-    [ $ended = 2 ] || fail "explain '$word': status $ended, and not 2"
-    [ ! -s "$room/out" ] || fail "explain '$word': it wrote $(cat "$room/out")"
-    grep -qF "'$word'" "$room/err" || grep -qF 'a value is required' "$room/err" ||
-        fail "explain '$word': on standard error: $(cat "$room/err")"
-    grep -qF "$(explained rule "$room/explained" | cut -f 1 | paste -sd , - | sed 's/,/, /g')" "$room/err" ||
-        fail "explain '$word': not all names: $(cat "$room/err")"
-    [ "$(tail -n 1 "$room/err")" = words ] || fail "explain '$word': its last word is $(tail -n 1 "$room/err")"
+for word in host PERCENT '' not-utf8 'percent '; do
+    expect 2 '' 'error: no rule has this name; `urlcheck explain` names them all\nwords\n' explain "$word"
 done
 
 # The output can't be written.
@@ -95,4 +86,4 @@ for words in 'explain' 'explain percent'; do
     "$program" $words >/dev/full 2>"$room/err"
     ends_with 3 $? 'write\n' "$words to a full device"
 done
-all_cases 40
+all_cases 42

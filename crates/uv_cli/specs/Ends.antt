@@ -19,7 +19,8 @@ use Rattle.uv_cli.specs.declared.explain.ExplainEnd.TheVariants as explain
 use Rattle.uv_cli.specs.declared.fault.CliFault.{CliFault}
 use Rattle.uv_cli.specs.declared.fault.CliFault.TheVariants as cli
 use Rattle.uv_cli.specs.declared.ends.End.{End}
-use Rattle.uv_cli.specs.declared.ends.End.TheVariants.{Valid, Refused, Shown, Words, BaseRefused, Fault, Stopped, Vectors, Unread}
+use Rattle.uv_cli.specs.declared.ends.End.TheVariants.{Valid, Refused, Shown, Words, UnknownRule, BaseRefused, Fault}
+use Rattle.uv_cli.specs.declared.ends.End.TheVariants.{Stopped, Vectors, Unread}
 use Rattle.uv_cli.specs.declared.vectors.VectorEnd.{VectorEnd}
 use Rattle.uv_cli.specs.declared.vectors.VectorEnd.TheVariants as vectors
 use Rattle.uv_cli.specs.declared.vectors.file.FileFault.{FileFault}
@@ -56,10 +57,10 @@ abbrev pub end_of_vectors : Result VectorEnd CliFault → End
 end_of_vectors (Ok end) = Vectors end
 end_of_vectors (Err fault) = Fault fault
 
--- the end of what an explanation gave: the name of no rule is a refused word
+-- the end of what an explanation gave
 abbrev pub end_of_explanation : Result ExplainEnd CliFault → End
 end_of_explanation (Ok explain.Explained) = Shown
-end_of_explanation (Ok explain.Unknown) = Words
+end_of_explanation (Ok explain.Unknown) = UnknownRule
 end_of_explanation (Err fault) = Fault fault
 
 -- the end where a vector file isn't read
@@ -90,6 +91,7 @@ status_of Valid = 0
 status_of Refused = 1
 status_of Shown = 0
 status_of Words = 2
+status_of UnknownRule = 2
 status_of (BaseRefused refusal) = 2
 status_of (Fault fault) = 3
 status_of (Stopped link.BaseDiffers) = 2
@@ -133,6 +135,7 @@ error_text Valid = []
 error_text Refused = []
 error_text Shown = []
 error_text Words = codes "words\n"
+error_text UnknownRule = codes "error: no rule has this name; `urlcheck explain` names them all\nwords\n"
 error_text (BaseRefused refusal) = base_refused_text refusal
 error_text (Fault cli.Memory) = codes "memory\n"
 error_text (Fault cli.Write) = codes "write\n"

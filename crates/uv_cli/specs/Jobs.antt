@@ -111,7 +111,7 @@ HasRunVectors bytes _ old new = ⊥
 abbrev pub HasRunExplain : Option (Bor (List ℕ)) → End → Device → Device → Type 0
 HasRunExplain rule end.Shown old new =
     HasExplained rule explain.Explained old.bytes new.bytes × (new.failed ≡ old.failed)
-HasRunExplain rule end.Words old new = HasExplained rule explain.Unknown old.bytes new.bytes × (new ≡ old)
+HasRunExplain rule end.UnknownRule old new = HasExplained rule explain.Unknown old.bytes new.bytes × (new ≡ old)
 HasRunExplain rule (end.Fault cli.Memory) old new = new ≡ old
 HasRunExplain rule (end.Fault cli.Write) old new =
     HasExplainedFront rule old.bytes new.bytes × (new.failed ≡ old.failed + 1)

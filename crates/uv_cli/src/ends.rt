@@ -12,6 +12,10 @@ use uv_links::{Counts, LinkFault};
 use uv_model::Refusal;
 use uv_words::WordsFault;
 
+// What is said of a word that has to be the name of a rule, and is the name of none.
+const UNKNOWN_RULE: &str =
+    "error: no rule has this name; `urlcheck explain` names them all\nwords\n";
+
 /// How a run of the program ends.
 #[derive(Clone, Copy, Debug, PartialEq, Eq)]
 pub enum End {
@@ -23,6 +27,8 @@ pub enum End {
     Shown,
     /// The words of the command line are refused.
     Words,
+    /// A word that has to be the name of a rule is the name of none.
+    UnknownRule,
     /// The base's text is refused alone, for this reason.
     BaseRefused(Refusal),
     /// A growth was refused, or a write or a flush failed.
@@ -73,13 +79,13 @@ pub(crate) fn end_of_vectors(gave: Result<VectorEnd, CliFault>) -> End
     }
 }
 
-/// The end of what an explanation gave: the name of no rule is a refused word.
+/// The end of what an explanation gave.
 pub(crate) fn end_of_explanation(gave: Result<ExplainEnd, CliFault>) -> End
     ensures { result ≡ spec.end_of_explanation gave }
 {
     match gave {
         Ok(ExplainEnd::Explained) => End::Shown,
-        Ok(ExplainEnd::Unknown) => End::Words,
+        Ok(ExplainEnd::Unknown) => End::UnknownRule,
         Err(reason) => End::Fault(reason),
     }
 }
@@ -124,16 +130,16 @@ pub(crate) fn end_after_output(end: End, is_out: bool) -> End
 }
 
 /// The exit status: 0 where the text is valid, every line ok, every case passed, or help or an explanation shown; 1
-/// where one is refused, differs or fails; 2 where the words, the base or the vector file are refused or the base
-/// differs; 3 for any other fault.
+/// where one is refused, differs or fails; 2 where the words, a rule's name, the base or the vector file are refused or
+/// the base differs; 3 for any other fault.
 pub fn status(end: End) -> u8
     ensures { result ≡ status_of end }
 {
     match end {
         End::Valid | End::Shown | End::Vectors(VectorEnd::AllPass) => 0,
         End::Refused | End::Vectors(VectorEnd::SomeFail) => 1,
-        End::Words | End::BaseRefused(_) | End::Stopped(LinkFault::BaseDiffers) => 2,
-        End::Vectors(_) => 2,
+        End::Words | End::UnknownRule | End::BaseRefused(_) | End::Vectors(_) => 2,
+        End::Stopped(LinkFault::BaseDiffers) => 2,
         End::Fault(_) | End::Stopped(_) | End::Unread => 3,
     }
 }
@@ -145,6 +151,7 @@ pub fn error_line(alloc: Global, end: End) -> Result<String, AllocError>
     match end {
         End::Valid | End::Refused | End::Shown => Ok(String::new(alloc)),
         End::Words => "words\n".to_string(alloc),
+        End::UnknownRule => UNKNOWN_RULE.to_string(alloc),
         End::BaseRefused(refusal) => base_refused_line(alloc, refusal),
         End::Fault(CliFault::Memory) => "memory\n".to_string(alloc),
         End::Fault(CliFault::Write) => "write\n".to_string(alloc),

@@ -1,13 +1,10 @@
 -- The commands of the program, as what `clap`'s definition reads of them: each option and each text to be given.
-use Rattle.std.specs.Prelude.{◌≡◌, List, Some, codes, map, true, false}
-use Rattle.std.specs.Borrow.{Bor}
-use Rattle.clap.specs.Words.{App, Rule, Text, app_of, new_app, new_rule, with_rule, with_subcommand}
+use Rattle.std.specs.Prelude.{◌≡◌, Some, codes, true, false}
+use Rattle.clap.specs.Words.{App, Rule, app_of, new_app, new_rule, with_rule, with_subcommand}
 use Rattle.clap.specs.Simple.{on_top}
 use Rattle.clap.specs.declared.builder.action.ArgAction.TheVariants.{SetTrue}
 use Rattle.clap.specs.declared.builder.command.Command.{Command}
 use Rattle.clap.specs.declared.builder.command.Command.TheViews.{out-Command}
-use Rattle.clap.specs.declared.builder.value_parser.ValueParser.TheVariants as parser
-use Rattle.uv_model.specs.Complaints.Rule.{rule_name, rules_in_order}
 
 -- `--base TEXT`
 abbrev pub base_rule : Rule
@@ -29,17 +26,9 @@ text_rule = record (new_rule (codes "TEXT")) { required = true }
 abbrev pub file_rule : Rule
 file_rule = record (new_rule (codes "FILE")) { required = true }
 
--- names that a value has to be one of, as `clap` is given them
-abbrev pub Names : Type 0
-Names = Bor (List (Bor Text))
-
--- the texts of the names
-abbrev pub texts_of : Names → List Text
-texts_of names = map (λ name. name.now) names.now
-
--- RULE, which is one of the names
-abbrev pub name_rule : Names → Rule
-name_rule names = record (new_rule (codes "RULE")) { parser = Some (parser.Names names) }
+-- RULE
+abbrev pub name_rule : Rule
+name_rule = new_rule (codes "RULE")
 
 -- `check [--base TEXT] [--all] [--wide] TEXT`
 abbrev pub check_command : App
@@ -55,26 +44,18 @@ abbrev pub vectors_command : App
 vectors_command = with_rule (new_app (codes "vectors")) file_rule
 
 -- `explain [RULE]`
-abbrev pub explain_command : Names → App
-explain_command names = with_rule (new_app (codes "explain")) (name_rule names)
+abbrev pub explain_command : App
+explain_command = with_rule (new_app (codes "explain")) name_rule
 
 -- a command has to be given, and there is `--version`
 abbrev pub with_required : App → App
 with_required = on_top (λ s. record s { subcommand_required = true; has_version = true })
 
--- the program's four commands, where RULE is one of the names
-abbrev pub urlcheck : Names → App
-urlcheck names = with_subcommand (with_subcommand (with_subcommand (with_subcommand
+-- the program's four commands
+abbrev pub urlcheck : App
+urlcheck = with_subcommand (with_subcommand (with_subcommand (with_subcommand
     (with_required (new_app (codes "urlcheck"))) check_command.top) links_command.top) vectors_command.top)
-    (explain_command names).top
-
--- the names are those of the rules
-abbrev pub AreRuleNames : Names → Type 0
-AreRuleNames names = texts_of names ≡ map rule_name rules_in_order
-
--- the program's usage: its commands, where RULE is the name of a rule
-abbrev pub IsUsage : App → Type 0
-IsUsage usage = (names : Names) × AreRuleNames names × (usage ≡ urlcheck names)
+    explain_command.top
 
 -- the command is read as the App, and no argument of it is global
 abbrev pub IsApp : App → Command → Type 0

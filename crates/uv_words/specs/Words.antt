@@ -3,12 +3,12 @@ use Rattle.std.specs.Prelude.{◌≡◌, ◌≢◌, Bool, List, Option, Some, No
 use Rattle.std.specs.Option.{option_map_or}
 use Rattle.std.specs.Str.{bytes_eq}
 use Rattle.std.specs.declared.alloc.Global.{Global}
-use Rattle.clap.specs.Words.{App, Row, Text, first_of, subcommand_of, takes}
+use Rattle.clap.specs.Words.{Row, Text, first_of}
 use Rattle.clap.specs.Words.{IsAmong, fault_of, kind_of}
 use Rattle.clap.specs.declared.error.Error.{Error}
 use Rattle.clap.specs.declared.error.kind.ErrorKind.{ErrorKind}
 use Rattle.clap.specs.declared.error.kind.ErrorKind.TheVariants.{DisplayHelp, DisplayVersion, OutOfMemory}
-use Rattle.uv_words.specs.Commands.{IsUsage}
+use Rattle.uv_words.specs.Commands.{urlcheck}
 use Rattle.uv_words.specs.declared.words.Job.{Job}
 use Rattle.uv_words.specs.declared.words.Job.TheVariants as job
 use Rattle.uv_words.specs.declared.words.WordsFault.{WordsFault}
@@ -60,25 +60,12 @@ asked_by (job.Links base wide) = links (text_in base) wide
 asked_by (job.Vectors file) = vectors (string_bytes file)
 asked_by (job.Explain rule) = explain (text_in rule)
 
--- the job has what `clap`'s definition finds in the words under the program's usage
-abbrev pub IsAsked : List Text → Option Job → Type 0
-IsAsked words job =
-    (usage : App) × IsUsage usage × (option_map asked_by job ≡ request_of (subcommand_of usage words))
-
 -- ---- why there is none
 
--- the error has a kind that `clap`'s definition gives for the words under the usage
-abbrev pub HasFault : App → List Text → WordsFault → Type 0
-HasFault usage words (fault.Words error) = IsAmong (kind_of error) (fault_of usage words)
-HasFault usage words fault.Memory = Unit {0}
-
--- the same under the program's usage
+-- the error has a kind that `clap`'s definition gives for the words
 abbrev pub IsFaultOf : List Text → WordsFault → Type 0
-IsFaultOf words f = (usage : App) × IsUsage usage × HasFault usage words f
-
--- words that the program's usage takes are refused for want of memory alone
-abbrev pub IsMemoryIfTaken : List Text → WordsFault → Type 0
-IsMemoryIfTaken words f = (usage : App) × IsUsage usage × (takes usage words ≡ true → f ≡ fault.Memory)
+IsFaultOf words (fault.Words error) = IsAmong (kind_of error) (fault_of urlcheck words)
+IsFaultOf words fault.Memory = Unit {0}
 
 -- the error itself, or want of memory
 abbrev pub IsFrom : Error → WordsFault → Type 0

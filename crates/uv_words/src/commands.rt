@@ -39,9 +39,9 @@ Without RULE it prints this of each rule.
 Example:
   urlcheck explain host-missing";
 
-/// The commands of the program `urlcheck`, where the RULE of `explain` is one of the names.
-pub(crate) fn urlcheck<'a>(alloc: Global, rules: &'a [&'a str]) -> Result<Command<'a>, AllocError>
-    ensures { IfOk result (λ c. app_of c ≡ urlcheck rules.entry) }
+/// The commands of the program `urlcheck`.
+pub(crate) fn urlcheck<'a>(alloc: Global) -> Result<Command<'a>, AllocError>
+    ensures { IfOk result (λ c. app_of c ≡ urlcheck) }
 {
     Command::new(alloc, "urlcheck")
         .version("0.1.0")
@@ -51,7 +51,7 @@ pub(crate) fn urlcheck<'a>(alloc: Global, rules: &'a [&'a str]) -> Result<Comman
         .subcommand(check(alloc)?)?
         .subcommand(links(alloc)?)?
         .subcommand(vectors(alloc)?)?
-        .subcommand(explain(alloc, rules)?)
+        .subcommand(explain(alloc)?)
 }
 
 fn check<'a>(alloc: Global) -> Result<Command<'a>, AllocError>
@@ -85,13 +85,13 @@ fn vectors<'a>(alloc: Global) -> Result<Command<'a>, AllocError>
         .arg(file(alloc))
 }
 
-fn explain<'a>(alloc: Global, rules: &'a [&'a str]) -> Result<Command<'a>, AllocError>
-    ensures { IfOk result (IsApp (explain_command rules.entry)) }
+fn explain<'a>(alloc: Global) -> Result<Command<'a>, AllocError>
+    ensures { IfOk result (IsApp explain_command) }
 {
     Command::new(alloc, "explain")
         .about("Says what a rule asks")
         .after_help(EXPLAIN_EXAMPLES)
-        .arg(name(alloc, rules))
+        .arg(name(alloc))
 }
 
 fn base<'a>(alloc: Global) -> Arg<'a>
@@ -142,11 +142,9 @@ fn file<'a>(alloc: Global) -> Arg<'a>
         .help("The file of vectors, a JSON array")
 }
 
-fn name<'a>(alloc: Global, rules: &'a [&'a str]) -> Arg<'a>
-    ensures rule { rule_of result ≡ name_rule rules.entry }
+fn name<'a>(alloc: Global) -> Arg<'a>
+    ensures rule { rule_of result ≡ name_rule }
     ensures local { result.global ≡ false }
 {
-    Arg::new(alloc, "RULE")
-        .value_parser(rules)
-        .help("The rule's name; without it, each rule is explained")
+    Arg::new(alloc, "RULE").help("The rule's name; without it, each rule is explained")
 }

@@ -2,7 +2,6 @@
 #![tactic(auto)]
 
 mod commands;
-mod rules;
 mod words;
 
 pub use words::{Job, WordsFault, read_words};

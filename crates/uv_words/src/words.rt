@@ -1,12 +1,10 @@
 //! What the words of the command line ask for.
 ghost use Rattle.std.specs.Prelude.{◌≡◌, IfOk, IfErr, map, option_map, string_bytes, true};
-ghost use Rattle.clap.specs.Words.{kind_of};
-ghost use Rattle.clap.specs.Words.{first_of, found_of, rows_of};
-ghost use Rattle.uv_words.specs.Words.{asked_by, asks_to_show, has_flag, request_in};
-ghost use Rattle.uv_words.specs.Words.{IsAsked, IsFaultOf, IsFrom, IsMemoryIfTaken};
+ghost use Rattle.clap.specs.Words.{first_of, found_of, kind_of, rows_of, subcommand_of, takes};
+ghost use Rattle.uv_words.specs.Commands.{urlcheck};
+ghost use Rattle.uv_words.specs.Words.{asked_by, asks_to_show, has_flag, request_in, request_of, IsFaultOf, IsFrom};
 
 use crate::commands::urlcheck;
-use crate::rules::rule_names;
 use clap::error::ErrorKind;
 use clap::{ArgMatches, Error};
 use std::alloc::{AllocError, Global};
@@ -71,14 +69,15 @@ impl WordsFault {
 /// Reads the words of a command line, of which the first is the program's name.
 ///
 /// The job has the command, the texts and the flags that the words give. There is none where the words are taken, but
-/// name no command, no TEXT or no FILE. A RULE is the name of a rule: any other word is refused.
+/// name no command, no TEXT or no FILE. A RULE is any word.
 pub fn read_words(alloc: Global, words: &[&str]) -> Result<Option<Job>, WordsFault>
-    ensures job { IfOk result (IsAsked (map (λ word. word.now) words.now)) }
+    ensures job { IfOk result (λ job. option_map asked_by job
+        ≡ request_of (subcommand_of urlcheck (map (λ word. word.now) words.now))) }
     ensures fault { IfErr result (IsFaultOf (map (λ word. word.now) words.now)) }
-    ensures takes { IfErr result (IsMemoryIfTaken (map (λ word. word.now) words.now)) }
+    ensures takes { IfErr result (λ f.
+        takes urlcheck (map (λ word. word.now) words.now) ≡ true → f ≡ WordsFault.Memory) }
 {
-    let rules = rule_names();
-    let Ok(command) = urlcheck(alloc, rules.as_slice()) else {
+    let Ok(command) = urlcheck(alloc) else {
         return Err(WordsFault::Memory);
     };
     let matches = match command.try_get_matches_from(words) {
