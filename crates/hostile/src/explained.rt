@@ -6,28 +6,10 @@ use uv_grammar::{Verdict, check};
 use uv_model::{Profile, Refusal, Rule};
 use uv_report::explain;
 
-// All the rules, by their numbers.
-const RULES: [Rule; 14] = [
-    Rule::NoScheme,
-    Rule::OpaqueBase,
-    Rule::TwoSlashes,
-    Rule::HostMissing,
-    Rule::HostDomain,
-    Rule::HostNumber,
-    Rule::HostIpv6,
-    Rule::HostCodePoint,
-    Rule::PortDigit,
-    Rule::PortRange,
-    Rule::FirstSegmentEmpty,
-    Rule::DriveAfterHost,
-    Rule::CodePoint,
-    Rule::Percent,
-];
-
 #[test]
 fn examples_are_wrong_where_they_say_and_valid_once_mended(rt: HostRuntime) -> Result<(), Fail> {
     let profile = Profile::Standard;
-    for rule in RULES {
+    for rule in Rule::in_order() {
         let example = explain(rule);
         let base = base_record(rt.alloc(), example.base, profile)?;
         let wanted = Refusal {

@@ -3,13 +3,13 @@ ghost use Rattle.std.specs.Prelude.{◌≡◌, drop};
 ghost use Rattle.std.specs.Str.{chars};
 ghost use Rattle.urlcheck_c.specs.Finding.{byte_place};
 
-use uv_model::first_code_point;
+use uv_model::behind_code_points;
 
 /// The place in bytes of a place in code points: how many bytes stand before it.
 pub(crate) fn byte_place(text: &str, place: usize) -> usize
     ensures { result ≡ byte_place text.now place }
 {
-    bytes_before(text, behind(text, place), place)
+    bytes_before(text, behind_code_points(text, place), place)
 }
 
 /// How many bytes stand before what follows so many code points.
@@ -31,28 +31,7 @@ pub(crate) fn behind_passed<'t>(
     ensures { chars result.now ≡ drop place (chars text.now) }
 {
     if place < passed {
-        return behind(text, place);
+        return behind_code_points(text, place);
     }
-    behind(left, place - passed)
-}
-
-// What follows so many code points.
-fn behind(text: &str, count: usize) -> &str
-    ensures { chars result.now ≡ drop count (chars text.now) }
-{
-    let mut left = text;
-    for _ in 0..count {
-        left = behind_one(left);
-    }
-    left
-}
-
-// What follows the first code point, if there is one.
-fn behind_one(text: &str) -> &str
-    ensures { chars result.now ≡ drop 1 (chars text.now) }
-{
-    match first_code_point(text) {
-        Some((_, rest)) => rest,
-        None => text,
-    }
+    behind_code_points(left, place - passed)
 }

@@ -2,7 +2,6 @@
 ghost use Rattle.std.specs.Prelude.{◌≡◌, ◌++◌, ◌+◌, ◌-◌, ◌^◌, ◌<◌, IfOk, OnOk, option_map, string_bytes};
 ghost use Rattle.uv_cli.specs.Explain.{HasExplained, HasExplainedFront, example_lines, explained, explanation_text};
 ghost use Rattle.uv_cli.specs.Explain.{explanations_text, rule_lines};
-ghost use Rattle.uv_model.specs.Complaints.Rule.{rules_in_order};
 
 use crate::fault::CliFault;
 use crate::report::{push_line, push_present, refused_line};
@@ -51,34 +50,12 @@ fn text_of(alloc: Global, rule: Option<&str>) -> Result<Option<String>, AllocErr
     ensures { IfOk result (λ text. option_map string_bytes text ≡ explained rule.entry) }
 {
     let Some(name) = rule else {
-        return Ok(Some(explanations(alloc, rules_in_order().as_slice())?));
+        return Ok(Some(explanations(alloc, Rule::in_order().as_slice())?));
     };
     match Rule::of_name(name) {
         Some(rule) => Ok(Some(explanation(alloc, rule)?)),
         None => Ok(None),
     }
-}
-
-// The rules in the order of their numbers.
-fn rules_in_order() -> [Rule; 14]
-    ensures { result ≡ rules_in_order }
-{
-    [
-        Rule::NoScheme,
-        Rule::OpaqueBase,
-        Rule::TwoSlashes,
-        Rule::HostMissing,
-        Rule::HostDomain,
-        Rule::HostNumber,
-        Rule::HostIpv6,
-        Rule::HostCodePoint,
-        Rule::PortDigit,
-        Rule::PortRange,
-        Rule::FirstSegmentEmpty,
-        Rule::DriveAfterHost,
-        Rule::CodePoint,
-        Rule::Percent,
-    ]
 }
 
 // The explanations of rules, with an empty line between two.

@@ -1,5 +1,5 @@
 //! Texts that are judged code point by code point.
-ghost use Rattle.std.specs.Prelude.{◌≡◌, ◌+◌, ◌<◌, ◌^◌, OnOk, drop, length};
+ghost use Rattle.std.specs.Prelude.{◌≡◌, ◌+◌, ◌<◌, ◌^◌, OnOk, length};
 ghost use Rattle.std.specs.Str.{chars};
 ghost use Rattle.uv_model.specs.Complaints.Complaint.{Behind};
 ghost use Rattle.uv_model.specs.Complaints.Refusal.{IsLeast};
@@ -11,7 +11,7 @@ use crate::places::refusal_behind;
 use crate::port::digit_fault;
 use std::alloc::AllocError;
 use uv_host::opaque_fault;
-use uv_model::{Refusal, Rule, first_code_point};
+use uv_model::{Refusal, Rule, behind_code_points};
 use uv_text::first_fault;
 
 /// What a text should consist of.
@@ -41,7 +41,7 @@ pub(crate) fn push_scan(
     while let Some(refusal) = next_fault(scan, left) {
         found.push(refusal_behind(here, refusal))?;
         here += refusal.place + 1;
-        left = behind_place(left, refusal.place);
+        left = behind_code_points(left, refusal.place + 1);
     }
     Ok(())
 }
@@ -68,25 +68,4 @@ fn host_fault(text: &str) -> Option<Refusal>
         });
     }
     opaque_fault(text)
-}
-
-// What stands behind the code point at a place.
-fn behind_place(text: &str, place: usize) -> &str
-    ensures { chars result.now ≡ drop (place + 1) (chars text.now) }
-{
-    let mut left = behind_one(text);
-    for _ in 0..place {
-        left = behind_one(left);
-    }
-    left
-}
-
-// What stands behind the first code point, if there is one.
-fn behind_one(text: &str) -> &str
-    ensures { chars result.now ≡ drop 1 (chars text.now) }
-{
-    match first_code_point(text) {
-        Some((_, rest)) => rest,
-        None => text,
-    }
 }

@@ -4,19 +4,19 @@ use Rattle.std.proofs.lemmas.Grind.{common_steps}
 use Rattle.std.proofs.lemmas.Bool.{cases_lt}
 use Rattle.std.proofs.lemmas.List.{length-take}
 use Rattle.std.specs.Str.Lines.{strip_carriage_return}
-use Rattle.uv_lines.specs.Lines.{seen}
+use Rattle.uv_lines.specs.Lines.{short_line}
 use Rattle.uv_lines.specs.Reported.{Reported}
 use Rattle.uv_lines.proofs.LineLemmas.{strip_at_most}
 
 -- the report on one line more
 pub Reported-snoc : {S : Type 0} (reports : S → Option (List ℕ) → List ℕ → S → Type 0) (n : ℕ) (p : S)
     (lines : List (List ℕ)) (line text said : List ℕ) (q r : S) → Reported reports n p lines text q
-    → reports q (seen n line) said r → Reported reports n p (lines ++ line ∷ []) (text ++ said) r
+    → reports q (short_line n line) said r → Reported reports n p (lines ++ line ∷ []) (text ++ said) r
 Reported-snoc reports n p [] line text said q r all one = (
   said,
   [],
   r,
-  subst (λ s. reports s (seen n line) said r) all.1 one,
+  subst (λ s. reports s (short_line n line) said r) all.1 one,
   (refl, refl),
   ap (λ t. t ++ said) all.0 ∙ sym (append-nil said),
 )
@@ -31,33 +31,33 @@ Reported-snoc reports n p (l ∷ ls) line text said q r all one =
       ap (λ t. t ++ said) all.5 ∙ append_assoc all.0 rest said,
     )
 
--- a line that is too long isn't seen
-seen-long : (n : ℕ) (line : List ℕ) → n < length line → seen n line ≡ None
-seen-long n line long =
+-- a line that is too long is no short line
+short_line-long : (n : ℕ) (line : List ℕ) → n < length line → short_line n line ≡ None
+short_line-long n line long =
     let over : nat_le (length line) n ≡ false = grind (arith, common_steps, long) in
     rw over refl
 
--- a line of which a front is kept, two bytes longer than a line may be, is seen as the whole line: without the CR at
+-- a line of which a front is kept, two bytes longer than a line may be, is reported on as the whole line: without the CR at
 -- its end
-pub kept_seen : (n : ℕ) (line : List ℕ)
-    → seen n (strip_carriage_return (take (n + 2) line)) ≡ seen n (strip_carriage_return line)
-kept_seen n line =
+pub kept_short_line : (n : ℕ) (line : List ℕ)
+    → short_line n (strip_carriage_return (take (n + 2) line)) ≡ short_line n (strip_carriage_return line)
+kept_short_line n line =
     elim (cases_lt (n + 2) (length line)) [
       | inl h ↦ (
           let kept = strip_at_most (take (n + 2) line) in
           let whole = strip_at_most line in
           let size : length (take (n + 2) line) ≡ n + 2 = length-take (n + 2) line ∙ omega arith in
-          seen-long n (strip_carriage_return (take (n + 2) line)) (omega (arith, kept, size))
-          ∙ sym (seen-long n (strip_carriage_return line) (omega (arith, whole, h))))
-      | inr h ↦ ap (λ l. seen n (strip_carriage_return l)) (take_all (n + 2) line h)
+          short_line-long n (strip_carriage_return (take (n + 2) line)) (omega (arith, kept, size))
+          ∙ sym (short_line-long n (strip_carriage_return line) (omega (arith, whole, h))))
+      | inr h ↦ ap (λ l. short_line n (strip_carriage_return l)) (take_all (n + 2) line h)
     ]
 
 -- and with it
-pub kept_seen_open : (n : ℕ) (line : List ℕ) → seen n (take (n + 2) line) ≡ seen n line
-kept_seen_open n line =
+pub kept_short_line_open : (n : ℕ) (line : List ℕ) → short_line n (take (n + 2) line) ≡ short_line n line
+kept_short_line_open n line =
     elim (cases_lt (n + 2) (length line)) [
       | inl h ↦ (
           let size : length (take (n + 2) line) ≡ n + 2 = length-take (n + 2) line ∙ omega arith in
-          seen-long n (take (n + 2) line) (omega (arith, size)) ∙ sym (seen-long n line (omega (arith, h))))
-      | inr h ↦ ap (λ l. seen n l) (take_all (n + 2) line h)
+          short_line-long n (take (n + 2) line) (omega (arith, size)) ∙ sym (short_line-long n line (omega (arith, h))))
+      | inr h ↦ ap (λ l. short_line n l) (take_all (n + 2) line h)
     ]

@@ -3,11 +3,11 @@ use Rattle.std.proofs.Common.{◌≡◌, ℕ, ◌+◌, ◌<◌, ◌≤◌, List,
 use Rattle.std.proofs.lemmas.List.{length-append, length-take}
 use Rattle.std.proofs.Math.Seq.{take-nil, take-append_seam}
 use Rattle.std.specs.Str.Lines.{strip_carriage_return}
-use Rattle.uv_lines.specs.Lines.{line_feed, seen, split, closed_lines, open_lines, lines_of}
+use Rattle.uv_lines.specs.Lines.{line_feed, short_line, split, closed_lines, open_lines, lines_of}
 use Rattle.uv_lines.specs.Progress.{Stands, Adds, IsReportOfFirst}
 use Rattle.uv_lines.specs.Reported.{Reported}
 use Rattle.uv_lines.proofs.LineLemmas.{split-closing, split-growing, closed-closing, closed-growing, closed_front, lines_more, take_more}
-use Rattle.uv_lines.proofs.ReportedLemmas.{Reported-snoc, kept_seen, kept_seen_open}
+use Rattle.uv_lines.proofs.ReportedLemmas.{Reported-snoc, kept_short_line, kept_short_line_open}
 
 -- of a line whose front isn't kept nothing has come
 none_begun : (n : ℕ) (l : List ℕ) → take (n + 2) l ≡ [] → l ≡ []
@@ -31,7 +31,7 @@ Stands-start reports lines n p begun text count none empty = record {
 -- the report on one line more
 said_more : {S : Type 0} (reports : S → Option (List ℕ) → List ℕ → S → Type 0) (lines : S → ℕ) (n : ℕ) (start p q : S)
     (ls : List (List ℕ)) (line written old new : List ℕ) → Reported reports n start ls (written ++ old) p
-    → Adds reports lines p old (seen n line) q new → Reported reports n start (ls ++ line ∷ []) (written ++ new) q
+    → Adds reports lines p old (short_line n line) q new → Reported reports n start (ls ++ line ∷ []) (written ++ new) q
 said_more reports lines n start p q ls line written old new all adds =
     subst (λ t. Reported reports n start (ls ++ line ∷ []) t q)
     (append_assoc written old adds.said ∙ ap (λ t. written ++ t) (sym adds.appended))
@@ -41,7 +41,7 @@ said_more reports lines n start p q ls line written old new all adds =
 pub Stands-closed : {S : Type 0} (reports : S → Option (List ℕ) → List ℕ → S → Type 0) (lines : S → ℕ) (n : ℕ)
     (start : S) (written read front : List ℕ) (p q : S) (begun left old new : List ℕ) → split front ≡ ([], front)
     → Stands reports lines n start written read p begun old
-    → Adds reports lines p old (seen n (strip_carriage_return ((split read).1 ++ front))) q new → left ≡ []
+    → Adds reports lines p old (short_line n (strip_carriage_return ((split read).1 ++ front))) q new → left ≡ []
     → Stands reports lines n start written (read ++ (front ++ line_feed ∷ [])) q left new
 Stands-closed reports lines n start written read front p q begun left old new none h adds empty =
     let line = strip_carriage_return ((split read).1 ++ front) in
@@ -59,28 +59,28 @@ Stands-closed reports lines n start written read front p q begun left old new no
 pub Stands-whole : {S : Type 0} (reports : S → Option (List ℕ) → List ℕ → S → Type 0) (lines : S → ℕ) (n : ℕ)
     (start : S) (written read front : List ℕ) (p q : S) (begun left old new : List ℕ) → split front ≡ ([], front)
     → Stands reports lines n start written read p begun old → begun ≡ []
-    → Adds reports lines p old (seen n (strip_carriage_return front)) q new → left ≡ []
+    → Adds reports lines p old (short_line n (strip_carriage_return front)) q new → left ≡ []
     → Stands reports lines n start written (read ++ (front ++ line_feed ∷ [])) q left new
 Stands-whole reports lines n start written read front p q begun left old new none h whole adds empty =
     let nothing : (split read).1 ≡ [] = none_begun n (split read).1 (sym h.kept ∙ whole) in
     Stands-closed reports lines n start written read front p q begun left old new none h
-    (subst (λ l. Adds reports lines p old (seen n (strip_carriage_return (l ++ front))) q new) (sym nothing) adds) empty
+    (subst (λ l. Adds reports lines p old (short_line n (strip_carriage_return (l ++ front))) q new) (sym nothing) adds) empty
 
 -- the same where a front of the line was kept, and this one with it
 pub Stands-kept : {S : Type 0} (reports : S → Option (List ℕ) → List ℕ → S → Type 0) (lines : S → ℕ) (n : ℕ)
     (start : S) (written read front : List ℕ) (p q : S) (begun kept left old new : List ℕ)
     → split front ≡ ([], front)
     → Stands reports lines n start written read p begun old → kept ≡ take (n + 2) (begun ++ front)
-    → Adds reports lines p old (seen n (strip_carriage_return kept)) q new → left ≡ []
+    → Adds reports lines p old (short_line n (strip_carriage_return kept)) q new → left ≡ []
     → Stands reports lines n start written (read ++ (front ++ line_feed ∷ [])) q left new
 Stands-kept reports lines n start written read front p q begun kept left old new none h is adds empty =
     let line = (split read).1 ++ front in
     let same : kept ≡ take (n + 2) line =
     is ∙ ap (λ l. take (n + 2) (l ++ front)) h.kept ∙ take_more (n + 2) (split read).1 front in
-    let sight : seen n (strip_carriage_return kept) ≡ seen n (strip_carriage_return line) =
-    ap (λ l. seen n (strip_carriage_return l)) same ∙ kept_seen n line in
+    let same_line : short_line n (strip_carriage_return kept) ≡ short_line n (strip_carriage_return line) =
+    ap (λ l. short_line n (strip_carriage_return l)) same ∙ kept_short_line n line in
     Stands-closed reports lines n start written read front p q begun left old new none h
-    (subst (λ s. Adds reports lines p old s q new) sight adds) empty
+    (subst (λ s. Adds reports lines p old s q new) same_line adds) empty
 
 -- a line has gone on
 pub Stands-growing : {S : Type 0} (reports : S → Option (List ℕ) → List ℕ → S → Type 0) (lines : S → ℕ) (n : ℕ)
@@ -175,13 +175,13 @@ begun_some n items (x ∷ xs) e h = omega arith
 pub Ends-begun : {S : Type 0} (reports : S → Option (List ℕ) → List ℕ → S → Type 0) (lines : S → ℕ) (n : ℕ)
     (start : S) (written read : List ℕ) (p q : S) (begun old new : List ℕ)
     → Stands reports lines n start written read p begun old → 0 < length begun
-    → Adds reports lines p old (seen n begun) q new
+    → Adds reports lines p old (short_line n begun) q new
     → Reported reports n start (lines_of read) (written ++ new) q × (lines q ≡ length (lines_of read))
 Ends-begun reports lines n start written read p q begun old new h some adds =
     let line = (split read).1 in
-    let sight : seen n begun ≡ seen n line = ap (λ l. seen n l) h.kept ∙ kept_seen_open n line in
-    let whole : Adds reports lines p old (seen n line) q new =
-    subst (λ s. Adds reports lines p old s q new) sight adds in
+    let same_line : short_line n begun ≡ short_line n line = ap (λ l. short_line n l) h.kept ∙ kept_short_line_open n line in
+    let whole : Adds reports lines p old (short_line n line) q new =
+    subst (λ s. Adds reports lines p old s q new) same_line adds in
     let all : lines_of read ≡ closed_lines read ++ line ∷ [] =
     ap (λ l. closed_lines read ++ l) (open_cons line (begun_some (n + 2) begun line h.kept some)) in (
       rw all (said_more reports lines n start p q (closed_lines read) line written old new h.reported whole),

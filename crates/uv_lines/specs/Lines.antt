@@ -31,6 +31,6 @@ open_lines (x ∷ xs) = (x ∷ xs) ∷ []
 abbrev pub lines_of : List ℕ → List (List ℕ)
 lines_of bytes = closed_lines bytes ++ open_lines (split bytes).1
 
--- a line as it is reported on: none where it has more bytes than a line may have
-abbrev pub seen : ℕ → List ℕ → Option (List ℕ)
-seen line_bytes line = if nat_le (length line) line_bytes then Some line else None
+-- the line, where it has at most as many bytes as a line may have
+abbrev pub short_line : ℕ → List ℕ → Option (List ℕ)
+short_line line_bytes line = if nat_le (length line) line_bytes then Some line else None

@@ -2,14 +2,14 @@
 -- the lines before it, as a number does.
 use Rattle.std.specs.Prelude.{◌≡◌, ℕ, List, [], ◌∷◌, ◌++◌, Option}
 use Rattle.std.specs.Io.KnownBytes.{Appends}
-use Rattle.uv_lines.specs.Lines.{seen}
+use Rattle.uv_lines.specs.Lines.{short_line}
 
 -- from one state to another the lines were reported on, by this text
 abbrev pub Reported : {S : Type 0} → (S → Option (List ℕ) → List ℕ → S → Type 0) → ℕ → S → List (List ℕ) → List ℕ → S
     → Type 0
 Reported reports line_bytes start [] text now = (text ≡ []) × (now ≡ start)
 Reported {S} reports line_bytes start (line ∷ lines) text now =
-    (front : List ℕ) × (rest : List ℕ) × (next : S) × reports start (seen line_bytes line) front next
+    (front : List ℕ) × (rest : List ℕ) × (next : S) × reports start (short_line line_bytes line) front next
     × Reported reports line_bytes next lines rest now × (text ≡ front ++ rest)
 
 -- they were, and the text was written

@@ -1,7 +1,7 @@
 //! The lines of a piece, each reported on where it ends.
 ghost use Rattle.std.specs.Prelude.{◌≡◌, ℕ, ◌+◌, ◌-◌, ◌^◌, ◌<◌, List, [], ◌∷◌, ◌++◌, IfErr, IfSome, None, OnOk, OnErr, drop, length, take, vec_len};
 ghost use Rattle.std.specs.Str.Lines.{strip_carriage_return};
-ghost use Rattle.uv_lines.specs.Lines.{line_feed, seen, split};
+ghost use Rattle.uv_lines.specs.Lines.{line_feed, short_line, split};
 ghost use Rattle.uv_lines.specs.Progress.{Adds, Stands, TakeFault, ended};
 
 use crate::fault::LineFault;
@@ -153,7 +153,7 @@ impl<R: Reporter> Progress<R> {
         ensures setting { self.new.limits ≡ self.old.limits }
         ensures begun { self.new.begun.items ≡ self.old.begun.items }
         ensures added { OnOk result (Adds R.reports R.lines self.old.reporter self.old.text.items
-            (seen self.old.limits.line_bytes line.now) self.new.reporter self.new.text.items) }
+            (short_line self.old.limits.line_bytes line.now) self.new.reporter self.new.text.items) }
         ensures none { OnErr result ((self.new.reporter ≡ self.old.reporter)
             × (self.new.text.items ≡ self.old.text.items)) }
     {
@@ -167,7 +167,7 @@ impl<R: Reporter> Progress<R> {
         ensures setting { self.new.limits ≡ self.old.limits }
         ensures begun { OnOk result (self.new.begun.items ≡ []) }
         ensures added { OnOk result (Adds R.reports R.lines self.old.reporter self.old.text.items
-            (seen self.old.limits.line_bytes (ended is_closed self.old.begun.items)) self.new.reporter
+            (short_line self.old.limits.line_bytes (ended is_closed self.old.begun.items)) self.new.reporter
             self.new.text.items) }
         ensures none { OnErr result ((self.new.reporter ≡ self.old.reporter)
             × (self.new.text.items ≡ self.old.text.items)) }
@@ -193,7 +193,7 @@ fn report_on<R: Reporter>(
     text: &mut Vec<u8>,
 ) -> Result<(), R::Fault>
     requires { R.lines reporter.old < 2 ^ 64 - 1 }
-    ensures added { OnOk result (Adds R.reports R.lines reporter.old text.old.items (seen line_bytes line.now)
+    ensures added { OnOk result (Adds R.reports R.lines reporter.old text.old.items (short_line line_bytes line.now)
         reporter.new text.new.items) }
     ensures none { OnErr result ((reporter.new ≡ reporter.old) × (text.new.items ≡ text.old.items)) }
 {

@@ -9,7 +9,7 @@ use Rattle.std.proofs.KnownBytes.{Appends-trans, Appends-nil, Keeps-refl}
 use Rattle.std.specs.Io.KnownBytes.{Appends}
 use Rattle.uv_lines.specs.declared.fault.LineFault.{LineFault}
 use Rattle.uv_lines.specs.declared.fault.LineFault.TheVariants as stopped
-use Rattle.uv_lines.specs.Lines.{seen, closed_lines, lines_of}
+use Rattle.uv_lines.specs.Lines.{short_line, closed_lines, lines_of}
 use Rattle.uv_lines.specs.Reported.{Reported}
 use Rattle.uv_lines.specs.Run as run
 use Rattle.uv_links.specs.declared.counts.Counts.{Counts}
@@ -19,25 +19,25 @@ use Rattle.uv_links.specs.declared.fault.RoomFault.{RoomFault}
 use Rattle.uv_links.specs.declared.fault.RoomFault.TheVariants as room
 use Rattle.uv_links.specs.Fault.{IsBaseFault}
 use Rattle.uv_links.specs.Report.{ListSetting, Said, TooLong, IsSaid, AreSaid, IsReport, IsReportOfFirst, report_line, report_lines, count_line, counted, tally, ok_of, bad_of, differs_of}
-use Rattle.uv_links.specs.Reporting.{Reporting, IsSeenSaid, Says, none_counted}
+use Rattle.uv_links.specs.Reporting.{Reporting, IsSaidOf, Says, none_counted}
 use Rattle.uv_links.specs.Run.{WroteFirst, WroteFront, WroteLines, Reports, Leaves, LeavesCounts, fault_of_run, reads_failed, writes_failed}
 
 -- ---- what is said of each line
 
--- what is said of a line as it is seen is said of it
-seen_said : (s : ListSetting) (line : List ℕ) (said : Said) → IsSeenSaid s (seen s.line_bytes line) said
+-- what is said of a line within its limit or of a longer one is said of the line
+short_line_said : (s : ListSetting) (line : List ℕ) (said : Said) → IsSaidOf s (short_line s.line_bytes line) said
     → IsSaid s line said
-seen_said s line said is =
+short_line_said s line said is =
     elim (cases_lt s.line_bytes (length line)) [
       | inl long ↦ (
           let over : nat_le (length line) s.line_bytes ≡ false = grind (arith, common_steps, long) in
-          let none : seen s.line_bytes line ≡ None = rw over refl in
-          let too_long : said ≡ TooLong = subst (λ o. IsSeenSaid s o said) none is in
+          let none : short_line s.line_bytes line ≡ None = rw over refl in
+          let too_long : said ≡ TooLong = subst (λ o. IsSaidOf s o said) none is in
           subst (λ x. IsSaid s line x) (sym too_long) long)
       | inr short ↦ (
           let fits : nat_le (length line) s.line_bytes ≡ true = grind (arith, common_steps, short) in
-          let some : seen s.line_bytes line ≡ Some line = rw fits refl in
-          subst (λ o. IsSeenSaid s o said) some is)
+          let some : short_line s.line_bytes line ≡ Some line = rw fits refl in
+          subst (λ o. IsSaidOf s o said) some is)
     ]
 
 -- the counts of two reports
@@ -104,8 +104,8 @@ reported_said n p q (l ∷ ls) text is all =
     record {
       saids = says.said ∷ more.saids;
       said = (
-        seen_said p.setting l says.said
-            (subst (λ k. IsSeenSaid p.setting (seen k l) says.said) (sym is) says.is_said),
+        short_line_said p.setting l says.said
+            (subst (λ k. IsSaidOf p.setting (short_line k l) says.said) (sym is) says.is_said),
         subst (λ s. AreSaid s ls more.saids) says.setting more.said,
       );
       lines = all.5 ∙ ap (λ t. t ++ rest) says.written

@@ -8,15 +8,15 @@ pub record Reporting : Type 0 where
   pub setting : ListSetting
   pub counts : Counts
 
--- what is said of a line as it is seen: it is too long where it isn't
-abbrev pub IsSeenSaid : ListSetting → Option (List ℕ) → Said → Type 0
-IsSeenSaid setting None said = said ≡ TooLong
-IsSeenSaid setting (Some line) said = IsSaid setting line said
+-- what is said of a line; none stands for one that has more bytes than a line may have
+abbrev pub IsSaidOf : ListSetting → Option (List ℕ) → Said → Type 0
+IsSaidOf setting None said = said ≡ TooLong
+IsSaidOf setting (Some line) said = IsSaid setting line said
 
 -- the line of the report, numbered from 1, and the counts with it
 pub record Says (before : Reporting) (line : Option (List ℕ)) (text : List ℕ) (after : Reporting) : Type 0 where
   pub said : Said
-  pub is_said : IsSeenSaid before.setting line said
+  pub is_said : IsSaidOf before.setting line said
   pub written : text ≡ report_line (before.counts.lines + 1) said
   pub setting : after.setting ≡ before.setting
   pub counted : after.counts ≡ counted before.counts said

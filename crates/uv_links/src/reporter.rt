@@ -3,7 +3,7 @@ ghost use Rattle.std.specs.Prelude.{◌≡◌, ◌+◌, ◌-◌, ◌^◌, ◌<�
 ghost use Rattle.uv_lines.specs.Progress.{Adds};
 ghost use Rattle.uv_links.specs.Judgement.{judged_said};
 ghost use Rattle.uv_links.specs.Report.{counted, report_line};
-ghost use Rattle.uv_links.specs.Reporting.{IsSeenSaid, Says, none_counted};
+ghost use Rattle.uv_links.specs.Reporting.{IsSaidOf, Says, none_counted};
 
 use crate::counts::Counts;
 use crate::fault::RoomFault;
@@ -92,7 +92,7 @@ impl<'b> Reporter for LinkReporter<'b> {
         line: Option<&[u8]>,
         text: &mut Vec<u8>,
     ) -> Result<(), RoomFault> {
-        let judgement = judge_seen(alloc, &self.judge, line)?;
+        let judgement = judge_line(alloc, &self.judge, line)?;
         match self.add(judgement, text) {
             Ok(()) => Ok(()),
             Err(AllocError) => Err(RoomFault::Memory),
@@ -105,8 +105,8 @@ impl<'b> Reporter for LinkReporter<'b> {
 }
 
 // What is said of a line; none stands for one that is too long.
-fn judge_seen(alloc: Global, judge: &Judge<'_>, line: Option<&[u8]>) -> Result<Judgement, RoomFault>
-    ensures { IfOk result (λ j. IsSeenSaid judge.now (option_copied line.entry) (judged_said j)) }
+fn judge_line(alloc: Global, judge: &Judge<'_>, line: Option<&[u8]>) -> Result<Judgement, RoomFault>
+    ensures { IfOk result (λ j. IsSaidOf judge.now (option_copied line.entry) (judged_said j)) }
 {
     match line {
         Some(line) => judge.judge(alloc, line),

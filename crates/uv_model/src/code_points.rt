@@ -1,5 +1,5 @@
-//! The code points at the start of a text.
-ghost use Rattle.std.specs.Prelude.{◌≡◌, [], ◌∷◌, MatchOption};
+//! The code points at the start of a text, and what stands behind them.
+ghost use Rattle.std.specs.Prelude.{◌≡◌, [], ◌∷◌, MatchOption, drop};
 ghost use Rattle.std.specs.Str.{chars};
 ghost use Rattle.uv_model.specs.Units as spec;
 
@@ -11,6 +11,27 @@ pub fn first_code_point(text: &str) -> Option<(char, &str)>
     match left.next() {
         Some(c) => Some((c, left.as_str())),
         None => None,
+    }
+}
+
+/// What stands behind so many code points of a text: nothing where it has no more.
+pub fn behind_code_points(text: &str, count: usize) -> &str
+    ensures { chars result.now ≡ drop count (chars text.now) }
+{
+    let mut left = text;
+    for _ in 0..count {
+        left = behind_first(left);
+    }
+    left
+}
+
+// What stands behind the first code point, if there is one.
+fn behind_first(text: &str) -> &str
+    ensures { chars result.now ≡ drop 1 (chars text.now) }
+{
+    match first_code_point(text) {
+        Some((_, rest)) => rest,
+        None => text,
     }
 }
 
@@ -36,6 +57,19 @@ mod tests {
         assert_eq!(rt; first_code_point(""), None);
         assert_eq!(rt; first_code_point("a"), Some(('a', "")));
         assert_eq!(rt; first_code_point("\u{10FFFD}b"), Some(('\u{10FFFD}', "b")));
+    }
+
+    #[test]
+    fn passes_code_points(rt: HostRuntime) {
+        for (count, left) in [
+            (0, "a\u{E9}\u{10FFFD}"),
+            (1, "\u{E9}\u{10FFFD}"),
+            (2, "\u{10FFFD}"),
+            (3, ""),
+            (4, ""),
+        ] {
+            assert_eq!(rt; behind_code_points("a\u{E9}\u{10FFFD}", count), left);
+        }
     }
 
     #[test]

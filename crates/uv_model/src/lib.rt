@@ -21,7 +21,7 @@ mod url_hosts;
 mod url_paths;
 mod well_formedness;
 
-pub use code_points::{first_code_point, starts_with_two_hex};
+pub use code_points::{behind_code_points, first_code_point, starts_with_two_hex};
 pub use devices::{
     DeviceFault, FromReader, ScriptSink, ScriptSource, Sink, Source, ToWriter, write_whole,
 };

@@ -1,6 +1,6 @@
 //! The rules that a text can violate, and refusals.
 ghost use Rattle.std.specs.Prelude.{◌≡◌, MatchOption};
-ghost use Rattle.uv_model.specs.Complaints.Rule.{IsNoName, named_rule, rule_name, rule_number, rule_sentence};
+ghost use Rattle.uv_model.specs.Complaints.Rule.{IsNoName, named_rule, rule_name, rule_number, rule_sentence, rules_in_order};
 
 /// A rule of valid URL strings (URL Standard, sections 3.4 and 4.3) that a text violates, by number.
 #[derive(Clone, Copy, Debug, PartialEq, Eq)]
@@ -36,6 +36,28 @@ pub enum Rule {
 }
 
 impl Rule {
+    /// The rules in the order of their numbers.
+    pub fn in_order() -> [Rule; 14]
+        ensures { result ≡ rules_in_order }
+    {
+        [
+            Rule::NoScheme,
+            Rule::OpaqueBase,
+            Rule::TwoSlashes,
+            Rule::HostMissing,
+            Rule::HostDomain,
+            Rule::HostNumber,
+            Rule::HostIpv6,
+            Rule::HostCodePoint,
+            Rule::PortDigit,
+            Rule::PortRange,
+            Rule::FirstSegmentEmpty,
+            Rule::DriveAfterHost,
+            Rule::CodePoint,
+            Rule::Percent,
+        ]
+    }
+
     /// The rule's number, from 1 to 14 in the order of the variants.
     pub fn number(self) -> u8
         ensures { result ≡ rule_number self }

@@ -1,7 +1,6 @@
 //! Diagnostics as a document of SARIF 2.1.0, which is written result by result.
 ghost use Rattle.std.specs.Prelude.{◌≡◌, ◌++◌, IfOk, OnOk, flat_map, string_bytes};
 ghost use Rattle.serde_json.specs.View.{view};
-ghost use Rattle.uv_model.specs.Complaints.Rule.{rules_in_order};
 ghost use Rattle.uv_report.specs.Sarif as spec;
 
 use crate::diagnostic::Diagnostic;
@@ -20,24 +19,6 @@ const NO_PATH: AsciiSet = ascii_set!(
         .remove(b'_')
         .remove(b'~')
 );
-
-// The rules in the order of their numbers.
-const RULES: [Rule; 14] = [
-    Rule::NoScheme,
-    Rule::OpaqueBase,
-    Rule::TwoSlashes,
-    Rule::HostMissing,
-    Rule::HostDomain,
-    Rule::HostNumber,
-    Rule::HostIpv6,
-    Rule::HostCodePoint,
-    Rule::PortDigit,
-    Rule::PortRange,
-    Rule::FirstSegmentEmpty,
-    Rule::DriveAfterHost,
-    Rule::CodePoint,
-    Rule::Percent,
-];
 
 /// Pushes the document up to its results: the version, the tool and its rules.
 #[tactic(auto, unfolding(crate::specs::Sarif::sarif_begin))]
@@ -62,7 +43,7 @@ fn push_rules(alloc: Global, text: &mut String) -> Result<(), AllocError>
     push_rule(alloc, text, Finding::NotUtf8)?;
     text.push_str(",")?;
     push_rule(alloc, text, Finding::TooLong)?;
-    push_uri_rules(alloc, text, &RULES)?;
+    push_uri_rules(alloc, text, Rule::in_order().as_slice())?;
     Ok(())
 }
 

@@ -177,6 +177,104 @@ fn writes_a_document_of_sarif(rt: HostRuntime) -> Result<(), Fail> {
     Ok(())
 }
 
+// A diagnostic of the longest line, of a file with a long name, at a place behind the start.
+fn long<'a>(file: &'a str, text: &'a str) -> Diagnostic<'a> {
+    refused(file, Rule::CodePoint, 65_535, text)
+}
+
+// The longest line, the last code point of which may not stand in a URL.
+fn long_line(alloc: Global) -> Result<String, AllocError> {
+    let mut text = String::new(alloc);
+    text.push_str("http://h/")?;
+    for _ in 9..65_535 {
+        text.push('a')?;
+    }
+    text.push(' ')?;
+    Ok(text)
+}
+
+// Texts, one behind the other.
+fn joined(alloc: Global, texts: &[&str]) -> Result<String, AllocError> {
+    let mut all = String::new(alloc);
+    for text in texts {
+        all.push_str(text)?;
+    }
+    Ok(all)
+}
+
+#[test]
+fn writes_long_lines_and_long_names(rt: HostRuntime) -> Result<(), Fail> {
+    let alloc = rt.alloc();
+    let line = long_line(alloc)?;
+    let mut file = String::new(alloc);
+    for _ in 0..4_096 {
+        file.push('f')?;
+    }
+    let (file, line) = (file.as_str(), line.as_str());
+    let sentence = "this code point may not stand in a URL";
+    let gnu = joined(
+        alloc,
+        &[file, ":3:65536: error: ", sentence, " [code-point]\n"],
+    )?;
+    let mut caret = joined(alloc, &[gnu.as_str(), line, "\n"])?;
+    for _ in 0..65_535 {
+        caret.push(' ')?;
+    }
+    caret.push_str("^\n")?;
+    let json = joined(
+        alloc,
+        &[
+            "{\"column\":65536,\"file\":\"",
+            file,
+            "\",\"line\":3,\"message\":\"",
+            sentence,
+            "\",\"rule\":\"code-point\",\"text\":\"",
+            line,
+            "\"}\n",
+        ],
+    )?;
+    let github = joined(
+        alloc,
+        &[
+            "::error file=",
+            file,
+            ",line=3,col=65536,title=code-point::",
+            sentence,
+            "\n",
+        ],
+    )?;
+    for (format, wanted) in [
+        (Format::Gnu, gnu.as_str()),
+        (Format::Caret, caret.as_str()),
+        (Format::Json, json.as_str()),
+        (Format::Github, github.as_str()),
+    ] {
+        assert!(rt;
+            report(alloc, format, &long(file, line))?.as_str() == wanted,
+            "by {}",
+            format.name()
+        );
+    }
+    Ok(())
+}
+
+#[test]
+fn writes_documents_of_long_lines(rt: HostRuntime) -> Result<(), Fail> {
+    let alloc = rt.alloc();
+    let line = long_line(alloc)?;
+    let found = long("f", line.as_str());
+    let checkstyle = report(alloc, Format::Checkstyle, &found)?;
+    assert!(rt;
+        checkstyle
+            .as_str()
+            .contains("<error line=\"3\" column=\"65536\" severity=\"error\" ")
+    );
+    let sarif = Value::from_str(alloc, report(alloc, Format::Sarif, &found)?.as_str())?;
+    let column = "/runs/0/results/0/locations/0/physicalLocation/region/startColumn";
+    assert_eq!(rt; sarif.pointer(column).and_then(Value::as_u64), Some(65_536));
+    Ok(())
+}
+
 #[test]
 fn finds_each_format_by_its_name(rt: HostRuntime) {
     for name in ["gnu", "caret", "json", "github", "sarif", "checkstyle"] {

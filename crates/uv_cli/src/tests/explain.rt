@@ -79,17 +79,26 @@ fn knows_no_other_names(rt: HostRuntime) -> Result<(), Fail> {
     Ok(())
 }
 
-// Each write behind so many short ones fails in turn: a beginning is written.
+// Behind these short writes a write fails: a beginning is written.
+fn tells_a_failed_write(
+    rt: &(impl Abort + AllocGlobal),
+    writes: &[Result<usize, DeviceFault>],
+) -> Result<(), Fail> {
+    let mut out = ScriptSink::new(rt.alloc(), HOST_MISSING.len(), writes)?;
+    let answer = run_explain(rt.alloc(), Some("host-missing"), &mut out);
+    assert_eq!(rt; answer, Err(CliFault::Write));
+    assert_eq!(rt; out.failures(), 1);
+    assert_eq!(rt; out.bytes().len(), 7 * writes.len());
+    assert!(rt; HOST_MISSING.as_bytes().starts_with(out.bytes()));
+    Ok(())
+}
+
+// Each write behind so many short ones fails in turn.
 #[test]
 fn tells_each_failed_write(rt: HostRuntime) -> Result<(), Fail> {
     let mut writes: Vec<Result<usize, DeviceFault>> = Vec::new(rt.alloc());
     for _ in 0..HOST_MISSING.len() / 7 {
-        let mut out = ScriptSink::new(rt.alloc(), HOST_MISSING.len(), writes.as_slice())?;
-        let answer = run_explain(rt.alloc(), Some("host-missing"), &mut out);
-        assert_eq!(rt; answer, Err(CliFault::Write));
-        assert_eq!(rt; out.failures(), 1);
-        assert_eq!(rt; out.bytes().len(), 7 * writes.len());
-        assert!(rt; HOST_MISSING.as_bytes().starts_with(out.bytes()));
+        tells_a_failed_write(&rt, writes.as_slice())?;
         writes.push(Ok(7))?;
     }
     Ok(())

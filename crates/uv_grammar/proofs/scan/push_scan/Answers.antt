@@ -9,17 +9,17 @@ pub loop-refusal-smaller : goal.loop-refusal-smaller
 loop-refusal-smaller c =
     let within = scan_within c.args.scan (chars c.loop-refusal.left.now) c.in-Some.refusal.place c.in-Some.refusal.rule
     c.in-Some.ensures.stands in
-    let shorter = ap length c.behind_place-left.ensures
+    let shorter = ap length c.behind_code_points-left.ensures
     ∙ length-drop (c.in-Some.refusal.place + 1) (chars c.loop-refusal.left.now) in
     omega arith
 
 pub loop-refusal-preserved : goal.loop-refusal-preserved
 loop-refusal-preserved c =
     scan_goes_on c.args.scan c.args.start c.args.text.now c.args.found.now.items c.loop-refusal.found.items _
-    c.loop-refusal.here c.loop-refusal.left.now c.behind_place-left.result.now c.in-Some.refusal
-    c.loop-refusal.invariant c.behind_place-left.utf8 c.in-Some.ensures
+    c.loop-refusal.here c.loop-refusal.left.now c.behind_code_points-left.result.now c.in-Some.refusal
+    c.loop-refusal.invariant c.behind_code_points-left.utf8 c.in-Some.ensures
     (c.in_ok-push.ensures.items ∙ ap (λ r. c.loop-refusal.found.items ++ r ∷ []) c.refusal_behind.ensures)
-    c.behind_place-left.ensures
+    c.behind_code_points-left.ensures
 
 pub returns : goal.returns
 returns c =

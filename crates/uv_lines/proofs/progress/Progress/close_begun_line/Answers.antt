@@ -1,6 +1,6 @@
 -- A line that has begun in an earlier piece ends.
 use Rattle.std.proofs.Common.{◌∷◌, ◌++◌, ◌∙◌, true}
-use Rattle.uv_lines.specs.Lines.{line_feed, seen}
+use Rattle.uv_lines.specs.Lines.{line_feed, short_line}
 use Rattle.uv_lines.specs.Progress.{Adds, ended}
 use Rattle.uv_lines.proofs.StandsLemmas.{Stands-kept, room-left}
 use Rattle.uv_lines.proofs.progress.Progress.close_begun_line.Goals as goal
@@ -20,7 +20,7 @@ returns-in-Ok-clause-stands g c = λ start written read h.
     let q = c.report_begun.new.self in
     let same = c.keep.ensures.rest in
     let adds : Adds g.R.Reporter.reports g.R.Reporter.lines p.reporter p.text.items
-    (seen p.limits.line_bytes (ended true k.begun.items)) q.reporter q.text.items =
+    (short_line p.limits.line_bytes (ended true k.begun.items)) q.reporter q.text.items =
     rw (← same.0, ← same.1, ← same.2) c.in-Ok.ensures.added in
     Stands-kept g.R.Reporter.reports g.R.Reporter.lines p.limits.line_bytes start written read c.args.front.now
     p.reporter q.reporter p.begun.items k.begun.items q.begun.items p.text.items q.text.items c.requires.line h

@@ -1,7 +1,7 @@
 -- So many code points have been passed as turns are done.
 use Rattle.std.proofs.Common.{◌≡◌, ℕ, List, IsUtf8, drop}
 use Rattle.std.specs.Str.{chars}
-use Rattle.urlcheck_c.proofs.places.behind.Given as goal
+use Rattle.uv_model.proofs.code_points.behind_code_points.Given as goal
 
 -- what is left stands behind so many code points
 pub record IsBehind (text : List ℕ) (passed : ℕ) (left : List ℕ) : Type 0 where
