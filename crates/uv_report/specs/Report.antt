@@ -1,5 +1,5 @@
--- What a report is made of, in each format: a beginning, for each file with diagnostics a beginning of its own, its
--- diagnostics and an end, and then an end.
+-- What a report is made of, in each format: a beginning, for each file a beginning of its own, its diagnostics and an
+-- end, and then an end.
 use Rattle.std.specs.Prelude.{ℕ, Bool, List, []}
 use Rattle.uv_report.specs.declared.diagnostic.Diagnostic.{Diagnostic}
 use Rattle.uv_report.specs.declared.format.Format.{Format}

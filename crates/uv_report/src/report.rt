@@ -1,5 +1,5 @@
-//! Reports in any format. A report is a beginning, then for each file with diagnostics its own beginning, its
-//! diagnostics and its end, and then an end.
+//! Reports in any format. A report is a beginning, then for each file its own beginning, its diagnostics and its end,
+//! and then an end.
 ghost use Rattle.std.specs.Prelude.{◌≡◌, ◌++◌, IfOk, OnErr, OnOk, string_bytes};
 ghost use Rattle.uv_report.specs.Report.{begin_text, diagnostic_text, end_text, file_begin_text, file_end_text};
 
@@ -40,7 +40,7 @@ fn begin_of(alloc: Global, format: Format) -> Result<String, AllocError>
 }
 
 /// Pushes what stands before the diagnostics of a file: a start tag in Checkstyle's format, and nothing in another.
-/// It is called for a file that has a diagnostic. Where a growth is refused, the text stays as it was.
+/// Where a growth is refused, the text stays as it was.
 pub fn push_file_begin(
     alloc: Global,
     text: &mut String,

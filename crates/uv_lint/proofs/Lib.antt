@@ -1,0 +1,4 @@
+pub mod DiagnosticLemmas
+pub mod FindingLemmas
+pub mod RunLemmas
+pub mod FailureLemmas

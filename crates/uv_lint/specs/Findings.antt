@@ -1,0 +1,72 @@
+-- What is found with a line of a file.
+use Rattle.std.specs.Prelude.{◌≡◌, ℕ, List, [], ◌∷◌, ◌⊎◌, Option, Some, None, map, option_copied}
+use Rattle.std.specs.Str.{IsUtf8, chars}
+use Rattle.uv_model.specs.declared.profile.Profile.{Profile}
+use Rattle.uv_model.specs.declared.rule.Refusal.{Refusal}
+use Rattle.uv_model.specs.Complaints.AllComplaints.{AreFaults}
+use Rattle.uv_model.specs.Parts.{Parts}
+use Rattle.uv_model.specs.Records.Url.{Url}
+use Rattle.uv_model.specs.Valid.{Valid}
+use Rattle.uv_grammar.specs.Verdict.{IsRefused}
+use Rattle.uv_report.specs.declared.finding.Finding.{Finding}
+use Rattle.uv_report.specs.declared.finding.Finding.TheVariants.{Refused, NotUtf8, TooLong}
+use Rattle.uv_report.specs.declared.format.Format.{Format}
+use Rattle.uv_lint.specs.declared.setting.Complaints.{Complaints}
+use Rattle.uv_lint.specs.declared.setting.Complaints.TheVariants.{Least, All}
+use Rattle.uv_lint.specs.declared.setting.LintSetting.{LintSetting}
+
+-- a file's name, what its lines are judged by, and how what is found is written
+pub record FileSetting : Type 0 where
+  pub file : List ℕ
+  pub base : Option Url
+  pub profile : Profile
+  pub complaints : Complaints
+  pub format : Format
+
+-- the setting of a file with this name
+abbrev pub file_setting : List ℕ → LintSetting → FileSetting
+file_setting file setting = record {
+  file = file;
+  base = option_copied setting.base;
+  profile = setting.profile;
+  complaints = setting.complaints;
+  format = setting.format;
+}
+
+-- there is no refusal and the text is valid, or the text is refused by the first of them
+abbrev pub Judges : Profile → Option Url → List ℕ → List Refusal → Type 0
+Judges profile base text [] = (parts : Parts) × Valid profile base text parts
+Judges profile base text (refusal ∷ rest) = IsRefused profile base text refusal
+
+-- no refusal stands behind the first one
+abbrev pub HasOneAtMost : List Refusal → Type 0
+HasOneAtMost [] = Unit {0}
+HasOneAtMost (refusal ∷ rest) = rest ≡ []
+
+-- these complaints of the text are reported: the least of them, or all of them, each once, in their order
+abbrev pub AreReported : Complaints → Profile → Option Url → List ℕ → List Refusal → Type 0
+AreReported Least profile base text refusals = HasOneAtMost refusals
+AreReported All profile base text refusals = AreFaults profile base text refusals
+
+-- what is found with a text: nothing where it is valid, else the complaints of it that are reported
+pub record AreTextFindings (setting : FileSetting) (text : List ℕ) (findings : List Finding) : Type 0 where
+  pub refusals : List Refusal
+  pub judges : Judges setting.profile setting.base text refusals
+  pub reported : AreReported setting.complaints setting.profile setting.base text refusals
+  pub are : findings ≡ map Refused refusals
+
+-- What is found with a line; none stands for one that has more bytes than a line may have. It is found that such a line
+-- is too long; nothing with an empty line; that a line isn't UTF-8; else what is found with its text.
+abbrev pub AreFindings : FileSetting → Option (List ℕ) → List Finding → Type 0
+AreFindings setting None findings = findings ≡ TooLong ∷ []
+AreFindings setting (Some []) findings = findings ≡ []
+AreFindings setting (Some (x ∷ xs)) findings =
+    (IsUtf8 (x ∷ xs) × AreTextFindings setting (chars (x ∷ xs)) findings)
+    ⊎ (¬ (IsUtf8 (x ∷ xs)) × (findings ≡ NotUtf8 ∷ []))
+
+-- what is found with each of the lines
+abbrev pub AreAllFindings : FileSetting → List (Option (List ℕ)) → List (List Finding) → Type 0
+AreAllFindings setting [] [] = Unit {0}
+AreAllFindings setting (line ∷ lines) (findings ∷ rest) =
+    AreFindings setting line findings × AreAllFindings setting lines rest
+AreAllFindings setting _ _ = ⊥

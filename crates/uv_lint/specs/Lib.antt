@@ -1,0 +1,4 @@
+pub mod Findings
+pub mod Report
+pub mod Reporting
+pub mod Run

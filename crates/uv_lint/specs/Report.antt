@@ -1,0 +1,88 @@
+-- The report on a file: what stands before its diagnostics, the diagnostics on each line, in order and numbered from 1,
+-- and what stands behind them.
+use Rattle.std.specs.Prelude.{◌≡◌, ℕ, ◌+◌, Bool, false, List, [], ◌∷◌, ◌++◌, Option, Some, None, map, sum_by}
+use Rattle.std.specs.Borrow.{Bor}
+use Rattle.std.specs.Str.Lossy.{utf8_lossy}
+use Rattle.uv_report.specs.declared.finding.Finding.{Finding}
+use Rattle.uv_report.specs.declared.format.Format.{Format}
+use Rattle.uv_report.specs.Report.{diagnostic_text, file_begin_text, file_end_text}
+use Rattle.uv_lines.specs.Lines.{short_line}
+use Rattle.uv_lint.specs.declared.counts.LintCounts.{LintCounts}
+use Rattle.uv_lint.specs.Findings.{AreAllFindings, FileSetting}
+
+-- ---- the diagnostics
+
+-- a text behind a reference; where that points no diagnostic tells
+abbrev pub lent : List ℕ → Bor (List ℕ)
+lent text = record { ref_ptr = (0, 0); now = text }
+
+-- a diagnostic for each finding; the first of them is the first one of the report, or isn't
+abbrev pub diagnostics_text : Format → List ℕ → ℕ → List ℕ → Bool → List Finding → List ℕ
+diagnostics_text format file number text is_first [] = []
+diagnostics_text format file number text is_first (finding ∷ rest) =
+    diagnostic_text format is_first
+    (record { file = lent file; line = number; finding = finding; text = lent text })
+    ++ diagnostics_text format file number text false rest
+
+-- What is shown of a line: its text, where U+FFFD stands for what isn't UTF-8; and nothing of one that has more bytes
+-- than a line may have, for which none stands.
+abbrev pub shown : Option (List ℕ) → List ℕ
+shown None = []
+shown (Some line) = utf8_lossy line
+
+-- the diagnostics on a line with this number
+abbrev pub line_text : FileSetting → ℕ → Option (List ℕ) → Bool → List Finding → List ℕ
+line_text setting number line is_first findings =
+    diagnostics_text setting.format setting.file number (shown line) is_first findings
+
+-- no diagnostic was written yet, nor for these findings
+abbrev pub is_still_first : Bool → List Finding → Bool
+is_still_first is_first [] = is_first
+is_still_first is_first (finding ∷ rest) = false
+
+-- the diagnostics on lines, from a number on
+abbrev pub lines_text : FileSetting → ℕ → Bool → List (Option (List ℕ)) → List (List Finding) → List ℕ
+lines_text setting number is_first (line ∷ lines) (findings ∷ rest) =
+    line_text setting number line is_first findings
+    ++ lines_text setting (number + 1) (is_still_first is_first findings) lines rest
+lines_text setting number is_first _ _ = []
+
+-- ---- the counts
+
+-- a judged line counts once; an empty one isn't judged
+abbrev pub judged_of : Option (List ℕ) → ℕ
+judged_of (Some []) = 0
+judged_of _ = 1
+
+-- and so does one of which something was found
+abbrev pub refused_of : List Finding → ℕ
+refused_of [] = 0
+refused_of (finding ∷ rest) = 1
+
+-- no line was counted yet
+abbrev pub none_counted : LintCounts
+none_counted = record { lines = 0; refused = 0 }
+
+-- the counts with a further line
+abbrev pub counted : LintCounts → Option (List ℕ) → List Finding → LintCounts
+counted counts line findings = record {
+  lines = counts.lines + judged_of line;
+  refused = counts.refused + refused_of findings;
+}
+
+-- the counts of lines
+abbrev pub tally : List (Option (List ℕ)) → List (List Finding) → LintCounts
+tally lines findings = record { lines = sum_by judged_of lines; refused = sum_by refused_of findings }
+
+-- ---- the report
+
+-- The text is the report on lines of which none may have more than so many bytes, and these are its counts. Its first
+-- diagnostic is the first one of the whole report, or isn't.
+pub record IsReport (setting : FileSetting) (line_bytes : ℕ) (is_first : Bool) (lines : List (List ℕ))
+    (text : List ℕ) (counts : LintCounts) : Type 0 where
+  pub findings : List (List Finding)
+  pub found : AreAllFindings setting (map (short_line line_bytes) lines) findings
+  pub whole : text
+      ≡ file_begin_text setting.format setting.file
+      ++ (lines_text setting 1 is_first (map (short_line line_bytes) lines) findings ++ file_end_text setting.format)
+  pub counts_are : counts ≡ tally (map (short_line line_bytes) lines) findings

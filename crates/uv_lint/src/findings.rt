@@ -1,0 +1,86 @@
+//! What is found with a line.
+ghost use Rattle.std.specs.Prelude.{◌≡◌, [], ◌∷◌, IfOk, map, option_copied};
+ghost use Rattle.std.specs.Str.{chars};
+ghost use Rattle.uv_grammar.specs.Verdict.{IsRefused};
+ghost use Rattle.uv_lint.specs.Findings.{AreFindings, AreTextFindings};
+ghost use Rattle.uv_report.specs.declared.finding.Finding.TheVariants.{Refused};
+
+use crate::reporter::LintReporter;
+use crate::setting::Complaints;
+use std::alloc::{AllocError, Global};
+use std::str::from_utf8;
+use uv_grammar::{Verdict, check, faults};
+use uv_model::Refusal;
+use uv_report::Finding;
+
+impl<'a> LintReporter<'a> {
+    /// What is found with a line: nothing with an empty or a valid one. None stands for a line that is too long. No
+    /// memory is asked for a valid line but where a domain's form is made.
+    pub(crate) fn findings(
+        &self,
+        alloc: Global,
+        line: Option<&[u8]>,
+    ) -> Result<Vec<Finding>, AllocError>
+        ensures { IfOk result (λ found. AreFindings self.now.setting (option_copied line.entry) found.items) }
+    {
+        let Some(line) = line else {
+            return alone(alloc, Finding::TooLong);
+        };
+        if line.is_empty() {
+            return Ok(Vec::new(alloc));
+        }
+        match from_utf8(line) {
+            Ok(text) => self.text_findings(alloc, text),
+            Err(_) => alone(alloc, Finding::NotUtf8),
+        }
+    }
+
+    // What is found with a text.
+    fn text_findings(&self, alloc: Global, text: &str) -> Result<Vec<Finding>, AllocError>
+        ensures { IfOk result (λ found. AreTextFindings self.now.setting (chars text.now) found.items) }
+    {
+        match check(alloc, text, self.base(), self.profile())? {
+            Verdict::Yes(_) => Ok(Vec::new(alloc)),
+            Verdict::No(refusal) => self.refused_findings(alloc, text, refusal),
+        }
+    }
+
+    // What is found with a text that is refused so.
+    fn refused_findings(
+        &self,
+        alloc: Global,
+        text: &str,
+        refusal: Refusal,
+    ) -> Result<Vec<Finding>, AllocError>
+        requires { IsRefused self.now.setting.profile self.now.setting.base (chars text.now) refusal }
+        ensures { IfOk result (λ found. AreTextFindings self.now.setting (chars text.now) found.items) }
+    {
+        match self.complaints() {
+            Complaints::Least => alone(alloc, Finding::Refused(refusal)),
+            Complaints::All => {
+                let refusals = faults(alloc, text, self.base(), self.profile())?;
+                each_refused(alloc, refusals.as_slice())
+            }
+        }
+    }
+}
+
+// One finding.
+fn alone(alloc: Global, finding: Finding) -> Result<Vec<Finding>, AllocError>
+    ensures { IfOk result (λ found. found.items ≡ finding ∷ []) }
+{
+    let mut found = Vec::new(alloc);
+    found.push(finding)?;
+    Ok(found)
+}
+
+// The finding of each refusal, in their order.
+fn each_refused(alloc: Global, refusals: &[Refusal]) -> Result<Vec<Finding>, AllocError>
+    ensures { IfOk result (λ found. found.items ≡ map Refused refusals.now) }
+{
+    let mut found = Vec::new(alloc);
+    for refusal in refusals {
+        found.push(Finding::Refused(*refusal))?;
+    }
+    Ok(found)
+}

@@ -1,0 +1,186 @@
+//! What reports on the lines of a file.
+ghost use Rattle.std.specs.Prelude.{◌≡◌, ◌+◌, ◌-◌, ◌^◌, ◌<◌, ◌++◌, OnErr, OnOk, if◌then◌else◌, option_copied};
+ghost use Rattle.uv_lint.specs.Findings.{file_setting};
+ghost use Rattle.uv_lint.specs.Report.{judged_of, line_text, none_counted};
+ghost use Rattle.uv_lint.specs.Reporting.{with_line};
+
+use crate::counts::LintCounts;
+use crate::setting::{Complaints, LintSetting};
+use crate::told_line::{ToldLine, shown_text};
+use std::alloc::{AllocError, Global};
+use std::marker::Model;
+use uv_lines::Reporter;
+use uv_model::{Profile, Record};
+use uv_report::Finding;
+
+/// What reports on the lines of a file: what they are judged by, whether no diagnostic of the report was written yet,
+/// and the counts of the lines before.
+#[derive(Drop)]
+pub(crate) struct LintReporter<'a> {
+    file: &'a str,
+    setting: LintSetting<'a>,
+    is_first: bool,
+    // All lines, also the empty ones: they are numbered too.
+    lines: u64,
+    counts: LintCounts,
+    // The diagnostics on a line, whose memory is kept for the next one.
+    told: String,
+}
+
+impl<'a> Model for LintReporter<'a> {
+    ghost use Rattle.std.specs.Prelude.{◌≤◌};
+    ghost use Rattle.uv_lint.specs.Findings.{file_setting};
+    ghost use Rattle.uv_lint.specs.Reporting.{Linting};
+
+    ghost Value = { Linting };
+
+    ghost view = { λ r. record {
+      setting = file_setting r.file.now r.setting;
+      is_first = r.is_first;
+      lines = r.lines;
+      counts = r.counts;
+    } };
+
+    ghost invariant = { λ r. (r.counts.refused ≤ r.lines) × (r.counts.lines ≤ r.lines) };
+}
+
+impl<'a> LintReporter<'a> {
+    /// What reports on a file before its first line. It is told whether no diagnostic of the report was written yet.
+    pub(crate) fn new(
+        alloc: Global,
+        file: &'a str,
+        is_first: bool,
+        setting: LintSetting<'a>,
+    ) -> LintReporter<'a>
+        ensures { result ≡ record {
+          setting = file_setting file.now setting.entry;
+          is_first = is_first;
+          lines = 0;
+          counts = none_counted;
+        } }
+    {
+        LintReporter {
+            file,
+            setting,
+            is_first,
+            lines: 0,
+            counts: LintCounts {
+                lines: 0,
+                refused: 0,
+            },
+            told: String::new(alloc),
+        }
+    }
+
+    /// The counts of the lines on which it has reported.
+    pub(crate) fn counts(&self) -> LintCounts
+        ensures { result ≡ self.now.counts }
+    {
+        self.counts
+    }
+
+    /// The base of relative links.
+    pub(crate) fn base(&self) -> Option<&'a Record>
+        ensures { option_copied result ≡ self.now.setting.base }
+    {
+        self.setting.base
+    }
+
+    /// By which profile a line is valid.
+    pub(crate) fn profile(&self) -> Profile
+        ensures { result ≡ self.now.setting.profile }
+    {
+        self.setting.profile
+    }
+
+    /// Which complaints of a refused line are reported.
+    pub(crate) fn complaints(&self) -> Complaints
+        ensures { result ≡ self.now.setting.complaints }
+    {
+        self.setting.complaints
+    }
+
+    // Appends the diagnostics on the next line.
+    fn tell(
+        &mut self,
+        alloc: Global,
+        line: Option<&[u8]>,
+        findings: &[Finding],
+        text: &mut Vec<u8>,
+    ) -> Result<(), AllocError>
+        requires { self.old.lines < 2 ^ 64 - 1 }
+        ensures text { OnOk result (text.new.items ≡ text.old.items ++ line_text self.old.setting (self.old.lines + 1)
+            (option_copied line.entry) self.old.is_first findings.now) }
+        ensures none { OnErr result (text.new.items ≡ text.old.items) }
+        ensures same { self.new ≡ self.old }
+    {
+        let shown = shown_text(alloc, line)?;
+        let told_line = ToldLine {
+            file: self.file,
+            number: self.lines + 1,
+            text: shown.as_str(),
+        };
+        self.told.clear();
+        told_line.push(
+            alloc,
+            &mut self.told,
+            self.setting.format,
+            self.is_first,
+            findings,
+        )?;
+        text.extend_from_slice(self.told.as_bytes())
+    }
+
+    // Counts a line of which this was found.
+    fn count(&mut self, line: Option<&[u8]>, findings: &[Finding])
+        requires { self.old.lines < 2 ^ 64 - 1 }
+        ensures { self.new ≡ with_line self.old (option_copied line.entry) findings.now }
+    {
+        self.lines += 1;
+        if is_judged(line) {
+            self.counts.lines += 1;
+        }
+        if !findings.is_empty() {
+            self.counts.refused += 1;
+            self.is_first = false;
+        }
+    }
+}
+
+impl<'a> Reporter for LintReporter<'a> {
+    ghost use Rattle.uv_lint.specs.Reporting.{Says};
+
+    type Fault = AllocError;
+
+    ghost lines = { λ r. r.lines };
+
+    ghost reports = { Says };
+
+    fn report(
+        &mut self,
+        alloc: Global,
+        line: Option<&[u8]>,
+        text: &mut Vec<u8>,
+    ) -> Result<(), AllocError> {
+        let findings = self.findings(alloc, line)?;
+        if !findings.is_empty() {
+            self.tell(alloc, line, findings.as_slice(), text)?;
+        }
+        self.count(line, findings.as_slice());
+        Ok(())
+    }
+
+    fn line_count(&self) -> u64 {
+        self.lines
+    }
+}
+
+// Whether a line is judged: an empty one isn't.
+fn is_judged(line: Option<&[u8]>) -> bool
+    ensures { judged_of (option_copied line.entry) ≡ (if result then 1 else 0) }
+{
+    match line {
+        Some(line) => !line.is_empty(),
+        None => true,
+    }
+}

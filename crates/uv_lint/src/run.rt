@@ -1,0 +1,139 @@
+//! A run over a file.
+ghost use Rattle.std.specs.Prelude.{◌≡◌, ℕ, ◌+◌, ◌-◌, ◌^◌, ◌<◌, ◌≤◌, List, true, IfErr, IfOk, OnErr, OnOk, option_copied, string_bytes, take};
+ghost use Rattle.std.specs.Io.KnownBytes.{Appends, Consumes, IsAtEnd};
+ghost use Rattle.uv_report.specs.Report.{file_begin_text, file_end_text};
+ghost use Rattle.uv_lint.specs.Findings.{file_setting};
+ghost use Rattle.uv_lint.specs.Run.{EndsReport, FailsReads, Leaves, Reports, line_limits, may_end, writes_failed};
+
+use crate::counts::LintCounts;
+use crate::fault::{LintFault, answer_of_run, may_end};
+use crate::reporter::LintReporter;
+use crate::setting::LintSetting;
+use std::alloc::{AllocError, Global};
+use uv_lines::{LineFault, LineLimits, run_lines};
+use uv_model::{DeviceFault, Sink, Source, write_whole};
+use uv_report::{Format, push_file_begin, push_file_end};
+
+// How many bytes a line may have, and how many lines may come.
+const LINE_LIMITS: LineLimits = LineLimits {
+    line_bytes: 65_536,
+    lines: 1_000_000_000,
+};
+
+/// Reports on one file: judges each of its lines and writes what stands before the file's diagnostics, a diagnostic for
+/// each finding, and what stands behind them. It is told the name by which diagnostics tell the file, and whether no
+/// diagnostic of the report was written yet.
+///
+/// A line ends with LF, and one CR before that is no part of it; a last part without LF is a line where it isn't empty.
+/// Lines are numbered from 1, and an empty line, which is numbered too, isn't judged. A line may have 65,536 bytes, and
+/// 1,000,000,000 lines may come. What is found with the lines that a read has ended is written before the next read.
+/// What stands behind the diagnostics is written behind each fault but one of a write. The writer isn't flushed. The
+/// counts are those of the lines that were reported on, also behind a fault. After a fault nothing is tried again, and
+/// how far the reader was read is open.
+pub fn run_lint<R: Source, W: Sink>(
+    alloc: Global,
+    reader: &mut R,
+    writer: &mut W,
+    file: &str,
+    is_first: bool,
+    setting: LintSetting<'_>,
+) -> (LintCounts, Result<(), LintFault>)
+    requires reads { R.failed reader.old < 2 ^ 64 - 1 }
+    requires writes { W.failed writer.old < 2 ^ 64 - 1 }
+    ensures report { OnOk result.1 ((read : List ℕ)
+        × Consumes (R.remaining reader.old) (R.remaining reader.new) read × IsAtEnd (R.remaining reader.new)
+        × Reports (file_setting file.now setting.entry) line_limits is_first (W.contents writer.old) read result.0
+        (W.contents writer.new)) }
+    ensures fault { IfErr result.1 (λ e. (read : List ℕ)
+        × Consumes (R.remaining reader.old) (R.remaining reader.new) read
+        × Leaves e (file_setting file.now setting.entry) line_limits is_first (W.contents writer.old) read
+        (IsAtEnd (R.remaining reader.new)) result.0 (W.contents writer.new)) }
+    ensures failed { IfErr result.1 (λ e. FailsReads e (R.failed reader.old) (R.failed reader.new)
+        × (W.failed writer.new ≡ W.failed writer.old + writes_failed e)) }
+    ensures quiet { OnOk result.1 ((R.failed reader.new ≡ R.failed reader.old)
+        × (W.failed writer.new ≡ W.failed writer.old)) }
+{
+    run_within(alloc, reader, writer, file, is_first, setting, LINE_LIMITS)
+}
+
+/// The same within other limits.
+#[tactic(none)]
+pub(crate) fn run_within<R: Source, W: Sink>(
+    alloc: Global,
+    reader: &mut R,
+    writer: &mut W,
+    file: &str,
+    is_first: bool,
+    setting: LintSetting<'_>,
+    limits: LineLimits,
+) -> (LintCounts, Result<(), LintFault>)
+    requires reads { R.failed reader.old < 2 ^ 64 - 1 }
+    requires writes { W.failed writer.old < 2 ^ 64 - 1 }
+    requires short { limits.line_bytes ≤ 65536 }
+    requires few { limits.lines ≤ 1000000000 }
+    ensures report { OnOk result.1 ((read : List ℕ)
+        × Consumes (R.remaining reader.old) (R.remaining reader.new) read × IsAtEnd (R.remaining reader.new)
+        × Reports (file_setting file.now setting.entry) limits is_first (W.contents writer.old) read result.0
+        (W.contents writer.new)) }
+    ensures fault { IfErr result.1 (λ e. (read : List ℕ)
+        × Consumes (R.remaining reader.old) (R.remaining reader.new) read
+        × Leaves e (file_setting file.now setting.entry) limits is_first (W.contents writer.old) read
+        (IsAtEnd (R.remaining reader.new)) result.0 (W.contents writer.new)) }
+    ensures failed { IfErr result.1 (λ e. FailsReads e (R.failed reader.old) (R.failed reader.new)
+        × (W.failed writer.new ≡ W.failed writer.old + writes_failed e)) }
+    ensures quiet { OnOk result.1 ((R.failed reader.new ≡ R.failed reader.old)
+        × (W.failed writer.new ≡ W.failed writer.old)) }
+{
+    let reporter = LintReporter::new(alloc, file, is_first, setting);
+    let Ok(begin) = file_begin(alloc, setting.format, file) else {
+        return (reporter.counts(), Err(LintFault::Memory));
+    };
+    let Ok(end) = file_end(alloc, setting.format) else {
+        return (reporter.counts(), Err(LintFault::Memory));
+    };
+    if let Err(DeviceFault) = write_whole(writer, begin.as_bytes()) {
+        return (reporter.counts(), Err(LintFault::Write));
+    }
+    let (reporter, answer) = run_lines(alloc, reader, writer, reporter, limits);
+    (
+        reporter.counts(),
+        end_report(writer, end.as_bytes(), answer),
+    )
+}
+
+// Writes what stands behind the diagnostics of a file, where no write has failed.
+fn end_report<W: Sink>(
+    writer: &mut W,
+    end: &[u8],
+    answer: Result<(), LineFault<AllocError>>,
+) -> Result<(), LintFault>
+    requires { may_end answer ≡ true → W.failed writer.old < 2 ^ 64 - 1 }
+    ensures { EndsReport answer end.now (W.contents writer.old) (W.contents writer.new) (W.failed writer.old)
+        (W.failed writer.new) result }
+{
+    if !may_end(answer) {
+        return Err(LintFault::Write);
+    }
+    match write_whole(writer, end) {
+        Ok(()) => answer_of_run(answer),
+        Err(DeviceFault) => Err(LintFault::Write),
+    }
+}
+
+// What stands before the diagnostics of a file.
+fn file_begin(alloc: Global, format: Format, file: &str) -> Result<String, AllocError>
+    ensures { IfOk result (λ begin. string_bytes begin ≡ file_begin_text format file.now) }
+{
+    let mut begin = String::new(alloc);
+    push_file_begin(alloc, &mut begin, format, file)?;
+    Ok(begin)
+}
+
+// What stands behind them.
+fn file_end(alloc: Global, format: Format) -> Result<String, AllocError>
+    ensures { IfOk result (λ end. string_bytes end ≡ file_end_text format) }
+{
+    let mut end = String::new(alloc);
+    push_file_end(&mut end, format)?;
+    Ok(end)
+}

@@ -1,0 +1,284 @@
+//! Reports on files written out by hand, from the rules of the URL Standard, section 4.3, and the documents of the
+//! formats.
+ghost use Rattle.std.specs.Prelude.{◌≤◌};
+
+mod devices;
+
+use super::*;
+use crate::run::run_within;
+use std::alloc::Global;
+use std::process::Abort;
+use std::test::Fail;
+use uv_lines::LineLimits;
+use uv_model::{FromReader, Host, Profile, Record, Text, TextList, ToWriter, UrlPath, well_formed};
+use uv_report::Format;
+
+// The standard profile, no base, the least complaints, and lines as compilers write them.
+const PLAIN: LintSetting<'static> = LintSetting {
+    base: None,
+    profile: Profile::Standard,
+    complaints: Complaints::Least,
+    format: Format::Gnu,
+};
+
+// What a run over these bytes answers and writes, where no diagnostic was written before.
+fn ran(
+    alloc: Global,
+    bytes: &[u8],
+    setting: LintSetting<'_>,
+) -> (LintCounts, Result<(), LintFault>, Vec<u8>) {
+    let mut reader = FromReader::new(bytes);
+    let mut writer = ToWriter::new(Vec::new(alloc));
+    let (counts, answer) = run_lint(alloc, &mut reader, &mut writer, "list", true, setting);
+    (counts, answer, writer.into_writer())
+}
+
+// The report on these bytes is this text, with these counts.
+fn reports(
+    rt: &(impl Abort + AllocGlobal),
+    bytes: &[u8],
+    setting: LintSetting<'_>,
+    report: &str,
+    counts: (u64, u64),
+) {
+    let (found, answer, written) = ran(rt.alloc(), bytes, setting);
+    assert_eq!(rt; answer, Ok(()));
+    assert_eq!(rt; written.as_slice(), report.as_bytes());
+    assert_eq!(rt; (found.lines, found.refused), counts);
+}
+
+// An empty line, a CR before LF, a byte that isn't UTF-8, a last line without LF, and a CR that stays.
+#[test]
+fn tells_each_line_by_its_number(rt: HostRuntime) {
+    let list = b"http://h/\n\nhttp://x_y/\r\n\xff\n\r\nb";
+    let report = "list:3:8: error: the host that begins here is no valid domain [host-domain]\n\
+        list:4:1: error: this line isn't UTF-8 [not-utf8]\n\
+        list:6:1: error: there is no scheme and no base [no-scheme]\n";
+    reports(&rt, list, PLAIN, report, (4, 3));
+    reports(&rt, b"", PLAIN, "", (0, 0));
+    reports(&rt, b"\n\n\r\n", PLAIN, "", (0, 0));
+    let kept = "list:2:11: error: this code point may not stand in a URL [code-point]\n";
+    reports(&rt, b"http://h/\nhttp://h/a\r", PLAIN, kept, (2, 1));
+}
+
+// The record of `http://h/`, none where it isn't well formed.
+fn base_of(alloc: Global) -> Result<Option<Record>, Fail> {
+    let name = String::from_str(alloc, "h")?;
+    if !name.as_str().is_ascii() {
+        return Ok(None);
+    }
+    let host = Some(Host::Domain(Text::of(name)));
+    let mut segments = Vec::new(alloc);
+    segments.push(Text::of(String::new(alloc)))?;
+    let path = UrlPath::Segments(TextList::of(segments));
+    let scheme = String::from_str(alloc, "http")?;
+    if !well_formed(
+        scheme.as_str(),
+        host.as_ref(),
+        None,
+        &path,
+        None,
+        None,
+        Profile::Wide,
+    ) {
+        return Ok(None);
+    }
+    Ok(Some(Record::make(scheme, host, None, path, None, None)))
+}
+
+#[test]
+fn judges_by_the_profile_and_the_base(rt: HostRuntime) -> Result<(), Fail> {
+    let base = base_of(rt.alloc())?;
+    assert!(rt; base.is_some());
+    let list = b"http://x_y/\nb\n";
+    let domain = "list:1:8: error: the host that begins here is no valid domain [host-domain]\n";
+    let scheme = "list:2:1: error: there is no scheme and no base [no-scheme]\n";
+    let wide = LintSetting {
+        profile: Profile::Wide,
+        ..PLAIN
+    };
+    let against = LintSetting {
+        base: base.as_ref(),
+        ..PLAIN
+    };
+    let wide_against = LintSetting {
+        base: base.as_ref(),
+        ..wide
+    };
+    let both = format!(in rt.alloc(); "{domain}{scheme}")?;
+    reports(&rt, list, PLAIN, both.as_str(), (2, 2));
+    reports(&rt, list, wide, scheme, (2, 1));
+    reports(&rt, list, against, domain, (2, 1));
+    reports(&rt, list, wide_against, "", (2, 0));
+    Ok(())
+}
+
+#[test]
+fn tells_the_least_complaint_or_all(rt: HostRuntime) {
+    let list = b"http://h/a b%zz\nhttp://u@h/a b\n";
+    let first = "list:1:11: error: this code point may not stand in a URL [code-point]\n\
+        list:2:8: error: the host that begins here is no valid domain [host-domain]\n";
+    reports(&rt, list, PLAIN, first, (2, 2));
+    let all = LintSetting {
+        complaints: Complaints::All,
+        ..PLAIN
+    };
+    let each = "list:1:11: error: this code point may not stand in a URL [code-point]\n\
+        list:1:13: error: two hex digits have to follow this % [percent]\n\
+        list:2:8: error: the host that begins here is no valid domain [host-domain]\n\
+        list:2:13: error: this code point may not stand in a URL [code-point]\n";
+    reports(&rt, list, all, each, (2, 2));
+}
+
+// A fault behind a code point of two columns and one of two bytes, a line that isn't UTF-8, and both in each format.
+#[test]
+fn writes_each_format(rt: HostRuntime) {
+    let list = b"/\xe6\x97\xa5\xc3\xa9 \na\xffb\n";
+    let rows = [
+        (
+            Format::Gnu,
+            "list:1:1: error: there is no scheme and no base [no-scheme]\n\
+            list:2:1: error: this line isn't UTF-8 [not-utf8]\n",
+        ),
+        (
+            Format::Caret,
+            "list:1:1: error: there is no scheme and no base [no-scheme]\n/\u{65E5}\u{E9} \n^\n\
+            list:2:1: error: this line isn't UTF-8 [not-utf8]\na\u{FFFD}b\n^\n",
+        ),
+        (
+            Format::Json,
+            "{\"column\":1,\"file\":\"list\",\"line\":1,\"message\":\"there is no scheme and no base\",\
+            \"rule\":\"no-scheme\",\"text\":\"/\u{65E5}\u{E9} \"}\n\
+            {\"column\":1,\"file\":\"list\",\"line\":2,\"message\":\"this line isn't UTF-8\",\
+            \"rule\":\"not-utf8\",\"text\":\"a\u{FFFD}b\"}\n",
+        ),
+        (
+            Format::Github,
+            "::error file=list,line=1,col=1,title=no-scheme::there is no scheme and no base\n\
+            ::error file=list,line=2,col=1,title=not-utf8::this line isn't UTF-8\n",
+        ),
+        (
+            Format::Checkstyle,
+            "<file name=\"list\">\n<error line=\"1\" column=\"1\" severity=\"error\" \
+            message=\"there is no scheme and no base\" source=\"urlcheck.no-scheme\"/>\n\
+            <error line=\"2\" column=\"1\" severity=\"error\" message=\"this line isn't UTF-8\" \
+            source=\"urlcheck.not-utf8\"/>\n</file>\n",
+        ),
+    ];
+    for (format, report) in rows {
+        let setting = LintSetting { format, ..PLAIN };
+        reports(&rt, list, setting, report, (2, 2));
+    }
+}
+
+// A result of SARIF without the comma before it.
+fn sarif_result(alloc: Global, line: u64, column: u64) -> Result<String, Fail> {
+    Ok(format!(in alloc;
+        "{{\"level\":\"error\",\"locations\":[{{\"physicalLocation\":\
+        {{\"artifactLocation\":{{\"uri\":\"list\"}},\"region\":\
+        {{\"startColumn\":{column},\"startLine\":{line}}}}}}}],\"message\":\
+        {{\"text\":\"this code point may not stand in a URL\"}},\
+        \"ruleId\":\"code-point\",\"ruleIndex\":14}}\n"
+    )?)
+}
+
+// In SARIF a comma stands before each result but the first one of the whole report.
+#[test]
+fn puts_commas_between_results(rt: HostRuntime) -> Result<(), Fail> {
+    let sarif = LintSetting {
+        complaints: Complaints::All,
+        format: Format::Sarif,
+        ..PLAIN
+    };
+    let one = sarif_result(rt.alloc(), 2, 6)?;
+    let two = sarif_result(rt.alloc(), 2, 8)?;
+    let three = sarif_result(rt.alloc(), 3, 5)?;
+    let report = format!(in rt.alloc(); "{one},{two},{three}")?;
+    let list = b"urn:a\nurn:a b c\nurn: \n";
+    reports(&rt, list, sarif, report.as_str(), (3, 2));
+    for (bytes, text) in [(b"urn: \n".as_slice(), ","), (b"urn:a\n".as_slice(), "")] {
+        let mut reader = FromReader::new(bytes);
+        let mut writer = ToWriter::new(Vec::new(rt.alloc()));
+        let (_, answer) = run_lint(rt.alloc(), &mut reader, &mut writer, "list", false, sarif);
+        assert_eq!(rt; answer, Ok(()));
+        let written = writer.into_writer();
+        assert!(rt; written.starts_with(text.as_bytes()));
+        assert_eq!(rt; written.is_empty(), text.is_empty());
+    }
+    Ok(())
+}
+
+// A line of 65,536 code points is judged, with its fault in the last column, and a longer one isn't.
+#[test]
+fn judges_the_longest_line(rt: HostRuntime) -> Result<(), Fail> {
+    let mut longest = String::from_str(rt.alloc(), "urn:")?;
+    for _ in 0..65_531 {
+        longest.push('a')?;
+    }
+    let longest = longest.as_str();
+    let list = format!(in rt.alloc(); "{longest}b\r\n{longest} \n{longest}bb\n{longest}bb\r")?;
+    let report = "list:2:65536: error: this code point may not stand in a URL [code-point]\n\
+        list:3:1: error: this line has more than 65536 bytes [line-too-long]\n\
+        list:4:1: error: this line has more than 65536 bytes [line-too-long]\n";
+    reports(&rt, list.as_bytes(), PLAIN, report, (4, 3));
+    let caret = LintSetting {
+        format: Format::Caret,
+        ..PLAIN
+    };
+    let mut below = String::new(rt.alloc());
+    for _ in 0..65_535 {
+        below.push(' ')?;
+    }
+    let below = below.as_str();
+    let shown = format!(in rt.alloc();
+        "list:2:65536: error: this code point may not stand in a URL [code-point]\n{longest} \n{below}^\n\
+        list:3:1: error: this line has more than 65536 bytes [line-too-long]\n\n^\n\
+        list:4:1: error: this line has more than 65536 bytes [line-too-long]\n\n^\n"
+    )?;
+    let (_, answer, written) = ran(rt.alloc(), list.as_bytes(), caret);
+    assert_eq!(rt; answer, Ok(()));
+    assert!(rt; written.as_slice() == shown.as_bytes());
+    Ok(())
+}
+
+// Behind as many lines as may come a further one is a fault, and the file's end is written.
+#[test]
+fn stops_behind_the_last_line_that_may_come(rt: HostRuntime) {
+    let limits = LineLimits {
+        line_bytes: 3,
+        lines: 2,
+    };
+    let setting = LintSetting {
+        format: Format::Checkstyle,
+        ..PLAIN
+    };
+    let rows: [(&[u8], bool); 4] = [
+        (b"abcd\n\n", true),
+        (b"abcd\n\nb\n", false),
+        (b"abcd\n\n\n", false),
+        (b"abcd\n\nb", false),
+    ];
+    let report = "<file name=\"list\">\n<error line=\"1\" column=\"1\" severity=\"error\" \
+        message=\"this line has more than 65536 bytes\" source=\"urlcheck.line-too-long\"/>\n</file>\n";
+    for (bytes, ends) in rows {
+        let mut reader = FromReader::new(bytes);
+        let mut writer = ToWriter::new(Vec::new(rt.alloc()));
+        let (counts, answer) = run_within(
+            rt.alloc(),
+            &mut reader,
+            &mut writer,
+            "list",
+            true,
+            setting,
+            limits,
+        );
+        let want = if ends {
+            Ok(())
+        } else {
+            Err(LintFault::TooManyLines)
+        };
+        assert_eq!(rt; answer, want);
+        assert_eq!(rt; (counts.lines, counts.refused), (1, 1));
+        assert_eq!(rt; writer.into_writer().as_slice(), report.as_bytes());
+    }
+}
