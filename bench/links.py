@@ -55,7 +55,7 @@ def link(which):
     if which == "root_dot":
         return scheme() + "://" + name() + "." + rest()
     if which == "beyond_ascii":
-        return scheme() + "://" + name() + rest() + "/caf\u00e9"
+        return scheme() + "://" + name() + "/caf\u00e9" + rest()
     if which == "bad":
         return scheme() + "://" + name() + "/" + draw.choice(["a b", "a|b", "%zz", "[x]"])
     return scheme() + "://" + name() + rest()

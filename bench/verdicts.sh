@@ -73,7 +73,7 @@ esac
 spent() {
     local TIMEFORMAT=%U+%S
     if [ $by = time ]; then
-        { time "$1" "$2" $passes <"$links" >"$room/said"; } 2>&1 | awk -F+ '{ print int(($1 + $2) * 1000000) * 1000 }'
+        { time "$1" "$2" $passes <"$links" >"$room/said"; } 2>&1 | awk -F+ '{ printf "%.0f\n", ($1 + $2) * 1e9 }'
     else
         valgrind --tool=callgrind --callgrind-out-file=/dev/null "$1" "$2" $passes <"$links" 2>&1 >"$room/said" |
             sed -n 's/.*Collected : //p'

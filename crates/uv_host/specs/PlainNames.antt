@@ -8,9 +8,13 @@ use Rattle.uv_model.specs.Hosts.Domain.{without_root}
 abbrev pub is_sign : ℕ → Bool
 is_sign c = is_ascii_lowercase c || is_ascii_digit c
 
+-- a hyphen or a full stop
+abbrev pub is_joint : ℕ → Bool
+is_joint c = (c == hyphen) || (c == full_stop)
+
 -- a letter or a digit, or a hyphen or a full stop where one stands before it
 abbrev pub goes_on : Bool → ℕ → Bool
-goes_on signed c = is_sign c || (signed && ((c == hyphen) || (c == full_stop)))
+goes_on signed c = is_sign c || (signed && is_joint c)
 
 -- letters and digits, with single hyphens and full stops between them, where `signed` says whether one stands before
 abbrev pub is_chain : Bool → List ℕ → Bool

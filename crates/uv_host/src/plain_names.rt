@@ -1,6 +1,7 @@
 //! Plain names: letters and digits with single marks between them.
-ghost use Rattle.std.specs.Prelude.{◌≡◌, ◌≤◌, ◌-◌, IfSome, IsTrue, chars, get_or, length, true};
-ghost use Rattle.uv_host.specs.PlainNames.{IsChainFront, goes_on, is_rooted_chain, is_sign};
+ghost use Rattle.std.specs.Prelude.{◌≡◌, ◌<◌, ◌≤◌, ◌+◌, IfSome, IsTrue, chars, get_or, length, true};
+ghost use Rattle.std.specs.List.{prefix_len};
+ghost use Rattle.uv_host.specs.PlainNames.{IsChainFront, is_joint, is_rooted_chain, is_sign};
 ghost use Rattle.uv_model.specs.declared.profile.Profile.{Profile};
 ghost use Rattle.uv_model.specs.Hosts.Domain as spec;
 
@@ -23,35 +24,52 @@ const SIGNS: [u8; 256] = [
 pub fn name_front(bytes: &[u8]) -> Option<usize>
     ensures { IfSome result (IsChainFront bytes.now) }
 {
-    let mut front = 0;
-    let mut signed = false;
-    while front < bytes.len() && goes_on(signed, bytes[front]) {
-        signed = is_sign(bytes[front]);
-        front += 1;
+    let mut front = signs_front(bytes);
+    if front == 0 {
+        return None;
     }
-    if signed {
-        return Some(front);
+    while front < bytes.len() && is_joint(bytes[front]) {
+        let signs = signs_front(&bytes[front + 1..]);
+        if signs == 0 {
+            return root_end(bytes, front);
+        }
+        front = passed(bytes, front, signs);
     }
-    if ends_at_root(bytes, front) {
-        Some(front)
+    Some(front)
+}
+
+// Where a name ends that a full stop at this place ends, the root's.
+fn root_end(bytes: &[u8], place: usize) -> Option<usize>
+    requires { place < length bytes.now }
+    ensures { IfSome result (λ end. (end ≡ place + 1) × (get_or bytes.now place 0 ≡ 46)) }
+{
+    if bytes[place] == b'.' {
+        Some(place + 1)
     } else {
         None
     }
 }
 
-// Whether the front of so many bytes ends with a full stop.
-fn ends_at_root(bytes: &[u8], front: usize) -> bool
-    requires { front ≤ length bytes.now }
-    ensures { IsTrue result → (1 ≤ front) × (get_or bytes.now (front - 1) 0 ≡ 46) }
+// What follows a joint at this place and so many letters and digits behind it.
+fn passed(bytes: &[u8], place: usize, signs: usize) -> usize
+    requires { place + signs < length bytes.now }
+    ensures { result ≡ place + 1 + signs }
 {
-    front > 0 && bytes[front - 1] == b'.'
+    place + 1 + signs
 }
 
-// Whether such a name goes on by a byte, where `signed` says whether a letter or a digit stands before it.
-fn goes_on(signed: bool, b: u8) -> bool
-    ensures { result ≡ goes_on signed b }
+// How many letters and digits the bytes begin with.
+fn signs_front(bytes: &[u8]) -> usize
+    ensures { result ≡ prefix_len is_sign bytes.now }
 {
-    is_sign(b) || (signed && (b == b'-' || b == b'.'))
+    bytes.iter().take_while(|b| is_sign(**b)).count()
+}
+
+// A hyphen or a full stop.
+fn is_joint(b: u8) -> bool
+    ensures { result ≡ is_joint b }
+{
+    b == b'-' || b == b'.'
 }
 
 // A lower-case letter or a digit.
