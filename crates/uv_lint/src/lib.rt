@@ -4,6 +4,7 @@
 mod counts;
 mod fault;
 mod findings;
+pub mod laws;
 mod reporter;
 mod run;
 mod setting;
