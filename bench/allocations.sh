@@ -44,7 +44,7 @@ for kind in plain port root_dot ipv4; do
     python3 "$top/bench/links.py" "$count" 1 $kind >"$room/$kind" 2>/dev/null
     counted $kind "$room/$kind" none
 done
-sed 's/^http/HTTP/; s/$/\xc3\xa9/' "$room/plain" >"$room/parts"
+sed 's/^http/HTTP/; s/$/?\xc3\xa9/' "$room/plain" >"$room/parts"
 counted 'plain names in other links' "$room/parts" none
 sed 's/^http:\/\//http:\/\/X/; s/^https:\/\//https:\/\/X/' "$room/plain" >"$room/upper"
 counted 'names of which a form is made' "$room/upper" some
