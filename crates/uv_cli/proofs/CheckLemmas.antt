@@ -7,7 +7,7 @@ use Rattle.uv_model.specs.Records.Url.{Url}
 use Rattle.uv_resolve.proofs.RunLemmas.{runs_to_its_record}
 use Rattle.uv_cli.specs.declared.check.CheckEnd.{CheckEnd}
 use Rattle.uv_cli.specs.declared.check.CheckEnd.TheVariants.{Valid, Refused, BaseRefused}
-use Rattle.uv_cli.specs.declared.check.Complaints.{Complaints}
+use Rattle.uv_lint.specs.declared.setting.Complaints.{Complaints}
 use Rattle.uv_cli.specs.Check.{HasWritten, IsBase, RunsAgainst, WritesWhole}
 
 -- the whole that was written against the URL of the base

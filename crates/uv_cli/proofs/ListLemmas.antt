@@ -4,11 +4,12 @@ use Rattle.std.specs.Borrow.{Bor}
 use Rattle.uv_model.specs.declared.profile.Profile.{Profile}
 use Rattle.uv_model.specs.Records.Url.{Url}
 use Rattle.uv_cli.specs.declared.ends.End.{End}
-use Rattle.uv_cli.specs.declared.ends.End.TheVariants.{Valid, Refused, Shown, Words, UnknownRule, BaseRefused, Fault}
-use Rattle.uv_cli.specs.declared.ends.End.TheVariants.{Stopped, Vectors, Unread}
+use Rattle.uv_cli.specs.declared.ends.End.TheVariants.{Valid, Refused, Shown, Words, UnknownRule, UnknownFormat, BaseRefused}
+use Rattle.uv_cli.specs.declared.ends.End.TheVariants.{Fault, Linted, Stopped, Vectors, Unread}
 use Rattle.uv_cli.specs.declared.fault.CliFault.TheVariants.{Memory, Write}
 use Rattle.uv_cli.specs.Check.{IsBase}
-use Rattle.uv_cli.specs.Jobs.{Device, HasListed, HasListedAgainst}
+use Rattle.uv_cli.specs.Device.{Device}
+use Rattle.uv_cli.specs.Jobs.{HasListed, HasListedAgainst}
 
 -- the same against the base's text
 pub listed_against : (profile : Profile) (base : Option (Bor (List ℕ))) (url : Option Url) (end : End)
@@ -21,6 +22,8 @@ listed_against profile base url (Stopped fault) input rest old new is listed = (
 listed_against profile base url Shown input rest old new is listed = absurd listed
 listed_against profile base url Words input rest old new is listed = absurd listed
 listed_against profile base url UnknownRule input rest old new is listed = absurd listed
+listed_against profile base url UnknownFormat input rest old new is listed = absurd listed
+listed_against profile base url (Linted linted) input rest old new is listed = absurd listed
 listed_against profile base url (BaseRefused refusal) input rest old new is listed = absurd listed
 listed_against profile base url (Fault Memory) input rest old new is listed = absurd listed
 listed_against profile base url (Fault Write) input rest old new is listed = absurd listed

@@ -1,5 +1,5 @@
 -- A text denotes one URL or has one refusal, so that an answer says whether a case passes.
-use Rattle.std.proofs.Common.{◌≡◌, ◌∙◌, ℕ, ◌≤◌, ◌-◌, Bool, true, false, List, Option, Some, None, ap, chars, get_or, refl, sym, subst, le_antisymm}
+use Rattle.std.proofs.Common.{◌≡◌, ◌∙◌, ℕ, ◌≤◌, ◌-◌, Bool, false, List, Option, Some, None, ap, chars, get_or, refl, sym, subst, le_antisymm}
 use Rattle.std.specs.Prelude.{Decides}
 use Rattle.std.specs.Str.{bytes_eq}
 use Rattle.std.proofs.lemmas.Bool.{false≢true}

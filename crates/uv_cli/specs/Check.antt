@@ -15,8 +15,8 @@ use Rattle.uv_grammar.specs.Verdict.{IsRefused}
 use Rattle.uv_resolve.specs.Resolve.{RunsToItsRecord}
 use Rattle.uv_cli.specs.declared.check.CheckEnd.{CheckEnd}
 use Rattle.uv_cli.specs.declared.check.CheckEnd.TheVariants as check
-use Rattle.uv_cli.specs.declared.check.Complaints.{Complaints}
-use Rattle.uv_cli.specs.declared.check.Complaints.TheVariants.{Least, All}
+use Rattle.uv_lint.specs.declared.setting.Complaints.{Complaints}
+use Rattle.uv_lint.specs.declared.setting.Complaints.TheVariants.{Least, All}
 use Rattle.uv_cli.specs.CheckText.{check_text, faults_text, refused_text}
 
 -- the line of a refused text's least complaint, or a line for each of its complaints, in their order

@@ -7,24 +7,26 @@ use Rattle.uv_model.specs.Complaints.Rule.{rule_name}
 use Rattle.uv_links.specs.declared.counts.Counts.{Counts}
 use Rattle.uv_links.specs.declared.fault.LinkFault.{LinkFault}
 use Rattle.uv_links.specs.declared.fault.LinkFault.TheVariants as link
+use Rattle.uv_lint.specs.declared.fault.LintFault.TheVariants.{Write}
 use Rattle.uv_words.specs.declared.words.WordsFault.{WordsFault}
 use Rattle.uv_words.specs.declared.words.WordsFault.TheVariants as words
 use Rattle.uv_words.specs.Words.{asks_to_show}
 use Rattle.uv_cli.specs.declared.check.CheckEnd.{CheckEnd}
 use Rattle.uv_cli.specs.declared.check.CheckEnd.TheVariants as check
-use Rattle.uv_cli.specs.declared.check.Complaints.{Complaints}
-use Rattle.uv_cli.specs.declared.check.Complaints.TheVariants as complaints
+use Rattle.uv_lint.specs.declared.setting.Complaints.{Complaints}
+use Rattle.uv_lint.specs.declared.setting.Complaints.TheVariants as complaints
 use Rattle.uv_cli.specs.declared.explain.ExplainEnd.{ExplainEnd}
 use Rattle.uv_cli.specs.declared.explain.ExplainEnd.TheVariants as explain
 use Rattle.uv_cli.specs.declared.fault.CliFault.{CliFault}
 use Rattle.uv_cli.specs.declared.fault.CliFault.TheVariants as cli
 use Rattle.uv_cli.specs.declared.ends.End.{End}
-use Rattle.uv_cli.specs.declared.ends.End.TheVariants.{Valid, Refused, Shown, Words, UnknownRule, BaseRefused, Fault}
-use Rattle.uv_cli.specs.declared.ends.End.TheVariants.{Stopped, Vectors, Unread}
+use Rattle.uv_cli.specs.declared.ends.End.TheVariants.{Valid, Refused, Shown, Words, UnknownRule, UnknownFormat, BaseRefused}
+use Rattle.uv_cli.specs.declared.ends.End.TheVariants.{Fault, Linted, Stopped, Vectors, Unread}
 use Rattle.uv_cli.specs.declared.vectors.VectorEnd.{VectorEnd}
 use Rattle.uv_cli.specs.declared.vectors.VectorEnd.TheVariants as vectors
 use Rattle.uv_cli.specs.declared.vectors.file.FileFault.{FileFault}
 use Rattle.uv_cli.specs.declared.vectors.file.FileFault.TheVariants as file
+use Rattle.uv_cli.specs.Linted.{lint_status, linted_text, with_fault}
 
 -- ---- what the flags say
 
@@ -79,6 +81,7 @@ end_after_output end true = end
 end_after_output Valid false = Fault cli.Write
 end_after_output Refused false = Fault cli.Write
 end_after_output Shown false = Fault cli.Write
+end_after_output (Linted linted) false = Linted (with_fault linted Write)
 end_after_output (Vectors vectors.AllPass) false = Fault cli.Write
 end_after_output (Vectors vectors.SomeFail) false = Fault cli.Write
 end_after_output end false = end
@@ -92,8 +95,10 @@ status_of Refused = 1
 status_of Shown = 0
 status_of Words = 2
 status_of UnknownRule = 2
+status_of UnknownFormat = 2
 status_of (BaseRefused refusal) = 2
 status_of (Fault fault) = 3
+status_of (Linted linted) = lint_status linted
 status_of (Stopped link.BaseDiffers) = 2
 status_of (Stopped fault) = 3
 status_of (Vectors vectors.AllPass) = 0
@@ -136,9 +141,12 @@ error_text Refused = []
 error_text Shown = []
 error_text Words = codes "words\n"
 error_text UnknownRule = codes "error: no rule has this name; `urlcheck explain` names them all\nwords\n"
+error_text UnknownFormat =
+    codes "error: no format has this name; they are gnu, caret, json, github, sarif and checkstyle\nwords\n"
 error_text (BaseRefused refusal) = base_refused_text refusal
 error_text (Fault cli.Memory) = codes "memory\n"
 error_text (Fault cli.Write) = codes "write\n"
+error_text (Linted linted) = linted_text linted
 error_text (Stopped fault) = stopped_text fault
 error_text (Vectors end) = vectors_text end
 error_text Unread = codes "read\n"

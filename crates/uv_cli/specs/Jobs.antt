@@ -14,21 +14,17 @@ use Rattle.uv_links.specs.Second.{AgreesOnBase}
 use Rattle.uv_words.specs.declared.words.Job.{Job}
 use Rattle.uv_words.specs.declared.words.Job.TheVariants as job
 use Rattle.uv_cli.specs.declared.check.CheckEnd.TheVariants as check
-use Rattle.uv_cli.specs.declared.check.Complaints.{Complaints}
+use Rattle.uv_lint.specs.declared.setting.Complaints.{Complaints}
 use Rattle.uv_cli.specs.declared.explain.ExplainEnd.TheVariants as explain
 use Rattle.uv_cli.specs.declared.fault.CliFault.TheVariants as cli
 use Rattle.uv_cli.specs.declared.ends.End.{End}
 use Rattle.uv_cli.specs.declared.ends.End.TheVariants as end
 use Rattle.uv_cli.specs.Check.{HasWritten, HasWrittenFront, IsBase, IsBaseRefused, RunsAgainst}
+use Rattle.uv_cli.specs.Device.{Device}
 use Rattle.uv_cli.specs.Ends.{complaints_of, profile_of}
 use Rattle.uv_cli.specs.Explain.{HasExplained, HasExplainedFront}
+use Rattle.uv_cli.specs.Lint.{HasLinted}
 use Rattle.uv_cli.specs.Vectors.Run.{WritesVectors, WritesVectorsFront, is_judged}
-
--- A device as contracts see it: the bytes that a source has still to give or that a sink holds, where it tells them,
--- and how many of its calls have failed.
-pub record Device : Type 0 where
-  pub bytes : Option (List ℕ)
-  pub failed : ℕ
 
 -- ---- a check
 
@@ -129,6 +125,8 @@ abbrev pub HasDone : Job → List ℕ → End → Device → Device → Device �
 HasDone (job.Check text base all wide) bytes end input rest old new =
     AtLent base (λ lent. HasChecked (complaints_of all) (profile_of wide) lent (chars (string_bytes text)) end old new
     × RunsAgainst (profile_of wide) lent (chars (string_bytes text))) × (rest ≡ input)
+HasDone (job.Lint asked) bytes end input rest old new =
+    AtLent asked.base (λ base. AtLent asked.format (λ format. HasLinted asked base format end input rest old new))
 HasDone (job.Links base wide) bytes end input rest old new =
     AtLent base (λ lent. HasListed (profile_of wide) lent end input rest old new)
 HasDone (job.Vectors file) bytes end input rest old new = HasRunVectors bytes end old new × (rest ≡ input)

@@ -1,6 +1,9 @@
 pub mod Check
 pub mod CheckText
+pub mod Device
 pub mod Ends
 pub mod Explain
 pub mod Jobs
+pub mod Lint
+pub mod Linted
 pub mod Vectors

@@ -8,6 +8,7 @@ use crate::fault::CliFault;
 use crate::report::{check_lines, fault_lines, refused_line};
 use std::alloc::{AllocError, Global};
 use uv_grammar::faults;
+use uv_lint::Complaints;
 use uv_model::{DeviceFault, Profile, Record, Refusal, Sink, write_whole};
 use uv_resolve::{ResolveFault, resolve};
 
@@ -20,15 +21,6 @@ pub enum CheckEnd {
     Refused,
     /// The base's text is refused alone, for this reason. Nothing was written.
     BaseRefused(Refusal),
-}
-
-/// Which complaints of a refused text are written.
-#[derive(Clone, Copy)]
-pub(crate) enum Complaints {
-    /// The least of them.
-    Least,
-    /// All of them, in their order.
-    All,
 }
 
 /// Checks a text by a profile, alone or against a base, and writes what it says of it: the lines of a valid text's

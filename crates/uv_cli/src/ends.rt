@@ -6,15 +6,21 @@ ghost use Rattle.uv_cli.specs.Ends.{base_refused_text, error_text, malformed_tex
 use crate::check::CheckEnd;
 use crate::explain::ExplainEnd;
 use crate::fault::CliFault;
+use crate::linted::Linted;
 use crate::vectors::{FileFault, VectorEnd};
 use std::alloc::{AllocError, Global};
 use uv_links::{Counts, LinkFault};
+use uv_lint::LintFault;
 use uv_model::Refusal;
 use uv_words::WordsFault;
 
 // What is said of a word that has to be the name of a rule, and is the name of none.
 const UNKNOWN_RULE: &str =
     "error: no rule has this name; `urlcheck explain` names them all\nwords\n";
+
+// What is said of a word that has to be the name of a format, and is the name of none.
+const UNKNOWN_FORMAT: &str =
+    "error: no format has this name; they are gnu, caret, json, github, sarif and checkstyle\nwords\n";
 
 /// How a run of the program ends.
 #[derive(Clone, Copy, Debug, PartialEq, Eq)]
@@ -29,10 +35,14 @@ pub enum End {
     Words,
     /// A word that has to be the name of a rule is the name of none.
     UnknownRule,
+    /// A word that has to be the name of a format is the name of none.
+    UnknownFormat,
     /// The base's text is refused alone, for this reason.
     BaseRefused(Refusal),
     /// A growth was refused, or a write or a flush failed.
     Fault(CliFault),
+    /// The lint of files has come to this.
+    Linted(Linted),
     /// The run over a list stopped.
     Stopped(LinkFault),
     /// The run over a vector file ended so.
@@ -122,6 +132,7 @@ pub(crate) fn end_after_output(end: End, is_out: bool) -> End
 {
     match end {
         End::Valid | End::Refused | End::Shown if !is_out => End::Fault(CliFault::Write),
+        End::Linted(linted) if !is_out => End::Linted(linted.with_fault(LintFault::Write)),
         End::Vectors(VectorEnd::AllPass | VectorEnd::SomeFail) if !is_out => {
             End::Fault(CliFault::Write)
         }
@@ -138,7 +149,9 @@ pub fn status(end: End) -> u8
     match end {
         End::Valid | End::Shown | End::Vectors(VectorEnd::AllPass) => 0,
         End::Refused | End::Vectors(VectorEnd::SomeFail) => 1,
-        End::Words | End::UnknownRule | End::BaseRefused(_) | End::Vectors(_) => 2,
+        End::Linted(linted) => linted.status(),
+        End::Words | End::UnknownRule | End::UnknownFormat => 2,
+        End::BaseRefused(_) | End::Vectors(_) => 2,
         End::Stopped(LinkFault::BaseDiffers) => 2,
         End::Fault(_) | End::Stopped(_) | End::Unread => 3,
     }
@@ -152,6 +165,8 @@ pub fn error_line(alloc: Global, end: End) -> Result<String, AllocError>
         End::Valid | End::Refused | End::Shown => Ok(String::new(alloc)),
         End::Words => "words\n".to_string(alloc),
         End::UnknownRule => UNKNOWN_RULE.to_string(alloc),
+        End::UnknownFormat => UNKNOWN_FORMAT.to_string(alloc),
+        End::Linted(linted) => linted.error_lines(alloc),
         End::BaseRefused(refusal) => base_refused_line(alloc, refusal),
         End::Fault(CliFault::Memory) => "memory\n".to_string(alloc),
         End::Fault(CliFault::Write) => "write\n".to_string(alloc),

@@ -4,22 +4,26 @@ ghost use Rattle.uv_cli.specs.Check.{RunsAgainst};
 ghost use Rattle.uv_cli.specs.Ends as spec;
 ghost use Rattle.uv_cli.specs.Jobs.{HasChecked, HasDone, HasRunExplain, HasRunVectors};
 
-use crate::check::{Complaints, run_check, run_faults};
+use crate::check::{run_check, run_faults};
 use crate::ends::{End, end_of_check, end_of_explanation, end_of_vectors};
 use crate::explain::run_explain;
 use crate::links::list_links;
+use crate::lint::lint_files;
 use crate::vectors::run_vectors;
 use std::alloc::Global;
+use std::fs::Files;
+use uv_lint::Complaints;
 use uv_model::{Profile, Sink, Source};
 use uv_words::Job;
 
 /// Does what a job asks for: it checks the job's text, against the job's base and by the profile that the job names, or
-/// reports on the lines of the input, or runs the cases of a vector file, or explains the job's rule, or each rule.
+/// says what is wrong with the lines of the job's files, or reports on the lines of the input, or runs the cases of a
+/// vector file, or explains the job's rule, or each rule.
 ///
-/// The file has the bytes of the job's file, and only a run of vectors looks at it. The input is read only by a list,
-/// and the output isn't flushed.
-pub fn run_job<I: Source, S: Sink>(
-    alloc: Global,
+/// The file has the bytes of the job's file, and only a run of vectors looks at it. A lint opens its files itself. The
+/// input is read only by a list, and by a lint for a file that is named `-`, and the output isn't flushed.
+pub fn run_job<R: Files + Eprint + AllocGlobal, I: Source, S: Sink>(
+    rt: &R,
     job: &Job,
     file: &[u8],
     input: &mut I,
@@ -33,6 +37,7 @@ pub fn run_job<I: Source, S: Sink>(
         (record { bytes = S.contents out.old; failed = S.failed out.old })
         (record { bytes = S.contents out.new; failed = S.failed out.new }) }
 {
+    let alloc = rt.alloc();
     match job {
         Job::Check {
             text,
@@ -45,6 +50,14 @@ pub fn run_job<I: Source, S: Sink>(
             base.as_deref(),
             complaints_of(*all),
             profile_of(*wide),
+            out,
+        ),
+        Job::Lint(asked) => lint_files(
+            rt,
+            asked,
+            asked.base.as_deref(),
+            asked.format.as_deref(),
+            input,
             out,
         ),
         Job::Links { base, wide } => {
@@ -96,8 +109,8 @@ fn check_text<S: Sink>(
     }
 }
 
-// The profile, with `--wide` and without.
-fn profile_of(wide: bool) -> Profile
+/// The profile, with `--wide` and without.
+pub(crate) fn profile_of(wide: bool) -> Profile
     ensures { result ≡ spec.profile_of wide }
 {
     if wide {
@@ -107,8 +120,8 @@ fn profile_of(wide: bool) -> Profile
     }
 }
 
-// Which complaints are written, with `--all` and without.
-fn complaints_of(all: bool) -> Complaints
+/// Which complaints are written, with `--all` and without.
+pub(crate) fn complaints_of(all: bool) -> Complaints
     ensures { result ≡ spec.complaints_of all }
 {
     if all {

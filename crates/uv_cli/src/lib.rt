@@ -7,6 +7,8 @@ mod explain;
 mod fault;
 mod jobs;
 mod links;
+mod lint;
+mod linted;
 pub mod program;
 mod report;
 pub mod vectors;
@@ -16,7 +18,8 @@ pub use ends::{End, error_line, status};
 pub use explain::{ExplainEnd, run_explain};
 pub use fault::CliFault;
 pub use jobs::run_job;
-pub use uv_words::{Job, WordsFault, read_words};
+pub use linted::Linted;
+pub use uv_words::{Job, LintJob, WordsFault, read_words};
 pub use vectors::{VectorEnd, run_vectors};
 
 #[cfg(test)]

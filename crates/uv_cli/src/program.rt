@@ -38,14 +38,14 @@ fn ended<R: Env + Files + Input + Print + Eprint + AllocGlobal>(rt: &R) -> End {
 }
 
 // Does a job over the runtime's devices.
-fn done<R: Files + Input + Print + AllocGlobal>(rt: &R, job: &Job) -> End {
+fn done<R: Files + Input + Print + Eprint + AllocGlobal>(rt: &R, job: &Job) -> End {
     let file = match file_of(rt, job) {
         Ok(file) => file,
         Err(fault) => return end_without_file(fault),
     };
     let mut input = FromReader::new(rt.reader());
     let mut out = ToWriter::new(io::writer(rt));
-    let end = run_job(rt.alloc(), job, file.as_slice(), &mut input, &mut out);
+    let end = run_job(rt, job, file.as_slice(), &mut input, &mut out);
     end_after_output(end, out.into_writer().flush().is_ok())
 }
 

@@ -73,3 +73,7 @@ escape Attribute c = in_attribute c
 -- a text, each of its code points as it may stand
 unfoldable pub escaped : Escapes → List ℕ → List ℕ
 escaped escapes text = flat_map (escape escapes) (chars text)
+
+-- a text as a terminal may show it
+abbrev pub shown_text : List ℕ → List ℕ
+shown_text text = escaped Shown text

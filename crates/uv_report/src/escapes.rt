@@ -2,7 +2,7 @@
 ghost use Rattle.std.specs.Prelude.{◌≡◌, ◌++◌, OnOk, string_bytes, encode_utf8, unwrap_or};
 ghost use Rattle.std.specs.Option.{option_copied};
 ghost use Rattle.uv_report.specs.Escapes as spec;
-ghost use Rattle.uv_report.specs.Escapes.{escape, escaped};
+ghost use Rattle.uv_report.specs.Escapes.{escape, escaped, shown_text};
 
 use std::alloc::AllocError;
 
@@ -17,6 +17,14 @@ pub(crate) enum Escapes {
     Property,
     /// In an attribute of XML 1.0, between `"`.
     Attribute,
+}
+
+/// Pushes a text as a terminal may show it: U+FFFD stands for each control but the tab, and for what ends a line or turns
+/// the direction of a text. Where a growth is refused, a front of it was pushed.
+pub fn push_shown(text: &mut String, source: &str) -> Result<(), AllocError>
+    ensures { OnOk result (string_bytes text.new ≡ string_bytes text.old ++ shown_text source.now) }
+{
+    push_escaped(text, source, Escapes::Shown)
 }
 
 /// Pushes a text with its escapes. Where a growth is refused, a front of it was pushed.

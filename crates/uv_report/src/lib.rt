@@ -16,6 +16,7 @@ mod report;
 mod sarif;
 
 pub use diagnostic::Diagnostic;
+pub use escapes::push_shown;
 pub use explanation::{Explanation, explain};
 pub use finding::Finding;
 pub use format::Format;

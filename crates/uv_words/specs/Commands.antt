@@ -2,7 +2,7 @@
 use Rattle.std.specs.Prelude.{◌≡◌, Some, codes, true, false}
 use Rattle.clap.specs.Words.{App, Rule, app_of, new_app, new_rule, with_rule, with_subcommand}
 use Rattle.clap.specs.Simple.{on_top}
-use Rattle.clap.specs.declared.builder.action.ArgAction.TheVariants.{SetTrue}
+use Rattle.clap.specs.declared.builder.action.ArgAction.TheVariants.{Append, SetTrue}
 use Rattle.clap.specs.declared.builder.command.Command.{Command}
 use Rattle.clap.specs.declared.builder.command.Command.TheViews.{out-Command}
 
@@ -26,6 +26,18 @@ text_rule = record (new_rule (codes "TEXT")) { required = true }
 abbrev pub file_rule : Rule
 file_rule = record (new_rule (codes "FILE")) { required = true }
 
+-- FILE, once or more often
+abbrev pub files_rule : Rule
+files_rule = record (new_rule (codes "FILE")) { required = true; action = Some Append }
+
+-- `--format FORMAT`
+abbrev pub format_rule : Rule
+format_rule = record (new_rule (codes "format")) { long = Some (codes "format"); value_names = 1 }
+
+-- `--quiet`
+abbrev pub quiet_rule : Rule
+quiet_rule = record (new_rule (codes "quiet")) { long = Some (codes "quiet"); action = Some SetTrue }
+
 -- RULE
 abbrev pub name_rule : Rule
 name_rule = new_rule (codes "RULE")
@@ -34,6 +46,12 @@ name_rule = new_rule (codes "RULE")
 abbrev pub check_command : App
 check_command =
     with_rule (with_rule (with_rule (with_rule (new_app (codes "check")) base_rule) all_rule) wide_rule) text_rule
+
+-- `lint [--base TEXT] [--all] [--wide] [--format FORMAT] [--quiet] FILE..`
+abbrev pub lint_command : App
+lint_command =
+    with_rule (with_rule (with_rule (with_rule (with_rule (with_rule (new_app (codes "lint"))
+    base_rule) all_rule) wide_rule) format_rule) quiet_rule) files_rule
 
 -- `links [--base TEXT] [--wide]`
 abbrev pub links_command : App
@@ -51,11 +69,11 @@ explain_command = with_rule (new_app (codes "explain")) name_rule
 abbrev pub with_required : App → App
 with_required = on_top (λ s. record s { subcommand_required = true; has_version = true })
 
--- the program's four commands
+-- the program's five commands
 abbrev pub urlcheck : App
-urlcheck = with_subcommand (with_subcommand (with_subcommand (with_subcommand
-    (with_required (new_app (codes "urlcheck"))) check_command.top) links_command.top) vectors_command.top)
-    explain_command.top
+urlcheck = with_subcommand (with_subcommand (with_subcommand (with_subcommand (with_subcommand
+    (with_required (new_app (codes "urlcheck"))) check_command.top) lint_command.top) links_command.top)
+    vectors_command.top) explain_command.top
 
 -- the command is read as the App, and no argument of it is global
 abbrev pub IsApp : App → Command → Type 0

@@ -1,8 +1,9 @@
 //! The commands of the program, with their help.
 ghost use Rattle.std.specs.Prelude.{◌≡◌, IfOk, false};
 ghost use Rattle.clap.specs.Words.{app_of, rule_of};
-ghost use Rattle.uv_words.specs.Commands.{all_rule, base_rule, check_command, explain_command, links_command};
-ghost use Rattle.uv_words.specs.Commands.{file_rule, name_rule, text_rule, urlcheck, vectors_command, wide_rule, IsApp};
+ghost use Rattle.uv_words.specs.Commands.{check_command, explain_command, links_command, lint_command, vectors_command};
+ghost use Rattle.uv_words.specs.Commands.{all_rule, base_rule, file_rule, files_rule, format_rule, name_rule, quiet_rule};
+ghost use Rattle.uv_words.specs.Commands.{text_rule, urlcheck, wide_rule, IsApp};
 
 use clap::{Arg, ArgAction, Command};
 use std::alloc::{AllocError, Global};
@@ -10,7 +11,7 @@ use std::alloc::{AllocError, Global};
 const STATUSES: &str = "Exit statuses:
   0  the text is valid, each line is ok, each vector passes, or a rule is explained
   1  the text is refused, a line isn't ok, or a vector fails
-  2  the words, the base or the vector file are refused
+  2  the words, the base or the vector file are refused, or a file of lint can't be read
   3  memory ran out, or a file or a device failed
 
 Example:
@@ -20,6 +21,12 @@ const CHECK_EXAMPLES: &str = "Prints `valid` and the parts of the URL, or `refus
 
 Example:
   urlcheck check --base http://h/a/b ../x";
+
+const LINT_EXAMPLES: &str =
+    "Prints a line for each refused one, with the file, the line, the column and what is wrong there.
+
+Example:
+  urlcheck lint --format caret links.txt";
 
 const LINKS_EXAMPLES: &str = "Prints a line for each line, and at the end how many are ok.
 
@@ -49,6 +56,7 @@ pub(crate) fn urlcheck<'a>(alloc: Global) -> Result<Command<'a>, AllocError>
         .after_help(STATUSES)
         .subcommand_required(true)
         .subcommand(check(alloc)?)?
+        .subcommand(lint(alloc)?)?
         .subcommand(links(alloc)?)?
         .subcommand(vectors(alloc)?)?
         .subcommand(explain(alloc)?)
@@ -64,6 +72,20 @@ fn check<'a>(alloc: Global) -> Result<Command<'a>, AllocError>
         .arg(all(alloc))?
         .arg(wide(alloc))?
         .arg(text(alloc))
+}
+
+fn lint<'a>(alloc: Global) -> Result<Command<'a>, AllocError>
+    ensures { IfOk result (IsApp lint_command) }
+{
+    Command::new(alloc, "lint")
+        .about("Says what is wrong with the lines of files")
+        .after_help(LINT_EXAMPLES)
+        .arg(base(alloc))?
+        .arg(all(alloc))?
+        .arg(wide(alloc))?
+        .arg(format(alloc))?
+        .arg(quiet(alloc))?
+        .arg(files(alloc))
 }
 
 fn links<'a>(alloc: Global) -> Result<Command<'a>, AllocError>
@@ -111,7 +133,7 @@ fn all<'a>(alloc: Global) -> Arg<'a>
     Arg::new(alloc, "all")
         .long("all")
         .action(ArgAction::SetTrue)
-        .help("Prints all that is wrong with the text, and not the first alone")
+        .help("Prints all that is wrong with a text, and not the first alone")
 }
 
 fn wide<'a>(alloc: Global) -> Arg<'a>
@@ -122,6 +144,36 @@ fn wide<'a>(alloc: Global) -> Arg<'a>
         .long("wide")
         .action(ArgAction::SetTrue)
         .help("Judges by the wide profile, which takes http://a_b/ and http://h//a too")
+}
+
+fn format<'a>(alloc: Global) -> Arg<'a>
+    ensures rule { rule_of result ≡ format_rule }
+    ensures local { result.global ≡ false }
+{
+    Arg::new(alloc, "format")
+        .long("format")
+        .value_name("FORMAT")
+        .help("gnu, caret, json, github, sarif or checkstyle; without it gnu")
+}
+
+fn quiet<'a>(alloc: Global) -> Arg<'a>
+    ensures rule { rule_of result ≡ quiet_rule }
+    ensures local { result.global ≡ false }
+{
+    Arg::new(alloc, "quiet")
+        .long("quiet")
+        .action(ArgAction::SetTrue)
+        .help("Leaves out the counts on standard error")
+}
+
+fn files<'a>(alloc: Global) -> Arg<'a>
+    ensures rule { rule_of result ≡ files_rule }
+    ensures local { result.global ≡ false }
+{
+    Arg::new(alloc, "FILE")
+        .required(true)
+        .action(ArgAction::Append)
+        .help("A file that has a text a line; - is the standard input")
 }
 
 fn text<'a>(alloc: Global) -> Arg<'a>

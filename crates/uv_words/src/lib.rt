@@ -4,7 +4,7 @@
 mod commands;
 mod words;
 
-pub use words::{Job, WordsFault, read_words};
+pub use words::{Job, LintJob, WordsFault, read_words};
 
 #[cfg(test)]
 mod tests;

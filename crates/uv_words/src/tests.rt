@@ -7,7 +7,7 @@ use std::test::Fail;
 // Words behind the program's name, and the job that they ask for.
 #[test]
 fn reads_jobs(rt: HostRuntime) -> Result<(), Fail> {
-    let rows: [(&[&str], &str); 14] = [
+    let rows: [(&[&str], &str); 17] = [
         (
             &["urlcheck", "check", ""],
             "Ok(Some(Check { text: \"\", base: None, all: false, wide: false }))",
@@ -35,6 +35,23 @@ fn reads_jobs(rt: HostRuntime) -> Result<(), Fail> {
         (
             &["urlcheck", "check", "--", "--wide"],
             "Ok(Some(Check { text: \"--wide\", base: None, all: false, wide: false }))",
+        ),
+        (
+            &["urlcheck", "lint", "a"],
+            "Ok(Some(Lint(LintJob { files: [\"a\"], base: None, all: false, wide: false, format: None, quiet: false })))",
+        ),
+        (
+            &[
+                "urlcheck", "lint", "-", "--base=", "b", "--all", "--wide", "--format", "json",
+                "--quiet", "a b",
+            ],
+            "Ok(Some(Lint(LintJob { files: [\"-\", \"b\", \"a b\"], base: Some(\"\"), all: true, wide: true, \
+            format: Some(\"json\"), quiet: true })))",
+        ),
+        (
+            &["urlcheck", "lint", "a", "--", "--all", ""],
+            "Ok(Some(Lint(LintJob { files: [\"a\", \"--all\", \"\"], base: None, all: false, wide: false, \
+            format: None, quiet: false })))",
         ),
         (
             &["urlcheck", "links", "--base", "x:"],
@@ -81,7 +98,7 @@ fn kind_of(asked: &Result<Option<Job>, WordsFault>) -> Option<ErrorKind> {
 // Words that ask for no job, and why.
 #[test]
 fn refuses_words(rt: HostRuntime) {
-    let rows: [(&[&str], ErrorKind); 13] = [
+    let rows: [(&[&str], ErrorKind); 15] = [
         (&["urlcheck"], ErrorKind::MissingSubcommand),
         (&["urlcheck", "-x"], ErrorKind::UnknownArgument),
         (&["urlcheck", "chek", "a"], ErrorKind::InvalidSubcommand),
@@ -92,6 +109,8 @@ fn refuses_words(rt: HostRuntime) {
             &["urlcheck", "check", "--", "--base", "b", "t"],
             ErrorKind::UnknownArgument,
         ),
+        (&["urlcheck", "lint"], ErrorKind::MissingRequiredArgument),
+        (&["urlcheck", "lint", "-a", "b"], ErrorKind::UnknownArgument),
         (&["urlcheck", "links", "x"], ErrorKind::UnknownArgument),
         (&["urlcheck", "vectors"], ErrorKind::MissingRequiredArgument),
         (

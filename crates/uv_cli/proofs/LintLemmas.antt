@@ -1,0 +1,168 @@
+-- Files that were linted: a source, and one file behind others.
+use Rattle.std.proofs.Common.{◌≡◌, ◌∙◌, ◌+◌, ◌<◌, ◌≤◌, ℕ, Bool, true, false, List, [], ◌∷◌, ◌++◌, Option, Some, None, Result, Ok, Err, IfErr, OnOk, String, Global, refl, sym, subst, ap, arith, inl, inr, is_some, length, map, option_copied, take, get_or, string_bytes}
+use Rattle.std.proofs.lemmas.List.{map-append, take_all, take_more}
+use Rattle.std.specs.Borrow.{Bor}
+use Rattle.std.specs.Io.KnownBytes.{Consumes, IsAtEnd}
+use Rattle.uv_lint.specs.declared.counts.LintCounts.{LintCounts}
+use Rattle.uv_lint.specs.declared.fault.LintFault.{LintFault}
+use Rattle.uv_lint.specs.declared.fault.LintFault.TheVariants.{Memory, Read, Write, TooManyLines, Endless}
+use Rattle.uv_lint.specs.declared.setting.LintSetting.{LintSetting}
+use Rattle.uv_lint.specs.Findings.{FileSetting, file_setting}
+use Rattle.uv_lint.specs.Run.{FailsReads, Leaves, Reports, writes_failed}
+use Rattle.uv_report.specs.declared.format.Format.{Format}
+use Rattle.uv_model.specs.Records.Url.{Url}
+use Rattle.uv_words.specs.declared.words.LintJob.{LintJob}
+use Rattle.uv_cli.specs.declared.ends.End.{End}
+use Rattle.uv_cli.specs.declared.ends.End.TheVariants as end
+use Rattle.uv_cli.specs.declared.fault.CliFault.TheVariants as cli
+use Rattle.uv_cli.specs.declared.linted.Linted.{Linted}
+use Rattle.uv_cli.specs.Check.{IsBase}
+use Rattle.uv_cli.specs.Ends.{complaints_of, profile_of}
+use Rattle.uv_cli.specs.Device.{Device}
+use Rattle.uv_cli.specs.Lint.{FailsAsAnswered, HasLinted, HasLintedAgainst, LintsAll, LintsNamed, LintsNext}
+use Rattle.uv_cli.specs.Lint.{LintsSource, WritesPiece, format_of, most, setting_of}
+use Rattle.uv_cli.specs.Linted.{is_stopped, is_writable, no_file, with_file}
+
+-- what a run over a source has done
+pub lints_source : (setting : FileSetting) (is_first : Bool) (counts : LintCounts)
+    (answer : Result (Unit {0}) LintFault) (start rest old new : Option (List ℕ)) (a b c d : ℕ)
+    → OnOk answer ((read : List ℕ) × Consumes start rest read × IsAtEnd rest
+    × Reports setting most is_first old read counts new)
+    → IfErr answer (λ e. (read : List ℕ) × Consumes start rest read
+    × Leaves e setting most is_first old read (IsAtEnd rest) counts new)
+    → IfErr answer (λ e. FailsReads e a b × (d ≡ c + writes_failed e))
+    → OnOk answer ((b ≡ a) × (d ≡ c))
+    → LintsSource setting is_first counts answer (record { bytes = start; failed = a })
+    (record { bytes = rest; failed = b }) (record { bytes = old; failed = c }) (record { bytes = new; failed = d })
+lints_source setting is_first counts (Ok u) start rest old new a b c d (read, consumed, end, reports) fault failed quiet =
+    record { read = read; consumed = consumed; wrote = (end, reports); failed = quiet }
+lints_source setting is_first counts (Err e) start rest old new a b c d report (read, consumed, leaves) failed quiet =
+    record { read = read; consumed = consumed; wrote = leaves; failed = failed }
+
+-- one file behind others
+pub all_more : (setting : List ℕ → FileSetting) (files : List (List ℕ)) (file : List ℕ) (before middle after : Linted)
+    (input between rest old part new : Device)
+    → LintsAll setting files before middle input between old part
+    → LintsNext (is_stopped middle) (setting file) middle after between rest part new
+    → LintsAll setting (files ++ file ∷ []) before after input rest old new
+all_more setting [] file before middle after input between rest old part new all next = (
+  after,
+  rest,
+  new,
+  rw (← all.is_after, ← all.unread, ← all.unwritten) next,
+  record { is_after = refl; unread = refl; unwritten = refl },
+)
+all_more setting (x ∷ xs) file before middle after input between rest old part new (one, read, wrote, first, all) next =
+    (one, read, wrote, first, all_more setting xs file one middle after read between rest wrote part new all next)
+
+-- the names of the files up to the next one
+pub files_more : (files : List (String Global)) (at : ℕ) (file : String Global)
+    → at < length files → file ≡ get_or files at file
+    → map string_bytes (take (at + 1) files) ≡ map string_bytes (take at files) ++ string_bytes file ∷ []
+files_more files at file within here =
+    let more : take (at + 1) files ≡ take at files ++ file ∷ [] =
+    take_more files at file within ∙ ap (λ f. take at files ++ f ∷ []) (sym here) in
+    ap (map string_bytes) more ∙ map-append string_bytes (take at files) (file ∷ [])
+
+-- the names of all files
+pub files_all : (files : List (String Global)) (at : ℕ) → length files ≤ at
+    → map string_bytes (take at files) ≡ map string_bytes files
+files_all files at end = ap (map string_bytes) (take_all at files end)
+
+-- a source that was linted: where no write has failed, none was counted
+source_quiet : (before : Linted) (counts : LintCounts) (answer : Result (Unit {0}) LintFault)
+    (input rest old new : Device)
+    → FailsAsAnswered answer input rest old new → is_writable (with_file before counts answer).stopped ≡ true
+    → new.failed ≡ old.failed
+source_quiet before counts (Ok u) input rest old new failed writable = failed.1
+source_quiet before counts (Err Memory) input rest old new failed writable = let h = failed.1 in omega (arith, h)
+source_quiet before counts (Err Read) input rest old new failed writable = let h = failed.1 in omega (arith, h)
+source_quiet before counts (Err Write) input rest old new failed writable = grind (arith, writable)
+source_quiet before counts (Err TooManyLines) input rest old new failed writable = let h = failed.1 in omega (arith, h)
+source_quiet before counts (Err Endless) input rest old new failed writable = let h = failed.1 in omega (arith, h)
+
+-- the same of a file by its name
+named_quiet : (is_input : Bool) (setting : FileSetting) (is_first : Bool) (before : Linted) (counts : LintCounts)
+    (answer : Result (Unit {0}) LintFault) (input rest old new : Device)
+    → LintsNamed is_input setting is_first counts answer input rest old new
+    → is_writable (with_file before counts answer).stopped ≡ true → new.failed ≡ old.failed
+named_quiet true setting is_first before counts answer input rest old new named writable = elim named [
+  | inl source ↦ source_quiet before counts answer input rest old new source.failed writable
+  | inr nothing ↦ ap (λ d. d.failed) nothing.0.2
+]
+named_quiet false setting is_first before counts answer input rest old new named writable = elim (named.0) [
+  | inl opened ↦ source_quiet before counts answer opened.0 opened.1 old new opened.2.failed writable
+  | inr nothing ↦ ap (λ d. d.failed) nothing.2
+]
+
+-- what hasn't stopped can write
+writable_unstopped : (stopped : Option LintFault) → is_some stopped ≡ false → is_writable stopped ≡ true
+writable_unstopped None h = refl
+writable_unstopped (Some fault) h = grind (arith, h)
+
+-- the next file: where no write has failed, none was counted, and none had failed before
+quiet_by : (stopped : Bool) (setting : FileSetting) (before after : Linted) (input rest old new : Device)
+    → is_stopped before ≡ stopped → LintsNext stopped setting before after input rest old new
+    → is_writable after.stopped ≡ true → (new.failed ≡ old.failed) × (is_writable before.stopped ≡ true)
+quiet_by true setting before after input rest old new is next writable = (
+  ap (λ d. d.failed) next.unwritten,
+  ap (λ l. is_writable l.stopped) (sym next.is_after) ∙ writable,
+)
+quiet_by false setting before after input rest old new is next writable = (
+  named_quiet _ setting _ before next.counts next.answer input rest old new next.named
+      (ap (λ l. is_writable l.stopped) (sym next.is_after) ∙ writable),
+  writable_unstopped before.stopped is,
+)
+
+pub next_quiet : (setting : FileSetting) (before after : Linted) (input rest old new : Device)
+    → LintsNext (is_stopped before) setting before after input rest old new
+    → is_writable after.stopped ≡ true → (new.failed ≡ old.failed) × (is_writable before.stopped ≡ true)
+next_quiet setting before after input rest old new next writable =
+    quiet_by (is_stopped before) setting before after input rest old new refl next writable
+
+-- ---- the whole report
+
+-- the piece that a report begins with
+pub begins_with : (piece text : List ℕ) (is_quiet : Bool) (none first : Linted) (old begun : Device)
+    → none ≡ no_file is_quiet → piece ≡ text
+    → WritesPiece (is_writable none.stopped) piece none first old begun
+    → WritesPiece true text (no_file is_quiet) first old begun
+begins_with piece text is_quiet none first old begun is same wrote =
+    subst (λ t. WritesPiece true t (no_file is_quiet) first old begun) same
+    (subst (λ l. WritesPiece (is_writable l.stopped) piece l first old begun) is wrote)
+
+-- the files were linted by what the job asks for
+pub lints_by : (asked : LintJob) (setting : LintSetting) (files names : List (List ℕ)) (before after : Linted)
+    (input rest old new : Device)
+    → setting.profile ≡ profile_of asked.wide → setting.complaints ≡ complaints_of asked.all → files ≡ names
+    → LintsAll (λ file. file_setting file setting) files before after input rest old new
+    → LintsAll (setting_of asked (option_copied setting.base) setting.format) names before after input rest old new
+lints_by asked setting files names before after input rest old new profile complaints same all =
+    subst (λ f. LintsAll (setting_of asked (option_copied setting.base) setting.format) f
+    before after input rest old new) same
+    (subst (λ c. LintsAll (λ file. file_setting file (record setting {
+      profile = profile_of asked.wide;
+      complaints = c;
+    })) files before after input rest old new) complaints
+    (subst (λ p. LintsAll (λ file. file_setting file (record setting { profile = p })) files
+    before after input rest old new) profile all))
+
+-- what was done against the URL of the base's text
+pub linted_against : (asked : LintJob) (base name : Option (Bor (List ℕ))) (url : Option Url) (format : Format) (end : End)
+    (input rest old new : Device)
+    → IsBase (profile_of asked.wide) base url → format_of name ≡ Some format
+    → HasLintedAgainst asked url format end input rest old new → HasLinted asked base name end input rest old new
+linted_against asked base name url format (end.Linted linted) input rest old new is named done =
+    (url, format, is, named, done)
+linted_against asked base name url format (end.Fault cli.Memory) input rest old new is named done = done
+linted_against asked base name url format (end.Fault cli.Write) input rest old new is named done = absurd done
+linted_against asked base name url format end.Valid input rest old new is named done = absurd done
+linted_against asked base name url format end.Refused input rest old new is named done = absurd done
+linted_against asked base name url format end.Shown input rest old new is named done = absurd done
+linted_against asked base name url format end.Words input rest old new is named done = absurd done
+linted_against asked base name url format end.UnknownRule input rest old new is named done = absurd done
+linted_against asked base name url format end.UnknownFormat input rest old new is named done = absurd done
+linted_against asked base name url format (end.BaseRefused refusal) input rest old new is named done = absurd done
+linted_against asked base name url format (end.Stopped fault) input rest old new is named done = absurd done
+linted_against asked base name url format (end.Vectors ended) input rest old new is named done = absurd done
+linted_against asked base name url format end.Unread input rest old new is named done = absurd done

@@ -1,0 +1,31 @@
+-- The report on the files, with its beginning and its end.
+use Rattle.std.proofs.Common.{◌∙◌, ap, map, string_bytes}
+use Rattle.uv_cli.proofs.LintLemmas.{begins_with, lints_by}
+use Rattle.uv_cli.proofs.lint.lint_against.Goals as goal
+
+pub returns : goal.returns
+returns g c = record {
+  first = c.write_piece-linted.result;
+  last = c.lint_each-linted.result;
+  begun = record {
+    bytes = g.S.Sink.contents c.write_piece-linted.new.out;
+    failed = g.S.Sink.failed c.write_piece-linted.new.out;
+  };
+  ended = record {
+    bytes = g.S.Sink.contents c.lint_each-linted.new.out;
+    failed = g.S.Sink.failed c.lint_each-linted.new.out;
+  };
+  begins =
+      begins_with _ _ c.args.job.now.quiet c.new.result c.write_piece-linted.result _ _ c.new.ensures
+      (c.as_str.ensures.value ∙ c.in-Ok.ensures.0) c.write_piece-linted.ensures;
+  all =
+      lints_by c.args.job.now (record {
+        base = c.args.base;
+        profile = c.profile_of.result;
+        complaints = c.complaints_of.result;
+        format = c.args.format;
+      })
+      _ _ _ _ _ _ _ _ c.profile_of.ensures c.complaints_of.ensures
+      (ap (map string_bytes) c.as_slice.ensures.value) c.lint_each-linted.ensures.all;
+  ends = rw (← c.in-Ok.ensures.1, ← c.as_str-2.ensures.value) c.write_piece.ensures;
+}

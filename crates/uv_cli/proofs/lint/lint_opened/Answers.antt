@@ -1,0 +1,13 @@
+-- The file that was opened.
+use Rattle.std.proofs.Common.{inl}
+use Rattle.uv_cli.proofs.LintLemmas.{lints_source}
+use Rattle.uv_cli.proofs.lint.lint_opened.Goals as goal
+
+pub returns-in-Ok : goal.returns-in-Ok
+returns-in-Ok g c =
+    inl (
+      _,
+      _,
+      lints_source _ c.args.is_first c.run_lint.result.0 c.run_lint.result.1 _ _ _ _ _ _ _ _
+          c.run_lint.ensures.report c.run_lint.ensures.fault c.run_lint.ensures.failed c.run_lint.ensures.quiet,
+    )

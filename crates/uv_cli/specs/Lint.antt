@@ -1,0 +1,174 @@
+-- What a lint of files has read and written, and what it has come to.
+use Rattle.std.specs.Prelude.{◌≡◌, ℕ, ◌+◌, Bool, true, false, List, [], ◌∷◌, ◌++◌, ◌⊎◌, Option, Some, None, Result, Ok, Err, codes, map, string_bytes, take}
+use Rattle.std.specs.Borrow.{Bor}
+use Rattle.std.specs.Io.KnownBytes.{Appends, Consumes, IsAtEnd}
+use Rattle.std.specs.Str.{bytes_eq}
+use Rattle.uv_model.specs.Records.Url.{Url}
+use Rattle.uv_report.specs.declared.format.Format.{Format}
+use Rattle.uv_report.specs.declared.format.Format.TheVariants.{Gnu}
+use Rattle.uv_report.specs.Escapes.{shown_text}
+use Rattle.uv_report.specs.Format.{named_format}
+use Rattle.uv_report.specs.Report.{begin_text, end_text}
+use Rattle.uv_lines.specs.declared.limits.LineLimits.{LineLimits}
+use Rattle.uv_lint.specs.declared.counts.LintCounts.{LintCounts}
+use Rattle.uv_lint.specs.declared.fault.LintFault.{LintFault}
+use Rattle.uv_lint.specs.declared.fault.LintFault.TheVariants.{Write}
+use Rattle.uv_lint.specs.Findings.{FileSetting}
+use Rattle.uv_lint.specs.Report.{none_counted}
+use Rattle.uv_lint.specs.Run.{FailsReads, Leaves, Reports, writes_failed}
+use Rattle.uv_words.specs.declared.words.LintJob.{LintJob}
+use Rattle.uv_cli.specs.declared.ends.End.{End}
+use Rattle.uv_cli.specs.declared.ends.End.TheVariants as end
+use Rattle.uv_cli.specs.declared.fault.CliFault.TheVariants as cli
+use Rattle.uv_cli.specs.declared.linted.Linted.{Linted}
+use Rattle.uv_cli.specs.Check.{IsBase, IsBaseRefused}
+use Rattle.uv_cli.specs.Device.{Device}
+use Rattle.uv_cli.specs.Ends.{complaints_of, profile_of}
+use Rattle.uv_cli.specs.Linted.{is_clean, is_stopped, is_writable, no_file, with_fault, with_file}
+
+-- ---- what the job asks for
+
+-- the format with this name, or that of compilers where none is named
+abbrev pub format_of : Option (Bor (List ℕ)) → Option Format
+format_of None = Some Gnu
+format_of (Some name) = named_format name.now
+
+-- the setting of a file of the job, by its name
+abbrev pub setting_of : LintJob → Option Url → Format → List ℕ → FileSetting
+setting_of asked base format file = record {
+  file = file;
+  base = base;
+  profile = profile_of asked.wide;
+  complaints = complaints_of asked.all;
+  format = format;
+}
+
+-- ---- one file
+
+-- the most bytes that a line may have, and the most lines of a file
+abbrev pub most : LineLimits
+most = record { line_bytes = 65536; lines = 1000000000 }
+
+-- what was written of the bytes that were read of a file, by the answer of the run over it
+abbrev pub WritesFile : FileSetting → Bool → Result (Unit {0}) LintFault → LintCounts → List ℕ → Option (List ℕ)
+    → Option (List ℕ) → Option (List ℕ) → Type 0
+WritesFile setting is_first (Ok done) counts read rest old new =
+    IsAtEnd rest × Reports setting most is_first old read counts new
+WritesFile setting is_first (Err fault) counts read rest old new =
+    Leaves fault setting most is_first old read (IsAtEnd rest) counts new
+
+-- how often the devices have failed behind it
+abbrev pub FailsAsAnswered : Result (Unit {0}) LintFault → Device → Device → Device → Device → Type 0
+FailsAsAnswered (Ok done) input rest old new = (rest.failed ≡ input.failed) × (new.failed ≡ old.failed)
+FailsAsAnswered (Err fault) input rest old new =
+    FailsReads fault input.failed rest.failed × (new.failed ≡ old.failed + writes_failed fault)
+
+-- a source was linted, of which so many lines were counted
+pub record LintsSource (setting : FileSetting) (is_first : Bool) (counts : LintCounts)
+    (answer : Result (Unit {0}) LintFault) (input rest old new : Device) : Type 0 where
+  pub read : List ℕ
+  pub consumed : Consumes input.bytes rest.bytes read
+  pub wrote : WritesFile setting is_first answer counts read rest.bytes old.bytes new.bytes
+  pub failed : FailsAsAnswered answer input rest old new
+
+-- a source that nothing else has read was linted: the file with this name
+abbrev pub LintsOpened : FileSetting → Bool → LintCounts → Result (Unit {0}) LintFault → Device → Device → Type 0
+LintsOpened setting is_first counts answer old new =
+    (file : Device) × (left : Device) × LintsSource setting is_first counts answer file left old new
+
+-- nothing of a file was read or written, for this reason
+abbrev pub LintsNothing : LintCounts → Result (Unit {0}) LintFault → Device → Device → Type 0
+LintsNothing counts answer old new =
+    (counts ≡ none_counted) × ((reason : LintFault) × (answer ≡ Err reason)) × (new ≡ old)
+
+-- the input was linted for the file that is named `-`, else a file that was opened by its name, if it could be
+abbrev pub LintsNamed : Bool → FileSetting → Bool → LintCounts → Result (Unit {0}) LintFault
+    → Device → Device → Device → Device → Type 0
+LintsNamed true setting is_first counts answer input rest old new =
+    LintsSource setting is_first counts answer input rest old new
+    ⊎ (LintsNothing counts answer old new × (rest ≡ input))
+LintsNamed false setting is_first counts answer input rest old new =
+    (LintsOpened setting is_first counts answer old new ⊎ LintsNothing counts answer old new) × (rest ≡ input)
+
+-- the next file was linted
+pub record LintsFile (setting : FileSetting) (before after : Linted) (input rest old new : Device) : Type 0 where
+  pub counts : LintCounts
+  pub answer : Result (Unit {0}) LintFault
+  pub named : LintsNamed (bytes_eq setting.file (codes "-")) setting (is_clean before) counts answer input rest old new
+  pub is_after : after ≡ with_file before counts answer
+
+-- nothing is done behind what stopped the lint
+pub record StaysStopped (before after : Linted) (input rest old new : Device) : Type 0 where
+  pub is_after : after ≡ before
+  pub unread : rest ≡ input
+  pub unwritten : new ≡ old
+
+-- ---- the files
+
+-- the next file was linted, or the lint had stopped
+abbrev pub LintsNext : Bool → FileSetting → Linted → Linted → Device → Device → Device → Device → Type 0
+LintsNext true setting before after input rest old new = StaysStopped before after input rest old new
+LintsNext false setting before after input rest old new = LintsFile setting before after input rest old new
+
+-- these files were linted, one after the other
+abbrev pub LintsAll : (List ℕ → FileSetting) → List (List ℕ) → Linted → Linted
+    → Device → Device → Device → Device → Type 0
+LintsAll setting [] before after input rest old new = StaysStopped before after input rest old new
+LintsAll setting (file ∷ files) before after input rest old new =
+    (one : Linted) × (read : Device) × (wrote : Device)
+    × LintsNext (is_stopped before) (setting file) before one input read old wrote
+    × LintsAll setting files one after read rest wrote new
+
+-- ---- the whole report
+
+-- a piece was written, or a front of it where a write failed, and then the lint has stopped
+abbrev pub WritesOrStops : Bool → List ℕ → Linted → Linted → Device → Device → Type 0
+WritesOrStops true piece before after old new =
+    (after ≡ before) × Appends old.bytes new.bytes piece × (new.failed ≡ old.failed)
+WritesOrStops false piece before after old new =
+    (after ≡ with_fault before Write) × ((front : ℕ) × Appends old.bytes new.bytes (take front piece))
+    × (new.failed ≡ old.failed + 1)
+
+-- the same, but nothing is written behind a failed write
+abbrev pub WritesPiece : Bool → List ℕ → Linted → Linted → Device → Device → Type 0
+WritesPiece true piece before after old new = (is_out : Bool) × WritesOrStops is_out piece before after old new
+WritesPiece false piece before after old new = (after ≡ before) × (new ≡ old)
+
+-- the report on the files was written: what it begins with, the report on each file, and what it ends with
+pub record IsLinted (setting : List ℕ → FileSetting) (format : Format) (files : List (List ℕ)) (is_quiet : Bool)
+    (linted : Linted) (input rest old new : Device) : Type 0 where
+  pub first : Linted
+  pub last : Linted
+  pub begun : Device
+  pub ended : Device
+  pub begins : WritesPiece true (begin_text format) (no_file is_quiet) first old begun
+  pub all : LintsAll setting files first last input rest begun ended
+  pub ends : WritesPiece (is_writable last.stopped) (end_text format) last linted ended new
+
+-- what was read and written of the files against a URL as base
+abbrev pub HasLintedAgainst : LintJob → Option Url → Format → End → Device → Device → Device → Device → Type 0
+HasLintedAgainst asked base format (end.Linted linted) input rest old new =
+    IsLinted (setting_of asked base format) format (map string_bytes asked.files.items) asked.quiet linted
+    input rest old new
+HasLintedAgainst asked base format (end.Fault cli.Memory) input rest old new = (rest ≡ input) × (new ≡ old)
+HasLintedAgainst asked base format _ input rest old new = ⊥
+
+-- The same by the texts that the job has. The format is found first, and then the base is judged alone, before anything
+-- is read or written.
+abbrev pub HasLinted : LintJob → Option (Bor (List ℕ)) → Option (Bor (List ℕ)) → End
+    → Device → Device → Device → Device → Type 0
+HasLinted asked base name end.UnknownFormat input rest old new =
+    (format_of name ≡ None) × (rest ≡ input) × (new ≡ old)
+HasLinted asked base name (end.BaseRefused refusal) input rest old new =
+    IsBaseRefused (profile_of asked.wide) base refusal × (rest ≡ input) × (new ≡ old)
+HasLinted asked base name (end.Fault cli.Memory) input rest old new = (rest ≡ input) × (new ≡ old)
+HasLinted asked base name (end.Linted linted) input rest old new =
+    (url : Option Url) × (format : Format) × IsBase (profile_of asked.wide) base url × (format_of name ≡ Some format)
+    × HasLintedAgainst asked url format (end.Linted linted) input rest old new
+HasLinted asked base name _ input rest old new = ⊥
+
+-- ---- on standard error
+
+-- the line of a file that wasn't read
+unfoldable pub unread_text : List ℕ → List ℕ
+unread_text file = shown_text file ++ codes ": can't be read\n"

@@ -1,0 +1,74 @@
+-- What a lint of files has come to, its exit status, and its lines on standard error.
+use Rattle.std.specs.Prelude.{ℕ, ◌+◌, ◌-◌, ◌^◌, ◌==◌, Bool, true, false, List, [], ◌++◌, Option, Some, None, Result, Ok, Err, codes, decimal, is_some, min, if◌then◌else◌}
+use Rattle.uv_lint.specs.declared.counts.LintCounts.{LintCounts}
+use Rattle.uv_lint.specs.declared.fault.LintFault.{LintFault}
+use Rattle.uv_lint.specs.declared.fault.LintFault.TheVariants.{Memory, Read, Write, TooManyLines, Endless}
+use Rattle.uv_lint.specs.Report.{none_counted}
+use Rattle.uv_cli.specs.declared.linted.Linted.{Linted}
+
+-- before the first file
+abbrev pub no_file : Bool → Linted
+no_file is_quiet = record { counts = none_counted; is_unread = false; stopped = None; is_quiet = is_quiet }
+
+-- two counts together, each 2^64 - 1 at most
+abbrev pub sum_counts : LintCounts → LintCounts → LintCounts
+sum_counts a b = record {
+  lines = min (a.lines + b.lines) (2 ^ 64 - 1);
+  refused = min (a.refused + b.refused) (2 ^ 64 - 1);
+}
+
+-- stopped by this fault
+abbrev pub with_fault : Linted → LintFault → Linted
+with_fault linted fault = record linted { stopped = Some fault }
+
+-- behind a file that can't be opened, or not be read to its end
+abbrev pub with_unread : Linted → Linted
+with_unread linted = record linted { is_unread = true }
+
+-- behind a file with these counts
+abbrev pub with_counts : Linted → LintCounts → Linted
+with_counts linted counts = record linted { counts = sum_counts linted.counts counts }
+
+-- behind a file with these counts and this answer: a failed read stops nothing, and each other fault does
+abbrev pub with_file : Linted → LintCounts → Result (Unit {0}) LintFault → Linted
+with_file linted counts (Ok done) = with_counts linted counts
+with_file linted counts (Err Read) = with_unread (with_counts linted counts)
+with_file linted counts (Err fault) = with_fault (with_counts linted counts) fault
+
+-- something stopped it
+abbrev pub is_stopped : Linted → Bool
+is_stopped linted = is_some linted.stopped
+
+-- no write has failed
+abbrev pub is_writable : Option LintFault → Bool
+is_writable (Some Write) = false
+is_writable _ = true
+
+-- nothing was found
+abbrev pub is_clean : Linted → Bool
+is_clean linted = linted.counts.refused == 0
+
+-- the exit status
+abbrev pub lint_status : Linted → ℕ
+lint_status linted =
+    if is_stopped linted then 3 else if linted.is_unread then 2 else if is_clean linted then 0 else 1
+
+-- the line of counts
+unfoldable pub counts_text : LintCounts → List ℕ
+counts_text counts =
+    decimal counts.lines ++ (codes " " ++ ((if counts.lines == 1 then codes "line" else codes "lines")
+    ++ (codes ", " ++ (decimal counts.refused ++ codes " refused\n"))))
+
+-- the line of what stopped it
+abbrev pub stopped_text : Option LintFault → List ℕ
+stopped_text None = []
+stopped_text (Some Memory) = codes "memory\n"
+stopped_text (Some Read) = codes "read\n"
+stopped_text (Some Write) = codes "write\n"
+stopped_text (Some TooManyLines) = codes "too many lines\n"
+stopped_text (Some Endless) = codes "endless\n"
+
+-- the lines on standard error
+abbrev pub linted_text : Linted → List ℕ
+linted_text linted =
+    (if linted.is_quiet then [] else counts_text linted.counts) ++ stopped_text linted.stopped

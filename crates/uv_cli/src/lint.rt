@@ -1,0 +1,260 @@
+//! The command `lint`: a report on the lines of files, in a format that people or tools read.
+ghost use Rattle.std.specs.Prelude.{◌≡◌, ◌-◌, ◌^◌, ◌<◌, ◌⊎◌, IfOk, codes, map, option_copied, string_bytes, true};
+ghost use Rattle.std.specs.Str.{bytes_eq};
+ghost use Rattle.uv_lint.specs.Findings.{file_setting};
+ghost use Rattle.uv_report.specs.Report.{begin_text, end_text};
+ghost use Rattle.uv_cli.specs.Lint.{HasLinted, HasLintedAgainst, LintsAll, LintsNamed, LintsNext, LintsNothing};
+ghost use Rattle.uv_cli.specs.Lint.{LintsOpened, WritesPiece, format_of, unread_text};
+ghost use Rattle.uv_cli.specs.Linted.{is_stopped, is_writable};
+
+use crate::ends::End;
+use crate::fault::CliFault;
+use crate::jobs::{complaints_of, profile_of};
+use crate::linted::Linted;
+use std::alloc::{AllocError, Global};
+use std::fs;
+use std::fs::Files;
+use std::io::ErrorKind;
+use uv_lint::{LintCounts, LintFault, LintSetting, run_lint};
+use uv_model::{DeviceFault, FromReader, Record, Sink, Source, write_whole};
+use uv_report::{Format, push_begin, push_end, push_shown};
+use uv_resolve::{ResolveFault, resolve};
+use uv_words::LintJob;
+
+// Nothing was counted.
+const NONE_COUNTED: LintCounts = LintCounts {
+    lines: 0,
+    refused: 0,
+};
+
+/// Reports on the lines of the job's files, in their order: in the format with the name, or in that of compilers, and
+/// alone or against the base, which is resolved alone, before anything is read. The base and the name are the texts that
+/// the job has. The input is read for each file named `-`.
+///
+/// A file that can't be opened, or not be read to its end, is told on standard error by its name, and the next files go
+/// on. Another fault stops the lint; what the report ends with is still written where no write has failed.
+pub(crate) fn lint_files<R: Files + Eprint + AllocGlobal, I: Source, S: Sink>(
+    rt: &R,
+    job: &LintJob,
+    base: Option<&str>,
+    name: Option<&str>,
+    input: &mut I,
+    out: &mut S,
+) -> End
+    requires reads { I.failed input.old < 2 ^ 64 - 1 }
+    requires writes { S.failed out.old < 2 ^ 64 - 1 }
+    ensures { HasLinted job.now base.entry name.entry result
+        (record { bytes = I.remaining input.old; failed = I.failed input.old })
+        (record { bytes = I.remaining input.new; failed = I.failed input.new })
+        (record { bytes = S.contents out.old; failed = S.failed out.old })
+        (record { bytes = S.contents out.new; failed = S.failed out.new }) }
+{
+    let Some(format) = format_of(name) else {
+        return End::UnknownFormat;
+    };
+    let Some(text) = base else {
+        return lint_against(rt, job, None, format, input, out);
+    };
+    match resolve(rt.alloc(), text, None, profile_of(job.wide)) {
+        Ok(base) => lint_against(rt, job, Some(&base), format, input, out),
+        Err(ResolveFault::Refused(refusal)) => End::BaseRefused(refusal),
+        Err(ResolveFault::Memory(_)) => End::Fault(CliFault::Memory),
+    }
+}
+
+// The format with a name, or that of compilers where none is named.
+fn format_of(name: Option<&str>) -> Option<Format>
+    ensures { result ≡ format_of name.entry }
+{
+    match name {
+        Some(name) => Format::of_name(name),
+        None => Some(Format::Gnu),
+    }
+}
+
+// Reports on the lines of the files against a record as base.
+fn lint_against<R: Files + Eprint + AllocGlobal, I: Source, S: Sink>(
+    rt: &R,
+    job: &LintJob,
+    base: Option<&Record>,
+    format: Format,
+    input: &mut I,
+    out: &mut S,
+) -> End
+    requires reads { I.failed input.old < 2 ^ 64 - 1 }
+    requires writes { S.failed out.old < 2 ^ 64 - 1 }
+    ensures { HasLintedAgainst job.now (option_copied base.entry) format result
+        (record { bytes = I.remaining input.old; failed = I.failed input.old })
+        (record { bytes = I.remaining input.new; failed = I.failed input.new })
+        (record { bytes = S.contents out.old; failed = S.failed out.old })
+        (record { bytes = S.contents out.new; failed = S.failed out.new }) }
+{
+    let setting = LintSetting {
+        base,
+        profile: profile_of(job.wide),
+        complaints: complaints_of(job.all),
+        format,
+    };
+    let Ok((begin, end)) = begin_and_end(rt.alloc(), format) else {
+        return End::Fault(CliFault::Memory);
+    };
+    let linted = write_piece(out, begin.as_str(), Linted::new(job.quiet));
+    let linted = lint_each(rt, job.files.as_slice(), setting, linted, input, out);
+    End::Linted(write_piece(out, end.as_str(), linted))
+}
+
+// What a report begins with, and what it ends with.
+fn begin_and_end(alloc: Global, format: Format) -> Result<(String, String), AllocError>
+    ensures { IfOk result (λ r.
+        (string_bytes r.0 ≡ begin_text format) × (string_bytes r.1 ≡ end_text format)) }
+{
+    let mut begin = String::new(alloc);
+    push_begin(alloc, &mut begin, format)?;
+    let mut end = String::new(alloc);
+    push_end(&mut end, format)?;
+    Ok((begin, end))
+}
+
+// Writes a piece of the report, unless a write has failed before.
+fn write_piece<S: Sink>(out: &mut S, piece: &str, linted: Linted) -> Linted
+    requires { is_writable linted.stopped ≡ true → S.failed out.old < 2 ^ 64 - 1 }
+    ensures { WritesPiece (is_writable linted.stopped) piece.now linted result
+        (record { bytes = S.contents out.old; failed = S.failed out.old })
+        (record { bytes = S.contents out.new; failed = S.failed out.new }) }
+{
+    if !linted.is_writable() {
+        return linted;
+    }
+    match write_whole(out, piece.as_bytes()) {
+        Ok(()) => linted,
+        Err(DeviceFault) => linted.with_fault(LintFault::Write),
+    }
+}
+
+// Reports on the files, one after the other.
+fn lint_each<R: Files + Eprint + AllocGlobal, I: Source, S: Sink>(
+    rt: &R,
+    files: &[String],
+    setting: LintSetting<'_>,
+    linted: Linted,
+    input: &mut I,
+    out: &mut S,
+) -> Linted
+    requires { is_writable linted.stopped ≡ true → S.failed out.old < 2 ^ 64 - 1 }
+    ensures all { LintsAll (λ file. file_setting file setting.entry) (map string_bytes files.now) linted result
+        (record { bytes = I.remaining input.old; failed = I.failed input.old })
+        (record { bytes = I.remaining input.new; failed = I.failed input.new })
+        (record { bytes = S.contents out.old; failed = S.failed out.old })
+        (record { bytes = S.contents out.new; failed = S.failed out.new }) }
+    ensures quiet { is_writable result.stopped ≡ true → S.failed out.new ≡ S.failed out.old }
+    ensures stays { is_writable result.stopped ≡ true → is_writable linted.stopped ≡ true }
+{
+    let mut linted = linted;
+    for file in files {
+        linted = lint_next(rt, file.as_str(), setting, linted, input, out);
+    }
+    linted
+}
+
+// Reports on the next file, unless something has stopped the lint.
+fn lint_next<R: Files + Eprint + AllocGlobal, I: Source, S: Sink>(
+    rt: &R,
+    file: &str,
+    setting: LintSetting<'_>,
+    linted: Linted,
+    input: &mut I,
+    out: &mut S,
+) -> Linted
+    requires { is_writable linted.stopped ≡ true → S.failed out.old < 2 ^ 64 - 1 }
+    ensures next { LintsNext (is_stopped linted) (file_setting file.now setting.entry) linted result
+        (record { bytes = I.remaining input.old; failed = I.failed input.old })
+        (record { bytes = I.remaining input.new; failed = I.failed input.new })
+        (record { bytes = S.contents out.old; failed = S.failed out.old })
+        (record { bytes = S.contents out.new; failed = S.failed out.new }) }
+{
+    if linted.is_stopped() {
+        return linted;
+    }
+    let (counts, answer) = lint_named(rt, file, setting, linted.is_clean(), input, out);
+    if answer == Err(LintFault::Read) {
+        tell_unread(rt, file);
+    }
+    linted.with_file(counts, answer)
+}
+
+// Reports on the file with a name: on the input where that is `-`.
+fn lint_named<R: Files + AllocGlobal, I: Source, S: Sink>(
+    rt: &R,
+    file: &str,
+    setting: LintSetting<'_>,
+    is_first: bool,
+    input: &mut I,
+    out: &mut S,
+) -> (LintCounts, Result<(), LintFault>)
+    requires { S.failed out.old < 2 ^ 64 - 1 }
+    ensures { LintsNamed (bytes_eq file.now (codes "-")) (file_setting file.now setting.entry) is_first
+        result.0 result.1
+        (record { bytes = I.remaining input.old; failed = I.failed input.old })
+        (record { bytes = I.remaining input.new; failed = I.failed input.new })
+        (record { bytes = S.contents out.old; failed = S.failed out.old })
+        (record { bytes = S.contents out.new; failed = S.failed out.new }) }
+{
+    if file != "-" {
+        return lint_opened(rt, file, setting, is_first, out);
+    }
+    if input.failures() == u64::MAX {
+        return (NONE_COUNTED, Err(LintFault::Read));
+    }
+    run_lint(rt.alloc(), input, out, file, is_first, setting)
+}
+
+// Reports on the file that is opened by its name.
+fn lint_opened<R: Files + AllocGlobal, S: Sink>(
+    rt: &R,
+    file: &str,
+    setting: LintSetting<'_>,
+    is_first: bool,
+    out: &mut S,
+) -> (LintCounts, Result<(), LintFault>)
+    requires { S.failed out.old < 2 ^ 64 - 1 }
+    ensures { LintsOpened (file_setting file.now setting.entry) is_first result.0 result.1
+        (record { bytes = S.contents out.old; failed = S.failed out.old })
+        (record { bytes = S.contents out.new; failed = S.failed out.new })
+        ⊎ LintsNothing result.0 result.1
+        (record { bytes = S.contents out.old; failed = S.failed out.old })
+        (record { bytes = S.contents out.new; failed = S.failed out.new }) }
+{
+    match fs::open(rt, file) {
+        Ok(opened) => {
+            let mut source = FromReader::new(opened);
+            run_lint(rt.alloc(), &mut source, out, file, is_first, setting)
+        }
+        Err(error) if error.kind() == ErrorKind::OutOfMemory => {
+            (NONE_COUNTED, Err(LintFault::Memory))
+        }
+        Err(_) => (NONE_COUNTED, Err(LintFault::Read)),
+    }
+}
+
+// Tells on standard error that a file wasn't read. A failed write there has nowhere to be told.
+fn tell_unread<R: Eprint + AllocGlobal>(rt: &R, file: &str) {
+    match unread_line(rt.alloc(), file) {
+        Ok(line) => {
+            let _ = rt.eprint(line.as_str());
+        }
+        Err(AllocError) => {
+            let _ = rt.eprintln("memory");
+        }
+    }
+}
+
+// The line of a file that wasn't read. Its name is shown as a terminal may show it.
+#[tactic(auto, unfolding(crate::specs::Lint::unread_text))]
+fn unread_line(alloc: Global, file: &str) -> Result<String, AllocError>
+    ensures { IfOk result (λ line. string_bytes line ≡ unread_text file.now) }
+{
+    let mut line = String::new(alloc);
+    push_shown(&mut line, file)?;
+    line.push_str(": can't be read\n")?;
+    Ok(line)
+}

@@ -1,0 +1,146 @@
+//! What a lint of files has come to.
+ghost use Rattle.std.specs.Prelude.{◌≡◌, IfOk, string_bytes};
+ghost use Rattle.uv_cli.specs.Linted as spec;
+ghost use Rattle.uv_cli.specs.Linted.{counts_text, is_writable, lint_status, linted_text};
+
+use std::alloc::{AllocError, Global};
+use uv_lint::{LintCounts, LintFault};
+
+/// What a lint of files has come to: what was counted, and what went wrong.
+#[derive(Clone, Copy, Debug, PartialEq, Eq)]
+pub struct Linted {
+    /// How many lines of all files were judged, and of how many something was found. Each is 2^64 - 1 at most.
+    pub counts: LintCounts,
+    /// Whether a file couldn't be opened, or not be read to its end.
+    pub is_unread: bool,
+    /// What stopped the lint, if something did. A failed read stops none.
+    pub stopped: Option<LintFault>,
+    /// Whether no counts are wanted.
+    pub is_quiet: bool,
+}
+
+impl Linted {
+    /// What a lint has come to before its first file.
+    pub(crate) fn new(is_quiet: bool) -> Linted
+        ensures { result ≡ spec.no_file is_quiet }
+    {
+        Linted {
+            counts: LintCounts {
+                lines: 0,
+                refused: 0,
+            },
+            is_unread: false,
+            stopped: None,
+            is_quiet,
+        }
+    }
+
+    /// The same behind a file of which so many lines were counted.
+    pub(crate) fn with_file(self, counts: LintCounts, answer: Result<(), LintFault>) -> Linted
+        ensures { result ≡ spec.with_file self counts answer }
+    {
+        let counted = Linted {
+            counts: LintCounts {
+                lines: self.counts.lines.saturating_add(counts.lines),
+                refused: self.counts.refused.saturating_add(counts.refused),
+            },
+            is_unread: self.is_unread,
+            stopped: self.stopped,
+            is_quiet: self.is_quiet,
+        };
+        match answer {
+            Ok(()) => counted,
+            Err(LintFault::Read) => Linted {
+                counts: counted.counts,
+                is_unread: true,
+                stopped: self.stopped,
+                is_quiet: self.is_quiet,
+            },
+            Err(fault) => counted.with_fault(fault),
+        }
+    }
+
+    /// The same where this stopped it.
+    pub(crate) fn with_fault(self, fault: LintFault) -> Linted
+        ensures { result ≡ spec.with_fault self fault }
+    {
+        Linted {
+            counts: self.counts,
+            is_unread: self.is_unread,
+            stopped: Some(fault),
+            is_quiet: self.is_quiet,
+        }
+    }
+
+    /// Whether something stopped it.
+    pub(crate) fn is_stopped(self) -> bool
+        ensures { result ≡ spec.is_stopped self }
+    {
+        self.stopped.is_some()
+    }
+
+    /// Whether no write has failed.
+    pub(crate) fn is_writable(self) -> bool
+        ensures { result ≡ is_writable self.stopped }
+    {
+        !matches!(self.stopped, Some(LintFault::Write))
+    }
+
+    /// Whether nothing was found so far, so that a next diagnostic is the first one.
+    pub(crate) fn is_clean(self) -> bool
+        ensures { result ≡ spec.is_clean self }
+    {
+        self.counts.refused == 0
+    }
+
+    /// The exit status: 3 where something stopped the lint; else 2 where a file wasn't read; else 1 where something was
+    /// found; else 0.
+    pub(crate) fn status(self) -> u8
+        ensures { result ≡ lint_status self }
+    {
+        if self.is_stopped() {
+            3
+        } else if self.is_unread {
+            2
+        } else if self.is_clean() {
+            0
+        } else {
+            1
+        }
+    }
+
+    /// What is said on standard error at the end: the counts, where they are wanted, and what stopped the lint.
+    pub(crate) fn error_lines(self, alloc: Global) -> Result<String, AllocError>
+        ensures { IfOk result (λ lines. string_bytes lines ≡ linted_text self) }
+    {
+        let mut lines = String::new(alloc);
+        if !self.is_quiet {
+            lines.push_str(counts_line(alloc, self.counts)?.as_str())?;
+        }
+        lines.push_str(stopped_line(self.stopped))?;
+        Ok(lines)
+    }
+}
+
+#[tactic(auto, unfolding(crate::specs::Linted::counts_text))]
+fn counts_line(alloc: Global, counts: LintCounts) -> Result<String, AllocError>
+    ensures { IfOk result (λ line. string_bytes line ≡ counts_text counts) }
+{
+    let lines = counts.lines;
+    let refused = counts.refused;
+    let noun = if lines == 1 { "line" } else { "lines" };
+    format!(in alloc; "{lines} {noun}, {refused} refused\n")
+}
+
+fn stopped_line(stopped: Option<LintFault>) -> &'static str
+    ensures { result.now ≡ spec.stopped_text stopped }
+{
+    match stopped {
+        None => "",
+        Some(LintFault::Memory) => "memory\n",
+        Some(LintFault::Read) => "read\n",
+        Some(LintFault::Write) => "write\n",
+        Some(LintFault::TooManyLines) => "too many lines\n",
+        Some(LintFault::Endless) => "endless\n",
+    }
+}
