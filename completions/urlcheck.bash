@@ -1,25 +1,28 @@
 # Completions of urlcheck for bash, made by make-manual.
 _urlcheck() {
-    local word=${COMP_WORDS[COMP_CWORD]} previous=${COMP_WORDS[COMP_CWORD - 1]} command= words= i
+    local word=${COMP_WORDS[COMP_CWORD]} previous=${COMP_WORDS[COMP_CWORD - 1]} command= words= is_value= i
     for ((i = 1; i < COMP_CWORD; i++)); do
         if [[ ${COMP_WORDS[i]} != -* ]]; then command=${COMP_WORDS[i]}; break; fi
     done
     case $command:$previous in
-        check:--base) words='' ;;
-        links:--base) words='' ;;
+        check:--base) words='' is_value=yes ;;
+        lint:--base) words='' is_value=yes ;;
+        lint:--format) words='gnu caret json github sarif checkstyle' is_value=yes ;;
+        links:--base) words='' is_value=yes ;;
         *)
             case $command in
-                '') words='check links vectors explain help --help --version' ;;
+                '') words='check lint links vectors explain help --help --version' ;;
                 check) words='--base --all --wide --help' ;;
+                lint) words='--base --all --wide --format --quiet --help' ;;
                 links) words='--base --wide --help' ;;
                 vectors) words='--help' ;;
                 explain) words='no-scheme opaque-base two-slashes host-missing host-domain host-number host-ipv6 host-code-point port-digit port-range first-segment-empty drive-after-host code-point percent --help' ;;
-                help) words='check links vectors explain help' ;;
+                help) words='check lint links vectors explain help' ;;
             esac ;;
     esac
     mapfile -t COMPREPLY < <(compgen -W "$words" -- "$word")
-    case $command in
-        vectors)
+    case $is_value$command in
+        lint | vectors)
             compopt -o filenames
             mapfile -t -O ${#COMPREPLY[@]} COMPREPLY < <(compgen -f -- "$word") ;;
     esac

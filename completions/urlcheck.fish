@@ -1,6 +1,7 @@
 # Completions of urlcheck for fish, made by make-manual.
 complete -c urlcheck -f
 complete -c urlcheck -n __fish_use_subcommand -a check -d 'Checks one text'
+complete -c urlcheck -n __fish_use_subcommand -a lint -d 'Says what is wrong with the lines of files'
 complete -c urlcheck -n __fish_use_subcommand -a links -d 'Checks each line of the standard input'
 complete -c urlcheck -n __fish_use_subcommand -a vectors -d 'Runs the vectors of a file'
 complete -c urlcheck -n __fish_use_subcommand -a explain -d 'Says what a rule asks'
@@ -8,9 +9,16 @@ complete -c urlcheck -n __fish_use_subcommand -a help -d 'Print this message or 
 complete -c urlcheck -n __fish_use_subcommand -l help -d 'Print help'
 complete -c urlcheck -n __fish_use_subcommand -l version -d 'Print version'
 complete -c urlcheck -n '__fish_seen_subcommand_from check' -l base -x -d 'The base, which is judged alone and first'
-complete -c urlcheck -n '__fish_seen_subcommand_from check' -l all -d 'Prints all that is wrong with the text, and not the first alone'
+complete -c urlcheck -n '__fish_seen_subcommand_from check' -l all -d 'Prints all that is wrong with a text, and not the first alone'
 complete -c urlcheck -n '__fish_seen_subcommand_from check' -l wide -d 'Judges by the wide profile, which takes http://a_b/ and http://h//a too'
 complete -c urlcheck -n '__fish_seen_subcommand_from check' -l help -d 'Print help'
+complete -c urlcheck -n '__fish_seen_subcommand_from lint' -F
+complete -c urlcheck -n '__fish_seen_subcommand_from lint' -l base -x -d 'The base, which is judged alone and first'
+complete -c urlcheck -n '__fish_seen_subcommand_from lint' -l all -d 'Prints all that is wrong with a text, and not the first alone'
+complete -c urlcheck -n '__fish_seen_subcommand_from lint' -l wide -d 'Judges by the wide profile, which takes http://a_b/ and http://h//a too'
+complete -c urlcheck -n '__fish_seen_subcommand_from lint' -l format -x -a 'gnu caret json github sarif checkstyle' -d 'gnu, caret, json, github, sarif or checkstyle; without it gnu'
+complete -c urlcheck -n '__fish_seen_subcommand_from lint' -l quiet -d 'Leaves out the counts on standard error'
+complete -c urlcheck -n '__fish_seen_subcommand_from lint' -l help -d 'Print help'
 complete -c urlcheck -n '__fish_seen_subcommand_from links' -l base -x -d 'The base, which is judged alone and first'
 complete -c urlcheck -n '__fish_seen_subcommand_from links' -l wide -d 'Judges by the wide profile, which takes http://a_b/ and http://h//a too'
 complete -c urlcheck -n '__fish_seen_subcommand_from links' -l help -d 'Print help'
@@ -18,4 +26,4 @@ complete -c urlcheck -n '__fish_seen_subcommand_from vectors' -F
 complete -c urlcheck -n '__fish_seen_subcommand_from vectors' -l help -d 'Print help'
 complete -c urlcheck -n '__fish_seen_subcommand_from explain' -a 'no-scheme opaque-base two-slashes host-missing host-domain host-number host-ipv6 host-code-point port-digit port-range first-segment-empty drive-after-host code-point percent'
 complete -c urlcheck -n '__fish_seen_subcommand_from explain' -l help -d 'Print help'
-complete -c urlcheck -n '__fish_seen_subcommand_from help' -a 'check links vectors explain help'
+complete -c urlcheck -n '__fish_seen_subcommand_from help' -a 'check lint links vectors explain help'

@@ -5,7 +5,7 @@
     if ($2 == "option") words[$1] = words[$1] " " $3
     if ($2 == "argument" && $6 != "") words[$1] = words[$1] " " $6
     if ($2 == "argument" && $4 == "FILE") takes_files[$1] = 1
-    if ($2 == "option" && $4 != "") values = values sprintf("        %s:%s) words='%s' ;;\n", $1, $3, $6)
+    if ($2 == "option" && $4 != "") values = values sprintf("        %s:%s) words='%s' is_value=yes ;;\n", $1, $3, $6)
     if ($2 == "command") {
         commands = commands " " $3
         order[++count] = $3
@@ -15,7 +15,7 @@
 END {
     print "# Completions of urlcheck for bash, made by make-manual."
     print "_urlcheck() {"
-    print "    local word=${COMP_WORDS[COMP_CWORD]} previous=${COMP_WORDS[COMP_CWORD - 1]} command= words= i"
+    print "    local word=${COMP_WORDS[COMP_CWORD]} previous=${COMP_WORDS[COMP_CWORD - 1]} command= words= is_value= i"
     print "    for ((i = 1; i < COMP_CWORD; i++)); do"
     print "        if [[ ${COMP_WORDS[i]} != -* ]]; then command=${COMP_WORDS[i]}; break; fi"
     print "    done"
@@ -33,7 +33,7 @@ END {
     print "    esac"
     print "    mapfile -t COMPREPLY < <(compgen -W \"$words\" -- \"$word\")"
     for (i = 1; i <= count; i++) if (order[i] in takes_files) files = files (files == "" ? "" : " | ") order[i]
-    print "    case $command in"
+    print "    case $is_value$command in"
     printf "        %s)\n", files
     print "            compopt -o filenames"
     print "            mapfile -t -O ${#COMPREPLY[@]} COMPREPLY < <(compgen -f -- \"$word\") ;;"

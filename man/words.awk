@@ -1,7 +1,20 @@
 # What may stand in the words, from the help of the program and then of each of its commands: a row each, its fields
 # parted by tabs. They are the command, or nothing for the program's own; command, option or argument; its name; the
-# name of its value, if it has one; what it means; and the values that it may have, if they are known. Variable: rules,
-# the names of the rules.
+# name of its value, if it has one; what it means; and the values that it may have, if they are known: for RULE those of
+# the variable rules, and for FORMAT those that its meaning begins with.
+
+# the words of a list such as `a, b or c`, up to a `;`
+function listed(meaning) {
+    sub(/;.*/, "", meaning)
+    gsub(/,| or/, "", meaning)
+    return meaning
+}
+
+# the values that are known of the name of a value
+function known(value, meaning) {
+    if (value == "RULE") return rules
+    return value == "FORMAT" ? listed(meaning) : ""
+}
 
 FNR == 1 { command = section = "" }
 
@@ -29,5 +42,5 @@ section == "Commands:" || section == "Options:" || section == "Arguments:" {
         }
     } else if (kind == "argument") value = text
     gsub(/[][<>.]/, "", value)
-    printf "%s\t%s\t%s\t%s\t%s\t%s\n", command, kind, name, value, meaning, value == "RULE" ? rules : ""
+    printf "%s\t%s\t%s\t%s\t%s\t%s\n", command, kind, name, value, meaning, known(value, meaning)
 }

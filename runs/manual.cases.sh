@@ -56,4 +56,7 @@ completes '' check --base h
 completes 'port-digit port-range percent' explain p
 completes 'made' vectors ma
 completes 'explain' help ex
-all_cases 18
+completes 'sarif' lint --format sa
+completes '' lint --base ma
+completes '--quiet' lint --q
+all_cases 21

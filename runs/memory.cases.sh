@@ -48,6 +48,13 @@ awk -v long="${long:0:65000}" 'BEGIN {
 }' >"$room/list"
 walks links
 walks links --wide --base "http://h/$long"
+awk -v long="${long:0:65000}" 'BEGIN {
+    for (n = 1; n <= 1000; n++) print "http://h/a b" n
+    print "http://h/ " long
+    for (n = 1; n <= 100; n++) print "https:///" n
+}' >"$room/list"
+walks lint --quiet -
+walks lint --quiet --all --format caret --base "http://h/$long" -
 
 # While there is memory, none is wanted: each kind of host and many segments, in a line and in the base.
 many=$(awk 'BEGIN { for (n = 0; n < 20000; n++) printf "/a" }')
@@ -87,4 +94,4 @@ awk -v ends=0 '/^links / { print $2, other; if ($2 != $4 + $6 + $8 || $2 != NR -
     / bad 0 not-utf8$/ { other++ }' "$room/out" | cmp -s - "$room/wanted" ||
     fail "64 MiB of random bytes: $(tail -n 1 "$room/out"), and not $(cat "$room/wanted")"
 
-all_cases 21
+all_cases 23

@@ -41,11 +41,12 @@ refused "'chek'" chek urn:a
 refused "'x'" links x
 refused '<FILE>' vectors
 expect 2 '' 'words\n' check $'\xff'
-shows '  2  the words, the base or the vector file are refused' --help
-shows '  2  the words, the base or the vector file are refused' -h
+shows "  2  the words, the base or the vector file are refused, or a file of lint can't be read" --help
+shows "  2  the words, the base or the vector file are refused, or a file of lint can't be read" -h
 shows "  urlcheck check 'http://h/a b'" help
 shows '  urlcheck check --base http://h/a/b ../x' check --help
 shows '  urlcheck links --base http://h/ < links.txt' help links
+shows '  urlcheck lint --format caret links.txt' lint --help
 shows '  urlcheck vectors vectors/standard.json' help vectors
 shows 'urlcheck 0.1.0' --version
 
@@ -107,4 +108,4 @@ expect 2 '' 'base refused 7 host-domain\n' check --base http://a_b/ x
 expect 0 'valid\nscheme http\nhost domain a_b\nsegment x\n' '' check --wide --base http://a_b/ x
 expect 1 'refused 7 host-domain\nrefused 11 code-point\n' '' check --all 'http://a_b/ '
 expect 1 'refused 11 code-point\n' '' check --all --wide 'http://a_b/ '
-all_cases 75
+all_cases 76

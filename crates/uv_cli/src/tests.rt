@@ -5,6 +5,7 @@ ghost use Rattle.std.specs.Prelude.{None};
 mod devices;
 mod explain;
 mod faults;
+mod lint;
 mod memory;
 
 use crate::check::{CheckEnd, run_check};

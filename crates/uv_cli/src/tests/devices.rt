@@ -2,7 +2,8 @@
 //! least complaint and of all of them.
 
 use super::*;
-use crate::check::{Complaints, run_faults};
+use crate::check::run_faults;
+use uv_lint::Complaints;
 use uv_model::ScriptSink;
 
 // A text, its base, the profile, and what is written of it.

@@ -1,0 +1,138 @@
+//! Lints of files: standard input beside files that aren't there, each failed read and write, and jobs that are refused.
+
+use crate::ends::{End, error_line, status};
+use crate::jobs::run_job;
+use crate::linted::Linted;
+use std::alloc::Global;
+use std::fs::Files;
+use std::process::Abort;
+use std::test::Fail;
+use uv_lint::{LintCounts, LintFault};
+use uv_model::{DeviceFault, Refusal, Rule, ScriptSink, ScriptSource, Sink, Source};
+use uv_words::{Job, LintJob};
+
+// What is wrong with the second line, as compilers write it.
+const WRONG: &str = "-:2:1: error: there is no scheme and no base [no-scheme]\n";
+
+// A job over files, in a format.
+fn job(
+    alloc: Global,
+    files: &[&str],
+    base: Option<&str>,
+    format: Option<&str>,
+) -> Result<Job, Fail> {
+    let mut names = Vec::new(alloc);
+    for file in files {
+        names.push(file.to_string(alloc)?)?;
+    }
+    Ok(Job::Lint(LintJob {
+        files: names,
+        base: copied(alloc, base)?,
+        all: false,
+        wide: false,
+        format: copied(alloc, format)?,
+        quiet: false,
+    }))
+}
+
+fn copied(alloc: Global, text: Option<&str>) -> Result<Option<String>, Fail> {
+    match text {
+        Some(text) => Ok(Some(text.to_string(alloc)?)),
+        None => Ok(None),
+    }
+}
+
+// What a lint comes to that counted so many lines.
+fn linted(lines: u64, refused: u64, is_unread: bool, stopped: Option<LintFault>) -> End {
+    End::Linted(Linted {
+        counts: LintCounts { lines, refused },
+        is_unread,
+        stopped,
+        is_quiet: false,
+    })
+}
+
+// A run of a job over an input of these reads and an output of these writes ends so, and writes this.
+fn ends(
+    rt: &(impl Abort + Files + Eprint + AllocGlobal),
+    job: &Job,
+    reads: &[Result<&[u8], DeviceFault>],
+    writes: &[Result<usize, DeviceFault>],
+    want: (End, u8, &str, &str),
+) -> Result<(), Fail> {
+    let Some(mut input) = ScriptSource::new(reads) else {
+        panic!(rt; "an empty piece");
+    };
+    let mut out = ScriptSink::new(rt.alloc(), 1000, writes)?;
+    let end = run_job(rt, job, &[], &mut input, &mut out);
+    assert_eq!(rt; end, want.0);
+    assert_eq!(rt; status(end), want.1);
+    assert_eq!(rt; error_line(rt.alloc(), end)?.as_str(), want.2);
+    assert_eq!(rt; out.bytes(), want.3.as_bytes());
+    Ok(())
+}
+
+// The input is read once, in its place among the files, and a file that isn't there keeps none back.
+#[test]
+fn reports_on_the_input(rt: HostRuntime) -> Result<(), Fail> {
+    let text: [Result<&[u8], DeviceFault>; 1] = [Ok(b"urn:a\nx\n")];
+    let alone = job(rt.alloc(), &["-"], None, None)?;
+    let want = (linted(2, 1, false, None), 1, "2 lines, 1 refused\n", WRONG);
+    ends(&rt, &alone, &text, &[Ok(1000)], want)?;
+    let among = job(rt.alloc(), &["no/such/file", "-", "-"], None, Some("gnu"))?;
+    let want = (linted(2, 1, true, None), 2, "2 lines, 1 refused\n", WRONG);
+    ends(&rt, &among, &text, &[Ok(1000)], want)?;
+    let based = job(rt.alloc(), &["-"], Some("http://h/"), None)?;
+    let want = (linted(2, 0, false, None), 0, "2 lines, 0 refused\n", "");
+    ends(&rt, &based, &text, &[], want)
+}
+
+// A failed read of the input is told, and what was read before it is reported.
+#[test]
+fn goes_on_behind_a_failed_read(rt: HostRuntime) -> Result<(), Fail> {
+    let job = job(rt.alloc(), &["-"], None, None)?;
+    let want = (linted(2, 1, true, None), 2, "2 lines, 1 refused\n", WRONG);
+    ends(
+        &rt,
+        &job,
+        &[Ok(b"urn:a\nx\nurn"), Err(DeviceFault)],
+        &[Ok(1000)],
+        want,
+    )
+}
+
+// A write that fails stops the lint: what was counted is told, and the write.
+#[test]
+fn stops_at_a_failed_write(rt: HostRuntime) -> Result<(), Fail> {
+    let job = job(rt.alloc(), &["-", "no/such/file"], None, None)?;
+    let end = linted(2, 1, false, Some(LintFault::Write));
+    let want = (end, 3, "2 lines, 1 refused\nwrite\n", "-:2:1");
+    ends(
+        &rt,
+        &job,
+        &[Ok(b"urn:a\nx\n")],
+        &[Ok(5), Err(DeviceFault)],
+        want,
+    )
+}
+
+// The name of no format, and a base that is refused: nothing is read or written.
+#[test]
+fn refuses_jobs(rt: HostRuntime) -> Result<(), Fail> {
+    let unknown =
+        "error: no format has this name; they are gnu, caret, json, github, sarif and checkstyle\nwords\n";
+    let named = job(rt.alloc(), &["-"], None, Some("GNU"))?;
+    ends(&rt, &named, &[], &[], (End::UnknownFormat, 2, unknown, ""))?;
+    let based = job(rt.alloc(), &["-"], Some("x"), None)?;
+    let refusal = Refusal {
+        place: 0,
+        rule: Rule::NoScheme,
+    };
+    let want = (
+        End::BaseRefused(refusal),
+        2,
+        "base refused 0 no-scheme\n",
+        "",
+    );
+    ends(&rt, &based, &[], &[], want)
+}

@@ -1,0 +1,144 @@
+# Diagnostics of files: what is written, what is told on standard error, and the statuses; each format read by a reader
+# that isn't ours.
+
+printf 'http://h/a b\n\nhttp://ok/\r\nhttp://x_y/\n\xff\nnope' >"$room/links.txt"
+printf 'https:///a\n' >"$room/other.txt"
+printf 'http://h/\n\n\r\nurn:a\n' >"$room/right.txt"
+first='links.txt:1:11: error: this code point may not stand in a URL [code-point]\n'
+underscore='links.txt:4:8: error: the host that begins here is no valid domain [host-domain]\n'
+bytes="links.txt:5:1: error: this line isn't UTF-8 [not-utf8]\\n"
+last='links.txt:6:1: error: there is no scheme and no base [no-scheme]\n'
+other='other.txt:1:9: error: a host has to stand here [host-missing]\n'
+
+# Statuses, counts, files in their order, each read anew; without a FILE there is nothing to do.
+expect 0 '' '2 lines, 0 refused\n' lint right.txt
+expect 1 "$other" '1 line, 1 refused\n' lint other.txt
+expect 1 "$first$underscore$bytes$last" '5 lines, 4 refused\n' lint links.txt
+expect 1 "$first$underscore$bytes$last$other" '8 lines, 5 refused\n' lint links.txt right.txt other.txt
+expect 1 "$other$other" '' lint other.txt --quiet other.txt
+expect 0 '' '' lint --quiet right.txt
+expect 1 "$other" '1 line, 1 refused\n' lint -- other.txt
+"$program" lint >"$room/out" 2>"$room/err"
+ended=$?
+count=$((count + 1))
+if [ $ended != 2 ] || [ -s "$room/out" ] || [ "$(tail -n 1 "$room/err")" != words ]; then
+    fail "lint: status $ended, on standard error: $(cat "$room/err")"
+fi
+
+# The base, the profile, all faults, and the format by its name.
+expect 1 "$first$underscore$bytes" '5 lines, 3 refused\n' lint --base http://b/ links.txt
+expect 1 "$first$bytes" '5 lines, 2 refused\n' lint --base=http://b/ --wide links.txt
+printf 'http://a b:x/ %%\n' >"$room/faults.txt"
+expect 1 'faults.txt:1:8: error: the host that begins here is no valid domain [host-domain]\n' '1 line, 1 refused\n' \
+    lint faults.txt
+"$program" lint --all "$room/faults.txt" >"$room/out" 2>"$room/err"
+ends_with 1 $? '1 line, 1 refused\n' 'lint --all'
+places=$("$program" check --all 'http://a b:x/ %' | awk '{ print "1:" $2 + 1 " [" $3 "]" }')
+[ "$(sed 's/.*txt:\([0-9]*:[0-9]*\): .* \(\[[a-z-]*\]\)$/\1 \2/' "$room/out")" = "$places" ] ||
+    fail "lint --all: it wrote $(cat "$room/out")"
+[ "$(wc -l <"$room/out")" -gt 2 ] || fail "lint --all: it wrote $(cat "$room/out")"
+expect 2 '' 'base refused 7 host-domain\n' lint --base 'http://h a/' links.txt
+expect 2 '' 'base refused 0 no-scheme\n' lint --base '' missing.txt
+for name in GNU '' gnu, text; do
+    expect 2 '' 'error: no format has this name; they are gnu, caret, json, github, sarif and checkstyle\nwords\n' \
+        lint --base 'a b' --format "$name" links.txt
+done
+
+# Standard input is the file named `-`, alone and among others; at its end there is no more of it.
+# of_input STATUS STDOUT STDERR TEXT WORD.. : a lint with these words, of a standard input with this text, ends so
+of_input() {
+    local status=$1 stdout=$2 stderr=$3 text=$4
+    shift 4
+    printf '%b' "$text" | (cd "$room" && "$program" lint "$@") >"$room/out" 2>"$room/err"
+    ends_with "$status" $? "$stderr" "lint $*"
+    printf '%b' "$stdout" | cmp -s - "$room/out" || fail "lint $*: it wrote $(cat "$room/out")"
+}
+of_input 1 '-:2:1: error: there is no scheme and no base [no-scheme]\n' '2 lines, 1 refused\n' 'urn:a\nx' -
+of_input 1 "$other"'-:1:1: error: there is no scheme and no base [no-scheme]\n' '4 lines, 2 refused\n' 'x\n' \
+    other.txt - right.txt -
+of_input 0 '' '0 lines, 0 refused\n' '' -
+of_input 0 '' '0 lines, 0 refused\n' '\n\r\n\n' -
+"$program" lint - <&- >"$room/out" 2>"$room/err"
+ends_with 2 $? "-: can't be read\\n0 lines, 0 refused\\n" 'lint of a standard input that is closed'
+
+# Files that can't be opened or read are told by their names, and the others go on: one that isn't there, a folder, a
+# path through a file, one whose first read fails, and one that may not be read.
+expect 2 "$other" "missing: can't be read\\n1 line, 1 refused\\n" lint missing other.txt
+expect 2 "$other" ".: can't be read\\n: can't be read\\nother.txt/x: can't be read\\n1 line, 1 refused\\n" \
+    lint . '' other.txt other.txt/x
+expect 2 '' "/proc/self/mem: can't be read\\n2 lines, 0 refused\\n" lint /proc/self/mem right.txt
+expect 2 '' "missing: can't be read\\n" lint --quiet missing right.txt
+expect 2 '' "a\\0357\\0277\\0275[2J\\0357\\0277\\0275b: can't be read\\n0 lines, 0 refused\\n" lint $'a\e[2J\nb'
+chmod 755 "$room"
+cp "$program" "$room/program"
+chmod 000 "$room/links.txt"
+as_nobody=()
+if [ "$(id -u)" = 0 ]; then as_nobody=(setpriv --reuid=65534 --regid=65534 --clear-groups); fi
+(cd "$room" && "${as_nobody[@]}" ./program lint links.txt other.txt) >"$room/out" 2>"$room/err"
+ends_with 2 $? "links.txt: can't be read\\n1 line, 1 refused\\n" 'lint of a file that may not be read'
+printf '%b' "$other" | cmp -s - "$room/out" || fail "lint of a file that isn't permitted: it wrote $(cat "$room/out")"
+chmod 644 "$room/links.txt"
+
+# An output that takes nothing stops the lint: no further file is opened. So it is in each format, also where nothing is
+# found and a document alone would be written.
+for format in gnu caret json github sarif checkstyle; do
+    (cd "$room" && "$program" lint --quiet --format $format links.txt missing) >/dev/full 2>"$room/err"
+    ends_with 3 $? 'write\n' "lint --format $format to a full device"
+done
+for format in sarif checkstyle; do
+    (cd "$room" && "$program" lint --format $format right.txt) >/dev/full 2>"$room/err"
+    ended=$?
+    count=$((count + 1))
+    [ $ended = 3 ] || fail "lint --format $format to a full device: status $ended"
+    [ "$(tail -n 1 "$room/err")" = write ] || fail "lint --format $format to a full device: $(cat "$room/err")"
+done
+
+# Each format, of hostile lines in files with hostile names: escapes of terminals, what ends a text in XML, workflow
+# commands, quotes, a CR within a line, a turn of direction, wide and combining characters, and 65,536 code points.
+# Readers that aren't ours find the same in each.
+python3 - "$room" <<'PYTHON'
+import sys
+wide = "http://h/\u4e2d\u6587e\u0301\uff21 \U0001f600"
+lines = ["\x1b[2J\x1b[31mhttp://h/", "http://h/]]>", "::error file=a,line=1::x", 'http://h/"><b>&amp;\'',
+    "http://h/a\rb c", "http://h/\u202eabc", wide + "<", "http://h/100%", "%0A%25", "\t\t\thttp://h/", "x" * 65536, "", "urn:\x00\x7f\x85",
+    "http://h/\u20ac\ufffe", "http://h:65536/", "javascript:alert(1)<"]
+text = "\n".join(lines).encode() + b"\nhttp://h/\xff\xfe\n" + b"y" * 65537 + b"\n"
+for name in ("plain", "a,b:c%d.txt", "<&\"'>.txt", "\x1b[2J\u202e.txt", "two words", "b\u00fccher"):
+    open(sys.argv[1] + "/" + name, "wb").write(text)
+PYTHON
+hostile=(plain 'a,b:c%d.txt' "<&\"'>.txt" $'\e[2J\u202e.txt' 'two words' $'b\u00fccher')
+for format in gnu caret json github sarif checkstyle; do
+    (cd "$room" && "$program" lint --all --format $format "${hostile[@]}") >"$room/hostile.$format" 2>"$room/err"
+    ended=$?
+    count=$((count + 1))
+    [ $ended = 1 ] || fail "hostile lines as $format: status $ended"
+    (cd "$room" && "$program" lint --quiet --format $format right.txt) >"$room/none.$format" 2>"$room/err"
+    ends_with 0 $? '' "right lines as $format"
+done
+count=$((count + 1))
+readers=(python3 "$here/lint_readers.py" "$room" "${hostile[@]}")
+"${readers[@]}" >"$room/out" 2>&1 || fail "readers of diagnostics: $(cat "$room/out")"
+
+# They see a report that says something else.
+for spoiled in 'gnu s/:1: error/:2: error/' 'caret s/^ \( *\)^$/\1^/' 'json s/"column":1,/"column":2,/' \
+    'github s/col=1,/col=2,/' 'sarif s/"startColumn":1,/"startColumn":2,/' 'checkstyle s/column="1"/column="2"/'; do
+    format=${spoiled%% *}
+    mv "$room/hostile.$format" "$room/whole"
+    LC_ALL=C sed "${spoiled#* }" "$room/whole" >"$room/hostile.$format"
+    count=$((count + 1))
+    if "${readers[@]}" >"$room/out" 2>&1 || ! grep -q "^$format: " "$room/out"; then
+        fail "readers of diagnostics: spoiled $format: $(cat "$room/out")"
+    fi
+    mv "$room/whole" "$room/hostile.$format"
+done
+
+# Memory is flat: a million lines, of which each hundredth is wrong, in an address space of 10 MB.
+awk 'BEGIN { for (n = 1; n <= 1000000; n++) print (n % 100 ? "https://example.com/" n "/path?query" : "http://h/a b") }' \
+    >"$room/million"
+prlimit --as=10000000 "$program" lint "$room/million" >"$room/out" 2>"$room/err"
+ends_with 1 $? '1000000 lines, 10000 refused\n' 'lint of a million lines'
+[ "$(wc -l <"$room/out")" = 10000 ] || fail "lint of a million lines: $(wc -l <"$room/out") diagnostics"
+grep -qxF "$room/million:1000000:11: error: this code point may not stand in a URL [code-point]" "$room/out" ||
+    fail "lint of a million lines: it ends with $(tail -n 1 "$room/out")"
+rm -f "$room/million" "$room"/hostile.* "$room"/none.*
+all_cases 57
