@@ -100,8 +100,8 @@ python3 - "$room" <<'PYTHON'
 import sys
 wide = "http://h/\u4e2d\u6587e\u0301\uff21 \U0001f600"
 lines = ["\x1b[2J\x1b[31mhttp://h/", "http://h/]]>", "::error file=a,line=1::x", 'http://h/"><b>&amp;\'',
-    "http://h/a\rb c", "http://h/\u202eabc", wide + "<", "http://h/100%", "%0A%25", "\t\t\thttp://h/", "x" * 65536, "", "urn:\x00\x7f\x85",
-    "http://h/\u20ac\ufffe", "http://h:65536/", "javascript:alert(1)<"]
+    "http://h/a\rb c", "http://h/\u202eabc", wide + "<", "http://h/100%", "%0A%25",
+    "\t\t\thttp://h/", "x" * 65536, "", "urn:\x00\x7f\x85", "http://h/\u20ac\ufffe", "http://h:65536/", "javascript:alert(1)<"]
 text = "\n".join(lines).encode() + b"\nhttp://h/\xff\xfe\n" + b"y" * 65537 + b"\n"
 for name in ("plain", "a,b:c%d.txt", "<&\"'>.txt", "\x1b[2J\u202e.txt", "two words", "b\u00fccher"):
     open(sys.argv[1] + "/" + name, "wb").write(text)
@@ -133,7 +133,7 @@ for spoiled in 'gnu s/:1: error/:2: error/' 'caret s/^ \( *\)^$/\1^/' 'json s/"c
 done
 
 # Memory is flat: a million lines, of which each hundredth is wrong, in an address space of 10 MB.
-awk 'BEGIN { for (n = 1; n <= 1000000; n++) print (n % 100 ? "https://example.com/" n "/path?query" : "http://h/a b") }' \
+awk 'BEGIN { for (n = 1; n <= 1000000; n++) print (n % 100 ? "https://example.com/" n "/a?b" : "http://h/a b") }' \
     >"$room/million"
 prlimit --as=10000000 "$program" lint "$room/million" >"$room/out" 2>"$room/err"
 ends_with 1 $? '1000000 lines, 10000 refused\n' 'lint of a million lines'

@@ -34,8 +34,8 @@ pub lints_source : (setting : FileSetting) (is_first : Bool) (counts : LintCount
     → OnOk answer ((b ≡ a) × (d ≡ c))
     → LintsSource setting is_first counts answer (record { bytes = start; failed = a })
     (record { bytes = rest; failed = b }) (record { bytes = old; failed = c }) (record { bytes = new; failed = d })
-lints_source setting is_first counts (Ok u) start rest old new a b c d (read, consumed, end, reports) fault failed quiet =
-    record { read = read; consumed = consumed; wrote = (end, reports); failed = quiet }
+lints_source setting is_first counts (Ok u) start rest old new a b c d (read, consumed, end, reports) fault failed is =
+    record { read = read; consumed = consumed; wrote = (end, reports); failed = is }
 lints_source setting is_first counts (Err e) start rest old new a b c d report (read, consumed, leaves) failed quiet =
     record { read = read; consumed = consumed; wrote = leaves; failed = failed }
 
@@ -148,8 +148,8 @@ lints_by asked setting files names before after input rest old new profile compl
     before after input rest old new) profile all))
 
 -- what was done against the URL of the base's text
-pub linted_against : (asked : LintJob) (base name : Option (Bor (List ℕ))) (url : Option Url) (format : Format) (end : End)
-    (input rest old new : Device)
+pub linted_against : (asked : LintJob) (base name : Option (Bor (List ℕ))) (url : Option Url) (format : Format)
+    (end : End) (input rest old new : Device)
     → IsBase (profile_of asked.wide) base url → format_of name ≡ Some format
     → HasLintedAgainst asked url format end input rest old new → HasLinted asked base name end input rest old new
 linted_against asked base name url format (end.Linted linted) input rest old new is named done =

@@ -28,8 +28,8 @@ const NONE_COUNTED: LintCounts = LintCounts {
 };
 
 /// Reports on the lines of the job's files, in their order: in the format with the name, or in that of compilers, and
-/// alone or against the base, which is resolved alone, before anything is read. The base and the name are the texts that
-/// the job has. The input is read for each file named `-`.
+/// alone or against the base, which is resolved alone, before anything is read. The base and the name are the texts
+/// that the job has. The input is read for each file named `-`.
 ///
 /// A file that can't be opened, or not be read to its end, is told on standard error by its name, and the next files go
 /// on. Another fault stops the lint; what the report ends with is still written where no write has failed.

@@ -19,8 +19,8 @@ pub(crate) enum Escapes {
     Attribute,
 }
 
-/// Pushes a text as a terminal may show it: U+FFFD stands for each control but the tab, and for what ends a line or turns
-/// the direction of a text. Where a growth is refused, a front of it was pushed.
+/// Pushes a text as a terminal may show it: U+FFFD stands for each control but the tab, and for what ends a line or
+/// turns the direction of a text. Where a growth is refused, a front of it was pushed.
 pub fn push_shown(text: &mut String, source: &str) -> Result<(), AllocError>
     ensures { OnOk result (string_bytes text.new ≡ string_bytes text.old ++ shown_text source.now) }
 {

@@ -38,7 +38,8 @@ fn reads_jobs(rt: HostRuntime) -> Result<(), Fail> {
         ),
         (
             &["urlcheck", "lint", "a"],
-            "Ok(Some(Lint(LintJob { files: [\"a\"], base: None, all: false, wide: false, format: None, quiet: false })))",
+            "Ok(Some(Lint(LintJob { files: [\"a\"], base: None, all: false, wide: false, \
+            format: None, quiet: false })))",
         ),
         (
             &[

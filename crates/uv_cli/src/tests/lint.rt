@@ -1,4 +1,4 @@
-//! Lints of files: standard input beside files that aren't there, each failed read and write, and jobs that are refused.
+//! Lints of files: standard input beside files that aren't there, failed reads and writes, and jobs that are refused.
 
 use crate::ends::{End, error_line, status};
 use crate::jobs::run_job;

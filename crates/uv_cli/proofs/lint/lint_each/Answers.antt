@@ -20,13 +20,14 @@ loop-file-preserved g c =
       bytes = g.S.Sink.contents c.lint_next-linted.new.out;
       failed = g.S.Sink.failed c.lint_next-linted.new.out;
     }) = rw (← c.as_str.ensures.value) c.lint_next-linted.ensures.next in
+    let after = next_quiet _ _ _ _ _ _ _ next in
     record {
       all =
           rw (files_more c.args.files.now c.loop-file.file-index c.file-item.result c.loop-file-test.true
           c.file-item.is)
           (all_more (λ file. file_setting file c.args.setting) _ _ _ _ _ _ _ _ _ _ _ c.loop-file.invariant.all next);
-      quiet = λ h. (next_quiet _ _ _ _ _ _ _ next h).0 ∙ c.loop-file.invariant.quiet (next_quiet _ _ _ _ _ _ _ next h).1;
-      stays = λ h. c.loop-file.invariant.stays (next_quiet _ _ _ _ _ _ _ next h).1;
+      quiet = λ h. (after h).0 ∙ c.loop-file.invariant.quiet (after h).1;
+      stays = λ h. c.loop-file.invariant.stays (after h).1;
     }
 
 pub returns-clause-all : goal.returns-clause-all
