@@ -119,7 +119,6 @@ returns-then-count-eq0-clause-fault g c =
     let r = c.finish.new.self in
     let reports = g.T.Reporter.reports in
     let old = g.W.Sink.contents c.args.writer.now in
-    let now = g.W.Sink.contents c.loop-turn.writer in
     let new = g.W.Sink.contents c.finish.new.writer in
     let at_end = IsAtEnd (g.R.Source.remaining c.read.new.self) in
     let bytes = c.in-Ok.ensures.bytes in
@@ -130,7 +129,7 @@ returns-then-count-eq0-clause-fault g c =
     bytes.0 bytes.1 in
     elim c.finish.result as (λ answer. IfErr answer (λ e. (start : g.row.T.Denot) (old : Option (List ℕ))
     (read : List ℕ) → At reports g.T.Reporter.lines q.limits.line_bytes start old read q.reporter q.begun.items
-    q.text.items now → FinishFault reports q.limits start e old read r.reporter new
+    q.text.items (g.W.Sink.contents c.loop-turn.writer) → FinishFault reports q.limits start e old read r.reporter new
     × (g.W.Sink.failed c.finish.new.writer ≡ g.W.Sink.failed c.loop-turn.writer + writes_failed e))
     → IfErr answer (λ e. (read : List ℕ)
     × Consumes (g.R.Source.remaining c.args.reader.now) (g.R.Source.remaining c.read.new.self) read
