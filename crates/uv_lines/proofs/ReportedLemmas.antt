@@ -37,7 +37,7 @@ short_line-long n line long =
     let over : nat_le (length line) n ≡ false = grind (arith, common_steps, long) in
     rw over refl
 
--- a line of which a front is kept, two bytes longer than a line may be, is reported on as the whole line: without the CR at
+-- a line of which a front is kept, two bytes longer than a line may be, is reported on as the whole: without the CR at
 -- its end
 pub kept_short_line : (n : ℕ) (line : List ℕ)
     → short_line n (strip_carriage_return (take (n + 2) line)) ≡ short_line n (strip_carriage_return line)

@@ -64,7 +64,8 @@ pub Stands-whole : {S : Type 0} (reports : S → Option (List ℕ) → List ℕ 
 Stands-whole reports lines n start written read front p q begun left old new none h whole adds empty =
     let nothing : (split read).1 ≡ [] = none_begun n (split read).1 (sym h.kept ∙ whole) in
     Stands-closed reports lines n start written read front p q begun left old new none h
-    (subst (λ l. Adds reports lines p old (short_line n (strip_carriage_return (l ++ front))) q new) (sym nothing) adds) empty
+    (subst (λ l. Adds reports lines p old (short_line n (strip_carriage_return (l ++ front))) q new) (sym nothing) adds)
+    empty
 
 -- the same where a front of the line was kept, and this one with it
 pub Stands-kept : {S : Type 0} (reports : S → Option (List ℕ) → List ℕ → S → Type 0) (lines : S → ℕ) (n : ℕ)
@@ -179,7 +180,8 @@ pub Ends-begun : {S : Type 0} (reports : S → Option (List ℕ) → List ℕ �
     → Reported reports n start (lines_of read) (written ++ new) q × (lines q ≡ length (lines_of read))
 Ends-begun reports lines n start written read p q begun old new h some adds =
     let line = (split read).1 in
-    let same_line : short_line n begun ≡ short_line n line = ap (λ l. short_line n l) h.kept ∙ kept_short_line_open n line in
+    let same_line : short_line n begun ≡ short_line n line =
+    ap (λ l. short_line n l) h.kept ∙ kept_short_line_open n line in
     let whole : Adds reports lines p old (short_line n line) q new =
     subst (λ s. Adds reports lines p old s q new) same_line adds in
     let all : lines_of read ≡ closed_lines read ++ line ∷ [] =

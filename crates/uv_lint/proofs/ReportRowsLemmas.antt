@@ -10,5 +10,6 @@ use Rattle.uv_lint.specs.ReportRows.{LintRows}
 
 -- the rows hold, each by computation
 pub lint_rows : LintRows
-unfolding gnu_position gnu_text gnu_words escaped digits chars is_utf8 utf8_lossy utf8_valid_len utf8_error_len encode_utf8
+unfolding gnu_position gnu_text gnu_words escaped digits chars is_utf8
+    utf8_lossy utf8_valid_len utf8_error_len encode_utf8
 lint_rows = record { diagnostics = refl; counts = refl; still_first = refl; no_more = refl; shown_lines = refl }

@@ -224,15 +224,15 @@ cut_left s limits is_first answer result old mid now new read at_end count q bef
     (cut_end s limits is_first old mid now new read count q cut.front within begun all cut.wrote)
 
 -- no fault
-pub ended : (s : FileSetting) (limits : LineLimits) (is_first : Bool)
-    (answer : Result (Unit {0}) (LineFault AllocError)) (result : Result (Unit {0}) LintFault)
+ended_whole : (s : FileSetting) (limits : LineLimits) (is_first : Bool) (u : Unit {0})
+    (result : Result (Unit {0}) LintFault)
     (old mid now new : Option (List ℕ)) (read : List ℕ) (at_end : Type 0) (q : Linting) (before after : ℕ)
-    → Appends old mid (begin_of s) → Ran s limits is_first answer mid read at_end q now
-    → EndsReport answer (end_of s) now new before after result
+    → Appends old mid (begin_of s) → Ran s limits is_first (Ok u) mid read at_end q now
+    → EndsReport (Ok u) (end_of s) now new before after result
     → Ended s limits is_first result old read at_end q.counts new
-ended s limits is_first (Ok u) result old mid now new read at_end q before after begun ran (inl skips) =
+ended_whole s limits is_first u result old mid now new read at_end q before after begun ran (inl skips) =
     let never : true ≡ false = skips.stopped in cc
-ended s limits is_first (Ok u) result old mid now new read at_end q before after begun ran (inr (inl writes)) =
+ended_whole s limits is_first u result old mid now new read at_end q before after begun ran (inr (inl writes)) =
     answered s limits is_first result (Ok u) old read at_end q.counts new writes.told (
       ran.0,
       record {
@@ -242,67 +242,130 @@ ended s limits is_first (Ok u) result old mid now new read at_end q before after
         few = ran.1.few;
       },
     )
-ended s limits is_first (Ok u) result old mid now new read at_end q before after begun ran (inr (inr cut)) =
+ended_whole s limits is_first u result old mid now new read at_end q before after begun ran (inr (inr cut)) =
     cut_left s limits is_first (Ok u) result old mid now new read at_end (length (lines_of read)) q before after
     (omega arith) begun (all_first limits (fresh s is_first) mid read q now ran.1) cut
-ended s limits is_first (Err stopped.Write) result old mid now new read at_end q before after begun ran (inl skips) =
+
+-- a failed write among the lines
+ended_after_write : (s : FileSetting) (limits : LineLimits) (is_first : Bool)
+    (result : Result (Unit {0}) LintFault)
+    (old mid now new : Option (List ℕ)) (read : List ℕ) (at_end : Type 0) (q : Linting) (before after : ℕ)
+    → Appends old mid (begin_of s) → Ran s limits is_first (Err stopped.Write) mid read at_end q now
+    → EndsReport (Err stopped.Write) (end_of s) now new before after result
+    → Ended s limits is_first result old read at_end q.counts new
+ended_after_write s limits is_first result old mid now new read at_end q before after begun ran (inl skips) =
     answered s limits is_first result (Err Write) old read at_end q.counts new skips.told
     (subst (λ o. WroteFront s limits is_first old read q.counts o) (sym skips.kept)
     (cut_lines s limits is_first old mid now read q begun ran))
-ended s limits is_first (Err stopped.Write) result old mid now new read at_end q before after begun ran
+ended_after_write s limits is_first result old mid now new read at_end q before after begun ran
     (inr (inl writes)) = let never : false ≡ true = writes.goes_on in cc
-ended s limits is_first (Err stopped.Write) result old mid now new read at_end q before after begun ran
+ended_after_write s limits is_first result old mid now new read at_end q before after begun ran
     (inr (inr cut)) = let never : false ≡ true = cut.goes_on in cc
-ended s limits is_first (Err (stopped.Report fault)) result old mid now new read at_end q before after begun ran
+
+-- want of memory for a line's diagnostics
+ended_after_report : (s : FileSetting) (limits : LineLimits) (is_first : Bool) (fault : AllocError)
+    (result : Result (Unit {0}) LintFault)
+    (old mid now new : Option (List ℕ)) (read : List ℕ) (at_end : Type 0) (q : Linting) (before after : ℕ)
+    → Appends old mid (begin_of s) → Ran s limits is_first (Err (stopped.Report fault)) mid read at_end q now
+    → EndsReport (Err (stopped.Report fault)) (end_of s) now new before after result
+    → Ended s limits is_first result old read at_end q.counts new
+ended_after_report s limits is_first fault result old mid now new read at_end q before after begun ran
     (inl skips) = let never : true ≡ false = skips.stopped in cc
-ended s limits is_first (Err (stopped.Report fault)) result old mid now new read at_end q before after begun ran
+ended_after_report s limits is_first fault result old mid now new read at_end q before after begun ran
     (inr (inl writes)) =
     answered s limits is_first result (Err Memory) old read at_end q.counts new writes.told
     (inr (ran.0, ran.1, ran.2, wrote_first s limits is_first old mid now new read ran.0 q begun ran.3 writes.wrote))
-ended s limits is_first (Err (stopped.Report fault)) result old mid now new read at_end q before after begun ran
+ended_after_report s limits is_first fault result old mid now new read at_end q before after begun ran
     (inr (inr cut)) =
     cut_left s limits is_first (Err (stopped.Report fault)) result old mid now new read at_end ran.0 q before after
     ran.1 begun ran.3 cut
-ended s limits is_first (Err stopped.Memory) result old mid now new read at_end q before after begun ran (inl skips) =
+
+-- want of memory for a line
+ended_after_memory : (s : FileSetting) (limits : LineLimits) (is_first : Bool)
+    (result : Result (Unit {0}) LintFault)
+    (old mid now new : Option (List ℕ)) (read : List ℕ) (at_end : Type 0) (q : Linting) (before after : ℕ)
+    → Appends old mid (begin_of s) → Ran s limits is_first (Err stopped.Memory) mid read at_end q now
+    → EndsReport (Err stopped.Memory) (end_of s) now new before after result
+    → Ended s limits is_first result old read at_end q.counts new
+ended_after_memory s limits is_first result old mid now new read at_end q before after begun ran (inl skips) =
     let never : true ≡ false = skips.stopped in cc
-ended s limits is_first (Err stopped.Memory) result old mid now new read at_end q before after begun ran
+ended_after_memory s limits is_first result old mid now new read at_end q before after begun ran
     (inr (inl writes)) =
     answered s limits is_first result (Err Memory) old read at_end q.counts new writes.told
     (inr (ran.0, ran.1, ran.2, wrote_first s limits is_first old mid now new read ran.0 q begun ran.3 writes.wrote))
-ended s limits is_first (Err stopped.Memory) result old mid now new read at_end q before after begun ran
+ended_after_memory s limits is_first result old mid now new read at_end q before after begun ran
     (inr (inr cut)) =
     cut_left s limits is_first (Err stopped.Memory) result old mid now new read at_end ran.0 q before after ran.1 begun
     ran.3 cut
-ended s limits is_first (Err stopped.Read) result old mid now new read at_end q before after begun ran (inl skips) =
+
+-- a failed read
+ended_after_read : (s : FileSetting) (limits : LineLimits) (is_first : Bool)
+    (result : Result (Unit {0}) LintFault)
+    (old mid now new : Option (List ℕ)) (read : List ℕ) (at_end : Type 0) (q : Linting) (before after : ℕ)
+    → Appends old mid (begin_of s) → Ran s limits is_first (Err stopped.Read) mid read at_end q now
+    → EndsReport (Err stopped.Read) (end_of s) now new before after result
+    → Ended s limits is_first result old read at_end q.counts new
+ended_after_read s limits is_first result old mid now new read at_end q before after begun ran (inl skips) =
     let never : true ≡ false = skips.stopped in cc
-ended s limits is_first (Err stopped.Read) result old mid now new read at_end q before after begun ran
+ended_after_read s limits is_first result old mid now new read at_end q before after begun ran
     (inr (inl writes)) =
     answered s limits is_first result (Err Read) old read at_end q.counts new writes.told
     (wrote_first s limits is_first old mid now new read (length (closed_lines read)) q begun ran writes.wrote)
-ended s limits is_first (Err stopped.Read) result old mid now new read at_end q before after begun ran
+ended_after_read s limits is_first result old mid now new read at_end q before after begun ran
     (inr (inr cut)) =
     cut_left s limits is_first (Err stopped.Read) result old mid now new read at_end (length (closed_lines read)) q
     before after (closed_within read) begun ran cut
-ended s limits is_first (Err stopped.TooManyLines) result old mid now new read at_end q before after begun ran
+
+-- too many lines
+ended_after_many : (s : FileSetting) (limits : LineLimits) (is_first : Bool)
+    (result : Result (Unit {0}) LintFault)
+    (old mid now new : Option (List ℕ)) (read : List ℕ) (at_end : Type 0) (q : Linting) (before after : ℕ)
+    → Appends old mid (begin_of s) → Ran s limits is_first (Err stopped.TooManyLines) mid read at_end q now
+    → EndsReport (Err stopped.TooManyLines) (end_of s) now new before after result
+    → Ended s limits is_first result old read at_end q.counts new
+ended_after_many s limits is_first result old mid now new read at_end q before after begun ran
     (inl skips) = let never : true ≡ false = skips.stopped in cc
-ended s limits is_first (Err stopped.TooManyLines) result old mid now new read at_end q before after begun ran
+ended_after_many s limits is_first result old mid now new read at_end q before after begun ran
     (inr (inl writes)) =
     answered s limits is_first result (Err TooManyLines) old read at_end q.counts new writes.told
     (wrote_first s limits is_first old mid now new read limits.lines q begun ran.0 writes.wrote, ran.1)
-ended s limits is_first (Err stopped.TooManyLines) result old mid now new read at_end q before after begun ran
+ended_after_many s limits is_first result old mid now new read at_end q before after begun ran
     (inr (inr cut)) =
     cut_left s limits is_first (Err stopped.TooManyLines) result old mid now new read at_end limits.lines q before
     after (let more = ran.1 in omega (arith, more)) begun ran.0 cut
-ended s limits is_first (Err stopped.Endless) result old mid now new read at_end q before after begun ran
+
+-- reads without an end
+ended_after_reads : (s : FileSetting) (limits : LineLimits) (is_first : Bool)
+    (result : Result (Unit {0}) LintFault)
+    (old mid now new : Option (List ℕ)) (read : List ℕ) (at_end : Type 0) (q : Linting) (before after : ℕ)
+    → Appends old mid (begin_of s) → Ran s limits is_first (Err stopped.Endless) mid read at_end q now
+    → EndsReport (Err stopped.Endless) (end_of s) now new before after result
+    → Ended s limits is_first result old read at_end q.counts new
+ended_after_reads s limits is_first result old mid now new read at_end q before after begun ran
     (inl skips) = let never : true ≡ false = skips.stopped in cc
-ended s limits is_first (Err stopped.Endless) result old mid now new read at_end q before after begun ran
+ended_after_reads s limits is_first result old mid now new read at_end q before after begun ran
     (inr (inl writes)) =
     answered s limits is_first result (Err Endless) old read at_end q.counts new writes.told
     (wrote_first s limits is_first old mid now new read (length (closed_lines read)) q begun ran.0 writes.wrote, ran.1)
-ended s limits is_first (Err stopped.Endless) result old mid now new read at_end q before after begun ran
+ended_after_reads s limits is_first result old mid now new read at_end q before after begun ran
     (inr (inr cut)) =
     cut_left s limits is_first (Err stopped.Endless) result old mid now new read at_end (length (closed_lines read)) q
     before after (closed_within read) begun ran.0 cut
+
+-- each of them, and none
+pub ended : (s : FileSetting) (limits : LineLimits) (is_first : Bool)
+    (answer : Result (Unit {0}) (LineFault AllocError)) (result : Result (Unit {0}) LintFault)
+    (old mid now new : Option (List ℕ)) (read : List ℕ) (at_end : Type 0) (q : Linting) (before after : ℕ)
+    → Appends old mid (begin_of s) → Ran s limits is_first answer mid read at_end q now
+    → EndsReport answer (end_of s) now new before after result
+    → Ended s limits is_first result old read at_end q.counts new
+ended s limits is_first (Ok u) = ended_whole s limits is_first u
+ended s limits is_first (Err stopped.Write) = ended_after_write s limits is_first
+ended s limits is_first (Err (stopped.Report fault)) = ended_after_report s limits is_first fault
+ended s limits is_first (Err stopped.Memory) = ended_after_memory s limits is_first
+ended s limits is_first (Err stopped.Read) = ended_after_read s limits is_first
+ended s limits is_first (Err stopped.TooManyLines) = ended_after_many s limits is_first
+ended s limits is_first (Err stopped.Endless) = ended_after_reads s limits is_first
 
 -- ---- from the clauses of the calls, and to those of a run
 

@@ -14,8 +14,8 @@ use Rattle.uv_lint.specs.Report.{is_still_first, lines_text, shown, tally}
 abbrev pub list_setting : FileSetting
 list_setting = record { file = codes "list"; base = None; profile = Standard; complaints = All; format = Gnu }
 
--- a list of six lines: one with a fault, an empty one, a valid one, one with two faults and a CR before its LF, one that
--- isn't UTF-8, and one of more than twelve bytes
+-- a list of six lines: one with a fault, an empty one, a valid one, one with two faults and a CR before its LF, one
+-- that isn't UTF-8, and one of more than twelve bytes
 abbrev pub written_list : List ℕ
 written_list = codes "b\n\nurn:a\nurn: b " ++ (13 ∷ 10 ∷ 255 ∷ codes "\nabcdefghijklm")
 

@@ -52,8 +52,8 @@ fn line_feeds(bytes: &[u8]) -> usize {
     bytes.iter().filter(|byte| **byte == b'\n').count()
 }
 
-// Each read behind so many pieces fails in turn: the report on the lines that have ended is written, with its end. Where
-// none fails the report is whole.
+// Each read behind so many pieces fails in turn: the report on the lines that have ended is written, with its end.
+// Where none fails the report is whole.
 fn fails_each_read(rt: &(impl Abort + AllocGlobal), length: usize) -> Result<(), Fail>
     requires { 0 < length }
 {

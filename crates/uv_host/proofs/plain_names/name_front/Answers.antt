@@ -42,7 +42,8 @@ loop-front-preserved c =
     let joint = walk_joint bytes c.loop-front.front inside (sym c.is_joint.ensures ∙ c.if-is_joint.true)
     c.loop-front.invariant.so_far in
     let passed = c.passed-front.ensures in
-    let place : at + prefix_len is_sign (drop at bytes) ≡ c.passed-front.result = omega (arith, same, passed) in record {
+    let place : at + prefix_len is_sign (drop at bytes) ≡ c.passed-front.result =
+    omega (arith, same, passed) in record {
       in_bounds = omega (arith, same, most, size, inside, passed);
       so_far = subst (λ n. Walked bytes n true) place (walk_signs bytes at false some joint);
     }
@@ -52,12 +53,16 @@ returns-then-signs-eq0 c =
     let bytes = c.args.bytes.now in
     let at = c.loop-front.front in
     let inside = c.loop-front-test.true in
-    let joint = walk_joint bytes at inside (sym c.is_joint.ensures ∙ c.if-is_joint.true) c.loop-front.invariant.so_far in
+    let is_joint = sym c.is_joint.ensures ∙ c.if-is_joint.true in
+    let joint = walk_joint bytes at inside is_joint c.loop-front.invariant.so_far in
     elim c.root_end.result as (λ end. IfSome end (λ n. (n ≡ at + 1) × (get_or bytes at 0 ≡ full_stop))
     → IfSome end (IsChainFront bytes)) [
       | None ↦ λ root. tt
       | Some end ↦ λ root.
-          rw root.0 (omega (arith, inside), walk_root bytes (at + 1) false (omega arith) (omega (arith, inside)) (root_at bytes at root.1) joint)
+          rw root.0 (
+            omega (arith, inside),
+            walk_root bytes (at + 1) false (omega arith) (omega (arith, inside)) (root_at bytes at root.1) joint,
+          )
     ] c.root_end.ensures
 
 pub passed-front-requires : goal.passed-front-requires
