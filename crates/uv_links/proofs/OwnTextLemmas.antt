@@ -1,10 +1,11 @@
 -- A text that is the text of the URL that it denotes.
-use Rattle.std.proofs.Common.{◌≡◌, ◌≢◌, ℕ, Bool, true, false, not, ◌==◌, List, [], ◌∷◌, ◌++◌, Option, Some, None, codes, refl, sym, ap, ◌∙◌, subst, inl, inr, append_assoc, append-nil}
+use Rattle.std.proofs.Common.{◌≡◌, ◌≢◌, ℕ, Bool, true, false, not, ◌==◌, ◌<◌, List, [], ◌∷◌, ◌++◌, Option, Some, None, codes, refl, sym, ap, ◌∙◌, subst, inl, inr, append_assoc, append-nil, arith, length, slice_index, suc}
 use Rattle.std.specs.Prelude.{option_map}
 use Rattle.std.specs.List.{list_all, join_with_byte}
 use Rattle.std.specs.Char.{is_ascii}
 use Rattle.std.specs.Str.{IsAscii, chars}
 use Rattle.std.proofs.lemmas.Str.{chars-IsAscii}
+use Rattle.std.proofs.lemmas.Bool.Decides.{nat_tests}
 use Rattle.std.proofs.lemmas.Bool.{and_parts, and_from, not-true}
 use Rattle.std.proofs.lemmas.List.Folds.{list_all-append}
 use Rattle.uv_model.specs.declared.profile.Profile.{Profile}
@@ -35,6 +36,16 @@ use Rattle.uv_links.specs.Report.{DenotesText}
 kept : (quote : Bool) (c : ℕ) → is_never_encoded c ≡ true → is_kept quote c ≡ true
 kept false c h = and_from _ _ (and_parts (is_ascii c) (not (c == apostrophe)) h).0 refl
 kept true c h = h
+
+-- a text without bytes beyond ASCII and without `'` consists of them
+pub never_encoded_texts : (text : List ℕ) → IsAscii text → ((k : ℕ) → k < length text → slice_index text k ≢ apostrophe)
+    → list_all is_never_encoded text ≡ true
+never_encoded_texts [] ascii none = refl
+never_encoded_texts (c ∷ rest) ascii none =
+    let other : c ≢ apostrophe = none 0 (omega arith) in
+    let small : c < 128 = ascii 0 in
+    let never : is_never_encoded c ≡ true = grind (arith, nat_tests) in
+    and_from _ _ never (never_encoded_texts rest (λ i. ascii (suc i)) (λ k below. none (suc k) (omega (arith, below))))
 
 -- a text of such code points is its own encoded text
 encoded-kept : (quote : Bool) (text : List ℕ) → list_all is_never_encoded text ≡ true → encoded quote text ≡ text

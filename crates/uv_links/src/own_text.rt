@@ -1,10 +1,11 @@
 //! Texts that are the text of the URL that they denote, as most links are: no record has to be made of them.
-ghost use Rattle.std.specs.Prelude.{◌≡◌, IsTrue, Some};
+ghost use Rattle.std.specs.Prelude.{◌≡◌, IsTrue, Some, true};
 ghost use Rattle.std.specs.List.{list_all};
 ghost use Rattle.std.specs.Str.{IsAscii, chars};
 ghost use Rattle.uv_grammar.specs.Slices.{chars_of_option};
 ghost use Rattle.uv_links.specs.OwnText.{HasNoPort, HasOwnHost, HasOwnPath, HasOwnScheme, IsOwnScheme, IsOwnText, is_kept_segment, is_never_encoded};
 
+use memchr::memchr;
 use uv_grammar::{Form, HostRef, Parts};
 use uv_model::{is_double_dot, is_single_dot};
 
@@ -28,11 +29,12 @@ pub(crate) fn is_own_text(text: &str, parts: &Parts<'_>) -> bool
 
 // Whether no part encodes a byte of the text.
 fn is_never_encoded(text: &str) -> bool
-    ensures { result ≡ list_all is_never_encoded text.now }
+    ensures { IsTrue result → list_all is_never_encoded text.now ≡ true }
 {
-    text.as_bytes()
-        .iter()
-        .all(|byte| byte.is_ascii() && *byte != b'\'')
+    match memchr(b'\'', text.as_bytes()) {
+        None => text.is_ascii(),
+        Some(_) => false,
+    }
 }
 
 // Whether there is a special scheme in lower case.
