@@ -1,12 +1,12 @@
 -- Lemmas on the `:` of a port in the bytes of an authority and in its code points.
-use Rattle.std.proofs.Common.{◌≡◌, ◌≢◌, ℕ, ◌+◌, ◌<◌, ◌≤◌, List, [], ◌∷◌, ◌++◌, Bool, true, false, not, drop, refl, sym, ap, ◌∙◌, inl, inr, arith, Option, Some, None, lit<, ne_eqb, append-nil}
+use Rattle.std.proofs.Common.{◌≡◌, ◌≢◌, ℕ, ◌+◌, ◌<◌, ◌≤◌, List, [], ◌∷◌, ◌++◌, Bool, true, false, not, ◌==◌, take, drop, refl, sym, ap, ◌∙◌, inl, inr, arith, Option, Some, None, lit<, ne_eqb, append-nil}
 use Rattle.std.specs.Prelude.{◌⊎◌, if◌then◌else◌, option_map, slice_range, IsSome}
 use Rattle.std.specs.Str.{chars, IsUtf8, IsCharBoundary}
 use Rattle.std.proofs.lemmas.Bool.{cases_lt, cases_Bool, false≢true}
 use Rattle.std.proofs.lemmas.Str.{encode_ascii, encodes-chars, encodes_same, IsCharBoundary-after_ascii}
 use Rattle.std.proofs.Math.Utf8.{encodes, encode}
-use Rattle.uv_grammar.specs.TextSplits.{IsPortMark, SplitsHost, SplitsScheme}
-use Rattle.uv_grammar.proofs.SliceLemmas.{range-start}
+use Rattle.uv_grammar.specs.TextSplits.{IsFirstMark, IsPortMark, SplitsHost, SplitsScheme}
+use Rattle.uv_grammar.proofs.SliceLemmas.{around, range-start}
 use Rattle.uv_model.specs.declared.scheme.Class.{Class}
 use Rattle.uv_model.specs.declared.scheme.Class.TheVariants.{Special, Other}
 use Rattle.uv_model.specs.Parts.{written_behind}
@@ -209,3 +209,26 @@ no_port bytes none = (whole false bytes none, nothing false bytes none)
     nothing within (c ∷ rest) none =
         let parts = is_without-cons colon c rest none in
         rw parts.0 (nothing (is_within within c) rest parts.1)
+
+-- the first `:` is that of a port, where no `[` stands before it
+pub first_port : (bytes : List ℕ) (end : ℕ) → IsFirstMark colon bytes (Some end)
+    → is_without left_bracket (take end bytes) ≡ true → IsPortMark bytes (Some end)
+first_port bytes end first none =
+    let sides = before (take end bytes) (drop (end + 1) bytes) first.2 none in
+    let whole = around bytes end colon first.0 first.1 in
+    (first.0, first.1, ap (host_before false) whole ∙ sides.0, ap (port_behind false) whole ∙ sides.1)
+  where
+    outside : (c : ℕ) → (c == left_bracket) ≡ false → is_within false c ≡ false
+    outside c other = elim (cases_Bool (c == right_bracket)) [
+      | inl same ↦ rw (other, same) refl
+      | inr more ↦ rw (other, more) refl
+    ]
+
+    before : (front rest : List ℕ) → is_without colon front ≡ true → is_without left_bracket front ≡ true
+        → (host_before false (front ++ colon ∷ rest) ≡ front) × (port_behind false (front ++ colon ∷ rest) ≡ Some rest)
+    before [] rest none closed = (refl, refl)
+    before (c ∷ front) rest none closed =
+        let marks = is_without-cons colon c front none in
+        let brackets = is_without-cons left_bracket c front closed in
+        let more = before front rest marks.1 brackets.1 in
+        rw (marks.0, outside c brackets.0) (ap (λ s. c ∷ s) more.0, more.1)

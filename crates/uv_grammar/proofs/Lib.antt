@@ -8,6 +8,7 @@ pub mod PlainFrontLemmas
 pub mod PlainLinkLemmas
 pub mod PortLemmas
 pub mod ScanLemmas
+pub mod SearchLemmas
 pub mod SegmentLemmas
 pub mod SettingLemmas
 pub mod SliceLemmas

@@ -1,5 +1,5 @@
 -- The fronts of a plain link: its scheme, its name, its port and what follows a mark.
-use Rattle.std.proofs.Common.{get_or, ◌≤◌, ◌≡◌, ℕ, ◌<◌, true, List, [], ◌∷◌, ◌++◌, length, take, drop, Option, Some, None, refl, sym, ap, ◌∙◌, inl, inr, arith, append_assoc, lt-ltb}
+use Rattle.std.proofs.Common.{get_or, ◌≤◌, ◌≡◌, ℕ, ◌<◌, Bool, true, List, [], ◌∷◌, ◌++◌, length, take, drop, Option, Some, None, refl, sym, ap, ◌∙◌, inl, inr, arith, append_assoc, lt-ltb}
 use Rattle.std.specs.Prelude.{◌+◌, suc, codes}
 use Rattle.std.specs.Char.{is_ascii, is_ascii_digit}
 use Rattle.std.specs.List.{prefix_len}
@@ -136,16 +136,16 @@ pub byte_ascii : (mark : ℕ) (bytes : List ℕ) → mark < 128 → bytes ≡ ma
 byte_ascii mark bytes small same = rw same (omega arith, rw (lt-ltb mark 128 small) refl)
 
 -- a text that begins with the mark has a part of units behind it
-pub some_part : (mark : ℕ) (bytes none behind front rest : List ℕ) (ranges : List (ℕ × ℕ)) → bytes ≡ mark ∷ drop 1 bytes
-    → IsFrontCut bytes 1 none behind → HoldsUrlBytes ranges → HasHexDigits ranges
-    → IsUnitSplit ranges (chars behind) (chars front) (chars rest)
+pub some_part : (mark : ℕ) (bytes none behind front rest : List ℕ) (held : ℕ → Bool) → bytes ≡ mark ∷ drop 1 bytes
+    → IsFrontCut bytes 1 none behind → HoldsUrlBytes held → HasHexDigits held
+    → IsUnitSplit held (chars behind) (chars front) (chars rest)
     → IsPartCut mark (chars bytes) (Some (chars front)) (chars rest)
-some_part mark bytes none behind front rest ranges same a holds digits cut = record {
+some_part mark bytes none behind front rest held same a holds digits cut = record {
   joined =
       a.joined
       ∙ ap (λ s. s ++ chars behind) (ap (take 1) same)
-      ∙ ap (λ s. mark ∷ s) (split_joined ranges (chars behind) (chars front) (chars rest) cut);
-  units = url_units ranges (chars behind) (chars front) (chars rest) holds digits cut;
+      ∙ ap (λ s. mark ∷ s) (split_joined held (chars behind) (chars front) (chars rest) cut);
+  units = url_units held (chars behind) (chars front) (chars rest) holds digits cut;
 }
 
 -- the bytes of a scheme are ASCII

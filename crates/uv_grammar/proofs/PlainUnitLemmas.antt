@@ -1,5 +1,5 @@
 -- The front of a text that the scan of units passes is URL units, without the marks that its class lacks.
-use Rattle.std.proofs.Common.{◌≡◌, ℕ, ◌<◌, ◌==◌, true, false, not, ◌&&◌, List, [], ◌∷◌, ◌++◌, take, refl, sym, ◌∙◌, subst, inl, inr, arith, eqb-true, ne_eqb}
+use Rattle.std.proofs.Common.{◌≡◌, ℕ, ◌<◌, ◌==◌, Bool, true, false, not, ◌&&◌, List, [], ◌∷◌, ◌++◌, take, refl, sym, ◌∙◌, subst, inl, inr, arith, eqb-true, ne_eqb}
 use Rattle.std.specs.Prelude.{nat_le}
 use Rattle.std.specs.Char.{is_ascii, is_ascii_hexdigit}
 use Rattle.std.proofs.lemmas.Bool.{and_parts, cases_Bool, cases_eq, false≢true, or_cases}
@@ -9,7 +9,7 @@ use Rattle.uv_model.specs.Ascii.{number_sign, percent_sign, question_mark}
 use Rattle.uv_model.specs.Path.{is_without}
 use Rattle.uv_model.specs.Units.{is_faultless, is_unit_at, is_url_code_point, starts_with_two_hex}
 use Rattle.uv_model.proofs.Texts.MarkLemmas.{is_without-more}
-use Rattle.uv_text.specs.Class.{HasHexDigits, HoldsPathBytes, HoldsUrlBytes, in_class}
+use Rattle.uv_text.specs.Class.{HasHexDigits, HoldsPathBytes, HoldsUrlBytes}
 use Rattle.uv_text.specs.Splits.{IsUnitSplit, begins_mark, begins_unit, unit_length}
 use Rattle.uv_grammar.specs.PlainLinks.{AreUnits}
 
@@ -22,18 +22,18 @@ number_sign-unit : is_url_code_point number_sign ≡ false
 unfolding is_url_code_point
 number_sign-unit = refl
 
-module _ (ranges : List (ℕ × ℕ)) where
+module _ (held : ℕ → Bool) where
   -- the front of units
   abbrev front : List ℕ → List ℕ
-  front text = take (unit_length ranges text) text
+  front text = take (unit_length held text) text
 
   -- both sides of the cut are the text
-  pub split_joined : (text front rest : List ℕ) → IsUnitSplit ranges text front rest → text ≡ front ++ rest
+  pub split_joined : (text front rest : List ℕ) → IsUnitSplit held text front rest → text ≡ front ++ rest
   split_joined text front rest cut =
-      rw (cut.is_front, cut.is_rest) (sym (take-append-drop (unit_length ranges text) text))
+      rw (cut.is_front, cut.is_rest) (sym (take-append-drop (unit_length held text) text))
 
   -- the hex digits behind a `%` are in the front
-  hex_front : HasHexDigits ranges → (rest : List ℕ) → starts_with_two_hex rest ≡ true
+  hex_front : HasHexDigits held → (rest : List ℕ) → starts_with_two_hex rest ≡ true
       → starts_with_two_hex (front rest) ≡ true
   hex_front digits [] hex = absurd (false≢true hex)
   hex_front digits (high ∷ []) hex = absurd (false≢true hex)
@@ -42,20 +42,20 @@ module _ (ranges : List (ℕ × ℕ)) where
       rw (digits high both.0, digits low both.1) hex
 
   -- a code point that begins a unit of the text begins one of the front
-  unit_front : ((c : ℕ) → in_class ranges c ≡ true → is_url_code_point c ≡ true) → HasHexDigits ranges → (c : ℕ)
-      (rest : List ℕ) → begins_unit ranges c rest ≡ true → is_unit_at c (front rest) ≡ true
+  unit_front : ((c : ℕ) → held c ≡ true → is_url_code_point c ≡ true) → HasHexDigits held → (c : ℕ)
+      (rest : List ℕ) → begins_unit held c rest ≡ true → is_unit_at c (front rest) ≡ true
   unfolding is_unit_at
   unit_front url digits c rest begins =
       elim (cases_eq c percent_sign) [
         | inl same ↦
-            let here : begins_unit ranges percent_sign rest ≡ true = rw same at begins in
-            rw same (elim (or_cases (in_class ranges percent_sign) (begins_mark percent_sign rest) here) [
+            let here : begins_unit held percent_sign rest ≡ true = rw same at begins in
+            rw same (elim (or_cases (held percent_sign) (begins_mark percent_sign rest) here) [
               | inl class ↦ absurd (false≢true (sym percent_sign-unit ∙ url percent_sign class))
               | inr mark ↦ hex_front digits rest mark
             ])
         | inr other ↦
             let no_percent : (c == percent_sign) ≡ false = ne_eqb c percent_sign other in
-            elim (or_cases (in_class ranges c) (begins_mark c rest) begins) [
+            elim (or_cases (held c) (begins_mark c rest) begins) [
               | inl class ↦ rw no_percent (url c class)
               | inr mark ↦
                   let beyond : (nat_le 128 c && is_url_code_point c) ≡ true = rw no_percent at mark in
@@ -64,69 +64,69 @@ module _ (ranges : List (ℕ × ℕ)) where
       ]
 
   -- the front is units
-  faultless_front : ((c : ℕ) → in_class ranges c ≡ true → is_url_code_point c ≡ true) → HasHexDigits ranges
+  faultless_front : ((c : ℕ) → held c ≡ true → is_url_code_point c ≡ true) → HasHexDigits held
       → (text : List ℕ) → is_faultless (front text) ≡ true
   faultless_front url digits [] = refl
   faultless_front url digits (c ∷ rest) =
-      elim (cases_Bool (begins_unit ranges c rest)) [
+      elim (cases_Bool (begins_unit held c rest)) [
         | inl begins ↦ rw begins (rw (unit_front url digits c rest begins, faultless_front url digits rest) refl)
         | inr stops ↦ rw stops refl
       ]
 
   -- a mark that begins no unit isn't in the front
-  without_front : (mark : ℕ) → mark < 128 → (mark == percent_sign) ≡ false → in_class ranges mark ≡ false
+  without_front : (mark : ℕ) → mark < 128 → (mark == percent_sign) ≡ false → held mark ≡ false
       → (text : List ℕ) → is_without mark (front text) ≡ true
   without_front mark small no_percent lacks [] = refl
   without_front mark small no_percent lacks (c ∷ rest) =
-      elim (cases_Bool (begins_unit ranges c rest)) [
+      elim (cases_Bool (begins_unit held c rest)) [
         | inl begins ↦ rw begins (is_without-more mark c (front rest) (other begins)
             (without_front mark small no_percent lacks rest))
         | inr stops ↦ rw stops refl
       ]
     where
-      other : begins_unit ranges c rest ≡ true → (c == mark) ≡ false
+      other : begins_unit held c rest ≡ true → (c == mark) ≡ false
       other begins =
           elim (cases_Bool (c == mark)) [
             | inl same ↦
-                let here : begins_unit ranges mark rest ≡ true =
-                subst (λ d. begins_unit ranges d rest ≡ true) (eqb-true c mark same) begins in
+                let here : begins_unit held mark rest ≡ true =
+                subst (λ d. begins_unit held d rest ≡ true) (eqb-true c mark same) begins in
                 let below : nat_le 128 mark ≡ false = grind (arith, nat_tests, small) in
                 absurd (false≢true (rw (lacks, no_percent, below) at here))
             | inr different ↦ different
           ]
 
 -- a byte of a class of URL code points is one
-url_byte : (ranges : List (ℕ × ℕ)) → HoldsUrlBytes ranges → (c : ℕ) → in_class ranges c ≡ true
+url_byte : (held : ℕ → Bool) → HoldsUrlBytes held → (c : ℕ) → held c ≡ true
     → is_url_code_point c ≡ true
-url_byte ranges holds c here = (and_parts (is_ascii c) (is_url_code_point c) (sym (holds c) ∙ here)).1
+url_byte held holds c here = (and_parts (is_ascii c) (is_url_code_point c) (sym (holds c) ∙ here)).1
 
-path_byte : (ranges : List (ℕ × ℕ)) → HoldsPathBytes ranges → (c : ℕ) → in_class ranges c ≡ true
+path_byte : (held : ℕ → Bool) → HoldsPathBytes held → (c : ℕ) → held c ≡ true
     → is_url_code_point c ≡ true
-path_byte ranges holds c here =
+path_byte held holds c here =
     let both = and_parts (is_ascii c) (is_url_code_point c && not (c == question_mark)) (sym (holds c) ∙ here) in
     (and_parts (is_url_code_point c) (not (c == question_mark)) both.1).0
 
 -- the units of a query or a fragment
-pub url_units : (ranges : List (ℕ × ℕ)) (text front rest : List ℕ) → HoldsUrlBytes ranges → HasHexDigits ranges
-    → IsUnitSplit ranges text front rest → AreUnits true front
-url_units ranges text front rest holds digits cut =
+pub url_units : (held : ℕ → Bool) (text front rest : List ℕ) → HoldsUrlBytes held → HasHexDigits held
+    → IsUnitSplit held text front rest → AreUnits true front
+url_units held text front rest holds digits cut =
     rw cut.is_front (record {
-      units = faultless_front ranges (url_byte ranges holds) digits text;
+      units = faultless_front held (url_byte held holds) digits text;
       no_number_sign =
-          without_front ranges number_sign (omega arith) refl (holds number_sign ∙ rw number_sign-unit refl) text;
+          without_front held number_sign (omega arith) refl (holds number_sign ∙ rw number_sign-unit refl) text;
       no_question_mark = λ none. absurd cc;
     })
 
 -- the units of a path
-pub path_units : (ranges : List (ℕ × ℕ)) (text front rest : List ℕ) → HoldsPathBytes ranges → HasHexDigits ranges
-    → IsUnitSplit ranges text front rest → AreUnits false front
-path_units ranges text front rest holds digits cut =
+pub path_units : (held : ℕ → Bool) (text front rest : List ℕ) → HoldsPathBytes held → HasHexDigits held
+    → IsUnitSplit held text front rest → AreUnits false front
+path_units held text front rest holds digits cut =
     rw cut.is_front (record {
-      units = faultless_front ranges (path_byte ranges holds) digits text;
+      units = faultless_front held (path_byte held holds) digits text;
       no_number_sign =
-          without_front ranges number_sign (omega arith) refl (holds number_sign ∙ rw number_sign-unit refl) text;
+          without_front held number_sign (omega arith) refl (holds number_sign ∙ rw number_sign-unit refl) text;
       no_question_mark = λ none.
-          without_front ranges question_mark (omega arith) refl (holds question_mark ∙ no_question) text;
+          without_front held question_mark (omega arith) refl (holds question_mark ∙ no_question) text;
     })
   where
     no_question : (is_ascii question_mark && (is_url_code_point question_mark && not (question_mark == question_mark)))

@@ -1,17 +1,19 @@
 -- Lemmas on the code points of the two sides of an ASCII mark.
-use Rattle.std.proofs.Common.{◌≡◌, ℕ, ◌+◌, ◌<◌, List, [], ◌∷◌, ◌++◌, true, false, length, take, drop, refl, sym, ap, ◌∙◌, subst, arith, get_or, Some, lit<, ◌≢◌, ne_eqb, append-nil, add-one, suc}
+use Rattle.std.proofs.Common.{◌≡◌, ℕ, ◌+◌, ◌<◌, List, [], ◌∷◌, ◌++◌, true, false, length, take, drop, refl, sym, ap, ◌∙◌, subst, arith, get_or, inl, inr, Some, lit<, ◌≢◌, ne_eqb, append-nil, add-one, suc}
 use Rattle.std.specs.Prelude.{◌==◌, Option, None, MatchOption, slice_range}
-use Rattle.std.specs.Str.{chars, IsUtf8, NoCharPasses, NonePass}
-use Rattle.std.proofs.lemmas.Str.{chars-nil, chars-append, chars_from_encodes, chars-IsAscii, IsUtf8-from_ascii, IsUtf8-take, IsUtf8-drop, IsCharBoundary-before_ascii, IsCharBoundary-after_ascii}
+use Rattle.std.specs.Str.{chars, IsCharBoundary, IsUtf8}
+use Rattle.std.proofs.lemmas.Bool.{cases_lt}
+use Rattle.std.proofs.lemmas.Str.{chars-nil, chars-append, chars-IsAscii, encode_ascii, encodes-chars, IsUtf8-from_ascii, IsUtf8-take, IsUtf8-drop, IsCharBoundary-before_ascii, IsCharBoundary-after_ascii}
 use Rattle.std.specs.Borrow.{Bor}
-use Rattle.std.proofs.lemmas.Str.Pattern.{IsSplitOnceResult}
 use Rattle.std.proofs.lemmas.Str.Ascii.{IsAscii-cons}
 use Rattle.std.proofs.lemmas.List.{length-append, take-append-drop}
+use Rattle.std.proofs.Math.Utf8.{encode, encodes}
 use Rattle.std.proofs.Math.Seq.{drop-cons, take-append_seam, drop-append-add, drop-length}
 use Rattle.std.proofs.lemmas.Grind.{common_steps}
 use Rattle.uv_model.specs.Ascii.{slash}
 use Rattle.uv_model.specs.Path.{is_without, starts_with_slash}
-use Rattle.uv_grammar.specs.TextSplits.{SplitsAtSlash}
+use Rattle.uv_model.proofs.Texts.MarkLemmas.{is_without-cons, is_without-more, is_without-parts}
+use Rattle.uv_grammar.specs.TextSplits.{IsFirstMark, SplitsAtSlash}
 use Rattle.uv_grammar.proofs.TestLemmas.{starts_with_slash-chars}
 
 -- the byte behind a front
@@ -44,23 +46,58 @@ chars_at_mark xs ys c u small =
     let both = sides_utf8 xs ys c u small in
     chars-append xs (c ∷ ys) both.0 ∙ ap (λ s. chars xs ++ s) (chars-ascii_first c ys small)
 
--- a text whose characters fail the test is without the mark
-pub none_is_without : (mark : ℕ) (cs : List ℕ) → NonePass (λ d. d == mark) cs → is_without mark cs ≡ true
-none_is_without mark [] h = refl
-none_is_without mark (c ∷ cs) h = rw (h.0, none_is_without mark cs h.1) refl
+-- ---- the first mark
 
--- the front that holds no such character, as code points
-pub front_is_without : (mark : ℕ) (bs : List ℕ) → IsUtf8 bs → NoCharPasses (λ d. d == mark) bs
-    → is_without mark (chars bs) ≡ true
-front_is_without mark bs u (cs, spelled, none) =
-    subst (λ (s : List ℕ). is_without mark s ≡ true) (chars_from_encodes cs bs u spelled) (none_is_without mark cs none)
+-- a text whose bytes are without an ASCII mark is without it
+pub is_without-chars : (mark : ℕ) (bytes : List ℕ) → mark < 128 → IsUtf8 bytes → is_without mark bytes ≡ true
+    → is_without mark (chars bytes) ≡ true
+is_without-chars mark bytes small utf8 none =
+    encoded (chars bytes) (subst (λ (s : List ℕ). is_without mark s ≡ true) (sym (encodes-chars bytes utf8)) none)
+  where
+    encoded : (cs : List ℕ) → is_without mark (encodes cs) ≡ true → is_without mark cs ≡ true
+    encoded [] none = refl
+    encoded (c ∷ cs) none =
+        let parts = is_without-parts mark (encode c) (encodes cs) none in
+        let other : (c == mark) ≡ false =
+        elim (cases_lt c 128) [
+          | inl low ↦ (is_without-cons mark c [] (rw (encode_ascii c low) at parts.0)).0
+          | inr high ↦ ne_eqb c mark (omega arith)
+        ] in
+        is_without-more mark c cs other (encoded cs parts.1)
 
--- the first side of `split_once` holds no mark
-pub split_once_is_without : (mark : ℕ) (bs : List ℕ) (front rest : Bor (List ℕ))
-    → IsSplitOnceResult mark bs (Some (front, rest)) → IsUtf8 front.now → is_without mark (chars front.now) ≡ true
-split_once_is_without mark bs front rest h u =
-    let P : List ℕ → Type 0 = λ s. NoCharPasses (λ d. d == mark) s in
-    front_is_without mark front.now u (subst P (sym h.3) h.2.0)
+-- the front of a text as a range
+pub range-start : (bytes : List ℕ) (end : ℕ) → slice_range bytes 0 end ≡ take end bytes
+range-start bytes end = grind (arith, common_steps)
+
+-- what begins with the byte at an index
+pub drop_at : (bytes : List ℕ) (at mark : ℕ) → at < length bytes → get_or bytes at 0 ≡ mark
+    → drop at bytes ≡ mark ∷ drop (at + 1) bytes
+drop_at bytes at mark inside here = rw add-one (drop-cons bytes at 0 inside ∙ ap (λ b. b ∷ drop (suc at) bytes) here)
+
+-- a text around the byte at an index
+pub around : (bytes : List ℕ) (at mark : ℕ) → at < length bytes → get_or bytes at 0 ≡ mark
+    → bytes ≡ take at bytes ++ mark ∷ drop (at + 1) bytes
+around bytes at mark inside here =
+    sym (take-append-drop at bytes) ∙ ap (λ s. take at bytes ++ s) (drop_at bytes at mark inside here)
+
+-- behind an ASCII mark the text may be cut
+pub first_mark_boundary : (mark : ℕ) (bytes : List ℕ) (end : ℕ) → mark < 128 → IsUtf8 bytes
+    → IsFirstMark mark bytes (Some end) → IsCharBoundary bytes (end + 1)
+first_mark_boundary mark bytes end small utf8 first =
+    IsCharBoundary-after_ascii bytes end utf8 first.0 (rw first.1 small)
+
+-- the two sides of the first mark
+pub splits_at_mark : (mark : ℕ) (bytes front rest : List ℕ) (end : ℕ) → mark < 128 → IsUtf8 bytes
+    → IsFirstMark mark bytes (Some end) → front ≡ slice_range bytes 0 end → rest ≡ drop (end + 1) bytes
+    → (chars bytes ≡ chars front ++ mark ∷ chars rest) × (is_without mark (chars front) ≡ true)
+splits_at_mark mark bytes front rest end small utf8 first is_front is_rest =
+    let whole = around bytes end mark first.0 first.1 in
+    let both : IsUtf8 (take end bytes ++ mark ∷ drop (end + 1) bytes) = subst IsUtf8 whole utf8 in
+    rw (is_front, is_rest, range-start) (
+      ap chars whole ∙ chars_at_mark (take end bytes) (drop (end + 1) bytes) mark both small,
+      is_without-chars mark (take end bytes) small
+          (sides_utf8 (take end bytes) (drop (end + 1) bytes) mark both small).0 first.2,
+    )
 
 -- ---- the first `/`
 
@@ -77,40 +114,30 @@ no_slash_first bytes utf8 none = starts_with_slash-chars bytes utf8 ∙ first by
     first [] none = refl
     first (c ∷ rest) none = ne_eqb c slash (λ e. none rest (ap (λ k. k ∷ rest) e))
 
--- the front of a text as a range
-pub range-start : (bytes : List ℕ) (end : ℕ) → slice_range bytes 0 end ≡ take end bytes
-range-start bytes end = grind (arith, common_steps)
-
--- what begins with the byte at an index
-pub drop_at : (bytes : List ℕ) (at mark : ℕ) → at < length bytes → get_or bytes at 0 ≡ mark
-    → drop at bytes ≡ mark ∷ drop (at + 1) bytes
-drop_at bytes at mark inside here = rw add-one (drop-cons bytes at 0 inside ∙ ap (λ b. b ∷ drop (suc at) bytes) here)
-
 -- the two sides of the first `/`
-pub splits_at_slash : (bytes front behind : List ℕ) (end : ℕ) → IsUtf8 bytes → front ≡ slice_range bytes 0 end
-    → behind ≡ drop end bytes
-    → end < length bytes → get_or bytes end 0 ≡ slash → NoCharPasses (λ d. d == slash) (take end bytes)
+pub splits_at_slash : (bytes front behind : List ℕ) (end : ℕ) → IsUtf8 bytes → IsFirstMark slash bytes (Some end)
+    → front ≡ slice_range bytes 0 end → behind ≡ drop end bytes
     → SplitsAtSlash (chars bytes) (chars front) (chars behind)
-splits_at_slash bytes front behind end utf8 is_front is_behind inside here none =
+splits_at_slash bytes front behind end utf8 found is_front is_behind =
     let before : IsUtf8 (take end bytes)
-    = IsUtf8-take bytes end utf8 (IsCharBoundary-before_ascii bytes end inside (rw here (lit< tt))) in
+    = IsUtf8-take bytes end utf8 (IsCharBoundary-before_ascii bytes end found.0 (rw found.1 (lit< tt))) in
     let first : chars (drop end bytes) ≡ slash ∷ chars (drop (end + 1) bytes)
-    = ap chars (drop_at bytes end slash inside here) ∙ chars-ascii_first slash (drop (end + 1) bytes) (lit< tt) in
+    = ap chars (drop_at bytes end slash found.0 found.1)
+    ∙ chars-ascii_first slash (drop (end + 1) bytes) (lit< tt) in
     rw (is_front, is_behind, range-start) (record {
       joined = ap chars (sym (take-append-drop end bytes)) ∙ chars-append (take end bytes) (drop end bytes) before;
-      no_slash = front_is_without slash (take end bytes) before none;
+      no_slash = is_without-chars slash (take end bytes) (lit< tt) before found.2;
       path = λ some. subst (λ (s : List ℕ). starts_with_slash s ≡ true) (sym first) refl;
     })
 
 -- a text without `/` is a front alone
-pub splits_at_end : (bytes rest : List ℕ) → IsUtf8 bytes → rest ≡ drop (length bytes) bytes
-    → NoCharPasses (λ d. d == slash) bytes
-    → SplitsAtSlash (chars bytes) (chars bytes) (chars rest)
-splits_at_end bytes rest utf8 empty none =
+pub splits_at_end : (bytes rest : List ℕ) → IsUtf8 bytes → IsFirstMark slash bytes None
+    → rest ≡ drop (length bytes) bytes → SplitsAtSlash (chars bytes) (chars bytes) (chars rest)
+splits_at_end bytes rest utf8 none empty =
     let nothing : chars rest ≡ [] = ap chars (empty ∙ drop-length bytes) ∙ chars-nil in
     record {
       joined = sym (ap (λ s. chars bytes ++ s) nothing ∙ append-nil (chars bytes));
-      no_slash = front_is_without slash bytes utf8 none;
+      no_slash = is_without-chars slash bytes (lit< tt) utf8 none;
       path = λ some. absurd (some nothing);
     }
 

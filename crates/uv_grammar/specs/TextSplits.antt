@@ -6,6 +6,12 @@ use Rattle.uv_model.specs.Cut.{IsAuthorityCut, IsSchemeCut, IsHostCut, host_befo
 use Rattle.uv_model.specs.Parts.{written_authority, written_behind, written_scheme}
 use Rattle.uv_model.specs.Path.{is_without, starts_with_slash}
 
+-- the place of the first such byte
+abbrev pub IsFirstMark : ℕ → List ℕ → Option ℕ → Type 0
+IsFirstMark mark bytes None = is_without mark bytes ≡ true
+IsFirstMark mark bytes (Some place) =
+    (place < length bytes) × (slice_index bytes place ≡ mark) × (is_without mark (take place bytes) ≡ true)
+
 -- the text is a scheme and `:`, where it begins with such, and the rest
 pub record SplitsScheme (text : List ℕ) (name : Option (List ℕ)) (rest : List ℕ) : Type 0 where
   pub joined : text ≡ written_scheme name ++ rest

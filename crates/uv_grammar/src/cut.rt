@@ -7,11 +7,11 @@ ghost use Rattle.uv_grammar.specs.Slices.{chars_of, chars_of_option};
 ghost use Rattle.uv_grammar.specs.TextSplits.{IsPortMark, SplitsAuthority, SplitsHost, SplitsMiddle, SplitsScheme};
 
 use crate::marks::beginnings::is_scheme_text;
+use crate::marks::search::first_mark;
 use crate::marks::{behind_slash, split_at_mark, split_at_slash};
 use crate::setting::Setting;
 use std::marker::Model;
 use uv_model::{Class, Profile, Record};
-use uv_text::lacks_byte;
 
 /// The texts of the parts of a text.
 #[derive(Drop)]
@@ -40,7 +40,9 @@ impl<'t> Model for Cut<'t> {
     } };
 }
 
-/// The cut of a text against a base, and what the text is read against.
+/// The cut of a text against a base, and what the text is read against. It is never inlined, as plain links, which
+/// need no cut, would then have to keep registers free for it.
+#[inline(never)]
 pub(crate) fn cut_text<'t, 'b>(
     text: &'t str,
     base: Option<&'b Record>,
@@ -134,9 +136,19 @@ fn split_port<'t>(authority: &'t str) -> (&'t str, Option<&'t str>)
 fn port_mark(bytes: &[u8]) -> Option<usize>
     ensures { IsPortMark bytes.now result }
 {
-    if lacks_byte(bytes, b':') {
-        return None;
+    match first_mark(bytes, b':') {
+        Some(end) => match first_mark(&bytes[..end], b'[') {
+            Some(_) => port_mark_by_brackets(bytes),
+            None => Some(end),
+        },
+        None => None,
     }
+}
+
+// The same, where brackets may stand before it.
+fn port_mark_by_brackets(bytes: &[u8]) -> Option<usize>
+    ensures { IsPortMark bytes.now result }
+{
     let mut within = false;
     for (i, b) in bytes.iter().enumerate() {
         if *b == b':' && !within {

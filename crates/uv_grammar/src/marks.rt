@@ -1,4 +1,4 @@
-//! Texts cut at ASCII marks, and in `beginnings` the tests of how a text begins.
+//! Texts cut at ASCII marks, in `search` the search for these, and in `beginnings` the tests of how a text begins.
 ghost use Rattle.std.specs.Prelude.{◌≡◌, ◌<◌, ◌++◌, ◌∷◌, MatchOption, false, true};
 ghost use Rattle.std.specs.Str.{chars};
 ghost use Rattle.uv_model.specs.Ascii.{slash};
@@ -8,8 +8,9 @@ ghost use Rattle.uv_grammar.specs.Slices.{chars_of, chars_of_option};
 ghost use Rattle.uv_grammar.specs.TextSplits.{SplitsAtSlash};
 
 pub(crate) mod beginnings;
+pub(crate) mod search;
 
-use uv_text::lacks_mark;
+use crate::marks::search::first_mark;
 
 /// What stands before the first such mark, and what follows it where there is one.
 pub(crate) fn split_at_mark<'t>(text: &'t str, mark: char) -> (&'t str, Option<&'t str>)
@@ -17,11 +18,8 @@ pub(crate) fn split_at_mark<'t>(text: &'t str, mark: char) -> (&'t str, Option<&
     ensures joined { chars text.now ≡ chars_of result.0 ++ written_behind mark (chars_of_option result.1) }
     ensures first { is_without mark (chars_of result.0) ≡ true }
 {
-    if lacks_mark(text, mark as u8) {
-        return (text, None);
-    }
-    match text.split_once(mark) {
-        Some((front, rest)) => (front, Some(rest)),
+    match first_mark(text.as_bytes(), mark as u8) {
+        Some(end) => (&text[..end], Some(&text[end + 1..])),
         None => (text, None),
     }
 }
@@ -30,7 +28,7 @@ pub(crate) fn split_at_mark<'t>(text: &'t str, mark: char) -> (&'t str, Option<&
 pub(crate) fn split_at_slash<'t>(text: &'t str) -> (&'t str, &'t str)
     ensures { SplitsAtSlash (chars text.now) (chars_of result.0) (chars_of result.1) }
 {
-    match text.find('/') {
+    match first_mark(text.as_bytes(), b'/') {
         Some(end) => (&text[..end], &text[end..]),
         None => (text, &text[text.len()..]),
     }

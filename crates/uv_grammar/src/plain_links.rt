@@ -25,7 +25,7 @@ use crate::parts_host::{AsciiText, PartsHost};
 use crate::port::judge_port;
 use uv_host::{is_plain_domain, name_front};
 use uv_model::{Class, class_of, default_port};
-use uv_text::{ByteClass, split_units};
+use uv_text::{Tail, UnitClass, split_tail};
 
 /// The parts of a link that is plain: a special scheme, `://`, a domain that is its own ASCII form, a port or none, and
 /// a path, a query and a fragment of URL units. By each profile and against any base it is valid with these parts.
@@ -37,18 +37,18 @@ pub(crate) fn plain_link<'t>(text: &'t str) -> Option<Parts<'t>>
     let Some((scheme, behind)) = split_special(text) else {
         return None;
     };
-    let Some((name, rest)) = split_name(behind) else {
+    let Some((name, rest)) = split_name(&behind) else {
         return None;
     };
     let Some((port_text, port, rest)) = split_port(rest, scheme) else {
         return None;
     };
-    let Some((path_text, rest)) = split_path(rest) else {
+    let Some((path_text, rest)) = split_path(&rest) else {
         return None;
     };
     let (query, rest) = split_part(rest, b'?');
     let (fragment, rest) = split_part(rest, b'#');
-    if !rest.is_empty() {
+    if !rest.as_str().is_empty() {
         return None;
     }
     let cut = Cut {
@@ -68,20 +68,21 @@ pub(crate) fn plain_link<'t>(text: &'t str) -> Option<Parts<'t>>
 }
 
 // A special scheme but `file`, in lower case or with a capital at its start, and what stands behind its `://`.
-fn split_special<'t>(text: &'t str) -> Option<(&'t str, &'t str)>
-    ensures { IfSome result (λ r. IsSpecialCut (chars text.now) (chars_of r.0) (chars_of r.1)) }
+#[inline(always)]
+fn split_special<'t>(text: &'t str) -> Option<(&'t str, Tail<'t>)>
+    ensures { IfSome result (λ r. IsSpecialCut (chars text.now) (chars_of r.0) (chars r.1)) }
 {
     let Some(end) = special_end(text.as_bytes()) else {
         return split_upper(text);
     };
-    let (scheme, behind) = split_front(text, end);
-    let (_, rest) = split_front(behind, 3);
+    let (scheme, behind) = split_front(&Tail::of(text), end);
+    let (_, rest) = split_front(&behind, 3);
     Some((scheme, rest))
 }
 
 // The same of a scheme that begins with a capital.
-fn split_upper<'t>(text: &'t str) -> Option<(&'t str, &'t str)>
-    ensures { IfSome result (λ r. IsSpecialCut (chars text.now) (chars_of r.0) (chars_of r.1)) }
+fn split_upper<'t>(text: &'t str) -> Option<(&'t str, Tail<'t>)>
+    ensures { IfSome result (λ r. IsSpecialCut (chars text.now) (chars_of r.0) (chars r.1)) }
 {
     if !begins_upper(text.as_bytes()) {
         return None;
@@ -94,7 +95,7 @@ fn split_upper<'t>(text: &'t str) -> Option<(&'t str, &'t str)>
         return None;
     };
     match class_of(scheme) {
-        Class::Special => Some((scheme, behind)),
+        Class::Special => Some((scheme, Tail::of(behind))),
         Class::File | Class::Other => None,
     }
 }
@@ -154,10 +155,11 @@ fn begins_with(bytes: &[u8], mark: u8) -> bool
 }
 
 // A plain domain, and what follows it.
-fn split_name<'t>(text: &'t str) -> Option<(&'t str, &'t str)>
-    ensures { IfSome result (λ r. IsNameCut (chars text.now) (chars_of r.0) r.0.now (chars_of r.1)) }
+#[inline(always)]
+fn split_name<'t>(text: &Tail<'t>) -> Option<(&'t str, Tail<'t>)>
+    ensures { IfSome result (λ r. IsNameCut (chars text.now) (chars_of r.0) r.0.now (chars r.1)) }
 {
-    let Some(end) = name_front(text.as_bytes()) else {
+    let Some(end) = name_front(text) else {
         return None;
     };
     let (name, rest) = split_front(text, end);
@@ -169,15 +171,15 @@ fn split_name<'t>(text: &'t str) -> Option<(&'t str, &'t str)>
 }
 
 // The text of a valid port, where there is a `:`, its number where it isn't the scheme's default, and what follows it.
-fn split_port<'t>(text: &'t str, scheme: &str) -> Option<(Option<&'t str>, Option<u16>, &'t str)>
-    ensures { IfSome result (λ r. IsPortCut (default_port (chars scheme.now)) (chars text.now) (chars_of_option r.0) r.1
-        (chars_of r.2)) }
+fn split_port<'t>(text: Tail<'t>, scheme: &str) -> Option<(Option<&'t str>, Option<u16>, Tail<'t>)>
+    ensures { IfSome result (λ r. IsPortCut (default_port (chars scheme.now)) (chars text.entry)
+        (chars_of_option r.0) r.1 (chars r.2)) }
 {
-    if !begins_with(text.as_bytes(), b':') {
+    if !begins_with(text.as_str().as_bytes(), b':') {
         return Some((None, None, text));
     }
-    let (_, behind) = split_front(text, 1);
-    let (port_text, rest) = split_front(behind, digits_front(behind.as_bytes()));
+    let (_, behind) = split_front(&text, 1);
+    let (port_text, rest) = split_front(&behind, digits_front(behind.as_str().as_bytes()));
     match judge_port(port_text) {
         Judged::Valid(number) => {
             let port = without_default(default_port(scheme), number);
@@ -195,11 +197,11 @@ fn digits_front(bytes: &[u8]) -> usize
 }
 
 // A path of units, and what follows it.
-fn split_path<'t>(text: &'t str) -> Option<(&'t str, &'t str)>
-    ensures { IfSome result (λ r. IsPathCut (chars text.now) (chars_of r.0) (chars_of r.1)) }
+#[inline(always)]
+fn split_path<'t>(text: &Tail<'t>) -> Option<(&'t str, Tail<'t>)>
+    ensures { IfSome result (λ r. IsPathCut (chars text.now) (chars_of r.0) (chars r.1)) }
 {
-    let class = ByteClass::path();
-    let (path_text, rest) = split_units(text, &class);
+    let (path_text, rest) = split_tail(text, UnitClass::Path);
     if begins_path(path_text) {
         Some((path_text, rest))
     } else {
@@ -219,23 +221,24 @@ fn begins_path(text: &str) -> bool
 }
 
 // The units behind a mark, where the text begins with it, and what follows.
-fn split_part<'t>(text: &'t str, mark: u8) -> (Option<&'t str>, &'t str)
+#[inline(always)]
+fn split_part<'t>(text: Tail<'t>, mark: u8) -> (Option<&'t str>, Tail<'t>)
     requires { mark < 128 }
-    ensures { IsPartCut mark (chars text.now) (chars_of_option result.0) (chars_of result.1) }
+    ensures { IsPartCut mark (chars text.entry) (chars_of_option result.0) (chars result.1) }
 {
-    if !begins_with(text.as_bytes(), mark) {
+    if !begins_with(text.as_str().as_bytes(), mark) {
         return (None, text);
     }
-    let (_, behind) = split_front(text, 1);
-    let class = ByteClass::url();
-    let (part, rest) = split_units(behind, &class);
+    let (_, behind) = split_front(&text, 1);
+    let (part, rest) = split_tail(&behind, UnitClass::Url);
     (Some(part), rest)
 }
 
 // The two sides of the end of an ASCII front.
-fn split_front<'t>(text: &'t str, end: usize) -> (&'t str, &'t str)
+#[inline(always)]
+fn split_front<'t>(text: &Tail<'t>, end: usize) -> (&'t str, Tail<'t>)
     requires { HasAsciiFront text.now end }
-    ensures { IsFrontCut text.now end result.0.now result.1.now }
+    ensures { IsFrontCut text.now end result.0.now result.1 }
 {
-    (&text[..end], &text[end..])
+    text.split_at(end)
 }

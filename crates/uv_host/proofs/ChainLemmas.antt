@@ -1,11 +1,10 @@
 -- Letters and digits with single marks between them are a plain name.
 use Rattle.std.proofs.Math.Nat.{le_refl}
-use Rattle.std.proofs.Common.{take_all, length-append, ◌≡◌, ℕ, suc, ◌+◌, ◌-◌, ◌<◌, ◌≤◌, Bool, true, false, ◌&&◌, ◌==◌, List, [], ◌∷◌, ◌++◌, length, take, drop, get_or, add-zero, IsUtf8, chars, refl, sym, ap, ◌∙◌, subst, inl, inr, arith, eqb-true, append-nil, append_assoc}
+use Rattle.std.proofs.Common.{take_all, length-append, ◌≡◌, ℕ, suc, ◌-◌, ◌≤◌, Bool, true, false, ◌&&◌, ◌==◌, List, [], ◌∷◌, ◌++◌, length, take, get_or, IsUtf8, chars, refl, sym, ap, ◌∙◌, subst, inl, inr, arith, eqb-true}
 use Rattle.std.specs.Prelude.{slice_index}
 use Rattle.std.specs.Str.{IsAscii}
 use Rattle.std.specs.Int.{is_in_range}
-use Rattle.std.specs.List.{list_all, onto_first, prefix_len}
-use Rattle.std.proofs.lemmas.List.{drop-drop, get_or-drop, length-drop}
+use Rattle.std.specs.List.{list_all, onto_first}
 use Rattle.std.proofs.lemmas.Bool.{and_parts, and_from, cases_Bool, false≢true}
 use Rattle.std.proofs.lemmas.Bool.Decides.{nat_tests}
 use Rattle.std.proofs.Math.Seq.{take-suc}
@@ -19,8 +18,7 @@ use Rattle.uv_model.specs.Ascii.{full_stop, hyphen}
 use Rattle.uv_model.specs.declared.profile.Profile.{Profile}
 use Rattle.uv_model.specs.declared.profile.Profile.TheVariants.{Standard}
 use Rattle.uv_model.specs.Hosts.Domain.{IsForm, has_lengths, is_form_code_point, without_root}
-use Rattle.uv_model.proofs.Hosts.LastLabelLemmas.{without_root-stop}
-use Rattle.uv_host.specs.PlainNames.{goes_on, is_chain, is_joint, is_rooted_chain, is_sign}
+use Rattle.uv_host.specs.PlainNames.{goes_on, is_chain, is_rooted_chain, is_sign}
 use Rattle.uv_host.proofs.PlainLemmas.{plain_ascii, plain_from_form, plain_is_form}
 
 chain_parts : (signed : Bool) (c : ℕ) (rest : List ℕ) → is_chain signed (c ∷ rest) ≡ true
@@ -123,7 +121,7 @@ last_other signed c [] mark none h = sign_other mark c none (chain_parts signed 
 last_other signed c (d ∷ rest) mark none h =
     last_other (is_sign c) d rest mark none (chain_parts signed c (d ∷ rest) h).1
 
-end_other : (signed : Bool) (text : List ℕ) (mark : ℕ) → is_sign mark ≡ false → (mark == 0) ≡ false
+pub end_other : (signed : Bool) (text : List ℕ) (mark : ℕ) → is_sign mark ≡ false → (mark == 0) ≡ false
     → is_chain signed text ≡ true
     → (slice_index text (length text - 1) == mark) ≡ false
 end_other signed [] mark none some h = grind (arith, nat_tests)
@@ -270,121 +268,3 @@ rooted_form name h = elim (cases_Bool (is_full_stop (slice_index name (length na
 -- and ASCII
 pub rooted_ascii : (name : List ℕ) → is_rooted_chain name ≡ true → IsAscii name
 rooted_ascii name h = plain_ascii name (rooted_plain name h)
-
--- ---- the walk
-
--- the first of what is left at a place, and what is left behind it
-drop_first : (bytes : List ℕ) (at c : ℕ) (rest : List ℕ) → drop at bytes ≡ c ∷ rest
-    → (at < length bytes) × (get_or bytes at 0 ≡ c) × (drop (at + 1) bytes ≡ rest)
-drop_first bytes at c rest same =
-    let size = ap length same in
-    let shorter = length-drop at bytes in
-    let inside : at < length bytes = omega arith in (
-      inside,
-      ap (λ n. get_or bytes n 0) (sym (add-zero at)) ∙ sym (get_or-drop at bytes 0 0) ∙ ap (λ l. get_or l 0 0) same,
-      sym (drop-drop 1 at bytes) ∙ ap (drop 1) same,
-    )
-
--- what is left goes on from the bytes so far
-abbrev pub Walked : List ℕ → ℕ → Bool → Type 0
-Walked bytes at signed = (rest : List ℕ) → is_chain false (take at bytes ++ rest) ≡ is_chain signed rest
-
--- before the first byte the whole is left
-pub walk_start : (bytes : List ℕ) → Walked bytes 0 false
-walk_start bytes = λ rest. refl
-
--- a byte that goes on is walked
-walk_on : (bytes : List ℕ) (at : ℕ) (signed : Bool) → at < length bytes → goes_on signed (get_or bytes at 0) ≡ true
-    → Walked bytes at signed → Walked bytes (at + 1) (is_sign (get_or bytes at 0))
-walk_on bytes at signed inside goes held = λ rest.
-    let next : at + 1 ≡ suc at = omega arith in
-    let step : is_chain signed (get_or bytes at 0 ∷ rest) ≡ is_chain (is_sign (get_or bytes at 0)) rest =
-    rw goes refl in
-    ap (λ k. is_chain false (take k bytes ++ rest)) next
-    ∙ ap (λ (s : List ℕ). is_chain false (s ++ rest)) (take-suc bytes at 0 inside)
-    ∙ ap (is_chain false) (append_assoc (take at bytes) (get_or bytes at 0 ∷ []) rest)
-    ∙ held (get_or bytes at 0 ∷ rest) ∙ step
-
--- so are the letters and digits that follow one
-walk_more : (bytes : List ℕ) (at : ℕ) (left : List ℕ) → drop at bytes ≡ left → Walked bytes at true
-    → Walked bytes (at + prefix_len is_sign left) true
-walk_more bytes at [] same held = rw (add-zero at) held
-walk_more bytes at (c ∷ rest) same held = elim (cases_Bool (is_sign c)) [
-  | inl sign ↦
-      let first = drop_first bytes at c rest same in
-      let on : Walked bytes (at + 1) (is_sign (get_or bytes at 0)) =
-      walk_on bytes at true first.0 (rw (first.1, sign) refl) held in
-      let signed : Walked bytes (at + 1) true =
-      subst (λ k. Walked bytes (at + 1) k) (ap is_sign first.1 ∙ sign) on in
-      let place : (at + 1) + prefix_len is_sign rest ≡ at + (1 + prefix_len is_sign rest) = omega arith in
-      rw sign (subst (λ n. Walked bytes n true) place (walk_more bytes (at + 1) rest first.2 signed))
-  | inr other ↦ rw (other, add-zero at) held
-]
-
--- and a run of them that begins where the walk goes on
-pub walk_signs : (bytes : List ℕ) (at : ℕ) (signed : Bool) → 1 ≤ prefix_len is_sign (drop at bytes)
-    → Walked bytes at signed → Walked bytes (at + prefix_len is_sign (drop at bytes)) true
-walk_signs bytes at signed some held = go (drop at bytes) refl some
-  where
-    go : (left : List ℕ) → drop at bytes ≡ left → 1 ≤ prefix_len is_sign left
-        → Walked bytes (at + prefix_len is_sign left) true
-    go [] same none = absurd (omega (arith, none))
-    go (c ∷ rest) same some = elim (cases_Bool (is_sign c)) [
-      | inl sign ↦
-          let first = drop_first bytes at c rest same in
-          let on : Walked bytes (at + 1) (is_sign (get_or bytes at 0)) =
-          walk_on bytes at signed first.0 (rw (first.1, sign) refl) held in
-          let next : Walked bytes (at + 1) true =
-          subst (λ k. Walked bytes (at + 1) k) (ap is_sign first.1 ∙ sign) on in
-          let place : (at + 1) + prefix_len is_sign rest ≡ at + (1 + prefix_len is_sign rest) = omega arith in
-          rw sign (subst (λ n. Walked bytes n true) place (walk_more bytes (at + 1) rest first.2 next))
-      | inr other ↦ (let none : 1 ≤ 0 = rw other at some in absurd (omega (arith, none)))
-    ]
-
--- behind one of them a hyphen or a full stop is walked
-pub walk_joint : (bytes : List ℕ) (at : ℕ) → at < length bytes → is_joint (get_or bytes at 0) ≡ true
-    → Walked bytes at true → Walked bytes (at + 1) false
-walk_joint bytes at inside joint held =
-    let byte = get_or bytes at 0 in
-    let goes : goes_on true byte ≡ true = grind (arith, nat_tests) in
-    let none : is_sign byte ≡ false = grind (arith, nat_tests) in
-    subst (λ k. Walked bytes (at + 1) k) none (walk_on bytes at true inside goes held)
-
--- a walk that ends behind a letter or a digit has walked a name
-pub walk_end : (bytes : List ℕ) (at : ℕ) (signed : Bool) → signed ≡ true → Walked bytes at signed
-    → is_rooted_chain (take at bytes) ≡ true
-walk_end bytes at signed sign held =
-    let name : is_chain false (take at bytes) ≡ true = ap (is_chain false) (sym (append-nil (take at bytes))) ∙ held []
-    ∙ sign in
-    rw (end_other false (take at bytes) full_stop refl refl name) name
-
--- what stands before a full stop of a name ends behind a letter or a digit
-before_stop : (signed : Bool) (name rest : List ℕ) → is_chain signed (name ++ full_stop ∷ rest) ≡ true
-    → is_chain signed name ≡ true
-before_stop true [] rest h = refl
-before_stop false [] rest h = absurd (false≢true h)
-before_stop signed (c ∷ name) rest h =
-    let parts = chain_parts signed c (name ++ full_stop ∷ rest) h in
-    and_from _ _ parts.0 (before_stop (is_sign c) name rest parts.1)
-
-goes_on_to_sign : (signed : Bool) → is_chain signed (97 ∷ []) ≡ true
-goes_on_to_sign true = refl
-goes_on_to_sign false = refl
-
--- and one that ends behind a full stop has walked a name and the root's full stop
-pub walk_root : (bytes : List ℕ) (at : ℕ) (signed : Bool) → 1 ≤ at → at ≤ length bytes → get_or bytes (at - 1) 0
-    ≡ full_stop
-    → Walked bytes at signed → is_rooted_chain (take at bytes) ≡ true
-walk_root bytes at signed some inside stop held =
-    let next : suc (at - 1) ≡ at = omega arith in
-    let parts : take at bytes ≡ take (at - 1) bytes ++ full_stop ∷ []
-    =
-    ap (λ (k : ℕ). take k bytes) (sym next) ∙ take-suc bytes (at - 1) 0 (omega arith)
-    ∙ ap (λ (d : ℕ). take (at - 1) bytes ++ d ∷ []) stop in
-    let more : is_chain false (take (at - 1) bytes ++ full_stop ∷ 97 ∷ []) ≡ true
-    =
-    ap (is_chain false) (sym (append_assoc (take (at - 1) bytes) (full_stop ∷ []) (97 ∷ [])))
-    ∙ ap (λ (s : List ℕ). is_chain false (s ++ 97 ∷ [])) (sym parts) ∙ held (97 ∷ []) ∙ goes_on_to_sign signed in
-    ap (λ (s : List ℕ). is_rooted_chain s) parts
-    ∙ ap (is_chain false) (without_root-stop (take (at - 1) bytes))
-    ∙ before_stop false (take (at - 1) bytes) (97 ∷ []) more

@@ -11,7 +11,7 @@ use Rattle.uv_model.specs.declared.rule.Refusal.{Refusal}
 use Rattle.uv_model.specs.Ascii.{percent_sign}
 use Rattle.uv_model.specs.Hosts.OpaqueHost.{is_forbidden_host}
 use Rattle.uv_model.specs.Units.{is_url_code_point}
-use Rattle.uv_text.specs.Class.{HoldsOpaqueHostBytes, in_class}
+use Rattle.uv_text.specs.Class.{HoldsOpaqueHostBytes}
 use Rattle.uv_text.specs.Splits.{IsUnitSplit, begins_unit, unit_length}
 use Rattle.uv_text.proofs.SplitsLemmas.{unit_length-le}
 use Rattle.uv_host.specs.OpaqueHosts.{first_host_fault, host_fault, host_rule}
@@ -42,12 +42,12 @@ either_beyond true = refl
 either_beyond false = refl
 
 -- a code point and what follows it begin a unit of the class exactly where they violate no rule
-begins_host : (ranges : List (ℕ × ℕ)) → HoldsOpaqueHostBytes ranges → (c : ℕ) (rest : List ℕ)
-    → host_fault c rest ≡ (if begins_unit ranges c rest then None else Some (host_rule c))
-begins_host ranges holds c rest =
+begins_host : (held : ℕ → Bool) → HoldsOpaqueHostBytes held → (c : ℕ) (rest : List ℕ)
+    → host_fault c rest ≡ (if begins_unit held c rest then None else Some (host_rule c))
+begins_host held holds c rest =
     elim (cases_eq c percent_sign) [
       | inl same ↦
-          let none : in_class ranges percent_sign ≡ false = holds percent_sign ∙ no_percent_unit in
+          let none : held percent_sign ≡ false = holds percent_sign ∙ no_percent_unit in
           rw same (rw none refl)
       | inr other ↦
           let no_percent : (c == percent_sign) ≡ false = ne_eqb c percent_sign other in
@@ -68,34 +68,34 @@ fault_at place [] = None
 fault_at place (c ∷ rest) = Some (record { place = place; rule = host_rule c })
 
 -- the first fault is the code point behind the units, at the place that counts them
-fault_behind : (ranges : List (ℕ × ℕ)) → HoldsOpaqueHostBytes ranges → (place : ℕ) (text : List ℕ)
-    → first_host_fault place text ≡ fault_at (place + unit_length ranges text) (drop (unit_length ranges text) text)
-fault_behind ranges holds place [] = refl
-fault_behind ranges holds place (c ∷ rest) =
-    elim (cases_Bool (begins_unit ranges c rest)) [
+fault_behind : (held : ℕ → Bool) → HoldsOpaqueHostBytes held → (place : ℕ) (text : List ℕ)
+    → first_host_fault place text ≡ fault_at (place + unit_length held text) (drop (unit_length held text) text)
+fault_behind held holds place [] = refl
+fault_behind held holds place (c ∷ rest) =
+    elim (cases_Bool (begins_unit held c rest)) [
       | inl begins ↦
-          let none : host_fault c rest ≡ None = begins_host ranges holds c rest ∙ rw begins refl in
-          let next : place + 1 + unit_length ranges rest ≡ place + suc (unit_length ranges rest) = omega arith in
-          let more = fault_behind ranges holds (place + 1) rest in
-          let behind = drop (unit_length ranges rest) rest in
+          let none : host_fault c rest ≡ None = begins_host held holds c rest ∙ rw begins refl in
+          let next : place + 1 + unit_length held rest ≡ place + suc (unit_length held rest) = omega arith in
+          let more = fault_behind held holds (place + 1) rest in
+          let behind = drop (unit_length held rest) rest in
           rw (none, begins) (more ∙ ap (λ p. fault_at p behind) next)
       | inr stops ↦
-          let some : host_fault c rest ≡ Some (host_rule c) = begins_host ranges holds c rest ∙ rw stops refl in
+          let some : host_fault c rest ≡ Some (host_rule c) = begins_host held holds c rest ∙ rw stops refl in
           rw (some, stops) (ap (λ p. Some (record { place = p; rule = host_rule c })) (omega arith))
     ]
 
 -- a code point behind the units
-pub fault_found : (ranges : List (ℕ × ℕ)) (text front rest : List ℕ) (c : ℕ) (more : List ℕ) (place : ℕ) (rule : Rule)
-    → HoldsOpaqueHostBytes ranges → IsUnitSplit ranges text front rest → rest ≡ c ∷ more → place ≡ length front
+pub fault_found : (held : ℕ → Bool) (text front rest : List ℕ) (c : ℕ) (more : List ℕ) (place : ℕ) (rule : Rule)
+    → HoldsOpaqueHostBytes held → IsUnitSplit held text front rest → rest ≡ c ∷ more → place ≡ length front
     → rule ≡ host_rule c → Some (record { place = place; rule = rule }) ≡ first_host_fault 0 text
-fault_found ranges text front rest c more place rule holds cut first counted named =
-    let n = unit_length ranges text in
+fault_found held text front rest c more place rule holds cut first counted named =
+    let n = unit_length held text in
     let here : place ≡ 0 + n =
-    counted ∙ ap length cut.is_front ∙ length-take-le n text (unit_length-le ranges text) ∙ omega arith in
-    rw (here, named) (ap (fault_at (0 + n)) (sym first ∙ cut.is_rest)) ∙ sym (fault_behind ranges holds 0 text)
+    counted ∙ ap length cut.is_front ∙ length-take-le n text (unit_length-le held text) ∙ omega arith in
+    rw (here, named) (ap (fault_at (0 + n)) (sym first ∙ cut.is_rest)) ∙ sym (fault_behind held holds 0 text)
 
 -- none behind them
-pub no_fault : (ranges : List (ℕ × ℕ)) (text front rest : List ℕ) → HoldsOpaqueHostBytes ranges
-    → IsUnitSplit ranges text front rest → rest ≡ [] → None ≡ first_host_fault 0 text
-no_fault ranges text front rest holds cut none =
-    ap (fault_at (0 + unit_length ranges text)) (sym none ∙ cut.is_rest) ∙ sym (fault_behind ranges holds 0 text)
+pub no_fault : (held : ℕ → Bool) (text front rest : List ℕ) → HoldsOpaqueHostBytes held
+    → IsUnitSplit held text front rest → rest ≡ [] → None ≡ first_host_fault 0 text
+no_fault held text front rest holds cut none =
+    ap (fault_at (0 + unit_length held text)) (sym none ∙ cut.is_rest) ∙ sym (fault_behind held holds 0 text)

@@ -1,5 +1,5 @@
 -- Names of letters and digits, after the URL Standard, section 3.3, and UTS #46, section 4.
-use Rattle.std.specs.Prelude.{◌≡◌, ℕ, ◌≤◌, Bool, true, false, ◌&&◌, ◌||◌, ◌==◌, List, [], ◌∷◌, length, take}
+use Rattle.std.specs.Prelude.{◌≡◌, ℕ, zero, suc, ◌-◌, ◌<◌, ◌≤◌, nat_le, nat_lt, Bool, true, false, not, ◌&&◌, ◌||◌, ◌==◌, List, [], ◌∷◌, length, slice_index, take}
 use Rattle.std.specs.Char.{is_ascii_digit, is_ascii_lowercase}
 use Rattle.uv_model.specs.Ascii.{full_stop, hyphen}
 use Rattle.uv_model.specs.Hosts.Domain.{without_root}
@@ -16,6 +16,16 @@ is_joint c = (c == hyphen) || (c == full_stop)
 abbrev pub goes_on : Bool → ℕ → Bool
 goes_on signed c = is_sign c || (signed && is_joint c)
 
+-- a letter or a digit stands before the code point of so many, as `signed` says before the first
+abbrev pub signed_before : Bool → List ℕ → ℕ → Bool
+signed_before signed text zero = signed
+signed_before signed text (suc k) = is_sign (slice_index text k)
+
+-- so many code points go on, each from the one before it
+pub record IsJoined (signed : Bool) (text : List ℕ) (n : ℕ) : Type 0 where
+  pub inside : n ≤ length text
+  pub each : (k : ℕ) → k < n → goes_on (signed_before signed text k) (slice_index text k) ≡ true
+
 -- letters and digits, with single hyphens and full stops between them, where `signed` says whether one stands before
 abbrev pub is_chain : Bool → List ℕ → Bool
 is_chain signed [] = signed
@@ -28,3 +38,11 @@ is_rooted_chain name = is_chain false (without_root name)
 -- the front of so many bytes is such a name
 abbrev pub IsChainFront : List ℕ → ℕ → Type 0
 IsChainFront bytes n = (n ≤ length bytes) × (is_rooted_chain (take n bytes) ≡ true)
+
+-- a lower-case letter that is no hex digit and not the `x` of a number
+abbrev pub is_word_letter : ℕ → Bool
+is_word_letter c = nat_lt 102 c && (nat_le c 122 && not (c == 120))
+
+-- the last code point is such a letter
+abbrev pub HasWordEnd : List ℕ → Type 0
+HasWordEnd name = (1 ≤ length name) × (is_word_letter (slice_index name (length name - 1)) ≡ true)

@@ -7,7 +7,7 @@ ghost use Rattle.uv_host.specs.OpaqueHosts.{first_host_fault, host_rule, IsOpaqu
 
 use crate::addresses::bracketed_ipv6;
 use uv_model::{Refusal, Rule, first_code_point};
-use uv_text::{ByteClass, count_code_points, split_units};
+use uv_text::{UnitClass, count_code_points, split_units};
 
 /// What is wrong with the text of an opaque host: the least place, in code points from the text's start, and there the
 /// least rule. `None` for an empty text, an IPv6 text in brackets and an opaque host (URL Standard, section 3.4).
@@ -53,8 +53,7 @@ fn bracket_fault(text: &str) -> Option<Refusal>
 fn first_fault(text: &str) -> Option<Refusal>
     ensures { result ≡ first_host_fault 0 (chars text.now) }
 {
-    let class = ByteClass::opaque_host();
-    let (front, rest) = split_units(text, &class);
+    let (front, rest) = split_units(text, UnitClass::OpaqueHost);
     match first_code_point(rest) {
         Some((c, _)) => Some(Refusal {
             place: count_code_points(front),

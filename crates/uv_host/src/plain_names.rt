@@ -1,82 +1,61 @@
 //! Plain names: letters and digits with single marks between them.
-ghost use Rattle.std.specs.Prelude.{◌≡◌, ◌<◌, ◌≤◌, ◌+◌, IfSome, IsTrue, chars, get_or, length, true};
-ghost use Rattle.std.specs.List.{prefix_len};
-ghost use Rattle.uv_host.specs.PlainNames.{IsChainFront, is_joint, is_rooted_chain, is_sign};
+ghost use Rattle.std.specs.Prelude.{◌≡◌, ◌^◌, ◌<◌, ◌≤◌, false, IfSome, IsTrue, chars, drop, length, slice_index, true};
+ghost use Rattle.uv_host.specs.PlainNames.{IsJoined, IsChainFront, is_rooted_chain, is_sign, is_word_letter};
 ghost use Rattle.uv_model.specs.declared.profile.Profile.{Profile};
 ghost use Rattle.uv_model.specs.Hosts.Domain as spec;
 
 use crate::domains::is_number;
+use uv_text::Tail;
 
-// At a lower-case letter and a digit 1, at every other byte 0.
-const SIGNS: [u8; 256] = [
-    0, 0, 0, 0, 0, 0, 0, 0, 0, 0, 0, 0, 0, 0, 0, 0, 0, 0, 0, 0, 0, 0, 0, 0, 0, 0, 0, 0, 0, 0, 0, 0,
-    0, 0, 0, 0, 0, 0, 0, 0, 0, 0, 0, 0, 0, 0, 0, 0, 1, 1, 1, 1, 1, 1, 1, 1, 1, 1, 0, 0, 0, 0, 0, 0,
-    0, 0, 0, 0, 0, 0, 0, 0, 0, 0, 0, 0, 0, 0, 0, 0, 0, 0, 0, 0, 0, 0, 0, 0, 0, 0, 0, 0, 0, 0, 0, 0,
-    0, 1, 1, 1, 1, 1, 1, 1, 1, 1, 1, 1, 1, 1, 1, 1, 1, 1, 1, 1, 1, 1, 1, 1, 1, 1, 1, 0, 0, 0, 0, 0,
-    0, 0, 0, 0, 0, 0, 0, 0, 0, 0, 0, 0, 0, 0, 0, 0, 0, 0, 0, 0, 0, 0, 0, 0, 0, 0, 0, 0, 0, 0, 0, 0,
-    0, 0, 0, 0, 0, 0, 0, 0, 0, 0, 0, 0, 0, 0, 0, 0, 0, 0, 0, 0, 0, 0, 0, 0, 0, 0, 0, 0, 0, 0, 0, 0,
-    0, 0, 0, 0, 0, 0, 0, 0, 0, 0, 0, 0, 0, 0, 0, 0, 0, 0, 0, 0, 0, 0, 0, 0, 0, 0, 0, 0, 0, 0, 0, 0,
-    0, 0, 0, 0, 0, 0, 0, 0, 0, 0, 0, 0, 0, 0, 0, 0, 0, 0, 0, 0, 0, 0, 0, 0, 0, 0, 0, 0, 0, 0, 0, 0,
+// The lower-case letters and the digits, by the low half of a byte: a bit for each high half.
+const SIGN_ROWS: [u8; 16] = [
+    136, 200, 200, 200, 200, 200, 200, 200, 200, 200, 192, 64, 64, 64, 64, 64,
 ];
 
-/// How many bytes a name has at the front: lower-case letters and digits, with single hyphens and full stops between
-/// them, and the root's full stop at its end or none. It ends where none of these follows.
-pub fn name_front(bytes: &[u8]) -> Option<usize>
-    ensures { IfSome result (IsChainFront bytes.now) }
+// The hyphen and the full stop.
+const JOINT_ROWS: [u8; 16] = [0, 0, 0, 0, 0, 0, 0, 0, 0, 0, 0, 0, 0, 4, 4, 0];
+
+/// How many bytes a name has at the front of a text: lower-case letters and digits, with single hyphens and full stops
+/// between them, and the root's full stop at its end or none. It ends where none of these follows.
+#[inline(always)]
+pub fn name_front(text: &Tail<'_>) -> Option<usize>
+    ensures { IfSome result (IsChainFront text.now) }
 {
-    let mut front = signs_front(bytes);
-    if front == 0 {
+    let end = chain_end(text);
+    if end == 0 || text.as_str().as_bytes()[end - 1] == b'-' {
         return None;
     }
-    while front < bytes.len() && is_joint(bytes[front]) {
-        let signs = signs_front(&bytes[front + 1..]);
-        if signs == 0 {
-            return root_end(bytes, front);
-        }
-        front = passed(bytes, front, signs);
+    Some(end)
+}
+
+// Where the bytes end that go on as such a name does, each from the one before it.
+#[inline(always)]
+fn chain_end(text: &Tail<'_>) -> usize
+    ensures { IsJoined false text.now result }
+{
+    let mut end = 0;
+    let (mut ahead, mut signed) = chain_run(text, 0, false);
+    while ahead == 32 {
+        end += ahead;
+        (ahead, signed) = chain_run(text, end, signed);
     }
-    Some(front)
+    end + ahead
 }
 
-// Where a name ends that a full stop at this place ends, the root's.
-fn root_end(bytes: &[u8], place: usize) -> Option<usize>
-    requires { place < length bytes.now }
-    ensures { IfSome result (λ end. (end ≡ place + 1) × (get_or bytes.now place 0 ≡ 46)) }
+// How many of the 32 bytes from a place on go on so, where `signed` says whether a letter or a digit stands before
+// them; and whether the last of them is one, where all do.
+#[inline(always)]
+fn chain_run(text: &Tail<'_>, place: usize, signed: bool) -> (usize, bool)
+    requires { place ≤ length text.now }
+    ensures goes_on { IsJoined signed (drop place text.now) result.0 }
+    ensures short { length text.now < 2 ^ 64 }
+    ensures signed { result.0 ≡ 32 → result.1 ≡ is_sign (slice_index (drop place text.now) 31) }
 {
-    if bytes[place] == b'.' {
-        Some(place + 1)
-    } else {
-        None
-    }
-}
-
-// What follows a joint at this place and so many letters and digits behind it.
-fn passed(bytes: &[u8], place: usize, signs: usize) -> usize
-    requires { place + signs < length bytes.now }
-    ensures { result ≡ place + 1 + signs }
-{
-    place + 1 + signs
-}
-
-// How many letters and digits the bytes begin with.
-fn signs_front(bytes: &[u8]) -> usize
-    ensures { result ≡ prefix_len is_sign bytes.now }
-{
-    bytes.iter().take_while(|b| is_sign(**b)).count()
-}
-
-// A hyphen or a full stop.
-fn is_joint(b: u8) -> bool
-    ensures { result ≡ is_joint b }
-{
-    b == b'-' || b == b'.'
-}
-
-// A lower-case letter or a digit.
-fn is_sign(b: u8) -> bool
-    ensures { result ≡ is_sign b }
-{
-    SIGNS[b as usize] != 0
+    let signs = text.row_bits(place, &SIGN_ROWS);
+    let joints = text.row_bits(place, &JOINT_ROWS);
+    let behind_signs = signs << 1 | u64::from(signed);
+    let joined = signs | joints & behind_signs;
+    (joined.trailing_ones() as usize, signs >> 31 == 1)
 }
 
 /// Whether such a name, with the root's full stop or without one, is in each profile a valid domain (URL Standard,
@@ -88,10 +67,29 @@ pub fn is_plain_domain(name: &str) -> bool
     if !is_short(name) {
         return false;
     }
-    if is_number(name) {
-        return false;
+    if ends_in_word(name.as_bytes()) {
+        return true;
     }
-    true
+    !is_number(name)
+}
+
+// Whether the last label ends with a letter that stands in no number, as most do. Where the answer is no, that says
+// nothing.
+fn ends_in_word(name: &[u8]) -> bool
+    ensures { IsTrue result → spec.ends_in_number name.now ≡ false }
+{
+    match name {
+        [.., last, b'.'] => is_word_letter(*last),
+        [.., last] => is_word_letter(*last),
+        [] => false,
+    }
+}
+
+// A lower-case letter that is no hex digit and not the `x` of a number.
+fn is_word_letter(b: u8) -> bool
+    ensures { result ≡ is_word_letter b }
+{
+    b > b'f' && b <= b'z' && b != b'x'
 }
 
 // Whether a name has no more bytes than one label may have.
@@ -104,6 +102,7 @@ fn is_short(name: &str) -> bool
 #[cfg(test)]
 mod tests {
     use super::*;
+    use std::test::Fail;
 
     #[test]
     fn ends_behind_a_letter_or_a_digit(rt: HostRuntime) {
@@ -116,10 +115,32 @@ mod tests {
             ("3d.x1:80", 5),
             ("a_b", 1),
         ] {
-            assert_eq!(rt; name_front(text.as_bytes()), Some(end), "of {text}");
+            assert_eq!(rt; name_front(&Tail::of(text)), Some(end), "of {text}");
         }
         for text in ["", ".", ".a", "a-/", "a-.b", "-a", "Ab"] {
-            assert_eq!(rt; name_front(text.as_bytes()), None, "of {text}");
+            assert_eq!(rt; name_front(&Tail::of(text)), None, "of {text}");
         }
+    }
+
+    #[test]
+    fn ends_alike_at_each_length(rt: HostRuntime) -> Result<(), Fail> {
+        for length in 1..70usize {
+            let label = "a".repeat(rt.alloc(), length)?;
+            for (behind, end) in [
+                ("/", Some(length)),
+                (".com/a", Some(length + 4)),
+                ("-b:80", Some(length + 2)),
+                ("./", Some(length + 1)),
+                ("..b", Some(length + 1)),
+                (".-b", Some(length + 1)),
+                ("--b", None),
+                ("-.b", None),
+                ("-", None),
+            ] {
+                let text = format!(in rt.alloc(); "{label}{behind}")?;
+                assert_eq!(rt; name_front(&Tail::of(text.as_str())), end, "of {text}");
+            }
+        }
+        Ok(())
     }
 }

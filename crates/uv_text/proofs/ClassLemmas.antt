@@ -1,5 +1,5 @@
 -- Classes of bytes: they hold ASCII bytes alone, and which bytes the two classes in use hold.
-use Rattle.std.proofs.Common.{◌≡◌, ℕ, ◌<◌, Bool, true, false, not, ◌&&◌, ◌||◌, ◌==◌, List, [], ◌∷◌, take, refl, ◌∙◌, inl, inr, arith, le-ltb, lt-ltb}
+use Rattle.std.proofs.Common.{◌≡◌, ℕ, ◌<◌, Bool, true, false, not, ◌&&◌, ◌||◌, ◌==◌, List, [], ◌∷◌, take, refl, sym, ◌∙◌, inl, inr, arith, le-ltb, lt-ltb}
 use Rattle.std.specs.Char.{is_ascii, is_ascii_alphanumeric, is_ascii_hexdigit}
 use Rattle.std.specs.List.{list_any}
 use Rattle.std.proofs.lemmas.Bool.{agree_below_at, cases_lt, false_from_ne_true, false≢true, or_cases, or_parts}
@@ -8,6 +8,9 @@ use Rattle.uv_model.specs.Ascii.{question_mark}
 use Rattle.uv_model.specs.Hosts.OpaqueHost.{is_forbidden_host}
 use Rattle.uv_model.specs.Units.{is_url_code_point}
 use Rattle.uv_text.specs.Class.{HasHexDigits, HoldsOpaqueHostBytes, HoldsPathBytes, HoldsUrlBytes, in_class, is_wide, within}
+use Rattle.uv_text.specs.declared.units.UnitClass.{UnitClass}
+use Rattle.uv_text.specs.declared.units.UnitClass.TheVariants.{Url, Path, OpaqueHost}
+use Rattle.uv_text.specs.Splits.{class_has}
 use Rattle.uv_text.specs.Rows.{HoldClass, is_in_rows}
 use Rattle.uv_text.specs.declared.class.TheConstants.{OPAQUE_HOST_RANGES, OPAQUE_HOST_ROWS, PATH_RANGES, PATH_ROWS, URL_RANGES, URL_ROWS}
 
@@ -61,20 +64,20 @@ abbrev url : List (ℕ × ℕ)
 url = take 8 URL_RANGES
 
 -- they hold the ASCII URL code points
-pub url_ranges : HoldsUrlBytes url
+pub url_ranges : HoldsUrlBytes (in_class url)
 unfolding is_url_code_point
 url_ranges =
     agrees url is_url_code_point refl
     (λ byte small. agree_below_at (in_class url) is_url_code_point 128 byte refl small)
 
 -- and each hex digit
-pub url_digits : HasHexDigits url
+pub url_digits : HasHexDigits (in_class url)
 url_digits = λ byte digit.
     let held = hex_held byte digit in
     url_ranges byte ∙ rw (held.0, held.1) refl
 
 -- their rows are those ranges
-pub url_rows : HoldClass URL_ROWS url
+pub url_rows : HoldClass URL_ROWS (in_class url)
 url_rows = λ byte small. agree_below_at (is_in_rows URL_ROWS) (in_class url) 256 byte refl small
 
 -- the same without `?`
@@ -86,19 +89,19 @@ abbrev is_path_byte : ℕ → Bool
 is_path_byte c = is_url_code_point c && not (c == question_mark)
 
 -- they hold what stands in a path
-pub path_ranges : HoldsPathBytes path
+pub path_ranges : HoldsPathBytes (in_class path)
 unfolding is_url_code_point
 path_ranges =
     agrees path is_path_byte refl (λ byte small. agree_below_at (in_class path) is_path_byte 128 byte refl small)
 
 -- and each hex digit
-pub path_digits : HasHexDigits path
+pub path_digits : HasHexDigits (in_class path)
 path_digits = λ byte digit.
     let held = hex_held byte digit in
     path_ranges byte ∙ rw (held.0, held.1, held.2) refl
 
 -- their rows are those ranges
-pub path_rows : HoldClass PATH_ROWS path
+pub path_rows : HoldClass PATH_ROWS (in_class path)
 path_rows = λ byte small. agree_below_at (is_in_rows PATH_ROWS) (in_class path) 256 byte refl small
 
 -- the ranges of the ASCII URL code points without the forbidden host code points
@@ -110,18 +113,24 @@ abbrev is_opaque_host_byte : ℕ → Bool
 is_opaque_host_byte c = is_url_code_point c && not (is_forbidden_host c)
 
 -- they hold what an opaque host may hold
-pub opaque_host_ranges : HoldsOpaqueHostBytes opaque_host
+pub opaque_host_ranges : HoldsOpaqueHostBytes (in_class opaque_host)
 unfolding is_url_code_point
 opaque_host_ranges =
     agrees opaque_host is_opaque_host_byte refl
     (λ byte small. agree_below_at (in_class opaque_host) is_opaque_host_byte 128 byte refl small)
 
 -- and each hex digit
-pub opaque_host_digits : HasHexDigits opaque_host
+pub opaque_host_digits : HasHexDigits (in_class opaque_host)
 opaque_host_digits = λ byte digit.
     let held = hex_held byte digit in
     opaque_host_ranges byte ∙ rw (held.0, held.1, held.3) refl
 
 -- their rows are those ranges
-pub opaque_host_rows : HoldClass OPAQUE_HOST_ROWS opaque_host
+pub opaque_host_rows : HoldClass OPAQUE_HOST_ROWS (in_class opaque_host)
 opaque_host_rows = λ byte small. agree_below_at (is_in_rows OPAQUE_HOST_ROWS) (in_class opaque_host) 256 byte refl small
+
+-- each class of units has the hex digits
+pub class_digits : (class : UnitClass) → HasHexDigits (class_has class)
+class_digits Url = λ byte digit. sym (url_ranges byte) ∙ url_digits byte digit
+class_digits Path = λ byte digit. sym (path_ranges byte) ∙ path_digits byte digit
+class_digits OpaqueHost = λ byte digit. sym (opaque_host_ranges byte) ∙ opaque_host_digits byte digit

@@ -14,7 +14,7 @@ use Rattle.uv_model.specs.Ascii.{percent_sign}
 use Rattle.uv_model.specs.Units.{IsUnits, is_unit_at, is_url_code_point}
 use Rattle.uv_model.proofs.Complaints.RefusalLemmas.{IsLeast-like}
 use Rattle.uv_model.proofs.Complaints.UnitComplaintLemmas.{UnitComplaint-earlier, UnitComplaint-here, UnitComplaint-later, UnitComplaint-nil, UnitComplaint-said, no_complaint-units, units_uncomplained}
-use Rattle.uv_text.specs.Class.{HoldsUrlBytes, in_class}
+use Rattle.uv_text.specs.Class.{HoldsUrlBytes}
 use Rattle.uv_text.specs.Faults.{fault_from}
 use Rattle.uv_text.specs.Splits.{begins_unit, unit_length}
 
@@ -109,13 +109,13 @@ or_false true = refl
 or_false false = refl
 
 -- a unit of the class is one of the grammar
-begins_url : (ranges : List (ℕ × ℕ)) → HoldsUrlBytes ranges → (c : ℕ) (rest : List ℕ)
-    → begins_unit ranges c rest ≡ is_unit_at c rest
+begins_url : (held : ℕ → Bool) → HoldsUrlBytes held → (c : ℕ) (rest : List ℕ)
+    → begins_unit held c rest ≡ is_unit_at c rest
 unfolding is_unit_at
-begins_url ranges holds c rest =
+begins_url held holds c rest =
     elim (cases_eq c percent_sign) [
       | inl same ↦
-          let none : in_class ranges percent_sign ≡ false = holds percent_sign ∙ no_percent_unit in
+          let none : held percent_sign ≡ false = holds percent_sign ∙ no_percent_unit in
           rw same (rw none refl)
       | inr other ↦
           let no_percent : (c == percent_sign) ≡ false = ne_eqb c percent_sign other in
@@ -134,18 +134,18 @@ begins_url ranges holds c rest =
         ]
 
 -- the first fault is the code point behind the units, at the place that counts them
-pub fault_behind : (ranges : List (ℕ × ℕ)) → HoldsUrlBytes ranges → (place : ℕ) (text : List ℕ)
-    → fault_from place text ≡ fault_at (place + unit_length ranges text) (drop (unit_length ranges text) text)
-fault_behind ranges holds place [] = refl
-fault_behind ranges holds place (c ∷ rest) =
+pub fault_behind : (held : ℕ → Bool) → HoldsUrlBytes held → (place : ℕ) (text : List ℕ)
+    → fault_from place text ≡ fault_at (place + unit_length held text) (drop (unit_length held text) text)
+fault_behind held holds place [] = refl
+fault_behind held holds place (c ∷ rest) =
     elim (cases_Bool (is_unit_at c rest)) [
       | inl unit ↦
-          let begins = begins_url ranges holds c rest ∙ unit in
-          let next : suc place + unit_length ranges rest ≡ place + suc (unit_length ranges rest) = omega arith in
-          let more = fault_behind ranges holds (suc place) rest in
-          let behind = drop (unit_length ranges rest) rest in
+          let begins = begins_url held holds c rest ∙ unit in
+          let next : suc place + unit_length held rest ≡ place + suc (unit_length held rest) = omega arith in
+          let more = fault_behind held holds (suc place) rest in
+          let behind = drop (unit_length held rest) rest in
           rw (unit, begins) (more ∙ ap (λ p. fault_at p behind) next)
       | inr fault ↦
-          let stops = begins_url ranges holds c rest ∙ fault in
+          let stops = begins_url held holds c rest ∙ fault in
           rw (fault, stops) (ap (λ p. Some (record { place = p; rule = unit_rule c })) (omega arith))
     ]

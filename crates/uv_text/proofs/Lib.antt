@@ -2,6 +2,6 @@ pub mod ClassLemmas
 pub mod EscapesLemmas
 pub mod FaultsLemmas
 pub mod LookupLemmas
-pub mod LackLemmas
+pub mod MaskLemmas
 pub mod RowsLemmas
 pub mod SplitsLemmas

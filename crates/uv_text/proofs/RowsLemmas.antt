@@ -154,16 +154,16 @@ module _ (ranges : List (ℕ × ℕ)) where
 
   -- rows of the bits of a class hold it
   pub rows_held : (rows : List ℕ) → list_any is_wide ranges ≡ false
-      → ((low : ℕ) → low < 16 → slice_index rows low ≡ row_holding ranges low) → HoldClass rows ranges
+      → ((low : ℕ) → low < 16 → slice_index rows low ≡ row_holding ranges low) → HoldClass rows (in_class ranges)
   rows_held rows narrow filled = λ b small.
       elim (cases_lt b 128) [
         | inl ascii ↦ held_ascii rows filled b ascii
         | inr beyond ↦ held_beyond rows narrow b beyond small
       ]
 
-  -- the front by rows that hold the class is that of the class
-  pub run_held : (rows bytes : List ℕ) → HoldClass rows ranges → ((k : ℕ) → Fits w8 (get_or bytes k 0))
-      → prefix_len (is_in_rows rows) bytes ≡ prefix_len (in_class ranges) bytes
-  run_held rows [] hold fits = refl
-  run_held rows (b ∷ bytes) hold fits =
-      rw (hold b (fits 0).fits, run_held rows bytes hold (λ k. fits (suc k))) refl
+-- the front by rows that hold a class is that of the class
+pub run_held : (held : ℕ → Bool) (rows bytes : List ℕ) → HoldClass rows held
+    → ((k : ℕ) → Fits w8 (get_or bytes k 0)) → prefix_len (is_in_rows rows) bytes ≡ prefix_len held bytes
+run_held held rows [] hold fits = refl
+run_held held rows (b ∷ bytes) hold fits =
+    rw (hold b (fits 0).fits, run_held held rows bytes hold (λ k. fits (suc k))) refl

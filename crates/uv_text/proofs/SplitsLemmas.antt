@@ -1,10 +1,10 @@
 -- Fronts of URL units: parts of them by runs, by escapes and by code points beyond ASCII, and the cut behind the whole.
-use Rattle.std.proofs.Common.{◌≡◌, ℕ, zero, suc, ◌+◌, ◌-◌, ◌<◌, ◌≤◌, ◌==◌, true, false, List, [], ◌∷◌, ◌++◌, length, take, drop, refl, sym, ap, ◌∙◌, subst, inl, inr, arith, lit<, ne_eqb}
+use Rattle.std.proofs.Common.{◌≡◌, ◌≢◌, ℕ, Bool, get_or, zero, suc, ◌+◌, ◌-◌, ◌<◌, ◌≤◌, ◌==◌, true, false, List, [], ◌∷◌, ◌++◌, length, take, drop, refl, sym, ap, ◌∙◌, subst, inl, inr, arith, lit<, ne_eqb}
 use Rattle.std.specs.Prelude.{nat_le, slice_range}
-use Rattle.std.specs.Char.{is_ascii_hexdigit}
+use Rattle.std.specs.Char.{is_ascii, is_ascii_hexdigit}
 use Rattle.std.specs.List.{prefix_len}
 use Rattle.std.specs.Str.{chars, IsUtf8, IsCharBoundary}
-use Rattle.std.proofs.Math.Seq.{take-append_seam}
+use Rattle.std.proofs.Math.Seq.{drop-append_seam, take-append_seam}
 use Rattle.std.proofs.Math.Utf8.{encodes}
 use Rattle.std.proofs.lemmas.Bool.{and_parts, cases_Bool, false≢true}
 use Rattle.std.proofs.lemmas.Bool.Decides.{nat_tests}
@@ -13,19 +13,21 @@ use Rattle.std.proofs.lemmas.Str.{chars-append, chars-IsAscii, chars-nil, chars_
 use Rattle.std.proofs.lemmas.Str.Ascii.{IsAscii-cons}
 use Rattle.uv_model.specs.Ascii.{percent_sign}
 use Rattle.uv_model.specs.Units.{is_url_code_point, starts_with_two_hex}
-use Rattle.uv_text.specs.Class.{in_class}
-use Rattle.uv_text.specs.Splits.{PassesMarks, PassesUnits, begins_mark, begins_unit, starts_in, starts_with_mark, unit_length}
+use Rattle.uv_text.specs.declared.units.UnitClass.{UnitClass}
+use Rattle.uv_text.specs.declared.units.UnitClass.TheVariants.{Url, Path, OpaqueHost}
+use Rattle.uv_text.specs.Tails.{EndsWith}
+use Rattle.uv_text.specs.Splits.{PassesMarks, PassesUnits, class_has, begins_mark, begins_unit, starts_in, starts_with_mark, unit_length}
 
 -- ---- parts of a front
 
-module _ (ranges : List (ℕ × ℕ)) where
+module _ (held : ℕ → Bool) where
   -- nothing is a part
-  pub passes_nothing : (text : List ℕ) → PassesUnits ranges text text
+  pub passes_nothing : (text : List ℕ) → PassesUnits held text text
   passes_nothing text = record { passed = 0; inside = omega arith; is_rest = refl; further = omega arith }
 
   -- a part and then another
-  pub passes_on : (text behind rest : List ℕ) → PassesUnits ranges text behind → PassesUnits ranges behind rest
-      → PassesUnits ranges text rest
+  pub passes_on : (text behind rest : List ℕ) → PassesUnits held text behind → PassesUnits held behind rest
+      → PassesUnits held text rest
   passes_on text behind rest a b =
       let left = ap length a.is_rest ∙ length-drop a.passed text in
       record {
@@ -36,8 +38,8 @@ module _ (ranges : List (ℕ × ℕ)) where
       }
 
   -- a code point more
-  passes_one : (c : ℕ) (text rest : List ℕ) → begins_unit ranges c text ≡ true → PassesUnits ranges text rest
-      → PassesUnits ranges (c ∷ text) rest
+  passes_one : (c : ℕ) (text rest : List ℕ) → begins_unit held c text ≡ true → PassesUnits held text rest
+      → PassesUnits held (c ∷ text) rest
   passes_one c text rest begins more = record {
     passed = suc more.passed;
     inside = omega (arith, more.inside);
@@ -46,38 +48,38 @@ module _ (ranges : List (ℕ × ℕ)) where
   }
 
   -- where no more of it comes, it ends
-  pub unit_length-stop : (rest : List ℕ) → starts_in ranges rest ≡ false → starts_with_mark rest ≡ false
-      → unit_length ranges rest ≡ 0
+  pub unit_length-stop : (rest : List ℕ) → starts_in held rest ≡ false → starts_with_mark rest ≡ false
+      → unit_length held rest ≡ 0
   unit_length-stop [] class mark = refl
   unit_length-stop (c ∷ rest) class mark = rw (class, mark) refl
 
   -- a part behind which no more comes is the whole front
-  pub passes_all : (text rest : List ℕ) → PassesUnits ranges text rest → starts_in ranges rest ≡ false
-      → starts_with_mark rest ≡ false → rest ≡ drop (unit_length ranges text) text
+  pub passes_all : (text rest : List ℕ) → PassesUnits held text rest → starts_in held rest ≡ false
+      → starts_with_mark rest ≡ false → rest ≡ drop (unit_length held text) text
   passes_all text rest part class mark =
       let none = unit_length-stop rest class mark in
-      let whole : part.passed ≡ unit_length ranges text = omega (arith, part.further, none) in
+      let whole : part.passed ≡ unit_length held text = omega (arith, part.further, none) in
       part.is_rest ∙ ap (λ n. drop n text) whole
 
   -- the front is a part of the text
-  pub unit_length-le : (text : List ℕ) → unit_length ranges text ≤ length text
+  pub unit_length-le : (text : List ℕ) → unit_length held text ≤ length text
   unit_length-le [] = omega arith
   unit_length-le (c ∷ rest) =
-      elim (cases_Bool (begins_unit ranges c rest)) [
+      elim (cases_Bool (begins_unit held c rest)) [
         | inl begins ↦ rw begins (omega (arith, unit_length-le rest))
         | inr stops ↦ rw stops (omega arith)
       ]
 
   -- what begins a unit by itself does so with any class
-  mark_begins : (c : ℕ) (rest : List ℕ) → begins_mark c rest ≡ true → begins_unit ranges c rest ≡ true
+  mark_begins : (c : ℕ) (rest : List ℕ) → begins_mark c rest ≡ true → begins_unit held c rest ≡ true
   mark_begins c rest mark =
-      elim (cases_Bool (in_class ranges c)) [
+      elim (cases_Bool (held c)) [
         | inl here ↦ rw here refl
         | inr other ↦ rw (other, mark) refl
       ]
 
   -- a code point of the class is in the front
-  class_begins : (c : ℕ) (rest : List ℕ) → in_class ranges c ≡ true → begins_unit ranges c rest ≡ true
+  class_begins : (c : ℕ) (rest : List ℕ) → held c ≡ true → begins_unit held c rest ≡ true
   class_begins c rest here = rw here refl
 
 -- ---- a run of bytes of the class
@@ -88,58 +90,67 @@ chars-ascii_first c ys small =
     let one = IsAscii-cons c [] small (λ i. lit< tt) in
     chars-append (c ∷ []) ys (IsUtf8-from_ascii (c ∷ []) one) ∙ ap (λ s. s ++ chars ys) (chars-IsAscii (c ∷ []) one)
 
+-- a text whose first byte is ASCII and no `%` begins with no mark
+pub no_mark : (bytes : List ℕ) → 1 ≤ length bytes → get_or bytes 0 0 < 128 → get_or bytes 0 0 ≢ percent_sign
+    → starts_with_mark (chars bytes) ≡ false
+no_mark [] some small other = absurd (omega (arith, some))
+no_mark (b ∷ bytes) some small other =
+    let no_percent : (b == percent_sign) ≡ false = ne_eqb b percent_sign other in
+    let below : nat_le 128 b ≡ false = grind (arith, nat_tests, small) in
+    rw (chars-ascii_first b bytes small, no_percent, below) refl
+
 -- behind so many bytes of the class the text goes on with none
-pub record PassesRun (ranges : List (ℕ × ℕ)) (bytes : List ℕ) (run : ℕ) : Type 0 where
+pub record PassesRun (held : ℕ → Bool) (bytes : List ℕ) (run : ℕ) : Type 0 where
   pub inside : run ≤ length bytes
   pub utf8 : IsUtf8 (drop run bytes)
-  pub passes : PassesUnits ranges (chars bytes) (chars (drop run bytes))
-  pub stops : starts_in ranges (chars (drop run bytes)) ≡ false
+  pub passes : PassesUnits held (chars bytes) (chars (drop run bytes))
+  pub stops : starts_in held (chars (drop run bytes)) ≡ false
 
-module _ (ranges : List (ℕ × ℕ)) (ascii : (byte : ℕ) → in_class ranges byte ≡ true → byte < 128) where
+module _ (held : ℕ → Bool) (ascii : (byte : ℕ) → held byte ≡ true → byte < 128) where
   -- a text whose first byte isn't in the class begins with no code point of it
-  starts_in-chars : (bytes : List ℕ) → IsUtf8 bytes → prefix_len (in_class ranges) bytes ≡ 0
-      → starts_in ranges (chars bytes) ≡ false
+  starts_in-chars : (bytes : List ℕ) → IsUtf8 bytes → prefix_len held bytes ≡ 0
+      → starts_in held (chars bytes) ≡ false
   starts_in-chars [] u none = rw chars-nil refl
   starts_in-chars (b ∷ bytes) u none =
-      elim (cases_Bool (starts_in ranges (chars (b ∷ bytes)))) [
+      elim (cases_Bool (starts_in held (chars (b ∷ bytes)))) [
         | inl here ↦ absurd (no_first (chars (b ∷ bytes)) (encodes-chars (b ∷ bytes) u) here)
         | inr other ↦ other
       ]
     where
-      no_first : (text : List ℕ) → encodes text ≡ b ∷ bytes → starts_in ranges text ≡ true → ⊥
+      no_first : (text : List ℕ) → encodes text ≡ b ∷ bytes → starts_in held text ≡ true → ⊥
       no_first [] spelled here = false≢true here
       no_first (c ∷ rest) spelled here =
           let small = ascii c here in
           let first : encodes (c ∷ rest) ≡ c ∷ encodes rest = ap (λ s. s ++ encodes rest) (encode_ascii c small) in
           let same : c ≡ b = cc (first, spelled) in
-          let one : prefix_len (in_class ranges) (b ∷ bytes) ≡ 1 + prefix_len (in_class ranges) bytes =
+          let one : prefix_len held (b ∷ bytes) ≡ 1 + prefix_len held bytes =
           rw (← same, here) refl in
           omega (arith, one, none)
 
   -- the longest front of the class passes as units
-  pub run_passes : (bytes : List ℕ) (run : ℕ) → IsUtf8 bytes → run ≡ prefix_len (in_class ranges) bytes
-      → PassesRun ranges bytes run
+  pub run_passes : (bytes : List ℕ) (run : ℕ) → IsUtf8 bytes → run ≡ prefix_len held bytes
+      → PassesRun held bytes run
   run_passes bytes zero u is = record {
     inside = omega arith;
     utf8 = u;
-    passes = passes_nothing ranges (chars bytes);
+    passes = passes_nothing held (chars bytes);
     stops = starts_in-chars bytes u (sym is);
   }
   run_passes [] (suc run) u is = absurd (omega (arith, is))
   run_passes (b ∷ bytes) (suc run) u is =
-      elim (cases_Bool (in_class ranges b)) [
+      elim (cases_Bool (held b)) [
         | inl here ↦
             let small = ascii b here in
             let tail : IsUtf8 bytes = IsUtf8-drop (b ∷ bytes) 1 u
             (IsCharBoundary-after_ascii (b ∷ bytes) 0 u (omega arith) small) in
-            let less : suc run ≡ 1 + prefix_len (in_class ranges) bytes = rw here at is in
+            let less : suc run ≡ 1 + prefix_len held bytes = rw here at is in
             let more = run_passes bytes run tail (omega (arith, less)) in
             record {
               inside = omega (arith, more.inside);
               utf8 = more.utf8;
               passes = rw (chars-ascii_first b bytes small)
-                  (passes_one ranges b (chars bytes) (chars (drop run bytes))
-                  (class_begins ranges b (chars bytes) here) more.passes);
+                  (passes_one held b (chars bytes) (chars (drop run bytes))
+                  (class_begins held b (chars bytes) here) more.passes);
               stops = more.stops;
             }
         | inr other ↦
@@ -177,22 +188,22 @@ escape_passes bytes (high ∷ low ∷ rest) u first hex =
     record {
       inside = omega arith;
       utf8 = two;
-      passes = λ ranges digits. rw text
-          (passes_one ranges percent_sign (high ∷ low ∷ chars rest) (chars rest)
-          (mark_begins ranges percent_sign (high ∷ low ∷ chars rest) hex)
-          (passes_one ranges high (low ∷ chars rest) (chars rest)
-          (class_begins ranges high (low ∷ chars rest) (digits high both.0))
-          (passes_one ranges low (chars rest) (chars rest) (class_begins ranges low (chars rest) (digits low both.1))
-          (passes_nothing ranges (chars rest)))));
+      passes = λ held digits. rw text
+          (passes_one held percent_sign (high ∷ low ∷ chars rest) (chars rest)
+          (mark_begins held percent_sign (high ∷ low ∷ chars rest) hex)
+          (passes_one held high (low ∷ chars rest) (chars rest)
+          (class_begins held high (low ∷ chars rest) (digits high both.0))
+          (passes_one held low (chars rest) (chars rest) (class_begins held low (chars rest) (digits low both.1))
+          (passes_nothing held (chars rest)))));
       shorter = rw text (omega arith);
     }
 
 -- a code point beyond ASCII
 pub beyond_passes : (text rest : List ℕ) (c : ℕ) → text ≡ c ∷ rest → 128 ≤ c → is_url_code_point c ≡ true
     → PassesMarks text rest
-beyond_passes text rest c first high is = λ ranges digits.
-    rw first (passes_one ranges c rest rest (mark_begins ranges c rest (mark c rest high is))
-    (passes_nothing ranges rest))
+beyond_passes text rest c first high is = λ held digits.
+    rw first (passes_one held c rest rest (mark_begins held c rest (mark c rest high is))
+    (passes_nothing held rest))
   where
     mark : (c : ℕ) (rest : List ℕ) → 128 ≤ c → is_url_code_point c ≡ true → begins_mark c rest ≡ true
     mark c rest high is =
@@ -211,6 +222,7 @@ pub record IsByteSplit (bytes rest : List ℕ) (n : ℕ) : Type 0 where
   pub inside : length rest ≤ length bytes
   pub boundary : IsCharBoundary bytes (length bytes - length rest)
   pub front : chars (take (length bytes - length rest) bytes) ≡ take n (chars bytes)
+  pub ends : EndsWith bytes rest
 
 -- code points left over are bytes left over
 pub split_bytes : (bytes rest : List ℕ) (n : ℕ) → IsUtf8 bytes → IsUtf8 rest → chars rest ≡ drop n (chars bytes)
@@ -234,4 +246,16 @@ split_bytes bytes rest n u v is =
       front =
           ap (λ k. chars (take k bytes)) end ∙ ap chars cut
           ∙ sym (chars_from_encodes (take n (chars bytes)) front text refl);
+      ends = record {
+        shorter = omega (arith, long);
+        is_rest = ap (λ k. drop k bytes) end ∙ ap (drop (length front)) spelled ∙ drop-append_seam front rest;
+      };
     }
+
+-- ---- classes of units
+
+-- a class of units has ASCII code points alone
+pub class_ascii : (class : UnitClass) (c : ℕ) → class_has class c ≡ true → c < 128
+class_ascii Url c here = grind (arith, nat_tests, (and_parts (is_ascii c) _ here).0)
+class_ascii Path c here = grind (arith, nat_tests, (and_parts (is_ascii c) _ here).0)
+class_ascii OpaqueHost c here = grind (arith, nat_tests, (and_parts (is_ascii c) _ here).0)

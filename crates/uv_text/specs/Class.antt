@@ -23,19 +23,19 @@ abbrev pub is_refused : List (ℕ × ℕ) → Bool
 is_refused ranges = nat_lt 12 (length ranges) || list_any is_wide ranges
 
 -- the class holds exactly the ASCII URL code points
-abbrev pub HoldsUrlBytes : List (ℕ × ℕ) → Type 0
-HoldsUrlBytes ranges = (byte : ℕ) → in_class ranges byte ≡ (is_ascii byte && is_url_code_point byte)
+abbrev pub HoldsUrlBytes : (ℕ → Bool) → Type 0
+HoldsUrlBytes held = (byte : ℕ) → held byte ≡ (is_ascii byte && is_url_code_point byte)
 
 -- the class holds exactly the ASCII URL code points but `?`
-abbrev pub HoldsPathBytes : List (ℕ × ℕ) → Type 0
-HoldsPathBytes ranges =
-    (byte : ℕ) → in_class ranges byte ≡ (is_ascii byte && (is_url_code_point byte && not (byte == question_mark)))
+abbrev pub HoldsPathBytes : (ℕ → Bool) → Type 0
+HoldsPathBytes held =
+    (byte : ℕ) → held byte ≡ (is_ascii byte && (is_url_code_point byte && not (byte == question_mark)))
 
 -- the class holds exactly the ASCII URL code points that aren't forbidden host code points
-abbrev pub HoldsOpaqueHostBytes : List (ℕ × ℕ) → Type 0
-HoldsOpaqueHostBytes ranges =
-    (byte : ℕ) → in_class ranges byte ≡ (is_ascii byte && (is_url_code_point byte && not (is_forbidden_host byte)))
+abbrev pub HoldsOpaqueHostBytes : (ℕ → Bool) → Type 0
+HoldsOpaqueHostBytes held =
+    (byte : ℕ) → held byte ≡ (is_ascii byte && (is_url_code_point byte && not (is_forbidden_host byte)))
 
 -- the class has the hex digits, so that those behind a `%` of a percent-encoded byte are in it
-abbrev pub HasHexDigits : List (ℕ × ℕ) → Type 0
-HasHexDigits ranges = (byte : ℕ) → is_ascii_hexdigit byte ≡ true → in_class ranges byte ≡ true
+abbrev pub HasHexDigits : (ℕ → Bool) → Type 0
+HasHexDigits held = (byte : ℕ) → is_ascii_hexdigit byte ≡ true → held byte ≡ true

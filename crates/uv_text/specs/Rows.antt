@@ -36,9 +36,9 @@ row_holding ranges low =
     (in_class ranges (0x30 + low)) (in_class ranges (0x40 + low)) (in_class ranges (0x50 + low))
     (in_class ranges (0x60 + low)) (in_class ranges (0x70 + low))
 
--- the rows hold exactly the bytes of the class
-abbrev pub HoldClass : List ℕ → List (ℕ × ℕ) → Type 0
-HoldClass rows ranges = (b : ℕ) → b < 256 → is_in_rows rows b ≡ in_class ranges b
+-- the rows hold exactly the bytes of a class
+abbrev pub HoldClass : List ℕ → (ℕ → Bool) → Type 0
+HoldClass rows held = (b : ℕ) → b < 256 → is_in_rows rows b ≡ held b
 
 -- a load of a table of sixteen, which stands in it twice
 pub record StandsTwice (table lanes : List ℕ) : Type 0 where

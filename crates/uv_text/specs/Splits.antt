@@ -1,8 +1,18 @@
 -- The front of a text that is URL units whose ASCII code points are of a class, after the URL Standard, section 4.3.
-use Rattle.std.specs.Prelude.{◌≡◌, ℕ, suc, ◌+◌, ◌≤◌, Bool, false, ◌&&◌, ◌||◌, List, [], ◌∷◌, ◌==◌, nat_le, length, take, drop, if◌then◌else◌}
-use Rattle.uv_model.specs.Ascii.{percent_sign}
+use Rattle.std.specs.Prelude.{◌≡◌, ℕ, suc, ◌+◌, ◌≤◌, Bool, false, not, ◌&&◌, ◌||◌, List, [], ◌∷◌, ◌==◌, nat_le, length, take, drop, if◌then◌else◌}
+use Rattle.std.specs.Char.{is_ascii}
+use Rattle.uv_model.specs.Ascii.{percent_sign, question_mark}
+use Rattle.uv_model.specs.Hosts.OpaqueHost.{is_forbidden_host}
 use Rattle.uv_model.specs.Units.{is_url_code_point, starts_with_two_hex}
-use Rattle.uv_text.specs.Class.{HasHexDigits, in_class}
+use Rattle.uv_text.specs.Class.{HasHexDigits}
+use Rattle.uv_text.specs.declared.units.UnitClass.{UnitClass}
+use Rattle.uv_text.specs.declared.units.UnitClass.TheVariants.{Url, Path, OpaqueHost}
+
+-- the ASCII code points of a class of units
+abbrev pub class_has : UnitClass → ℕ → Bool
+class_has Url c = is_ascii c && is_url_code_point c
+class_has Path c = is_ascii c && (is_url_code_point c && not (c == question_mark))
+class_has OpaqueHost c = is_ascii c && (is_url_code_point c && not (is_forbidden_host c))
 
 -- a unit that needs no class begins: `%` before two hex digits, or a URL code point beyond ASCII
 abbrev pub begins_mark : ℕ → List ℕ → Bool
@@ -14,31 +24,31 @@ starts_with_mark [] = false
 starts_with_mark (c ∷ rest) = begins_mark c rest
 
 -- the code point with what follows it begins a unit, or is a code point of the class
-abbrev pub begins_unit : List (ℕ × ℕ) → ℕ → List ℕ → Bool
-begins_unit ranges c rest = in_class ranges c || begins_mark c rest
+abbrev pub begins_unit : (ℕ → Bool) → ℕ → List ℕ → Bool
+begins_unit held c rest = held c || begins_mark c rest
 
 -- how many code points the longest front has in which each begins a unit or is of the class
-abbrev pub unit_length : List (ℕ × ℕ) → List ℕ → ℕ
-unit_length ranges [] = 0
-unit_length ranges (c ∷ rest) = if begins_unit ranges c rest then suc (unit_length ranges rest) else 0
+abbrev pub unit_length : (ℕ → Bool) → List ℕ → ℕ
+unit_length held [] = 0
+unit_length held (c ∷ rest) = if begins_unit held c rest then suc (unit_length held rest) else 0
 
 -- the text is cut behind that front
-pub record IsUnitSplit (ranges : List (ℕ × ℕ)) (text front rest : List ℕ) : Type 0 where
-  pub is_front : front ≡ take (unit_length ranges text) text
-  pub is_rest : rest ≡ drop (unit_length ranges text) text
+pub record IsUnitSplit (held : ℕ → Bool) (text front rest : List ℕ) : Type 0 where
+  pub is_front : front ≡ take (unit_length held text) text
+  pub is_rest : rest ≡ drop (unit_length held text) text
 
 -- the rest stands behind a part of that front
-pub record PassesUnits (ranges : List (ℕ × ℕ)) (text rest : List ℕ) : Type 0 where
+pub record PassesUnits (held : ℕ → Bool) (text rest : List ℕ) : Type 0 where
   pub passed : ℕ
   pub inside : passed ≤ length text
   pub is_rest : rest ≡ drop passed text
-  pub further : unit_length ranges text ≡ passed + unit_length ranges rest
+  pub further : unit_length held text ≡ passed + unit_length held rest
 
 -- whatever the class, the rest stands behind units that need none
 abbrev pub PassesMarks : List ℕ → List ℕ → Type 0
-PassesMarks text rest = (ranges : List (ℕ × ℕ)) → HasHexDigits ranges → PassesUnits ranges text rest
+PassesMarks text rest = (held : ℕ → Bool) → HasHexDigits held → PassesUnits held text rest
 
 -- the text begins with a code point of the class
-abbrev pub starts_in : List (ℕ × ℕ) → List ℕ → Bool
-starts_in ranges [] = false
-starts_in ranges (c ∷ rest) = in_class ranges c
+abbrev pub starts_in : (ℕ → Bool) → List ℕ → Bool
+starts_in held [] = false
+starts_in held (c ∷ rest) = held c

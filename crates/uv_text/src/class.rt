@@ -4,7 +4,7 @@ ghost use Rattle.std.specs.Prelude.{◌≡◌, ◌+◌, ◌<◌, ◌≤◌, ℕ,
 ghost use Rattle.uv_text.specs.Class.{HasHexDigits, HoldsOpaqueHostBytes, HoldsPathBytes, HoldsUrlBytes, in_class, is_refused, is_wide, within};
 ghost use Rattle.uv_text.specs.Rows.{HoldClass, row_holding};
 
-use crate::lanes::row_run;
+use crate::lanes::row_end;
 use std::marker::Model;
 
 /// A set of ASCII bytes: those within one of at most 12 ranges. Contracts see the ranges.
@@ -19,7 +19,7 @@ pub struct ByteClass {
 impl Model for ByteClass {
     ghost use Rattle.std.specs.Prelude.{◌≡◌, ◌≤◌, ℕ, List, take, false};
     ghost use Rattle.std.specs.List.{list_any};
-    ghost use Rattle.uv_text.specs.Class.{is_wide};
+    ghost use Rattle.uv_text.specs.Class.{in_class, is_wide};
     ghost use Rattle.uv_text.specs.Rows.{HoldClass};
 
     ghost Value = { List (ℕ × ℕ) };
@@ -27,7 +27,7 @@ impl Model for ByteClass {
     ghost view = { λ c. take c.count c.kept };
 
     ghost invariant = { λ c. (c.count ≤ 12) × (list_any is_wide (take c.count c.kept) ≡ false)
-        × HoldClass c.rows (take c.count c.kept) };
+        × HoldClass c.rows (in_class (take c.count c.kept)) };
 }
 
 // The ASCII URL code points.
@@ -46,7 +46,7 @@ const URL_RANGES: [(u8, u8); 12] = [
     (0, 0),
 ];
 
-const URL_ROWS: [u8; 16] = [
+pub(crate) const URL_ROWS: [u8; 16] = [
     184, 252, 248, 248, 252, 248, 252, 252, 252, 252, 252, 92, 84, 92, 212, 124,
 ];
 
@@ -66,7 +66,7 @@ const PATH_RANGES: [(u8, u8); 12] = [
     (0, 0),
 ];
 
-const PATH_ROWS: [u8; 16] = [
+pub(crate) const PATH_ROWS: [u8; 16] = [
     184, 252, 248, 248, 252, 248, 252, 252, 252, 252, 252, 92, 84, 92, 212, 116,
 ];
 
@@ -86,7 +86,7 @@ const OPAQUE_HOST_RANGES: [(u8, u8); 12] = [
     (0, 0),
 ];
 
-const OPAQUE_HOST_ROWS: [u8; 16] = [
+pub(crate) const OPAQUE_HOST_ROWS: [u8; 16] = [
     168, 252, 248, 248, 252, 248, 252, 252, 252, 252, 244, 92, 84, 92, 212, 112,
 ];
 
@@ -105,8 +105,8 @@ impl ByteClass {
 
     /// The ASCII URL code points (URL Standard, section 4.3), of which paths, queries and fragments consist.
     pub fn url() -> ByteClass
-        ensures bytes { HoldsUrlBytes result }
-        ensures digits { HasHexDigits result }
+        ensures bytes { HoldsUrlBytes (in_class result) }
+        ensures digits { HasHexDigits (in_class result) }
     {
         ByteClass {
             kept: URL_RANGES,
@@ -117,8 +117,8 @@ impl ByteClass {
 
     /// The ASCII URL code points but `?` (URL Standard, section 4.3), of which a path consists that a query may follow.
     pub fn path() -> ByteClass
-        ensures bytes { HoldsPathBytes result }
-        ensures digits { HasHexDigits result }
+        ensures bytes { HoldsPathBytes (in_class result) }
+        ensures digits { HasHexDigits (in_class result) }
     {
         ByteClass {
             kept: PATH_RANGES,
@@ -129,8 +129,8 @@ impl ByteClass {
 
     /// The ASCII URL code points that an opaque host may hold (URL Standard, sections 3.2 and 3.4).
     pub fn opaque_host() -> ByteClass
-        ensures bytes { HoldsOpaqueHostBytes result }
-        ensures digits { HasHexDigits result }
+        ensures bytes { HoldsOpaqueHostBytes (in_class result) }
+        ensures digits { HasHexDigits (in_class result) }
     {
         ByteClass {
             kept: OPAQUE_HOST_RANGES,
@@ -187,7 +187,7 @@ fn is_within(range: (u8, u8), byte: u8) -> bool
 // The rows of a class, by which a byte is found by its two halves.
 fn rows_holding(ranges: &[(u8, u8)]) -> [u8; 16]
     requires { list_any is_wide ranges.now ≡ false }
-    ensures { HoldClass result ranges.now }
+    ensures { HoldClass result (in_class ranges.now) }
 {
     let mut rows = [0; 16];
     for low in 0..16u8 {
@@ -224,7 +224,7 @@ pub fn unit_run(bytes: &[u8], class: &ByteClass) -> usize
     ensures run { result ≡ prefix_len (in_class class.now) bytes.now }
     ensures ascii { (byte : ℕ) → in_class class.now byte ≡ true → byte < 128 }
 {
-    row_run(bytes, &class.rows)
+    row_end(bytes, 0, &class.rows)
 }
 
 #[cfg(test)]

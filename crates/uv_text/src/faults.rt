@@ -6,8 +6,8 @@ ghost use Rattle.uv_model.specs.Complaints.UnitComplaint as spec;
 ghost use Rattle.uv_model.specs.Complaints.UnitComplaint.{UnitComplaint};
 ghost use Rattle.uv_model.specs.Units.{IsUnits};
 
-use crate::class::ByteClass;
 use crate::splits::{count_code_points, split_units};
+use crate::units::UnitClass;
 use uv_model::{Refusal, Rule, first_code_point};
 
 /// The first code point that is no URL code point and begins no percent-encoded byte (URL Standard, section 4.3), with
@@ -18,8 +18,7 @@ pub fn first_fault(text: &str) -> Option<Refusal>
     ensures within { StandsWithin (chars text.now) result }
     ensures none { IsNone result ↔ IsUnits (chars text.now) }
 {
-    let class = ByteClass::url();
-    let (front, rest) = split_units(text, &class);
+    let (front, rest) = split_units(text, UnitClass::Url);
     match first_code_point(rest) {
         Some((c, _)) => Some(Refusal {
             place: count_code_points(front),

@@ -1,7 +1,7 @@
-//! Fronts of bytes by lanes, 32 bytes a turn: the longest whose bytes are all in a class, and searches that find none.
-ghost use Rattle.std.specs.Prelude.{◌≡◌, ◌<◌, ◌≤◌, IsTrue, chars, length, map, true};
+//! Fronts of bytes by lanes, 32 bytes a turn: the longest whose bytes are all in a class.
+ghost use Rattle.std.specs.Prelude.{◌≡◌, ◌+◌, ◌≤◌, drop, length, map, take};
+ghost use Rattle.std.specs.Simd.Lanes.{mask_l};
 ghost use Rattle.std.specs.List.{prefix_len};
-ghost use Rattle.uv_model.specs.Path.{is_without};
 ghost use Rattle.uv_text.specs.Rows.{StandsTwice, high_bit, is_in_rows, row_at};
 
 use std::simd::prelude::*;
@@ -39,88 +39,61 @@ fn bits_of(v: u8x32) -> u8x32
     twice(&HIGH_BITS).swizzle_dyn_within::<16>(v >> u8x32::splat(4))
 }
 
-// How many lanes, from the first, are in the rows.
+// At each lane a bit, the first the lowest, which is set where the byte is in the rows.
 #[inline(always)]
-fn lane_run(v: u8x32, rows: &[u8; 16]) -> usize
-    ensures { result ≡ prefix_len (is_in_rows rows.now) v }
+fn lane_bits(v: u8x32, rows: &[u8; 16]) -> u64
+    ensures { result ≡ mask_l (map (is_in_rows rows.now) v) }
 {
-    let outside = (rows_of(rows, v) & bits_of(v))
-        .simd_eq(u8x32::splat(0))
-        .to_bitmask();
-    if outside == 0 {
-        32
-    } else {
-        outside.trailing_zeros() as usize
-    }
+    (rows_of(rows, v) & bits_of(v))
+        .simd_ne(u8x32::splat(0))
+        .to_bitmask()
 }
 
-// The same of at most 32 bytes, by one load that is filled up.
-#[inline(always)]
-fn rest_run(rest: &[u8], rows: &[u8; 16]) -> usize
-    requires { length rest.now ≤ 32 }
-    ensures { result ≡ prefix_len (is_in_rows rows.now) rest.now }
+// The same of at most 32 bytes, by a load that is filled up.
+fn short_bits(bytes: &[u8], rows: &[u8; 16]) -> u64
+    requires { length bytes.now ≤ 32 }
+    ensures { result ≡ mask_l (map (is_in_rows rows.now) bytes.now) }
 {
     let mut block = [BEYOND_ASCII; 32];
-    block[..rest.len()].copy_from_slice(rest);
-    lane_run(u8x32::from_array(block), rows)
+    block[..bytes.len()].copy_from_slice(bytes);
+    lane_bits(u8x32::from_array(block), rows)
 }
 
-/// The length of the longest front whose bytes are all in the rows.
+/// At each of the 32 bytes from a place on a bit, the first the lowest, which is set where the byte is in the rows;
+/// behind the last byte there is none. Where fewer than 32 bytes are left, the load begins before the place, since what is
+/// copied into a block and loaded at once has to be waited for.
 #[inline(always)]
-pub(crate) fn row_run(bytes: &[u8], rows: &[u8; 16]) -> usize
-    ensures { result ≡ prefix_len (is_in_rows rows.now) bytes.now }
-{
-    let mut run = 0;
-    while bytes.len() - run > 32 {
-        let ahead = lane_run(u8x32::from_slice(&bytes[run..]), rows);
-        run += ahead;
-        if ahead < 32 {
-            return run;
-        }
-    }
-    run + rest_run(&bytes[run..], rows)
-}
-
-/// Whether the search for a byte finds none; where it finds one, that says nothing.
-pub fn lacks_byte(bytes: &[u8], mark: u8) -> bool
-    ensures { IsTrue result → is_without mark bytes.now ≡ true }
+pub(crate) fn row_bits(bytes: &[u8], place: usize, rows: &[u8; 16]) -> u64
+    requires { place ≤ length bytes.now }
+    ensures { result ≡ mask_l (map (is_in_rows rows.now) (take 32 (drop place bytes.now))) }
 {
     if bytes.len() < 32 {
-        return rest_lacks(bytes, mark);
+        return short_bits(&bytes[place..], rows);
     }
-    let mut at = 0;
-    while bytes.len() - at > 32 {
-        if !lane_lacks(u8x32::from_slice(&bytes[at..]), mark) {
-            return false;
-        }
-        at += 32;
+    let start = place.min(bytes.len() - 32);
+    lane_bits(u8x32::from_slice(&bytes[start..]), rows) >> (place - start)
+}
+
+// How many of the 32 bytes from a place on are in the rows before one that isn't.
+#[inline(always)]
+fn row_front(bytes: &[u8], place: usize, rows: &[u8; 16]) -> usize
+    requires { place ≤ length bytes.now }
+    ensures { result ≡ prefix_len (is_in_rows rows.now) (take 32 (drop place bytes.now)) }
+{
+    row_bits(bytes, place, rows).trailing_ones() as usize
+}
+
+/// The place behind the longest run of bytes in the rows that begins at a place.
+#[inline(always)]
+pub(crate) fn row_end(bytes: &[u8], place: usize, rows: &[u8; 16]) -> usize
+    requires { place ≤ length bytes.now }
+    ensures { result ≡ place + prefix_len (is_in_rows rows.now) (drop place bytes.now) }
+{
+    let mut end = place;
+    let mut ahead = row_front(bytes, end, rows);
+    while ahead == 32 {
+        end += ahead;
+        ahead = row_front(bytes, end, rows);
     }
-    lane_lacks(u8x32::from_slice(&bytes[bytes.len() - 32..]), mark)
-}
-
-// The same of one load.
-#[inline(always)]
-fn lane_lacks(v: u8x32, mark: u8) -> bool
-    ensures { IsTrue result → is_without mark v ≡ true }
-{
-    v.simd_eq(u8x32::splat(mark)).to_bitmask() == 0
-}
-
-// The same of at most 32 bytes.
-#[inline(always)]
-fn rest_lacks(rest: &[u8], mark: u8) -> bool
-    requires { length rest.now ≤ 32 }
-    ensures { IsTrue result → is_without mark rest.now ≡ true }
-{
-    let mut block = [0; 32];
-    block[..rest.len()].copy_from_slice(rest);
-    lane_lacks(u8x32::from_array(block), mark)
-}
-
-/// Whether the search for an ASCII code point finds none; where it finds one, that says nothing.
-pub fn lacks_mark(text: &str, mark: u8) -> bool
-    requires { mark < 128 }
-    ensures { IsTrue result → is_without mark (chars text.now) ≡ true }
-{
-    lacks_byte(text.as_bytes(), mark)
+    end + ahead
 }

@@ -6,9 +6,12 @@ mod escapes;
 mod faults;
 mod lanes;
 mod splits;
+mod tail;
+mod units;
 
 pub use class::{ByteClass, unit_run};
 pub use escapes::encode;
 pub use faults::first_fault;
-pub use lanes::{lacks_byte, lacks_mark};
-pub use splits::{count_code_points, split_units};
+pub use splits::{count_code_points, split_tail, split_units};
+pub use tail::Tail;
+pub use units::UnitClass;

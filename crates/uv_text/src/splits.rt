@@ -1,42 +1,76 @@
 //! A text cut behind its longest front of URL units, by lanes where it is ASCII.
-ghost use Rattle.std.specs.Prelude.{◌≡◌, ◌<◌, IfSome, MatchOption, false, drop, length};
+ghost use Rattle.std.specs.Prelude.{◌≡◌, ◌<◌, IfSome, MatchOption, drop, false, length};
 ghost use Rattle.std.specs.Str.{chars};
 ghost use Rattle.uv_model.specs.Units as units;
-ghost use Rattle.uv_text.specs.Class.{HasHexDigits};
-ghost use Rattle.uv_text.specs.Splits.{IsUnitSplit, PassesMarks, PassesUnits, starts_in, starts_with_mark, unit_length};
+ghost use Rattle.uv_text.specs.Splits.{IsUnitSplit, PassesMarks, PassesUnits, class_has, starts_in, starts_with_mark, unit_length};
 
-use crate::class::{ByteClass, unit_run};
+use crate::tail::Tail;
+use crate::units::UnitClass;
 use uv_model::{first_code_point, is_url_code_point};
 
 /// The longest front in which each code point is of the class, begins a percent-encoded byte or is a URL code point
-/// beyond ASCII (URL Standard, section 4.3), and what follows it. The class has the hex digits.
-pub fn split_units<'t>(text: &'t str, class: &ByteClass) -> (&'t str, &'t str)
-    requires { HasHexDigits class.now }
-    ensures { IsUnitSplit class.now (chars text.now) (chars result.0.now) (chars result.1.now) }
+/// beyond ASCII (URL Standard, section 4.3), and what follows it.
+pub fn split_units<'t>(text: &'t str, class: UnitClass) -> (&'t str, &'t str)
+    ensures { IsUnitSplit (class_has class) (chars text.now) (chars result.0.now) (chars result.1.now) }
 {
-    let rest = behind_units(text, class);
-    (&text[..text.len() - rest.len()], rest)
+    let (front, rest) = split_tail(&Tail::of(text), class);
+    (front, rest.as_str())
 }
 
-// What follows the front.
-fn behind_units<'t>(text: &'t str, class: &ByteClass) -> &'t str
-    requires { HasHexDigits class.now }
-    ensures { chars result.now ≡ drop (unit_length class.now (chars text.now)) (chars text.now) }
+/// The same of a tail.
+#[inline(always)]
+pub fn split_tail<'t>(text: &Tail<'t>, class: UnitClass) -> (&'t str, Tail<'t>)
+    ensures { IsUnitSplit (class_has class) (chars text.now) (chars result.0.now) (chars result.1) }
 {
-    let mut rest = behind_run(text, class);
-    while let Some(behind) = behind_marks(rest) {
-        rest = behind_run(behind, class);
+    let rest = behind_units(text, class);
+    let whole = text.as_str();
+    (&whole[..whole.len() - rest.as_str().len()], rest)
+}
+
+// What follows the front. Most texts have no escape and no code point beyond ASCII.
+#[inline(always)]
+fn behind_units<'t>(text: &Tail<'t>, class: UnitClass) -> Tail<'t>
+    ensures { chars result ≡ drop (unit_length (class_has class) (chars text.now)) (chars text.now) }
+{
+    let rest = behind_run(text, class);
+    if may_begin_mark(rest.as_str().as_bytes()) {
+        behind_rest(rest, class)
+    } else {
+        rest
+    }
+}
+
+// Whether the first byte is `%` or beyond ASCII.
+#[inline(always)]
+fn may_begin_mark(bytes: &[u8]) -> bool
+    ensures { result ≡ false → starts_with_mark (chars bytes.now) ≡ false }
+{
+    match bytes {
+        [first, ..] => *first == b'%' || !first.is_ascii(),
+        [] => false,
+    }
+}
+
+// What follows the front of a text that begins with no byte of the class.
+fn behind_rest<'t>(text: Tail<'t>, class: UnitClass) -> Tail<'t>
+    requires { starts_in (class_has class) (chars text) ≡ false }
+    ensures { chars result ≡ drop (unit_length (class_has class) (chars text.entry)) (chars text.entry) }
+{
+    let mut rest = text;
+    while let Some(behind) = behind_marks(rest.as_str()) {
+        rest = behind_run(&rest.ending(behind), class);
     }
     rest
 }
 
 // What stands behind the longest front of bytes of the class.
-fn behind_run<'t>(text: &'t str, class: &ByteClass) -> &'t str
-    ensures passes { PassesUnits class.now (chars text.now) (chars result.now) }
-    ensures stops { starts_in class.now (chars result.now) ≡ false }
+#[inline(always)]
+fn behind_run<'t>(text: &Tail<'t>, class: UnitClass) -> Tail<'t>
+    ensures passes { PassesUnits (class_has class) (chars text.now) (chars result) }
+    ensures stops { starts_in (class_has class) (chars result) ≡ false }
 {
-    let run = unit_run(text.as_bytes(), class);
-    &text[run..]
+    let (_, rest) = text.split_at(text.class_run(class));
+    rest
 }
 
 // What stands behind a run of escapes and URL code points beyond ASCII, where the text begins with one: they come in
@@ -104,11 +138,11 @@ mod tests {
             ("/a b", 2, 2),
             ("/\u{E9}\u{20AC}%C3%A9?\u{FFFE}", 12, 13),
         ] {
-            let (front, rest) = split_units(text, &ByteClass::path());
+            let (front, rest) = split_units(text, UnitClass::Path);
             assert_eq!(rt; front, &text[..path], "of {text}");
             assert_eq!(rt; rest, &text[path..], "of {text}");
             assert_eq!(rt;
-                split_units(text, &ByteClass::url()).0,
+                split_units(text, UnitClass::Url).0,
                 &text[..query],
                 "of {text}"
             );

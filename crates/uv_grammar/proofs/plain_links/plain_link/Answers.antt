@@ -1,5 +1,5 @@
 -- The parts of a plain link are those of its cut.
-use Rattle.std.proofs.Common.{ℕ, List, refl, subst, sym, ◌∙◌}
+use Rattle.std.proofs.Common.{ℕ, List, refl, ap, subst, sym, ◌∙◌}
 use Rattle.std.specs.Str.{chars}
 use Rattle.uv_model.specs.declared.profile.Profile.TheVariants.{Standard}
 use Rattle.uv_model.specs.Ascii.{number_sign}
@@ -21,23 +21,24 @@ returns c = λ profile base.
     (plain_accepted profile base (chars c.args.text.now) (chars_of c.in-Some.scheme)
     (chars_of c.in-Some-split_name.name) c.in-Some-split_name.name.now
     (chars_of_option c.in-Some-split_port.port_text) c.in-Some-split_port.port
-    (chars_of c.in-Some-split_path.path_text) (chars_of_option c.split_part.result.0)
-    (chars_of_option c.split_part-2.result.0) refl
+    (chars_of c.in-Some-split_path.path_text) (chars_of_option c.split_part-rest.result.0)
+    (chars_of_option c.split_part-rest-2.result.0) refl
     (record {
-      behind = chars_of c.in-Some.behind;
-      rest = chars_of c.in-Some-split_name.rest;
-      after = chars_of c.in-Some-split_port.rest;
-      tail = chars_of c.in-Some-split_path.rest;
-      end = chars_of c.split_part.result.1;
+      behind = chars c.in-Some.behind;
+      rest = chars c.in-Some-split_name.rest;
+      after = chars c.in-Some-split_port.rest;
+      tail = chars c.in-Some-split_path.rest;
+      end = chars c.split_part-rest.result.1;
       special = c.in-Some.ensures;
       named = c.in-Some-split_name.ensures;
       port_cut = c.in-Some-split_port.ensures;
       path_cut = c.in-Some-split_path.ensures;
-      query_cut = c.split_part.ensures;
+      query_cut = c.split_part-rest.ensures;
       fragment_cut =
           subst
           (λ (s : List ℕ).
-          IsPartCut number_sign (chars_of c.split_part.result.1) (chars_of_option c.split_part-2.result.0) s)
-          (no_chars c.split_part-2.result.1.now (sym c.is_empty.ensures ∙ c.if-not-is_empty.false))
-          c.split_part-2.ensures;
+          IsPartCut number_sign (chars c.split_part-rest.result.1) (chars_of_option c.split_part-rest-2.result.0) s)
+          (ap chars (sym c.as_str.ensures)
+          ∙ no_chars c.as_str.result.now (sym c.is_empty.ensures ∙ c.if-not-is_empty.false))
+          c.split_part-rest-2.ensures;
     }))

@@ -59,6 +59,36 @@ fn refuses_what_is_nearly_plain(rt: HostRuntime) -> Result<(), Fail> {
     Ok(())
 }
 
+#[test]
+fn tells_numbers_from_words(rt: HostRuntime) -> Result<(), Fail> {
+    for (text, line) in [
+        (
+            "http://a.0xg/",
+            "scheme-authority scheme http host a.0xg is domain a.0xg path / ()",
+        ),
+        (
+            "http://a.f",
+            "scheme-authority scheme http host a.f is domain a.f path ",
+        ),
+        (
+            "http://a.9x.",
+            "scheme-authority scheme http host a.9x. is domain a.9x. path ",
+        ),
+        (
+            "http://0x1.x",
+            "scheme-authority scheme http host 0x1.x is domain 0x1.x path ",
+        ),
+        ("http://a.0x", "no 7 host-number"),
+        ("http://a.0x./", "no 7 host-number"),
+        ("http://a.0xf/", "no 7 host-number"),
+        ("http://a.9.?x", "no 7 host-number"),
+    ] {
+        let found = verdict_line(rt.alloc(), text, None)?;
+        assert_eq!(rt; found.as_str(), line, "{text}");
+    }
+    Ok(())
+}
+
 // A front, a piece so many times, and an end.
 fn long_text(
     alloc: Global,

@@ -1,5 +1,5 @@
 -- The code point behind the units is the first fault, and the place counts the units.
-use Rattle.std.proofs.Common.{◌≡◌, ◌↔◌, ◌∷◌, ℕ, List, [], Option, None, Some, drop, length, arith, sym, ap, ◌∙◌, subst}
+use Rattle.std.proofs.Common.{◌≡◌, ◌↔◌, ◌∷◌, ℕ, Bool, refl, List, [], Option, None, Some, drop, length, arith, sym, ap, ◌∙◌, subst}
 use Rattle.std.specs.Prelude.{IsNone}
 use Rattle.std.specs.Str.{chars}
 use Rattle.std.proofs.lemmas.List.{length-take-le}
@@ -10,7 +10,8 @@ use Rattle.uv_model.specs.Complaints.UnitComplaint.{UnitComplaint, unit_rule}
 use Rattle.uv_model.specs.Units.{IsUnits}
 use Rattle.uv_model.proofs.Complaints.ComplaintLemmas.{least_unit_fault_within}
 use Rattle.uv_text.specs.Class.{HoldsUrlBytes}
-use Rattle.uv_text.specs.Splits.{IsUnitSplit, unit_length}
+use Rattle.uv_text.specs.Splits.{IsUnitSplit, class_has, unit_length}
+use Rattle.uv_text.specs.declared.units.UnitClass.TheVariants.{Url}
 use Rattle.uv_text.proofs.FaultsLemmas.{fault_at, fault_behind, least_fault, none_in_units}
 use Rattle.uv_text.proofs.SplitsLemmas.{unit_length-le}
 use Rattle.uv_text.proofs.faults.first_fault.Goals as goal
@@ -22,13 +23,13 @@ record Answers (bytes : List ℕ) (answer : Option Refusal) : Type 0 where
   none : IsNone answer ↔ IsUnits (chars bytes)
 
 -- the first code point behind the units is what the function ensures
-answers : (ranges : List (ℕ × ℕ)) (bytes : List ℕ) (answer : Option Refusal) → HoldsUrlBytes ranges
-    → answer ≡ fault_at (unit_length ranges (chars bytes)) (drop (unit_length ranges (chars bytes)) (chars bytes))
+answers : (held : ℕ → Bool) (bytes : List ℕ) (answer : Option Refusal) → HoldsUrlBytes held
+    → answer ≡ fault_at (unit_length held (chars bytes)) (drop (unit_length held (chars bytes)) (chars bytes))
     → Answers bytes answer
-answers ranges bytes answer holds is =
+answers held bytes answer holds is =
     let text = chars bytes in
-    let n = unit_length ranges text in
-    let found = fault_behind ranges holds 0 text ∙ ap (λ p. fault_at p (drop n text)) (omega arith) in
+    let n = unit_length held text in
+    let found = fault_behind held holds 0 text ∙ ap (λ p. fault_at p (drop n text)) (omega arith) in
     let least = subst (λ a. IsLeast (UnitComplaint text) a) (found ∙ sym is) (least_fault text) in
     record {
       least = least;
@@ -37,51 +38,51 @@ answers ranges bytes answer holds is =
     }
 
 -- a code point behind the units
-fault_found : (ranges : List (ℕ × ℕ)) (bytes front rest : List ℕ) (c : ℕ) (more : List ℕ) (place : ℕ) (rule : Rule)
-    → HoldsUrlBytes ranges → IsUnitSplit ranges (chars bytes) (chars front) (chars rest) → chars rest ≡ c ∷ more
+fault_found : (held : ℕ → Bool) (bytes front rest : List ℕ) (c : ℕ) (more : List ℕ) (place : ℕ) (rule : Rule)
+    → HoldsUrlBytes held → IsUnitSplit held (chars bytes) (chars front) (chars rest) → chars rest ≡ c ∷ more
     → place ≡ length (chars front) → rule ≡ unit_rule c → Answers bytes (Some (record { place = place; rule = rule }))
-fault_found ranges bytes front rest c more place rule holds cut first counted named =
+fault_found held bytes front rest c more place rule holds cut first counted named =
     let text = chars bytes in
-    let n = unit_length ranges text in
-    let here : place ≡ n = counted ∙ ap length cut.is_front ∙ length-take-le n text (unit_length-le ranges text) in
-    answers ranges bytes (Some (record { place = place; rule = rule })) holds
+    let n = unit_length held text in
+    let here : place ≡ n = counted ∙ ap length cut.is_front ∙ length-take-le n text (unit_length-le held text) in
+    answers held bytes (Some (record { place = place; rule = rule })) holds
     (rw (here, named) (ap (fault_at n) (sym first ∙ cut.is_rest)))
 
 -- none behind them
-no_fault : (ranges : List (ℕ × ℕ)) (bytes front rest : List ℕ) → HoldsUrlBytes ranges
-    → IsUnitSplit ranges (chars bytes) (chars front) (chars rest) → chars rest ≡ [] → Answers bytes None
-no_fault ranges bytes front rest holds cut none =
-    answers ranges bytes None holds (ap (fault_at (unit_length ranges (chars bytes))) (sym none ∙ cut.is_rest))
+no_fault : (held : ℕ → Bool) (bytes front rest : List ℕ) → HoldsUrlBytes held
+    → IsUnitSplit held (chars bytes) (chars front) (chars rest) → chars rest ≡ [] → Answers bytes None
+no_fault held bytes front rest holds cut none =
+    answers held bytes None holds (ap (fault_at (unit_length held (chars bytes))) (sym none ∙ cut.is_rest))
 
 pub returns-in-Some-clause-least : goal.returns-in-Some-clause-least
 returns-in-Some-clause-least c =
-    (fault_found c.url-class.result c.args.text.now c.split_units.result.0.now c.split_units.result.1.now c.in-Some.c
-    (chars c.in-Some.field-0-1.now) c.count_code_points.result c.unit_rule.result c.url-class.ensures.bytes
+    (fault_found (class_has Url) c.args.text.now c.split_units.result.0.now c.split_units.result.1.now c.in-Some.c
+    (chars c.in-Some.field-0-1.now) c.count_code_points.result c.unit_rule.result (λ byte. refl)
     c.split_units.ensures
     c.in-Some.ensures c.count_code_points.ensures c.unit_rule.ensures).least
 
 pub returns-in-Some-clause-within : goal.returns-in-Some-clause-within
 returns-in-Some-clause-within c =
-    (fault_found c.url-class.result c.args.text.now c.split_units.result.0.now c.split_units.result.1.now c.in-Some.c
-    (chars c.in-Some.field-0-1.now) c.count_code_points.result c.unit_rule.result c.url-class.ensures.bytes
+    (fault_found (class_has Url) c.args.text.now c.split_units.result.0.now c.split_units.result.1.now c.in-Some.c
+    (chars c.in-Some.field-0-1.now) c.count_code_points.result c.unit_rule.result (λ byte. refl)
     c.split_units.ensures
     c.in-Some.ensures c.count_code_points.ensures c.unit_rule.ensures).within
 
 pub returns-in-Some-clause-none : goal.returns-in-Some-clause-none
 returns-in-Some-clause-none c =
-    (fault_found c.url-class.result c.args.text.now c.split_units.result.0.now c.split_units.result.1.now c.in-Some.c
-    (chars c.in-Some.field-0-1.now) c.count_code_points.result c.unit_rule.result c.url-class.ensures.bytes
+    (fault_found (class_has Url) c.args.text.now c.split_units.result.0.now c.split_units.result.1.now c.in-Some.c
+    (chars c.in-Some.field-0-1.now) c.count_code_points.result c.unit_rule.result (λ byte. refl)
     c.split_units.ensures
     c.in-Some.ensures c.count_code_points.ensures c.unit_rule.ensures).none
 
 pub returns-in-None-clause-least : goal.returns-in-None-clause-least
 returns-in-None-clause-least c =
-    (no_fault c.url-class.result c.args.text.now c.split_units.result.0.now c.split_units.result.1.now
-    c.url-class.ensures.bytes
+    (no_fault (class_has Url) c.args.text.now c.split_units.result.0.now c.split_units.result.1.now
+    (λ byte. refl)
     c.split_units.ensures c.in-None.ensures).least
 
 pub returns-in-None-clause-none : goal.returns-in-None-clause-none
 returns-in-None-clause-none c =
-    (no_fault c.url-class.result c.args.text.now c.split_units.result.0.now c.split_units.result.1.now
-    c.url-class.ensures.bytes
+    (no_fault (class_has Url) c.args.text.now c.split_units.result.0.now c.split_units.result.1.now
+    (λ byte. refl)
     c.split_units.ensures c.in-None.ensures).none

@@ -1,28 +1,23 @@
 -- A run of bytes of the class is a part of the front, and ends on a border of code points.
-use Rattle.std.proofs.Common.{ap, ◌∙◌}
-use Rattle.std.specs.List.{prefix_len}
 use Rattle.std.proofs.lemmas.Str.{IsCharBoundary-from_drop}
-use Rattle.uv_text.specs.Class.{in_class}
-use Rattle.uv_text.proofs.SplitsLemmas.{run_passes}
+use Rattle.uv_text.specs.Splits.{class_has}
+use Rattle.uv_text.proofs.SplitsLemmas.{class_ascii, run_passes}
 use Rattle.uv_text.proofs.splits.behind_run.Goals as goal
 
-pub range_from-requires : goal.range_from-requires
-range_from-requires c =
-    let text = c.args.text.now in
-    let run = run_passes c.args.class.now c.unit_run-run.ensures.ascii text c.unit_run-run.result c.utf8.text
-    (c.unit_run-run.ensures.run ∙ ap (prefix_len (in_class c.args.class.now)) c.as_bytes.ensures.value) in
-    λ some. IsCharBoundary-from_drop text c.unit_run-run.result run.inside run.utf8
+pub split_at-rest-requires : goal.split_at-rest-requires
+split_at-rest-requires c = λ text.
+    let run = run_passes (class_has c.args.class) (class_ascii c.args.class) c.args.text.now c.class_run.result text
+    c.class_run.ensures.run in
+    IsCharBoundary-from_drop c.args.text.now c.class_run.result run.inside run.utf8
 
 pub returns-clause-passes : goal.returns-clause-passes
 returns-clause-passes c =
-    let text = c.args.text.now in
-    let run = run_passes c.args.class.now c.unit_run-run.ensures.ascii text c.unit_run-run.result c.utf8.text
-    (c.unit_run-run.ensures.run ∙ ap (prefix_len (in_class c.args.class.now)) c.as_bytes.ensures.value) in
-    rw c.range_from.ensures.value run.passes
+    let run = run_passes (class_has c.args.class) (class_ascii c.args.class) c.args.text.now c.class_run.result
+    c.class_run.ensures.text c.class_run.ensures.run in
+    rw c.split_at-rest.ensures.rest run.passes
 
 pub returns-clause-stops : goal.returns-clause-stops
 returns-clause-stops c =
-    let text = c.args.text.now in
-    let run = run_passes c.args.class.now c.unit_run-run.ensures.ascii text c.unit_run-run.result c.utf8.text
-    (c.unit_run-run.ensures.run ∙ ap (prefix_len (in_class c.args.class.now)) c.as_bytes.ensures.value) in
-    rw c.range_from.ensures.value run.stops
+    let run = run_passes (class_has c.args.class) (class_ascii c.args.class) c.args.text.now c.class_run.result
+    c.class_run.ensures.text c.class_run.ensures.run in
+    rw c.split_at-rest.ensures.rest run.stops

@@ -1,0 +1,123 @@
+//! What stands behind a place of a text.
+ghost use Rattle.std.specs.Prelude.{◌≡◌, ◌+◌, ◌^◌, ◌<◌, ◌≤◌, drop, length, map, take};
+ghost use Rattle.std.specs.List.{prefix_len};
+ghost use Rattle.std.specs.Simd.Lanes.{mask_l};
+ghost use Rattle.std.specs.Str.{IsCharBoundary, IsUtf8};
+ghost use Rattle.uv_text.specs.Rows.{is_in_rows};
+ghost use Rattle.uv_text.specs.Splits.{class_has};
+ghost use Rattle.uv_text.specs.Tails.{EndsWith};
+
+use crate::lanes::row_bits;
+use crate::units::UnitClass;
+use std::marker::Model;
+
+/// What stands behind a place of a text, with that text, so that a load of its last bytes may begin before the place.
+/// Contracts see its bytes.
+#[derive(Debug, Drop)]
+pub struct Tail<'t> {
+    whole: &'t str,
+    place: usize,
+}
+
+impl<'t> Model for Tail<'t> {
+    ghost use Rattle.std.specs.Prelude.{ℕ, List, ◌≤◌, drop, length};
+    ghost use Rattle.std.specs.Str.{IsUtf8};
+
+    ghost Value = { List ℕ };
+
+    ghost view = { λ t. drop t.place t.whole.now };
+
+    ghost invariant = { λ t. (t.place ≤ length t.whole.now) × IsUtf8 (drop t.place t.whole.now) };
+}
+
+impl<'t> Tail<'t> {
+    /// The whole of a text.
+    #[inline(always)]
+    pub fn of(text: &'t str) -> Tail<'t>
+        ensures { result ≡ text.now }
+    {
+        Tail {
+            whole: text,
+            place: 0,
+        }
+    }
+
+    /// The text of the tail.
+    #[inline(always)]
+    pub fn as_str(&self) -> &'t str
+        ensures { result.now ≡ self.now }
+    {
+        &self.whole[self.place..]
+    }
+
+    /// The two sides of one of its places, in bytes from its start.
+    #[inline(always)]
+    pub fn split_at(&self, end: usize) -> (&'t str, Tail<'t>)
+        requires { IsUtf8 self.now → IsCharBoundary self.now end }
+        ensures front { result.0.now ≡ take end self.now }
+        ensures rest { result.1 ≡ drop end self.now }
+    {
+        let place = self.place + end;
+        let rest = Tail {
+            whole: self.whole,
+            place,
+        };
+        (&self.whole[self.place..place], rest)
+    }
+
+    // What it ends with, as a tail of the same text.
+    #[inline(always)]
+    pub(crate) fn ending(&self, rest: &str) -> Tail<'t>
+        requires { EndsWith self.now rest.now }
+        ensures { result ≡ rest.now }
+    {
+        Tail {
+            whole: self.whole,
+            place: self.whole.len() - rest.len(),
+        }
+    }
+
+    /// At each of the 32 bytes from a place on a bit, the first the lowest, which is set where the byte is in the rows;
+    /// behind the last byte there is none.
+    #[inline(always)]
+    pub fn row_bits(&self, place: usize, rows: &[u8; 16]) -> u64
+        requires { place ≤ length self.now }
+        ensures bits { result ≡ mask_l (map (is_in_rows rows.now) (take 32 (drop place self.now))) }
+        ensures short { length self.now < 2 ^ 64 }
+    {
+        row_bits(self.whole.as_bytes(), self.place + place, rows)
+    }
+
+    // How many bytes it begins with that are in the class.
+    #[inline(always)]
+    pub(crate) fn class_run(&self, class: UnitClass) -> usize
+        ensures run { result ≡ prefix_len (class_has class) self.now }
+        ensures text { IsUtf8 self.now }
+    {
+        class.run_end(self.whole.as_bytes(), self.place) - self.place
+    }
+}
+
+#[cfg(test)]
+mod tests {
+    use super::*;
+    use crate::splits::split_tail;
+    use std::test::Fail;
+
+    #[test]
+    fn cuts_behind_each_place(rt: HostRuntime) -> Result<(), Fail> {
+        for before in 0..66usize {
+            for behind in [0, 1, 5, 30, 31, 32, 33, 65usize] {
+                let front = "a".repeat(rt.alloc(), before)?;
+                let rest = "b".repeat(rt.alloc(), behind)?;
+                let text = format!(in rt.alloc(); "{front}?{rest}^?")?;
+                let (path, tail) = split_tail(&Tail::of(text.as_str()), UnitClass::Path);
+                assert_eq!(rt; path.len(), before);
+                let (units, tail) = split_tail(&tail, UnitClass::Url);
+                assert_eq!(rt; units.len(), behind + 1, "behind {before}");
+                assert_eq!(rt; tail.as_str(), "^?");
+            }
+        }
+        Ok(())
+    }
+}

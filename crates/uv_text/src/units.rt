@@ -1,0 +1,42 @@
+//! Classes of URL units: which ASCII code points stand in them, beside escapes and URL code points beyond ASCII.
+ghost use Rattle.std.specs.Prelude.{◌≡◌, ◌+◌, ◌≤◌, drop, length};
+ghost use Rattle.std.specs.List.{prefix_len};
+ghost use Rattle.uv_text.specs.Rows.{HoldClass};
+ghost use Rattle.uv_text.specs.Splits.{class_has};
+
+use crate::class::{OPAQUE_HOST_ROWS, PATH_ROWS, URL_ROWS};
+use crate::lanes::row_end;
+
+/// The units that a part of a text may consist of, by their ASCII code points (URL Standard, section 4.3).
+#[derive(Clone, Copy, Debug, PartialEq, Eq)]
+pub enum UnitClass {
+    /// The ASCII URL code points, of which queries and fragments consist.
+    Url,
+    /// The same but `?`, of which a path consists that a query may follow.
+    Path,
+    /// The same but the forbidden host code points, of which opaque hosts consist.
+    OpaqueHost,
+}
+
+impl UnitClass {
+    // The rows of its ASCII code points.
+    #[inline(always)]
+    fn rows(self) -> &'static [u8; 16]
+        ensures { HoldClass result.now (class_has self) }
+    {
+        match self {
+            UnitClass::Url => &URL_ROWS,
+            UnitClass::Path => &PATH_ROWS,
+            UnitClass::OpaqueHost => &OPAQUE_HOST_ROWS,
+        }
+    }
+
+    // The place behind the longest run of bytes of the class that begins at a place.
+    #[inline(always)]
+    pub(crate) fn run_end(self, bytes: &[u8], place: usize) -> usize
+        requires { place ≤ length bytes.now }
+        ensures { result ≡ place + prefix_len (class_has self) (drop place bytes.now) }
+    {
+        row_end(bytes, place, self.rows())
+    }
+}
