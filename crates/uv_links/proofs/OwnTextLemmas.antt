@@ -1,12 +1,14 @@
 -- A text that is the text of the URL that it denotes.
-use Rattle.std.proofs.Common.{◌≡◌, ◌≢◌, ℕ, Bool, true, false, not, ◌==◌, ◌<◌, List, [], ◌∷◌, ◌++◌, Option, Some, None, codes, refl, sym, ap, ◌∙◌, subst, inl, inr, append_assoc, append-nil, arith, length, slice_index, suc}
+use Rattle.std.proofs.Common.{◌≡◌, ◌≢◌, ℕ, Bool, true, false, not, ◌==◌, ◌<◌, ◌≤◌, List, [], ◌∷◌, ◌++◌, Option, Some, None, codes, refl, sym, ap, ◌∙◌, subst, inl, inr, append_assoc, append-nil, arith, length, slice_index, slice_index_or, suc, ◌+◌, ◌&&◌, drop, drop-cons}
 use Rattle.std.specs.Prelude.{option_map}
 use Rattle.std.specs.List.{list_all, join_with_byte}
-use Rattle.std.specs.Char.{is_ascii}
-use Rattle.std.specs.Str.{IsAscii, chars}
-use Rattle.std.proofs.lemmas.Str.{chars-IsAscii}
+use Rattle.std.specs.Char.{is_ascii, to_ascii_lowercase}
+use Rattle.std.specs.Str.{IsAscii, IsUtf8, bytes_eq, chars}
+use Rattle.std.proofs.lemmas.Str.{chars-IsAscii, encodes-chars, encodes-IsAscii}
+use Rattle.std.proofs.lemmas.Slice.Eq.{bytes_eq-Decides}
+use Rattle.std.proofs.Math.ListN.{drop_of_length-le}
 use Rattle.std.proofs.lemmas.Bool.Decides.{nat_tests}
-use Rattle.std.proofs.lemmas.Bool.{and_parts, and_from, not-true}
+use Rattle.std.proofs.lemmas.Bool.{and_parts, and_from, false_from_ne_true, false≢true, not-true}
 use Rattle.std.proofs.lemmas.List.Folds.{list_all-append}
 use Rattle.uv_model.specs.declared.profile.Profile.{Profile}
 use Rattle.uv_model.specs.declared.scheme.Class.{Class}
@@ -20,14 +22,15 @@ use Rattle.uv_model.specs.Path.{MayBePathSlashed, is_double_dot, is_single_dot, 
 use Rattle.uv_model.specs.Records.Denote.{authority_path, denote, denoted_scheme, denoted_port, denoted_path, denoted_query}
 use Rattle.uv_model.specs.Records.Serialize.{serial, serial_host, serial_segments}
 use Rattle.uv_model.specs.Records.Url.{Url}
-use Rattle.uv_model.specs.Scheme.{default_port, scheme_class}
+use Rattle.uv_model.specs.Scheme.{default_port, lowercase, scheme_class}
 use Rattle.uv_model.specs.Setting.{Setting, scheme_or, setting_of}
 use Rattle.uv_model.specs.Valid.{FitsAuthority, FitsForm, FitsHostText, IsSpecialAuthority, Valid}
 use Rattle.uv_model.proofs.Paths.SlashedPaths.{slashed_or_none}
 use Rattle.uv_model.proofs.Texts.AsciiLemmas.{IsAscii-from_test}
 use Rattle.uv_model.proofs.Texts.EncodingLemmas.{is_kept, encoded_code_point-kept}
+use Rattle.uv_grammar.proofs.HostLemmas.{some_chars}
 use Rattle.uv_resolve.proofs.RecordLemmas.{fields, denote-fields}
-use Rattle.uv_links.specs.OwnText.{HasOwnScheme, IsOwnScheme, IsOwnText, is_kept_segment, is_never_encoded}
+use Rattle.uv_links.specs.OwnText.{HasOwnFront, HasOwnScheme, IsOwnPath, IsOwnRoot, IsOwnScheme, IsOwnText, has_no_dots, is_dot_mark, is_kept_segment, is_never_encoded}
 use Rattle.uv_links.specs.Report.{DenotesText}
 
 -- ---- texts that no part encodes
@@ -46,6 +49,13 @@ never_encoded_texts (c ∷ rest) ascii none =
     let small : c < 128 = ascii 0 in
     let never : is_never_encoded c ≡ true = grind (arith, nat_tests) in
     and_from _ _ never (never_encoded_texts rest (λ i. ascii (suc i)) (λ k below. none (suc k) (omega (arith, below))))
+
+-- a text that no part encodes is ASCII
+never_encoded-ascii : (text : List ℕ) → list_all is_never_encoded text ≡ true → list_all is_ascii text ≡ true
+never_encoded-ascii [] h = refl
+never_encoded-ascii (c ∷ rest) h =
+    let parts = and_parts (is_never_encoded c) (list_all is_never_encoded rest) h in
+    and_from _ _ (and_parts (is_ascii c) (not (c == apostrophe)) parts.0).0 (never_encoded-ascii rest parts.1)
 
 -- a text of such code points is its own encoded text
 encoded-kept : (quote : Bool) (text : List ℕ) → list_all is_never_encoded text ≡ true → encoded quote text ≡ text
@@ -116,6 +126,107 @@ slashed_text segments text some (inr path) =
     path.slashed ∙ ap (λ t. slash ∷ t) (joins.joined ∙ ap (join_with_byte slash) joins.some)
     ∙ sym (serial_segments-join joins.first joins.others) ∙ sym (ap serial_segments joins.some)
 
+-- a code point that is neither `.` nor `%` is neither in lower case
+lower_mark : (c : ℕ) → is_dot_mark c ≡ false → is_dot_mark (to_ascii_lowercase c) ≡ false
+lower_mark c h = grind (h, arith, nat_tests)
+
+-- a text that begins with another code point isn't a dot segment's word
+other_word : (c m : ℕ) (rest word : List ℕ) → is_dot_mark c ≡ false → is_dot_mark m ≡ true
+    → bytes_eq (c ∷ rest) (m ∷ word) ≡ false
+other_word c m rest word other mark =
+    false_from_ne_true (bytes_eq (c ∷ rest) (m ∷ word))
+    (λ same. let lists : c ∷ rest ≡ m ∷ word = (bytes_eq-Decides (c ∷ rest) (m ∷ word)).0 same in
+    let head : c ≡ m = cc in
+    false≢true (sym other ∙ ap is_dot_mark head ∙ mark))
+
+-- a segment that begins with another code point is kept
+kept_segment : (c : ℕ) (rest : List ℕ) → is_dot_mark c ≡ false → is_kept_segment (c ∷ rest) ≡ true
+unfolding is_double_dot is_single_dot
+kept_segment c rest other =
+    let lower = lower_mark c other in
+    let low = lowercase rest in
+    let x = to_ascii_lowercase c in
+    rw (
+      other_word x 46 low (codes ".") lower refl,
+      other_word x 46 low (codes "%2e") lower refl,
+      other_word x 37 low (codes "2e.") lower refl,
+      other_word x 37 low (codes "2e%2e") lower refl,
+      other_word x 46 low [] lower refl,
+      other_word x 37 low (codes "2e") lower refl,
+    ) refl
+
+-- a text without dots at its start either is one without dots
+no_dots-weaker : (text : List ℕ) → has_no_dots true text ≡ true → has_no_dots false text ≡ true
+no_dots-weaker [] h = refl
+no_dots-weaker (c ∷ rest) h = (and_parts (not (is_dot_mark c)) (has_no_dots (c == slash) rest) h).1
+
+-- and so is what stands behind a front
+no_dots-behind : (begins : Bool) (front rest : List ℕ) → has_no_dots begins (front ++ rest) ≡ true
+    → has_no_dots false rest ≡ true
+no_dots-behind false [] rest h = h
+no_dots-behind true [] rest h = no_dots-weaker rest h
+no_dots-behind begins (c ∷ front) rest h =
+    no_dots-behind (c == slash) front rest
+    (and_parts (not (begins && is_dot_mark c)) (has_no_dots (c == slash) (front ++ rest)) h).1
+
+-- such a text is told from its next byte and what follows it
+no_dots-first : (begins : Bool) (text : List ℕ) (k : ℕ) → k < length text
+    → has_no_dots begins (drop k text) ≡ (not (begins && is_dot_mark (slice_index_or text k 0))
+    && has_no_dots (slice_index_or text k 0 == slash) (drop (k + 1) text))
+no_dots-first begins text k below =
+    let next : suc k ≡ k + 1 = omega arith in
+    ap (has_no_dots begins) (drop-cons text k 0 below)
+    ∙ ap (λ n. not (begins && is_dot_mark (slice_index_or text k 0))
+    && has_no_dots (slice_index_or text k 0 == slash) (drop n text)) next
+
+-- the next byte doesn't begin a dot segment
+pub no_dots-step : (begins : Bool) (text : List ℕ) (k : ℕ) → k < length text
+    → (begins && is_dot_mark (slice_index_or text k 0)) ≡ false
+    → has_no_dots begins (drop k text) ≡ has_no_dots (slice_index_or text k 0 == slash) (drop (k + 1) text)
+no_dots-step begins text k below none =
+    no_dots-first begins text k below
+    ∙ ap (λ b. not b && has_no_dots (slice_index_or text k 0 == slash) (drop (k + 1) text)) none
+
+-- the next byte may begin one
+pub no_dots-found : (begins : Bool) (text : List ℕ) (k : ℕ) → k < length text
+    → (begins && is_dot_mark (slice_index_or text k 0)) ≡ true → has_no_dots begins (drop k text) ≡ false
+no_dots-found begins text k below found =
+    no_dots-first begins text k below
+    ∙ ap (λ b. not b && has_no_dots (slice_index_or text k 0 == slash) (drop (k + 1) text)) found
+
+-- no byte is left
+pub no_dots-end : (begins : Bool) (text : List ℕ) (k : ℕ) → length text ≤ k
+    → has_no_dots begins (drop k text) ≡ true
+no_dots-end begins text k none = ap (has_no_dots begins) (drop_of_length-le text none)
+
+-- a segment in such a text is kept
+kept-first : (segment rest : List ℕ) → has_no_dots true (segment ++ rest) ≡ true → is_kept_segment segment ≡ true
+unfolding is_double_dot is_single_dot
+kept-first [] rest h = refl
+kept-first (c ∷ segment) rest h =
+    kept_segment c segment
+    (not-true _ (and_parts (not (is_dot_mark c)) (has_no_dots (c == slash) (segment ++ rest)) h).0)
+
+-- and so are all
+kept-segments : (segments : List (List ℕ)) → has_no_dots false (serial_segments segments) ≡ true
+    → list_all is_kept_segment segments ≡ true
+kept-segments [] h = refl
+kept-segments (segment ∷ rest) h =
+    and_from _ _ (kept-first segment (serial_segments rest) h)
+    (kept-segments rest (no_dots-behind true segment (serial_segments rest) h))
+
+-- a path text that isn't empty has segments
+some_segments : (segments : List (List ℕ)) (text : List ℕ) → text ≢ [] → MayBePathSlashed segments text → segments ≢ []
+some_segments segments text some (inl none) = absurd (some none.0)
+some_segments segments text some (inr path) =
+    λ none. let both_ways : [] ≡ path.joins.first ∷ path.joins.others = sym none ∙ path.joins.some in absurd cc
+
+-- and an empty one has none
+no_segments : (segments : List (List ℕ)) (text : List ℕ) → MayBePathSlashed segments text → text ≡ [] → segments ≡ []
+no_segments segments text (inl none) is = none.1
+no_segments segments text (inr path) is =
+    let both_ways : [] ≡ slash ∷ path.behind = sym is ∙ path.slashed in absurd cc
+
 -- ---- queries and fragments
 
 -- a query of such code points is denoted as it is
@@ -178,77 +289,170 @@ special_path profile base text parts scheme form valid formed schemed special ho
     in
     slashed_or_none profile parts.segments parts.path_text fits.path
 
--- the text of the URL that such a text denotes, once the scheme is known
-own-schemed : (profile : Profile) (base : Option Url) (text : List ℕ) (parts : Parts) (scheme : List ℕ)
-    → Valid profile base text parts → IsOwnText text parts → parts.scheme ≡ Some scheme → IsOwnScheme scheme
-    → text ≡ serial (denote base parts)
-own-schemed profile base text parts scheme valid own schemed is =
+-- a text with such a front is spelled with its parts
+front-spelled : (profile : Profile) (base : Option Url) (text : List ℕ) (parts : Parts) (scheme : List ℕ)
+    → Valid profile base text parts → (own : HasOwnFront text parts) → parts.scheme ≡ Some scheme
+    → text ≡ spelled scheme own.host.form parts.path_text parts.query parts.fragment
+front-spelled profile base text parts scheme valid own schemed =
+    valid.whole ∙ written-spelled parts scheme own.host.form schemed own.host.host_text own.port.text
+
+-- the path of such a text is of code points that no part encodes
+front-path : (text : List ℕ) (parts : Parts) (scheme : List ℕ) (own : HasOwnFront text parts)
+    → text ≡ spelled scheme own.host.form parts.path_text parts.query parts.fragment
+    → (list_all is_never_encoded parts.path_text ≡ true)
+    × (list_all is_never_encoded (written_behind question_mark parts.query
+    ++ written_behind number_sign parts.fragment) ≡ true)
+front-path text parts scheme own whole =
     let form = own.host.form in
-    let segments = parts.segments in
+    let bytes : list_all is_never_encoded (spelled scheme form parts.path_text parts.query parts.fragment) ≡ true
+    = sym (ap (list_all is_never_encoded) whole) ∙ own.bytes
+    in
+    let ends = written_behind question_mark parts.query ++ written_behind number_sign parts.fragment in
+    let front = slash ∷ slash ∷ (form ++ []) in
+    let from_colon = both scheme (colon ∷ (front ++ (parts.path_text ++ ends))) bytes in
+    let from_host = both front (parts.path_text ++ ends)
+    (behind colon (front ++ (parts.path_text ++ ends)) from_colon.1) in
+    both parts.path_text ends from_host.1
+
+-- the text of the URL that it denotes, by the segments
+front-serial : (base : Option Url) (text : List ℕ) (parts : Parts) (scheme : List ℕ) (segments : List (List ℕ))
+    → (own : HasOwnFront text parts) → parts.scheme ≡ Some scheme → IsOwnScheme scheme
+    → text ≡ spelled scheme own.host.form parts.path_text parts.query parts.fragment
+    → authority_path Special parts.segments ≡ segments
+    → spelled scheme own.host.form (serial_segments segments) parts.query parts.fragment ≡ serial (denote base parts)
+front-serial base text parts scheme segments own schemed is whole path =
+    let form = own.host.form in
     let query = parts.query in
     let fragment = parts.fragment in
-    let whole : text ≡ spelled scheme form parts.path_text query fragment
-    = valid.whole ∙ written-spelled parts scheme form schemed own.host.host_text own.port.text
-    in
-    let path : parts.path_text ≡ serial_segments segments
-    = slashed_text segments parts.path_text own.path.some
-    (special_path profile base text parts scheme form valid own.form schemed is.special own.host.host_text)
-    in
-    let spelled_so : text ≡ spelled scheme form (serial_segments segments) query fragment
-    = whole ∙ ap (λ p. spelled scheme form p query fragment) path
-    in
-    let bytes : list_all is_never_encoded (spelled scheme form (serial_segments segments) query fragment) ≡ true
-    = sym (ap (list_all is_never_encoded) spelled_so) ∙ own.bytes
-    in
-    let ends = written_behind question_mark query ++ written_behind number_sign fragment in
-    let front = slash ∷ slash ∷ (form ++ []) in
-    let from_colon = both scheme (colon ∷ (front ++ (serial_segments segments ++ ends))) bytes in
-    let from_host = both front (serial_segments segments ++ ends)
-    (behind colon (front ++ (serial_segments segments ++ ends)) from_colon.1) in
-    let from_path = both (serial_segments segments) ends from_host.1 in
-    let from_query = both (written_behind question_mark query) (written_behind number_sign fragment) from_path.1 in
+    let from_query = both (written_behind question_mark query) (written_behind number_sign fragment)
+    (front-path text parts scheme own whole).1 in
     let denoted : fields scheme (Some (Domain form)) None (Segments segments) query fragment ≡ denote base parts
     = denote-fields base parts Special scheme (Some (Domain form)) None (Segments segments) query fragment
     (sym (ap (λ s. scheme_class (scheme_or base s)) schemed ∙ is.special))
     (sym (ap (λ s. denoted_scheme base s) schemed ∙ is.lower))
     (rw own.form (rw own.host.host refl))
     (sym (ap (λ f. denoted_port base f parts) own.form ∙ own.port.port))
-    (sym (ap (λ f. denoted_path base Special f parts) own.form
-    ∙ ap Segments (authority_path-kept segments own.path.some own.path.kept from_path.0)))
+    (sym (ap (λ f. denoted_path base Special f parts) own.form ∙ ap Segments path))
     (sym (ap (λ f. denoted_query base Special f query) own.form ∙ query-kept base query from_query.0))
     (sym (fragment-kept fragment from_query.1))
     in
-    spelled_so ∙ sym (serial-spelled scheme form segments query fragment) ∙ ap serial denoted
+    sym (serial-spelled scheme form segments query fragment) ∙ ap serial denoted
+
+-- the text of the URL that a text with its own path denotes, once the scheme is known
+own-schemed : (profile : Profile) (base : Option Url) (text : List ℕ) (parts : Parts) (scheme : List ℕ)
+    → Valid profile base text parts → IsOwnText text parts → parts.scheme ≡ Some scheme → IsOwnScheme scheme
+    → text ≡ serial (denote base parts)
+own-schemed profile base text parts scheme valid own schemed is =
+    let front = own.front in
+    let form = front.host.form in
+    let segments = parts.segments in
+    let whole = front-spelled profile base text parts scheme valid front schemed in
+    let slashed : MayBePathSlashed segments parts.path_text
+    = special_path profile base text parts scheme form valid front.form schemed is.special front.host.host_text
+    in
+    let some = some_segments segments parts.path_text own.path.0 slashed in
+    let path : parts.path_text ≡ serial_segments segments
+    = slashed_text segments parts.path_text some slashed
+    in
+    let bytes = (front-path text parts scheme front whole).0 in
+    let no_dots = subst (λ t. has_no_dots false t ≡ true) path
+    (own.path.1 (never_encoded-ascii parts.path_text bytes)) in
+    whole ∙ ap (λ p. spelled scheme form p parts.query parts.fragment) path
+    ∙ front-serial base text parts scheme segments front schemed is whole
+    (authority_path-kept segments some (kept-segments segments no_dots)
+    (sym (ap (list_all is_never_encoded) path) ∙ bytes))
+
+-- behind a text that ends in its host stands the `/` of its path
+spelled-host : (scheme form : List ℕ)
+    → spelled scheme form [] None None ++ (slash ∷ []) ≡ spelled scheme form (slash ∷ []) None None
+spelled-host scheme form =
+    append_assoc scheme (colon ∷ slash ∷ slash ∷ ((form ++ []) ++ [])) (slash ∷ [])
+    ∙ ap (λ t. scheme ++ (colon ∷ slash ∷ slash ∷ t)) (append_assoc (form ++ []) [] (slash ∷ []))
+
+-- the text of the URL that a text that ends in its host denotes, once the scheme is known
+root-schemed : (profile : Profile) (base : Option Url) (text : List ℕ) (parts : Parts) (scheme : List ℕ)
+    → Valid profile base text parts → IsOwnRoot text parts → parts.scheme ≡ Some scheme → IsOwnScheme scheme
+    → text ++ (slash ∷ []) ≡ serial (denote base parts)
+root-schemed profile base text parts scheme valid own schemed is =
+    let front = own.front in
+    let form = front.host.form in
+    let ends = own.ends in
+    let whole = front-spelled profile base text parts scheme valid front schemed in
+    let slashed : MayBePathSlashed parts.segments parts.path_text
+    = special_path profile base text parts scheme form valid front.form schemed is.special front.host.host_text
+    in
+    let root : authority_path Special parts.segments ≡ [] ∷ []
+    = ap (authority_path Special) (no_segments parts.segments parts.path_text slashed ends.path)
+    in
+    let bare : text ≡ spelled scheme form [] None None
+    = whole ∙ ap (λ p. spelled scheme form p parts.query parts.fragment) ends.path
+    ∙ ap (λ q. spelled scheme form [] q parts.fragment) ends.query
+    ∙ ap (λ f. spelled scheme form [] None f) ends.fragment
+    in
+    ap (λ t. t ++ (slash ∷ [])) bare ∙ spelled-host scheme form
+    ∙ ap (λ q. spelled scheme form (slash ∷ []) q None) (sym ends.query)
+    ∙ ap (λ f. spelled scheme form (slash ∷ []) parts.query f) (sym ends.fragment)
+    ∙ front-serial base text parts scheme ([] ∷ []) front schemed is whole root
 
 -- the text of the URL that such a text denotes is the text
 pub own_text : (profile : Profile) (base : Option Url) (text : List ℕ) (parts : Parts)
     → Valid profile base text parts → IsOwnText text parts → text ≡ serial (denote base parts)
-own_text profile base text parts valid own = go parts.scheme refl own.scheme
+own_text profile base text parts valid own = go parts.scheme refl own.front.scheme
   where
     go : (scheme : Option (List ℕ)) → parts.scheme ≡ scheme → HasOwnScheme scheme → text ≡ serial (denote base parts)
     go None e has = absurd has
     go (Some scheme) e has = own-schemed profile base text parts scheme valid own e has
 
--- ---- what the code sees
+-- or the text with a `/` behind it, where it ends in its host
+pub own_root : (profile : Profile) (base : Option Url) (text : List ℕ) (parts : Parts)
+    → Valid profile base text parts → IsOwnRoot text parts → text ++ (slash ∷ []) ≡ serial (denote base parts)
+own_root profile base text parts valid own = go parts.scheme refl own.front.scheme
+  where
+    go : (scheme : Option (List ℕ)) → parts.scheme ≡ scheme → HasOwnScheme scheme
+        → text ++ (slash ∷ []) ≡ serial (denote base parts)
+    go None e has = absurd has
+    go (Some scheme) e has = root-schemed profile base text parts scheme valid own e has
 
--- a text that no part encodes is ASCII
-never_encoded-ascii : (text : List ℕ) → list_all is_never_encoded text ≡ true → list_all is_ascii text ≡ true
-never_encoded-ascii [] h = refl
-never_encoded-ascii (c ∷ rest) h =
-    let parts = and_parts (is_never_encoded c) (list_all is_never_encoded rest) h in
-    and_from _ _ (and_parts (is_ascii c) (not (c == apostrophe)) parts.0).0 (never_encoded-ascii rest parts.1)
+-- ---- what the code sees
 
 -- bytes that are an ASCII text have its code points
 pub ascii_chars : (bytes text : List ℕ) → IsAscii text → bytes ≡ text → chars bytes ≡ text
 ascii_chars bytes text ascii e = ap chars e ∙ chars-IsAscii text ascii
 
+-- a text's bytes as its code points, where these are ASCII
+valid_bytes : (profile : Profile) (base : Option Url) (text : List ℕ) (parts : Parts)
+    → list_all is_never_encoded text ≡ true → Valid profile base (chars text) parts → Valid profile base text parts
+valid_bytes profile base text parts bytes valid =
+    subst (λ t. Valid profile base t parts)
+    (chars-IsAscii text (IsAscii-from_test text (never_encoded-ascii text bytes))) valid
+
 -- a valid text of such parts denotes a URL with this text
 pub own_text_denotes : (profile : Profile) (base : Option Url) (text : List ℕ) (parts : Parts)
     → Valid profile base (chars text) parts → IsOwnText text parts → DenotesText profile base text text
-own_text_denotes profile base text parts valid own =
-    let same = chars-IsAscii text (IsAscii-from_test text (never_encoded-ascii text own.bytes)) in
-    let valid_bytes : Valid profile base text parts = subst (λ t. Valid profile base t parts) same valid in
-    (denote base parts, (parts, valid, refl), own_text profile base text parts valid_bytes own)
+own_text_denotes profile base text parts valid own = (
+  denote base parts,
+  (parts, valid, refl),
+  own_text profile base text parts (valid_bytes profile base text parts own.front.bytes valid) own,
+)
+
+-- and one that ends in its host a URL with this text and a `/`
+pub own_root_denotes : (profile : Profile) (base : Option Url) (text : List ℕ) (parts : Parts)
+    → Valid profile base (chars text) parts → IsOwnRoot text parts
+    → DenotesText profile base text (text ++ (slash ∷ []))
+own_root_denotes profile base text parts valid own = (
+  denote base parts,
+  (parts, valid, refl),
+  own_root profile base text parts (valid_bytes profile base text parts own.front.bytes valid) own,
+)
+
+-- the code points of a text: there are some where it has bytes, and ASCII ones are its bytes
+pub own_path : (bytes : List ℕ) → IsUtf8 bytes → (length bytes == 0) ≡ false → has_no_dots false bytes ≡ true
+    → IsOwnPath (chars bytes)
+own_path bytes utf8 some no_dots = (
+  some_chars bytes utf8 some,
+  λ ascii. subst (λ t. has_no_dots false t ≡ true)
+      (sym (encodes-chars bytes utf8) ∙ encodes-IsAscii (chars bytes) (IsAscii-from_test (chars bytes) ascii)) no_dots,
+)
 
 -- the two schemes
 https_is_own : IsOwnScheme (codes "https")

@@ -1,9 +1,9 @@
 -- Texts that are the text of the URL that they denote: parsed and serialized they stay as they are (URL Standard,
 -- sections 4.4 and 4.5).
-use Rattle.std.specs.Prelude.{◌≡◌, ◌≢◌, ℕ, Bool, true, not, ◌&&◌, ◌==◌, List, [], Option, Some, None}
+use Rattle.std.specs.Prelude.{◌≡◌, ◌≢◌, ℕ, Bool, true, false, not, ◌&&◌, ◌||◌, ◌==◌, List, [], ◌∷◌, Option, Some, None}
 use Rattle.std.specs.List.{list_all}
 use Rattle.std.specs.Char.{is_ascii}
-use Rattle.uv_model.specs.Ascii.{apostrophe}
+use Rattle.uv_model.specs.Ascii.{apostrophe, full_stop, percent_sign, slash}
 use Rattle.uv_model.specs.declared.host.Host.TheVariants.{Domain}
 use Rattle.uv_model.specs.declared.scheme.Class.TheVariants.{Special}
 use Rattle.uv_model.specs.Parts.{SchemeAuthority, Parts}
@@ -39,16 +39,39 @@ pub record HasNoPort (parts : Parts) : Type 0 where
   pub text : parts.port_text ≡ None
   pub port : parts.port ≡ None
 
--- there are segments, and no dot segment
-pub record HasOwnPath (parts : Parts) : Type 0 where
-  pub some : parts.segments ≢ []
-  pub kept : list_all is_kept_segment parts.segments ≡ true
+-- a code point with which a dot segment begins
+abbrev pub is_dot_mark : ℕ → Bool
+is_dot_mark c = (c == full_stop) || (c == percent_sign)
 
--- what makes a valid text with these parts its own URL's text
-pub record IsOwnText (text : List ℕ) (parts : Parts) : Type 0 where
+-- no `.` and no `%` stands behind a `/`, nor at the start where that begins a segment
+abbrev pub has_no_dots : Bool → List ℕ → Bool
+has_no_dots begins [] = true
+has_no_dots begins (c ∷ rest) = not (begins && is_dot_mark c) && has_no_dots (c == slash) rest
+
+-- the path's text isn't empty, and where it is ASCII no segment begins as a dot segment does
+abbrev pub IsOwnPath : List ℕ → Type 0
+IsOwnPath text = (text ≢ []) × (list_all is_ascii text ≡ true → has_no_dots false text ≡ true)
+
+-- nothing stands behind the host
+pub record EndsInHost (parts : Parts) : Type 0 where
+  pub path : parts.path_text ≡ []
+  pub query : parts.query ≡ None
+  pub fragment : parts.fragment ≡ None
+
+-- a text whose scheme and authority are written as they are denoted, and of which no part is encoded
+pub record HasOwnFront (text : List ℕ) (parts : Parts) : Type 0 where
   pub form : parts.form ≡ SchemeAuthority
   pub bytes : list_all is_never_encoded text ≡ true
   pub scheme : HasOwnScheme parts.scheme
   pub host : HasOwnHost parts
   pub port : HasNoPort parts
-  pub path : HasOwnPath parts
+
+-- what makes a valid text with these parts its own URL's text
+pub record IsOwnText (text : List ℕ) (parts : Parts) : Type 0 where
+  pub front : HasOwnFront text parts
+  pub path : IsOwnPath parts.path_text
+
+-- what makes it that text but for the `/` of the path, which stands behind it
+pub record IsOwnRoot (text : List ℕ) (parts : Parts) : Type 0 where
+  pub front : HasOwnFront text parts
+  pub ends : EndsInHost parts

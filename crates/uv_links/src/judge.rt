@@ -1,6 +1,7 @@
 //! The judgement of a line.
-ghost use Rattle.std.specs.Prelude.{◌≡◌, ◌≤◌, IfOk, IfErr, Some, length, option_copied};
+ghost use Rattle.std.specs.Prelude.{◌≡◌, ◌≤◌, ◌++◌, ◌∷◌, [], IfOk, IfErr, Some, length, option_copied};
 ghost use Rattle.std.specs.Str.{IsUtf8};
+ghost use Rattle.uv_model.specs.Ascii.{slash};
 ghost use Rattle.uv_links.specs.Fault.{IsBaseFault};
 ghost use Rattle.uv_links.specs.Judgement.{judged_said};
 ghost use Rattle.uv_links.specs.Report.{DenotesText, IsSaid};
@@ -8,7 +9,7 @@ ghost use Rattle.uv_links.specs.Second.{AgreesOnBase, IsReadAs, second_base};
 
 use crate::fault::{LinkFault, RoomFault, fault_of_room};
 use crate::judgement::Judgement;
-use crate::own_text::is_own_text;
+use crate::own_text::{is_own_root, is_own_text};
 use crate::second::read_as;
 use std::alloc::{AllocError, Global};
 use std::marker::Model;
@@ -96,6 +97,8 @@ impl<'b> Judge<'b> {
             Ok(Verdict::Yes(parts)) => {
                 if is_own_text(text, &parts) {
                     self.compare(alloc, text, text)
+                } else if is_own_root(text, &parts) {
+                    self.compare_root(alloc, text)
                 } else {
                     self.judge_by_record(alloc, text)
                 }
@@ -118,6 +121,17 @@ impl<'b> Judge<'b> {
             Err(ResolveFault::Refused(refusal)) => Ok(Judgement::Refused(refusal)),
             Err(ResolveFault::Memory(_)) => Err(RoomFault::Memory),
         }
+    }
+
+    // What is said of a text that denotes a URL with this text and a `/` behind it.
+    fn compare_root(&self, alloc: Global, text: &str) -> Result<Judgement, RoomFault>
+        requires short { length text.now ≤ self.now.line_bytes }
+        requires denotes { DenotesText self.now.profile self.now.base text.now (text.now ++ slash ∷ []) }
+        ensures { IfOk result (λ j. IsSaid self.now text.now (judged_said j)) }
+    {
+        let mut written = String::from_str(alloc, text)?;
+        written.push_str("/")?;
+        self.compare(alloc, text, written.as_str())
     }
 
     // What is said of a text that denotes a URL with this text.

@@ -1,5 +1,6 @@
 //! What is said of one line, and the line of the report that says it.
-ghost use Rattle.std.specs.Prelude.{◌≡◌, ◌++◌, IfOk, OnOk, string_bytes};
+ghost use Rattle.std.specs.Prelude.{◌≡◌, ◌++◌, IfOk, OnErr, OnOk, string_bytes};
+ghost use Rattle.std.specs.Io.{StartsWith};
 ghost use Rattle.uv_links.specs.Outcome.{said_of};
 ghost use Rattle.uv_links.specs.Report.{Refused, Same, report_line, said_text};
 
@@ -24,58 +25,83 @@ pub enum Outcome<'a> {
 
 /// One line of the report, with its LF. The number is that of the line in its list, from 1. The error is want of
 /// memory.
+#[tactic(auto, unfolding(crate::specs::Report::report_line))]
 pub fn line_text(alloc: Global, number: u64, outcome: &Outcome<'_>) -> Result<String, AllocError>
     ensures { IfOk result (λ text. string_bytes text ≡ report_line number (said_of outcome.now)) }
 {
-    let mut line = String::new(alloc);
-    push_line(&mut line, number, outcome)?;
-    Ok(line)
+    match outcome {
+        Outcome::Good(text) => format!(in alloc; "{number} ok {text}\n"),
+        Outcome::Bad(refusal) => refused_text(alloc, number, *refusal),
+        Outcome::NotUtf8 => format!(in alloc; "{number} bad 0 not-utf8\n"),
+        Outcome::TooLong => format!(in alloc; "{number} bad 0 line-too-long\n"),
+        Outcome::Differs => format!(in alloc; "{number} differs\n"),
+    }
 }
 
-/// Appends one line of the report, with its LF. The error is want of memory.
+// The same of a refused line.
+#[tactic(auto, unfolding(crate::specs::Report::report_line))]
+fn refused_text(alloc: Global, number: u64, refusal: Refusal) -> Result<String, AllocError>
+    ensures { IfOk result (λ text. string_bytes text ≡ report_line number (Refused refusal)) }
+{
+    let place = refusal.place;
+    let name = refusal.rule.name();
+    format!(in alloc; "{number} bad {place} {name}\n")
+}
+
+/// Appends one line of the report, with its LF. The error is want of memory: `out` then still begins with what it held.
 #[tactic(auto, unfolding(crate::specs::Report::report_line))]
 pub(crate) fn push_line(
-    out: &mut String,
+    out: &mut Vec<u8>,
     number: u64,
     outcome: &Outcome<'_>,
 ) -> Result<(), AllocError>
-    ensures { OnOk result (string_bytes out.new
-        ≡ string_bytes out.old ++ report_line number (said_of outcome.now)) }
+    ensures ok { OnOk result (out.new.items ≡ out.old.items ++ report_line number (said_of outcome.now)) }
+    ensures err { OnErr result (StartsWith out.new.items out.old.items) }
 {
     let mut buffer = Buffer::new();
-    out.push_str(buffer.format(number))?;
+    push(out, buffer.format(number))?;
     push_said(out, outcome)
 }
 
 // What stands behind the number, with the LF.
-fn push_said(out: &mut String, outcome: &Outcome<'_>) -> Result<(), AllocError>
-    ensures { OnOk result (string_bytes out.new
-        ≡ string_bytes out.old ++ said_text (said_of outcome.now)) }
+fn push_said(out: &mut Vec<u8>, outcome: &Outcome<'_>) -> Result<(), AllocError>
+    ensures ok { OnOk result (out.new.items ≡ out.old.items ++ said_text (said_of outcome.now)) }
+    ensures err { OnErr result (StartsWith out.new.items out.old.items) }
 {
     match outcome {
         Outcome::Good(text) => push_same(out, text),
         Outcome::Bad(refusal) => push_refusal(out, *refusal),
-        Outcome::NotUtf8 => out.push_str(" bad 0 not-utf8\n"),
-        Outcome::TooLong => out.push_str(" bad 0 line-too-long\n"),
-        Outcome::Differs => out.push_str(" differs\n"),
+        Outcome::NotUtf8 => push(out, " bad 0 not-utf8\n"),
+        Outcome::TooLong => push(out, " bad 0 line-too-long\n"),
+        Outcome::Differs => push(out, " differs\n"),
     }
 }
 
-fn push_same(out: &mut String, text: &str) -> Result<(), AllocError>
-    ensures { OnOk result (string_bytes out.new ≡ string_bytes out.old ++ said_text (Same text.now)) }
+fn push_same(out: &mut Vec<u8>, text: &str) -> Result<(), AllocError>
+    ensures ok { OnOk result (out.new.items ≡ out.old.items ++ said_text (Same text.now)) }
+    ensures err { OnErr result (StartsWith out.new.items out.old.items) }
 {
-    out.push_str(" ok ")?;
-    out.push_str(text)?;
-    out.push_str("\n")
+    push(out, " ok ")?;
+    push(out, text)?;
+    push(out, "\n")
 }
 
-fn push_refusal(out: &mut String, refusal: Refusal) -> Result<(), AllocError>
-    ensures { OnOk result (string_bytes out.new ≡ string_bytes out.old ++ said_text (Refused refusal)) }
+fn push_refusal(out: &mut Vec<u8>, refusal: Refusal) -> Result<(), AllocError>
+    ensures ok { OnOk result (out.new.items ≡ out.old.items ++ said_text (Refused refusal)) }
+    ensures err { OnErr result (StartsWith out.new.items out.old.items) }
 {
     let mut buffer = Buffer::new();
-    out.push_str(" bad ")?;
-    out.push_str(buffer.format(refusal.place))?;
-    out.push_str(" ")?;
-    out.push_str(refusal.rule.name())?;
-    out.push_str("\n")
+    push(out, " bad ")?;
+    push(out, buffer.format(refusal.place))?;
+    push(out, " ")?;
+    push(out, refusal.rule.name())?;
+    push(out, "\n")
+}
+
+// The bytes of a text.
+fn push(out: &mut Vec<u8>, text: &str) -> Result<(), AllocError>
+    ensures ok { OnOk result (out.new.items ≡ out.old.items ++ text.now) }
+    ensures err { OnErr result (out.new.items ≡ out.old.items) }
+{
+    out.extend_from_slice(text.as_bytes())
 }

@@ -1,13 +1,13 @@
-//! Texts that are the text of the URL that they denote, as most links are: no record has to be made of them.
-ghost use Rattle.std.specs.Prelude.{◌≡◌, IsTrue, Some, true};
+//! Texts that are the text of the URL that they denote, but perhaps for a `/` at the end, as most links are: no record
+//! has to be made of them.
+ghost use Rattle.std.specs.Prelude.{◌≡◌, ◌&&◌, [], IsTrue, Some, false, true};
 ghost use Rattle.std.specs.List.{list_all};
 ghost use Rattle.std.specs.Str.{IsAscii, chars};
 ghost use Rattle.uv_grammar.specs.Slices.{chars_of_option};
-ghost use Rattle.uv_links.specs.OwnText.{HasNoPort, HasOwnHost, HasOwnPath, HasOwnScheme, IsOwnScheme, IsOwnText, is_kept_segment, is_never_encoded};
+ghost use Rattle.uv_links.specs.OwnText.{EndsInHost, HasNoPort, HasOwnFront, HasOwnHost, HasOwnScheme, IsOwnPath, IsOwnRoot, IsOwnScheme, IsOwnText, has_no_dots, is_dot_mark, is_never_encoded};
 
 use memchr::memchr;
 use uv_grammar::{Form, HostRef, Parts};
-use uv_model::{is_double_dot, is_single_dot};
 
 /// Whether a valid text with these parts is the text of the URL that it denotes: a special scheme in lower case, a
 /// domain that is its own form, no port, a path without dot segments, and nothing that is encoded. Where the answer is
@@ -15,13 +15,26 @@ use uv_model::{is_double_dot, is_single_dot};
 pub(crate) fn is_own_text(text: &str, parts: &Parts<'_>) -> bool
     ensures { IsTrue result → IsOwnText text.now parts.now }
 {
+    is_own_path(parts.path_text()) && has_own_front(text, parts)
+}
+
+/// The same of a text that ends in its host, where the URL's text has a `/` behind it.
+pub(crate) fn is_own_root(text: &str, parts: &Parts<'_>) -> bool
+    ensures { IsTrue result → IsOwnRoot text.now parts.now }
+{
+    ends_in_host(parts) && has_own_front(text, parts)
+}
+
+// Whether no part is encoded, and what stands before the path is written as it is denoted.
+fn has_own_front(text: &str, parts: &Parts<'_>) -> bool
+    ensures { IsTrue result → HasOwnFront text.now parts.now }
+{
     match parts.form() {
         Form::SchemeAuthority => {
             is_never_encoded(text)
                 && has_own_scheme(parts.scheme())
                 && has_own_host(parts)
                 && has_no_port(parts)
-                && has_own_path(parts)
         }
         _ => false,
     }
@@ -91,24 +104,50 @@ fn has_no_port(parts: &Parts<'_>) -> bool
     }
 }
 
-// Whether there are segments, and no dot segment.
-fn has_own_path(parts: &Parts<'_>) -> bool
-    ensures { IsTrue result → HasOwnPath parts.now }
+// Whether nothing stands behind the host.
+fn ends_in_host(parts: &Parts<'_>) -> bool
+    ensures { IsTrue result → EndsInHost parts.now }
 {
-    match parts.segments().next() {
-        Some(_) => has_no_dots(parts),
-        None => false,
+    match (parts.query(), parts.fragment()) {
+        (None, None) => has_no_path(parts.path_text()),
+        _ => false,
     }
 }
 
-// Whether no segment is a dot segment.
-fn has_no_dots(parts: &Parts<'_>) -> bool
-    ensures { result ≡ list_all is_kept_segment parts.now.segments }
+// Whether a path's text is empty.
+fn has_no_path(text: &str) -> bool
+    ensures { IsTrue result → chars text.now ≡ [] }
 {
-    for segment in parts.segments() {
-        if is_double_dot(segment) || is_single_dot(segment) {
+    text.is_empty()
+}
+
+// Whether there is a path, of which no segment begins as a dot segment does.
+fn is_own_path(text: &str) -> bool
+    ensures { IsTrue result → IsOwnPath (chars text.now) }
+{
+    if text.is_empty() {
+        return false;
+    }
+    is_without_dots(text.as_bytes())
+}
+
+// Whether no `.` and no `%` stands behind a `/`.
+fn is_without_dots(path: &[u8]) -> bool
+    ensures { result ≡ has_no_dots false path.now }
+{
+    let mut begins = false;
+    for &byte in path {
+        if may_be_dots(begins, byte) {
             return false;
         }
+        begins = byte == b'/';
     }
     true
+}
+
+// Whether a dot segment may begin with a byte, where a segment begins there.
+fn may_be_dots(begins: bool, byte: u8) -> bool
+    ensures { result ≡ (begins && is_dot_mark byte) }
+{
+    begins && (byte == b'.' || byte == b'%')
 }

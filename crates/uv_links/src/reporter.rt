@@ -19,8 +19,6 @@ use uv_lines::Reporter;
 pub(crate) struct LinkReporter<'b> {
     judge: Judge<'b>,
     counts: Counts,
-    // The last line of the report, whose memory is kept for the next one.
-    line: String,
 }
 
 impl<'b> Model for LinkReporter<'b> {
@@ -36,7 +34,7 @@ impl<'b> Model for LinkReporter<'b> {
 
 impl<'b> LinkReporter<'b> {
     /// What reports on a list before its first line.
-    pub(crate) fn new(alloc: Global, judge: Judge<'b>) -> LinkReporter<'b>
+    pub(crate) fn new(judge: Judge<'b>) -> LinkReporter<'b>
         ensures { result ≡ record { setting = judge.entry; counts = none_counted } }
     {
         let counts = Counts {
@@ -45,11 +43,7 @@ impl<'b> LinkReporter<'b> {
             bad: 0,
             differs: 0,
         };
-        LinkReporter {
-            judge,
-            counts,
-            line: String::new(alloc),
-        }
+        LinkReporter { judge, counts }
     }
 
     /// The counts of the lines on which it has reported.
@@ -68,12 +62,17 @@ impl<'b> LinkReporter<'b> {
             ≡ record { setting = self.old.setting; counts = counted self.old.counts (judged_said judgement) }) }
         ensures none { OnErr result ((self.new ≡ self.old) × (text.new.items ≡ text.old.items)) }
     {
-        let number = self.counts.lines + 1;
-        self.line.clear();
-        push_line(&mut self.line, number, &judgement.outcome())?;
-        text.extend_from_slice(self.line.as_bytes())?;
-        self.counts = with_line(self.counts, &judgement);
-        Ok(())
+        let start = text.len();
+        match push_line(text, self.counts.lines + 1, &judgement.outcome()) {
+            Ok(()) => {
+                self.counts = with_line(self.counts, &judgement);
+                Ok(())
+            }
+            Err(AllocError) => {
+                text.truncate(start);
+                Err(AllocError)
+            }
+        }
     }
 }
 

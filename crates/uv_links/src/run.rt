@@ -63,7 +63,7 @@ pub fn run_links<R: Source, W: Sink>(
         line_bytes: limits.line_bytes(),
         lines: limits.lines(),
     };
-    let reporter = LinkReporter::new(alloc, judge);
+    let reporter = LinkReporter::new(judge);
     let (reporter, answer) = run_lines(alloc, reader, writer, reporter, limits);
     match answer {
         Ok(()) => match write_counts(alloc, writer, reporter.counts()) {
