@@ -10,18 +10,8 @@ set -euo pipefail
 top=$(dirname "$(dirname "$(realpath "$0")")")
 seed=1 count=1000000 short=10000 rounds=5
 program=$top/crates/urlcheck/out/urlcheck second=$top/crates/bench_second/out/bench_second
-while (($# > 1)); do
-    case $1 in
-        --seed) seed=$2 ;;
-        --count) count=$2 ;;
-        --rounds) rounds=$2 ;;
-        --program) program=$2 ;;
-        --second) second=$2 ;;
-        *) echo "unknown word: $1"; exit 2 ;;
-    esac
-    shift 2
-done
-(($# == 0)) || { echo "a word without its value: $1"; exit 2; }
+. "$top/bench/words.sh"
+words seed count rounds program second -- "$@"
 ((count >= 10 * short && rounds > 0)) || { echo "at least $((10 * short)) lines and one round"; exit 2; }
 for file in "$program" "$second"; do
     [ -x "$file" ] || { echo "$file is no program: build its crate first (rt run)"; exit 2; }

@@ -9,19 +9,8 @@
 set -euo pipefail
 top=$(dirname "$(dirname "$(realpath "$0")")")
 ada='' seed=1 count=1000000 short=10000 rounds=25 by='time' program=$top/crates/urlcheck/out/urlcheck
-while (($# > 1)); do
-    case $1 in
-        --ada) ada=$2 ;;
-        --seed) seed=$2 ;;
-        --count) count=$2 ;;
-        --rounds) rounds=$2 ;;
-        --by) by=$2 ;;
-        --program) program=$2 ;;
-        *) echo "unknown word: $1"; exit 2 ;;
-    esac
-    shift 2
-done
-(($# == 0)) || { echo "a word without its value: $1"; exit 2; }
+. "$top/bench/words.sh"
+words ada seed count rounds by program -- "$@"
 ((count >= 10 * short && rounds > 0)) || { echo "at least $((10 * short)) lines and one round"; exit 2; }
 [ -n "$ada" ] || { echo 'give the folder of a release of Ada by --ada'; exit 2; }
 [ -x "$program" ] || { echo "$program is no program: build its crate first (rt run)"; exit 2; }

@@ -9,20 +9,9 @@
 set -euo pipefail
 top=$(dirname "$(dirname "$(realpath "$0")")")
 ada='' links='' seed=1 count=1000000 kind='' rounds=5 by='time' wanted=''
-while (($# > 1)); do
-    case $1 in
-        --ada) ada=$2 ;;
-        --links) links=$(realpath "$2") ;;
-        --seed) seed=$2 ;;
-        --count) count=$2 ;;
-        --kind) kind=$2 ;;
-        --rounds) rounds=$2 ;;
-        --by) by=$2 ;;
-        *) echo "unknown word: $1"; exit 2 ;;
-    esac
-    shift 2
-done
-(($# == 0)) || { echo "a word without its value: $1"; exit 2; }
+. "$top/bench/words.sh"
+words ada links seed count kind rounds by -- "$@"
+[ -z "$links" ] || links=$(realpath "$links")
 room=$(mktemp -d)
 trap 'rm -rf "$room"' EXIT
 driver=$top/crates/bench_check/out/bench_check
