@@ -26,20 +26,6 @@ kept_more old now i e room rest =
     sym (drop-drop 1 i (set now i e)) ∙ ap (drop 1) (drop-set_at now i i e refl room)
     ∙ sym (drop-drop 1 i now) ∙ ap (drop 1) rest ∙ drop-drop 1 i old
 
--- all are written
-pub written_all : {X Y : Type 0} (f : X → Y) (xs : List X) (old now : List Y) (n : ℕ) → n ≡ length xs
-    → take n now ≡ take n (map f xs) → drop n now ≡ drop n old → now ≡ map f xs ++ drop (length xs) old
-written_all f xs old now n is front rest =
-    sym (take-append-drop n now)
-    ∙ ap (λ t. t ++ drop n now) (front ∙ take_all n (map f xs) (rw (length-map xs f) (omega (arith, is))))
-    ∙ ap (λ t. map f xs ++ t) (rest ∙ ap (λ k. drop k old) is)
-
--- a list that fits is its own front
-pub front_whole : {X Y : Type 0} (f : X → Y) (xs : List X) (old : List Y) → length xs ≤ length old
-    → map f xs ++ drop (length xs) old ≡ take (length old) (map f xs) ++ drop (length xs) old
-front_whole f xs old fits =
-    ap (λ t. t ++ drop (length xs) old) (sym (take_all (length old) (map f xs) (rw (length-map xs f) fits)))
-
 -- a list that is longer is cut off
 pub front_cut : {X Y : Type 0} (f : X → Y) (xs : List X) (old : List Y) → length old ≤ length xs
     → map f (take (length old) xs) ++ drop (length (take (length old) xs)) old

@@ -72,24 +72,6 @@ least_is_one complaint refusal other one two =
 
 -- ---- the answers
 
--- whether a written text is the one that is expected of a valid text
-pub decides_text : (base : Option Url) (input text written : List ℕ) (url : Url)
-    → Denotes Standard base (chars input) url → written ≡ serial url
-    → Decides (bytes_eq written text) (DenotesText Standard base input text)
-decides_text base input text written url denotes is = (
-  λ same. (url, denotes, sym ((bytes_eq-Decides written text).0 same) ∙ is),
-  λ expected. let (other, again, other_is) = expected in
-      (bytes_eq-Decides written text).1
-      (is ∙ ap serial (denoted_is_one Standard base (chars input) url other denotes again) ∙ sym other_is),
-)
-
--- a refused text denotes no text
-pub refused_denotes_none : (base : Option Url) (input text : List ℕ) (refusal : Refusal)
-    → IsRefused Standard base (chars input) refusal → DenotesText Standard base input text → ⊥
-refused_denotes_none base input text refusal refused expected =
-    let (url, (parts, valid, is), same) = expected in
-    refused.none parts valid
-
 -- a valid text has no refusal
 pub denoted_is_not_refused : (base : Option Url) (text : List ℕ) (url : Url) (refusal : Refusal)
     → Denotes Standard base text url → IsRefused Standard base text refusal → ⊥
@@ -131,10 +113,3 @@ decides_against base url input expected answer denotes decides = (
       decides.1 (subst (λ u. IsAsExpected (Some u) input expected)
       (denoted_is_one Standard None (chars base) other url again denotes) is),
 )
-
--- against a base that is refused no case passes
-pub refused_base_fails : (base : List ℕ) (input : List ℕ) (expected : Expectation) (refusal : Refusal)
-    → IsRefused Standard None (chars base) refusal → PassesAgainst (Some base) input expected → ⊥
-refused_base_fails base input expected refusal refused passes =
-    let (url, denotes, is) = passes in
-    denoted_is_not_refused None (chars base) url refusal denotes refused

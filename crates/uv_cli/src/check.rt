@@ -75,7 +75,6 @@ pub fn run_faults<S: Sink>(
 }
 
 // Checks a text against a base's text, and writes what it says of it.
-#[tactic(auto, using(crate::proofs::CheckLemmas::runs_against))]
 fn check_with_base<S: Sink>(
     alloc: Global,
     text: &str,

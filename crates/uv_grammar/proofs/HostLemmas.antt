@@ -64,16 +64,6 @@ pub empty_rule : (profile : Profile) (class : Class) (port_text : Option (List �
 empty_rule profile class port_text path_text place HostMissing h = (refl, h.0, h.1)
 empty_rule profile class port_text path_text place rule h = absurd (empty_content_fits profile class place rule h)
 
--- a missing host
-pub missing_host : (profile : Profile) (class : Class) (port_text : Option (List ℕ)) (path_text : List ℕ)
-    → LacksHost class [] port_text path_text
-    → IsLeast (HostComplaint profile class [] port_text path_text) (Some (record { place = 0; rule = HostMissing }))
-missing_host profile class port_text path_text lacks = record {
-  stands = (lacks, refl);
-  first = λ place rule h. omega arith;
-  lowest = λ rule h. let e = (empty_rule profile class port_text path_text 0 rule h).0 in rw e (le_refl 4);
-}
-
 -- an empty host that may be so
 pub empty_silent : (profile : Profile) (class : Class) (port_text : Option (List ℕ)) (path_text : List ℕ)
     → ¬ (LacksHost class [] port_text path_text)
@@ -181,11 +171,6 @@ file_answer profile text host file_host is same = (
   λ place rule h. host_text_faultless profile text
       (as_host host) is rule h.0,
 )
-
--- the answer of any other URL on an IPv6 text in brackets
-pub bracketed_answer : (text pieces : List ℕ) → IsBracketedIpv6 text pieces
-    → IsJudged (FitsPartsHost (IsOpaqueHostText text)) (OpaqueHostComplaint text) (Valid (Some (Made (V6 pieces))))
-bracketed_answer text pieces is = (is, opaque_host_faultless text (Some (V6 pieces)) is)
 
 -- a host that is neither empty nor in brackets
 pub opaque_answer : (text : List ℕ) → text ≢ [] → IsOpaqueHostOrEmpty text

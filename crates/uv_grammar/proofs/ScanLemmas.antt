@@ -194,10 +194,6 @@ scan_within Digits text place _ h = absurd h
 
 -- ---- what is added to a list
 
--- nothing, where there is no complaint
-pub adds_none : (F : ℕ → Rule → Type 0) (found : List Refusal) → IsLeast F None → AddsComplaints F found found
-adds_none F found none = record { added = []; joined = sym (append-nil found); lists = lists_none F none }
-
 -- no two complaints of a part differ
 abbrev pub HasOneAtMost : (ℕ → Rule → Type 0) → Type 0
 HasOneAtMost F = (place other : ℕ) (rule second : Rule) → F place rule → F other second
@@ -241,15 +237,6 @@ pub record ScansOn (scan : Scan) (start : ℕ) (text : List ℕ) (before found :
   pub inside : here + length (chars left) ≤ start + length (chars text)
   pub rest : (list : List Refusal) → ListsComplaints (Behind here (ScanComplaint scan (chars left))) list
       → AddsComplaints (Behind start (ScanComplaint scan (chars text))) before (found ++ list)
-
--- at the start
-pub scan_begins : (scan : Scan) (start : ℕ) (text : List ℕ) (before : List Refusal) → IsUtf8 text
-    → ScansOn scan start text before before start text
-scan_begins scan start text before utf8 = record {
-  utf8 = utf8;
-  inside = omega arith;
-  rest = λ list is. record { added = list; joined = refl; lists = is };
-}
 
 -- behind a fault
 pub scan_goes_on : (scan : Scan) (start : ℕ) (text : List ℕ) (before found after : List Refusal) (here : ℕ)

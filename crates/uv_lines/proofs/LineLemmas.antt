@@ -156,18 +156,6 @@ take_more zero l more = refl
 take_more (suc n) [] more = refl
 take_more (suc n) (x ∷ xs) more = ap (λ l. x ∷ l) (take_more n xs more)
 
--- the room that is left in what is kept
-pub take_room : (n : ℕ) (kept more : List ℕ) → length kept ≤ n
-    → kept ++ take (min (n - length kept) (length more)) more ≡ take n (kept ++ more)
-take_room n kept more h =
-    let room = n - length kept in
-    let same : take (min room (length more)) more ≡ take room more =
-    elim (cases_lt room (length more)) [
-      | inl below ↦ ap (λ k. take k more) (omega (arith, below))
-      | inr above ↦ take_all (min room (length more)) more (omega (arith, above)) ∙ sym (take_all room more above)
-    ] in
-    ap (λ l. kept ++ l) same ∙ sym (take-append-add kept more room) ∙ ap (λ k. take k (kept ++ more)) (omega (arith, h))
-
 -- what a search for LF says of a text that holds none
 pub no_line_feed : (xs : List ℕ) → IsFirstByte (is_byte line_feed) xs None → split xs ≡ ([], xs)
 no_line_feed xs none =

@@ -96,15 +96,6 @@ Stands-growing reports lines n start written read rest p begun kept text none h 
       count = rw (closed-growing read rest none) h.count;
     }
 
--- nothing more has come
-pub Stands-same : {S : Type 0} (reports : S → Option (List ℕ) → List ℕ → S → Type 0) (lines : S → ℕ) (n : ℕ)
-    (start : S) (written read rest : List ℕ) (p : S) (begun text : List ℕ)
-    → Stands reports lines n start written read p begun text → length rest ≡ 0
-    → Stands reports lines n start written (read ++ rest) p begun text
-Stands-same reports lines n start written read [] p begun text h none = rw (append-nil read) h
-Stands-same reports lines n start written read (x ∷ xs) p begun text h none =
-    (let z : ⊥ = omega (arith, none) in absurd z)
-
 -- ---- faults
 
 -- the lines that a front of the list closes are the first of the list's lines

@@ -100,10 +100,3 @@ module _ (p : ℕ → Bool) where
   pub front_before : (xs ys : List ℕ) → prefix_len p ys ≡ 0 → prefix_len p (xs ++ ys) ≡ prefix_len p xs
   front_before [] ys none = none
   front_before (x ∷ xs) ys none = ap (λ k. cond (p x) (1 + k) 0) (front_before xs ys none)
-
--- what fills a load up passes no test that refuses it
-pub front_of_fill : (p : ℕ → Bool) (x n k : ℕ) → p x ≡ false → prefix_len p (drop k (replicate n x)) ≡ 0
-front_of_fill p x zero zero refused = refl
-front_of_fill p x zero (suc k) refused = refl
-front_of_fill p x (suc n) zero refused = rw refused refl
-front_of_fill p x (suc n) (suc k) refused = front_of_fill p x n k refused

@@ -198,19 +198,6 @@ escape_passes bytes (high ∷ low ∷ rest) u first hex =
       shorter = rw text (omega arith);
     }
 
--- a code point beyond ASCII
-pub beyond_passes : (text rest : List ℕ) (c : ℕ) → text ≡ c ∷ rest → 128 ≤ c → is_url_code_point c ≡ true
-    → PassesMarks text rest
-beyond_passes text rest c first high is = λ held digits.
-    rw first (passes_one held c rest rest (mark_begins held c rest (mark c rest high is))
-    (passes_nothing held rest))
-  where
-    mark : (c : ℕ) (rest : List ℕ) → 128 ≤ c → is_url_code_point c ≡ true → begins_mark c rest ≡ true
-    mark c rest high is =
-        let no_percent : (c == percent_sign) ≡ false = ne_eqb c percent_sign (λ same. omega (arith, same, high)) in
-        let beyond : nat_le 128 c ≡ true = grind (arith, nat_tests, high) in
-        rw (no_percent, beyond, is) refl
-
 -- ---- the cut
 
 -- a slice from the start

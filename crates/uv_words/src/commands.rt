@@ -1,6 +1,6 @@
 //! The commands of the program, with their help.
 ghost use Rattle.std.specs.Prelude.{◌≡◌, IfOk, false};
-ghost use Rattle.clap.specs.Words.{app_of, rule_of};
+ghost use Rattle.clap.specs.Words.{App, Rule, app_of, rule_of, with_rule, with_subcommand};
 ghost use Rattle.uv_words.specs.Commands.{check_command, explain_command, links_command, lint_command, vectors_command};
 ghost use Rattle.uv_words.specs.Commands.{all_rule, base_rule, file_rule, files_rule, format_rule, name_rule, quiet_rule};
 ghost use Rattle.uv_words.specs.Commands.{text_rule, urlcheck, wide_rule, IsApp};
@@ -50,52 +50,74 @@ Example:
 pub(crate) fn urlcheck<'a>(alloc: Global) -> Result<Command<'a>, AllocError>
     ensures { IfOk result (λ c. app_of c ≡ urlcheck) }
 {
-    Command::new(alloc, "urlcheck")
+    let program = Command::new(alloc, "urlcheck")
         .version("0.1.0")
         .about("Says whether a text is a valid URL string")
         .after_help(STATUSES)
-        .subcommand_required(true)
-        .subcommand(check(alloc)?)?
-        .subcommand(lint(alloc)?)?
-        .subcommand(links(alloc)?)?
-        .subcommand(vectors(alloc)?)?
-        .subcommand(explain(alloc)?)
+        .subcommand_required(true);
+    let program = and_command(Ok(program), check(alloc));
+    let program = and_command(program, lint(alloc));
+    let program = and_command(program, links(alloc));
+    let program = and_command(program, vectors(alloc));
+    and_command(program, explain(alloc))
+}
+
+// The command with one subcommand more, where no growth was refused.
+fn and_command<'a>(
+    command: Result<Command<'a>, AllocError>,
+    other: Result<Command<'a>, AllocError>,
+) -> Result<Command<'a>, AllocError>
+    ensures { (a b : App) → IfOk command.entry (λ c. app_of c ≡ a) → IfOk other.entry (IsApp b)
+        → IfOk result (λ c. app_of c ≡ with_subcommand a b.top) }
+{
+    command?.subcommand(other?)
+}
+
+// The command with one argument more, where no growth was refused.
+fn and_arg<'a>(
+    command: Result<Command<'a>, AllocError>,
+    arg: Arg<'a>,
+) -> Result<Command<'a>, AllocError>
+    ensures { (a : App) (r : Rule) → IfOk command.entry (IsApp a) → rule_of arg.entry ≡ r
+        → arg.entry.global ≡ false → IfOk result (IsApp (with_rule a r)) }
+{
+    command?.arg(arg)
 }
 
 fn check<'a>(alloc: Global) -> Result<Command<'a>, AllocError>
     ensures { IfOk result (IsApp check_command) }
 {
-    Command::new(alloc, "check")
+    let command = Command::new(alloc, "check")
         .about("Checks one text")
-        .after_help(CHECK_EXAMPLES)
-        .arg(base(alloc))?
-        .arg(all(alloc))?
-        .arg(wide(alloc))?
-        .arg(text(alloc))
+        .after_help(CHECK_EXAMPLES);
+    let command = and_arg(Ok(command), base(alloc));
+    let command = and_arg(command, all(alloc));
+    let command = and_arg(command, wide(alloc));
+    and_arg(command, text(alloc))
 }
 
 fn lint<'a>(alloc: Global) -> Result<Command<'a>, AllocError>
     ensures { IfOk result (IsApp lint_command) }
 {
-    Command::new(alloc, "lint")
+    let command = Command::new(alloc, "lint")
         .about("Says what is wrong with the lines of files")
-        .after_help(LINT_EXAMPLES)
-        .arg(base(alloc))?
-        .arg(all(alloc))?
-        .arg(wide(alloc))?
-        .arg(format(alloc))?
-        .arg(quiet(alloc))?
-        .arg(files(alloc))
+        .after_help(LINT_EXAMPLES);
+    let command = and_arg(Ok(command), base(alloc));
+    let command = and_arg(command, all(alloc));
+    let command = and_arg(command, wide(alloc));
+    let command = and_arg(command, format(alloc));
+    let command = and_arg(command, quiet(alloc));
+    and_arg(command, files(alloc))
 }
 
 fn links<'a>(alloc: Global) -> Result<Command<'a>, AllocError>
     ensures { IfOk result (IsApp links_command) }
 {
-    Command::new(alloc, "links")
+    let command = Command::new(alloc, "links")
         .about("Checks each line of the standard input")
-        .after_help(LINKS_EXAMPLES)
-        .arg(base(alloc))?
-        .arg(wide(alloc))
+        .after_help(LINKS_EXAMPLES);
+    let command = and_arg(Ok(command), base(alloc));
+    and_arg(command, wide(alloc))
 }
 
 fn vectors<'a>(alloc: Global) -> Result<Command<'a>, AllocError>

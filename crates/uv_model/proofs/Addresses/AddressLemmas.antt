@@ -212,10 +212,6 @@ side_ascii : (dotted : Bool) (text pieces : List ℕ) → IsSide dotted text pie
 side_ascii dotted text pieces (inl (nothing, none)) = rw nothing IsAscii-nil
 side_ascii dotted text pieces (inr list) = groups_ascii dotted text pieces list
 
--- an IPv4 text is ASCII
-pub ipv4_ascii : (text : List ℕ) (value : ℕ) → IsIpv4 text value → IsAscii text
-ipv4_ascii text value (a, b, c, d, is, e) = numbers_ascii a b c d text is
-
 -- an IPv6 text is ASCII
 pub ipv6_ascii : (text pieces : List ℕ) → IsIpv6 text pieces → IsAscii text
 ipv6_ascii text pieces (inl (list, eight)) = groups_ascii true text pieces list

@@ -80,12 +80,6 @@ least_second F G (Some refusal) none is = record { stands = inr is.stands; first
     lowest rule (inl f) = absurd (none refusal.place rule f)
     lowest rule (inr g) = is.lowest rule g
 
--- the least of both is the least of the first kind, or else that of the second
-pub least_of_both : (F G : ℕ → Rule → Type 0) (first second : Option Refusal) → Precedes F G → IsLeast F first
-    → IsLeast G second → IsLeast (Either F G) (fault_or first second)
-least_of_both F G None second before none is = least_second F G second none is
-least_of_both F G (Some refusal) second before least is = least_first F G refusal before least
-
 -- ---- complaints of a part, behind the start of the text
 
 -- the least complaint of a part is the least one behind its start

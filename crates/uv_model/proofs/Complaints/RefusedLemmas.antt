@@ -283,13 +283,6 @@ host_passes setting cut least = least_second (HostPartComplaint setting cut) (Fr
 
 -- ---- from a part judged alone to the part of the text
 
--- the least complaint of the host is its least one behind `//`
-pub least_of_host : (setting : Setting) (cut : Cut) (host_text : List ℕ) (least : Option Refusal)
-    → cut.host_text ≡ Some host_text
-    → IsLeast (HostComplaint setting.profile setting.class host_text cut.port_text cut.path_text) least
-    → IsLeast (HostPartComplaint setting cut) (fault_behind (host_place cut) least)
-least_of_host setting cut host_text least is found = rw is (least_behind (host_place cut) _ least found)
-
 -- without an authority the host has none
 pub none_of_host : (setting : Setting) (cut : Cut) → cut.host_text ≡ None → IsLeast (HostPartComplaint setting cut) None
 none_of_host setting cut is = rw is (λ place rule h. h)
@@ -311,33 +304,3 @@ none_of_port cut is = go cut.scheme cut.host_text cut.port_text cut.path_text cu
     go scheme None port_text path_text query fragment is = λ place rule h. h
     go scheme (Some host_text) None path_text query fragment is = λ place rule h. h
     go scheme (Some host_text) (Some port_text) path_text query fragment is = absurd cc
-
--- the least complaint of the path's start
-pub least_of_path_start : (setting : Setting) (cut : Cut) (least : Option Refusal)
-    → IsLeast (PathStartComplaint setting cut) least
-    → IsLeast (OfPathStart setting cut) (fault_behind (path_place cut) least)
-least_of_path_start setting cut least found = least_behind (path_place cut) (PathStartComplaint setting cut) least found
-
--- the least complaint of the path by what it holds
-pub least_of_path : (cut : Cut) (least : Option Refusal) → IsLeast (UnitComplaint cut.path_text) least
-    → IsLeast (OfPath cut) (fault_behind (path_place cut) least)
-least_of_path cut least found = least_behind (path_place cut) (UnitComplaint cut.path_text) least found
-
--- the least complaint of the query
-pub least_of_query : (cut : Cut) (query : List ℕ) (least : Option Refusal) → cut.query ≡ Some query
-    → IsLeast (UnitComplaint query) least → IsLeast (OfQuery cut) (fault_behind (query_place cut) least)
-least_of_query cut query least is found = rw is (least_behind (query_place cut) (UnitComplaint query) least found)
-
--- without a query there is none
-pub none_of_query : (cut : Cut) → cut.query ≡ None → IsLeast (OfQuery cut) None
-none_of_query cut is = rw is (λ place rule h. h)
-
--- the least complaint of the fragment
-pub least_of_fragment : (cut : Cut) (fragment : List ℕ) (least : Option Refusal) → cut.fragment ≡ Some fragment
-    → IsLeast (UnitComplaint fragment) least → IsLeast (FromFragment cut) (fault_behind (fragment_place cut) least)
-least_of_fragment cut fragment least is found =
-    rw is (least_behind (fragment_place cut) (UnitComplaint fragment) least found)
-
--- without a fragment there is none
-pub none_of_fragment : (cut : Cut) → cut.fragment ≡ None → IsLeast (FromFragment cut) None
-none_of_fragment cut is = rw is (λ place rule h. h)

@@ -34,13 +34,6 @@ IsUrlPort-given scheme host (Some (digit ∷ rest)) is takes =
       | inr other ↦ rw other (takes, other, omega (arith, is.range))
     ]
 
--- schemes of one default port give one port
-pub port_given-same : (scheme other : List ℕ) (port_text : Option (List ℕ)) → default_port scheme ≡ default_port other
-    → port_given (default_port scheme) port_text ≡ port_given (default_port other) port_text
-port_given-same scheme other None e = refl
-port_given-same scheme other (Some []) e = refl
-port_given-same scheme other (Some (digit ∷ rest)) e = rw e refl
-
 -- ---- paths
 
 -- a path with a segment

@@ -106,18 +106,6 @@ AreDenoted-opaque profile base parts scheme fits query =
       query = IsUrlQuery-own base (scheme_class (scheme_in base parts)) SchemeOpaque parts.query query (λ e. absurd cc);
     }
 
--- what a valid text with a scheme and an opaque path denotes is well formed
-pub opaque_well_formed : (profile : Profile) (base : Option Url) (text : List ℕ) (parts : Parts)
-    → Valid profile base text parts
-    → parts.form ≡ SchemeOpaque → WellFormed profile (denote base parts)
-unfolding denote
-opaque_well_formed profile base text parts valid form =
-    subst (λ (f : Form). WellFormed profile (denote_as base f parts)) (sym form)
-    (WellFormed-denoted profile base SchemeOpaque parts valid.fragment
-    (AreDenoted-opaque profile base parts
-    (subst (λ (f : Form). FitsScheme (has_scheme f) parts.scheme) form valid.scheme)
-    (subst (λ (f : Form). FitsForm (setting_of profile base parts.scheme) f parts) form valid.form) valid.query))
-
 -- ---- an authority
 
 -- the default port of a denoted scheme is that of the scheme that the text is read by
@@ -203,11 +191,6 @@ AreDenoted-path profile base parts scheme fits query =
     }
 
 -- ---- references
-
--- a reference has the base's scheme
-pub scheme-reference : (url : Url) (parts : Parts) → parts.scheme ≡ None
-    → denoted_scheme (Some url) parts.scheme ≡ url.scheme
-scheme-reference url parts e = rw e refl
 
 -- and is read by its class
 class-reference : (url : Url) (parts : Parts) → parts.scheme ≡ None

@@ -127,17 +127,6 @@ IsUnits-append xs ys first second =
       joined = rw (first.joined, second.joined) (sym (concat-append first.units second.units));
     }
 
--- no fault in two texts, none in the text that they make
-pub is_faultless-append : (xs ys : List ℕ) → is_faultless xs ≡ true → is_faultless ys ≡ true
-    → is_faultless (xs ++ ys) ≡ true
-is_faultless-append xs ys first second =
-    is_faultless-units (xs ++ ys) (IsUnits-append xs ys (IsUnits-faultless xs first) (IsUnits-faultless ys second))
-
--- what stands behind a front of a text without a fault has none
-pub is_faultless-behind : (xs ys : List ℕ) → is_faultless (xs ++ ys) ≡ true → is_faultless ys ≡ true
-is_faultless-behind [] ys none = none
-is_faultless-behind (c ∷ xs) ys none = is_faultless-behind xs ys (and_parts _ _ none).1
-
 -- ---- units of a text cut at a mark
 
 -- a mark that is no hex digit ends the digits that a `%` could have
@@ -153,22 +142,6 @@ pub is_unit_at-mark : (mark c : ℕ) (xs ys : List ℕ) → is_ascii_hexdigit ma
     → is_unit_at c (xs ++ mark ∷ ys) ≡ is_unit_at c xs
 unfolding is_unit_at
 is_unit_at-mark mark c xs ys other = rw (starts_with_two_hex-mark mark xs ys other)
-
--- a text around a mark that is no hex digit has no fault exactly where both sides and the mark have none
-pub is_faultless-mark : (mark : ℕ) (xs ys : List ℕ) → is_ascii_hexdigit mark ≡ false
-    → is_faultless (xs ++ mark ∷ ys) ≡ (is_faultless xs && is_faultless (mark ∷ ys))
-is_faultless-mark mark [] ys other = refl
-is_faultless-mark mark (c ∷ xs) ys other =
-    rw (is_unit_at-mark mark c xs ys other, is_faultless-mark mark xs ys other) (sym (and_assoc (is_unit_at c xs) _ _))
-
--- units around a mark that is no hex digit: the text before it and the text behind it are units
-pub IsUnits-cut : (mark : ℕ) (xs ys : List ℕ) → is_ascii_hexdigit mark ≡ false → IsUnits (xs ++ mark ∷ ys)
-    → IsUnits xs × IsUnits ys
-IsUnits-cut mark xs ys other units =
-    let none = is_faultless-units (xs ++ mark ∷ ys) units in
-    let both = sym (is_faultless-mark mark xs ys other) ∙ none in
-    let parts = and_parts (is_faultless xs) (is_faultless (mark ∷ ys)) both in
-    (IsUnits-faultless xs parts.0, IsUnits-faultless ys (and_parts _ _ parts.1).1)
 
 -- units before and behind a URL code point are units with it
 pub IsUnits-joined : (mark : ℕ) (xs ys : List ℕ) → is_url_code_point mark ≡ true → IsUnits xs → IsUnits ys

@@ -147,11 +147,3 @@ read_number n rest fits stop =
 pub hexadecimal : (ds : List ℕ) → AllDigits 10 ds → AllDigits 16 ds
 hexadecimal [] h = h
 hexadecimal (d ∷ ds) h = (omega (arith, h.0), hexadecimal ds h.1)
-
--- the number in decimal, read as a group
-pub read_hex_number : (n : ℕ) (rest : List ℕ) → n < 256 → NoDigit 16 rest
-    → read_hex 4 0 0 (decimal n ++ rest) ≡ (digits_value_after 16 0 (decimal n), 0 + length (decimal n), rest)
-read_hex_number n rest fits stop =
-    let (numeral, value) = decimal_is_IsNumeral n (omega arith) in
-    let short = length-decimal-le 3 n (omega arith) (omega arith) (omega arith) in
-    read_hex_group 4 0 0 (decimal n) rest (hexadecimal (decimal n) numeral.1) (omega arith) stop

@@ -36,58 +36,53 @@ fn path_words(alloc: Global, path: &UrlPath) -> Result<String, Fail> {
     }
 }
 
-// The scheme, host, port and path of the text's record are these.
-fn has_fields(
-    rt: &(impl Abort + AllocGlobal),
-    text: &str,
-    (scheme, host, port, path): (&str, &str, Option<u16>, &str),
-) -> Result<(), Fail> {
-    let record = resolve(rt.alloc(), text, None, Profile::Standard)?;
-    let found = host_words(rt.alloc(), record.host())?;
-    let walked = path_words(rt.alloc(), record.path())?;
-    assert_eq!(rt; record.scheme(), scheme, "the scheme of {text}");
-    assert_eq!(rt; found.as_str(), host, "the host of {text}");
-    assert_eq!(rt; record.port(), port, "the port of {text}");
-    assert_eq!(rt; walked.as_str(), path, "the path of {text}");
+// The scheme, host, port and path of a record.
+fn fields_of(alloc: Global, record: &Record) -> Result<String, Fail> {
+    let scheme = record.scheme();
+    let host = host_words(alloc, record.host())?;
+    let host = host.as_str();
+    let path = path_words(alloc, record.path())?;
+    let path = path.as_str();
+    match record.port() {
+        Some(port) => Ok(format!(in alloc; "{scheme}, {host}, port {port}, {path}")?),
+        None => Ok(format!(in alloc; "{scheme}, {host}, {path}")?),
+    }
+}
+
+// Those of a text's record.
+fn fields_against(alloc: Global, text: &str, base: Option<&Record>) -> Result<String, Fail> {
+    let record = resolve(alloc, text, base, Profile::Standard)?;
+    fields_of(alloc, &record)
+}
+
+// The fields of the text's record are these.
+fn has_fields(rt: &(impl Abort + AllocGlobal), text: &str, want: &str) -> Result<(), Fail> {
+    let found = fields_against(rt.alloc(), text, None)?;
+    assert_eq!(rt; found.as_str(), want, "the fields of {text}");
     Ok(())
 }
 
 #[test]
 fn gives_the_fields(rt: HostRuntime) -> Result<(), Fail> {
     for (text, fields) in [
-        (
-            "urn:isbn:0451450523",
-            ("urn", "none", None, "opaque isbn:0451450523"),
-        ),
-        ("foo:/a", ("foo", "none", None, "(a)")),
-        ("foo://", ("foo", "empty", None, "")),
-        ("foo://h", ("foo", "opaque h", None, "")),
-        ("foo:/.//a", ("foo", "none", None, "()(a)")),
-        (
-            "foo://u%40h:80/a/",
-            ("foo", "opaque u%40h", Some(80), "(a)()"),
-        ),
-        (
-            "foo://192.168.0.1/",
-            ("foo", "opaque 192.168.0.1", None, "()"),
-        ),
+        ("urn:isbn:0451450523", "urn, none, opaque isbn:0451450523"),
+        ("foo:/a", "foo, none, (a)"),
+        ("foo://", "foo, empty, "),
+        ("foo://h", "foo, opaque h, "),
+        ("foo:/.//a", "foo, none, ()(a)"),
+        ("foo://u%40h:80/a/", "foo, opaque u%40h, port 80, (a)()"),
+        ("foo://192.168.0.1/", "foo, opaque 192.168.0.1, ()"),
         (
             "https://EXAMPLE.com:443/a/../b",
-            ("https", "domain example.com", None, "(b)"),
+            "https, domain example.com, (b)",
         ),
-        (
-            "http://192.168.0.1/",
-            ("http", "ipv4 3232235521", None, "()"),
-        ),
-        (
-            "http://[::1]:8080/",
-            ("http", "ipv6 [::1]", Some(8080), "()"),
-        ),
-        ("http://h:065535/", ("http", "domain h", Some(65535), "()")),
-        ("http://h", ("http", "domain h", None, "()")),
-        ("file://localhost/etc", ("file", "empty", None, "(etc)")),
-        ("file:///C:/..", ("file", "empty", None, "(C:)()")),
-        ("file://h/C:", ("file", "domain h", None, "(C:)")),
+        ("http://192.168.0.1/", "http, ipv4 3232235521, ()"),
+        ("http://[::1]:8080/", "http, ipv6 [::1], port 8080, ()"),
+        ("http://h:065535/", "http, domain h, port 65535, ()"),
+        ("http://h", "http, domain h, ()"),
+        ("file://localhost/etc", "file, empty, (etc)"),
+        ("file:///C:/..", "file, empty, (C:)()"),
+        ("file://h/C:", "file, domain h, (C:)"),
     ] {
         has_fields(&rt, text, fields)?;
     }
@@ -97,26 +92,54 @@ fn gives_the_fields(rt: HostRuntime) -> Result<(), Fail> {
 // A text with a scheme is resolved on its own, whatever the base is.
 #[test]
 fn forgets_the_base_of_a_text_with_a_scheme(rt: HostRuntime) -> Result<(), Fail> {
-    let base = resolve(rt.alloc(), "file:///C:/d/f", None, Profile::Standard)?;
-    let record = resolve(rt.alloc(), "C:/x", Some(&base), Profile::Standard)?;
-    assert_eq!(rt; record.scheme(), "c");
-    assert!(rt; record.host().is_none());
-    assert_eq!(rt; path_words(rt.alloc(), record.path())?.as_str(), "(x)");
+    let found = fields_behind(rt.alloc(), "C:/x", "file:///C:/d/f")?;
+    assert_eq!(rt; found.as_str(), "c, none, (x)");
     Ok(())
+}
+
+// The fields of a text's record against a base given as text.
+fn fields_behind(alloc: Global, text: &str, base: &str) -> Result<String, Fail> {
+    let base = resolve(alloc, base, None, Profile::Standard)?;
+    fields_against(alloc, text, Some(&base))
 }
 
 // An absent query or fragment isn't an empty one.
 #[test]
 fn tells_empty_from_absent(rt: HostRuntime) -> Result<(), Fail> {
-    for (text, query, fragment) in [
-        ("http://h/", None, None),
-        ("http://h/?", Some(""), None),
-        ("http://h/#", None, Some("")),
-        ("http://h/?#", Some(""), Some("")),
+    for (text, want) in [
+        ("http://h/", "none none"),
+        ("http://h/?", "() none"),
+        ("http://h/#", "none ()"),
+        ("http://h/?#", "() ()"),
     ] {
-        let record = resolve(rt.alloc(), text, None, Profile::Standard)?;
-        assert_eq!(rt; record.query(), query, "the query of {text}");
-        assert_eq!(rt; record.fragment(), fragment, "the fragment of {text}");
+        let found = ends_of(rt.alloc(), text)?;
+        assert_eq!(rt; found.as_str(), want, "the ends of {text}");
     }
+    Ok(())
+}
+
+// The query and the fragment of the text's record.
+fn ends_of(alloc: Global, text: &str) -> Result<String, Fail> {
+    let record = resolve(alloc, text, None, Profile::Standard)?;
+    end_words(alloc, record.query(), record.fragment())
+}
+
+fn end_words(alloc: Global, query: Option<&str>, fragment: Option<&str>) -> Result<String, Fail> {
+    let mut words = String::new(alloc);
+    push_end(&mut words, query)?;
+    words.push_str(" ")?;
+    push_end(&mut words, fragment)?;
+    Ok(words)
+}
+
+// A text in parentheses.
+fn push_end(words: &mut String, end: Option<&str>) -> Result<(), Fail> {
+    let Some(end) = end else {
+        words.push_str("none")?;
+        return Ok(());
+    };
+    words.push_str("(")?;
+    words.push_str(end)?;
+    words.push_str(")")?;
     Ok(())
 }

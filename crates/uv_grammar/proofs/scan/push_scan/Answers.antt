@@ -25,3 +25,35 @@ pub returns : goal.returns
 returns c =
     scan_ends c.args.scan c.args.start c.args.text.now c.args.found.now.items c.loop-refusal.found.items
     c.loop-refusal.here c.loop-refusal.left.now c.loop-refusal.invariant c.in_default.ensures
+
+pub refusal_behind-requires : goal.refusal_behind-requires
+refusal_behind-requires c =
+    let within = scan_within c.args.scan (chars c.loop-refusal.left.now) c.in-Some.refusal.place c.in-Some.refusal.rule
+    c.in-Some.ensures.stands in
+    let inside = c.loop-refusal.invariant.inside in
+    let bound = c.requires in
+    omega arith
+
+pub overflow_add-here : goal.overflow_add-here
+overflow_add-here c =
+    let within = scan_within c.args.scan (chars c.loop-refusal.left.now) c.in-Some.refusal.place c.in-Some.refusal.rule
+    c.in-Some.ensures.stands in
+    let inside = c.loop-refusal.invariant.inside in
+    let bound = c.requires in
+    omega arith
+
+pub overflow_add-here-in-Some : goal.overflow_add-here-in-Some
+overflow_add-here-in-Some c =
+    let within = scan_within c.args.scan (chars c.loop-refusal.left.now) c.in-Some.refusal.place c.in-Some.refusal.rule
+    c.in-Some.ensures.stands in
+    let inside = c.loop-refusal.invariant.inside in
+    let bound = c.requires in
+    omega arith
+
+pub overflow_add-refusal : goal.overflow_add-refusal
+overflow_add-refusal c =
+    let within = scan_within c.args.scan (chars c.loop-refusal.left.now) c.in-Some.refusal.place c.in-Some.refusal.rule
+    c.in-Some.ensures.stands in
+    let inside = c.loop-refusal.invariant.inside in
+    let bound = c.requires in
+    omega arith
