@@ -2,7 +2,7 @@
 # Runs the program given as the first argument on the cases of this folder: its status, output and standard error.
 set -uo pipefail
 for tool in awk cmp mkfifo prlimit python3 setpriv; do
-    command -v "$tool" >/dev/null || { echo "runs: $tool is missing; README says what the gate needs"; exit 70; }
+    command -v "$tool" >/dev/null || { echo "runs: $tool is missing; CONTRIBUTING.md says what the gate needs"; exit 70; }
 done
 program=$(realpath "$1")
 here=${2:-$(dirname "$(realpath "$0")")}

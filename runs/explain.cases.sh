@@ -1,16 +1,16 @@
-# The explanations of the rules: they and the two tables of the documents say the same, and each example is refused and
+# The explanations of the rules: they and the two tables of docs/RULES.md say the same, and each example is refused and
 # mended as its explanation says.
 
 top=$(dirname "$here")
 "$program" explain >"$room/explained" 2>"$room/err"
 ends_with 0 $? '' 'explain'
 
-# names_sections FILE : the names and the sections of the rules in the table of docs/RULES.md
+# names_sections FILE : the names and the sections of the rules in the numbered table
 names_sections() {
     awk -F ' *[|] *' '$2 ~ /^[0-9]+$/ { gsub(/`/, "", $3); print $3 "\t" $4 }' "$1"
 }
 
-# names_sentences FILE : the names of the rules, and what is wrong at the place, in the table of the README
+# names_sentences FILE : the names of the rules, and what is wrong at the place, in the other table
 names_sentences() {
     awk -F ' *[|] *' '/^[|] Rule / { within = 1; next } !/^[|]/ { within = 0 }
         within && $2 !~ /^-/ { gsub(/`/, "", $2); gsub(/`/, "", $3); print $2 "\t" $3 }' "$1"
@@ -21,34 +21,30 @@ explained() {
     awk -v key="$1" '$1 == "rule" { name = $2 } $1 == key { print name "\t" substr($0, length(key) + 2) }' "$2"
 }
 
-# holds_together EXPLAINED README RULES : the three have the same rules in the same order, with one text each
+# holds_together EXPLAINED RULES : they have the same rules in the same order, with one text each
 holds_together() {
     [ "$(explained rule "$1" | wc -l)" = 14 ] &&
-        names_sections "$3" | cmp -s - <(explained section "$1") &&
+        names_sections "$2" | cmp -s - <(explained section "$1") &&
         names_sentences "$2" | cmp -s - <(explained means "$1")
 }
 
 count=$((count + 1))
-holds_together "$room/explained" "$top/README.md" "$top/docs/RULES.md" ||
-    fail 'explain, the README and docs/RULES.md differ'
+holds_together "$room/explained" "$top/docs/RULES.md" || fail 'explain and docs/RULES.md differ'
 
 # A table that says something else is told apart: another section, another sentence, a row less, two rows in another order.
 differs() {
     count=$((count + 1))
-    if cmp -s "$2" "$3"; then fail "$1: the table stayed as it was"; fi
-    case $2 in
-        */README.md) ! holds_together "$room/explained" "$3" "$top/docs/RULES.md" ;;
-        *) ! holds_together "$room/explained" "$top/README.md" "$3" ;;
-    esac || fail "explain and a table with $1 are the same"
+    if cmp -s "$top/docs/RULES.md" "$2"; then fail "$1: the table stayed as it was"; fi
+    ! holds_together "$room/explained" "$2" || fail "explain and a table with $1 are the same"
 }
 sed 's/4\.3, URL units/4.3, URL code points/' "$top/docs/RULES.md" >"$room/table"
-differs 'another section' "$top/docs/RULES.md" "$room/table"
-sed 's/two hex digits have to/two digits have to/' "$top/README.md" >"$room/table"
-differs 'another sentence' "$top/README.md" "$room/table"
+differs 'another section' "$room/table"
+sed 's/two hex digits have to/two digits have to/' "$top/docs/RULES.md" >"$room/table"
+differs 'another sentence' "$room/table"
 sed '/^| 14 |/d' "$top/docs/RULES.md" >"$room/table"
-differs 'a row less' "$top/docs/RULES.md" "$room/table"
-awk '/^[|] `code-point`/ { row = $0; next } { print } /^[|] `percent`/ { print row }' "$top/README.md" >"$room/table"
-differs 'two rows in another order' "$top/README.md" "$room/table"
+differs 'a row less' "$room/table"
+awk '/^[|] `code-point`/ { row = $0; next } { print } /^[|] `percent`/ { print row }' "$top/docs/RULES.md" >"$room/table"
+differs 'two rows in another order' "$room/table"
 
 # example NAME BASE TEXT REFUSED MENDED : a check of the texts of an explanation says what the explanation says
 example() {

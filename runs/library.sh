@@ -53,20 +53,42 @@ gcc -std=c99 "${strict[@]}" -I "$include" memory.c "$archive" \
     -Wl,--wrap=malloc,--wrap=realloc,--wrap=free -o "$room/memory"
 "$room/memory"
 
-# The programs of the README, as they stand there.
-python3 readme.py "$top/README.md" "$room"
-gcc -std=c99 "${strict[@]}" -I "$include" "$room/readme.c" "$archive" -o "$room/readme_c"
-"$room/readme_c" | cmp - "$room/readme.c.out"
+# The programs of docs/LIBRARY.md and of the README, as they stand there. The one in C ends with 1, since it refuses.
+python3 programs.py "$top" "$room"
+gcc -std=c99 "${strict[@]}" -I "$include" "$room/page.c" "$archive" -o "$room/page_c"
+{ "$room/page_c" || [ $? = 1 ]; } | cmp - "$room/page.c.out"
+gcc -std=c99 "${strict[@]}" -I "$include" "$room/start.c" "$archive" -o "$room/start_c"
+"$room/start_c" | cmp - <(echo 'byte 21')
 if command -v g++ >/dev/null; then
-    g++ -std=c++11 "${strict[@]}" -I "$include" "$room/readme.cpp" "$archive" -o "$room/readme_cpp"
-    "$room/readme_cpp" | cmp - "$room/readme.cpp.out"
+    g++ -std=c++11 "${strict[@]}" -I "$include" "$room/page.cpp" "$archive" -o "$room/page_cpp"
+    "$room/page_cpp" | cmp - "$room/page.cpp.out"
 fi
-python3 "$room/readme.py" | cmp - "$room/readme.py.out"
+python3 "$room/page.py" | cmp - "$room/page.py.out"
+python3 "$room/start.py" | cmp - <(echo 'example.com /a http://h/x')
+
+# The lines by which that page builds a program for C, in a folder that has the program and the library.
+mkdir "$room/build"
+cp "$room/page.c" "$room/build/program.c"
+ln -s "$room/installed" "$room/build/library"
+awk '/^```sh$/ { inside = 1; next } /^```$/ { inside = 0 } inside && !/^\.\/build-library/' "$top/docs/LIBRARY.md" \
+    >"$room/build/lines"
+[ "$(grep -c '^cc ' "$room/build/lines")" = 2 ] || { echo 'FAILED: docs/LIBRARY.md has no two lines with cc'; exit 1; }
+if command -v pkg-config >/dev/null && command -v cc >/dev/null; then
+    while IFS= read -r line; do
+        cd "$room/build"
+        rm -f program
+        eval "$line"
+        [[ $line != cc* ]] || { ./program || [ $? = 1 ]; } | cmp - "$room/page.c.out"
+    done <"$room/build/lines"
+    cd "$top/runs/library"
+else
+    echo "library: the lines that build a program are left out, since pkg-config or cc isn't installed"
+fi
 python3 -c 'import doctest, sys, urlcheck; sys.exit(doctest.testmod(urlcheck).failed)'
-python3 - "$top/README.md" <<'END'
+python3 - "$top/docs/RULES.md" <<'END'
 import sys, urlcheck
 table = open(sys.argv[1], encoding="utf-8").read().replace("`", "")
 missing = [rule for rule in urlcheck.RULES if "| {} | {} |".format(rule, urlcheck.sentence(rule)) not in table]
-sys.exit("FAILED: other sentences in the README of {}".format(missing) if missing else 0)
+sys.exit("FAILED: other sentences in docs/RULES.md of {}".format(missing) if missing else 0)
 END
-echo 'library: the programs of the README'
+echo 'library: the programs of the pages'

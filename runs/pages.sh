@@ -1,0 +1,53 @@
+#!/usr/bin/env bash
+# Checks the pages of this repository over the program given as the first argument: each block of commands prints what
+# stands there, links and names lead somewhere, sentences are short, pictures are those that their scripts draw. Then it
+# spoils a copy of the pages in each of these ways, and sees that the check finds it.
+set -euo pipefail
+[ $# = 1 ] && [ -x "$1" ] || { echo 'usage: runs/pages.sh PROGRAM'; exit 2; }
+command -v python3 >/dev/null || { echo 'pages: python3 is missing; CONTRIBUTING.md says what the gate needs'; exit 70; }
+program=$(realpath "$1")
+top=$(dirname "$(dirname "$(realpath "$0")")")
+room=$(mktemp -d)
+trap 'rm -rf "$room"' EXIT
+export PYTHONDONTWRITEBYTECODE=1
+failed=0
+
+python3 "$top/runs/pages.py" texts || failed=1
+python3 "$top/runs/pages.py" commands "$program" || failed=1
+for picture in profiles:docs/profiles.py speed:bench/plot.sh; do
+    case $picture in
+        *.py) python3 "$top/${picture#*:}" ;;
+        *) bash "$top/${picture#*:}" ;;
+    esac >"$room/drawn.svg" || true
+    [ -s "$room/drawn.svg" ] && cmp -s "$room/drawn.svg" "$top/docs/${picture%:*}.svg" ||
+        { echo "FAILED: docs/${picture%:*}.svg is old; ${picture#*:} draws it anew, on standard output"; failed=1; }
+done
+
+# spoiled WHAT SAID CHECK FILE SED : in a copy where this edit of a page changed something the check says so
+spoiled() {
+    local what=$1 said=$2 check=$3 file=$4
+    rm -rf "$room/copy"
+    mkdir -p "$room/copy/docs" "$room/copy/vectors"
+    ln -s "$top"/* "$room/copy/" 2>/dev/null || true
+    cp --remove-destination "$top"/*.md "$room/copy/"
+    cp "$top"/docs/* "$room/copy/docs/"
+    cp "$top"/vectors/* "$room/copy/vectors/"
+    sed -i "$5" "$room/copy/$file"
+    if cmp -s "$room/copy/$file" "$top/$file"; then echo "FAILED: $what: $file stayed as it was"; failed=1; fi
+    if python3 "$top/runs/pages.py" $check "$room/copy" >"$room/said" || ! grep -q "^FAILED: .*$said" "$room/said"; then
+        echo "FAILED: pages with $what: $(cat "$room/said")"
+        failed=1
+    fi
+}
+spoiled 'another output' 'urlcheck check ' "commands $program" docs/PROFILES.md 's/^refused 22 percent$/refused 21 percent/'
+spoiled 'a link to nowhere' 'a link to docs/COMMAND.md' texts README.md 's/(docs\/COMMANDS.md)/(docs\/COMMAND.md)/'
+spoiled 'an anchor to nowhere' 'no heading makes' texts docs/COMMANDS.md 's/(#vectors)/(#vector)/'
+spoiled 'a path to nowhere' 'librarian' texts docs/TRUST.md 's/`runs\/library.sh`/`runs\/librarian.sh`/'
+spoiled 'a name of no function' 'no `fault_list`' texts docs/PROVED.md 's/^| `faults` |/| `fault_list` |/'
+spoiled 'a clause that is none' 'no clause `told`' texts docs/PROVED.md 's/^| `run_links` | `report`/| `run_links` | `told`/'
+spoiled 'no word on a law' 'isn.t named' texts docs/PROVED.md '/`step_counts::runs_keep_their_end`/d'
+spoiled 'a long sentence' 'a sentence of ' texts docs/SPEED.md \
+    '$a A word and another one, '"$(printf 'and one more %.0s' {1..12})"'at the end.'
+spoiled 'another headline' 'the headline' texts README.md 's/in at most 3n + 16 steps/in at most 2n + 5 steps/'
+[ $failed = 0 ] && echo 'pages: each of nine spoiled copies was found'
+exit $failed

@@ -1,0 +1,264 @@
+#!/usr/bin/env bash
+# Runs the recipes of docs/USES.md, as they stand there, over the program given as the first argument: on links that are
+# right, on wrong ones, and on what once made a recipe end well though nothing was judged. A recipe whose tool isn't
+# installed is left out, and a line says so.
+set -uo pipefail
+[ $# = 1 ] && [ -x "$1" ] || { echo 'usage: runs/uses.sh PROGRAM'; exit 2; }
+for tool in awk git make python3; do
+    command -v "$tool" >/dev/null || { echo "uses: $tool is missing; CONTRIBUTING.md says what the gate needs"; exit 70; }
+done
+top=$(dirname "$(dirname "$(realpath "$0")")")
+page=$top/docs/USES.md
+room=$(mktemp -d)
+trap 'rm -rf "$room"' EXIT
+mkdir "$room/path"
+ln -s "$(realpath "$1")" "$room/path/urlcheck"
+export PATH=$room/path:$PATH LC_ALL=C.UTF-8 HOME=$room PYTHONDONTWRITEBYTECODE=1
+export GIT_CONFIG_NOSYSTEM=1 GIT_AUTHOR_NAME=a GIT_AUTHOR_EMAIL=a GIT_COMMITTER_NAME=a GIT_COMMITTER_EMAIL=a
+failed=0 count=0
+
+# recipe HEADING LANGUAGE [NUMBER] : the block of the language, by its number from 1, in a section of the page
+recipe() {
+    local found
+    found=$(awk -v heading="## $1" -v fence="\`\`\`$2" -v wanted="${3:-1}" '
+        /^## / { section = $0 == heading }
+        section && $0 == fence { seen++; inside = seen == wanted; next }
+        /^```$/ { inside = 0 }
+        inside' "$page")
+    [ -n "$found" ] || { echo "FAILED: docs/USES.md has no recipe in $2 under $1" >&2; exit 1; }
+    printf '%s\n' "$found"
+}
+
+# ends STATUS WHAT COMMAND.. : the command ends so, where any means any status but 0; its output is left in out
+ends() {
+    local wanted=$1 what=$2 ended
+    shift 2
+    "$@" >"$room/out" 2>&1 </dev/null
+    ended=$?
+    count=$((count + 1))
+    if [ "$wanted" = any ]; then [ $ended != 0 ]; else [ $ended = "$wanted" ]; fi ||
+        { echo "FAILED: $what: status $ended, and not $wanted: $(cat "$room/out")"; failed=1; }
+}
+
+# says WHAT LINE.. : the last command has written exactly these lines
+says() {
+    local what=$1
+    shift
+    printf '%s\n' "$@" | cmp -s - "$room/out" || { echo "FAILED: $what: it wrote: $(cat "$room/out")"; failed=1; }
+}
+
+# has TOOL : the tool is installed, or a line says that its recipe is left out
+has() {
+    command -v "$1" >/dev/null || { echo "uses: the recipe for $1 is left out, since it isn't installed"; return 1; }
+}
+
+# in_folder NAME : an empty folder of this name, which is gone to
+in_folder() {
+    mkdir -p "$room/$1" && cd "$room/$1" || exit 1
+}
+
+right='https://example.com/' wrong='http://h/a b'
+
+# hard_names COMMAND.. : the command in a folder of lists: none, right ones, and wrong ones with names that are hard
+hard_names() {
+    local what=$1 name
+    shift
+    rm -f -- *.links
+    ends 0 "$what without a list" "$@"
+    echo $right >right.links
+    ends 0 "$what of a right list" "$@"
+    for name in 'wrong.links' 'two words.links' '-x.links' '--all.links' "quote's.links" $'line\nfeed.links' \
+        'sub/one.links'; do
+        mkdir -p sub
+        echo "$wrong" >"./$name"
+        ends any "$what of $name" "$@"
+        rm -f "./$name"
+    done
+    echo $right >'two words.links'
+    ends 0 "$what of right lists" "$@"
+}
+
+in_folder find
+recipe 'As compilers write it' sh >../find.sh
+hard_names 'find' bash ../find.sh
+in_folder make
+recipe 'A Makefile' make >Makefile
+hard_names 'make' make -s check-links
+
+# The hook: what is staged is judged, whatever the working tree has, and a list that is renamed too.
+in_folder hook
+git init -q . && git commit -q --allow-empty -m first
+recipe 'A hook before a commit' sh >.git/hooks/pre-commit
+chmod +x .git/hooks/pre-commit
+ends 0 'a commit without a list' git commit -q --allow-empty -m none
+for name in right.links 'two words.links' -x.links; do echo $right >"./$name"; done
+git add .
+ends 0 'a commit of right lists' git commit -q -m right
+for name in wrong.links 'two words.links' -x.links; do
+    echo "$wrong" >"./$name"
+    git add -- "./$name"
+    echo $right >"./$name"
+    ends any "a commit of $name" git commit -q -m wrong
+    git reset -q --hard
+done
+echo "$wrong" >right.links
+ends 0 'a commit whose working tree alone is wrong' git commit -q --allow-empty -m tree
+git reset -q --hard
+git mv right.links renamed.links && { seq -f 'https://example.com/%g' 100; echo "$wrong"; } >renamed.links && git add .
+ends any 'a commit of a list that is renamed' git commit -q -m renamed
+seq -f 'https://example.com/%g' 100 >renamed.links && git add . && git commit -q -m long
+git mv renamed.links again.links && echo "$wrong" >>again.links && git add .
+git diff --cached --name-status | grep -q '^R' || { echo 'FAILED: the list is not seen as renamed'; failed=1; }
+ends any 'a commit of a list that is renamed and much the same' git commit -q -m again
+git reset -q --hard
+git rm -q again.links renamed.links 2>/dev/null || git rm -q renamed.links
+ends 0 'a commit that deletes a list' git commit -q -m deleted
+
+if has pre-commit; then
+    in_folder source
+    git init -q . && cp "$top/.pre-commit-hooks.yaml" . && git add . && git commit -q -m hooks && git tag v0.1.0
+    in_folder framework
+    git init -q .
+    recipe 'A hook before a commit' yaml | sed "s|https://example.com/urlcheck.git.*|$room/source|" >.pre-commit-config.yaml
+    echo $right >-x.links
+    git add .
+    ends 0 'pre-commit of a right list' pre-commit run --all-files
+    echo "$wrong" >-x.links
+    ends 1 'pre-commit of a wrong list' pre-commit run --all-files
+    grep -q 'x.links:1:11: error' "$room/out" || { echo "FAILED: pre-commit says: $(cat "$room/out")"; failed=1; }
+fi
+
+# The steps of workflows: each line that a runner gives to its shell.
+in_folder jobs
+number=0
+{ recipe 'GitHub and GitLab' yaml 1; recipe 'GitHub and GitLab' yaml 2; recipe 'GitHub and GitLab' yaml 3; } |
+    sed -n 's/^ *-\{0,1\} *run: //p; s/^    - urlcheck/urlcheck/p' >../steps
+[ "$(wc -l <../steps)" = 3 ] || { echo "FAILED: docs/USES.md has other steps: $(cat ../steps)"; failed=1; }
+while IFS= read -r step; do
+    rm -rf docs
+    mkdir docs
+    ends 2 "without a list: $step" bash -e -c "$step"
+    echo $right >docs/a.links
+    ends 0 "right: $step" bash -e -c "$step"
+    echo "$wrong" >'docs/two words.links'
+    ends 1 "wrong: $step" bash -e -c "$step"
+done <../steps
+for report in urlcheck.sarif:code-point links.xml:code-point; do
+    grep -q "${report#*:}" "${report%:*}" || { echo "FAILED: ${report%:*} lacks the wrong place"; failed=1; }
+done
+
+# Editors: the place they go to, in a line with wide and combining characters and a tab before it.
+in_folder editors
+printf 'http://h/\nhttp://h/\344\270\255e\314\201\tx\n' >'two words.links'
+if has vim; then
+    recipe Vim vim >vimrc
+    cat >judge.vim <<'VIM'
+silent make!
+call writefile([printf('%d entries, line %d, %s', len(getqflist()), line('.'), matchstr(getline('.'), '\%' . col('.') . 'c.') ==# "\t")], 'place')
+cfirst
+call writefile([printf('%d entries, line %d, at the tab %d', len(getqflist()), line('.'), getline('.')[col('.') - 1] ==# "\t")], 'place')
+qall!
+VIM
+    ends 0 'vim' timeout 60 vim -Nu vimrc -i NONE -n -es -c 'edit two\ words.links' -c 'source judge.vim'
+    cp place "$room/out" 2>/dev/null || : >"$room/out"
+    says 'vim, of the place' '1 entries, line 2, at the tab 1'
+fi
+if has emacs; then
+    recipe Emacs elisp >settings.el
+    cat >judge.el <<'LISP'
+(require 'compile)
+(load (expand-file-name "settings.el") nil t)
+(let ((compilation-buffer (compilation-start "urlcheck lint 'two words.links'")))
+  (while (get-buffer-process compilation-buffer) (accept-process-output nil 0.1))
+  (accept-process-output nil 0.1)
+  (with-current-buffer compilation-buffer
+    (goto-char (point-min))
+    (compilation-next-error 1)
+    (compile-goto-error))
+  (with-current-buffer (window-buffer)
+    (princ (format "line %d, at the tab %s\n" (line-number-at-pos) (eq (char-after) ?\t)))))
+LISP
+    ends 0 'emacs' timeout 60 emacs -Q --batch -l judge.el
+    tail -n 1 "$room/out" >"$room/last" && mv "$room/last" "$room/out"
+    says 'emacs, of the place' 'line 2, at the tab t'
+fi
+
+# Documents: each kind, a wrong link in each, a document that is cut, one without links, a link over two lines.
+in_folder documents
+recipe 'A sitemap or a feed' bash >recipe.sh
+# document STATUS TEXT [LINE..] : the recipe over a document of this text ends so, and says this
+document() {
+    local wanted=$1
+    printf '%b' "$2" >feed.xml
+    ends "$wanted" "the document $2" bash recipe.sh
+    [ $# = 2 ] || says "the document $2" "${@:3}"
+}
+rss='<rss version="2.0"><channel><link>https://a.example/</link><item><link>'
+atom='<feed xmlns="http://www.w3.org/2005/Atom"><link rel="self" href="/feed.xml"/><entry><link href="'
+map='<urlset xmlns="http://www.sitemaps.org/schemas/sitemap/0.9"><url><loc>\n  '
+document 0 "$rss/b</link></item></channel></rss>" '1 ok https://a.example/' '2 ok https://example.com/b' \
+    'links 2 ok 2 bad 0 differs 0'
+document 1 "$rss/b c</link></item></channel></rss>" '1 ok https://a.example/' '2 bad 2 code-point' \
+    'links 2 ok 1 bad 1 differs 0'
+document 1 "$rss/b\\nhttp://c/</link></item></channel></rss>"
+document 0 "$rss\\u00a0/b</link></item></channel></rss>" '1 ok https://a.example/' '2 ok https://example.com/%C2%A0/b' \
+    'links 2 ok 2 bad 0 differs 0'
+document 0 "$atom./b\"/></entry></feed>" '1 ok https://example.com/feed.xml' '2 ok https://example.com/b' \
+    'links 2 ok 2 bad 0 differs 0'
+document 1 "$atom./b|\"/></entry></feed>"
+document 0 "${map}https://example.com/a\\n</loc></url></urlset>" '1 ok https://example.com/a' 'links 1 ok 1 bad 0 differs 0'
+document 1 "${map}https://example.com/[]\\n</loc></url></urlset>"
+document any "${map}https://example.com/a</loc></url>"
+document any 'no document'
+document any '<rss version="2.0"><channel><title>none</title></channel></rss>'
+sed_line=$(sed -n "s/.*GNU \`\(sed [^\`]*\)\`.*/\1/p" "$page")
+[ -n "$sed_line" ] || { echo 'FAILED: docs/USES.md has no line for the byte order mark'; failed=1; }
+printf '\357\273\277https://example.com/\n' >marked
+ends any 'a list with a byte order mark' sh -c 'urlcheck links <marked'
+ends 0 'a byte order mark that is taken off' sh -c "$sed_line <marked | urlcheck links"
+
+# Pieces: their sums are the list's, a piece that fails fails the whole, and so does a wrong line.
+in_folder pieces
+awk 'BEGIN { for (n = 1; n <= 40000; n++)
+    print (n % 5 == 1 ? "http://h/a b" : n % 5 == 3 ? "x" : "http://h/" n) }' >all.links
+sums='links 40000 ok 24000 bad 16000 differs 0'
+awk 'BEGIN { for (n = 1; n <= 40000; n++) print "http://h/" n }' >right.links
+# failing TIMES : a program that fails with 3 on a piece that has the line http://h/20000, and else is urlcheck
+mkdir failing
+printf '#!/bin/sh\ncat >piece.$$\nif grep -qx http://h/20000 piece.$$; then rm piece.$$; exit 3; fi\n%s' \
+    "$room/path/urlcheck \"\$@\" <piece.\$\$; ended=\$?; rm piece.\$\$; exit \$ended" >failing/urlcheck
+chmod +x failing/urlcheck
+# sums COMMAND.. : the sums of a list in pieces; the command reads all.links
+in_pieces() {
+    local what=$1
+    shift
+    cp all.links wrong.links
+    ends 1 "$what of a list" "$@"
+    grep -qxF "$sums" "$room/out" || { echo "FAILED: $what: it wrote: $(cat "$room/out")"; failed=1; }
+    cp right.links all.links
+    ends 0 "$what of a right list" "$@"
+    says "$what of a right list" 'links 40000 ok 40000 bad 0 differs 0'
+    PATH=$PWD/failing:$PATH ends any "$what with a piece that fails" "$@"
+    ! grep -q '^links 40000' "$room/out" || { echo "FAILED: $what: a piece that failed was counted"; failed=1; }
+    : >all.links
+    ends 0 "$what of an empty list" "$@"
+    says "$what of an empty list" 'links 0 ok 0 bad 0 differs 0'
+    mv wrong.links all.links
+}
+if has parallel; then
+    recipe 'Many processes' bash | sed 's/--block 10M/--block 100K/' >parallel.sh
+    in_pieces 'parallel' bash parallel.sh
+fi
+dask=
+for python in python3 /usr/bin/python3; do
+    [ -n "$dask" ] || ! "$python" -c 'import distributed' 2>/dev/null || dask=$python
+done
+if [ -n "$dask" ]; then
+    recipe 'A cluster' python | sed 's/^PIECE = .*/PIECE = 100_000/' >cluster.py
+    in_pieces 'distributed' timeout 300 "$dask" -W ignore cluster.py all.links
+else
+    echo "uses: the recipe for distributed is left out, since it isn't installed"
+fi
+
+[ $failed = 0 ] && echo "uses: $count runs of recipes"
+exit $failed
