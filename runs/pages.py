@@ -1,5 +1,5 @@
 #!/usr/bin/env python3
-"""Checks the pages of this repository: those at its top, docs/ and vectors/README.md.
+"""Checks the pages of this repository: those at its top, those of docs/, and each folder's README.md.
 
     runs/pages.py texts [TOP]               lengths, sentences, links, paths and names; no program is needed
     runs/pages.py commands PROGRAM [TOP]    runs each block with `$` commands, and compares what they print
@@ -29,8 +29,8 @@ FENCE = re.compile(r"^\s*```(.*)$")
 
 def pages_of(top):
     """The pages, each with its path from the top."""
-    found = sorted(top.glob("*.md")) + sorted((top / "docs").glob("*.md")) + [top / "vectors" / "README.md"]
-    return [page.relative_to(top) for page in found]
+    found = sorted(top.glob("*.md")) + sorted((top / "docs").glob("*.md")) + sorted(top.glob("*/README.md"))
+    return [page.relative_to(top) for page in dict.fromkeys(found)]
 
 
 def blocks_of(text):
