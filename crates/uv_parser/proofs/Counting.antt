@@ -2,4 +2,5 @@
 pub mod StepCosts
 pub mod StepsFewer
 pub mod RunsEnded
+pub mod DecidedSoon
 pub mod BoundTaken

@@ -7,7 +7,7 @@ use Rattle.uv_model.specs.Parts.{Form, has_scheme}
 use Rattle.uv_model.specs.Records.Url.{Url}
 use Rattle.uv_model.specs.Records.WellFormed.{MayBeWellFormed}
 use Rattle.uv_model.proofs.Records.DenotedRecords.{denoted_records_are_well_formed}
-use Rattle.uv_parser.proofs.Counting.RunsEnded.{texts_are_decided_soon}
+use Rattle.uv_parser.proofs.Counting.DecidedSoon.{texts_are_decided_soon}
 use Rattle.uv_parser.proofs.Silence.ValidSilent.{scheme_runs_silently, valid_is_silent, valid_runs_silently}
 use Rattle.uv_resolve.specs.Laws.{OpaqueTextsRunSilently, ReferencesRunSilently, TextsOfClassRunSilently}
 use Rattle.uv_resolve.specs.Resolve.{RunsToItsRecord}

@@ -1,21 +1,18 @@
 -- Each run of the parser machine ends within twice the length of the text and five steps, and more steps change
--- nothing.
-use Rattle.std.proofs.Common.{◌≡◌, ℕ, zero, suc, ◌+◌, ◌-◌, ◌<◌, ◌≤◌, ◌⊎◌, List, [], ◌∷◌, length, drop, Option, Some, None, ◌==◌, true, false, refl, sym, ap, ◌∙◌, inl, inr, arith}
+-- nothing: so a run that has ended after some steps has ended so within the bound.
+use Rattle.std.proofs.Common.{◌≡◌, ℕ, zero, suc, ◌+◌, ◌-◌, ◌<◌, ◌≤◌, List, [], ◌∷◌, length, drop, Option, Some, None, ◌==◌, true, false, refl, sym, ap, subst, ◌∙◌, inl, inr, arith}
 use Rattle.std.specs.Char.{is_ascii_alphabetic}
 use Rattle.std.proofs.lemmas.Bool.{cases_Bool}
 use Rattle.std.proofs.lemmas.Bool.Decides.{nat_tests}
 use Rattle.uv_model.specs.Ascii.{slash}
 use Rattle.uv_parser.specs.Machine.{Turn, onward, again, from_place, stop, turn, begins, SchemeStartState, empty_variables}
-use Rattle.uv_model.specs.Parts.{Parts}
-use Rattle.uv_parser.specs.SilentTexts.{Silent}
 use Rattle.uv_parser.specs.Run.{Machine, Outcome, Done, Stopped, Going, first_outcome, settle, step, run, run_from, step_bound}
 use Rattle.uv_parser.specs.Removed.{first_removed}
-use Rattle.uv_parser.specs.Laws.StepCounts.{IsEnded, RunsEnd, RunsKeepTheirEnd, TextsAreDecidedSoon, least_step_bound}
+use Rattle.uv_parser.specs.Laws.StepCounts.{IsEnded, RunsEnd, RunsKeepTheirEnd, least_step_bound}
 use Rattle.uv_model.specs.Records.Url.{Url}
-use Rattle.uv_parser.proofs.Done.DecidedBases.{texts_are_decided}
 use Rattle.uv_parser.proofs.Counting.StepCosts.{LeavesFewer, later, later_at_start, later_without_scheme}
 use Rattle.uv_parser.proofs.Counting.StepsFewer.{turn_fewer}
-use Rattle.uv_parser.proofs.Running.Steps.{drop_one, leads_done, leads_stopped, run_in_parts}
+use Rattle.uv_parser.proofs.Running.Steps.{EndsAs, Ending, HasEnded, drop_one, leads_done, leads_ended, leads_stopped, run_in_parts}
 
 -- behind the step from the first place so many steps come at most
 start_leaves : (text : List ℕ) → later_at_start text 0 text < least_step_bound text
@@ -97,22 +94,23 @@ runs_keep_their_end base text steps within =
     ∙ (run_in_parts base text first bound (steps - bound)
     ∙ ended_stays base text (run_from base text first bound) (steps - bound) (runs_end base text))
 
--- each text is decided within any number of steps from the bound on, as it is within the wider bound
-pub texts_are_decided_soon : TextsAreDecidedSoon
-texts_are_decided_soon base text steps well within =
-    let wide : least_step_bound text ≤ step_bound text = omega arith in
-    let same : run base text steps ≡ run base text (step_bound text)
-    = runs_keep_their_end base text steps within ∙ sym (runs_keep_their_end base text (step_bound text) wide) in
-    let decided = texts_are_decided base text well in
-    record {
-      silent = λ parts is. same ∙ decided.silent parts is;
-      only = λ url done. decided.only url (sym same ∙ done);
-      ended = ended same decided.ended;
-    }
-  where
-    ended : run base text steps ≡ run base text (step_bound text)
-        → ((parts : Parts) × Silent base text parts)
-        ⊎ ((place : ℕ) × (run base text (step_bound text) ≡ Stopped place))
-        → ((parts : Parts) × Silent base text parts) ⊎ ((place : ℕ) × (run base text steps ≡ Stopped place))
-    ended same (inl silent) = inl silent
-    ended same (inr (place, stops)) = inr (place, same ∙ stops)
+-- a run that has ended after some steps has ended so within the bound
+pub ended_within_bound : (base : Option Url) (text : List ℕ) (ending : Ending) (k : ℕ) → HasEnded ending (run base text k)
+    → HasEnded ending (run base text (step_bound text))
+unfolding run
+ended_within_bound base text ending k ended =
+    let first = first_outcome (first_removed text) in
+    let more = k + step_bound text in
+    let same : run base text more ≡ run base text (step_bound text)
+    = runs_keep_their_end base text more (omega arith)
+    ∙ sym (runs_keep_their_end base text (step_bound text) (omega arith)) in
+    subst (HasEnded ending) (sym (run_in_parts base text first k (step_bound text)) ∙ same)
+    (leads_ended base text ending (run base text k) (step_bound text) ended)
+
+-- a text of which no code point is removed ends as from the first state on
+pub starts_ended : (base : Option Url) (text : List ℕ) (ending : Ending) → first_removed text ≡ None
+    → EndsAs base SchemeStartState empty_variables text ending → HasEnded ending (run base text (step_bound text))
+unfolding run
+starts_ended base text ending kept ends =
+    let (k, ended) = ends.goes text 0 refl in
+    ended_within_bound base text ending k (rw kept ended)

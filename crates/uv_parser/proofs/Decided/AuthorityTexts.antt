@@ -1,6 +1,6 @@
 -- A text with an authority, with a scheme or without one: the parser is silent on it as its grammar says, or stops. How
 -- a run comes to what follows `//` is a parameter, since there alone the two differ.
-use Rattle.std.proofs.Common.{◌≡◌, ◌≢◌, ℕ, ◌+◌, ◌*◌, ◌≤◌, true, false, ◌||◌, ◌⊎◌, List, [], ◌∷◌, ◌++◌, length, Option, Some, None, refl, sym, ap, subst, ◌∙◌, inl, inr, eqb-true, append-nil, length-append, arith}
+use Rattle.std.proofs.Common.{◌≡◌, ◌≢◌, ℕ, true, false, ◌||◌, ◌⊎◌, List, [], ◌∷◌, ◌++◌, Option, Some, None, refl, sym, ap, subst, ◌∙◌, inl, inr, eqb-true, append-nil}
 use Rattle.std.specs.List.{list_all}
 use Rattle.std.proofs.lemmas.Bool.{and_parts, cases_Bool}
 use Rattle.uv_model.specs.declared.host.Host.{Host}
@@ -95,10 +95,9 @@ module _ (base : Option Url) (text : List ℕ) (form : Form) (given : Option (Li
     (cut : IsHostCut (scheme_class scheme) host_text port_text)
     (slashed : path ≢ [] → starts_with_slash path ≡ true)
     (free : FreeOfMarks path query)
-    (start : (class : Class) → scheme_class scheme ≡ class → (k : ℕ)
-    → k ≤ 2 * length ((host_text ++ written_behind colon port_text) ++ (path ++ tail query fragment)) + 12
+    (start : (class : Class) → scheme_class scheme ≡ class
     → Stops base (state_behind_slashes class) (variables_behind_slashes class (with_brackets false (emptied v)))
-    ((host_text ++ written_behind colon port_text) ++ (path ++ tail query fragment)) k
+    ((host_text ++ written_behind colon port_text) ++ (path ++ tail query fragment))
     → RunStops base text)
     (silent : (value : Option Host) (port : Option ℕ)
     → Takes (scheme_class scheme) scheme host_text
@@ -139,17 +138,15 @@ module _ (base : Option Url) (text : List ℕ) (form : Form) (given : Option (Li
       let host_cut : IsHostCut Special host_text port_text
       = subst (λ (k : Class). IsHostCut k host_text port_text) special cut in
       let class : is_special v.url.scheme ≡ true = rw (same, special) refl in
-      let long = length-append authority (path ++ tail query fragment) in
       elim (cases_Bool (begins slash rest || begins backslash rest)) [
-        | inl further ↦ inr (start Special special 1 (omega arith) (stops_here base (λ p. rw further refl)))
+        | inl further ↦ inr (start Special special (stops_here base (λ p. rw further refl)))
         | inr none ↦
             elim (authority_decided base (AreFine path query fragment) true host_text port_text
-            (path ++ tail query fragment) v (length (path ++ tail query fragment) + 1) class host_cut unended
+            (path ++ tail query fragment) v class host_cut unended
             (delimits_path path query fragment slashed)
             (λ g e. path_start_decided base path query fragment g free slashed)) [
               | inl (letters, taken, fine) ↦ special_taken special letters taken fine
-              | inr stops ↦ inr
-                  (start Special special _ (omega (arith, long)) (ends_again base (λ p. rw none refl) stops))
+              | inr stops ↦ inr (start Special special (ends_again base (λ p. rw none refl) stops))
             ]
       ]
 
@@ -160,9 +157,8 @@ module _ (base : Option Url) (text : List ℕ) (form : Form) (given : Option (Li
       let host_cut : IsHostCut Other host_text port_text
       = subst (λ (k : Class). IsHostCut k host_text port_text) other cut in
       let class : is_special v.url.scheme ≡ false = rw (same, other) refl in
-      let long = length-append authority (path ++ tail query fragment) in
       elim (authority_decided base (AreFine path query fragment) false host_text port_text
-      (path ++ tail query fragment) v (length (path ++ tail query fragment) + 1) class host_cut unended
+      (path ++ tail query fragment) v class host_cut unended
       (delimits_path path query fragment slashed)
       (λ g e. path_start_decided base path query fragment g free slashed)) [
         | inl (letters, taken, fine) ↦
@@ -180,7 +176,7 @@ module _ (base : Option Url) (text : List ℕ) (form : Form) (given : Option (Li
               parts,
               silent value port (subst (λ (k : Class). Takes k scheme host_text parts) (sym other) takes) fine,
             )
-        | inr stops ↦ inr (start Other other _ (omega (arith, long)) stops)
+        | inr stops ↦ inr (start Other other stops)
       ]
 
   -- class File
@@ -191,12 +187,10 @@ module _ (base : Option Url) (text : List ℕ) (form : Form) (given : Option (Li
       = ap (λ o. host_text ++ written_behind colon o) no_port ∙ append-nil host_text in
       let rest = path ++ tail query fragment in
       elim (file_host_decided base (AreFine path query fragment) host_text rest (file_variables host.Empty)
-      (length rest + 1) (subst IsUnended alone unended) (delimits_path path query fragment slashed)
+      (subst IsUnended alone unended) (delimits_path path query fragment slashed)
       (λ g e. path_start_decided base path query fragment g free slashed)) [
         | inl (fits, fine) ↦ taken no_port fits fine
-        | inr stops ↦ inr
-            (start File file (length host_text + ((length rest + 1) + 1))
-            (rw alone (omega (arith, length-append host_text rest))) (rw alone stops))
+        | inr stops ↦ inr (start File file (rw alone stops))
       ]
     where
       taken : port_text ≡ None → FileHostFits host_text → AreFine path query fragment → SilentOrStops base text

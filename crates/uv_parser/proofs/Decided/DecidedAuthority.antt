@@ -1,5 +1,5 @@
 -- An authority of a URL whose scheme isn't `file`: its host and its port are taken, or the parser machine stops.
-use Rattle.std.proofs.Common.{◌≡◌, ℕ, Bool, ◌+◌, ◌*◌, true, false, not, ◌&&◌, ◌||◌, ◌==◌, ◌⊎◌, List, [], ◌∷◌, ◌++◌, length, Option, Some, None, refl, sym, ◌∙◌, inl, inr, lt-ltb, le-ltb, append_assoc, append-nil, length-append, arith}
+use Rattle.std.proofs.Common.{◌≡◌, ℕ, Bool, true, false, not, ◌&&◌, ◌||◌, ◌==◌, ◌⊎◌, List, [], ◌∷◌, ◌++◌, length, Option, Some, None, refl, sym, ◌∙◌, inl, inr, lt-ltb, le-ltb, append_assoc, append-nil}
 use Rattle.std.specs.Prelude.{nat_lt}
 use Rattle.std.specs.List.{list_all}
 use Rattle.std.specs.Char.{is_ascii_digit}
@@ -21,7 +21,7 @@ use Rattle.uv_parser.proofs.Done.DoneAuthority.{reads_from}
 use Rattle.uv_parser.proofs.Loops.FileHosts.{and_true-right}
 use Rattle.uv_parser.proofs.HostParsing.HostsParsed.{has_some}
 use Rattle.uv_model.proofs.Texts.MarkLemmas.{is_without-more, is_without-parts}
-use Rattle.uv_parser.proofs.Running.Steps.{Stops, ends_again, ends_after, stops_here, ends_step, ends_within}
+use Rattle.uv_parser.proofs.Running.Steps.{Stops, ends_again, ends_after, stops_here, ends_step}
 use Rattle.uv_model.proofs.Texts.UnitsAhead.{without_parts}
 
 -- a text without the three marks that end an authority
@@ -107,7 +107,7 @@ module _ (base : Option Url) where
 
   -- a port with another code point than a digit stops
   port_stops : (cs rest : List ℕ) (v : Variables) → list_all is_ascii_digit cs ≡ false → IsUnended cs
-      → Stops base PortState v (cs ++ rest) (length cs)
+      → Stops base PortState v (cs ++ rest)
   port_stops [] rest v foreign is = absurd (true≢false foreign)
   port_stops (c ∷ cs) rest v foreign is =
       let (a, b, d, later) = unended_behind c cs is in
@@ -118,81 +118,75 @@ module _ (base : Option Url) where
         | inr other ↦
             let row : (p : ℕ) → turn base PortState p v (c ∷ (cs ++ rest)) ≡ stop
             = λ p. simp (a, b, d, other) refl in
-            ends_within base (omega arith) (stops_here base row)
+            stops_here base row
       ]
 
   -- from the port on
-  port_decided : (A : Type 0) (port rest : List ℕ) (v : Variables) (k : ℕ) → IsUnended port
+  port_decided : (A : Type 0) (port rest : List ℕ) (v : Variables) → IsUnended port
       → IsDelimiter (at_pointer rest)
-      → ((g : Variables) → g.url.scheme ≡ v.url.scheme → A ⊎ Stops base PathStartState g rest k)
-      → (IsPortText port × A) ⊎ Stops base PortState (emptied v) (port ++ rest) (length port + (k + 1))
-  port_decided A port rest v k is ends next =
+      → ((g : Variables) → g.url.scheme ≡ v.url.scheme → A ⊎ Stops base PathStartState g rest)
+      → (IsPortText port × A) ⊎ Stops base PortState (emptied v) (port ++ rest)
+  port_decided A port rest v is ends next =
       elim (cases_Bool (list_all is_ascii_digit port)) [
         | inl digits ↦ elim (cases_lt 65535 (digits_value 10 port)) [
           | inl large ↦ inr
-              (ends_within base (omega arith)
               (ends_after base (port_law base port rest (emptied v) digits)
               (stops_here base
               (λ p. port_row_large (with_more port (emptied v)) (at_pointer rest) ends
-              (lt-ltb 65535 (digits_value 10 port) large)))))
+              (lt-ltb 65535 (digits_value 10 port) large))))
           | inr small ↦ elim (next (with_port (port_in v.url.scheme port) (emptied v)) refl) [
             | inl fine ↦ inl (record { digits = digits; range = small }, fine)
             | inr stops ↦ inr
-                (ends_within base (omega arith)
                 (ends_after base (port_law base port rest (emptied v) digits)
                 (ends_again base
                 (λ p. port_row_end (with_more port (emptied v)) (at_pointer rest) ends
-                (le-ltb 65535 (digits_value 10 port) small)) stops)))
+                (le-ltb 65535 (digits_value 10 port) small)) stops))
           ]
         ]
-        | inr foreign ↦ inr (ends_within base (omega arith) (port_stops port rest (emptied v) foreign is))
+        | inr foreign ↦ inr (port_stops port rest (emptied v) foreign is)
       ]
 
   -- ---- the host
 
   -- from a host without a port on
-  host_alone : (A : Type 0) (special : Bool) (host rest : List ℕ) (v : Variables) (k : ℕ)
+  host_alone : (A : Type 0) (special : Bool) (host rest : List ℕ) (v : Variables)
       → is_special v.url.scheme ≡ special
       → is_read_as_host special false host ≡ true → IsDelimiter (at_pointer rest)
-      → ((g : Variables) → g.url.scheme ≡ v.url.scheme → A ⊎ Stops base PathStartState g rest k)
+      → ((g : Variables) → g.url.scheme ≡ v.url.scheme → A ⊎ Stops base PathStartState g rest)
       → (IsHostTaken special host None × A)
-      ⊎ Stops base HostState (with_brackets false (emptied v)) (host ++ rest) (length host + (k + 1))
-  host_alone A special host rest v k class read ends next =
+      ⊎ Stops base HostState (with_brackets false (emptied v)) (host ++ rest)
+  host_alone A special host rest v class read ends next =
       let variables = with_more host (with_brackets (is_within_at_end false host) (emptied v)) in
       let law = host_law base special false host rest (emptied v) class read in
       elim (cases_Bool ((length host == 0) && is_special v.url.scheme)) [
         | inl empty ↦ inr
-            (ends_within base (omega arith)
-            (ends_after base law (stops_here base (λ p. host_row_empty variables (at_pointer rest) ends empty))))
+            (ends_after base law (stops_here base (λ p. host_row_empty variables (at_pointer rest) ends empty)))
         | inr some ↦ elim (host_cases (parse_host (is_special v.url.scheme) host)) [
           | inl none ↦ inr
-              (ends_within base (omega arith)
-              (ends_after base law (stops_here base (λ p. host_row_none variables (at_pointer rest) ends some none))))
+              (ends_after base law (stops_here base (λ p. host_row_none variables (at_pointer rest) ends some none)))
           | inr (value, parsed) ↦ elim (next (emptied (with_host (Some value) variables)) refl) [
             | inl fine ↦ inl (
               record { value = value; parsed = rw class at parsed; alone = λ same. refl; port_text = tt },
               fine,
             )
             | inr stops ↦ inr
-                (ends_within base (omega arith)
                 (ends_after base law
-                (ends_again base (λ p. host_row_end value variables (at_pointer rest) ends some parsed) stops)))
+                (ends_again base (λ p. host_row_end value variables (at_pointer rest) ends some parsed) stops))
           ]
         ]
       ]
 
   -- from a host with a port on
-  host_before_port : (A : Type 0) (special : Bool) (host port rest : List ℕ) (v : Variables) (k : ℕ)
+  host_before_port : (A : Type 0) (special : Bool) (host port rest : List ℕ) (v : Variables)
       → is_special v.url.scheme ≡ special
       → is_read_as_host special false host ≡ true → is_within_at_end false host ≡ false → IsUnended port
       → IsDelimiter (at_pointer rest)
-      → ((g : Variables) → g.url.scheme ≡ v.url.scheme → A ⊎ Stops base PathStartState g rest k)
+      → ((g : Variables) → g.url.scheme ≡ v.url.scheme → A ⊎ Stops base PathStartState g rest)
       → (IsHostTaken special host (Some port) × A)
       ⊎ Stops base HostState (with_brackets false (emptied v)) (host ++ (colon ∷ (port ++ rest)))
-      (length host + (length port + (k + 2)))
-  host_before_port A special [] port rest v k class read closed is ends next =
-      inr (ends_within base (omega arith) (stops_here base (λ p. refl)))
-  host_before_port A special (c ∷ cs) port rest v k class read closed is ends next =
+  host_before_port A special [] port rest v class read closed is ends next =
+      inr (stops_here base (λ p. refl))
+  host_before_port A special (c ∷ cs) port rest v class read closed is ends next =
       let host = c ∷ cs in
       let variables = with_more host (with_brackets (is_within_at_end false host) (emptied v)) in
       let law = host_law base special false host (colon ∷ (port ++ rest)) (emptied v) class read in
@@ -201,17 +195,16 @@ module _ (base : Option Url) where
         | inl none ↦
             let row : (p : ℕ) → turn base HostState p variables (colon ∷ (port ++ rest)) ≡ stop
             = λ p. rw (closed, some, none) refl in
-            inr (ends_within base (omega arith) (ends_after base law (stops_here base row)))
+            inr (ends_after base law (stops_here base row))
         | inr (value, parsed) ↦
-            elim (port_decided A port rest (with_host (Some value) variables) k is ends next) [
+            elim (port_decided A port rest (with_host (Some value) variables) is ends next) [
               | inl fine ↦ inl (
                 record { value = value; parsed = rw class at parsed; alone = λ same. absurd cc; port_text = fine.0 },
                 fine.1,
               )
               | inr stops ↦ inr
-                  (ends_within base (omega arith)
                   (ends_after base law
-                  (ends_step base (λ p. host_row_port base value (port ++ rest) variables p closed some parsed) stops)))
+                  (ends_step base (λ p. host_row_port base value (port ++ rest) variables p closed some parsed) stops))
             ]
       ]
 
@@ -220,7 +213,7 @@ module _ (base : Option Url) where
   -- an authority with an `@`, or of a special URL a `\`, stops
   authority_stops : (special : Bool) (cs rest : List ℕ) (v : Variables) → is_special v.url.scheme ≡ special
       → list_all (is_authority_letter special) cs ≡ false → IsUnended cs
-      → Stops base AuthorityState v (cs ++ rest) (length cs)
+      → Stops base AuthorityState v (cs ++ rest)
   authority_stops special [] rest v class fault is = absurd (true≢false fault)
   authority_stops special (c ∷ cs) rest v class fault is =
       let (a, b, d, later) = unended_behind c cs is in
@@ -231,41 +224,39 @@ module _ (base : Option Url) where
         | inr bad ↦
             let row : (p : ℕ) → turn base AuthorityState p v (c ∷ (cs ++ rest)) ≡ stop
             = λ p. simp (class, a, b, d, stopping special c a b d bad) refl in
-            ends_within base (omega arith) (stops_here base row)
+            stops_here base row
       ]
 
   -- from the host on, with a port or without one
   host_decided : (A : Type 0) (special : Bool) (host : List ℕ) (port : Option (List ℕ)) (rest : List ℕ)
-      (v : Variables) (k : ℕ) → is_special v.url.scheme ≡ special → EndsAtPort host port
+      (v : Variables) → is_special v.url.scheme ≡ special → EndsAtPort host port
       → IsUnended (host ++ written_behind colon port) → is_read_as_host special false host ≡ true
       → IsDelimiter (at_pointer rest)
-      → ((g : Variables) → g.url.scheme ≡ v.url.scheme → A ⊎ Stops base PathStartState g rest k)
+      → ((g : Variables) → g.url.scheme ≡ v.url.scheme → A ⊎ Stops base PathStartState g rest)
       → (IsHostTaken special host port × A)
       ⊎ Stops base HostState (with_brackets false (emptied v)) ((host ++ written_behind colon port) ++ rest)
-      (length (host ++ written_behind colon port) + (k + 2))
-  host_decided A special host None rest v k class ends is read delimited next =
-      elim (host_alone A special host rest v k class read delimited next) [
+  host_decided A special host None rest v class ends is read delimited next =
+      elim (host_alone A special host rest v class read delimited next) [
         | inl fine ↦ inl fine
-        | inr stops ↦ inr (rw append-nil (ends_within base (omega arith) stops))
+        | inr stops ↦ inr (rw append-nil stops)
       ]
-  host_decided A special host (Some port) rest v k class ends is read delimited next =
+  host_decided A special host (Some port) rest v class ends is read delimited next =
       let behind = unended_port host port is in
-      elim (host_before_port A special host port rest v k class read (ends.ends refl) behind delimited next) [
+      elim (host_before_port A special host port rest v class read (ends.ends refl) behind delimited next) [
         | inl fine ↦ inl fine
         | inr stops ↦ inr
             (rw (append_assoc host (colon ∷ port) rest)
-            (ends_within base (omega (arith, length-append host (colon ∷ port))) stops))
+            stops)
       ]
 
   -- from the authority on
   pub authority_decided : (A : Type 0) (special : Bool) (host : List ℕ) (port : Option (List ℕ)) (rest : List ℕ)
-      (v : Variables) (k : ℕ) → is_special v.url.scheme ≡ special → EndsAtPort host port
+      (v : Variables) → is_special v.url.scheme ≡ special → EndsAtPort host port
       → IsUnended (host ++ written_behind colon port) → IsDelimiter (at_pointer rest)
-      → ((g : Variables) → g.url.scheme ≡ v.url.scheme → A ⊎ Stops base PathStartState g rest k)
+      → ((g : Variables) → g.url.scheme ≡ v.url.scheme → A ⊎ Stops base PathStartState g rest)
       → ((list_all (is_authority_letter special) host ≡ true) × IsHostTaken special host port × A)
       ⊎ Stops base AuthorityState (with_brackets false (emptied v)) ((host ++ written_behind colon port) ++ rest)
-      (2 * length (host ++ written_behind colon port) + (k + 3))
-  authority_decided A special host port rest v k class ends is delimited next =
+  authority_decided A special host port rest v class ends is delimited next =
       let authority = host ++ written_behind colon port in
       elim (cases_Bool (list_all (is_authority_letter special) authority)) [
         | inl letters ↦
@@ -273,16 +264,13 @@ module _ (base : Option Url) where
             (list_all (is_authority_letter special) (written_behind colon port))
             (sym (list_all-append (is_authority_letter special) host (written_behind colon port)) ∙ letters) in
             let read = reads_from special false host port (ends_from_start host port ends) split.0 in
-            elim (host_decided A special host port rest v k class ends is read delimited next) [
+            elim (host_decided A special host port rest v class ends is read delimited next) [
               | inl fine ↦ inl (split.0, fine.0, fine.1)
               | inr stops ↦ inr
-                  (ends_within base (omega arith)
                   (ends_after base
-                  (authority_law base special authority rest (with_brackets false v) class letters delimited) stops))
+                  (authority_law base special authority rest (with_brackets false v) class letters delimited) stops)
             ]
-        | inr fault ↦ inr
-            (ends_within base (omega arith)
-            (authority_stops special authority rest (with_brackets false (emptied v)) class fault is))
+        | inr fault ↦ inr (authority_stops special authority rest (with_brackets false (emptied v)) class fault is)
       ]
 
 -- letters of an authority hold no `@`

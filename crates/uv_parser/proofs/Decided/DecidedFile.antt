@@ -1,5 +1,5 @@
 -- The host of a file URL: it is taken, or the parser machine stops.
-use Rattle.std.proofs.Common.{◌≡◌, ℕ, ◌+◌, true, false, ◌==◌, ◌⊎◌, List, [], ◌∷◌, ◌++◌, length, Option, Some, None, refl, inl, inr, arith}
+use Rattle.std.proofs.Common.{◌≡◌, ℕ, true, false, ◌==◌, ◌⊎◌, List, [], ◌∷◌, ◌++◌, length, Option, Some, None, refl, inl, inr}
 use Rattle.std.proofs.lemmas.Bool.{cases_Bool, true≢false}
 use Rattle.uv_model.specs.declared.host.Host.{Host}
 use Rattle.uv_model.specs.declared.host.Host.TheVariants as host
@@ -14,7 +14,7 @@ use Rattle.uv_parser.proofs.Loops.AuthorityLoops.{IsDelimiter}
 use Rattle.uv_parser.proofs.Decided.DecidedAuthority.{IsUnended, host_cases, unended_behind}
 use Rattle.uv_parser.proofs.Loops.FileHosts.{file_host_law, file_host_row}
 use Rattle.uv_parser.proofs.HostParsing.HostsParsed.{has_some}
-use Rattle.uv_parser.proofs.Running.Steps.{Stops, ends_again, ends_after, stops_here, ends_step, ends_within}
+use Rattle.uv_parser.proofs.Running.Steps.{Stops, ends_again, ends_after, stops_here, ends_step}
 
 -- ---- rows
 
@@ -68,25 +68,25 @@ module _ (base : Option Url) where
 
   -- a host with a `\` stops
   file_host_stops : (cs rest : List ℕ) (v : Variables) → is_without backslash cs ≡ false → IsUnended cs
-      → Stops base FileHostState v (cs ++ rest) (length cs)
+      → Stops base FileHostState v (cs ++ rest)
   file_host_stops [] rest v has is = absurd (true≢false has)
   file_host_stops (c ∷ cs) rest v has is =
       let (a, b, d, later) = unended_behind c cs is in
       elim (cases_Bool (c == backslash)) [
-        | inl here ↦ ends_within base (omega arith) (stops_here base (λ p. row_stop c (cs ++ rest) v p a b d here))
+        | inl here ↦ stops_here base (λ p. row_stop c (cs ++ rest) v p a b d here)
         | inr other ↦
             ends_step base (λ p. row_on c (cs ++ rest) v p a b d other)
             (file_host_stops cs rest _ (rw other at has) later)
       ]
 
   -- where no `\` stands in the host
-  named_host_decided : (A : Type 0) (c : ℕ) (cs rest : List ℕ) (v : Variables) (k : ℕ) → IsUnended (c ∷ cs)
+  named_host_decided : (A : Type 0) (c : ℕ) (cs rest : List ℕ) (v : Variables) → IsUnended (c ∷ cs)
       → IsDelimiter (at_pointer rest)
-      → ((g : Variables) → g.url.scheme ≡ v.url.scheme → A ⊎ Stops base PathStartState g rest k)
+      → ((g : Variables) → g.url.scheme ≡ v.url.scheme → A ⊎ Stops base PathStartState g rest)
       → is_without backslash (c ∷ cs) ≡ true
       → (FileHostFits (c ∷ cs) × A)
-      ⊎ Stops base FileHostState (emptied v) ((c ∷ cs) ++ rest) (length (c ∷ cs) + (k + 1))
-  named_host_decided A c cs rest v k is ends next none =
+      ⊎ Stops base FileHostState (emptied v) ((c ∷ cs) ++ rest)
+  named_host_decided A c cs rest v is ends next none =
       let text = c ∷ cs in
       let variables = with_more text (emptied v) in
       let law = file_host_law base text rest (emptied v) (record {
@@ -97,39 +97,35 @@ module _ (base : Option Url) where
       }) in
       elim (cases_Bool (is_drive_letter text)) [
         | inl drive ↦ inr
-            (ends_within base (omega arith)
-            (ends_after base law (stops_here base (λ p. drive_row variables (at_pointer rest) ends drive))))
+            (ends_after base law (stops_here base (λ p. drive_row variables (at_pointer rest) ends drive)))
         | inr no_drive ↦ elim (host_cases (parse_host true text)) [
           | inl missing ↦ inr
-              (ends_within base (omega arith)
               (ends_after base law
               (stops_here base
-              (λ p. none_row variables (at_pointer rest) ends no_drive (has_some text c cs refl) missing))))
+              (λ p. none_row variables (at_pointer rest) ends no_drive (has_some text c cs refl) missing)))
           | inr (value, parsed) ↦ elim (next (emptied (with_host (Some (without_localhost value)) variables)) refl) [
             | inl fine ↦ inl (taken_host_fits text value no_drive none parsed, fine)
             | inr stops ↦ inr
-                (ends_within base (omega arith)
                 (ends_after base law
                 (ends_again base
                 (λ p. file_host_row value variables (at_pointer rest) ends no_drive (has_some text c cs refl) parsed)
-                stops)))
+                stops))
           ]
         ]
       ]
 
   -- from the host on
-  pub file_host_decided : (A : Type 0) (text rest : List ℕ) (v : Variables) (k : ℕ) → IsUnended text
+  pub file_host_decided : (A : Type 0) (text rest : List ℕ) (v : Variables) → IsUnended text
       → IsDelimiter (at_pointer rest)
-      → ((g : Variables) → g.url.scheme ≡ v.url.scheme → A ⊎ Stops base PathStartState g rest k)
-      → (FileHostFits text × A) ⊎ Stops base FileHostState (emptied v) (text ++ rest) (length text + (k + 1))
-  file_host_decided A [] rest v k is ends next =
+      → ((g : Variables) → g.url.scheme ≡ v.url.scheme → A ⊎ Stops base PathStartState g rest)
+      → (FileHostFits text × A) ⊎ Stops base FileHostState (emptied v) (text ++ rest)
+  file_host_decided A [] rest v is ends next =
       elim (next (with_host (Some host.Empty) (emptied v)) refl) [
         | inl fine ↦ inl (inr refl, fine)
-        | inr stops ↦ inr
-            (ends_within base (omega arith) (ends_again base (λ p. empty_row v (at_pointer rest) ends) stops))
+        | inr stops ↦ inr (ends_again base (λ p. empty_row v (at_pointer rest) ends) stops)
       ]
-  file_host_decided A (c ∷ cs) rest v k is ends next =
+  file_host_decided A (c ∷ cs) rest v is ends next =
       elim (cases_Bool (is_without backslash (c ∷ cs))) [
-        | inl none ↦ named_host_decided A c cs rest v k is ends next none
-        | inr has ↦ inr (ends_within base (omega arith) (file_host_stops (c ∷ cs) rest (emptied v) has is))
+        | inl none ↦ named_host_decided A c cs rest v is ends next none
+        | inr has ↦ inr (file_host_stops (c ∷ cs) rest (emptied v) has is)
       ]

@@ -1,5 +1,5 @@
 -- A text with a scheme of class Other and an opaque path: the parser is silent on it as its grammar says, or stops.
-use Rattle.std.proofs.Common.{◌≡◌, ℕ, suc, true, false, ◌⊎◌, List, [], ◌∷◌, ◌++◌, length, Option, Some, None, refl, ◌∙◌, inl, inr, length-append, arith}
+use Rattle.std.proofs.Common.{◌≡◌, ℕ, true, false, ◌⊎◌, List, [], ◌∷◌, ◌++◌, Option, Some, None, refl, ◌∙◌, inl, inr}
 use Rattle.std.proofs.lemmas.Bool.{cases_Bool}
 use Rattle.uv_model.specs.declared.scheme.Class.TheVariants.{Other}
 use Rattle.uv_model.specs.declared.path.UrlPath.TheVariants.{Opaque}
@@ -21,7 +21,7 @@ use Rattle.uv_parser.proofs.Loops.Looping.{opaque_path_law}
 use Rattle.uv_model.proofs.Paths.PathPieces.{path_relative, pieces}
 use Rattle.uv_parser.proofs.Running.RunsStopped.{RunStops, place_cases, removed_stops, scheme_stops}
 use Rattle.uv_parser.proofs.Loops.SchemeStretch.{scheme_variables, colon_row}
-use Rattle.uv_parser.proofs.Running.Steps.{Stops, ends_step, ends_after, ends_within}
+use Rattle.uv_parser.proofs.Running.Steps.{Stops, ends_step, ends_after}
 use Rattle.uv_parser.proofs.Loops.StoppingLoops.{opaque_path_stops}
 use Rattle.uv_parser.proofs.Loops.Tails.{tail, no_slash_before_tail}
 use Rattle.uv_parser.proofs.Decided.TailsDecided.{PassesToTail, no_hex_tail, tail_decided}
@@ -63,29 +63,25 @@ module _ (base : Option Url) (scheme path : List ℕ) (query fragment : Option (
   -- from the opaque path on
   path_decided : (is_faultless path ≡ true) × MayBeUnits query × MayBeUnits fragment
       ⊎ Stops base OpaquePathState (path_begun scheme) (path ++ tail query fragment)
-      (length (path ++ tail query fragment))
   path_decided =
       elim (cases_Bool (is_faultless path)) [
         | inl units ↦ elim (tail_decided base OpaquePathState (path_variables scheme path) query fragment opaque_passes
             have.query) [
               | inl both ↦ inl (units, both.0, both.1)
               | inr stops ↦ inr
-                  (ends_within base (omega (arith, length-append path (tail query fragment)))
                   (ends_after base
                   (opaque_path_law base path (tail query fragment) [] (scheme_variables scheme) units
                   have.path_question_mark)
-                  stops))
+                  stops)
             ]
         | inr fault ↦ inr
-            (ends_within base (omega (arith, length-append path (tail query fragment)))
             (opaque_path_stops base path (tail query fragment) (path_begun scheme) fault have.path_question_mark
-            have.path_number_sign (no_hex_tail query fragment)))
+            have.path_number_sign (no_hex_tail query fragment))
       ]
 
   -- from the scheme's `:` on
   pub opaque_decided : (is_faultless path ≡ true) × MayBeUnits query × MayBeUnits fragment
       ⊎ Stops base SchemeState (with_more (lowercase scheme) empty_variables) (colon ∷ (path ++ tail query fragment))
-      (suc (length (path ++ tail query fragment)))
   opaque_decided =
       let no_slash = no_slash_before_tail path query fragment start in
       elim path_decided [
@@ -120,8 +116,7 @@ opaque_silent_or_stops base text scheme port_text path query fragment is other s
           query = query_units;
           fragment = fragment_units;
         })
-        | inr stops ↦ inr
-            (scheme_stops base text scheme (path ++ tail query fragment) _ kept is.scheme whole (omega arith) stops)
+        | inr stops ↦ inr (scheme_stops base text scheme (path ++ tail query fragment) kept is.scheme whole stops)
       ]
       | inr (p, removed) ↦ inr (removed_stops base text p removed)
     ]

@@ -1,5 +1,5 @@
 -- A path of segments, with the query and the fragment behind it: all of it is units, or the parser machine stops.
-use Rattle.std.proofs.Common.{◌≡◌, ◌≢◌, ℕ, ◌+◌, true, false, ◌==◌, ◌⊎◌, List, [], ◌∷◌, ◌++◌, length, Option, refl, inl, inr, eqb-true, length-append, arith}
+use Rattle.std.proofs.Common.{◌≡◌, ◌≢◌, ℕ, true, false, ◌==◌, ◌⊎◌, List, [], ◌∷◌, ◌++◌, Option, refl, inl, inr, eqb-true}
 use Rattle.std.proofs.lemmas.Bool.{and_parts, cases_Bool}
 use Rattle.uv_model.specs.Ascii.{slash, question_mark, number_sign}
 use Rattle.uv_model.specs.Encoding.{encoded_code_point}
@@ -10,7 +10,7 @@ use Rattle.uv_model.specs.Records.Url.{Url}
 use Rattle.uv_model.specs.Valid.{MayBeUnits}
 use Rattle.uv_parser.proofs.Loops.PathLoops.{path_row_on}
 use Rattle.uv_parser.proofs.Loops.PathStarts.{special_row}
-use Rattle.uv_parser.proofs.Running.Steps.{Reaches, reaches_none, onward_then, Stops, ends_again, ends_after, ends_step, ends_within}
+use Rattle.uv_parser.proofs.Running.Steps.{Reaches, reaches_none, onward_then, Stops, ends_again, ends_after, ends_step}
 use Rattle.uv_parser.proofs.Loops.StoppingLoops.{path_stops}
 use Rattle.uv_parser.proofs.Loops.Tails.{tail}
 use Rattle.uv_parser.proofs.Decided.TailsDecided.{MayBeWithoutNumberSign, PassesToTail, no_hex_tail, tail_decided}
@@ -38,7 +38,7 @@ module _ (base : Option Url) where
 
   -- units without `?` are read, whatever the variables are
   path_reads : (cs rest : List ℕ) (v : Variables) → is_faultless cs ≡ true → is_without question_mark cs ≡ true
-      → (g : Variables) × Reaches base PathState v (cs ++ rest) (length cs) PathState g rest
+      → (g : Variables) × Reaches base PathState v (cs ++ rest) PathState g rest
   path_reads [] rest v units none = (v, reaches_none base PathState v rest)
   path_reads (c ∷ cs) rest v units none =
       let unit = and_parts (is_unit_at c cs) (is_faultless cs) units in
@@ -68,35 +68,30 @@ module _ (base : Option Url) where
   -- from the path state on
   pub path_decided : (path : List ℕ) (query fragment : Option (List ℕ)) (v : Variables) → FreeOfMarks path query
       → AreFine path query fragment
-      ⊎ Stops base PathState v (path ++ tail query fragment) (length (path ++ tail query fragment))
+      ⊎ Stops base PathState v (path ++ tail query fragment)
   path_decided path query fragment v free =
       elim (cases_Bool (is_faultless path)) [
         | inl units ↦
             let through = path_reads path (tail query fragment) v units free.question_mark in
             elim (tail_decided base PathState through.0 query fragment (path_passes through.0) free.query) [
               | inl both ↦ inl (units, both.0, both.1)
-              | inr stops ↦ inr
-                  (ends_within base (omega (arith, length-append path (tail query fragment)))
-                  (ends_after base through.1 stops))
+              | inr stops ↦ inr (ends_after base through.1 stops)
             ]
         | inr fault ↦ inr
-            (ends_within base (omega (arith, length-append path (tail query fragment)))
             (path_stops base path (tail query fragment) v fault free.question_mark free.number_sign
-            (no_hex_tail query fragment)))
+            (no_hex_tail query fragment))
       ]
 
   -- from the path start state on
   pub path_start_decided : (path : List ℕ) (query fragment : Option (List ℕ)) (v : Variables) → FreeOfMarks path query
       → (path ≢ [] → starts_with_slash path ≡ true)
       → AreFine path query fragment
-      ⊎ Stops base PathStartState v (path ++ tail query fragment) (length (path ++ tail query fragment) + 1)
+      ⊎ Stops base PathStartState v (path ++ tail query fragment)
   path_start_decided [] query fragment v free start =
       elim (cases_Bool (is_special v.url.scheme)) [
         | inl special ↦ elim (path_decided [] query fragment v free) [
           | inl fine ↦ inl fine
-          | inr stops ↦ inr
-              (ends_within base (omega arith)
-              (ends_again base (λ p. rw special (special_row query fragment v)) stops))
+          | inr stops ↦ inr (ends_again base (λ p. rw special (special_row query fragment v)) stops)
         ]
         | inr plain ↦
             let passes : PassesToTail base PathStartState v
@@ -108,7 +103,7 @@ module _ (base : Option Url) where
             } in
             elim (tail_decided base PathStartState v query fragment passes free.query) [
               | inl both ↦ inl (refl, both.0, both.1)
-              | inr stops ↦ inr (ends_within base (omega arith) stops)
+              | inr stops ↦ inr stops
             ]
       ]
   path_start_decided (c ∷ path) query fragment v free start =
@@ -119,5 +114,5 @@ module _ (base : Option Url) where
       = record { question_mark = question.1; number_sign = number.1; query = free.query } in
       elim (path_decided path query fragment v behind) [
         | inl fine ↦ inl (rw is (faultless_slash path fine.0), fine.1, fine.2)
-        | inr stops ↦ inr (rw is (ends_within base (omega arith) (ends_step base (λ p. refl) stops)))
+        | inr stops ↦ inr (rw is (ends_step base (λ p. refl) stops))
       ]

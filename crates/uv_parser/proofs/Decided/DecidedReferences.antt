@@ -1,5 +1,5 @@
 -- A text without a scheme, against a base: the parser is silent on it as its grammar says, or stops.
-use Rattle.std.proofs.Common.{◌≡◌, ℕ, ◌+◌, ◌*◌, ◌≤◌, true, false, ◌==◌, ◌⊎◌, List, [], ◌∷◌, ◌++◌, length, Option, Some, None, refl, sym, ap, subst, ◌∙◌, inl, inr, eqb-true, append_assoc, arith}
+use Rattle.std.proofs.Common.{◌≡◌, ℕ, true, false, ◌==◌, ◌⊎◌, List, [], ◌∷◌, ◌++◌, Option, Some, None, refl, sym, ap, subst, ◌∙◌, inl, inr, eqb-true, append_assoc}
 use Rattle.std.specs.Prelude.{IsSome}
 use Rattle.std.proofs.lemmas.Bool.{cases_Bool, false≢true}
 use Rattle.uv_model.specs.declared.host.Host.{Host}
@@ -23,8 +23,8 @@ use Rattle.uv_parser.proofs.Decided.DecidedSchemes.{one_slash}
 use Rattle.uv_model.proofs.Texts.MarkLemmas.{is_without-cons}
 use Rattle.uv_model.proofs.Paths.PathPieces.{path_relative, pieces}
 use Rattle.uv_parser.proofs.Running.RunsStopped.{RunStops, place_cases, removed_stops}
-use Rattle.uv_parser.proofs.Decided.SchemeAbsent.{absent_stops}
-use Rattle.uv_parser.proofs.Running.Steps.{Stops, ends_again, stops_here, ends_step, ends_within}
+use Rattle.uv_parser.proofs.Decided.SchemeAbsent.{absent_ended}
+use Rattle.uv_parser.proofs.Running.Steps.{Stops, stopped, ends_again, stops_here, ends_step}
 use Rattle.uv_parser.proofs.Loops.AuthorityStarts.{base_variables, base_starts, file_variables}
 use Rattle.uv_parser.proofs.Loops.Tails.{no_slash_before_tail, tail}
 use Rattle.uv_parser.proofs.Decided.TailsDecided.{PassesToTail, fragment_decided, tail_decided}
@@ -63,12 +63,12 @@ module _ (url : Url) (text : List ℕ) (host_text port_text : Option (List ℕ))
     (is : IsCut (Some url) text (cut_with None host_text port_text path query fragment))
     (kept : first_removed text ≡ None) where
   -- the run stops where it stops from the no scheme state on
-  reference_stops : (rest : List ℕ) (k : ℕ) → text ≡ rest → k ≤ 2 * length rest + 15
-      → Stops (Some url) NoSchemeState empty_variables rest k → RunStops (Some url) text
-  reference_stops rest k whole few stops =
-      absent_stops (Some url) text k kept
+  reference_stops : (rest : List ℕ) → text ≡ rest
+      → Stops (Some url) NoSchemeState empty_variables rest → RunStops (Some url) text
+  reference_stops rest whole stops =
+      absent_ended (Some url) text stopped kept
       (no_scheme_cut (Some url) text (cut_with None host_text port_text path query fragment) is refl)
-      (rw whole few) (rw whole stops)
+      (rw whole stops)
 
   reference_text : text ≡ (written_authority host_text port_text ++ path) ++ tail query fragment
   reference_text = cut_text (Some url) text None host_text port_text path query fragment is
@@ -104,8 +104,8 @@ fragment_alone url text port_text fragment is kept opaque =
         },
       )
       | inr stops ↦ inr
-          (reference_stops url text None port_text [] None (Some fragment) is kept _ _
-          (reference_text url text None port_text [] None (Some fragment) is kept) (omega arith)
+          (reference_stops url text None port_text [] None (Some fragment) is kept _
+          (reference_text url text None port_text [] None (Some fragment) is kept)
           (ends_step (Some url) (λ p. rw opaque refl) stops))
     ]
 
@@ -115,22 +115,22 @@ opaque_base : (url : Url) (text : List ℕ) (host_text port_text : Option (List 
     → IsCut (Some url) text (cut_with None host_text port_text path query fragment) → first_removed text ≡ None
     → is_opaque url.path ≡ true → SilentOrStops (Some url) text
 opaque_base url text (Some host) port_text path query fragment is kept opaque =
-    inr (reference_stops url text (Some host) port_text path query fragment is kept _ 1
-    (reference_text url text (Some host) port_text path query fragment is kept) (omega arith)
+    inr (reference_stops url text (Some host) port_text path query fragment is kept _
+    (reference_text url text (Some host) port_text path query fragment is kept)
     (stops_here (Some url) (λ p. rw opaque refl)))
 opaque_base url text None port_text (c ∷ path) query fragment is kept opaque =
     let have = marks (Some url) text None None port_text (c ∷ path) query fragment is in
     let mark = is_without-cons number_sign c path have.path_number_sign in
-    inr (reference_stops url text None port_text (c ∷ path) query fragment is kept _ 1
-    (reference_text url text None port_text (c ∷ path) query fragment is kept) (omega arith)
+    inr (reference_stops url text None port_text (c ∷ path) query fragment is kept _
+    (reference_text url text None port_text (c ∷ path) query fragment is kept)
     (stops_here (Some url) (λ p. rw (opaque, mark.0) refl)))
 opaque_base url text None port_text [] (Some query) fragment is kept opaque =
-    inr (reference_stops url text None port_text [] (Some query) fragment is kept _ 1
-    (reference_text url text None port_text [] (Some query) fragment is kept) (omega arith)
+    inr (reference_stops url text None port_text [] (Some query) fragment is kept _
+    (reference_text url text None port_text [] (Some query) fragment is kept)
     (stops_here (Some url) (λ p. rw opaque refl)))
 opaque_base url text None port_text [] None None is kept opaque =
-    inr (reference_stops url text None port_text [] None None is kept _ 1
-    (reference_text url text None port_text [] None None is kept) (omega arith)
+    inr (reference_stops url text None port_text [] None None is kept _
+    (reference_text url text None port_text [] None None is kept)
     (stops_here (Some url) (λ p. rw opaque refl)))
 opaque_base url text None port_text [] None (Some fragment) is kept opaque =
     fragment_alone url text port_text fragment is kept opaque
@@ -205,14 +205,14 @@ module _ (url : Url) (text : List ℕ) (port_text : Option (List ℕ)) (query fr
   abbrev DecidesAbsolute : State → Variables → Type 0
   DecidesAbsolute s v = (behind : List ℕ) → starts_with_slash behind ≡ false → FreeOfMarks behind query
       → AreFine behind query fragment
-      ⊎ Stops (Some url) s v (slash ∷ (behind ++ tail query fragment)) (length (behind ++ tail query fragment) + 2)
+      ⊎ Stops (Some url) s v (slash ∷ (behind ++ tail query fragment))
 
   -- and so another path
   abbrev DecidesRelative : State → Variables → Type 0
   DecidesRelative s v = (c : ℕ) (rest : List ℕ) → (c == slash) ≡ false → (c == question_mark) ≡ false
       → (c == number_sign) ≡ false → FreeOfMarks (c ∷ rest) query
       → AreFine (c ∷ rest) query fragment
-      ⊎ Stops (Some url) s v (c ∷ (rest ++ tail query fragment)) (length (rest ++ tail query fragment) + 2)
+      ⊎ Stops (Some url) s v (c ∷ (rest ++ tail query fragment))
 
   -- a text without a path
   no_path_form : (s : State) (v : Variables) → GoesOn s v → PassesToTail (Some url) s v
@@ -225,8 +225,8 @@ module _ (url : Url) (text : List ℕ) (port_text : Option (List ℕ)) (query fr
           no_path_silent is (refl, fine.0, fine.1),
         )
         | inr stops ↦ inr
-            (reference_stops url text None port_text [] query fragment is kept _ _
-            (reference_text url text None port_text [] query fragment is kept) (omega arith)
+            (reference_stops url text None port_text [] query fragment is kept _
+            (reference_text url text None port_text [] query fragment is kept)
             (ends_again (Some url) (λ p. row (tail query fragment) p) stops))
       ]
 
@@ -250,8 +250,8 @@ module _ (url : Url) (text : List ℕ) (port_text : Option (List ℕ)) (query fr
               absolute_silent path is start fine,
             )
             | inr stops ↦ inr
-                (reference_stops url text None port_text (slash ∷ path) query fragment is kept _ _
-                (reference_text url text None port_text (slash ∷ path) query fragment is kept) (omega arith)
+                (reference_stops url text None port_text (slash ∷ path) query fragment is kept _
+                (reference_text url text None port_text (slash ∷ path) query fragment is kept)
                 (ends_again (Some url) (λ p. row (slash ∷ (path ++ tail query fragment)) p) stops))
           ]
 
@@ -263,8 +263,6 @@ module _ (url : Url) (text : List ℕ) (port_text : Option (List ℕ)) (query fr
       let have = marks (Some url) text None None port_text (c ∷ path) query fragment is in
       let question = is_without-cons question_mark c path have.path_question_mark in
       let number = is_without-cons number_sign c path have.path_number_sign in
-      let few : length (path ++ tail query fragment) + 3 ≤ 2 * length ((c ∷ path) ++ tail query fragment) + 15
-      = omega arith in
       elim (relative c path other question.0 number.0 (record {
         question_mark = have.path_question_mark;
         number_sign = have.path_number_sign;
@@ -275,8 +273,8 @@ module _ (url : Url) (text : List ℕ) (port_text : Option (List ℕ)) (query fr
           relative_silent c path is other fine,
         )
         | inr stops ↦ inr
-            (reference_stops url text None port_text (c ∷ path) query fragment is kept _ _
-            (reference_text url text None port_text (c ∷ path) query fragment is kept) (omega arith)
+            (reference_stops url text None port_text (c ∷ path) query fragment is kept _
+            (reference_text url text None port_text (c ∷ path) query fragment is kept)
             (ends_again (Some url) (λ p. row ((c ∷ path) ++ tail query fragment) p) stops))
       ]
 
@@ -308,27 +306,23 @@ module _ (url : Url) (text : List ℕ) (port_text : Option (List ℕ)) (query fr
       absolute : (behind : List ℕ) → starts_with_slash behind ≡ false → FreeOfMarks behind query
           → AreFine behind query fragment
           ⊎ Stops (Some url) RelativeState empty_variables (slash ∷ (behind ++ tail query fragment))
-          (length (behind ++ tail query fragment) + 2)
       absolute behind start free =
           let no_slash = no_slash_before_tail behind query fragment start in
           elim (path_decided (Some url) behind query fragment (with_base_host url (base_variables url)) free) [
             | inl fine ↦ inl fine
             | inr stops ↦ inr
-                (ends_within (Some url) (omega arith)
                 (ends_step (Some url) {s₁ = RelativeSlashState} {v₁ = base_variables url} (λ p. refl)
-                (ends_again (Some url) (λ p. rw no_slash refl) stops)))
+                (ends_again (Some url) (λ p. rw no_slash refl) stops))
           ]
 
       relative : (c : ℕ) (rest : List ℕ) → (c == slash) ≡ false → (c == question_mark) ≡ false
           → (c == number_sign) ≡ false → FreeOfMarks (c ∷ rest) query → AreFine (c ∷ rest) query fragment
           ⊎ Stops (Some url) RelativeState empty_variables (c ∷ (rest ++ tail query fragment))
-          (length (rest ++ tail query fragment) + 2)
       relative c rest a b d free =
           elim (path_decided (Some url) (c ∷ rest) query fragment
           (shortened (with_query None (with_base url (base_variables url)))) free) [
             | inl fine ↦ inl fine
-            | inr stops ↦ inr
-                (ends_within (Some url) (omega arith) (ends_again (Some url) (λ p. simp (a, b, d) refl) stops))
+            | inr stops ↦ inr (ends_again (Some url) (λ p. simp (a, b, d) refl) stops)
           ]
 
   -- against a base of class File
@@ -347,7 +341,6 @@ module _ (url : Url) (text : List ℕ) (port_text : Option (List ℕ)) (query fr
       absolute : (behind : List ℕ) → starts_with_slash behind ≡ false → FreeOfMarks behind query
           → AreFine behind query fragment
           ⊎ Stops (Some url) FileState empty_variables (slash ∷ (behind ++ tail query fragment))
-          (length (behind ++ tail query fragment) + 2)
       absolute behind start free =
           let rest = behind ++ tail query fragment in
           let no_slash = no_slash_before_tail behind query fragment start in
@@ -355,22 +348,20 @@ module _ (url : Url) (text : List ℕ) (port_text : Option (List ℕ)) (query fr
           (with_kept_drive (list_in url.path) rest (with_host url.host (file_variables host.Empty))) free) [
             | inl fine ↦ inl fine
             | inr stops ↦ inr
-                (ends_within (Some url) (omega arith)
                 (ends_step (Some url) {s₁ = FileSlashState} {v₁ = file_variables host.Empty} (λ p. refl)
-                (ends_again (Some url) (λ p. rw (no_slash, file) refl) stops)))
+                (ends_again (Some url) (λ p. rw (no_slash, file) refl) stops))
           ]
 
       relative : (c : ℕ) (rest : List ℕ) → (c == slash) ≡ false → (c == question_mark) ≡ false
           → (c == number_sign) ≡ false → FreeOfMarks (c ∷ rest) query → AreFine (c ∷ rest) query fragment
           ⊎ Stops (Some url) FileState empty_variables (c ∷ (rest ++ tail query fragment))
-          (length (rest ++ tail query fragment) + 2)
       relative c rest a b d free =
           elim (cases_Bool (starts_with_drive_letter (c ∷ (rest ++ tail query fragment)))) [
             | inl drive ↦
                 let row : (p : ℕ)
                 → turn (Some url) FileState p empty_variables (c ∷ (rest ++ tail query fragment)) ≡ stop
                 = λ p. simp (file, a, b, d, drive) refl in
-                inr (ends_within (Some url) (omega arith) (stops_here (Some url) row))
+                inr (stops_here (Some url) row)
             | inr no_drive ↦
                 let v = shortened (with_query None (with_file_base url (file_variables host.Empty))) in
                 let row : (p : ℕ) → turn (Some url) FileState p empty_variables (c ∷ (rest ++ tail query fragment))
@@ -378,7 +369,7 @@ module _ (url : Url) (text : List ℕ) (port_text : Option (List ℕ)) (query fr
                 = λ p. simp (file, a, b, d, no_drive) refl in
                 elim (path_decided (Some url) (c ∷ rest) query fragment v free) [
                   | inl fine ↦ inl fine
-                  | inr stops ↦ inr (ends_within (Some url) (omega arith) (ends_again (Some url) row stops))
+                  | inr stops ↦ inr (ends_again (Some url) row stops)
                 ]
           ]
 
@@ -392,18 +383,17 @@ module _ (url : Url) (text host_text : List ℕ) (port_text : Option (List ℕ))
   have_behind = marks (Some url) text None (Some host_text) port_text path query fragment is
 
   -- the whole text, and where it stops from the no scheme state on
-  reference_authority_stops : (k : ℕ)
-      → k ≤ 2 * length ((host_text ++ written_behind colon port_text) ++ (path ++ tail query fragment)) + 15
-      → Stops (Some url) NoSchemeState empty_variables
-      (slash ∷ slash ∷ ((host_text ++ written_behind colon port_text) ++ (path ++ tail query fragment))) k
+  reference_authority_stops :
+      Stops (Some url) NoSchemeState empty_variables
+      (slash ∷ slash ∷ ((host_text ++ written_behind colon port_text) ++ (path ++ tail query fragment)))
       → RunStops (Some url) text
-  reference_authority_stops k few stops =
+  reference_authority_stops stops =
       let authority = host_text ++ written_behind colon port_text in
       let whole : text ≡ slash ∷ slash ∷ (authority ++ (path ++ tail query fragment))
       = reference_text url text (Some host_text) port_text path query fragment is kept
       ∙ ap (λ xs. slash ∷ slash ∷ xs) (append_assoc authority path (tail query fragment)) in
       reference_stops url text (Some host_text) port_text path query fragment is kept
-      (slash ∷ slash ∷ (authority ++ (path ++ tail query fragment))) k whole (omega (arith, few)) stops
+      (slash ∷ slash ∷ (authority ++ (path ++ tail query fragment))) whole stops
 
   -- with an authority
   with_authority : SilentOrStops (Some url) text
@@ -417,8 +407,7 @@ module _ (url : Url) (text host_text : List ℕ) (port_text : Option (List ℕ))
       })
       is.authority.2 is.authority.1
       (free url text (Some host_text) port_text path query fragment is kept)
-      (λ class is_class k few stops.
-      reference_authority_stops (k + 3) (omega (arith, few)) (base_starts url _ class k not_opaque is_class stops))
+      (λ class is_class stops. reference_authority_stops (base_starts url _ class not_opaque is_class stops))
       (λ value port takes fine. record {
         cut = is;
         kept = kept;

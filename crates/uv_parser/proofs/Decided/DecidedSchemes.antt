@@ -1,5 +1,5 @@
 -- A text with a scheme: the parser is silent on it as its grammar says, or stops.
-use Rattle.std.proofs.Common.{◌≡◌, ℕ, ◌+◌, ◌*◌, ◌≤◌, true, false, ◌==◌, ◌⊎◌, List, [], ◌∷◌, ◌++◌, length, Option, Some, None, refl, ap, ◌∙◌, inl, inr, eqb-true, append_assoc, arith}
+use Rattle.std.proofs.Common.{◌≡◌, ℕ, true, false, ◌==◌, ◌⊎◌, List, [], ◌∷◌, ◌++◌, Option, Some, None, refl, ap, ◌∙◌, inl, inr, eqb-true, append_assoc}
 use Rattle.std.proofs.lemmas.Bool.{and_right, cases_Bool}
 use Rattle.uv_model.specs.declared.host.Host.{Host}
 use Rattle.uv_model.specs.declared.scheme.Class.TheVariants.{Special, File, Other}
@@ -54,7 +54,7 @@ no_two_before_tail (c ∷ d ∷ rest) query fragment none = none
 
 module _ (base : Option Url) (scheme : List ℕ) where
   special_without : (rest : List ℕ) → scheme_class scheme ≡ Special → begins_two_slashes rest ≡ false
-      → Stops base SchemeState (with_more (lowercase scheme) empty_variables) (colon ∷ rest) 2
+      → Stops base SchemeState (with_more (lowercase scheme) empty_variables) (colon ∷ rest)
   special_without rest special none =
       elim (cases_Bool (has_same_scheme base (lowercase scheme))) [
         | inl same ↦
@@ -68,7 +68,7 @@ module _ (base : Option Url) (scheme : List ℕ) where
       ]
 
   file_without : (rest : List ℕ) → scheme_class scheme ≡ File → begins_two_slashes rest ≡ false
-      → Stops base SchemeState (with_more (lowercase scheme) empty_variables) (colon ∷ rest) 1
+      → Stops base SchemeState (with_more (lowercase scheme) empty_variables) (colon ∷ rest)
   file_without rest file none =
       stops_here base (λ p. colon_row base scheme rest p ∙ rw (file, none) refl)
 
@@ -87,19 +87,17 @@ module _ (base : Option Url) (text scheme host_text : List ℕ) (port_text : Opt
   have = marks base text (Some scheme) (Some host_text) port_text path query fragment is
 
   -- the whole text, and where it stops from the scheme's `:` on
-  authority_stops_text : (k : ℕ)
-      → k ≤ 2 * length ((host_text ++ written_behind colon port_text) ++ (path ++ tail query fragment)) + 16
-      → Stops base SchemeState (with_more (lowercase scheme) empty_variables)
-      (colon ∷ slash ∷ slash ∷ ((host_text ++ written_behind colon port_text) ++ (path ++ tail query fragment))) k
+  authority_stops_text :
+      Stops base SchemeState (with_more (lowercase scheme) empty_variables)
+      (colon ∷ slash ∷ slash ∷ ((host_text ++ written_behind colon port_text) ++ (path ++ tail query fragment)))
       → RunStops base text
-  authority_stops_text k few stops =
+  authority_stops_text stops =
       let authority = host_text ++ written_behind colon port_text in
       let whole : text ≡ scheme ++ colon ∷ slash ∷ slash ∷ (authority ++ (path ++ tail query fragment))
       = scheme_text base text scheme (Some host_text) port_text path query fragment is
       ∙ ap (λ xs. scheme ++ colon ∷ slash ∷ slash ∷ xs) (append_assoc authority path (tail query fragment)) in
-      scheme_stops base text scheme (slash ∷ slash ∷ (authority ++ (path ++ tail query fragment))) k kept is.scheme
-      whole
-      (omega (arith, few)) stops
+      scheme_stops base text scheme (slash ∷ slash ∷ (authority ++ (path ++ tail query fragment))) kept is.scheme
+      whole stops
 
   -- with an authority
   pub with_authority : SilentOrStops base text
@@ -113,8 +111,7 @@ module _ (base : Option Url) (text scheme host_text : List ℕ) (port_text : Opt
       })
       is.authority.2 is.authority.1
       (record { question_mark = have.path_question_mark; number_sign = have.path_number_sign; query = have.query })
-      (λ class is_class k few stops.
-      authority_stops_text (k + 3) (omega (arith, few)) (scheme_starts base scheme _ class k is_class stops))
+      (λ class is_class stops. authority_stops_text (scheme_starts base scheme _ class is_class stops))
       (λ value port takes fine. record {
         cut = is;
         kept = kept;
@@ -155,11 +152,11 @@ module _ (base : Option Url) (text scheme : List ℕ) (port_text : Option (List 
   -- a scheme that needs `//`
   needs_slashes : (scheme_class scheme ≡ Special) ⊎ (scheme_class scheme ≡ File) → SilentOrStops base text
   needs_slashes (inl special) =
-      inr (scheme_stops base text scheme (path ++ tail query fragment) 2 kept is.scheme alone_text (omega arith)
+      inr (scheme_stops base text scheme (path ++ tail query fragment) kept is.scheme alone_text
       (special_without base scheme (path ++ tail query fragment) special
       (no_two_before_tail path query fragment is.authority.1)))
   needs_slashes (inr file) =
-      inr (scheme_stops base text scheme (path ++ tail query fragment) 1 kept is.scheme alone_text (omega arith)
+      inr (scheme_stops base text scheme (path ++ tail query fragment) kept is.scheme alone_text
       (file_without base scheme (path ++ tail query fragment) file
       (no_two_before_tail path query fragment is.authority.1)))
 
@@ -202,8 +199,8 @@ module _ (base : Option Url) (text scheme : List ℕ) (port_text : Option (List 
           with_path_silent behind slashed other start question.1 fine,
         )
         | inr stops ↦ inr
-            (scheme_stops base text scheme (slash ∷ (behind ++ tail query fragment)) _ kept is.scheme
-            (alone_text ∙ ap (λ xs. scheme ++ colon ∷ (xs ++ tail query fragment)) slashed) (omega arith)
+            (scheme_stops base text scheme (slash ∷ (behind ++ tail query fragment)) kept is.scheme
+            (alone_text ∙ ap (λ xs. scheme ++ colon ∷ (xs ++ tail query fragment)) slashed)
             (ends_past_two base {s₁ = PathOrAuthorityState} {v₁ = scheme_variables scheme}
             (λ p. colon_row base scheme (slash ∷ (behind ++ tail query fragment)) p ∙ rw other refl)
             (ends_again base (λ p. rw no_slash refl) stops)))

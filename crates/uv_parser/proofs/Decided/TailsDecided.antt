@@ -1,6 +1,6 @@
 -- Behind a path a run of the parser machine ends or stops: it stops exactly where the query or the fragment has a
 -- fault.
-use Rattle.std.proofs.Common.{◌≡◌, ℕ, true, ◌⊎◌, List, [], ◌∷◌, ◌++◌, length, Option, Some, None, refl, inl, inr, append-nil, length-append, arith}
+use Rattle.std.proofs.Common.{◌≡◌, ℕ, true, ◌⊎◌, List, [], ◌∷◌, ◌++◌, Option, Some, None, refl, inl, inr, append-nil}
 use Rattle.std.proofs.lemmas.Bool.{cases_Bool}
 use Rattle.uv_model.specs.Ascii.{question_mark, number_sign}
 use Rattle.uv_model.specs.Parts.{written_behind}
@@ -10,7 +10,7 @@ use Rattle.uv_model.specs.Records.Url.{Url}
 use Rattle.uv_model.specs.Valid.{MayBeUnits}
 use Rattle.uv_parser.specs.Machine.{State, Variables, turn, to_query, to_fragment, QueryState, FragmentState, with_query, with_fragment, with_more, query_ended}
 use Rattle.uv_parser.proofs.Loops.Looping.{query_law}
-use Rattle.uv_parser.proofs.Running.Steps.{Stops, ends_step, ends_after, ends_within}
+use Rattle.uv_parser.proofs.Running.Steps.{Stops, ends_step, ends_after}
 use Rattle.uv_parser.proofs.Loops.StoppingLoops.{no_hex_first, query_stops, fragment_stops}
 use Rattle.uv_parser.proofs.Loops.Tails.{tail}
 use Rattle.uv_model.proofs.Texts.UnitsLemmas.{IsUnits-faultless}
@@ -36,7 +36,7 @@ no_hex_tail None None = refl
 module _ (base : Option Url) where
   -- a fragment is units, or stops
   pub fragment_decided : (text : List ℕ) (v : Variables)
-      → MayBeUnits (Some text) ⊎ Stops base FragmentState v text (length text)
+      → MayBeUnits (Some text) ⊎ Stops base FragmentState v text
   fragment_decided text v =
       elim (cases_Bool (is_faultless text)) [
         | inl units ↦ inl (IsUnits-faultless text units)
@@ -46,7 +46,7 @@ module _ (base : Option Url) where
   -- query and fragment are units, or the run stops
   pub tail_decided : (s : State) (v : Variables) (query fragment : Option (List ℕ)) → PassesToTail base s v
       → MayBeWithoutNumberSign query
-      → (MayBeUnits query × MayBeUnits fragment) ⊎ Stops base s v (tail query fragment) (length (tail query fragment))
+      → (MayBeUnits query × MayBeUnits fragment) ⊎ Stops base s v (tail query fragment)
   tail_decided s v None None passes without = inl (tt, tt)
   tail_decided s v None (Some fragment) passes without =
       elim (fragment_decided fragment (with_fragment (Some []) passes.fragment_variables)) [
@@ -66,27 +66,22 @@ module _ (base : Option Url) where
       behind_query : (query : List ℕ) (fragment : Option (List ℕ)) (v : Variables) → is_faultless query ≡ true
           → (MayBeUnits (Some query) × MayBeUnits fragment)
           ⊎ Stops base QueryState v (query ++ written_behind number_sign fragment)
-          (length (query ++ written_behind number_sign fragment))
       behind_query query None v units = inl (IsUnits-faultless query units, tt)
       behind_query query (Some fragment) v units =
           elim (fragment_decided fragment (with_fragment (Some []) (query_ended (with_more query v)))) [
             | inl is ↦ inl (IsUnits-faultless query units, is)
             | inr stops ↦ inr
-                (ends_within base (omega (arith, length-append query (number_sign ∷ fragment)))
                 (ends_after base (query_law base query (number_sign ∷ fragment) v units)
-                (ends_step base (λ p. refl) stops)))
+                (ends_step base (λ p. refl) stops))
           ]
 
       query_decided : (query : List ℕ) (fragment : Option (List ℕ)) (v : Variables)
           → is_without number_sign query ≡ true
           → (MayBeUnits (Some query) × MayBeUnits fragment)
           ⊎ Stops base QueryState v (query ++ written_behind number_sign fragment)
-          (length (query ++ written_behind number_sign fragment))
       query_decided query fragment v without =
           elim (cases_Bool (is_faultless query)) [
             | inl units ↦ behind_query query fragment v units
             | inr fault ↦ inr
-                (ends_within base
-                (omega (arith, length-append query (written_behind number_sign fragment)))
-                (query_stops base query (written_behind number_sign fragment) v fault without (first_mark fragment)))
+                (query_stops base query (written_behind number_sign fragment) v fault without (first_mark fragment))
           ]

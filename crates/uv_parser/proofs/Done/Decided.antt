@@ -30,8 +30,8 @@ is_decided base text silent (inl (parts, is)) = record {
     done_once e = cc
 is_decided base text silent (inr stops) = record {
   silent = silent;
-  only = λ url done. absurd (stopped_not_done url stops.place (sym stops.stops ∙ done));
-  ended = inr (stops.place, stops.stops);
+  only = λ url done. absurd (stopped_not_done url stops.0 (sym stops.1 ∙ done));
+  ended = inr stops;
 }
 
 -- ---- what a silent text says

@@ -1,5 +1,5 @@
 -- Without a base each text is decided: the parser is silent on it as its grammar says, or stops.
-use Rattle.std.proofs.Common.{◌≡◌, ℕ, true, false, List, [], ◌∷◌, ◌++◌, append_assoc, Option, Some, None, refl, sym, ap, subst, ◌∙◌, inl, inr, arith}
+use Rattle.std.proofs.Common.{◌≡◌, ℕ, true, false, List, [], ◌∷◌, ◌++◌, append_assoc, Option, Some, None, refl, sym, ap, subst, ◌∙◌, inl, inr}
 use Rattle.std.specs.Prelude.{IsSome}
 use Rattle.std.proofs.lemmas.Bool.{cases_Bool, false≢true}
 use Rattle.uv_model.specs.Cut.{IsSchemeCut, texts_of, written_middle}
@@ -13,8 +13,8 @@ use Rattle.uv_model.specs.Valid.{starts_with_scheme}
 use Rattle.uv_parser.proofs.Done.Decided.{is_decided}
 use Rattle.uv_parser.proofs.Done.DecidedTexts.{scheme_texts_are_decided}
 use Rattle.uv_parser.proofs.Running.RunsStopped.{RunStops, place_cases, removed_stops}
-use Rattle.uv_parser.proofs.Decided.SchemeAbsent.{absent_stops}
-use Rattle.uv_parser.proofs.Running.Steps.{stops_here}
+use Rattle.uv_parser.proofs.Decided.SchemeAbsent.{absent_ended}
+use Rattle.uv_parser.proofs.Running.Steps.{stopped, stops_here}
 use Rattle.uv_parser.proofs.Decided.CutTexts.{cut_text}
 use Rattle.uv_model.proofs.Cuts.SchemeCutLemmas.{starts_with_written_scheme}
 use Rattle.uv_parser.proofs.Loops.Tails.{tail}
@@ -23,7 +23,7 @@ use Rattle.uv_parser.proofs.Loops.Tails.{tail}
 pub alone_stops : (text : List ℕ) → starts_with_scheme text ≡ false → RunStops None text
 alone_stops text none =
     elim (place_cases (first_removed text)) [
-      | inl kept ↦ absent_stops None text 1 kept none (omega arith) (stops_here None (λ p. refl))
+      | inl kept ↦ absent_ended None text stopped kept none (stops_here None (λ p. refl))
       | inr (p, removed) ↦ removed_stops None text p removed
     ]
 

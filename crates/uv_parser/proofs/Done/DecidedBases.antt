@@ -1,5 +1,5 @@
 -- Against no base and against each well-formed base each text is decided.
-use Rattle.std.proofs.Common.{◌≡◌, ℕ, suc, ◌+◌, true, false, not, ◌⊎◌, List, [], ◌∷◌, ◌++◌, length, codes, Option, Some, None, refl, sym, ap, subst, ◌∙◌, inl, inr, arith}
+use Rattle.std.proofs.Common.{◌≡◌, ℕ, true, false, not, ◌⊎◌, List, [], ◌∷◌, ◌++◌, codes, Option, Some, None, refl, sym, ap, subst, ◌∙◌, inl, inr, arith}
 use Rattle.std.specs.Prelude.{IsSome}
 use Rattle.std.specs.List.{list_all}
 use Rattle.std.specs.Char.{is_ascii_uppercase, to_ascii_lowercase}
@@ -88,7 +88,7 @@ opaque_base_done url text parts well opaque is none form no_query fragment given
     ∙ (ap (λ q. tail q parts.fragment) no_query ∙ ap (λ f. tail None f) given)) in
     let v = with_opaque_base url empty_variables in
     let units = rw given at is.fragment in
-    reference_runs url text (number_sign ∷ fragment) parts NoPath v (suc (length fragment + 1)) whole is form none
+    reference_runs url text (number_sign ∷ fragment) parts NoPath v whole is form none
     (record {
       scheme = refl;
       host = sym facts.0;
@@ -97,7 +97,6 @@ opaque_base_done url text parts well opaque is none form no_query fragment given
       query = reference_query url (scheme_class url.scheme) NoPath parts.query v
           (special_of_class (scheme_class url.scheme) url.scheme refl) refl;
     })
-    (omega arith)
     (rw (no_query, given) (ends_step (Some url) (λ p. rw opaque refl) (fragment_ends (Some url) fragment v units)))
 
 -- ---- every text

@@ -1,6 +1,6 @@
 -- The run of a text with a scheme and an authority on which the parser is silent is done, with the URL that the parts
 -- denote.
-use Rattle.std.proofs.Common.{◌≡◌, ℕ, Bool, true, false, ◌==◌, ◌&&◌, ◌⊎◌, List, [], ◌∷◌, ◌++◌, length, Option, Some, None, refl, sym, ap, subst, ◌∙◌, inl, inr, arith}
+use Rattle.std.proofs.Common.{◌≡◌, ℕ, Bool, true, false, ◌==◌, ◌&&◌, ◌⊎◌, List, [], ◌∷◌, ◌++◌, length, Option, Some, None, refl, sym, ap, subst, ◌∙◌, inl, inr}
 use Rattle.std.specs.List.{list_all}
 use Rattle.std.proofs.lemmas.Bool.{and_from, and_left, and_parts, and_right, true≢false}
 use Rattle.uv_model.specs.declared.host.Host.{Host}
@@ -35,7 +35,6 @@ use Rattle.uv_model.proofs.Texts.MarkLemmas.{is_without-parts}
 use Rattle.uv_parser.proofs.Loops.SchemeStretch.{scheme_there}
 use Rattle.uv_parser.proofs.Silence.SilentAuthority.{HasParsed, authority_runs, is_special_scheme, not_special, other_starts, special_some, special_starts, valued_some}
 use Rattle.uv_parser.proofs.Silence.SilentFile.{HasFileHost, empty_host_ends, file_host_ends, file_runs}
-use Rattle.uv_parser.proofs.Running.Steps.{ends_within}
 use Rattle.uv_model.proofs.Texts.UnitsAhead.{without_parts}
 use Rattle.uv_model.proofs.Cuts.ValidCutLemmas.{written_as_cut}
 
@@ -315,9 +314,8 @@ taken_file base text parts scheme host_text silent is takes =
         no_port = takes.no_port;
         valued = valued;
         path = is.path;
-        ends = rw empty (ends_within base (omega arith)
-            (empty_host_ends base parts.segments parts.path_text parts.query parts.fragment is.path silent.query
-            silent.fragment));
+        ends = rw empty (empty_host_ends base parts.segments parts.path_text parts.query parts.fragment is.path silent.query
+            silent.fragment);
       },
     )
 

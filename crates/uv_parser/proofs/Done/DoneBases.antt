@@ -1,7 +1,7 @@
 -- The run of a reference with an authority on which the parser is silent is done, with the URL that the parts denote:
 -- against a well-formed base of class Special or Other. And the law for each base of class Special or Other with a path
 -- of segments.
-use Rattle.std.proofs.Common.{◌≡◌, ℕ, ◌+◌, false, ◌||◌, List, ◌∷◌, ◌++◌, length, Some, None, refl, sym, ap, subst, ◌∙◌, append_assoc, length-append, arith}
+use Rattle.std.proofs.Common.{◌≡◌, ℕ, false, ◌||◌, List, ◌∷◌, ◌++◌, Some, None, refl, sym, ap, subst, ◌∙◌, append_assoc}
 use Rattle.uv_model.specs.declared.host.Host.{Host}
 use Rattle.uv_model.specs.declared.scheme.Class.TheVariants.{Special, Other}
 use Rattle.uv_model.specs.declared.path.UrlPath.TheVariants.{Segments}
@@ -26,7 +26,7 @@ use Rattle.uv_model.proofs.SchemeLemmas.{scheme_class-lowercase}
 use Rattle.uv_parser.proofs.Loops.SchemeStretch.{scheme_variables}
 use Rattle.uv_parser.proofs.Silence.SilentAuthority.{HasParsed, is_special_scheme, no_slash_before, special_some}
 use Rattle.uv_parser.proofs.Silence.SilentSchemes.{special_of_class}
-use Rattle.uv_parser.proofs.Running.Steps.{Ends, ends_again, ends_within}
+use Rattle.uv_parser.proofs.Running.Steps.{Ends, ends_again}
 use Rattle.uv_parser.proofs.Loops.Tails.{tail}
 
 module _ (url : Url) (text : List ℕ) (parts : Parts) (is : Silent (Some url) text parts)
@@ -36,11 +36,11 @@ module _ (url : Url) (text : List ℕ) (parts : Parts) (is : Silent (Some url) t
   rest : List ℕ
   rest = parts.path_text ++ tail parts.query parts.fragment
 
-  -- the same steps lead to the authority for each text behind `//`
+  -- where the authority ends the run with a URL, so does what begins with `//`
   Starts : List ℕ → Type 0
   Starts authority =
-      (k : ℕ) (u : Url) → Ends (Some url) AuthorityState (scheme_variables url.scheme) (authority ++ rest) k u
-      → Ends (Some url) NoSchemeState empty_variables (slash ∷ slash ∷ (authority ++ rest)) (k + 4) u
+      (u : Url) → Ends (Some url) AuthorityState (scheme_variables url.scheme) (authority ++ rest) u
+      → Ends (Some url) NoSchemeState empty_variables (slash ∷ slash ∷ (authority ++ rest)) u
 
   -- the whole run
   authority_reference : (host_text : List ℕ) (value : Host) → parts.form ≡ Authority
@@ -62,8 +62,6 @@ module _ (url : Url) (text : List ℕ) (parts : Parts) (is : Silent (Some url) t
       let v = walking (authority_path (scheme_class (lowercase url.scheme)) parts.segments)
       (hosted url.scheme value (port_given (default_port url.scheme) parts.port_text)) in
       reference_runs url text (slash ∷ slash ∷ (authority ++ rest)) parts Authority v
-      ((length authority + 1
-      + (length authority + (length parts.path_text + (length (tail parts.query parts.fragment) + 3)))) + 4)
       whole is form none
       (record {
         scheme = lower;
@@ -74,20 +72,15 @@ module _ (url : Url) (text : List ℕ) (parts : Parts) (is : Silent (Some url) t
             (special_of_class (scheme_class url.scheme) (lowercase url.scheme) (scheme_class-lowercase url.scheme))
             refl;
       })
-      (omega (
-        arith,
-        length-append authority (parts.path_text ++ tail parts.query parts.fragment),
-        length-append parts.path_text (tail parts.query parts.fragment),
-      ))
-      (start _ _
+      (start _
       (authority_ends (Some url) url.scheme value parts.segments parts.path_text parts.query parts.fragment behind
       host_text parts.port_text has.parsed))
 
   -- the variables with the base's scheme
-  same_variables : (s : State) (xs : List ℕ) (k : ℕ) (u : Url) → Ends (Some url) s (scheme_variables url.scheme) xs k u
-      → Ends (Some url) s (with_scheme url.scheme empty_variables) xs k u
-  same_variables s xs k u ends =
-      subst (λ (n : List ℕ). Ends (Some url) s (with_scheme n empty_variables) xs k u) lower ends
+  same_variables : (s : State) (xs : List ℕ) (u : Url) → Ends (Some url) s (scheme_variables url.scheme) xs u
+      → Ends (Some url) s (with_scheme url.scheme empty_variables) xs u
+  same_variables s xs u ends =
+      subst (λ (n : List ℕ). Ends (Some url) s (with_scheme n empty_variables) xs u) lower ends
 
   -- against a base of class Other
   pub other_reference_done : parts.form ≡ Authority → scheme_class url.scheme ≡ Other
@@ -100,9 +93,8 @@ module _ (url : Url) (text : List ℕ) (parts : Parts) (is : Silent (Some url) t
       (takes_form (Some url) text parts Authority is form) of_class (ap (scheme_or (Some url)) none) in
       let (value, has) = other_has (Some url) parts url.scheme host_text named in
       authority_reference host_text value form named.given has
-      (λ k u ends.
-      ends_within (Some url) (omega arith)
-      (base_starts url _ Other k not_opaque other (same_variables AuthorityState _ k u ends)))
+      (λ u ends.
+      (base_starts url _ Other not_opaque other (same_variables AuthorityState _ u ends)))
 
   -- against a base of class Special
   pub special_reference_done : parts.form ≡ Authority → scheme_class url.scheme ≡ Special
@@ -122,8 +114,6 @@ module _ (url : Url) (text : List ℕ) (parts : Parts) (is : Silent (Some url) t
       (special_letters (Some url) parts url.scheme host_text named)
       (special_some url.scheme host_text named.takes.value (is_special_scheme url.scheme special) has.parsed.parsed) in
       authority_reference host_text named.takes.value form named.given has
-      (λ k u ends.
-      ends_within (Some url) (omega arith)
-      (base_starts url rest Special (k + 1) not_opaque special
-      (ends_within (Some url) (omega arith)
-      (ends_again (Some url) (λ p. rw none refl) (same_variables AuthorityState rest k u ends)))))
+      (λ u ends.
+      (base_starts url rest Special not_opaque special
+      (ends_again (Some url) (λ p. rw none refl) (same_variables AuthorityState rest u ends))))

@@ -1,6 +1,6 @@
 -- The run of a reference to a well-formed file base on which the parser is silent is done, with the URL that the parts
 -- denote.
-use Rattle.std.proofs.Common.{◌≡◌, ◌≢◌, ℕ, suc, ◌+◌, true, false, ◌==◌, List, [], ◌∷◌, ◌++◌, length, codes, Option, Some, None, refl, sym, ap, ◌∙◌, inl, inr, append_assoc, append-nil, length-append, arith}
+use Rattle.std.proofs.Common.{◌≡◌, ◌≢◌, ℕ, true, false, ◌==◌, List, [], ◌∷◌, ◌++◌, codes, Option, Some, None, refl, sym, ap, ◌∙◌, inl, inr, append_assoc, append-nil}
 use Rattle.std.specs.Char.{is_ascii_alphabetic}
 use Rattle.std.proofs.lemmas.Bool.{and_parts, cases_Bool, eqb-true, false≢true, true≢false}
 use Rattle.uv_model.specs.declared.host.Host.{Host}
@@ -31,7 +31,7 @@ use Rattle.uv_parser.proofs.Loops.PathLoops.{walking}
 use Rattle.uv_parser.proofs.Silence.SilentAuthority.{valued_some}
 use Rattle.uv_parser.proofs.Silence.SilentFile.{HasFileHost}
 use Rattle.uv_parser.proofs.Silence.SilentSchemes.{special_of_class}
-use Rattle.uv_parser.proofs.Running.Steps.{ends_again, ends_within}
+use Rattle.uv_parser.proofs.Running.Steps.{ends_again}
 use Rattle.uv_parser.proofs.Loops.Tails.{tail, tail_ends}
 
 -- units that begin with no scheme begin with no drive letter
@@ -79,7 +79,7 @@ module _ (url : Url) (text : List ℕ) (parts : Parts) (is : Silent (Some url) t
       ∙ ap (λ xs. xs ++ tail parts.query parts.fragment) fits.1 in
       let v = with_file_base url (file_variables host.Empty) in
       reference_runs url text (tail parts.query parts.fragment) parts NoPath v
-      (suc (length (tail parts.query parts.fragment) + 1)) whole is form none
+      whole is form none
       (record {
         scheme = sym name;
         host = refl;
@@ -87,7 +87,6 @@ module _ (url : Url) (text : List ℕ) (parts : Parts) (is : Silent (Some url) t
         path = refl;
         query = reference_query url (scheme_class url.scheme) NoPath parts.query v file_special refl;
       })
-      (omega arith)
       (ends_again (Some url) (λ p. begin_row (tail parts.query parts.fragment) p)
       (tail_ends (Some url) FileState empty_variables v parts.query parts.fragment
       (record { at_end = λ p. rw file refl; at_query = λ p rest. rw file refl; at_fragment = λ p rest. rw file refl })
@@ -121,7 +120,7 @@ module _ (url : Url) (text : List ℕ) (parts : Parts) (is : Silent (Some url) t
       let drive = no_drive_letter parts.path_text parts.query parts.fragment fits.2
       (faultless_path parts.segments parts.path_text fits.1) fits.3 in
       reference_runs url text (parts.path_text ++ tail parts.query parts.fragment) parts PathRelative (walking walked v)
-      (suc (suc (length parts.path_text + (length (tail parts.query parts.fragment) + 1)))) whole is form none
+      whole is form none
       (record {
         scheme = sym name;
         host = refl;
@@ -131,7 +130,6 @@ module _ (url : Url) (text : List ℕ) (parts : Parts) (is : Silent (Some url) t
         query = reference_query url (scheme_class url.scheme) PathRelative parts.query (walking walked v) file_special
             refl;
       })
-      (omega (arith, length-append parts.path_text (tail parts.query parts.fragment)))
       (ends_again (Some url) (λ p. begin_row (parts.path_text ++ tail parts.query parts.fragment) p)
       (ends_again (Some url)
       (λ p. relative_row parts.path_text p fits.2 fits.1.start have.path_question_mark have.path_number_sign drive)
@@ -158,8 +156,6 @@ module _ (url : Url) (text : List ℕ) (parts : Parts) (is : Silent (Some url) t
       ∙ ap (λ xs. xs ++ rest) alone) in
       let v = walking (authority_path (scheme_class (codes "file")) parts.segments) (file_variables value) in
       reference_runs url text (slash ∷ slash ∷ (host_text ++ rest)) parts Authority v
-      (suc (suc (suc (length host_text + suc (length parts.path_text + (length (tail parts.query parts.fragment) +
-      2))))))
       whole is form none
       (record {
         scheme = sym name;
@@ -168,8 +164,7 @@ module _ (url : Url) (text : List ℕ) (parts : Parts) (is : Silent (Some url) t
         path = ap (λ k. Segments (authority_path k parts.segments)) (file_class ∙ sym class);
         query = reference_query url (scheme_class url.scheme) Authority parts.query v file_special refl;
       })
-      (omega (arith, length-append host_text rest, length-append parts.path_text (tail parts.query parts.fragment)))
-      (ends_within (Some url) (omega arith) (base_starts url (host_text ++ rest) File _ not_opaque class has.ends))
+      (base_starts url (host_text ++ rest) File not_opaque class has.ends)
 
   -- an authority
   pub file_authority_done : parts.form ≡ Authority → RunsSilently (Some url) text parts

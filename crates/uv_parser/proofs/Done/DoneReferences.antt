@@ -1,6 +1,6 @@
 -- The run of a text without a scheme on which the parser is silent is done, with the URL that the parts denote: texts
 -- without an authority against a base of a class other than File.
-use Rattle.std.proofs.Common.{◌≡◌, ◌≢◌, ℕ, suc, ◌+◌, ◌*◌, ◌≤◌, true, false, List, [], ◌∷◌, ◌++◌, length, Option, Some, None, refl, sym, ap, ◌∙◌, length-append, arith}
+use Rattle.std.proofs.Common.{◌≡◌, ◌≢◌, ℕ, true, false, List, [], ◌∷◌, ◌++◌, Option, Some, None, refl, sym, ap, ◌∙◌}
 use Rattle.std.specs.List.{join_with_byte}
 use Rattle.std.proofs.lemmas.Bool.{true≢false}
 use Rattle.uv_model.specs.declared.scheme.Class.{Class}
@@ -24,9 +24,9 @@ use Rattle.uv_parser.proofs.Done.Decided.{takes_form}
 use Rattle.uv_parser.proofs.Decided.DecidedReferences.{no_scheme_cut}
 use Rattle.uv_model.proofs.Texts.MarkLemmas.{is_without-cons}
 use Rattle.uv_parser.proofs.Loops.PathLoops.{path_ends, walking}
-use Rattle.uv_parser.proofs.Decided.SchemeAbsent.{absent_ends}
+use Rattle.uv_parser.proofs.Decided.SchemeAbsent.{absent_ended}
 use Rattle.uv_parser.proofs.Silence.SilentSchemes.{special_of_class, with_tail_denoted}
-use Rattle.uv_parser.proofs.Running.Steps.{Ends, ends_again, ends_step}
+use Rattle.uv_parser.proofs.Running.Steps.{Ends, done_with, ends_again, ends_step}
 use Rattle.uv_parser.proofs.Loops.Tails.{no_slash_before_tail, query_given, tail, tail_ends, with_tail}
 
 -- The variables behind the path have the denoted scheme, host, port, path and query.
@@ -66,16 +66,15 @@ reference_query url class PathRelative None v special e = e
 reference_query url class NoPath None v special e = e
 
 -- the whole run of such a text
-pub reference_runs : (url : Url) (text rest : List ℕ) (parts : Parts) (form : Form) (v : Variables) (k : ℕ)
+pub reference_runs : (url : Url) (text rest : List ℕ) (parts : Parts) (form : Form) (v : Variables)
     → text ≡ rest
     → Silent (Some url) text parts → parts.form ≡ form → parts.scheme ≡ None → HoldsReference url parts form v
-    → k ≤ 2 * length rest + 15
-    → Ends (Some url) NoSchemeState empty_variables rest k (with_tail parts.query parts.fragment v)
+    → Ends (Some url) NoSchemeState empty_variables rest (with_tail parts.query parts.fragment v)
     → RunsSilently (Some url) text parts
-reference_runs url text rest parts form v k whole is of_form none holds few ends =
+reference_runs url text rest parts form v whole is of_form none holds ends =
     rw (← reference_denoted url parts form v of_form none holds)
-    (absent_ends (Some url) text k (with_tail parts.query parts.fragment v) is.kept
-    (no_scheme_cut (Some url) text (texts_of parts) is.cut none) (rw whole few) (rw whole ends))
+    (absent_ended (Some url) text (done_with (with_tail parts.query parts.fragment v)) is.kept
+    (no_scheme_cut (Some url) text (texts_of parts) is.cut none) (rw whole ends))
 
 -- the text of parts with neither a scheme nor an authority
 pub path_text : (url : Url) (text : List ℕ) (parts : Parts) → Silent (Some url) text parts → parts.scheme ≡ None
@@ -89,7 +88,6 @@ path_text url text parts is none no_host =
 pub walk_ends : (base : Option Url) (query fragment : Option (List ℕ)) → MayBeUnits query → MayBeUnits fragment
     → (path segments : List (List ℕ)) (text : List ℕ) (v : Variables) → JoinsTo segments text
     → Ends base PathState (walking path v) (text ++ tail query fragment)
-    (length text + (length (tail query fragment) + 1))
     (with_tail query fragment (walking (walk (scheme_class v.url.scheme) path segments) v))
 walk_ends base query fragment query_units fragment_units path segments text v joins =
     let spelled : text ≡ join_with_byte slash (joins.first ∷ joins.others)
@@ -137,7 +135,7 @@ module _ (url : Url) (text : List ℕ) (parts : Parts) (is : Silent (Some url) t
       ∙ ap (λ xs. xs ++ tail parts.query parts.fragment) fits.1 in
       let v = with_base url begun in
       reference_runs url text (tail parts.query parts.fragment) parts NoPath v
-      (suc (length (tail parts.query parts.fragment) + 1)) whole is form none
+      whole is form none
       (record {
         scheme = refl;
         host = refl;
@@ -145,7 +143,6 @@ module _ (url : Url) (text : List ℕ) (parts : Parts) (is : Silent (Some url) t
         path = refl;
         query = reference_query url (scheme_class url.scheme) NoPath parts.query v special refl;
       })
-      (omega arith)
       (ends_again (Some url) (λ p. start_row (tail parts.query parts.fragment) p)
       (tail_ends (Some url) RelativeState empty_variables v parts.query parts.fragment
       (record { at_end = λ p. refl; at_query = λ p rest. refl; at_fragment = λ p rest. refl }) is.query is.fragment))
@@ -163,7 +160,7 @@ module _ (url : Url) (text : List ℕ) (parts : Parts) (is : Silent (Some url) t
       let walked = walk (scheme_class url.scheme) [] parts.segments in
       let no_slash = no_slash_before_tail path.behind parts.query parts.fragment path.relative.start in
       reference_runs url text (slash ∷ rest) parts PathAbsolute (walking walked v)
-      (suc (suc (suc (length path.behind + (length (tail parts.query parts.fragment) + 1))))) whole is form none
+      whole is form none
       (record {
         scheme = refl;
         host = refl;
@@ -173,7 +170,6 @@ module _ (url : Url) (text : List ℕ) (parts : Parts) (is : Silent (Some url) t
             (not_file (scheme_class url.scheme) url.scheme refl plain)));
         query = reference_query url (scheme_class url.scheme) PathAbsolute parts.query (walking walked v) special refl;
       })
-      (omega (arith, length-append path.behind (tail parts.query parts.fragment)))
       (ends_again (Some url) (λ p. start_row (slash ∷ rest) p)
       (ends_step (Some url) {s₁ = RelativeSlashState} {v₁ = begun} (λ p. refl)
       (ends_again (Some url) (λ p. rw no_slash refl)
@@ -194,7 +190,7 @@ module _ (url : Url) (text : List ℕ) (parts : Parts) (is : Silent (Some url) t
       let walked = walk (scheme_class url.scheme) (shorten (scheme_class url.scheme) (list_in url.path))
       parts.segments in
       reference_runs url text (parts.path_text ++ tail parts.query parts.fragment) parts PathRelative (walking walked v)
-      (suc (suc (length parts.path_text + (length (tail parts.query parts.fragment) + 1)))) whole is form none
+      whole is form none
       (record {
         scheme = refl;
         host = refl;
@@ -202,7 +198,6 @@ module _ (url : Url) (text : List ℕ) (parts : Parts) (is : Silent (Some url) t
         path = ap (λ k. Segments (walk (scheme_class url.scheme) k parts.segments)) list;
         query = reference_query url (scheme_class url.scheme) PathRelative parts.query (walking walked v) special refl;
       })
-      (omega (arith, length-append parts.path_text (tail parts.query parts.fragment)))
       (ends_again (Some url) (λ p. start_row (parts.path_text ++ tail parts.query parts.fragment) p)
       (ends_again (Some url)
       (λ p. first_row parts.path_text p fits.2 fits.1.start have.path_question_mark have.path_number_sign)

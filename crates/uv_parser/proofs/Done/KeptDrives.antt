@@ -1,5 +1,5 @@
 -- The drive letter that a path-absolute reference to a file base keeps, and the run of such a reference.
-use Rattle.std.proofs.Common.{◌≡◌, ℕ, suc, ◌+◌, true, false, ◌&&◌, ◌==◌, ◌⊎◌, List, [], ◌∷◌, ◌++◌, length, codes, Option, Some, None, refl, sym, ap, subst, ◌∙◌, inl, inr, append_assoc, length-append, arith}
+use Rattle.std.proofs.Common.{◌≡◌, ℕ, true, false, ◌&&◌, ◌==◌, ◌⊎◌, List, [], ◌∷◌, ◌++◌, codes, Option, Some, None, refl, sym, ap, subst, ◌∙◌, inl, inr, append_assoc}
 use Rattle.std.specs.List.{join_with_byte}
 use Rattle.std.specs.Char.{is_ascii_alphabetic}
 use Rattle.std.proofs.lemmas.Bool.{and_parts, and_right, cases_Bool, eqb-true, false≢true}
@@ -172,7 +172,7 @@ file_absolute_done url text parts is not_opaque file class none name no_port for
     = λ p. rw (no_slash, file)
     (ap (λ g. again PathState g) (kept_same (list_in url.path) joins.first rest joins.others url.host same)) in
     reference_runs url text (slash ∷ rest) parts PathAbsolute (walking walked v)
-    (suc (suc (suc (length path.behind + (length (tail parts.query parts.fragment) + 1))))) whole is form none
+    whole is form none
     (record {
       scheme = sym name;
       host = refl;
@@ -182,7 +182,6 @@ file_absolute_done url text parts is not_opaque file class none name no_port for
       query = reference_query url (scheme_class url.scheme) PathAbsolute parts.query (walking walked v)
           (special_of_class (scheme_class url.scheme) (codes "file") (file_class ∙ sym class)) refl;
     })
-    (omega (arith, length-append path.behind (tail parts.query parts.fragment)))
     (ends_again (Some url) {s₁ = FileState} {v₁ = empty_variables} (λ p. rw (not_opaque, file) refl)
     (ends_step (Some url) {s₁ = FileSlashState} {v₁ = file_variables host.Empty} (λ p. refl)
     (ends_again (Some url) begun

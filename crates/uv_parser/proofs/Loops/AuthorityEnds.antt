@@ -1,7 +1,7 @@
 -- The parser machine from the start of an authority to the end of the text, where host and port are followed by a path,
 -- a query and a fragment.
 use Rattle.uv_model.specs.Path.{MayBePathSlashed}
-use Rattle.std.proofs.Common.{◌≡◌, ℕ, Bool, suc, ◌+◌, true, false, ◌&&◌, ◌==◌, ◌⊎◌, List, [], ◌∷◌, ◌++◌, length, Option, Some, None, refl, ap, subst, ◌∙◌, inl, inr, ⊎_elim, append_assoc, append-nil, length-append, le-ltb, arith}
+use Rattle.std.proofs.Common.{◌≡◌, ℕ, Bool, true, false, ◌&&◌, ◌==◌, ◌⊎◌, List, [], ◌∷◌, ◌++◌, length, Option, Some, None, refl, ap, subst, ◌∙◌, inl, inr, ⊎_elim, append_assoc, append-nil, le-ltb}
 use Rattle.std.specs.Prelude.{nat_lt}
 use Rattle.std.specs.List.{list_all}
 use Rattle.std.specs.Char.{is_ascii_digit}
@@ -23,7 +23,7 @@ use Rattle.uv_parser.proofs.Loops.PathLoops.{walking}
 use Rattle.uv_parser.proofs.Loops.PathStarts.{path_start_ends}
 use Rattle.uv_model.proofs.SchemeLemmas.{default_port-lowercase}
 use Rattle.uv_parser.proofs.Loops.SchemeStretch.{scheme_variables}
-use Rattle.uv_parser.proofs.Running.Steps.{Ends, Reaches, ends_after, ends_again, ends_step, ends_within}
+use Rattle.uv_parser.proofs.Running.Steps.{Ends, Reaches, ends_after, ends_again, ends_step}
 use Rattle.uv_parser.proofs.Loops.Tails.{tail, with_tail}
 
 -- the variables behind the authority
@@ -105,14 +105,12 @@ module _ (base : Option Url) (scheme : List ℕ) (value : Host) (segments : List
   -- from behind the authority to the end
   rest_ends : (within : Bool) (port : Option ℕ)
       → Ends base PathStartState (with_brackets within (hosted scheme value port)) rest
-      (length path + (length (tail query fragment) + 2))
       (authority_url scheme value port segments query fragment)
   unfolding rest
   rest_ends within port =
       subst
       (λ (u : Url). Ends base PathStartState (with_brackets within (hosted scheme value port)) (path ++ tail query
-      fragment)
-      (length path + (length (tail query fragment) + 2)) u)
+      fragment) u)
       (same_tail within query fragment
       (walking (authority_path (scheme_class (lowercase scheme)) segments) (hosted scheme value port)))
       (path_start_ends base query fragment behind.query behind.fragment segments path
@@ -121,7 +119,6 @@ module _ (base : Option Url) (scheme : List ℕ) (value : Host) (segments : List
   -- from the port to the end
   port_ends : (port : List ℕ) → MayBePortText (Some port)
       → Ends base PortState (with_host (Some value) (scheme_variables scheme)) (port ++ rest)
-      (length port + suc (length path + (length (tail query fragment) + 2)))
       (authority_url scheme value (port_given (default_port scheme) (Some port)) segments query fragment)
   unfolding rest
   port_ends port fits =
@@ -136,37 +133,32 @@ module _ (base : Option Url) (scheme : List ℕ) (value : Host) (segments : List
   -- from the host to the end
   host_ends : (host : List ℕ) (port : Option (List ℕ)) → IsParsed scheme host port value
       → Ends base HostState (scheme_variables scheme) (host ++ (written_behind colon port ++ rest))
-      (length (host ++ written_behind colon port) + (length path + (length (tail query fragment) + 3)))
       (authority_url scheme value (port_given (default_port scheme) port) segments query fragment)
   unfolding rest
   host_ends host None is =
       let within = is_within_at_end false host in
-      ends_within base (omega (arith, length-append host []))
-      (ends_after base (host_law base (is_special (lowercase scheme)) false host rest (scheme_variables scheme) refl
+      ends_after base (host_law base (is_special (lowercase scheme)) false host rest (scheme_variables scheme) refl
       is.read.read)
       (ends_again base
       (λ p. host_row_end value (with_more host (with_brackets within (scheme_variables scheme))) (at_pointer rest)
       (delimits segments path query fragment behind.path) is.stands is.parsed)
-      (rest_ends within None)))
+      (rest_ends within None))
   host_ends host (Some port) is =
       let some : ((length host == 0) ≡ false) × (is_within_at_end false host ≡ false)
       = ⊎_elim (λ e. absurd cc) (λ e. e) is.some in
-      let law : Reaches base HostState (scheme_variables scheme) (host ++ (colon ∷ (port ++ rest))) (length host)
+      let law : Reaches base HostState (scheme_variables scheme) (host ++ (colon ∷ (port ++ rest)))
       HostState (with_more host (scheme_variables scheme)) (colon ∷ (port ++ rest))
       = rw some.1 at (host_law base (is_special (lowercase scheme)) false host (colon ∷ (port ++ rest))
       (scheme_variables scheme) refl is.read.read) in
-      ends_within base (omega (arith, length-append host (colon ∷ port)))
-      (ends_after base law
+      ends_after base law
       (ends_step base
       (λ p. host_row_port base value (port ++ rest) (with_more host (scheme_variables scheme)) p refl some.0 is.parsed)
-      (port_ends port is.port)))
+      (port_ends port is.port))
 
   -- from the start of the authority to the end
   pub authority_ends : (host : List ℕ) (port : Option (List ℕ)) → IsParsed scheme host port value
       → Ends base AuthorityState (scheme_variables scheme)
       ((host ++ written_behind colon port) ++ (path ++ tail query fragment))
-      (length (host ++ written_behind colon port) + 1
-      + (length (host ++ written_behind colon port) + (length path + (length (tail query fragment) + 3))))
       (authority_url scheme value (port_given (default_port scheme) port) segments query fragment)
   unfolding rest
   authority_ends host port is =

@@ -51,7 +51,7 @@ IsDelimiter (another c) = ⊥
 IsDelimiter _ = Unit {0}
 
 -- the rest from behind a stretch on
-drop_many : (text : List ℕ) (p : ℕ) (cs rest : List ℕ) → drop p text ≡ cs ++ rest → drop (p + length cs) text ≡ rest
+pub drop_many : (text : List ℕ) (p : ℕ) (cs rest : List ℕ) → drop p text ≡ cs ++ rest → drop (p + length cs) text ≡ rest
 drop_many text p cs rest e =
     sym (drop-drop (length cs) p text) ∙ (ap (λ r. drop (length cs) r) e ∙ drop-append_seam cs rest)
 
@@ -90,25 +90,29 @@ module _ (base : Option Url) (text : List ℕ) where
       ∙ ap (settle p (c ∷ (cs ++ rest))) (authority_row_on base special c (cs ++ rest) v p class parts.0) in
       rw (← place, ← append_assoc v.buffer (c ∷ []) cs) (leads_step base text _ (length cs) _ _ one later)
 
--- an authority before a delimiter leads to the host state at the authority's first place
-pub authority_law : (base : Option Url) (special : Bool) (cs rest : List ℕ) (v : Variables)
-    → is_special v.url.scheme ≡ special → list_all (is_authority_letter special) cs ≡ true
-    → IsDelimiter (at_pointer rest)
-    → Reaches base AuthorityState (emptied v) (cs ++ rest) (length cs + 1) HostState (emptied v) (cs ++ rest)
-authority_law base special cs rest v class is ends = record {
-  goes = λ text p e.
+  -- and before a delimiter the run goes back to their first place, in the host state
+  pub authority_back : (special : Bool) (cs rest : List ℕ) (p : ℕ) (v : Variables) → drop p text ≡ cs ++ rest
+      → is_special v.url.scheme ≡ special → list_all (is_authority_letter special) cs ≡ true
+      → IsDelimiter (at_pointer rest)
+      → Leads base text (at AuthorityState p (emptied v)) (length cs + 1) (at HostState p (emptied v))
+  authority_back special cs rest p v e class is ends =
       let variables = with_more cs (emptied v) in
       let back : (p + length cs) - length cs ≡ p = omega arith in
       let one : step base text
       (record { state = AuthorityState; pointer = p + length cs; variables = variables }) ≡ at HostState p (emptied v)
       = step_at base text AuthorityState (p + length cs) variables rest (drop_many text p cs rest e)
       ∙ (ap (settle (p + length cs) rest) (authority_row_end (p + length cs) variables (at_pointer rest) ends)
-      ∙ ap (λ q. at HostState q (emptied v)) back) in (
-        p,
-        e,
-        leads_then base text _ _ _ (length cs) 1 (authority_steps base text special cs rest p (emptied v) e class is)
-            (leads_step base text _ 0 _ _ one (leads_none base text _)),
-      );
+      ∙ ap (λ q. at HostState q (emptied v)) back) in
+      leads_then base text _ _ _ (length cs) 1 (authority_steps special cs rest p (emptied v) e class is)
+      (leads_step base text _ 0 _ _ one (leads_none base text _))
+
+-- an authority before a delimiter leads to the host state at the authority's first place
+pub authority_law : (base : Option Url) (special : Bool) (cs rest : List ℕ) (v : Variables)
+    → is_special v.url.scheme ≡ special → list_all (is_authority_letter special) cs ≡ true
+    → IsDelimiter (at_pointer rest)
+    → Reaches base AuthorityState (emptied v) (cs ++ rest) HostState (emptied v) (cs ++ rest)
+authority_law base special cs rest v class is ends = record {
+  goes = λ text p e. (p, e, length cs + 1, authority_back base text special cs rest p v e class is ends);
 }
 
 -- ---- the host
@@ -151,7 +155,7 @@ host_row_on base special within c rest v p class is mark =
 -- a host text goes into the buffer
 pub host_law : (base : Option Url) (special within : Bool) (cs rest : List ℕ) (v : Variables)
     → is_special v.url.scheme ≡ special → is_read_as_host special within cs ≡ true
-    → Reaches base HostState (with_brackets within v) (cs ++ rest) (length cs)
+    → Reaches base HostState (with_brackets within v) (cs ++ rest)
     HostState (with_more cs (with_brackets (is_within_at_end within cs) v)) rest
 host_law base special within [] rest v class is = rw (append-nil v.buffer) (reaches_none base HostState (with_brackets
     within v) rest)
@@ -194,13 +198,26 @@ port_row_on base c rest v p is =
     simp (l.no_slash, l.no_question_mark, l.no_number_sign, is) refl
 
 -- digits go into the buffer
-pub port_law : (base : Option Url) (cs rest : List ℕ) (v : Variables) → list_all is_ascii_digit cs ≡ true
-    → Reaches base PortState v (cs ++ rest) (length cs) PortState (with_more cs v) rest
-port_law base [] rest v is = rw (append-nil v.buffer) (reaches_none base PortState v rest)
-port_law base (c ∷ cs) rest v is =
+pub port_steps : (base : Option Url) (text cs rest : List ℕ) (p : ℕ) (v : Variables) → drop p text ≡ cs ++ rest
+    → list_all is_ascii_digit cs ≡ true
+    → Leads base text (at PortState p v) (length cs) (at PortState (p + length cs) (with_more cs v))
+port_steps base text [] rest p v e is =
+    rw (add-zero, append-nil v.buffer) (leads_none base text (at PortState p v))
+port_steps base text (c ∷ cs) rest p v e is =
     let parts = and_parts (is_ascii_digit c) (list_all is_ascii_digit cs) is in
-    rw (← append_assoc v.buffer (c ∷ []) cs)
-    (onward_then base (λ p. port_row_on base c (cs ++ rest) v p parts.0) (port_law base cs rest (put c v) parts.1))
+    let later = port_steps base text cs rest (p + 1) (put c v) (drop_one text p c (cs ++ rest) e) parts.1 in
+    let place : (p + 1) + length cs ≡ p + suc (length cs) = omega arith in
+    let one : step base text (record { state = PortState; pointer = p; variables = v }) ≡ at PortState (p + 1) (put c v)
+    = step_at base text PortState p v (c ∷ (cs ++ rest)) e
+    ∙ ap (settle p (c ∷ (cs ++ rest))) (port_row_on base c (cs ++ rest) v p parts.0) in
+    rw (← place, ← append_assoc v.buffer (c ∷ []) cs) (leads_step base text _ (length cs) _ _ one later)
+
+-- and so the run is led behind them
+pub port_law : (base : Option Url) (cs rest : List ℕ) (v : Variables) → list_all is_ascii_digit cs ≡ true
+    → Reaches base PortState v (cs ++ rest) PortState (with_more cs v) rest
+port_law base cs rest v is = record {
+  goes = λ text p e. (p + length cs, drop_many text p cs rest e, length cs, port_steps base text cs rest p v e is);
+}
 
 -- a port of 65535 at most ends at a delimiter
 pub port_row_end : (v : Variables) (s : AtPointer) → IsDelimiter s → nat_lt 65535 (digits_value 10 v.buffer) ≡ false

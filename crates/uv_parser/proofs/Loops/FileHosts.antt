@@ -38,7 +38,7 @@ pub record IsFileText (text : List ℕ) : Type 0 where
 
 -- a host text goes into the buffer
 pub file_host_law : (base : Option Url) (cs rest : List ℕ) (v : Variables) → IsFileText cs
-    → Reaches base FileHostState v (cs ++ rest) (length cs) FileHostState (with_more cs v) rest
+    → Reaches base FileHostState v (cs ++ rest) FileHostState (with_more cs v) rest
 file_host_law base [] rest v is = rw (append-nil v.buffer) (reaches_none base FileHostState v rest)
 file_host_law base (c ∷ cs) rest v is =
     let a = without_parts slash c cs is.no_slash in

@@ -1,6 +1,6 @@
--- Laws of the parser machine's loops over a scheme, an opaque path, a query and a fragment: so many steps lead behind
--- what the state reads, whatever the variables are before it and whatever text follows it.
-use Rattle.std.proofs.Common.{◌≡◌, ℕ, true, false, ◌==◌, List, [], ◌∷◌, ◌++◌, length, Option, Some, refl, append_assoc, append-nil, eqb-true, inl, inr}
+-- Laws of the parser machine's loops over a scheme, an opaque path, a query and a fragment: it is led behind what the
+-- state reads, whatever the variables are before it and whatever text follows it.
+use Rattle.std.proofs.Common.{◌≡◌, ℕ, true, false, ◌==◌, List, [], ◌∷◌, ◌++◌, Option, Some, refl, append_assoc, append-nil, eqb-true, inl, inr}
 use Rattle.std.specs.List.{list_all}
 use Rattle.std.specs.Char.{to_ascii_lowercase}
 use Rattle.std.proofs.lemmas.Bool.{and_parts, cases_Bool}
@@ -25,7 +25,7 @@ module _ (base : Option Url) where
 
   -- code points of a scheme go into the buffer in lower case
   pub scheme_law : (cs rest : List ℕ) (v : Variables) → list_all is_scheme_code_point cs ≡ true
-      → Reaches base SchemeState v (cs ++ rest) (length cs) SchemeState (with_more (lowercase cs) v) rest
+      → Reaches base SchemeState v (cs ++ rest) SchemeState (with_more (lowercase cs) v) rest
   scheme_law [] rest v ok = rw (append-nil v.buffer) (reaches_none base SchemeState v rest)
   scheme_law (c ∷ cs) rest v ok =
       let parts = and_parts (is_scheme_code_point c) (list_all is_scheme_code_point cs) ok in
@@ -49,7 +49,7 @@ module _ (base : Option Url) where
   -- units without `?` go to the opaque path, encoded
   pub opaque_path_law : (cs rest path : List ℕ) (v : Variables) → is_faultless cs ≡ true
       → is_without question_mark cs ≡ true
-      → Reaches base OpaquePathState (with_path (Opaque path) v) (cs ++ rest) (length cs)
+      → Reaches base OpaquePathState (with_path (Opaque path) v) (cs ++ rest)
       OpaquePathState (with_path (Opaque (path ++ encoded false cs)) v) rest
   unfolding encoded
   opaque_path_law [] rest path v units without =
@@ -80,7 +80,7 @@ module _ (base : Option Url) where
 
   -- units go into the buffer
   pub query_law : (cs rest : List ℕ) (v : Variables) → is_faultless cs ≡ true
-      → Reaches base QueryState v (cs ++ rest) (length cs) QueryState (with_more cs v) rest
+      → Reaches base QueryState v (cs ++ rest) QueryState (with_more cs v) rest
   query_law [] rest v units = rw (append-nil v.buffer) (reaches_none base QueryState v rest)
   query_law (c ∷ cs) rest v units =
       let unit = and_parts (is_unit_at c cs) (is_faultless cs) units in
@@ -92,7 +92,7 @@ module _ (base : Option Url) where
 
   -- units go to the fragment, encoded
   pub fragment_law : (cs rest fragment : List ℕ) (v : Variables) → is_faultless cs ≡ true
-      → Reaches base FragmentState (with_fragment (Some fragment) v) (cs ++ rest) (length cs)
+      → Reaches base FragmentState (with_fragment (Some fragment) v) (cs ++ rest)
       FragmentState (with_fragment (Some (fragment ++ encoded false cs)) v) rest
   unfolding encoded
   fragment_law [] rest fragment v units =

@@ -1,6 +1,6 @@
 -- Laws of the parser machine over a path of segments: each segment is walked as the denotation walks it, and behind the
 -- path a run ends through the query and the fragment.
-use Rattle.std.proofs.Common.{◌≡◌, ℕ, ◌+◌, Bool, true, false, not, ◌==◌, List, [], ◌∷◌, ◌++◌, length, Option, refl, ap, inl, inr, append_assoc, append-nil, length-append, arith}
+use Rattle.std.proofs.Common.{◌≡◌, ℕ, Bool, true, false, not, ◌==◌, List, [], ◌∷◌, ◌++◌, Option, refl, ap, inl, inr, append_assoc, append-nil}
 use Rattle.std.specs.List.{join_with_byte}
 use Rattle.std.proofs.lemmas.Bool.{and_parts, cases_Bool}
 use Rattle.uv_model.specs.declared.path.UrlPath.TheVariants.{Segments}
@@ -13,7 +13,7 @@ use Rattle.uv_model.specs.Records.Url.{Url}
 use Rattle.uv_model.specs.Valid.{MayBeUnits}
 use Rattle.uv_parser.specs.Machine.{Variables, turn, onward, to_query, to_fragment, PathState, with_more, with_path, segment_ended}
 use Rattle.uv_model.proofs.Paths.DotSegmentLemmas.{is_single_dot-encoded, is_double_dot-encoded}
-use Rattle.uv_parser.proofs.Running.Steps.{Reaches, Ends, reaches_none, onward_then, ends_step, ends_after, ends_within}
+use Rattle.uv_parser.proofs.Running.Steps.{Reaches, Ends, reaches_none, onward_then, ends_step, ends_after}
 use Rattle.uv_parser.proofs.Loops.Tails.{bare, tail, with_tail, TurnsToTail, tail_ends}
 use Rattle.uv_model.proofs.Texts.UnitsAhead.{is_unit_at-ahead, unit_not_number_sign, without_parts}
 use Rattle.uv_model.proofs.Texts.UnitsLemmas.{is_faultless-units}
@@ -62,7 +62,7 @@ module _ (base : Option Url) where
   -- units without `/` and `?` go into the buffer, encoded
   pub segment_law : (cs rest : List ℕ) (v : Variables) → is_faultless cs ≡ true → is_without slash cs ≡ true
       → is_without question_mark cs ≡ true
-      → Reaches base PathState v (cs ++ rest) (length cs) PathState (with_more (encoded false cs) v) rest
+      → Reaches base PathState v (cs ++ rest) PathState (with_more (encoded false cs) v) rest
   unfolding encoded
   segment_law [] rest v units no_slash no_mark = rw (append-nil v.buffer) (reaches_none base PathState v rest)
   segment_law (c ∷ cs) rest v units no_slash no_mark =
@@ -91,7 +91,6 @@ module _ (base : Option Url) where
   pub path_ends : (first : List ℕ) (others path : List (List ℕ)) (query fragment : Option (List ℕ)) (v : Variables)
       → AreSegments (first ∷ others) → MayBeUnits query → MayBeUnits fragment
       → Ends base PathState (walking path v) (join_with_byte slash (first ∷ others) ++ tail query fragment)
-      (length (join_with_byte slash (first ∷ others)) + (length (tail query fragment) + 1))
       (with_tail query fragment (walking (walk (scheme_class v.url.scheme) path (first ∷ others)) v))
   unfolding walk
   path_ends first [] path query fragment v each query_units fragment_units =
@@ -104,9 +103,8 @@ module _ (base : Option Url) where
       let later = join_with_byte slash (next ∷ rest) in
       let walked = walk_one (scheme_class v.url.scheme) false path first in
       rw (append_assoc first (slash ∷ later) (tail query fragment))
-      (ends_within base (omega (arith, length-append first (slash ∷ later)))
       (ends_after base
       (segment_law first (slash ∷ (later ++ tail query fragment))
       (walking path v) units each.0.no_slash each.0.no_question_mark)
       (ends_step base (λ p. ap (λ g. onward PathState g) (segment_walked true path first v))
-      (path_ends next rest walked query fragment v each.1 query_units fragment_units))))
+      (path_ends next rest walked query fragment v each.1 query_units fragment_units)))

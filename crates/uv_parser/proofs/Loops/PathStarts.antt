@@ -1,5 +1,5 @@
 -- The parser machine from the end of an authority on: the path, by the class of the scheme, the query and the fragment.
-use Rattle.std.proofs.Common.{◌≡◌, ℕ, ◌+◌, true, List, [], ◌∷◌, ◌++◌, length, Option, Some, None, refl, ap, ◌∙◌, inl, inr, arith}
+use Rattle.std.proofs.Common.{◌≡◌, ℕ, true, List, [], ◌∷◌, ◌++◌, Option, Some, None, refl, ap, ◌∙◌, inl, inr}
 use Rattle.std.specs.List.{join_with_byte}
 use Rattle.uv_model.specs.declared.scheme.Class.{Class}
 use Rattle.uv_model.specs.declared.scheme.Class.TheVariants.{Special, File, Other}
@@ -11,7 +11,7 @@ use Rattle.uv_model.specs.Scheme.{scheme_class}
 use Rattle.uv_model.specs.Records.Url.{Url}
 use Rattle.uv_model.specs.Valid.{MayBeUnits}
 use Rattle.uv_parser.specs.Machine.{Variables, turn, again, at_pointer, path_start_at, PathStartState, PathState}
-use Rattle.uv_parser.proofs.Running.Steps.{Ends, ends_step, ends_again, ends_within}
+use Rattle.uv_parser.proofs.Running.Steps.{Ends, ends_step, ends_again}
 use Rattle.uv_parser.proofs.Loops.PathLoops.{walking, path_ends}
 use Rattle.uv_model.proofs.Texts.UnitsLemmas.{IsUnits-nil}
 use Rattle.uv_parser.proofs.Loops.Tails.{tail, with_tail, tail_ends}
@@ -43,7 +43,6 @@ module _ (base : Option Url) (query fragment : Option (List ℕ)) (query_units :
   -- segments in the path state
   pub joins_ends : (segments : List (List ℕ)) (text : List ℕ) (v : Variables) → JoinsTo segments text
       → Ends base PathState (walking [] v) (text ++ tail query fragment)
-      (length text + (length (tail query fragment) + 1))
       (with_tail query fragment (walking (walk (scheme_class v.url.scheme) [] segments) v))
   joins_ends segments text v joins =
       let spelled : text ≡ join_with_byte slash (joins.first ∷ joins.others)
@@ -55,58 +54,53 @@ module _ (base : Option Url) (query fragment : Option (List ℕ)) (query_units :
   -- a path-relative string in the path state
   pub relative_ends : (segments : List (List ℕ)) (text : List ℕ) (v : Variables) → IsPathRelative segments text
       → Ends base PathState (walking [] v) (text ++ tail query fragment)
-      (length text + (length (tail query fragment) + 1))
       (with_tail query fragment (walking (walk (scheme_class v.url.scheme) [] segments) v))
   relative_ends segments text v path = joins_ends segments text v path.joins
 
   -- `/` and segments behind an authority
   slashed_ends : (segments : List (List ℕ)) (text : List ℕ) (v : Variables) → IsPathSlashed segments text
       → Ends base PathStartState (walking [] v) (text ++ tail query fragment)
-      (length text + (length (tail query fragment) + 2))
       (with_tail query fragment (walking (authority_path (scheme_class v.url.scheme) segments) v))
   slashed_ends segments text v path =
       let joins = path.joins in
       let same : authority_path (scheme_class v.url.scheme) segments ≡ walk (scheme_class v.url.scheme) [] segments
       = rw joins.some (some_walk (scheme_class v.url.scheme) joins.first joins.others) in
       rw (path.slashed, same)
-      (ends_within base (omega arith)
-      (ends_step base (λ p. refl) (joins_ends segments path.behind v path.joins)))
+      (ends_step base (λ p. refl) (joins_ends segments path.behind v path.joins))
 
   -- a special URL has one empty segment where no path is there
   empty_segment_ends : (v : Variables)
       → ((p : ℕ) → turn base PathStartState p (walking [] v) (tail query fragment) ≡ again PathState (walking [] v))
-      → Ends base PathStartState (walking [] v) (tail query fragment) (length (tail query fragment) + 2)
+      → Ends base PathStartState (walking [] v) (tail query fragment)
       (with_tail query fragment (walking ([] ∷ []) v))
   empty_segment_ends v row =
-      let ends : Ends base PathState (walking [] v) (tail query fragment) (0 + (length (tail query fragment) + 1))
+      let ends : Ends base PathState (walking [] v) (tail query fragment)
       (with_tail query fragment (walking ([] ∷ []) v))
       = rw (empty_walk (scheme_class v.url.scheme)) at
       (path_ends base [] [] [] query fragment v empty_segment query_units fragment_units) in
-      ends_within base (omega arith) (ends_again base row ends)
+      ends_again base row ends
 
   -- no path at all behind an authority
   no_path_ends : (class : Class) (v : Variables) → scheme_class v.url.scheme ≡ class
-      → Ends base PathStartState (walking [] v) (tail query fragment) (length (tail query fragment) + 2)
+      → Ends base PathStartState (walking [] v) (tail query fragment)
       (with_tail query fragment (walking (authority_path class []) v))
   no_path_ends Special v of_class =
       empty_segment_ends v (λ p. rw of_class (special_row query fragment (walking [] v)))
   no_path_ends File v of_class = empty_segment_ends v (λ p. rw of_class (special_row query fragment (walking [] v)))
   no_path_ends Other v of_class =
-      ends_within base (omega arith)
-      (tail_ends base PathStartState _ _ query fragment (record {
+      tail_ends base PathStartState _ _ query fragment (record {
         at_end =
             λ p. rw of_class refl;
         at_query =
             λ p rest. rw of_class refl;
         at_fragment = λ p rest. rw of_class refl;
-      }) query_units fragment_units)
+      }) query_units fragment_units
 
   -- `/` and segments or nothing behind an authority
   pub path_start_ends : (segments : List (List ℕ)) (text : List ℕ) (v : Variables) → MayBePathSlashed segments text
       → Ends base PathStartState (walking [] v) (text ++ tail query fragment)
-      (length text + (length (tail query fragment) + 2))
       (with_tail query fragment (walking (authority_path (scheme_class v.url.scheme) segments) v))
   path_start_ends segments text v (inl none) =
       rw (none.0, none.1)
-      (ends_within base (omega arith) (no_path_ends (scheme_class v.url.scheme) v refl))
+      (no_path_ends (scheme_class v.url.scheme) v refl)
   path_start_ends segments text v (inr path) = slashed_ends segments text v path

@@ -1,5 +1,5 @@
 -- The parser machine over a text's scheme: it leads to the scheme's `:` with the scheme in lower case in the buffer.
-use Rattle.std.proofs.Common.{◌≡◌, ℕ, true, List, [], ◌∷◌, ◌++◌, length, Option, Some, None, refl, ap}
+use Rattle.std.proofs.Common.{◌≡◌, ℕ, true, List, [], ◌∷◌, ◌++◌, Option, Some, None, refl, ap}
 use Rattle.std.specs.List.{list_all}
 use Rattle.std.specs.Char.{is_ascii_alphabetic, to_ascii_lowercase}
 use Rattle.std.proofs.lemmas.Bool.{false≢true, and_parts}
@@ -25,7 +25,7 @@ scheme_variables scheme = with_scheme (lowercase scheme) empty_variables
 module _ (base : Option Url) where
   -- from the first place the steps lead to the `:`
   pub scheme_stretch : (scheme rest : List ℕ) → is_scheme scheme ≡ true
-      → Reaches base SchemeStartState empty_variables (scheme ++ rest) (length scheme)
+      → Reaches base SchemeStartState empty_variables (scheme ++ rest)
       SchemeState (with_more (lowercase scheme) empty_variables) rest
   scheme_stretch [] rest ok = absurd (false≢true ok)
   scheme_stretch (c ∷ cs) rest ok =

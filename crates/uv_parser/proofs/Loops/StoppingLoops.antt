@@ -1,6 +1,6 @@
 -- The parser machine's loops over a path, an opaque path, a query and a fragment stop at the first fault of units,
 -- whatever the variables are before it and whatever text follows that doesn't begin with a hex digit.
-use Rattle.std.proofs.Common.{◌≡◌, ℕ, Bool, true, false, not, ◌==◌, List, [], ◌∷◌, ◌++◌, length, Option, refl, ◌∙◌, inl, inr, append-nil, eqb-true, arith}
+use Rattle.std.proofs.Common.{◌≡◌, ℕ, Bool, true, false, not, ◌==◌, List, [], ◌∷◌, ◌++◌, Option, refl, ◌∙◌, inl, inr, append-nil, eqb-true}
 use Rattle.std.specs.Char.{is_ascii_hexdigit}
 use Rattle.std.proofs.lemmas.Bool.{true≢false, cases_Bool, not-true}
 use Rattle.uv_model.specs.Ascii.{slash, question_mark, number_sign}
@@ -11,7 +11,7 @@ use Rattle.uv_model.specs.Encoding.{encoded_code_point}
 use Rattle.uv_parser.specs.Machine.{Variables, turn, onward, stop, PathState, OpaquePathState, QueryState, FragmentState, with_fragment, more_fragment}
 use Rattle.uv_parser.proofs.Loops.Looping.{opaque_row_on, query_row_on}
 use Rattle.uv_parser.proofs.Loops.PathLoops.{path_row_on}
-use Rattle.uv_parser.proofs.Running.Steps.{Stops, stops_here, ends_step, ends_within}
+use Rattle.uv_parser.proofs.Running.Steps.{Stops, stops_here, ends_step}
 use Rattle.uv_model.proofs.Texts.UnitsAhead.{without_parts}
 use Rattle.uv_model.proofs.Texts.UnitsLemmas.{is_unit_at-mark}
 
@@ -53,7 +53,7 @@ module _ (base : Option Url) where
 
   -- a query with a fault stops
   pub query_stops : (cs rest : List ℕ) (v : Variables) → is_faultless cs ≡ false → is_without number_sign cs ≡ true
-      → no_hex_first rest ≡ true → Stops base QueryState v (cs ++ rest) (length cs)
+      → no_hex_first rest ≡ true → Stops base QueryState v (cs ++ rest)
   query_stops [] rest v fault without first = absurd (true≢false fault)
   query_stops (c ∷ cs) rest v fault without first =
       let other = without_parts number_sign c cs without in
@@ -62,9 +62,7 @@ module _ (base : Option Url) where
         | inl unit ↦
             ends_step base (λ p. query_row_on base c (cs ++ rest) v p (same ∙ unit))
             (query_stops cs rest _ (rw unit at fault) other.1 first)
-        | inr bad ↦
-            ends_within base (omega arith)
-            (stops_here base (λ p. query_row_fault c (cs ++ rest) v p other.0 (same ∙ bad)))
+        | inr bad ↦ stops_here base (λ p. query_row_fault c (cs ++ rest) v p other.0 (same ∙ bad))
       ]
 
   -- ---- the fragment
@@ -80,7 +78,7 @@ module _ (base : Option Url) where
 
   -- a fragment with a fault stops
   pub fragment_stops : (cs rest : List ℕ) (v : Variables) → is_faultless cs ≡ false → no_hex_first rest ≡ true
-      → Stops base FragmentState v (cs ++ rest) (length cs)
+      → Stops base FragmentState v (cs ++ rest)
   fragment_stops [] rest v fault first = absurd (true≢false fault)
   fragment_stops (c ∷ cs) rest v fault first =
       let same = unit_before c cs rest first in
@@ -88,9 +86,7 @@ module _ (base : Option Url) where
         | inl unit ↦
             ends_step base (λ p. fragment_row_on c (cs ++ rest) v p (same ∙ unit))
             (fragment_stops cs rest _ (rw unit at fault) first)
-        | inr bad ↦
-            ends_within base (omega arith)
-            (stops_here base (λ p. fragment_row_fault c (cs ++ rest) v p (same ∙ bad)))
+        | inr bad ↦ stops_here base (λ p. fragment_row_fault c (cs ++ rest) v p (same ∙ bad))
       ]
 
   -- ---- the opaque path
@@ -104,7 +100,7 @@ module _ (base : Option Url) where
   -- an opaque path with a fault stops
   pub opaque_path_stops : (cs rest : List ℕ) (v : Variables) → is_faultless cs ≡ false
       → is_without question_mark cs ≡ true → is_without number_sign cs ≡ true
-      → no_hex_first rest ≡ true → Stops base OpaquePathState v (cs ++ rest) (length cs)
+      → no_hex_first rest ≡ true → Stops base OpaquePathState v (cs ++ rest)
   opaque_path_stops [] rest v fault no_question no_number first = absurd (true≢false fault)
   opaque_path_stops (c ∷ cs) rest v fault no_question no_number first =
       let question = without_parts question_mark c cs no_question in
@@ -114,9 +110,7 @@ module _ (base : Option Url) where
         | inl unit ↦
             ends_step base (λ p. opaque_row_on base c (cs ++ rest) v p question.0 (same ∙ unit))
             (opaque_path_stops cs rest _ (rw unit at fault) question.1 number.1 first)
-        | inr bad ↦
-            ends_within base (omega arith)
-            (stops_here base (λ p. opaque_row_fault c (cs ++ rest) v p number.0 (same ∙ bad)))
+        | inr bad ↦ stops_here base (λ p. opaque_row_fault c (cs ++ rest) v p number.0 (same ∙ bad))
       ]
 
   -- ---- the path
@@ -130,7 +124,7 @@ module _ (base : Option Url) where
   -- a path with a fault stops, in whichever segment the fault stands
   pub path_stops : (cs rest : List ℕ) (v : Variables) → is_faultless cs ≡ false
       → is_without question_mark cs ≡ true → is_without number_sign cs ≡ true
-      → no_hex_first rest ≡ true → Stops base PathState v (cs ++ rest) (length cs)
+      → no_hex_first rest ≡ true → Stops base PathState v (cs ++ rest)
   path_stops [] rest v fault no_question no_number first = absurd (true≢false fault)
   path_stops (c ∷ cs) rest v fault no_question no_number first =
       let question = without_parts question_mark c cs no_question in
@@ -147,7 +141,5 @@ module _ (base : Option Url) where
                   ends_step base (λ p. path_row_on base c (cs ++ rest) v p other question.0 (same ∙ unit))
                   (path_stops cs rest _ later question.1 number.1 first)
             ]
-        | inr bad ↦
-            ends_within base (omega arith)
-            (stops_here base (λ p. path_row_fault c (cs ++ rest) v p number.0 (same ∙ bad)))
+        | inr bad ↦ stops_here base (λ p. path_row_fault c (cs ++ rest) v p number.0 (same ∙ bad))
       ]

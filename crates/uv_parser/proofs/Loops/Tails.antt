@@ -1,5 +1,5 @@
 -- How a run of the parser machine ends behind a path: at the end of the text, or through a query, a fragment, or both.
-use Rattle.std.proofs.Common.{◌≡◌, ℕ, ◌+◌, false, List, [], ◌∷◌, ◌++◌, length, Option, Some, None, refl, append-nil, length-append, arith}
+use Rattle.std.proofs.Common.{◌≡◌, ℕ, false, List, [], ◌∷◌, ◌++◌, Option, Some, None, refl, append-nil}
 use Rattle.std.specs.Prelude.{option_map}
 use Rattle.uv_model.specs.Ascii.{slash, question_mark, number_sign}
 use Rattle.uv_model.specs.Encoding.{encoded}
@@ -9,7 +9,7 @@ use Rattle.uv_model.specs.Units.{IsUnits}
 use Rattle.uv_model.specs.Records.Url.{Url}
 use Rattle.uv_model.specs.Valid.{MayBeUnits}
 use Rattle.uv_parser.specs.Machine.{State, Variables, turn, onward, to_query, to_fragment, QueryState, FragmentState, emptied, with_query, with_fragment, with_more, query_ended, is_special, begins}
-use Rattle.uv_parser.proofs.Running.Steps.{Ends, ends_onward, ends_step, ends_after, ends_within}
+use Rattle.uv_parser.proofs.Running.Steps.{Ends, ends_onward, ends_step, ends_after}
 use Rattle.uv_model.proofs.Texts.UnitsLemmas.{is_faultless-units}
 use Rattle.uv_parser.proofs.Loops.Looping.{query_law, fragment_law}
 
@@ -40,7 +40,7 @@ pub record TurnsToTail (base : Option Url) (s : State) (v v₁ : Variables) : Ty
 module _ (base : Option Url) where
   -- a fragment that has begun ends the run at its end
   pub fragment_ends : (cs : List ℕ) (v : Variables) → IsUnits cs
-      → Ends base FragmentState (with_fragment (Some []) v) cs (length cs + 1)
+      → Ends base FragmentState (with_fragment (Some []) v) cs
       (with_fragment (Some (encoded false cs)) v).url
   fragment_ends cs v units =
       rw append-nil at
@@ -48,31 +48,26 @@ module _ (base : Option Url) where
 
   -- a query that has begun ends the run at its end, or at that of a fragment behind it
   pub query_ends : (cs : List ℕ) (fragment : Option (List ℕ)) (v : Variables) → IsUnits cs → MayBeUnits fragment
-      → Ends base QueryState (with_query (Some []) (bare v)) (cs ++ written_behind number_sign fragment)
-      (length (cs ++ written_behind number_sign fragment) + 1) (with_tail (Some cs) fragment v)
+      → Ends base QueryState (with_query (Some []) (bare v)) (cs ++ written_behind number_sign fragment) (with_tail (Some cs) fragment v)
   query_ends cs None v units fragment_units =
-      ends_within base (omega (arith, length-append cs []))
-      (ends_after base (query_law base cs [] (with_query (Some []) (bare v)) (is_faultless-units cs units))
-      (ends_onward base (λ p. refl)))
+      ends_after base (query_law base cs [] (with_query (Some []) (bare v)) (is_faultless-units cs units))
+      (ends_onward base (λ p. refl))
   query_ends cs (Some fragment) v units fragment_units =
-      ends_within base (omega (arith, length-append cs (number_sign ∷ fragment)))
-      (ends_after base
+      ends_after base
       (query_law base cs (number_sign ∷ fragment) (with_query (Some []) (bare v)) (is_faultless-units cs units))
       (ends_step base (λ p. refl)
-      (fragment_ends fragment (query_ended (with_more cs (with_query (Some []) (bare v)))) fragment_units)))
+      (fragment_ends fragment (query_ended (with_more cs (with_query (Some []) (bare v)))) fragment_units))
 
   -- behind a path the query and the fragment, where there are any, end the run
   pub tail_ends : (s : State) (v v₁ : Variables) (query fragment : Option (List ℕ))
       → TurnsToTail base s v v₁ → MayBeUnits query → MayBeUnits fragment
-      → Ends base s v (tail query fragment) (length (tail query fragment) + 1) (with_tail query fragment v₁)
+      → Ends base s v (tail query fragment) (with_tail query fragment v₁)
   tail_ends s v v₁ None None turns query_units fragment_units = ends_onward base turns.at_end
   tail_ends s v v₁ None (Some fragment) turns query_units fragment_units =
-      ends_within base (omega arith)
-      (ends_step base (λ p. turns.at_fragment p fragment) (fragment_ends fragment (bare v₁) fragment_units))
+      ends_step base (λ p. turns.at_fragment p fragment) (fragment_ends fragment (bare v₁) fragment_units)
   tail_ends s v v₁ (Some query) fragment turns query_units fragment_units =
-      ends_within base (omega arith)
-      (ends_step base (λ p. turns.at_query p (query ++ written_behind number_sign fragment))
-      (query_ends query fragment v₁ query_units fragment_units))
+      ends_step base (λ p. turns.at_query p (query ++ written_behind number_sign fragment))
+      (query_ends query fragment v₁ query_units fragment_units)
 
 -- a tail doesn't begin with `/`, and so neither does a path that doesn't, with a tail behind it
 pub no_slash_before_tail : (path : List ℕ) (query fragment : Option (List ℕ)) → starts_with_slash path ≡ false

@@ -58,9 +58,9 @@ silent_row row full done holds = by_run (silent_or_stops row.base row.text)
     by_run (inl found) = found
     by_run (inr stops) =
         let steps : row.steps ≡ step_bound row.text = eqb-true row.steps (step_bound row.text) full in
-        let stopped : run row.base row.text row.steps ≡ Stopped stops.place
-        = ap (run row.base row.text) steps ∙ stops.stops in
-        absurd (not_answered row.answer stops.place (sym (ap answer_of stopped) ∙ holds) done)
+        let stopped : run row.base row.text row.steps ≡ Stopped stops.0
+        = ap (run row.base row.text) steps ∙ stops.1 in
+        absurd (not_answered row.answer stops.0 (sym (ap answer_of stopped) ∙ holds) done)
 
 -- ---- a table by a test on the cut
 

@@ -1,6 +1,6 @@
--- Tools for laws of the parser machine: one step, many steps one after the other, and the way from an exact count of
--- steps to a bound on them. Each holds of every state, over any base and any text.
-use Rattle.std.proofs.Common.{◌≡◌, ℕ, zero, suc, ◌+◌, ◌-◌, ◌≤◌, List, [], ◌∷◌, Option, drop, refl, sym, ap, subst, ◌∙◌, drop-drop, zero-add, arith}
+-- Tools for laws of the parser machine: one step, and many steps one after the other, counted and not counted. Each
+-- holds of every state, over any base and any text.
+use Rattle.std.proofs.Common.{◌≡◌, ℕ, zero, suc, ◌+◌, List, [], ◌∷◌, Option, drop, refl, sym, ap, subst, ◌∙◌, drop-drop, zero-add, arith}
 use Rattle.uv_model.specs.Records.Url.{Url}
 use Rattle.uv_parser.specs.Machine.{State, Variables, onward, again, from_place, stop, turn}
 use Rattle.uv_parser.specs.Run.{Machine, Outcome, Done, Stopped, Going, settle, step, run_from}
@@ -79,167 +79,111 @@ module _ (base : Option Url) (text : List ℕ) where
   leads_then from next to j k first later = run_in_parts from j k ∙ (ap (λ o. run_from base text o k) first ∙ later)
 
   -- a run that has ended stays there
-  leads_ended : (ending : Ending) (o : Outcome) (k : ℕ) → HasEnded ending o → HasEnded ending (run_from base text o k)
+  pub leads_ended : (ending : Ending) (o : Outcome) (k : ℕ) → HasEnded ending o → HasEnded ending (run_from base text o k)
   leads_ended (done_with url) o k e = ap (λ (x : Outcome). run_from base text x k) e ∙ leads_done url k
   leads_ended stopped o k (q, e) = (q, ap (λ (x : Outcome). run_from base text x k) e ∙ leads_stopped q k)
 
-  -- a run that has ended within a count of steps has ended so at each higher count
-  pub ended_within : (ending : Ending) (from : Outcome) (j k : ℕ) → j ≤ k → HasEnded ending (run_from base text from j)
-      → HasEnded ending (run_from base text from k)
-  ended_within ending from j k within first =
-      let count : j + (k - j) ≡ k = omega arith in
-      subst (λ (n : ℕ). HasEnded ending (run_from base text from n)) count
-      (subst (HasEnded ending) (sym (run_in_parts from j (k - j))) (leads_ended ending _ (k - j) first))
-
 -- ---- laws over the rest of a text
 
--- From a state with the one rest, so many steps lead to a state with the other rest, in each text and at each place.
-pub record Reaches (base : Option Url) (s : State) (v : Variables) (before : List ℕ) (n : ℕ)
-    (s' : State) (h' : Variables) (after : List ℕ) : Type 0 where
+-- From a state with the one rest some steps lead to a state with the other rest, in each text and at each place.
+pub record Reaches (base : Option Url) (s : State) (v : Variables) (before : List ℕ) (s' : State) (h' : Variables)
+    (after : List ℕ) : Type 0 where
   pub goes : (text : List ℕ) (p : ℕ) → drop p text ≡ before
-      → (q : ℕ) × (drop q text ≡ after) × Leads base text (at s p v) n (at s' q h')
+      → (q : ℕ) × (drop q text ≡ after) × (n : ℕ) × Leads base text (at s p v) n (at s' q h')
 
--- From a state with this rest, a run has ended so after so many steps, in each text and at each place.
-pub record EndsAs (base : Option Url) (s : State) (v : Variables) (rest : List ℕ) (n : ℕ) (ending : Ending)
-    : Type 0 where
-  pub goes : (text : List ℕ) (p : ℕ) → drop p text ≡ rest → HasEnded ending (run_from base text (at s p v) n)
+-- From a state with this rest a run has ended so after some steps, in each text and at each place.
+pub record EndsAs (base : Option Url) (s : State) (v : Variables) (rest : List ℕ) (ending : Ending) : Type 0 where
+  pub goes : (text : List ℕ) (p : ℕ) → drop p text ≡ rest
+      → (n : ℕ) × HasEnded ending (run_from base text (at s p v) n)
 
 -- it is done with this URL
-abbrev pub Ends : Option Url → State → Variables → List ℕ → ℕ → Url → Type 0
-Ends base s v rest n url = EndsAs base s v rest n (done_with url)
+abbrev pub Ends : Option Url → State → Variables → List ℕ → Url → Type 0
+Ends base s v rest url = EndsAs base s v rest (done_with url)
 
 -- it has stopped
-abbrev pub Stops : Option Url → State → Variables → List ℕ → ℕ → Type 0
-Stops base s v rest n = EndsAs base s v rest n stopped
+abbrev pub Stops : Option Url → State → Variables → List ℕ → Type 0
+Stops base s v rest = EndsAs base s v rest stopped
 
 module _ (base : Option Url) where
   -- no step stays where it is
-  pub reaches_none : (s : State) (v : Variables) (rest : List ℕ) → Reaches base s v rest 0 s v rest
-  reaches_none s v rest = record { goes = λ text p e. (p, e, leads_none base text (at s p v)) }
+  pub reaches_none : (s : State) (v : Variables) (rest : List ℕ) → Reaches base s v rest s v rest
+  reaches_none s v rest = record { goes = λ text p e. (p, e, 0, leads_none base text (at s p v)) }
 
   -- a step past one code point, and then more of them
-  pub onward_then : {s : State} {v : Variables} {c : ℕ} {rest : List ℕ} {s₁ : State} {v₁ : Variables} {k : ℕ}
+  pub onward_then : {s : State} {v : Variables} {c : ℕ} {rest : List ℕ} {s₁ : State} {v₁ : Variables}
       {s₂ : State} {v₂ : Variables} {after : List ℕ}
       → ((p : ℕ) → turn base s p v (c ∷ rest) ≡ onward s₁ v₁)
-      → Reaches base s₁ v₁ rest k s₂ v₂ after → Reaches base s v (c ∷ rest) (suc k) s₂ v₂ after
-  onward_then {s} {v} {c} {rest} {s₁} {v₁} {k} {s₂} {v₂} {after} row later = record {
+      → Reaches base s₁ v₁ rest s₂ v₂ after → Reaches base s v (c ∷ rest) s₂ v₂ after
+  onward_then {s} {v} {c} {rest} {s₁} {v₁} {s₂} {v₂} {after} row later = record {
     goes = λ text p e.
-        let next = later.goes text (p + 1) (drop_one text p c rest e) in
+        let (q, there, n, leads) = later.goes text (p + 1) (drop_one text p c rest e) in
         let one : step base text (record { state = s; pointer = p; variables = v }) ≡ at s₁ (p + 1) v₁
         = step_at base text s p v (c ∷ rest) e ∙ ap (settle p (c ∷ rest)) (row p) in
-        (next.0, next.1, leads_step base text _ k _ _ one next.2);
-  }
-
-  -- a step that stays at its place, and then more of them
-  pub again_then : {s : State} {v : Variables} {rest : List ℕ} {s₁ : State} {v₁ : Variables} {k : ℕ}
-      {s₂ : State} {v₂ : Variables} {after : List ℕ}
-      → ((p : ℕ) → turn base s p v rest ≡ again s₁ v₁)
-      → Reaches base s₁ v₁ rest k s₂ v₂ after → Reaches base s v rest (suc k) s₂ v₂ after
-  again_then {s} {v} {rest} {s₁} {v₁} {k} {s₂} {v₂} {after} row later = record {
-    goes = λ text p e.
-        let next = later.goes text p e in
-        let one : step base text (record { state = s; pointer = p; variables = v }) ≡ at s₁ p v₁
-        = step_at base text s p v rest e ∙ ap (settle p rest) (row p) in
-        (next.0, next.1, leads_step base text _ k _ _ one next.2);
-  }
-
-  -- a step past two code points, and then more of them
-  pub past_two_then : {s : State} {v : Variables} {c d : ℕ} {rest : List ℕ} {s₁ : State} {v₁ : Variables} {k : ℕ}
-      {s₂ : State} {v₂ : Variables} {after : List ℕ}
-      → ((p : ℕ) → turn base s p v (c ∷ d ∷ rest) ≡ from_place (p + 2) s₁ v₁)
-      → Reaches base s₁ v₁ rest k s₂ v₂ after → Reaches base s v (c ∷ d ∷ rest) (suc k) s₂ v₂ after
-  past_two_then {s} {v} {c} {d} {rest} {s₁} {v₁} {k} {s₂} {v₂} {after} row later = record {
-    goes = λ text p e.
-        let next = later.goes text (p + 2) (drop_two text p c d rest e) in
-        let one : step base text (record { state = s; pointer = p; variables = v }) ≡ at s₁ (p + 2) v₁
-        = step_at base text s p v (c ∷ d ∷ rest) e ∙ ap (settle p (c ∷ d ∷ rest)) (row p) in
-        (next.0, next.1, leads_step base text _ k _ _ one next.2);
-  }
-
-  -- one law behind another
-  pub reaches_then : {s : State} {v : Variables} {before : List ℕ} {j : ℕ}
-      {s₁ : State} {v₁ : Variables} {between : List ℕ} {k : ℕ}
-      {s₂ : State} {v₂ : Variables} {after : List ℕ}
-      → Reaches base s v before j s₁ v₁ between → Reaches base s₁ v₁ between k s₂ v₂ after
-      → Reaches base s v before (j + k) s₂ v₂ after
-  reaches_then {s} {v} {before} {j} {s₁} {v₁} {between} {k} {s₂} {v₂} {after} first later = record {
-    goes = λ text p e.
-        let mid = first.goes text p e in
-        let last = later.goes text mid.0 mid.1 in
-        (last.0, last.1, leads_then base text _ _ _ j k mid.2 last.2);
+        (q, there, suc n, leads_step base text _ n _ _ one leads);
   }
 
   -- at the end of the text a step onward ends the run
   pub ends_onward : {s : State} {v : Variables} {s₁ : State} {v₁ : Variables}
-      → ((p : ℕ) → turn base s p v [] ≡ onward s₁ v₁) → Ends base s v [] 1 v₁.url
+      → ((p : ℕ) → turn base s p v [] ≡ onward s₁ v₁) → Ends base s v [] v₁.url
   ends_onward {s} {v} {s₁} {v₁} row = record {
     goes = λ text p e.
         let one : step base text (record { state = s; pointer = p; variables = v }) ≡ Done v₁.url
         = step_at base text s p v [] e ∙ ap (settle p []) (row p) in
-        leads_step base text _ 0 _ _ one (leads_none base text (Done v₁.url));
+        (1, leads_step base text _ 0 _ _ one (leads_none base text (Done v₁.url)));
   }
 
   -- a row that stops
   pub stops_here : {s : State} {v : Variables} {rest : List ℕ} → ((p : ℕ) → turn base s p v rest ≡ stop)
-      → Stops base s v rest 1
+      → Stops base s v rest
   stops_here {s} {v} {rest} row = record {
     goes = λ text p e.
         let one : step base text (record { state = s; pointer = p; variables = v }) ≡ Stopped p
         = step_at base text s p v rest e ∙ ap (settle p rest) (row p) in
-        (p, leads_step base text _ 0 _ _ one (leads_none base text (Stopped p)));
+        (1, (p, leads_step base text _ 0 _ _ one (leads_none base text (Stopped p))));
+  }
+
+  -- a step that settles at a place, from which on the run ends
+  ends_next : {s : State} {v : Variables} {rest : List ℕ} {ending : Ending}
+      → ((text : List ℕ) (p : ℕ) → drop p text ≡ rest
+      → (n : ℕ) × HasEnded ending (run_from base text (settle p rest (turn base s p v rest)) n))
+      → EndsAs base s v rest ending
+  ends_next {s} {v} {rest} {ending} last = record {
+    goes = λ text p e.
+        let (n, ended) = last text p e in (
+          suc n,
+          subst (HasEnded ending) (sym (leads_step base text _ n _ _ (step_at base text s p v rest e) refl)) ended,
+        );
   }
 
   -- a step past one code point, and behind it the end
-  pub ends_step : {s : State} {v : Variables} {c : ℕ} {rest : List ℕ} {s₁ : State} {v₁ : Variables}
-      {k : ℕ} {ending : Ending}
+  pub ends_step : {s : State} {v : Variables} {c : ℕ} {rest : List ℕ} {s₁ : State} {v₁ : Variables} {ending : Ending}
       → ((p : ℕ) → turn base s p v (c ∷ rest) ≡ onward s₁ v₁)
-      → EndsAs base s₁ v₁ rest k ending → EndsAs base s v (c ∷ rest) (suc k) ending
-  ends_step {s} {v} {c} {rest} {s₁} {v₁} {k} {ending} row last = record {
-    goes = λ text p e.
-        let one : step base text (record { state = s; pointer = p; variables = v }) ≡ at s₁ (p + 1) v₁
-        = step_at base text s p v (c ∷ rest) e ∙ ap (settle p (c ∷ rest)) (row p) in
-        subst (HasEnded ending) (sym (leads_step base text _ k _ _ one refl))
-        (last.goes text (p + 1) (drop_one text p c rest e));
-  }
+      → EndsAs base s₁ v₁ rest ending → EndsAs base s v (c ∷ rest) ending
+  ends_step {s} {v} {c} {rest} {s₁} {v₁} {ending} row last =
+      ends_next (λ text p e. rw (row p) (last.goes text (p + 1) (drop_one text p c rest e)))
 
   -- a step that stays at its place, and behind it the end
-  pub ends_again : {s : State} {v : Variables} {rest : List ℕ} {s₁ : State} {v₁ : Variables} {k : ℕ} {ending : Ending}
+  pub ends_again : {s : State} {v : Variables} {rest : List ℕ} {s₁ : State} {v₁ : Variables} {ending : Ending}
       → ((p : ℕ) → turn base s p v rest ≡ again s₁ v₁)
-      → EndsAs base s₁ v₁ rest k ending → EndsAs base s v rest (suc k) ending
-  ends_again {s} {v} {rest} {s₁} {v₁} {k} {ending} row last = record {
-    goes = λ text p e.
-        let one : step base text (record { state = s; pointer = p; variables = v }) ≡ at s₁ p v₁
-        = step_at base text s p v rest e ∙ ap (settle p rest) (row p) in
-        subst (HasEnded ending) (sym (leads_step base text _ k _ _ one refl)) (last.goes text p e);
-  }
+      → EndsAs base s₁ v₁ rest ending → EndsAs base s v rest ending
+  ends_again {s} {v} {rest} {s₁} {v₁} {ending} row last =
+      ends_next (λ text p e. rw (row p) (last.goes text p e))
 
   -- a step past two code points, and behind it the end
-  pub ends_past_two : {s : State} {v : Variables} {c d : ℕ} {rest : List ℕ} {s₁ : State} {v₁ : Variables} {k : ℕ}
+  pub ends_past_two : {s : State} {v : Variables} {c d : ℕ} {rest : List ℕ} {s₁ : State} {v₁ : Variables}
       {ending : Ending}
       → ((p : ℕ) → turn base s p v (c ∷ d ∷ rest) ≡ from_place (p + 2) s₁ v₁)
-      → EndsAs base s₁ v₁ rest k ending → EndsAs base s v (c ∷ d ∷ rest) (suc k) ending
-  ends_past_two {s} {v} {c} {d} {rest} {s₁} {v₁} {k} {ending} row last = record {
-    goes = λ text p e.
-        let one : step base text (record { state = s; pointer = p; variables = v }) ≡ at s₁ (p + 2) v₁
-        = step_at base text s p v (c ∷ d ∷ rest) e ∙ ap (settle p (c ∷ d ∷ rest)) (row p) in
-        subst (HasEnded ending) (sym (leads_step base text _ k _ _ one refl))
-        (last.goes text (p + 2) (drop_two text p c d rest e));
-  }
+      → EndsAs base s₁ v₁ rest ending → EndsAs base s v (c ∷ d ∷ rest) ending
+  ends_past_two {s} {v} {c} {d} {rest} {s₁} {v₁} {ending} row last =
+      ends_next (λ text p e. rw (row p) (last.goes text (p + 2) (drop_two text p c d rest e)))
 
   -- a law, and behind it the end
-  pub ends_after : {s : State} {v : Variables} {before : List ℕ} {j : ℕ}
-      {s₁ : State} {v₁ : Variables} {after : List ℕ} {k : ℕ} {ending : Ending}
-      → Reaches base s v before j s₁ v₁ after → EndsAs base s₁ v₁ after k ending
-      → EndsAs base s v before (j + k) ending
-  ends_after {s} {v} {before} {j} {s₁} {v₁} {after} {k} {ending} first last = record {
+  pub ends_after : {s : State} {v : Variables} {before : List ℕ} {s₁ : State} {v₁ : Variables} {after : List ℕ}
+      {ending : Ending}
+      → Reaches base s v before s₁ v₁ after → EndsAs base s₁ v₁ after ending → EndsAs base s v before ending
+  ends_after {s} {v} {before} {s₁} {v₁} {after} {ending} first last = record {
     goes = λ text p e.
-        let mid = first.goes text p e in
-        subst (HasEnded ending) (sym (leads_then base text _ _ _ j k mid.2 refl)) (last.goes text mid.0 mid.1);
-  }
-
-  -- an end within a count of steps is an end within each higher count
-  pub ends_within : {s : State} {v : Variables} {rest : List ℕ} {j k : ℕ} {ending : Ending}
-      → j ≤ k → EndsAs base s v rest j ending → EndsAs base s v rest k ending
-  ends_within {s} {v} {rest} {j} {k} {ending} within ends = record {
-    goes = λ text p e. ended_within base text ending _ j k within (ends.goes text p e);
+        let (q, there, j, leads) = first.goes text p e in
+        let (k, ended) = last.goes text q there in
+        (j + k, subst (HasEnded ending) (sym (leads_then base text _ _ _ j k leads refl)) ended);
   }

@@ -1,6 +1,6 @@
 -- The whole run of a text with a scheme and an authority, of class Other or Special, whose host and port are parsed.
 use Rattle.uv_model.specs.Path.{MayBePathSlashed}
-use Rattle.std.proofs.Common.{◌≡◌, ℕ, suc, ◌+◌, true, false, ◌||◌, ◌==◌, List, [], ◌∷◌, ◌++◌, length, Option, Some, None, refl, sym, ap, ◌∙◌, append_assoc, length-append, arith}
+use Rattle.std.proofs.Common.{◌≡◌, ℕ, true, false, ◌||◌, ◌==◌, List, [], ◌∷◌, ◌++◌, length, Option, Some, None, refl, sym, ap, ◌∙◌, append_assoc, arith}
 use Rattle.std.specs.List.{list_all}
 use Rattle.std.proofs.lemmas.Bool.Decides.{nat_tests}
 use Rattle.uv_parser.specs.HostParser.{parse_host}
@@ -25,7 +25,7 @@ use Rattle.uv_parser.proofs.Loops.PathLoops.{walking}
 use Rattle.uv_model.proofs.SchemeLemmas.{scheme_class-lowercase}
 use Rattle.uv_parser.proofs.Loops.SchemeStretch.{scheme_variables}
 use Rattle.uv_parser.proofs.Silence.SilentSchemes.{EndsBehindScheme, HoldsDenoted, denoted_from_variables, runs_kept}
-use Rattle.uv_parser.proofs.Running.Steps.{Ends, ends_again, ends_within}
+use Rattle.uv_parser.proofs.Running.Steps.{Ends, ends_again}
 use Rattle.uv_parser.proofs.Loops.Tails.{tail}
 
 -- the text of parts with an authority
@@ -72,14 +72,14 @@ module _ (base : Option Url) (parts : Parts) (scheme host_text : List ℕ) (valu
   authority : List ℕ
   authority = host_text ++ written_behind colon parts.port_text
 
-  -- the same steps lead from the scheme's `:` to the authority for each text behind `//`
+  -- where the authority ends the run with a URL, so does what begins at the scheme's `:`
   pub StartsAuthority : Type 0
   StartsAuthority =
-      (k : ℕ) (url : Url)
+      (url : Url)
       → Ends base AuthorityState (scheme_variables scheme)
-      (authority ++ (parts.path_text ++ tail parts.query parts.fragment)) k url
+      (authority ++ (parts.path_text ++ tail parts.query parts.fragment)) url
       → Ends base SchemeState (with_more (lowercase scheme) empty_variables)
-      (colon ∷ slash ∷ slash ∷ (authority ++ (parts.path_text ++ tail parts.query parts.fragment))) (k + 4) url
+      (colon ∷ slash ∷ slash ∷ (authority ++ (parts.path_text ++ tail parts.query parts.fragment))) url
 
   -- the variables behind the path are what is denoted
   authority_denoted : HasParsed parts scheme host_text value
@@ -107,19 +107,12 @@ module _ (base : Option Url) (parts : Parts) (scheme host_text : List ℕ) (valu
       let whole = append_assoc authority parts.path_text (tail parts.query parts.fragment) in
       let after : EndsBehindScheme base parts scheme (slash ∷ slash ∷ (authority ++ parts.path_text))
       = record {
-        steps = (length authority + 1
-            + (length authority + (length parts.path_text + (length (tail parts.query parts.fragment) + 3)))) + 4;
         url = authority_url scheme value (port_given (default_port scheme) parts.port_text) parts.segments parts.query
             parts.fragment;
         named = is;
-        ends = rw whole (start _ _
+        ends = rw whole (start _
             (authority_ends base scheme value parts.segments parts.path_text parts.query parts.fragment behind
             host_text parts.port_text has.parsed));
-        few = omega (
-          arith,
-          length-append (authority ++ parts.path_text) (tail parts.query parts.fragment),
-          length-append authority parts.path_text,
-        );
         denoted = denoted_from_variables base parts SchemeAuthority scheme _ refl form named (authority_denoted has);
       } in
       runs_kept base text parts scheme
@@ -129,21 +122,19 @@ module _ (base : Option Url) (parts : Parts) (scheme host_text : List ℕ) (valu
   -- class Other goes to the authority
   pub other_starts : scheme_class scheme ≡ Other → StartsAuthority
   unfolding authority StartsAuthority
-  other_starts other k url ends =
-      ends_within base (omega arith)
-      (scheme_starts base scheme (authority ++ (parts.path_text ++ tail parts.query parts.fragment)) Other k other ends)
+  other_starts other url ends =
+      scheme_starts base scheme (authority ++ (parts.path_text ++ tail parts.query parts.fragment)) Other other ends
 
   -- a special URL goes to a host that isn't empty
   pub special_starts : scheme_class scheme ≡ Special → list_all (is_authority_letter true) host_text ≡ true
       → (length host_text == 0) ≡ false → StartsAuthority
   unfolding authority StartsAuthority
-  special_starts special letters some k url ends =
+  special_starts special letters some url ends =
       let rest = authority ++ (parts.path_text ++ tail parts.query parts.fragment) in
       let none : (begins slash rest || begins backslash rest) ≡ false
       = no_slash_before host_text (written_behind colon parts.port_text)
       (parts.path_text ++ tail parts.query parts.fragment) letters some in
-      ends_within base (omega arith)
-      (scheme_starts base scheme rest Special (suc k) special (ends_again base (λ p. rw none refl) ends))
+      scheme_starts base scheme rest Special special (ends_again base (λ p. rw none refl) ends)
 
 -- ---- the scheme and the host
 

@@ -1,6 +1,6 @@
 -- The whole run of a text with a scheme of class File and a host.
 use Rattle.uv_model.specs.Path.{MayBePathSlashed}
-use Rattle.std.proofs.Common.{◌≡◌, ℕ, suc, ◌+◌, true, List, ◌∷◌, ◌++◌, length, codes, Option, Some, None, refl, sym, ap, ◌∙◌, append_assoc, append-nil, length-append, arith}
+use Rattle.std.proofs.Common.{◌≡◌, ℕ, true, List, ◌∷◌, ◌++◌, codes, Option, Some, None, refl, sym, ap, ◌∙◌, append_assoc, append-nil}
 use Rattle.uv_model.specs.declared.host.Host.{Host}
 use Rattle.uv_model.specs.declared.host.Host.TheVariants as host
 use Rattle.uv_model.specs.declared.scheme.Class.TheVariants.{File}
@@ -23,7 +23,7 @@ use Rattle.uv_parser.proofs.Loops.PathLoops.{walking}
 use Rattle.uv_parser.proofs.Loops.PathStarts.{path_start_ends}
 use Rattle.uv_parser.proofs.Silence.SilentAuthority.{valued_some, written_with_authority}
 use Rattle.uv_parser.proofs.Silence.SilentSchemes.{EndsBehindScheme, HoldsDenoted, denoted_from_variables, runs_kept}
-use Rattle.uv_parser.proofs.Running.Steps.{Ends, ends_after, ends_again, ends_within}
+use Rattle.uv_parser.proofs.Running.Steps.{Ends, ends_after, ends_again}
 use Rattle.uv_parser.proofs.Loops.Tails.{tail, with_tail}
 
 -- the URL at the end
@@ -46,15 +46,13 @@ module _ (base : Option Url) (segments : List (List ℕ)) (path : List ℕ) (que
   -- from behind the host to the end
   file_path_ends : (value : Host)
       → Ends base PathStartState (file_variables value) (path ++ tail query fragment)
-      (length path + (length (tail query fragment) + 2))
       (file_url value segments query fragment)
   file_path_ends value =
       path_start_ends base query fragment query_units fragment_units segments path (file_variables value) segmented
 
   -- from a host with a text to the end
   pub file_host_ends : (text : List ℕ) (value : Host) → IsFileRead text value
-      → Ends base FileHostState (file_variables host.Empty) (text ++ (path ++ tail query fragment))
-      (length text + suc (length path + (length (tail query fragment) + 2))) (file_url value segments query fragment)
+      → Ends base FileHostState (file_variables host.Empty) (text ++ (path ++ tail query fragment)) (file_url value segments query fragment)
   file_host_ends text value is =
       ends_after base (file_host_law base text (path ++ tail query fragment) (file_variables host.Empty) is.letters)
       (ends_again base
@@ -66,8 +64,7 @@ module _ (base : Option Url) (segments : List (List ℕ)) (path : List ℕ) (que
 
   -- from an empty host to the end
   pub empty_host_ends :
-      Ends base FileHostState (file_variables host.Empty) (path ++ tail query fragment)
-      (suc (length path + (length (tail query fragment) + 2))) (file_url host.Empty segments query fragment)
+      Ends base FileHostState (file_variables host.Empty) (path ++ tail query fragment) (file_url host.Empty segments query fragment)
   empty_host_ends =
       ends_again base
       (λ p. empty_host_row (at_pointer (path ++ tail query fragment)) (delimits segments path query fragment segmented))
@@ -81,7 +78,6 @@ pub record HasFileHost (base : Option Url) (parts : Parts) (text : List ℕ) (va
   pub path : MayBePathSlashed parts.segments parts.path_text
   pub ends : Ends base FileHostState (file_variables host.Empty) (text ++ (parts.path_text ++ tail parts.query
       parts.fragment))
-      (length text + suc (length parts.path_text + (length (tail parts.query parts.fragment) + 2)))
       (file_url value parts.segments parts.query parts.fragment)
 
 -- the variables behind the path are what is denoted
@@ -120,14 +116,10 @@ file_runs base text parts scheme host_text value spelled query fragment kept for
     let whole = append_assoc host_text parts.path_text (tail parts.query parts.fragment) in
     let after : EndsBehindScheme base parts scheme (slash ∷ slash ∷ rest)
     = record {
-      steps = suc (suc (suc (length host_text
-          + suc (length parts.path_text + (length (tail parts.query parts.fragment) + 2)))));
       url = file_url value parts.segments parts.query parts.fragment;
       named = is;
       ends = rw whole
-          (ends_within base (omega arith) (scheme_starts base scheme _ File _ class has.ends));
-      few =
-          omega (arith, length-append rest (tail parts.query parts.fragment), length-append host_text parts.path_text);
+          (scheme_starts base scheme _ File class has.ends);
       denoted = denoted_from_variables base parts SchemeAuthority scheme _ refl form named
           (file_denoted base parts scheme host_text value class has);
     } in

@@ -1,5 +1,5 @@
 -- The run of a text with an opaque path on which the parser is silent.
-use Rattle.std.proofs.Common.{◌≡◌, ℕ, suc, ◌+◌, false, List, [], ◌∷◌, ◌++◌, length, Option, refl, sym, subst, ◌∙◌, length-append, arith}
+use Rattle.std.proofs.Common.{◌≡◌, ℕ, false, List, [], ◌∷◌, ◌++◌, Option, refl, sym, subst, ◌∙◌}
 use Rattle.uv_model.specs.declared.scheme.Class.TheVariants.{Other}
 use Rattle.uv_model.specs.declared.path.UrlPath.TheVariants.{Opaque}
 use Rattle.uv_model.specs.Ascii.{colon}
@@ -35,8 +35,7 @@ module _ (base : Option Url) where
   -- from the scheme's `:` to the end
   opaque_ends : (scheme path : List ℕ) (segments : List (List ℕ)) (query fragment : Option (List ℕ))
       → scheme_class scheme ≡ Other → IsPathRelative segments path → MayBeUnits query → MayBeUnits fragment
-      → Ends base SchemeState (with_more (lowercase scheme) empty_variables) (colon ∷ (path ++ tail query fragment))
-      (suc (length path + (length (tail query fragment) + 1))) (with_tail query fragment (path_variables scheme path))
+      → Ends base SchemeState (with_more (lowercase scheme) empty_variables) (colon ∷ (path ++ tail query fragment)) (with_tail query fragment (path_variables scheme path))
   opaque_ends scheme path segments query fragment other relative query_units fragment_units =
       let no_slash = no_slash_before_tail path query fragment relative.start in
       ends_step base (λ p. colon_row base scheme (path ++ tail query fragment) p ∙ rw (other, no_slash) refl)
@@ -62,13 +61,11 @@ opaque_done base text parts silent form =
     let other : scheme_class scheme ≡ Other = rw named at fits.1 in
     let behind : EndsBehindScheme base parts scheme parts.path_text
     = record {
-      steps = suc (length parts.path_text + (length (tail parts.query parts.fragment) + 1));
       url = with_tail parts.query parts.fragment (path_variables scheme parts.path_text);
       named = is;
       ends =
           opaque_ends base scheme parts.path_text fits.2.0 parts.query parts.fragment other fits.2.1
           silent.query silent.fragment;
-      few = omega (arith, length-append parts.path_text (tail parts.query parts.fragment));
       denoted =
           denoted_from_variables base parts SchemeOpaque scheme _ refl form named (opaque_denoted base scheme parts);
     } in

@@ -1,5 +1,5 @@
 -- The run of a text with a scheme and a path of segments, without an authority, on which the parser is silent.
-use Rattle.std.proofs.Common.{◌≡◌, ℕ, suc, ◌+◌, List, [], ◌∷◌, ◌++◌, length, Option, refl, sym, ap, subst, ◌∙◌, length-append, arith}
+use Rattle.std.proofs.Common.{◌≡◌, ℕ, List, [], ◌∷◌, ◌++◌, Option, refl, sym, ap, subst, ◌∙◌}
 use Rattle.uv_model.specs.declared.scheme.Class.TheVariants.{Other}
 use Rattle.uv_model.specs.declared.path.UrlPath.TheVariants.{Segments}
 use Rattle.uv_model.specs.Ascii.{slash, colon}
@@ -31,7 +31,7 @@ module _ (base : Option Url) where
   path_ends : (scheme behind : List ℕ) (segments : List (List ℕ)) (query fragment : Option (List ℕ))
       → scheme_class scheme ≡ Other → IsPathRelative segments behind → MayBeUnits query → MayBeUnits fragment
       → Ends base SchemeState (with_more (lowercase scheme) empty_variables)
-      (colon ∷ slash ∷ (behind ++ tail query fragment)) (suc (suc (length behind + (length (tail query fragment) + 1))))
+      (colon ∷ slash ∷ (behind ++ tail query fragment))
       (with_tail query fragment (path_variables scheme segments))
   path_ends scheme behind segments query fragment other relative query_units fragment_units =
       let no_slash = no_slash_before_tail behind query fragment relative.start in
@@ -65,13 +65,11 @@ path_done base text parts silent form =
     let slashed = path.slashed in
     let behind : EndsBehindScheme base parts scheme (slash ∷ path.behind)
     = record {
-      steps = suc (suc (length path.behind + (length (tail parts.query parts.fragment) + 1)));
       url = with_tail parts.query parts.fragment (path_variables scheme parts.segments);
       named = is;
       ends =
           path_ends base scheme path.behind parts.segments parts.query parts.fragment other path.relative
           silent.query silent.fragment;
-      few = omega (arith, length-append path.behind (tail parts.query parts.fragment));
       denoted = denoted_from_variables base parts SchemePath scheme _ refl form named (path_denoted base scheme parts);
     } in
     runs_kept base text parts scheme (slash ∷ path.behind) behind silent.kept

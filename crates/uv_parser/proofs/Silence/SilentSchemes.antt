@@ -1,5 +1,5 @@
 -- From the end of a run to the URL that is denoted, for each text with a scheme.
-use Rattle.std.proofs.Common.{◌≡◌, ℕ, ◌+◌, ◌*◌, ◌≤◌, true, false, List, [], ◌∷◌, ◌++◌, length, Option, Some, None, refl, sym, ap, subst, ◌∙◌, append_assoc, length-append, arith}
+use Rattle.std.proofs.Common.{◌≡◌, ℕ, true, false, List, [], ◌∷◌, ◌++◌, Option, Some, None, refl, sym, ap, subst, ◌∙◌, append_assoc}
 use Rattle.std.specs.Prelude.{option_map}
 use Rattle.std.proofs.lemmas.Bool.{false≢true}
 use Rattle.std.specs.List.{list_all}
@@ -8,9 +8,8 @@ use Rattle.uv_model.specs.declared.scheme.Class.TheVariants.{Special, File, Othe
 use Rattle.uv_model.specs.Ascii.{colon}
 use Rattle.uv_model.specs.Records.Denote.{denote, denoted_host, denoted_path, denoted_port, denoted_query, denoted_scheme, quotes}
 use Rattle.uv_model.specs.Encoding.{encoded}
-use Rattle.uv_parser.specs.Machine.{Variables, is_special, SchemeStartState, SchemeState, with_more, empty_variables}
+use Rattle.uv_parser.specs.Machine.{Variables, is_special, SchemeState, with_more, empty_variables}
 use Rattle.uv_model.specs.Parts.{Form, Parts, SchemeAuthority, SchemePath, SchemeOpaque, Authority, PathAbsolute, PathRelative, NoPath, has_scheme, written}
-use Rattle.uv_parser.specs.Run.{Done, run, step_bound}
 use Rattle.uv_parser.specs.Removed.{first_removed}
 use Rattle.uv_model.specs.Scheme.{is_scheme, lowercase, scheme_class}
 use Rattle.uv_parser.specs.Laws.Silence.{RunsSilently}
@@ -19,27 +18,18 @@ use Rattle.uv_model.specs.Valid.{MayBeUnits, scheme_in}
 use Rattle.uv_model.specs.Setting.{scheme_or}
 use Rattle.uv_model.proofs.Records.DenotedRecords.{denote_as}
 use Rattle.uv_model.proofs.SchemeLemmas.{scheme_class-lowercase}
+use Rattle.uv_parser.proofs.Counting.RunsEnded.{starts_ended}
 use Rattle.uv_parser.proofs.Loops.SchemeStretch.{scheme_stretch}
 use Rattle.uv_parser.proofs.Running.Unremoved.{is_unremoved, first_removed-none, unremoved_append, unremoved_scheme, unremoved_tail}
-use Rattle.uv_parser.proofs.Running.Steps.{Ends, ends_after, ends_within}
+use Rattle.uv_parser.proofs.Running.Steps.{Ends, done_with, ends_after}
 use Rattle.uv_parser.proofs.Loops.Tails.{tail, query_given, with_tail}
-
--- a run from the first place that ends within the bound, on a text without a code point that is removed
-pub run_from_ends : (base : Option Url) (text : List ℕ) (k : ℕ) (url : Url) → first_removed text ≡ None
-    → k ≤ step_bound text → Ends base SchemeStartState empty_variables text k url
-    → run base text (step_bound text) ≡ Done url
-unfolding run
-run_from_ends base text k url kept within ends =
-    rw kept ((ends_within base within ends).goes text 0 refl)
 
 -- What stands behind the scheme's `:` ends the run with the denoted URL.
 pub record EndsBehindScheme (base : Option Url) (parts : Parts) (scheme middle : List ℕ) : Type 0 where
-  pub steps : ℕ
   pub url : Url
   pub named : is_scheme scheme ≡ true
   pub ends : Ends base SchemeState (with_more (lowercase scheme) empty_variables)
-      (colon ∷ (middle ++ tail parts.query parts.fragment)) steps url
-  pub few : steps ≤ 3 * length (middle ++ tail parts.query parts.fragment) + 16
+      (colon ∷ (middle ++ tail parts.query parts.fragment)) url
   pub denoted : url ≡ denote base parts
 
 -- the whole run of a text without a code point that is removed
@@ -48,10 +38,8 @@ pub runs_kept : (base : Option Url) (text : List ℕ) (parts : Parts) (scheme mi
     → text ≡ scheme ++ colon ∷ (middle ++ tail parts.query parts.fragment) → RunsSilently base text parts
 runs_kept base text parts scheme middle behind kept whole =
     let rest = middle ++ tail parts.query parts.fragment in
-    let few : length scheme + behind.steps ≤ step_bound (scheme ++ colon ∷ rest)
-    = omega (arith, behind.few, length-append scheme (colon ∷ rest)) in
     rw (whole, ← behind.denoted)
-    (run_from_ends base (scheme ++ colon ∷ rest) _ behind.url (rw whole at kept) few
+    (starts_ended base (scheme ++ colon ∷ rest) (done_with behind.url) (rw whole at kept)
     (ends_after base (scheme_stretch base scheme (colon ∷ rest) behind.named) behind.ends))
 
 -- ---- the URL
