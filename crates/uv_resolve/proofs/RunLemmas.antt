@@ -1,15 +1,13 @@
 -- The run of the URL parser on a valid text: with a scheme against every base, else against a well-formed one.
-use Rattle.std.proofs.Common.{ℕ, ◌+◌, ◌*◌, List, length, Option, Some, ap, arith}
+use Rattle.std.proofs.Common.{ℕ, ◌+◌, ◌*◌, List, length, Option, Some, arith}
 use Rattle.uv_model.specs.declared.profile.Profile.{Profile}
 use Rattle.uv_model.specs.declared.profile.Profile.TheVariants.{Wide}
-use Rattle.uv_model.specs.declared.scheme.Class.{Class}
-use Rattle.uv_model.specs.Parts.{Form, has_scheme}
 use Rattle.uv_model.specs.Records.Url.{Url}
 use Rattle.uv_model.specs.Records.WellFormed.{MayBeWellFormed}
 use Rattle.uv_model.proofs.Records.DenotedRecords.{denoted_records_are_well_formed}
 use Rattle.uv_parser.proofs.Counting.DecidedSoon.{texts_are_decided_soon}
 use Rattle.uv_parser.proofs.Silence.ValidSilent.{scheme_runs_silently, valid_is_silent, valid_runs_silently}
-use Rattle.uv_resolve.specs.Laws.{OpaqueTextsRunSilently, ReferencesRunSilently, TextsOfClassRunSilently}
+use Rattle.uv_resolve.specs.Laws.{ReferencesRunSilently, SchemeTextsRunSilently}
 use Rattle.uv_resolve.specs.Resolve.{RunsToItsRecord}
 
 -- alone, or against a record
@@ -23,16 +21,10 @@ runs_to_its_record profile base text well parts valid = record {
   by_profile = λ by_profile. denoted_records_are_well_formed.same profile base text parts by_profile valid;
 }
 
--- with an opaque path
-pub opaque_runs : OpaqueTextsRunSilently
-opaque_runs profile base text parts valid opaque =
-    scheme_runs_silently profile base text parts valid (ap has_scheme opaque)
+-- with a scheme
+pub scheme_texts_run : SchemeTextsRunSilently
+scheme_texts_run profile base text parts valid has = scheme_runs_silently profile base text parts valid has
 
--- with a scheme of a class
-pub class_runs : (class : Class) → TextsOfClassRunSilently class
-class_runs class profile base text parts valid has of_class = scheme_runs_silently profile base text parts valid has
-
--- without a scheme, in each form
-pub reference_runs : (form : Form) → ReferencesRunSilently form
-reference_runs form profile base text parts well valid of_form =
-    valid_runs_silently profile (Some base) text parts well valid
+-- without a scheme
+pub references_run : ReferencesRunSilently
+references_run profile base text parts well valid none = valid_runs_silently profile (Some base) text parts well valid

@@ -1,7 +1,0 @@
--- The lemma at the form.
-use Rattle.uv_resolve.proofs.RunLemmas.{reference_runs}
-use Rattle.uv_model.specs.Parts.{PathRelative}
-use Rattle.uv_resolve.proofs.laws.paths_relative_run_silently.Goals as goal
-
-pub returns : goal.returns
-returns c = reference_runs PathRelative
