@@ -6,7 +6,7 @@ use Rattle.std.proofs.lemmas.Bool.{cases_lt, cases_Bool, false≢true}
 use Rattle.std.proofs.lemmas.Str.{encode_ascii, encodes-chars, encodes_same, IsCharBoundary-after_ascii}
 use Rattle.std.proofs.Math.Utf8.{encodes, encode}
 use Rattle.uv_grammar.specs.TextSplits.{IsFirstMark, IsPortMark, SplitsHost, SplitsScheme}
-use Rattle.uv_grammar.proofs.SliceLemmas.{around, range-start}
+use Rattle.uv_grammar.proofs.SliceLemmas.{around}
 use Rattle.uv_model.specs.declared.scheme.Class.{Class}
 use Rattle.uv_model.specs.declared.scheme.Class.TheVariants.{Special, Other}
 use Rattle.uv_model.specs.Parts.{written_behind}
@@ -19,6 +19,7 @@ use Rattle.uv_model.proofs.Cuts.SchemeCutLemmas.{scheme_without_colon, splits_at
 use Rattle.uv_model.proofs.Cuts.AuthorityCutLemmas.{host_cut-is, written_host_cut}
 use Rattle.uv_model.specs.Ascii.{colon, left_bracket, right_bracket}
 use Rattle.uv_model.specs.Cut.{host_before, host_cut, port_cut, text_before, is_port_mark, is_within, port_behind}
+use Rattle.uv_text.proofs.SplitsLemmas.{front_slice}
 
 -- a byte beyond ASCII is no `:`
 no_mark : (within : Bool) (b : ℕ) → 128 ≤ b → is_port_mark within b ≡ false
@@ -121,7 +122,7 @@ pub host_sides : (bytes front behind : List ℕ) (end : ℕ) → IsUtf8 bytes �
     → (chars front ≡ host_before false (chars bytes)) × (Some (chars behind) ≡ port_behind false (chars bytes))
 host_sides bytes front behind end utf8 front_utf8 behind_utf8 mark is_front is_behind =
     let host : front ≡ encodes (host_before false (chars bytes))
-    = is_front ∙ (range-start bytes end ∙ (sym mark.2 ∙ host_before-chars bytes utf8)) in
+    = is_front ∙ (front_slice bytes end ∙ (sym mark.2 ∙ host_before-chars bytes utf8)) in
     let port : Some behind ≡ option_map encodes (port_behind false (chars bytes))
     = ap (λ s. Some s) is_behind ∙ (sym mark.3 ∙ port_behind-chars bytes utf8) in (
       encodes_same (chars front) (host_before false (chars bytes)) (encodes-chars front front_utf8 ∙ host),

@@ -1,12 +1,11 @@
 -- Lemmas on the complaints and the values of hosts.
-use Rattle.std.proofs.Common.{◌≡◌, ◌≢◌, ℕ, List, [], ◌∷◌, Bool, true, false, drop, refl, sym, ap, ◌∙◌, inl, inr, arith, Option, Some, None, zero, suc, eqb-true}
+use Rattle.std.proofs.Common.{◌≡◌, ◌≢◌, ℕ, List, [], ◌∷◌, Bool, true, false, refl, sym, ap, ◌∙◌, inl, inr, arith, Option, Some, None, eqb-true}
 use Rattle.std.proofs.Math.Nat.{le_refl}
 use Rattle.std.specs.Prelude.{◌==◌, ◌↔◌, IsTrue, length, not}
 use Rattle.std.specs.Str.{chars, IsUtf8}
 use Rattle.std.proofs.lemmas.Str.{chars-nil, encodes-chars}
 use Rattle.std.proofs.Math.Utf8.{encodes}
 use Rattle.std.proofs.lemmas.Bool.{false≢true}
-use Rattle.uv_model.specs.declared.host.Host.TheVariants.{V6}
 use Rattle.uv_model.specs.declared.profile.Profile.{Profile}
 use Rattle.uv_model.specs.declared.rule.Rule.{Rule}
 use Rattle.uv_model.specs.declared.rule.Rule.TheVariants.{HostMissing, HostDomain, HostNumber, HostIpv6, HostCodePoint, Percent}
@@ -17,28 +16,22 @@ use Rattle.uv_model.specs.Hosts.Address.{IsBracketedIpv6}
 use Rattle.uv_model.specs.Complaints.Complaint.{HostContentComplaint, HostComplaint, HostTextComplaint, LacksHost}
 use Rattle.uv_model.specs.Ascii.{percent_sign}
 use Rattle.uv_model.specs.Hosts.OpaqueHost.{IsOpaqueHost}
-use Rattle.uv_model.specs.Complaints.OpaqueHostComplaint.{OpaqueHostComplaint}
 use Rattle.uv_model.specs.Complaints.Refusal.{IsLeast}
 use Rattle.uv_model.specs.Complaints.Rule.{rule_number}
-use Rattle.uv_model.specs.Valid.{IsOpaqueHostText, without_localhost}
+use Rattle.uv_model.specs.Valid.{without_localhost}
 use Rattle.uv_model.proofs.Hosts.FileHosts.{file_host_fits}
-use Rattle.uv_model.proofs.Complaints.FaultlessHosts.{host_text_faultless, opaque_host_faultless}
+use Rattle.uv_model.proofs.Complaints.FaultlessHosts.{host_text_faultless}
 use Rattle.uv_model.proofs.Complaints.RefusalLemmas.{IsLeast-like}
 use Rattle.uv_grammar.specs.declared.judged.Judged.{Judged}
 use Rattle.uv_grammar.specs.declared.judged.Judged.TheVariants.{Valid, Refused}
 use Rattle.uv_grammar.specs.declared.parts_host.PartsHost.{PartsHost}
-use Rattle.uv_grammar.specs.declared.parts_host.PartsHost.TheVariants.{Made}
 use Rattle.uv_grammar.specs.PartsHost.{FitsPartsHost, IsPartsHostText, as_host}
 use Rattle.uv_grammar.specs.HostValues.{FitsHost, FitsSomeHost}
 use Rattle.uv_grammar.specs.Judged.{IsJudged}
 use Rattle.uv_grammar.specs.NoMemory.{HostTakesNoMemory, MakesNoForm}
+use Rattle.uv_model.proofs.Complaints.UnitComplaintLemmas.{nothing_at}
 
 -- ---- the empty host
-
--- nothing stands in an empty text
-nothing_at : (place c : ℕ) (rest : List ℕ) → drop place [] ≡ c ∷ rest → ⊥
-nothing_at zero c rest same = cc
-nothing_at (suc place) c rest same = cc
 
 -- an empty text violates no rule by what it holds
 pub empty_content_fits : (profile : Profile) (class : Class) (place : ℕ) (rule : Rule)

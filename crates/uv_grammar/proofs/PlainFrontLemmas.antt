@@ -23,9 +23,9 @@ use Rattle.uv_grammar.specs.PlainLinks.{HasAsciiFront, IsFrontCut, IsPartCut, Is
 use Rattle.uv_grammar.specs.TextSplits.{SplitsScheme}
 use Rattle.uv_grammar.proofs.PlainUnitLemmas.{split_joined, url_units}
 use Rattle.uv_grammar.proofs.PartLemmas.{given_number}
-use Rattle.uv_grammar.proofs.TestLemmas.{list_all_weaker}
 use Rattle.uv_host.specs.PlainNames.{IsChainFront}
 use Rattle.uv_host.proofs.ChainLemmas.{rooted_form}
+use Rattle.uv_model.proofs.Cuts.HostCutLemmas.{passes-weaker}
 
 -- the end of an ASCII front is a boundary
 pub front_boundary : (bytes : List ℕ) (end : ℕ) → IsUtf8 bytes → HasAsciiFront bytes end → IsCharBoundary bytes end
@@ -156,7 +156,7 @@ scheme_ascii bytes end is = (is.inside, is_ascii-scheme (take end bytes) is.sche
 pub name_ascii : (bytes : List ℕ) (end : ℕ) → IsChainFront bytes end → HasAsciiFront bytes end
 name_ascii bytes end is = (
   is.0,
-  list_all_weaker (is_form_code_point Standard) is_ascii small (take end bytes) (rooted_form
+  passes-weaker (is_form_code_point Standard) is_ascii small (take end bytes) (rooted_form
       (take end bytes) is.1),
 )
   where

@@ -10,13 +10,13 @@ use Rattle.std.proofs.lemmas.Option.{none-some}
 use Rattle.std.proofs.lemmas.Str.{chars-IsAscii}
 use Rattle.uv_model.specs.declared.host.Host.TheVariants.{Domain}
 use Rattle.uv_model.specs.declared.profile.Profile.{Profile}
-use Rattle.uv_model.specs.declared.profile.Profile.TheVariants.{Standard, Wide}
+use Rattle.uv_model.specs.declared.profile.Profile.TheVariants.{Standard}
 use Rattle.uv_model.specs.declared.rule.Rule.{Rule}
 use Rattle.uv_model.specs.declared.rule.Rule.TheVariants.{NoScheme, OpaqueBase, TwoSlashes, FirstSegmentEmpty, DriveAfterHost}
 use Rattle.uv_model.specs.declared.scheme.Class.TheVariants.{Special}
 use Rattle.uv_model.specs.Ascii.{slash, colon, question_mark, number_sign, left_bracket, right_bracket}
 use Rattle.uv_model.specs.Valid.{MayBePortText}
-use Rattle.uv_model.specs.Complaints.Complaint.{HasEmptyFirst, IsStarted, PathStartComplaint, MayBeUnitComplaint}
+use Rattle.uv_model.specs.Complaints.Complaint.{IsStarted, PathStartComplaint, MayBeUnitComplaint}
 use Rattle.uv_model.specs.Cut.{Cut, IsCut, EndsAtPort, IsHostCut, is_within, is_within_at_end, written_cut, written_start, starts_with_two_slashes}
 use Rattle.uv_model.specs.Hosts.Domain.{IsDomain, is_form_code_point}
 use Rattle.uv_model.specs.Parts.{written_behind}
@@ -35,6 +35,7 @@ use Rattle.uv_grammar.specs.PartValues.{FitsHostPart, FitsPortPart}
 use Rattle.uv_grammar.specs.PlainLinks.{IsNameCut, IsPartCut, IsPathCut, IsPortCut, IsSpecialCut, MayBeUnits}
 use Rattle.uv_grammar.specs.Verdict.{IsAccepted}
 use Rattle.uv_grammar.proofs.VerdictLemmas.{accepted}
+use Rattle.uv_model.proofs.Complaints.ComplaintsExcludeParts.{one_slash_start}
 
 -- the name of a domain that is its own form
 form_each : (name form : List ℕ) → IsDomain Standard name form → list_all (is_form_code_point Standard) form ≡ true
@@ -193,17 +194,12 @@ plain_started setting text scheme name port_text path query fragment place Opaqu
 plain_started setting text scheme name port_text path query fragment place TwoSlashes h = none-some name (sym h.0.2)
 plain_started setting text scheme name port_text path query fragment place _ h = absurd h
 
-no_empty_first : (profile : Profile) (path : List ℕ) → starts_with_two_slashes path ≡ false
-    → HasEmptyFirst profile path → ⊥
-no_empty_first Standard path single empty = false≢true (sym single ∙ empty)
-no_empty_first Wide path single empty = empty
-
 plain_path_start : (setting : Setting) (scheme name : List ℕ) (port_text : Option (List ℕ)) (path : List ℕ)
     (query fragment : Option (List ℕ)) (place : ℕ) (rule : Rule)
     → setting.class ≡ Special → starts_with_two_slashes path ≡ false
     → PathStartComplaint setting (plain_cut scheme name port_text path query fragment) place rule → ⊥
 plain_path_start setting scheme name port_text path query fragment place FirstSegmentEmpty special single h =
-    no_empty_first setting.profile path single h.0
+    one_slash_start setting.profile path single h.0
 plain_path_start setting scheme name port_text path query fragment place DriveAfterHost special single h = cc
     (special, h.0)
 plain_path_start setting scheme name port_text path query fragment place _ special single h = absurd h

@@ -20,7 +20,7 @@ use Rattle.uv_model.proofs.Complaints.RefusalLemmas.{IsLeast-like}
 use Rattle.uv_model.proofs.Texts.AsciiLemmas.{IsAscii-from_test, chars-from_IsAscii}
 use Rattle.uv_grammar.specs.PartValues.{port_number}
 use Rattle.uv_grammar.specs.Scan.{DigitComplaint}
-use Rattle.uv_grammar.proofs.TestLemmas.{list_all_weaker}
+use Rattle.uv_model.proofs.Cuts.HostCutLemmas.{passes-weaker}
 
 one_more : (n : ℕ) → suc n ≡ 1 + n
 one_more n = omega arith
@@ -123,7 +123,7 @@ is_digit_ascii c is = grind (arith, nat_tests)
 digit_bytes : (bytes : List ℕ) → IsUtf8 bytes → list_all is_ascii_digit (chars bytes) ≡ true → chars bytes ≡ bytes
 digit_bytes bytes utf8 digits =
     chars-from_IsAscii bytes utf8
-    (IsAscii-from_test (chars bytes) (list_all_weaker is_ascii_digit is_ascii is_digit_ascii (chars bytes) digits))
+    (IsAscii-from_test (chars bytes) (passes-weaker is_ascii_digit is_ascii is_digit_ascii (chars bytes) digits))
 
 tells_digits : IsDigitsTest (λ ds. list_all is_ascii_digit ds ≡ true)
 tells_digits = search rules

@@ -3,18 +3,17 @@ use Rattle.std.proofs.Common.{◌≡◌, ℕ, ◌+◌, ◌<◌, List, [], ◌∷
 use Rattle.std.specs.Prelude.{◌==◌, Option, None, MatchOption, slice_range}
 use Rattle.std.specs.Str.{chars, IsCharBoundary, IsUtf8}
 use Rattle.std.proofs.lemmas.Bool.{cases_lt}
-use Rattle.std.proofs.lemmas.Str.{chars-nil, chars-append, chars-IsAscii, encode_ascii, encodes-chars, IsUtf8-from_ascii, IsUtf8-take, IsUtf8-drop, IsCharBoundary-before_ascii, IsCharBoundary-after_ascii}
+use Rattle.std.proofs.lemmas.Str.{chars-nil, chars-append, encode_ascii, encodes-chars, IsUtf8-take, IsUtf8-drop, IsCharBoundary-before_ascii, IsCharBoundary-after_ascii}
 use Rattle.std.specs.Borrow.{Bor}
-use Rattle.std.proofs.lemmas.Str.Ascii.{IsAscii-cons}
 use Rattle.std.proofs.lemmas.List.{length-append, take-append-drop}
 use Rattle.std.proofs.Math.Utf8.{encode, encodes}
 use Rattle.std.proofs.Math.Seq.{drop-cons, take-append_seam, drop-append-add, drop-length}
-use Rattle.std.proofs.lemmas.Grind.{common_steps}
 use Rattle.uv_model.specs.Ascii.{slash}
 use Rattle.uv_model.specs.Path.{is_without, starts_with_slash}
 use Rattle.uv_model.proofs.Texts.MarkLemmas.{is_without-cons, is_without-more, is_without-parts}
 use Rattle.uv_grammar.specs.TextSplits.{IsFirstMark, SplitsAtSlash}
 use Rattle.uv_grammar.proofs.TestLemmas.{starts_with_slash-chars}
+use Rattle.uv_text.proofs.SplitsLemmas.{chars-ascii_first, front_slice}
 
 -- the byte behind a front
 pub byte_behind : (xs ys : List ℕ) (c : ℕ) → get_or (xs ++ (c ∷ ys)) (length xs) 0 ≡ c
@@ -32,12 +31,6 @@ sides_utf8 xs ys c u small =
       rw take-append_seam at (IsUtf8-take (xs ++ (c ∷ ys)) (length xs) u before),
       rw drop-append-add at (IsUtf8-drop (xs ++ (c ∷ ys)) (length xs + 1) u after),
     )
-
--- the code points of a text that begins with an ASCII byte
-pub chars-ascii_first : (c : ℕ) (ys : List ℕ) → c < 128 → chars (c ∷ ys) ≡ c ∷ chars ys
-chars-ascii_first c ys small =
-    let one = IsAscii-cons c [] small (λ i. lit< tt) in
-    chars-append (c ∷ []) ys (IsUtf8-from_ascii (c ∷ []) one) ∙ ap (λ s. s ++ chars ys) (chars-IsAscii (c ∷ []) one)
 
 -- the code points of a text with an ASCII mark in it
 pub chars_at_mark : (xs ys : List ℕ) (c : ℕ) → IsUtf8 (xs ++ (c ∷ ys)) → c < 128
@@ -65,10 +58,6 @@ is_without-chars mark bytes small utf8 none =
         ] in
         is_without-more mark c cs other (encoded cs parts.1)
 
--- the front of a text as a range
-pub range-start : (bytes : List ℕ) (end : ℕ) → slice_range bytes 0 end ≡ take end bytes
-range-start bytes end = grind (arith, common_steps)
-
 -- what begins with the byte at an index
 pub drop_at : (bytes : List ℕ) (at mark : ℕ) → at < length bytes → get_or bytes at 0 ≡ mark
     → drop at bytes ≡ mark ∷ drop (at + 1) bytes
@@ -93,7 +82,7 @@ pub splits_at_mark : (mark : ℕ) (bytes front rest : List ℕ) (end : ℕ) → 
 splits_at_mark mark bytes front rest end small utf8 first is_front is_rest =
     let whole = around bytes end mark first.0 first.1 in
     let both : IsUtf8 (take end bytes ++ mark ∷ drop (end + 1) bytes) = subst IsUtf8 whole utf8 in
-    rw (is_front, is_rest, range-start) (
+    rw (is_front, is_rest, front_slice) (
       ap chars whole ∙ chars_at_mark (take end bytes) (drop (end + 1) bytes) mark both small,
       is_without-chars mark (take end bytes) small
           (sides_utf8 (take end bytes) (drop (end + 1) bytes) mark both small).0 first.2,
@@ -124,7 +113,7 @@ splits_at_slash bytes front behind end utf8 found is_front is_behind =
     let first : chars (drop end bytes) ≡ slash ∷ chars (drop (end + 1) bytes)
     = ap chars (drop_at bytes end slash found.0 found.1)
     ∙ chars-ascii_first slash (drop (end + 1) bytes) (lit< tt) in
-    rw (is_front, is_behind, range-start) (record {
+    rw (is_front, is_behind, front_slice) (record {
       joined = ap chars (sym (take-append-drop end bytes)) ∙ chars-append (take end bytes) (drop end bytes) before;
       no_slash = is_without-chars slash (take end bytes) (lit< tt) before found.2;
       path = λ some. subst (λ (s : List ℕ). starts_with_slash s ≡ true) (sym first) refl;

@@ -14,6 +14,8 @@ use Rattle.uv_model.specs.Cut.{starts_with_two_slashes}
 use Rattle.uv_model.specs.Hosts.OpaqueHost.{starts_with_bracket}
 use Rattle.uv_model.specs.Path.{starts_with_slash, starts_with_drive_segment}
 use Rattle.uv_model.specs.Scheme.{is_scheme, is_scheme_code_point}
+use Rattle.uv_model.proofs.SchemeLemmas.{scheme_code_point-ascii, scheme_first-ascii}
+use Rattle.uv_model.proofs.Cuts.HostCutLemmas.{passes-weaker}
 
 -- two tests with one answer where either is true
 pub same_tests : (a b : Bool) → (a ≡ true → b ≡ true) → (b ≡ true → a ≡ true) → a ≡ b
@@ -59,14 +61,6 @@ front_test test passes bytes utf8 =
 -- both of two tests are passed
 pub and_true : {a b : Bool} → a ≡ true → b ≡ true → (a && b) ≡ true
 and_true first second = rw (first, second) refl
-
--- each element passes the weaker test
-pub list_all_weaker : (p q : ℕ → Bool) → ((c : ℕ) → p c ≡ true → q c ≡ true) → (xs : List ℕ)
-    → list_all p xs ≡ true → list_all q xs ≡ true
-list_all_weaker p q weaker [] passed = refl
-list_all_weaker p q weaker (x ∷ xs) passed =
-    let parts = and_parts (p x) (list_all p xs) passed in
-    and_true (weaker x parts.0) (list_all_weaker p q weaker xs parts.1)
 
 -- a test of the first code point that only ASCII passes
 first_test : (test : List ℕ → Bool) → test [] ≡ false
@@ -139,18 +133,13 @@ starts_with_drive_segment-chars bytes utf8 = front_test starts_with_drive_segmen
 pub is_scheme-chars : (bytes : List ℕ) → IsUtf8 bytes → is_scheme (chars bytes) ≡ is_scheme bytes
 is_scheme-chars bytes utf8 = ascii_test is_scheme ascii bytes utf8
   where
-    one : (c : ℕ) → is_scheme_code_point c ≡ true → is_ascii c ≡ true
-    one c passed = grind (arith, nat_tests)
-
-    first : (c : ℕ) → is_ascii_alphabetic c ≡ true → is_ascii c ≡ true
-    first c passed = grind (arith, nat_tests)
-
     ascii : (text : List ℕ) → is_scheme text ≡ true → IsAscii text
     ascii [] passed = absurd cc
     ascii (c ∷ rest) passed =
         let parts = and_parts (is_ascii_alphabetic c) (list_all is_scheme_code_point rest) passed in
         IsAscii-from_test (c ∷ rest)
-        (and_true (first c parts.0) (list_all_weaker is_scheme_code_point is_ascii one rest parts.1))
+        (and_true (scheme_first-ascii c parts.0)
+        (passes-weaker is_scheme_code_point is_ascii scheme_code_point-ascii rest parts.1))
 
 -- the code points are digits where the bytes are
 pub digits-chars : (bytes : List ℕ) → IsUtf8 bytes
@@ -161,4 +150,4 @@ digits-chars bytes utf8 = ascii_test (λ text. list_all is_ascii_digit text) asc
     one c passed = grind (arith, nat_tests)
 
     ascii : (text : List ℕ) → list_all is_ascii_digit text ≡ true → IsAscii text
-    ascii text passed = IsAscii-from_test text (list_all_weaker is_ascii_digit is_ascii one text passed)
+    ascii text passed = IsAscii-from_test text (passes-weaker is_ascii_digit is_ascii one text passed)

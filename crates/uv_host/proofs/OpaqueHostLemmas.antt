@@ -1,13 +1,13 @@
 -- The complaints of an opaque host, from code point to code point, and the least of them.
-use Rattle.std.proofs.Common.{◌≡◌, ◌≢◌, ℕ, zero, suc, ◌+◌, ◌≤◌, Bool, true, false, not, ◌==◌, List, [], ◌∷◌, drop, Option, Some, None, refl, sym, ap, ◌∙◌, inl, inr, ◌⊎◌, ◌↔◌, arith, le_refl}
+use Rattle.std.proofs.Common.{◌≡◌, ◌≢◌, ℕ, zero, suc, ◌+◌, ◌≤◌, Bool, true, false, not, List, [], ◌∷◌, Option, Some, None, refl, sym, ap, ◌∙◌, inl, inr, ◌⊎◌, ◌↔◌, arith, le_refl}
 use Rattle.std.specs.List.{list_all}
 use Rattle.std.proofs.lemmas.Bool.{false≢true, cases_Bool, cases_eq, ne_eqb, and_from, and_parts, not-true}
 use Rattle.uv_model.specs.declared.rule.Rule.{Rule}
 use Rattle.uv_model.specs.declared.rule.Rule.TheVariants.{HostIpv6, HostCodePoint, Percent}
 use Rattle.uv_model.specs.declared.rule.Refusal.{Refusal}
 use Rattle.uv_model.specs.Hosts.Address.{IsBracketedIpv6}
-use Rattle.uv_model.specs.Ascii.{percent_sign, left_bracket}
-use Rattle.uv_model.specs.Hosts.OpaqueHost.{is_forbidden_host, IsOpaqueHost, starts_with_bracket}
+use Rattle.uv_model.specs.Ascii.{percent_sign}
+use Rattle.uv_model.specs.Hosts.OpaqueHost.{is_forbidden_host, starts_with_bracket}
 use Rattle.uv_model.specs.Complaints.OpaqueHostComplaint.{HasForeignHostCodePoint, OpaqueHostComplaint}
 use Rattle.uv_model.specs.Complaints.Refusal.{IsLeast}
 use Rattle.uv_model.specs.Complaints.Rule.{rule_number}
@@ -17,6 +17,8 @@ use Rattle.uv_model.proofs.Addresses.AddressUniqueness.{bracketed_bracket}
 use Rattle.uv_model.proofs.Complaints.RefusalLemmas.{IsLeast-like}
 use Rattle.uv_model.proofs.Texts.UnitsLemmas.{is_faultless-units, IsUnits-faultless}
 use Rattle.uv_host.specs.OpaqueHosts.{host_fault, fault_at_or, first_host_fault, IsOpaqueHostOrEmpty}
+use Rattle.uv_model.proofs.Complaints.UnitComplaintLemmas.{head_same, tail_same, nothing_at}
+use Rattle.uv_model.proofs.Complaints.FaultlessHosts.{opaque_no_bracket}
 
 -- ---- a text that begins with `[`
 
@@ -55,24 +57,11 @@ earlier c rest place HostCodePoint h =
 earlier c rest place Percent h = record { rest = h.rest; here = h.here; bare = h.bare }
 earlier c rest place _ h = absurd h
 
--- no code point stands in the empty text
-nothing : (place c : ℕ) (rest : List ℕ) → drop place [] ≡ c ∷ rest → ⊥
-nothing zero c rest h = cc
-nothing (suc place) c rest h = cc
-
 -- the empty text has no complaint
 empty_silent : (place : ℕ) (rule : Rule) → Unbracketed [] place rule → ⊥
-empty_silent place HostCodePoint h = nothing place _ _ h.here
-empty_silent place Percent h = nothing place _ _ h.here
+empty_silent place HostCodePoint h = nothing_at place _ _ h.here
+empty_silent place Percent h = nothing_at place _ _ h.here
 empty_silent place _ h = h
-
--- the first code points of two equal texts are one
-head_same : (c d : ℕ) (rest behind : List ℕ) → c ∷ rest ≡ d ∷ behind → d ≡ c
-head_same c d rest behind e = cc
-
--- and so is what follows them
-tail_same : (c d : ℕ) (rest behind : List ℕ) → c ∷ rest ≡ d ∷ behind → behind ≡ rest
-tail_same c d rest behind e = cc
 
 -- a forbidden host code point isn't `%`
 forbidden_no_percent : (c : ℕ) → is_forbidden_host c ≡ true → c ≢ percent_sign
@@ -252,14 +241,6 @@ units_silent start (c ∷ rest) units permitted =
     let permit = and_parts (not (is_forbidden_host c)) (permits rest) permitted in
     let here = silent_here c rest unit.0 permit.0 in
     rw here (units_silent (start + 1) rest unit.1 permit.1)
-
--- an opaque host without brackets doesn't begin with `[`
-opaque_no_bracket : (text : List ℕ) → IsOpaqueHost text → starts_with_bracket text ≡ false
-opaque_no_bracket text is = rw is.some (no_bracket is.first (and_parts _ _ (rw is.some at is.permitted)).0)
-  where
-    no_bracket : (c : ℕ) → not (is_forbidden_host c) ≡ true → (c == left_bracket) ≡ false
-    no_bracket c permitted =
-        ne_eqb c left_bracket (λ e. false≢true (ap (λ b. not (is_forbidden_host b)) (sym e) ∙ permitted))
 
 -- a text that doesn't begin with `[` has no fault exactly where it is empty or an opaque host
 pub unbracketed_silent : (text : List ℕ) → starts_with_bracket text ≡ false

@@ -16,7 +16,7 @@ ascii_code_point : (c d : ℕ) → to_ascii_lowercase c ≡ d → is_ascii d ≡
 ascii_code_point c d e passes = grind (arith, nat_tests)
 
 -- a code point in lower case stays
-lowercase_code_point : (c : ℕ) → is_ascii_uppercase c ≡ false → to_ascii_lowercase c ≡ c
+pub lowercase_code_point : (c : ℕ) → is_ascii_uppercase c ≡ false → to_ascii_lowercase c ≡ c
 lowercase_code_point c passes = grind (arith, nat_tests)
 
 -- a name in lower case stays
@@ -111,10 +111,10 @@ scheme_class-lowercase scheme = rw (lowercase_twice scheme, default_port-lowerca
 -- ---- schemes by bytes
 
 -- a code point of a scheme is ASCII
-scheme_first-ascii : (c : ℕ) → is_ascii_alphabetic c ≡ true → is_ascii c ≡ true
+pub scheme_first-ascii : (c : ℕ) → is_ascii_alphabetic c ≡ true → is_ascii c ≡ true
 scheme_first-ascii c letter = grind (arith, nat_tests)
 
-scheme_code_point-ascii : (c : ℕ) → is_scheme_code_point c ≡ true → is_ascii c ≡ true
+pub scheme_code_point-ascii : (c : ℕ) → is_scheme_code_point c ≡ true → is_ascii c ≡ true
 scheme_code_point-ascii c passes = grind (arith, nat_tests)
 
 scheme_rest-ascii : (rest : List ℕ) → list_all is_scheme_code_point rest ≡ true → list_all is_ascii rest ≡ true

@@ -12,7 +12,7 @@ use Rattle.std.proofs.lemmas.List.{drop-drop, length-append, length-drop, take-a
 use Rattle.std.proofs.lemmas.Str.{chars-append, chars-IsAscii, chars-nil, chars_from_encodes, encode_ascii, encodes-append, encodes-chars, IsCharBoundary-after_ascii, IsCharBoundary-at_seam, IsUtf8-drop, IsUtf8-from_ascii, IsUtf8-take}
 use Rattle.std.proofs.lemmas.Str.Ascii.{IsAscii-cons}
 use Rattle.uv_model.specs.Ascii.{percent_sign}
-use Rattle.uv_model.specs.Units.{is_url_code_point, starts_with_two_hex}
+use Rattle.uv_model.specs.Units.{starts_with_two_hex}
 use Rattle.uv_text.specs.declared.units.UnitClass.{UnitClass}
 use Rattle.uv_text.specs.declared.units.UnitClass.TheVariants.{Url, Path, OpaqueHost}
 use Rattle.uv_text.specs.Tails.{EndsWith}
@@ -85,7 +85,7 @@ module _ (held : ℕ → Bool) where
 -- ---- a run of bytes of the class
 
 -- the code points of a text that begins with an ASCII byte
-chars-ascii_first : (c : ℕ) (ys : List ℕ) → c < 128 → chars (c ∷ ys) ≡ c ∷ chars ys
+pub chars-ascii_first : (c : ℕ) (ys : List ℕ) → c < 128 → chars (c ∷ ys) ≡ c ∷ chars ys
 chars-ascii_first c ys small =
     let one = IsAscii-cons c [] small (λ i. lit< tt) in
     chars-append (c ∷ []) ys (IsUtf8-from_ascii (c ∷ []) one) ∙ ap (λ s. s ++ chars ys) (chars-IsAscii (c ∷ []) one)

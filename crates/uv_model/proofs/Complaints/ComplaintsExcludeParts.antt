@@ -26,7 +26,8 @@ use Rattle.uv_model.proofs.Paths.SlashedPaths.{slashed_absolute, slashed_behind}
 use Rattle.uv_model.proofs.Cuts.ValidCutLemmas.{absolute_without_two_slashes, without_slash_without_two, valid_texts}
 use Rattle.uv_model.proofs.Complaints.ComplaintLemmas.{cut_with}
 use Rattle.uv_model.proofs.Complaints.RefusedLemmas.{none_of_host, none_of_port}
-use Rattle.uv_model.proofs.Complaints.FaultlessHosts.{host_not_empty, host_text_faultless, file_host_is_host, empty_host_faultless, opaque_host_faultless, opaque_host_not_empty, empty_opaque_faultless, port_faultless}
+use Rattle.uv_model.proofs.Complaints.FaultlessHosts.{host_not_empty, host_text_faultless, file_host_is_host, empty_host_faultless, opaque_host_faultless, empty_opaque_faultless, port_faultless}
+use Rattle.uv_model.proofs.Hosts.HostUniqueness.{opaque_not_empty}
 
 -- ---- the host, by the class
 
@@ -83,7 +84,7 @@ authority_host_faultless File setting text parts (no_port, absent, inr (nothing,
     (slashed_behind setting.profile parts.segments parts.path_text path)) none
 authority_host_faultless Other setting text parts (inl (host, port), given, path) =
     other_host_faultless setting.profile text parts.port_text parts.path_text
-    (λ nothing. absurd (opaque_host_not_empty text parts.host host nothing))
+    (λ nothing. absurd (opaque_not_empty text parts.host host nothing))
     (opaque_host_faultless text parts.host host)
 authority_host_faultless Other setting text parts (inr (nothing, valued, no_port), given, path) =
     let none : (place : ℕ) (rule : Rule) → OpaqueHostComplaint text place rule → ⊥
@@ -155,7 +156,7 @@ behind_start Standard segments text (inr is) empty =
 behind_start Wide segments text is empty = empty
 
 -- nor has one that doesn't begin with `//`
-one_slash_start : (profile : Profile) (text : List ℕ) → starts_with_two_slashes text ≡ false
+pub one_slash_start : (profile : Profile) (text : List ℕ) → starts_with_two_slashes text ≡ false
     → HasEmptyFirst profile text → ⊥
 one_slash_start Standard text start empty = false≢true (sym start ∙ empty)
 one_slash_start Wide text start empty = empty

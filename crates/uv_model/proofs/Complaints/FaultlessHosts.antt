@@ -28,7 +28,7 @@ use Rattle.uv_model.proofs.Complaints.UnitComplaintLemmas.{no_complaint-units}
 -- ---- what a text with a form isn't
 
 -- it isn't empty
-form_not_empty : (profile : Profile) (form : List ℕ) → IsForm profile [] form → ⊥
+pub form_not_empty : (profile : Profile) (form : List ℕ) → IsForm profile [] form → ⊥
 unfolding parser_form has_ace_prefix
 form_not_empty profile form is =
     let same : [] ≡ form = same_Some [] form is.parsed in
@@ -159,16 +159,6 @@ opaque_host_faultless text (Some (V4 value)) is place rule h = is
 opaque_host_faultless text (Some (V6 pieces)) is place rule h = bracketed_faultless text pieces is place rule h
 opaque_host_faultless text (Some (Opaque host)) is place rule h = is
 opaque_host_faultless text (Some Empty) is place rule h = is
-
--- and isn't empty
-pub opaque_host_not_empty : (text : List ℕ) (host : Option Host) → IsOpaqueHostText text host → text ≢ []
-opaque_host_not_empty text None is nothing = (let some = is.some in cc)
-opaque_host_not_empty text (Some (Domain form)) is nothing = is
-opaque_host_not_empty text (Some (V4 value)) is nothing = is
-opaque_host_not_empty text (Some (V6 pieces)) is nothing =
-    (let starts = bracketed_bracket text pieces is in false≢true (rw nothing at starts))
-opaque_host_not_empty text (Some (Opaque host)) is nothing = is
-opaque_host_not_empty text (Some Empty) is nothing = is
 
 -- the empty text has no complaint
 pub empty_opaque_faultless : (place : ℕ) (rule : Rule) → OpaqueHostComplaint [] place rule → ⊥

@@ -26,14 +26,14 @@ UnitComplaint-earlier c rest place Percent h = record { rest = h.rest; here = h.
 UnitComplaint-earlier c rest place _ h = absurd h
 
 -- no code point stands in the empty text
-nothing : (place c : ℕ) (rest : List ℕ) → drop place [] ≡ c ∷ rest → ⊥
-nothing zero c rest h = cc
-nothing (suc place) c rest h = cc
+pub nothing_at : (place c : ℕ) (rest : List ℕ) → drop place [] ≡ c ∷ rest → ⊥
+nothing_at zero c rest h = cc
+nothing_at (suc place) c rest h = cc
 
 -- the empty text has no fault
 pub UnitComplaint-nil : (place : ℕ) (rule : Rule) → UnitComplaint [] place rule → ⊥
-UnitComplaint-nil place CodePoint h = nothing place _ _ h.here
-UnitComplaint-nil place Percent h = nothing place _ _ h.here
+UnitComplaint-nil place CodePoint h = nothing_at place _ _ h.here
+UnitComplaint-nil place Percent h = nothing_at place _ _ h.here
 UnitComplaint-nil place _ h = h
 
 -- ---- the first code point of a text
@@ -54,10 +54,10 @@ UnitComplaint-here c rest fault =
     ]
 
 -- the code point and what follows it where the complaint stands at the first place
-head_same : (c d : ℕ) (rest behind : List ℕ) → c ∷ rest ≡ d ∷ behind → d ≡ c
+pub head_same : (c d : ℕ) (rest behind : List ℕ) → c ∷ rest ≡ d ∷ behind → d ≡ c
 head_same c d rest behind e = cc
 
-tail_same : (c d : ℕ) (rest behind : List ℕ) → c ∷ rest ≡ d ∷ behind → behind ≡ rest
+pub tail_same : (c d : ℕ) (rest behind : List ℕ) → c ∷ rest ≡ d ∷ behind → behind ≡ rest
 tail_same c d rest behind e = cc
 
 -- what a fault of the first code point says

@@ -34,7 +34,7 @@ is_without-passes test mark (c ∷ rest) fails each =
     ]
 
 -- two texts that pass a test make one
-passes-append : (test : ℕ → Bool) (xs ys : List ℕ) → list_all test xs ≡ true → list_all test ys ≡ true
+pub passes-append : (test : ℕ → Bool) (xs ys : List ℕ) → list_all test xs ≡ true → list_all test ys ≡ true
     → list_all test (xs ++ ys) ≡ true
 passes-append test xs ys first second = list_all-append test xs ys ∙ and_from _ _ first second
 

@@ -119,7 +119,7 @@ pub record IsPathEnd (text : List ℕ) : Type 0 where
   pub word : IsPathWord text
   pub start : text ≢ [] → starts_with_slash text ≡ true
 
-path_behind : (segments : List (List ℕ)) (text : List ℕ) → MayBePathSlashed segments text → IsPathEnd text
+pub path_behind : (segments : List (List ℕ)) (text : List ℕ) → MayBePathSlashed segments text → IsPathEnd text
 path_behind segments text (inl (nothing, none)) = record {
   word = rw nothing (record { no_question_mark = refl; no_number_sign = refl });
   start = λ some. absurd (some nothing);

@@ -88,7 +88,7 @@ file_host_not_empty profile text value is =
     host_not_empty profile text other host
 
 -- nor an opaque host
-opaque_not_empty : (text : List ℕ) (host : Option Host) → IsOpaqueHostText text host → text ≢ []
+pub opaque_not_empty : (text : List ℕ) (host : Option Host) → IsOpaqueHostText text host → text ≢ []
 opaque_not_empty text None is nothing = (let some = is.some in absurd cc)
 opaque_not_empty text (Some (V6 pieces)) is nothing = host_not_empty Standard text (V6 pieces) is nothing
 opaque_not_empty text (Some (Domain form)) is nothing = is

@@ -12,6 +12,7 @@ use Rattle.std.proofs.lemmas.Str.{encodes-append, encode_ascii, length-le-encode
 use Rattle.idna.specs.Labels.{is_full_stop}
 use Rattle.uv_model.specs.Ascii.{full_stop}
 use Rattle.uv_model.specs.Hosts.Domain.{without_root, last_label, is_digits, is_hexadecimal, ends_in_number}
+use Rattle.uv_model.proofs.Texts.UnitsLemmas.{beyond_no_hex}
 
 -- no code point of the text is a full stop
 abbrev pub HasNoStop : List ℕ → Type 0
@@ -276,10 +277,6 @@ after_last-encoded text =
 not_digit : (c : ℕ) → 128 ≤ c → is_ascii_digit c ≡ false
 not_digit c high = grind (arith, nat_tests)
 
--- a code point beyond ASCII is no hex digit
-not_hexdigit : (c : ℕ) → 128 ≤ c → is_ascii_hexdigit c ≡ false
-not_hexdigit c high = grind (arith, nat_tests)
-
 -- a label of digits is one of its bytes
 is_digits-encoded : (label : List ℕ) → is_digits (encode_utf8_all label) ≡ is_digits label
 is_digits-encoded [] = refl
@@ -312,7 +309,7 @@ is_hexadecimal-encoded (c ∷ label) =
     second c [] = refl
     second c (d ∷ label) =
         elim (encoded_cases d) [
-          | inl (small, same) ↦ rw (same, list_all-encoded is_ascii_hexdigit not_hexdigit label) refl
+          | inl (small, same) ↦ rw (same, list_all-encoded is_ascii_hexdigit beyond_no_hex label) refl
           | inr (high, is) ↦
               let one : (0x78 == is.first) ≡ false =
               ne_eqb 0x78 is.first (λ e. absurd (omega (arith, is.first_high))) in

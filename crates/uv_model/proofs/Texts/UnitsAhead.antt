@@ -1,10 +1,8 @@
 -- Units where more text follows them, as the parser machine's states look ahead: what is no fault in a text is none
 -- with more behind it, and `#` is a fault wherever it stands.
 use Rattle.std.proofs.Common.{◌≡◌, ℕ, true, false, inl, inr, ◌==◌, List, [], ◌∷◌, ◌++◌}
-use Rattle.std.specs.Prelude.{if◌then◌else◌}
-use Rattle.std.proofs.lemmas.Bool.{false≢true, cases_Bool, and_parts, eqb-true}
+use Rattle.std.proofs.lemmas.Bool.{false≢true, cases_Bool, eqb-true}
 use Rattle.uv_model.specs.Ascii.{number_sign, percent_sign}
-use Rattle.uv_model.specs.Path.{is_without}
 use Rattle.uv_model.specs.Units.{is_url_code_point, starts_with_two_hex, is_unit_at}
 
 -- two hex digits stay with more text behind them
@@ -29,14 +27,4 @@ unit_not_number_sign c rest ok =
     elim (cases_Bool (c == number_sign)) [
       | inl same ↦ absurd (false≢true (rw (eqb-true c number_sign same) at ok))
       | inr other ↦ other
-    ]
-
--- a text without a mark begins with another code point, and goes on without the mark
-pub without_parts : (mark c : ℕ) (cs : List ℕ) → is_without mark (c ∷ cs) ≡ true
-    → ((c == mark) ≡ false) × (is_without mark cs ≡ true)
-without_parts mark c cs without =
-    let parts = and_parts (if c == mark then false else true) (is_without mark cs) without in
-    elim (cases_Bool (c == mark)) [
-      | inl same ↦ absurd (false≢true (rw same at parts.0))
-      | inr other ↦ (other, parts.1)
     ]

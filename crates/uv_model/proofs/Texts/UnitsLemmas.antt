@@ -5,7 +5,6 @@ use Rattle.std.specs.Char.{encode_utf8, is_ascii_hexdigit}
 use Rattle.std.specs.Str.{IsUtf8}
 use Rattle.std.proofs.lemmas.Bool.{false≢true, and_parts, and_from, and_left, and_right, cases_eq, cases_lt, ne_eqb}
 use Rattle.std.proofs.lemmas.Bool.Decides.{nat_tests}
-use Rattle.std.proofs.Math.Bool.{and_assoc}
 use Rattle.std.proofs.lemmas.List.Folds.{list_all-append, concat-append}
 use Rattle.std.proofs.lemmas.Str.{encode_ascii, encodes-chars}
 use Rattle.uv_model.specs.Ascii.{percent_sign}
@@ -164,7 +163,7 @@ encode_beyond P high c beyond =
       ]
     ]
 
-beyond_no_hex : (b : ℕ) → 128 ≤ b → is_ascii_hexdigit b ≡ false
+pub beyond_no_hex : (b : ℕ) → 128 ≤ b → is_ascii_hexdigit b ≡ false
 beyond_no_hex b beyond = grind (arith, nat_tests)
 
 -- no two hex digits stand where the first is beyond ASCII

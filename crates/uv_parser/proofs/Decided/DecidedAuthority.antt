@@ -20,9 +20,8 @@ use Rattle.uv_model.proofs.Cuts.AuthorityCutLemmas.{ends_from_start}
 use Rattle.uv_parser.proofs.Done.DoneAuthority.{reads_from}
 use Rattle.uv_parser.proofs.Loops.FileHosts.{and_true-right}
 use Rattle.uv_parser.proofs.HostParsing.HostsParsed.{has_some}
-use Rattle.uv_model.proofs.Texts.MarkLemmas.{is_without-more, is_without-parts}
+use Rattle.uv_model.proofs.Texts.MarkLemmas.{is_without-more, is_without-parts, is_without-cons}
 use Rattle.uv_parser.proofs.Running.Steps.{Stops, ends_again, ends_after, stops_here, ends_step}
-use Rattle.uv_model.proofs.Texts.UnitsAhead.{without_parts}
 
 -- a text without the three marks that end an authority
 pub record IsUnended (text : List ℕ) : Type 0 where
@@ -34,9 +33,9 @@ pub record IsUnended (text : List ℕ) : Type 0 where
 pub unended_behind : (c : ℕ) (cs : List ℕ) → IsUnended (c ∷ cs)
     → ((c == slash) ≡ false) × ((c == question_mark) ≡ false) × ((c == number_sign) ≡ false) × IsUnended cs
 unended_behind c cs is =
-    let a = without_parts slash c cs is.no_slash in
-    let b = without_parts question_mark c cs is.no_question_mark in
-    let d = without_parts number_sign c cs is.no_number_sign in
+    let a = is_without-cons slash c cs is.no_slash in
+    let b = is_without-cons question_mark c cs is.no_question_mark in
+    let d = is_without-cons number_sign c cs is.no_number_sign in
     (a.0, b.0, d.0, record { no_slash = a.1; no_question_mark = b.1; no_number_sign = d.1 })
 
 -- a port holds none of these marks where the authority holds none

@@ -14,7 +14,8 @@ use Rattle.uv_parser.proofs.Running.Steps.{Reaches, reaches_none, onward_then, S
 use Rattle.uv_parser.proofs.Loops.StoppingLoops.{path_stops}
 use Rattle.uv_parser.proofs.Loops.Tails.{tail}
 use Rattle.uv_parser.proofs.Decided.TailsDecided.{MayBeWithoutNumberSign, PassesToTail, no_hex_tail, tail_decided}
-use Rattle.uv_model.proofs.Texts.UnitsAhead.{is_unit_at-ahead, without_parts}
+use Rattle.uv_model.proofs.Texts.UnitsAhead.{is_unit_at-ahead}
+use Rattle.uv_model.proofs.Texts.MarkLemmas.{is_without-cons}
 
 -- the path, the query and the fragment are units
 abbrev pub AreFine : List ℕ → Option (List ℕ) → Option (List ℕ) → Type 0
@@ -42,7 +43,7 @@ module _ (base : Option Url) where
   path_reads [] rest v units none = (v, reaches_none base PathState v rest)
   path_reads (c ∷ cs) rest v units none =
       let unit = and_parts (is_unit_at c cs) (is_faultless cs) units in
-      let other = without_parts question_mark c cs none in
+      let other = is_without-cons question_mark c cs none in
       elim (cases_Bool (c == slash)) [
         | inl is ↦
             let later = path_reads cs rest (segment_ended true v) unit.1 other.1 in
@@ -108,8 +109,8 @@ module _ (base : Option Url) where
       ]
   path_start_decided (c ∷ path) query fragment v free start =
       let is : c ≡ slash = eqb-true c slash (start (λ same. cc)) in
-      let question = without_parts question_mark c path free.question_mark in
-      let number = without_parts number_sign c path free.number_sign in
+      let question = is_without-cons question_mark c path free.question_mark in
+      let number = is_without-cons number_sign c path free.number_sign in
       let behind : FreeOfMarks path query
       = record { question_mark = question.1; number_sign = number.1; query = free.query } in
       elim (path_decided path query fragment v behind) [

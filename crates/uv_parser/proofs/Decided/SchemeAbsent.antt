@@ -11,16 +11,13 @@ use Rattle.uv_model.specs.Records.Url.{Url}
 use Rattle.uv_model.specs.Valid.{goes_on_to_colon, starts_with_scheme}
 use Rattle.uv_parser.proofs.Counting.RunsEnded.{ended_within_bound}
 use Rattle.uv_parser.proofs.Running.Steps.{Ending, EndsAs, HasEnded, Leads, at, drop_one, leads_none, leads_step, leads_then, step_at}
+use Rattle.uv_parser.proofs.Loops.Looping.{scheme_row_on}
 
 -- Some steps lead to the no scheme state at the first place, with this buffer emptied.
 abbrev ComesBack : Option Url → List ℕ → State → ℕ → Variables → Type 0
 ComesBack base text s p v = (n : ℕ) × Leads base text (at s p v) n (at NoSchemeState 0 (emptied v))
 
 module _ (base : Option Url) (text : List ℕ) where
-  scheme_row_on : (c : ℕ) (rest : List ℕ) (v : Variables) (p : ℕ) → is_scheme_code_point c ≡ true
-      → turn base SchemeState p v (c ∷ rest) ≡ onward SchemeState (put (to_ascii_lowercase c) v)
-  scheme_row_on c rest v p ok = rw ok refl
-
   scheme_row_back : (c : ℕ) (rest : List ℕ) (v : Variables) (p : ℕ) → is_scheme_code_point c ≡ false
       → (c == colon) ≡ false
       → turn base SchemeState p v (c ∷ rest) ≡ from_place 0 NoSchemeState (emptied v)
@@ -44,7 +41,7 @@ module _ (base : Option Url) (text : List ℕ) where
             let (n, later) = scheme_back cs (p + 1) (put (to_ascii_lowercase c) v) (drop_one text p c cs e) more in
             let one : step base text (record { state = SchemeState; pointer = p; variables = v })
             ≡ at SchemeState (p + 1) (put (to_ascii_lowercase c) v)
-            = step_at base text SchemeState p v (c ∷ cs) e ∙ ap (settle p (c ∷ cs)) (scheme_row_on c cs v p ok) in
+            = step_at base text SchemeState p v (c ∷ cs) e ∙ ap (settle p (c ∷ cs)) (scheme_row_on base c cs v p ok) in
             (suc n, leads_step base text _ n _ _ one later)
         | inr other ↦
             back_at_once SchemeState p v (c ∷ cs) e

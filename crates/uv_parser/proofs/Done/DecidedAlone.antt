@@ -27,10 +27,15 @@ alone_stops text none =
       | inr (p, removed) ↦ removed_stops None text p removed
     ]
 
+-- a text that is there
+pub option_some : (o : Option (List ℕ)) → IsSome o → (text : List ℕ) × (o ≡ Some text)
+option_some None some = absurd (false≢true some)
+option_some (Some text) some = (text, refl)
+
 -- a text that is silent without a base begins with a scheme
 silent_starts : (text : List ℕ) (parts : Parts) → Silent None text parts → starts_with_scheme text ≡ true
 silent_starts text parts is =
-    let (scheme, named) = scheme_there parts.scheme is.against in
+    let (scheme, named) = option_some parts.scheme is.against in
     let spelled : is_scheme scheme ≡ true
     = subst (λ (o : Option (List ℕ)). IsSchemeCut o (written_middle (texts_of parts))) named is.cut.scheme in
     let text_is = cut_text None text parts.scheme parts.host_text parts.port_text parts.path_text parts.query
@@ -40,10 +45,6 @@ silent_starts text parts is =
     let whole : text ≡ scheme ++ colon ∷ rest
     = text_is ∙ (ap (λ o. written_scheme o ++ rest) named ∙ append_assoc scheme (colon ∷ []) rest) in
     ap starts_with_scheme whole ∙ starts_with_written_scheme scheme rest spelled
-  where
-    scheme_there : (scheme : Option (List ℕ)) → IsSome scheme → (name : List ℕ) × (scheme ≡ Some name)
-    scheme_there None some = absurd (false≢true some)
-    scheme_there (Some name) some = (name, refl)
 
 -- each text is decided
 pub texts_alone_are_decided : (text : List ℕ) → IsDecided None text

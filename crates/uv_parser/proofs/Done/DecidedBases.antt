@@ -1,10 +1,9 @@
 -- Against no base and against each well-formed base each text is decided.
-use Rattle.std.proofs.Common.{◌≡◌, ℕ, true, false, not, ◌⊎◌, List, [], ◌∷◌, ◌++◌, codes, Option, Some, None, refl, sym, ap, subst, ◌∙◌, inl, inr, arith}
+use Rattle.std.proofs.Common.{◌≡◌, ℕ, true, false, not, ◌⊎◌, List, [], ◌∷◌, ◌++◌, codes, Option, Some, None, refl, sym, ap, subst, ◌∙◌, inl, inr}
 use Rattle.std.specs.Prelude.{IsSome}
 use Rattle.std.specs.List.{list_all}
-use Rattle.std.specs.Char.{is_ascii_uppercase, to_ascii_lowercase}
+use Rattle.std.specs.Char.{is_ascii_uppercase}
 use Rattle.std.proofs.lemmas.Bool.{and_parts, cases_Bool, false≢true, not-true, true≢false}
-use Rattle.std.proofs.lemmas.Bool.Decides.{nat_tests}
 use Rattle.uv_model.specs.declared.host.Host.{Host}
 use Rattle.uv_model.specs.declared.profile.Profile.TheVariants.{Wide}
 use Rattle.uv_model.specs.declared.scheme.Class.{Class}
@@ -22,7 +21,7 @@ use Rattle.uv_model.specs.Records.Url.{Url, is_opaque}
 use Rattle.uv_model.specs.Valid.{FitsScheme}
 use Rattle.uv_model.specs.Records.WellFormed.{IsUrlPath, IsUrlPort, MayBeWellFormed, WellFormed, takes_port}
 use Rattle.uv_parser.proofs.Done.Decided.{is_decided, takes_form}
-use Rattle.uv_parser.proofs.Done.DecidedAlone.{texts_alone_are_decided}
+use Rattle.uv_parser.proofs.Done.DecidedAlone.{option_some, texts_alone_are_decided}
 use Rattle.uv_parser.proofs.Decided.AuthorityTexts.{class_cases}
 use Rattle.uv_parser.proofs.Done.DecidedTexts.{scheme_done}
 use Rattle.uv_parser.proofs.Done.DoneBases.{other_reference_done, special_reference_done}
@@ -34,25 +33,23 @@ use Rattle.uv_parser.proofs.Decided.SilentOrStopped.{silent_or_stops}
 use Rattle.uv_parser.proofs.Silence.SilentSchemes.{special_of_class}
 use Rattle.uv_parser.proofs.Running.Steps.{ends_step}
 use Rattle.uv_parser.proofs.Loops.Tails.{fragment_ends, tail}
+use Rattle.uv_model.proofs.SchemeLemmas.{lowercase_code_point}
 
 -- ---- what well-formed bases are
-
-lower_code_point : (c : ℕ) → is_ascii_uppercase c ≡ false → to_ascii_lowercase c ≡ c
-lower_code_point c passes = grind (arith, nat_tests)
 
 -- a text without upper case is its own lower case
 pub lower_same : (xs : List ℕ) → list_all (λ c. not (is_ascii_uppercase c)) xs ≡ true → lowercase xs ≡ xs
 lower_same [] each = refl
 lower_same (c ∷ xs) each =
     let parts = and_parts (not (is_ascii_uppercase c)) _ each in
-    rw (lower_code_point c (not-true _ parts.0), lower_same xs parts.1) refl
+    rw (lowercase_code_point c (not-true _ parts.0), lower_same xs parts.1) refl
 
 port_absent : (scheme : List ℕ) (host : Option Host) (port : Option ℕ) → IsUrlPort scheme host port
     → takes_port (scheme_class scheme) host ≡ false → port ≡ None
 port_absent scheme host None is none = refl
 port_absent scheme host (Some port) is none = absurd (true≢false (sym is.0 ∙ none))
 
-takes_none : (class : Class) → takes_port class None ≡ false
+pub takes_none : (class : Class) → takes_port class None ≡ false
 takes_none Special = refl
 takes_none File = refl
 takes_none Other = refl
@@ -71,10 +68,6 @@ opaque_facts url is opaque = by_path url.path refl is.path
     by_path (Segments list) e fits = absurd (false≢true (sym (ap is_opaque e) ∙ opaque))
 
 -- ---- a base with an opaque path
-
-option_some : (o : Option (List ℕ)) → IsSome o → (text : List ℕ) × (o ≡ Some text)
-option_some None some = absurd (false≢true some)
-option_some (Some text) some = (text, refl)
 
 opaque_base_done : (url : Url) (text : List ℕ) (parts : Parts) → WellFormed Wide url → is_opaque url.path ≡ true
     → Silent (Some url) text parts → parts.scheme ≡ None → parts.form ≡ NoPath → parts.query ≡ None

@@ -31,11 +31,10 @@ use Rattle.uv_parser.proofs.Loops.FileHosts.{IsFileRead}
 use Rattle.uv_parser.proofs.HostParsing.HostsParsed.{has_some, parsed_some}
 use Rattle.uv_parser.proofs.HostParsing.OtherHosts.{silent_other_hosts_are_valid}
 use Rattle.uv_parser.proofs.HostParsing.OtherHostsTaken.{other_hosts_are_taken}
-use Rattle.uv_model.proofs.Texts.MarkLemmas.{is_without-parts}
+use Rattle.uv_model.proofs.Texts.MarkLemmas.{is_without-parts, is_without-cons}
 use Rattle.uv_parser.proofs.Loops.SchemeStretch.{scheme_there}
 use Rattle.uv_parser.proofs.Silence.SilentAuthority.{HasParsed, authority_runs, is_special_scheme, not_special, other_starts, special_some, special_starts, valued_some}
 use Rattle.uv_parser.proofs.Silence.SilentFile.{HasFileHost, empty_host_ends, file_host_ends, file_runs}
-use Rattle.uv_model.proofs.Texts.UnitsAhead.{without_parts}
 use Rattle.uv_model.proofs.Cuts.ValidCutLemmas.{written_as_cut}
 
 -- ---- what the cut says of a host text
@@ -46,17 +45,17 @@ pub letters_from : (special : Bool) (cs : List ℕ) → is_without slash cs ≡ 
     → (special ≡ true → is_without backslash cs ≡ true) → list_all (is_authority_letter special) cs ≡ true
 letters_from special [] a b d e f = refl
 letters_from special (c ∷ cs) a b d e f =
-    let a = without_parts slash c cs a in
-    let b = without_parts question_mark c cs b in
-    let d = without_parts number_sign c cs d in
-    let e = without_parts at_sign c cs e in
+    let a = is_without-cons slash c cs a in
+    let b = is_without-cons question_mark c cs b in
+    let d = is_without-cons number_sign c cs d in
+    let e = is_without-cons at_sign c cs e in
     let mark = no_backslash special c cs f in
     let first : is_authority_letter special c ≡ true = simp (a.0, b.0, d.0, e.0, mark) refl in
-    and_from _ _ first (letters_from special cs a.1 b.1 d.1 e.1 (λ is. (without_parts backslash c cs (f is)).1))
+    and_from _ _ first (letters_from special cs a.1 b.1 d.1 e.1 (λ is. (is_without-cons backslash c cs (f is)).1))
   where
     no_backslash : (special : Bool) (c : ℕ) (cs : List ℕ) → (special ≡ true → is_without backslash (c ∷ cs) ≡ true)
         → ((c == backslash) && special) ≡ false
-    no_backslash true c cs f = and_left _ _ (without_parts backslash c cs (f refl)).0
+    no_backslash true c cs f = and_left _ _ (is_without-cons backslash c cs (f refl)).0
     no_backslash false c cs f = and_right (c == backslash) false refl
 
 -- the host state reads the whole host text of a cut

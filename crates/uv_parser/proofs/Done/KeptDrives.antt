@@ -26,8 +26,8 @@ use Rattle.uv_parser.proofs.Loops.AuthorityStarts.{file_variables}
 use Rattle.uv_parser.proofs.Silence.SilentSchemes.{special_of_class}
 use Rattle.uv_parser.proofs.Running.Steps.{ends_again, ends_step}
 use Rattle.uv_parser.proofs.Loops.Tails.{no_slash_before_tail, tail}
-use Rattle.uv_model.proofs.Texts.UnitsAhead.{without_parts}
 use Rattle.uv_model.proofs.Texts.UnitsLemmas.{is_faultless-units}
+use Rattle.uv_model.proofs.Texts.MarkLemmas.{is_without-cons}
 
 -- the three delimiters
 delimiters : (d : ℕ) (more : List ℕ) → IsDelimiter (at_pointer (d ∷ more))
@@ -89,10 +89,10 @@ drive_before (c ∷ m ∷ x ∷ more) rest is ends =
     let second = (and_parts (is_unit_at c (m ∷ x ∷ more)) (is_faultless (m ∷ x ∷ more)) units).1 in
     let third = (and_parts (is_unit_at m (x ∷ more)) (is_faultless (x ∷ more)) second).1 in
     let unit = (and_parts (is_unit_at x more) (is_faultless more) third).0 in
-    let a = without_parts slash x more
-    (without_parts slash m (x ∷ more) (without_parts slash c (m ∷ x ∷ more) is.no_slash).1).1 in
-    let b = without_parts question_mark x more
-    (without_parts question_mark m (x ∷ more) (without_parts question_mark c (m ∷ x ∷ more) is.no_question_mark).1).1 in
+    let a = is_without-cons slash x more
+    (is_without-cons slash m (x ∷ more) (is_without-cons slash c (m ∷ x ∷ more) is.no_slash).1).1 in
+    let b = is_without-cons question_mark x more
+    (is_without-cons question_mark m (x ∷ more) (is_without-cons question_mark c (m ∷ x ∷ more) is.no_question_mark).1).1 in
     and_right (is_drive_letter (c ∷ m ∷ [])) _ (no_drive_end x more (more ++ rest) unit a.0 b.0)
 
 delimits_tail : (query fragment : Option (List ℕ)) → IsDelimiter (at_pointer (tail query fragment))

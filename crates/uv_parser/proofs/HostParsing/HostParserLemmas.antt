@@ -7,7 +7,7 @@ use Rattle.std.proofs.lemmas.Bool.Decides.{nat_tests}
 use Rattle.std.proofs.lemmas.List.Elements.{All-weaker, All-head, All-tail}
 use Rattle.std.proofs.lemmas.List.Folds.{list_any_none}
 use Rattle.std.proofs.lemmas.List.Sums.{AllPass-from_list_all}
-use Rattle.std.proofs.lemmas.Option.{none-some, same_Some}
+use Rattle.std.proofs.lemmas.Option.{none-some}
 use Rattle.std.proofs.lemmas.Str.{chars-encodes, encodes_same, encodes-IsAscii, IsUtf8-from_ascii, IsUtf8-from_is_utf8, is_utf8-from_IsUtf8}
 use Rattle.std.proofs.lemmas.Str.Ascii.{IsAscii-from_all}
 use Rattle.std.proofs.NetLemmas.Alphabet.{IsDigitOrDot}
@@ -17,14 +17,13 @@ use Rattle.idna.specs.declared.deny_list.TheConstants.AsciiDenyList.{EMPTY}
 use Rattle.idna.specs.declared.options.DnsLength.TheVariants.{Ignore}
 use Rattle.idna.specs.declared.options.Hyphens.TheVariants.{Allow}
 use Rattle.idna.specs.Uts46.{process_utf8}
-use Rattle.idna.specs.Validity.{has_ace_prefix}
 use Rattle.idna.proofs.Uts46Lemmas.{to_ascii-invalid}
 use Rattle.uv_model.specs.declared.profile.Profile.{Profile}
 use Rattle.uv_model.specs.declared.profile.Profile.TheVariants.{Standard, Wide}
 use Rattle.uv_model.specs.declared.host.Host.TheVariants.{Domain, V4, Opaque}
 use Rattle.uv_model.specs.Hosts.Address.{IsIpv4}
 use Rattle.uv_model.specs.Ascii.{percent_sign, full_stop, left_bracket, right_bracket}
-use Rattle.uv_model.specs.Hosts.Domain.{is_permitted, has_permitted, is_form_code_point, has_lengths, parser_form, IsForm, IsDomain}
+use Rattle.uv_model.specs.Hosts.Domain.{is_permitted, has_permitted, is_form_code_point, has_lengths, parser_form, IsDomain}
 use Rattle.uv_model.specs.Encoding.{encoded}
 use Rattle.uv_parser.specs.HostParser.{is_forbidden_domain, is_faultless_host, percent_decoded, parse_domain, parse_host, DomainsAreParsed, Ipv4HostsAreParsed, Ipv6HostsAreParsed, OpaqueHostsAreParsed, EmptyHostIsParsed}
 use Rattle.uv_model.specs.Hosts.OpaqueHost.{is_forbidden_host}
@@ -35,6 +34,7 @@ use Rattle.uv_parser.proofs.HostParsing.Ipv6ParserLemmas.{ipv6_parsed}
 use Rattle.uv_model.proofs.Hosts.LastLabelLemmas.{All-encoded, last_of}
 use Rattle.uv_model.proofs.Texts.UnitsLemmas.{is_faultless-units}
 use Rattle.uv_model.proofs.Hosts.Ipv4Domains.{form_byte, no_percent, ascii_byte, all_simple, ends_in_number-ipv4, parser_form-ipv4}
+use Rattle.uv_model.proofs.Complaints.FaultlessHosts.{form_not_empty}
 
 -- ---- percent-decoding
 
@@ -121,13 +121,6 @@ no_percent-permitted profile text h =
     not_percent Standard c h e = false≢true (ap (is_permitted Standard) (sym e) ∙ h)
     not_percent Wide c h e = false≢true (ap (is_permitted Wide) (sym e) ∙ h)
 
--- the empty text has no form
-no_form-empty : (profile : Profile) (form : List ℕ) → IsForm profile [] form → ⊥
-unfolding parser_form has_ace_prefix
-no_form-empty profile form is =
-    let same : [] ≡ form = same_Some [] form is.parsed in
-    false≢true (ap has_lengths same ∙ is.lengths)
-
 -- a valid domain is read by the parser of domains as its form
 parse_domain-valid : (profile : Profile) (text form : List ℕ) → IsDomain profile text form →
     parse_domain text ≡ Some (Domain form)
@@ -140,7 +133,7 @@ parse_domain-valid profile text form (is, other) =
 -- a valid domain is parsed as the domain of its form
 pub domains_are_parsed : DomainsAreParsed
 unfolding parse_host
-domains_are_parsed profile [] form is = absurd (no_form-empty profile form is.0)
+domains_are_parsed profile [] form is = absurd (form_not_empty profile form is.0)
 domains_are_parsed profile (c ∷ rest) form is =
     rw (not_bracket profile c rest is.0.permitted) (parse_domain-valid profile (c ∷ rest) form is)
 

@@ -25,6 +25,7 @@ use Rattle.uv_model.proofs.SchemeLemmas.{default_port-lowercase}
 use Rattle.uv_parser.proofs.Loops.SchemeStretch.{scheme_variables}
 use Rattle.uv_parser.proofs.Running.Steps.{Ends, Reaches, ends_after, ends_again, ends_step}
 use Rattle.uv_parser.proofs.Loops.Tails.{tail, with_tail}
+use Rattle.uv_parser.proofs.Running.RunsStopped.{place_cases}
 
 -- the variables behind the authority
 abbrev pub hosted : List ℕ → Host → Option ℕ → Variables
@@ -39,16 +40,11 @@ delimits segments path None (Some fragment) (inl none) = rw none.0 tt
 delimits segments path None None (inl none) = rw none.0 tt
 delimits segments path query fragment (inr behind) = rw behind.slashed tt
 
--- an option is none or some
-option_cases : (o : Option ℕ) → (o ≡ None) ⊎ ((n : ℕ) × (o ≡ Some n))
-option_cases None = inl refl
-option_cases (Some n) = inr (n, refl)
-
 -- the port that the machine gives is the one that is denoted
 port_is_given : (scheme text : List ℕ) → port_in (lowercase scheme) text ≡ port_given (default_port scheme) (Some text)
 port_is_given scheme [] = refl
 port_is_given scheme (digit ∷ rest) =
-    elim (option_cases (default_port scheme)) [
+    elim (place_cases (default_port scheme)) [
       | inl none ↦ rw (default_port-lowercase scheme, none) refl
       | inr (port, some) ↦ rw (default_port-lowercase scheme, some) refl
     ]

@@ -22,8 +22,7 @@ use Rattle.uv_model.specs.Records.Url.{Url}
 use Rattle.uv_model.specs.Valid.{IsFileHostText, without_localhost}
 use Rattle.uv_parser.proofs.Loops.AuthorityLoops.{IsDelimiter, is_authority_letter, letter}
 use Rattle.uv_parser.proofs.HostParsing.HostParserLemmas.{domains_are_parsed, ipv4_hosts_are_parsed, ipv6_hosts_are_parsed}
-use Rattle.uv_model.proofs.Texts.MarkLemmas.{is_without-more}
-use Rattle.uv_model.proofs.Texts.UnitsAhead.{without_parts}
+use Rattle.uv_model.proofs.Texts.MarkLemmas.{is_without-more, is_without-cons}
 use Rattle.uv_parser.proofs.Loops.HostTextsRead.{IsReadWhole, dotted_numbers, is_dotted, read_domain, read_ipv4, read_ipv6}
 use Rattle.uv_parser.proofs.Running.Steps.{Reaches, reaches_none, onward_then}
 
@@ -41,10 +40,10 @@ pub file_host_law : (base : Option Url) (cs rest : List ℕ) (v : Variables) →
     → Reaches base FileHostState v (cs ++ rest) FileHostState (with_more cs v) rest
 file_host_law base [] rest v is = rw (append-nil v.buffer) (reaches_none base FileHostState v rest)
 file_host_law base (c ∷ cs) rest v is =
-    let a = without_parts slash c cs is.no_slash in
-    let b = without_parts question_mark c cs is.no_question_mark in
-    let d = without_parts number_sign c cs is.no_number_sign in
-    let e = without_parts backslash c cs is.no_backslash in
+    let a = is_without-cons slash c cs is.no_slash in
+    let b = is_without-cons question_mark c cs is.no_question_mark in
+    let d = is_without-cons number_sign c cs is.no_number_sign in
+    let e = is_without-cons backslash c cs is.no_backslash in
     let later : IsFileText cs
     = record { no_slash = a.1; no_question_mark = b.1; no_number_sign = d.1; no_backslash = e.1 } in
     rw (← append_assoc v.buffer (c ∷ []) cs)

@@ -1,5 +1,5 @@
 -- What the parser machine reads of a valid host text: all of it, since it holds letters of an authority alone.
-use Rattle.std.proofs.Common.{◌≡◌, ℕ, ◌<◌, ◌≤◌, Bool, true, false, not, ◌&&◌, ◌||◌, ◌==◌, List, [], ◌∷◌, ◌++◌, length, codes, decimal, refl, lt-ltb, ne_eqb, ◌∙◌, inl, inr, arith}
+use Rattle.std.proofs.Common.{◌≡◌, ℕ, ◌<◌, ◌≤◌, Bool, true, false, not, ◌&&◌, ◌||◌, ◌==◌, List, [], ◌∷◌, ◌++◌, length, codes, decimal, refl, lt-ltb, ne_eqb, inl, inr, arith}
 use Rattle.std.specs.Prelude.{nat_lt}
 use Rattle.std.specs.List.{list_all}
 use Rattle.std.specs.Char.{is_ascii_digit, is_ascii_hexdigit}
@@ -16,6 +16,7 @@ use Rattle.uv_parser.proofs.Loops.AuthorityLoops.{is_authority_letter}
 use Rattle.uv_model.proofs.Hosts.Ipv4Domains.{digits_alone}
 use Rattle.uv_model.proofs.Texts.UnitsLemmas.{is_faultless-units}
 use Rattle.uv_parser.proofs.Running.Unremoved.{is_unremoved, unremoved_faultless}
+use Rattle.uv_model.proofs.Cuts.HostCutLemmas.{passes-weaker, passes-append}
 
 -- The text holds letters of an authority alone, and none of its code points is ever removed.
 pub record IsReadWhole (text : List ℕ) : Type 0 where
@@ -125,21 +126,9 @@ is_dotted c = is_ascii_digit c || (c == full_stop)
 abbrev is_inner : ℕ → Bool
 is_inner c = is_ascii_hexdigit c || ((c == colon) || (c == full_stop))
 
--- what holds of each code point of a text holds by a weaker test
-weaker : (p q : ℕ → Bool) → ((c : ℕ) → p c ≡ true → q c ≡ true) → (text : List ℕ) → list_all p text ≡ true
-    → list_all q text ≡ true
-weaker p q step [] is = refl
-weaker p q step (c ∷ rest) is =
-    let parts = and_parts (p c) (list_all p rest) is in
-    and_from _ _ (step c parts.0) (weaker p q step rest parts.1)
-
--- the parts of a joined text
-joined : (p : ℕ → Bool) (xs ys : List ℕ) → list_all p xs ≡ true → list_all p ys ≡ true → list_all p (xs ++ ys) ≡ true
-joined p xs ys first second = list_all-append p xs ys ∙ and_from _ _ first second
-
 dotted_decimal : (n : ℕ) → n < 256 → list_all is_dotted (decimal n) ≡ true
 dotted_decimal n small =
-    weaker is_ascii_digit is_dotted (λ c digit. or_left (is_ascii_digit c) (c == full_stop) digit) (decimal n)
+    passes-weaker is_ascii_digit is_dotted (λ c digit. or_left (is_ascii_digit c) (c == full_stop) digit) (decimal n)
     (and_parts (nat_lt 0 (length (decimal n))) (list_all is_ascii_digit (decimal n)) (digits_alone n small)).1
 
 -- four numbers with full stops between them are digits and full stops
@@ -160,11 +149,11 @@ inner_dotted c is = grind (arith, nat_tests)
 -- an IPv4 text is read
 pub read_ipv4 : (text : List ℕ) (value : ℕ) → IsIpv4 text value → IsReadWhole text
 read_ipv4 text value (a, b, c, d, is, e) =
-    read_plain text (weaker is_dotted is_plain plain_dotted text (dotted_numbers a b c d text is))
+    read_plain text (passes-weaker is_dotted is_plain plain_dotted text (dotted_numbers a b c d text is))
 
 inner_digits : (text : List ℕ) → list_all is_ascii_hexdigit text ≡ true → list_all is_inner text ≡ true
 inner_digits text is =
-    weaker is_ascii_hexdigit is_inner
+    passes-weaker is_ascii_hexdigit is_inner
     (λ c hex. or_left (is_ascii_hexdigit c) ((c == colon) || (c == full_stop)) hex) text is
 
 inner_groups : (dotted : Bool) (text pieces : List ℕ) → IsGroupList dotted text pieces → list_all is_inner text ≡ true
@@ -172,9 +161,9 @@ inner_groups dotted text [] h = absurd h
 inner_groups dotted text (p ∷ []) h = inner_digits text h.digits
 inner_groups dotted text (p ∷ q ∷ rest) (inl (group, others, split, is, more)) =
     rw split
-    (joined is_inner group (colon ∷ others) (inner_digits group is.digits) (inner_groups dotted others (q ∷ rest) more))
+    (passes-append is_inner group (colon ∷ others) (inner_digits group is.digits) (inner_groups dotted others (q ∷ rest) more))
 inner_groups dotted text (p ∷ q ∷ rest) (inr (allowed, none, (a, b, c, d, is, first, second))) =
-    weaker is_dotted is_inner inner_dotted text (dotted_numbers a b c d text is)
+    passes-weaker is_dotted is_inner inner_dotted text (dotted_numbers a b c d text is)
 
 inner_side : (dotted : Bool) (text pieces : List ℕ) → IsSide dotted text pieces → list_all is_inner text ≡ true
 inner_side dotted text pieces (inl (nothing, none)) = rw nothing refl
@@ -184,8 +173,8 @@ inner_ipv6 : (text pieces : List ℕ) → IsIpv6 text pieces → list_all is_inn
 inner_ipv6 text pieces (inl (list, eight)) = inner_groups true text pieces list
 inner_ipv6 text pieces (inr is) =
     rw is.spelled
-    (joined is_inner (is.left_text ++ codes "::") is.right_text
-    (joined is_inner is.left_text (codes "::") (inner_side false is.left_text is.left is.left_groups) refl)
+    (passes-append is_inner (is.left_text ++ codes "::") is.right_text
+    (passes-append is_inner is.left_text (codes "::") (inner_side false is.left_text is.left is.left_groups) refl)
     (inner_side true is.right_text is.right is.right_groups))
 
 plain_inner : (c : ℕ) → is_inner c ≡ true → is_plain c ≡ true
@@ -194,6 +183,6 @@ plain_inner c is = grind (arith, nat_tests)
 -- an IPv6 text in brackets is read
 pub read_ipv6 : (text pieces : List ℕ) → IsBracketedIpv6 text pieces → IsReadWhole text
 read_ipv6 text pieces (between, spelled, is) =
-    let inside = weaker is_inner is_plain plain_inner between (inner_ipv6 between pieces is) in
+    let inside = passes-weaker is_inner is_plain plain_inner between (inner_ipv6 between pieces is) in
     rw spelled (read_plain (left_bracket ∷ (between ++ right_bracket ∷ []))
-    (joined is_plain between (right_bracket ∷ []) inside refl))
+    (passes-append is_plain between (right_bracket ∷ []) inside refl))

@@ -4,7 +4,7 @@ use Rattle.std.proofs.Common.{◌≡◌, ℕ, true, false, ◌==◌, List, [], �
 use Rattle.std.specs.List.{list_all}
 use Rattle.std.specs.Char.{to_ascii_lowercase}
 use Rattle.std.proofs.lemmas.Bool.{and_parts, cases_Bool}
-use Rattle.uv_model.proofs.Texts.UnitsAhead.{is_unit_at-ahead, unit_not_number_sign, without_parts}
+use Rattle.uv_model.proofs.Texts.UnitsAhead.{is_unit_at-ahead, unit_not_number_sign}
 use Rattle.uv_model.specs.declared.path.UrlPath.TheVariants.{Opaque}
 use Rattle.uv_model.specs.Ascii.{slash, question_mark, number_sign}
 use Rattle.uv_model.specs.Encoding.{encoded_code_point, encoded}
@@ -14,12 +14,13 @@ use Rattle.uv_model.specs.Units.{is_unit_at, is_faultless}
 use Rattle.uv_model.specs.Records.Url.{Url}
 use Rattle.uv_parser.specs.Machine.{Variables, turn, onward, SchemeState, OpaquePathState, QueryState, FragmentState, put, with_more, with_path, with_opaque, with_fragment}
 use Rattle.uv_parser.proofs.Running.Steps.{Reaches, reaches_none, onward_then}
+use Rattle.uv_model.proofs.Texts.MarkLemmas.{is_without-cons}
 
 module _ (base : Option Url) where
   -- ---- the scheme
 
   -- the row of a code point of a scheme
-  scheme_row_on : (c : ℕ) (rest : List ℕ) (v : Variables) (p : ℕ) → is_scheme_code_point c ≡ true
+  pub scheme_row_on : (c : ℕ) (rest : List ℕ) (v : Variables) (p : ℕ) → is_scheme_code_point c ≡ true
       → turn base SchemeState p v (c ∷ rest) ≡ onward SchemeState (put (to_ascii_lowercase c) v)
   scheme_row_on c rest v p ok = rw ok refl
 
@@ -56,7 +57,7 @@ module _ (base : Option Url) where
       rw (append-nil path) (reaches_none base OpaquePathState (with_path (Opaque path) v) rest)
   opaque_path_law (c ∷ cs) rest path v units without =
       let unit = and_parts (is_unit_at c cs) (is_faultless cs) units in
-      let other = without_parts question_mark c cs without in
+      let other = is_without-cons question_mark c cs without in
       rw (← append_assoc path (encoded_code_point false c) (encoded false cs))
       (onward_then base
       (λ p. opaque_row_on c (cs ++ rest) (with_path (Opaque path) v) p other.0 (is_unit_at-ahead c cs rest unit.0))

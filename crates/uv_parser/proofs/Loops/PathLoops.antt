@@ -15,8 +15,9 @@ use Rattle.uv_parser.specs.Machine.{Variables, turn, onward, to_query, to_fragme
 use Rattle.uv_model.proofs.Paths.DotSegmentLemmas.{is_single_dot-encoded, is_double_dot-encoded}
 use Rattle.uv_parser.proofs.Running.Steps.{Reaches, Ends, reaches_none, onward_then, ends_step, ends_after}
 use Rattle.uv_parser.proofs.Loops.Tails.{bare, tail, with_tail, TurnsToTail, tail_ends}
-use Rattle.uv_model.proofs.Texts.UnitsAhead.{is_unit_at-ahead, unit_not_number_sign, without_parts}
+use Rattle.uv_model.proofs.Texts.UnitsAhead.{is_unit_at-ahead, unit_not_number_sign}
 use Rattle.uv_model.proofs.Texts.UnitsLemmas.{is_faultless-units}
+use Rattle.uv_model.proofs.Texts.MarkLemmas.{is_without-cons}
 
 -- the variables with these segments, and with no buffer and no fragment
 abbrev pub walking : List (List ℕ) → Variables → Variables
@@ -67,8 +68,8 @@ module _ (base : Option Url) where
   segment_law [] rest v units no_slash no_mark = rw (append-nil v.buffer) (reaches_none base PathState v rest)
   segment_law (c ∷ cs) rest v units no_slash no_mark =
       let unit = and_parts (is_unit_at c cs) (is_faultless cs) units in
-      let first = without_parts slash c cs no_slash in
-      let second = without_parts question_mark c cs no_mark in
+      let first = is_without-cons slash c cs no_slash in
+      let second = is_without-cons question_mark c cs no_mark in
       rw (← append_assoc v.buffer (encoded_code_point false c) (encoded false cs))
       (onward_then base (λ p. path_row_on c (cs ++ rest) v p first.0 second.0 (is_unit_at-ahead c cs rest unit.0))
       (segment_law cs rest (with_more (encoded_code_point false c) v) unit.1 first.1 second.1))

@@ -12,8 +12,8 @@ use Rattle.uv_parser.specs.Machine.{Variables, turn, onward, stop, PathState, Op
 use Rattle.uv_parser.proofs.Loops.Looping.{opaque_row_on, query_row_on}
 use Rattle.uv_parser.proofs.Loops.PathLoops.{path_row_on}
 use Rattle.uv_parser.proofs.Running.Steps.{Stops, stops_here, ends_step}
-use Rattle.uv_model.proofs.Texts.UnitsAhead.{without_parts}
 use Rattle.uv_model.proofs.Texts.UnitsLemmas.{is_unit_at-mark}
+use Rattle.uv_model.proofs.Texts.MarkLemmas.{is_without-cons}
 
 -- the text doesn't begin with a hex digit
 abbrev pub no_hex_first : List ℕ → Bool
@@ -56,7 +56,7 @@ module _ (base : Option Url) where
       → no_hex_first rest ≡ true → Stops base QueryState v (cs ++ rest)
   query_stops [] rest v fault without first = absurd (true≢false fault)
   query_stops (c ∷ cs) rest v fault without first =
-      let other = without_parts number_sign c cs without in
+      let other = is_without-cons number_sign c cs without in
       let same = unit_before c cs rest first in
       elim (cases_Bool (is_unit_at c cs)) [
         | inl unit ↦
@@ -103,8 +103,8 @@ module _ (base : Option Url) where
       → no_hex_first rest ≡ true → Stops base OpaquePathState v (cs ++ rest)
   opaque_path_stops [] rest v fault no_question no_number first = absurd (true≢false fault)
   opaque_path_stops (c ∷ cs) rest v fault no_question no_number first =
-      let question = without_parts question_mark c cs no_question in
-      let number = without_parts number_sign c cs no_number in
+      let question = is_without-cons question_mark c cs no_question in
+      let number = is_without-cons number_sign c cs no_number in
       let same = unit_before c cs rest first in
       elim (cases_Bool (is_unit_at c cs)) [
         | inl unit ↦
@@ -127,8 +127,8 @@ module _ (base : Option Url) where
       → no_hex_first rest ≡ true → Stops base PathState v (cs ++ rest)
   path_stops [] rest v fault no_question no_number first = absurd (true≢false fault)
   path_stops (c ∷ cs) rest v fault no_question no_number first =
-      let question = without_parts question_mark c cs no_question in
-      let number = without_parts number_sign c cs no_number in
+      let question = is_without-cons question_mark c cs no_question in
+      let number = is_without-cons number_sign c cs no_number in
       let same = unit_before c cs rest first in
       elim (cases_Bool (is_unit_at c cs)) [
         | inl unit ↦

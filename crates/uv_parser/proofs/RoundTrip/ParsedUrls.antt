@@ -15,7 +15,7 @@ use Rattle.uv_model.specs.Encoding.{encoded}
 use Rattle.uv_parser.specs.HostParser.{IsTakenOtherHost}
 use Rattle.uv_model.specs.Parts.{Form, Parts, SchemeAuthority, SchemePath, SchemeOpaque, Authority, PathAbsolute, PathRelative, NoPath, has_scheme}
 use Rattle.uv_parser.specs.SilentTexts.{Silent, Takes, TakesAuthority, TakesHostText}
-use Rattle.uv_model.specs.Path.{AreSegments, IsPathAbsolute, MayBePathSlashed}
+use Rattle.uv_model.specs.Path.{IsPathAbsolute}
 use Rattle.uv_parser.specs.Laws.RoundTrip.{IsReadable, IsReadableFileHost, IsReadableHost, IsReadableSpecialHost, MayBeStable, ParsedUrlsAreReadBack}
 use Rattle.uv_parser.specs.Run.{Done, run, step_bound}
 use Rattle.uv_model.specs.Setting.{setting_of}
@@ -23,7 +23,7 @@ use Rattle.uv_model.specs.Scheme.{default_port, scheme_class}
 use Rattle.uv_model.specs.Records.Url.{Url}
 use Rattle.uv_model.specs.Valid.{FitsBase, FitsForm, FitsScheme, MayBePortText, MayBeUnits, port_given, scheme_in, without_localhost}
 use Rattle.uv_model.specs.Records.WellFormed.{IsUrlPath, IsUrlPort, IsUrlQuery, IsUrlScheme, MayBeWellFormed, takes_port}
-use Rattle.uv_model.proofs.Cuts.AuthorityLemmas.{IsUrlPath-authority, IsUrlPort-given}
+use Rattle.uv_model.proofs.Cuts.AuthorityLemmas.{IsUrlPath-authority, IsUrlPort-given, AreSegments-maybe}
 use Rattle.uv_parser.proofs.Done.Decided.{takes_form}
 use Rattle.uv_parser.proofs.Differences.SilentDifferences.{valid_from}
 use Rattle.uv_parser.proofs.Done.DecidedBases.{texts_are_decided}
@@ -122,11 +122,6 @@ authority_taken base parts None text is = absurd is
 authority_taken base parts (Some host_text) text is =
     parsed_authority (scheme_class (scheme_in base parts)) (scheme_in base parts) host_text parts refl text is
 
--- the segments of a path behind it
-slashed_segments : (segments : List (List ℕ)) (text : List ℕ) → MayBePathSlashed segments text → AreSegments segments
-slashed_segments segments text (inl (nothing, none)) = rw none tt
-slashed_segments segments text (inr is) = is.joins.each
-
 -- ---- each form
 
 -- the URL that a form with an authority denotes
@@ -155,7 +150,7 @@ with_authority base text form parts silent takes scheme other =
     let port : IsUrlPort name (Some is.value) parts.port
     = IsUrlPort-same name (scheme_in base parts) (Some is.value) parts.port (sym same)
     (default_port-denoted base parts parts.scheme refl) is.port in
-    let each = slashed_segments parts.segments parts.path_text takes.1 in
+    let each = AreSegments-maybe parts.segments parts.path_text takes.1 in
     record {
       scheme = scheme;
       host =

@@ -18,8 +18,8 @@ use Rattle.uv_parser.specs.Run.{Done, run, step_bound}
 use Rattle.uv_model.specs.Scheme.{scheme_class}
 use Rattle.uv_model.specs.Records.Url.{Url}
 use Rattle.uv_model.specs.Valid.{FitsAuthority, FitsForm, FitsHostText, Valid}
-use Rattle.uv_model.specs.Records.WellFormed.{IsUrlHost, IsUrlPort, WellFormed, may_be_empty, takes_port}
-use Rattle.uv_parser.proofs.Done.DecidedBases.{texts_are_decided}
+use Rattle.uv_model.specs.Records.WellFormed.{IsUrlHost, IsUrlPort, WellFormed, may_be_empty}
+use Rattle.uv_parser.proofs.Done.DecidedBases.{texts_are_decided, takes_none}
 use Rattle.uv_model.proofs.Records.DenotedRecords.{denoted_records_are_well_formed}
 use Rattle.uv_parser.proofs.RoundTrip.SerializedAuthorities.{authority_read}
 use Rattle.uv_parser.proofs.RoundTrip.SerializedPaths.{IsSilentOn, opaque_read, path_read, url_of}
@@ -46,16 +46,10 @@ some_without Special = refl
 some_without File = refl
 some_without Other = refl
 
--- and no port
-takes_nothing : (class : Class) → takes_port class None ≡ false
-takes_nothing Special = refl
-takes_nothing File = refl
-takes_nothing Other = refl
-
 -- a URL without a host has no port
 no_port : (scheme : List ℕ) (port : Option ℕ) → IsUrlPort scheme None port → port ≡ None
 no_port scheme None is = refl
-no_port scheme (Some port) is = absurd (false≢true (sym (takes_nothing (scheme_class scheme)) ∙ is.0))
+no_port scheme (Some port) is = absurd (false≢true (sym (takes_none (scheme_class scheme)) ∙ is.0))
 
 -- by its host and its path
 silent_on : (scheme : List ℕ) (value : Option Host) (port : Option ℕ) (path : UrlPath)

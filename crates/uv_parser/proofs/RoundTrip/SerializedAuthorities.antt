@@ -21,18 +21,16 @@ use Rattle.uv_model.specs.Records.Serialize.{serial, serial_host, serial_port, s
 use Rattle.uv_model.specs.Records.Url.{Url}
 use Rattle.uv_model.specs.Valid.{MayBePortText, port_given}
 use Rattle.uv_model.specs.Records.WellFormed.{AreUrlSegments, IsUrlFragment, IsUrlPath, IsUrlPort, IsUrlQuery, IsUrlScheme, takes_port}
-use Rattle.uv_model.proofs.Paths.PathLemmas.{IsUnits-join}
 use Rattle.uv_parser.proofs.HostParsing.OtherHosts.{silent_other}
 use Rattle.uv_parser.proofs.RoundTrip.SerializedHosts.{IsHostRead, file_taken, host_read, host_without, other_parsed, special_taken}
 use Rattle.uv_parser.proofs.RoundTrip.SerializedPaths.{IsSilentOn, denoted_query-own, lowercase-scheme, url_of}
 use Rattle.uv_parser.proofs.RoundTrip.SerializedTexts.{AreSegments-url, encoded-ascii, encoded-fragment, fragment_units, port_given-decimal, port_text-decimal, query_units, serial_segments-joined, walk-kept}
 use Rattle.uv_parser.proofs.Silence.SilentAuthority.{written_with_authority}
-use Rattle.uv_parser.proofs.Silence.ValidSilent.{unremoved_authority}
+use Rattle.uv_parser.proofs.Silence.ValidSilent.{unremoved_authority, unremoved_path}
 use Rattle.uv_parser.proofs.Silence.SilentSchemes.{kept_text}
 use Rattle.uv_parser.proofs.Loops.Tails.{tail}
-use Rattle.uv_model.proofs.Texts.UnitsLemmas.{is_faultless-units}
-use Rattle.uv_parser.proofs.Running.Unremoved.{is_unremoved, unremoved_append, unremoved_faultless}
-use Rattle.uv_model.proofs.Cuts.ValidCutLemmas.{IsPathEnd, authority_fits, cut_of_parts, word_of_segments, word_of_slashed}
+use Rattle.uv_parser.proofs.Running.Unremoved.{is_unremoved, unremoved_append}
+use Rattle.uv_model.proofs.Cuts.ValidCutLemmas.{authority_fits, cut_of_parts, path_behind}
 
 -- ---- the path
 
@@ -51,26 +49,6 @@ path_slashed (segment ∷ rest) are = inr (record {
     joined = refl;
   };
 })
-
--- it holds no mark that ends it
-path_behind : (segments : List (List ℕ)) (text : List ℕ) → MayBePathSlashed segments text → IsPathEnd text
-path_behind segments text (inl (nothing, none)) = record {
-  word = rw nothing (record { no_question_mark = refl; no_number_sign = refl });
-  start = λ some. absurd (some nothing);
-}
-path_behind segments text (inr is) = record {
-  word = rw is.slashed (word_of_slashed is.behind (word_of_segments segments is.behind is.joins));
-  start = λ some. rw is.slashed refl;
-}
-
--- nor a code point that is removed
-path_above : (segments : List (List ℕ)) (text : List ℕ) → MayBePathSlashed segments text
-    → list_all is_unremoved text ≡ true
-path_above segments text (inl (nothing, none)) = rw nothing refl
-path_above segments text (inr is) =
-    rw (is.slashed, is.joins.joined)
-    (unremoved_faultless (join_with_byte slash segments)
-    (is_faultless-units (join_with_byte slash segments) (IsUnits-join segments is.joins.each)))
 
 -- the path of a URL with a host has segments of a URL
 path_segments : (class : Class) (value : Host) (segments : List (List ℕ))
@@ -260,7 +238,7 @@ module _ (scheme : List ℕ) (value : Host) (port : Option ℕ) (segments : List
       unremoved_append (slash ∷ slash ∷ (serial_host value ++ written_behind colon (option_map decimal port)))
       (serial_segments segments)
       (unremoved_authority (serial_host value) (option_map decimal port) read.read.above fits.text)
-      (path_above segments (serial_segments segments) slashed)
+      (unremoved_path segments (serial_segments segments) slashed)
 
   -- the parser is silent on these parts
   silent : Silent None (written parts) parts

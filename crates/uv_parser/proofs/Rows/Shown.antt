@@ -2,7 +2,7 @@
 use Rattle.std.specs.Prelude.{ℕ, ◌-◌, List, [], ◌∷◌, ◌++◌, map, drop, codes, Option, option_map}
 use Prim.Native.Char.{Char}
 use Prim.Native.String.{String as Literal}
-use Prim.Native.String.{[] as no_characters}
+use Prim.Native.String.{[] as no_characters, ◌∷◌ as ◌then◌}
 use Rattle.uv_model.specs.declared.host.Host.{Host}
 use Rattle.uv_model.specs.declared.host.Host.TheVariants as host
 use Rattle.uv_model.specs.declared.path.UrlPath.{UrlPath}

@@ -18,7 +18,7 @@ use Rattle.uv_model.specs.Valid.{FitsScheme, HasNoAuthority, port_given, scheme_
 use Rattle.uv_model.proofs.Cuts.CutLemmas.{cut_is_computed}
 use Rattle.uv_parser.proofs.HostParsing.HostsParsed.{parsed_not_empty}
 use Rattle.uv_parser.proofs.HostParsing.OtherHosts.{silent_other_hosts_are_valid}
-use Rattle.uv_model.proofs.Cuts.UniqueParts.{absolute_segments, alone_form, authority_form, form_of, joined_segments, no_port, relative_form, relative_segments, same_parts, segments_behind, segments_of}
+use Rattle.uv_model.proofs.Cuts.UniqueParts.{absolute_segments, alone_form, authority_form, form_of, no_port, relative_form, relative_segments, same_parts, segments_of, may_be_segments}
 
 -- ---- the host
 
@@ -65,29 +65,23 @@ record AreTaken (class : Class) (scheme : List ℕ) (form : Form) (host_text : O
     port : parts.port ≡ port_given (default_port scheme) parts.port_text
     segments : parts.segments ≡ segments_of form parts.path_text
 
--- the segments of a path behind an authority
-slashed_segments : (segments : List (List ℕ)) (text : List ℕ) → MayBePathSlashed segments text
-    → segments ≡ segments_behind text
-slashed_segments segments text (inl (nothing, none)) = rw (nothing, none) refl
-slashed_segments segments text (inr is) = rw is.slashed (joined_segments segments is.behind is.joins)
-
 -- what follows `//` by the class
 taken_by_class : (class : Class) (scheme host_text : List ℕ) (parts : Parts) → Takes class scheme host_text parts
     → MayBePathSlashed parts.segments parts.path_text → AreTaken class scheme Authority (Some host_text) parts
 taken_by_class Special scheme host_text parts is path = record {
   host = (is.value, is.host.parsed, is.valued);
   port = is.port;
-  segments = slashed_segments parts.segments parts.path_text path;
+  segments = may_be_segments parts.segments parts.path_text path;
 }
 taken_by_class File scheme host_text parts is path = record {
   host = is.host;
   port = no_port (default_port scheme) parts.port_text parts.port is.no_port_text is.no_port;
-  segments = slashed_segments parts.segments parts.path_text path;
+  segments = may_be_segments parts.segments parts.path_text path;
 }
 taken_by_class Other scheme host_text parts is path = record {
   host = is.host;
   port = is.port;
-  segments = slashed_segments parts.segments parts.path_text path;
+  segments = may_be_segments parts.segments parts.path_text path;
 }
 
 -- with a host text

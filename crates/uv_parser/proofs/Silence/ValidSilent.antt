@@ -155,7 +155,7 @@ unremoved_absolute : (segments : List (List ℕ)) (text : List ℕ) → IsPathAb
     → list_all is_unremoved text ≡ true
 unremoved_absolute segments text path = rw path.slashed (unremoved_relative segments path.behind path.relative)
 
-unremoved_path : (segments : List (List ℕ)) (text : List ℕ) → MayBePathSlashed segments text
+pub unremoved_path : (segments : List (List ℕ)) (text : List ℕ) → MayBePathSlashed segments text
     → list_all is_unremoved text ≡ true
 unremoved_path segments text (inl none) = rw none.0 refl
 unremoved_path segments text (inr path) =
