@@ -143,6 +143,7 @@ def check_index(top, pages, texts, wrong):
 
 INDEX = pathlib.Path("docs/README.md")
 PROVED = pathlib.Path("docs/PROVED.md")
+LIBRARY = pathlib.Path("docs/LIBRARY.md")
 
 
 def sources_of(top, crate):
@@ -180,6 +181,47 @@ def check_names(top, text, wrong):
                     wrong.append("{}: the law {} of {} isn't named".format(PROVED, law, file.relative_to(top)))
 
 
+def check_calls(top, text, wrong):
+    """Each call that docs/LIBRARY.md names for callers stands in its crate, with these arguments."""
+    callers = text.partition("\n## For callers")[2]
+    for crates, section in re.findall(r"^### (.*)\n((?:(?!### ).*\n)*)", callers, flags=re.M):
+        code = "\n".join(sources_of(top, crate) for crate in re.findall(r"`(\w+)`", crates))
+        for names, _ in rows_of(section):
+            for name in names:
+                call, _, arguments = name.rstrip(")").partition("(")
+                word = call.split("::")[-1]
+                given = re.findall(r"\bfn {}(?:<[^>]*>)?\(([^)]*(?:\([^)]*\)[^)]*)*)\)".format(word), code)
+                taken = [", ".join(re.findall(r"(\w+): ", each)) for each in given]
+                if arguments and arguments not in taken:
+                    wrong.append("{}: `{}` isn't in {}, which takes: {}".format(LIBRARY, name, crates, taken))
+                if not given and not re.search(r"\b(?:struct|enum|trait) {0}\b|^ +{0}[,({{]".format(word), code, re.M):
+                    wrong.append("{}: {} has no `{}`".format(LIBRARY, crates, name))
+
+
+def words_of_code(top):
+    """Every word of the code, of the definitions, and of the names of files: what a page may name."""
+    words = set()
+    for folder in FOLDERS + ("plants",):
+        for file in (top / folder).rglob("*"):
+            if "out" in file.relative_to(top).parts or not file.is_file() or file.suffix == ".md":
+                continue
+            words.update(re.findall(r"\w+", str(file.relative_to(top))))
+            if file.suffix not in (".svg", ".json"):
+                words.update(re.findall(r"\w+", file.read_text(encoding="utf-8", errors="replace")))
+    return words
+
+
+def check_words(top, texts, wrong):
+    """Each word that a page gives as code, and that has the form of a name or of its beginning, stands somewhere."""
+    known = words_of_code(top)
+    for page, text in texts.items():
+        for code in re.findall(r"`([A-Za-z][\w:]*)`", "\n".join(prose_of(text))):
+            name = code.split("::")[-1]
+            stands = name in known or (name.endswith("_") and any(word.startswith(name) for word in known))
+            if re.search(r"_|[a-z][A-Z]|::", code) and not stands:
+                wrong.append("{}: `{}` is the name of nothing here".format(page, code))
+
+
 def check_readme(text, wrong):
     lines = text.rstrip("\n").split("\n")
     if len(lines) > README_LINES:
@@ -201,6 +243,8 @@ def check_texts(top):
     check_readme(texts[pathlib.Path("README.md")], wrong)
     check_index(top, pages, texts, wrong)
     check_names(top, texts[PROVED], wrong)
+    check_calls(top, texts[LIBRARY], wrong)
+    check_words(top, texts, wrong)
     return wrong, "{} pages".format(len(pages))
 
 
@@ -240,8 +284,24 @@ def script_of(commands, room):
     return "\n".join(lines) + "\n"
 
 
+def check_own_links(top, program):
+    """The links of the pages that name another host are valid URL strings, as the program says."""
+    wrong, links = [], set()
+    for page in pages_of(top):
+        text = "\n".join(prose_of((top / page).read_text(encoding="utf-8")))
+        links.update(re.findall(r"\]\(([a-z]+:[^)\s]+)\)|<([a-z]+:[^>\s]+)>", text))
+    listed = sorted(one or other for one, other in links)
+    ran = subprocess.run([program, "links"], input="\n".join(listed) + "\n", capture_output=True, text=True, check=False)
+    for line in ran.stdout.splitlines()[:-1]:
+        if line.split()[1] != "ok":
+            wrong.append("a link of the pages, {}: {}".format(listed[int(line.split()[0]) - 1], line))
+    if not listed or ran.returncode > 1:
+        wrong.append("the links of the pages weren't judged: {}".format(ran.stderr))
+    return wrong
+
+
 def check_commands(top, program):
-    wrong, count = [], 0
+    wrong, count = check_own_links(top, program), 0
     for page in pages_of(top):
         blocks = blocks_of((top / page).read_text(encoding="utf-8"))
         commands = [command for _, _, block in blocks for command in commands_of(block)]

@@ -45,9 +45,15 @@ spoiled 'an anchor to nowhere' 'no heading makes' texts docs/COMMANDS.md 's/(#ve
 spoiled 'a path to nowhere' 'librarian' texts docs/TRUST.md 's/`runs\/library.sh`/`runs\/librarian.sh`/'
 spoiled 'a name of no function' 'no `fault_list`' texts docs/PROVED.md 's/^| `faults` |/| `fault_list` |/'
 spoiled 'a clause that is none' 'no clause `told`' texts docs/PROVED.md 's/^| `run_links` | `report`/| `run_links` | `told`/'
+spoiled 'a name of nothing' 'the name of nothing' texts docs/ARCHITECTURE.md \
+    's/`plain_links::plain_link`/`plain_links::plain_''blink`/'
+spoiled 'a call with other arguments' 'isn.t in `uv_resolve`' texts docs/LIBRARY.md \
+    's/`resolve(alloc, text, base, profile)`/`resolve(alloc, base, text, profile)`/'
+spoiled 'a link that is no URL string' 'a link of the pages' "commands $program" docs/USES.md \
+    's/(https:\/\/pre-commit.com)/(https:\/pre-commit.com)/'
 spoiled 'no word on a law' 'isn.t named' texts docs/PROVED.md '/`step_counts::runs_keep_their_end`/d'
 spoiled 'a long sentence' 'a sentence of ' texts docs/SPEED.md \
     '$a A word and another one, '"$(printf 'and one more %.0s' {1..12})"'at the end.'
 spoiled 'another headline' 'the headline' texts README.md 's/in at most 3n + 16 steps/in at most 2n + 5 steps/'
-[ $failed = 0 ] && echo 'pages: each of nine spoiled copies was found'
+[ $failed = 0 ] && echo 'pages: each of twelve spoiled copies was found'
 exit $failed
