@@ -1,0 +1,46 @@
+#!/usr/bin/env bash
+# Runs the checker for JavaScript, and the page, over every file of vectors, and compares with the program given as the
+# first argument; then what callers see, types, want of memory, and the page in a browser. What isn't installed is left
+# out, and a line says so. A folder that ./build-page has made may be given second; else one is made.
+set -euo pipefail
+program=$(realpath "$1")
+top=$(dirname "$(dirname "$(realpath "$0")")")
+here=$top/runs/page
+room=$(mktemp -d)
+trap 'rm -rf "$room"' EXIT
+
+for tool in node python3 wasm-opt; do
+    command -v "$tool" >/dev/null || { echo "page: left out, since $tool isn't installed"; exit 0; }
+done
+[ "$(node -p 'process.versions.node.split(".")[0] >= 18')" = true ] ||
+    { echo "page: left out, since node is older than 18"; exit 0; }
+folder=${2:-$room/page}
+if [ $# -lt 2 ]; then
+    URLCHECK=$program "$top/build-page" "$folder" >"$room/built" 2>&1 || { cat "$room/built"; exit 1; }
+fi
+
+# The heap of the module, on a memory that refuses to grow.
+if command -v cc >/dev/null; then
+    sanitized=(-fsanitize=address,undefined -fno-sanitize-recover=all)
+    cc -std=c11 -Wall -Wextra -Werror -g "${sanitized[@]}" -I "$top/web/module" \
+        "$top/web/module/heap.c" "$here/heap.c" -o "$room/heap"
+    "$room/heap"
+else
+    echo "page: the heap alone is left out, since cc isn't installed"
+fi
+
+python3 "$here/answers.py" "$program" "$room/cases.json" "$top"/vectors/*.json
+node "$here/vectors.mjs" "$folder" "$room/cases.json"
+node "$here/calls.mjs" "$folder"
+
+if command -v tsc >/dev/null; then
+    mkdir "$room/types"
+    cp "$folder/urlcheck.js" "$folder/urlcheck.d.ts" "$folder/explanations.js" "$here/types.ts" "$here/node.d.ts" \
+        "$room/types/"
+    cp "$folder/urlcheck.js" "$room/types/written.js"
+    tsc --strict --noEmit --target es2022 --module es2022 --moduleResolution node --lib es2022,dom --allowJs --checkJs \
+        "$room/types/types.ts" "$room/types/node.d.ts"
+    echo 'page: the types are those of urlcheck.js'
+else
+    echo "page: the types are left out, since tsc isn't installed"
+fi

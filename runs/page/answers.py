@@ -1,0 +1,63 @@
+"""Cases for the checker in JavaScript, from files of vectors, with what the program says of each in both profiles.
+
+    answers.py PROGRAM CASES VECTORS..   writes the cases, as JSON
+
+A case has its text, its base or null, what the vectors want or null, and for each profile what `check` and
+`check --all` print, with the status and what stands on standard error.
+"""
+
+import concurrent.futures
+import json
+import os
+import subprocess
+import sys
+
+sys.path.insert(0, os.path.join(os.path.dirname(os.path.abspath(__file__)), "..", "library"))
+from cases import cases_of  # noqa: E402
+
+# Beside those of the library: controls, what turns the direction of a text, markup, and a long text.
+MORE = [
+    ("http://h/\u202e\u2066x\u2069?\u200f#\u00ad", None),
+    ("http://h/<script>alert(1)</script><img src=x onerror=alert(1)>", None),
+    ("\u05d0\u05d1:\u05d2", "http://\u05d0\u05d1/"),
+    ("http://h/\u0007\u001b[31m\n\t\r", None),
+    ("foo:\U0001f600 \U0001f600\u00e9^", None),
+    ("http://h/" + "\u00e9\U0001f600%41a" * 500, None),
+    ("http://h/" + "a^" * 2000, None),
+    ("x" * 3000, "http://h/" + "\u00e9" * 3000),
+]
+
+
+def run(program, text, base, wide, every):
+    words = [program, "check"] + ["--wide"] * wide + ["--all"] * every
+    words += ([] if base is None else ["--base=" + base]) + ["--", text]
+    ended = subprocess.run(words, capture_output=True, timeout=60)
+    return {"status": ended.returncode, "out": ended.stdout.decode(), "error": ended.stderr.decode()}
+
+
+def said(program, text, base):
+    """What the program says of a text in each profile: alone the first refusal, and then all of them."""
+    answers = {}
+    for profile, wide in (("standard", False), ("wide", True)):
+        first = run(program, text, base, wide, False)
+        every = run(program, text, base, wide, True) if first["status"] == 1 else first
+        answers[profile] = {"first": first, "all": every}
+    return answers
+
+
+def main():
+    program, path, vectors = sys.argv[1], sys.argv[2], sys.argv[3:]
+    cases = cases_of(vectors) + [(text, base, None) for text, base in MORE]
+    # A word of a command line has no NUL.
+    cases = [case for case in cases if "\0" not in case[0] + (case[1] or "")]
+    with concurrent.futures.ThreadPoolExecutor() as pool:
+        answers = list(pool.map(lambda case: said(program, case[0], case[1]), cases))
+    written = [
+        {"text": text, "base": base, "wanted": wanted, "said": answer}
+        for (text, base, wanted), answer in zip(cases, answers)
+    ]
+    with open(path, "w", encoding="utf-8") as out:
+        json.dump(written, out)
+
+
+main()

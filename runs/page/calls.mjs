@@ -1,0 +1,216 @@
+// What callers of urlcheck.js see: refusals by their types, want of memory and the call behind it, memory that doesn't
+// grow with the number of calls, instances beside each other, a thread of its own, and each way to give the module.
+// Usage: node calls.mjs FOLDER
+import assert from 'node:assert/strict'
+import { readFileSync } from 'node:fs'
+import { join, resolve } from 'node:path'
+import { pathToFileURL } from 'node:url'
+import { Worker } from 'node:worker_threads'
+import { limited } from './limited.mjs'
+
+const folder = resolve(process.argv[2])
+const { BaseRefused, load } = await import(pathToFileURL(join(folder, 'urlcheck.js')).href)
+const bytes = readFileSync(join(folder, 'urlcheck.wasm'))
+const { version } = JSON.parse(readFileSync(join(folder, 'package.json'), 'utf8'))
+
+/** A checker, and the memory of its instance. */
+async function withMemory(source) {
+  const { instantiate } = WebAssembly
+  let memory
+  WebAssembly.instantiate = async (...words) => {
+    const made = await instantiate(...words)
+    memory = (made.instance ?? made).exports.memory
+    return made
+  }
+  try {
+    return { urlcheck: await load(source), memory }
+  } finally {
+    WebAssembly.instantiate = instantiate
+  }
+}
+
+const tests = {
+  async 'each way to give the module'() {
+    const compiled = await WebAssembly.compile(bytes)
+    const buffer = bytes.buffer.slice(bytes.byteOffset, bytes.byteOffset + bytes.length)
+    for (const source of [undefined, bytes, buffer, compiled, './urlcheck.wasm',
+      pathToFileURL(join(folder, 'urlcheck.wasm')), new Response(bytes),
+      new Response(bytes, { headers: { 'content-type': 'application/wasm' } })]) {
+      assert.equal((await load(source)).check('urn:a').valid, true)
+    }
+    await assert.rejects(load('./missing.wasm'))
+    await assert.rejects(load(new Uint8Array([1, 2, 3])), WebAssembly.CompileError)
+  },
+
+  async 'the module asks for nothing'() {
+    assert.deepEqual(WebAssembly.Module.imports(await WebAssembly.compile(bytes)), [])
+  },
+
+  async 'parts and ranges'() {
+    const urlcheck = await load()
+    const answer = urlcheck.check('HTTP://\u00e9.example:80/\u{1f600}/b?\u65e5#\u{1f600}')
+    const { valid, scheme, host, port, path, query, fragment } = answer
+    assert.deepEqual({ valid, scheme, host, port, path, query, fragment }, { valid: true, scheme: 'HTTP',
+      host: '\u00e9.example', port: '80', path: '/\u{1f600}/b', query: '\u65e5', fragment: '\u{1f600}' })
+    assert.deepEqual(answer.ranges, { scheme: [0, 4], host: [7, 16], port: [17, 19], path: [19, 24], query: [25, 26],
+      fragment: [27, 29] })
+    assert.deepEqual(JSON.parse(JSON.stringify(urlcheck.check('urn:'))), { valid: true, scheme: 'urn', host: null,
+      port: null, path: '', query: null, fragment: null,
+      ranges: { scheme: [0, 3], host: null, port: null, path: [4, 4], query: null, fragment: null } })
+    assert.deepEqual(urlcheck.check('http://h/\u{1f600} '), { valid: false, rule: 'code-point', place: 10, index: 11 })
+  },
+
+  async 'refused arguments'() {
+    const urlcheck = await load()
+    for (const text of ['\ud800', 'a\udc00b', '\ud800\ud800\udc00', `${'a'.repeat(5000)}\udbff`, '\u00e9\ud83d']) {
+      for (const call of ['check', 'faults', 'resolve']) {
+        assert.throws(() => urlcheck[call](text), { name: 'TypeError', message: /the text has a lone surrogate at/ })
+        assert.throws(() => urlcheck[call]('a', { base: text }), { name: 'TypeError', message: /the base has a lone/ })
+      }
+    }
+    assert.throws(() => urlcheck.check('ab\ud800'), /at index 2$/)
+    for (const profile of ['', 'Wide', 'standard ', 0, 1, null, {}, Symbol('wide'), 'toString']) {
+      assert.throws(() => urlcheck.check('urn:a', { profile }), TypeError)
+    }
+    for (const text of [undefined, null, 1, {}, new String('urn:a'), ['urn:a']]) {
+      assert.throws(() => urlcheck.check(text), TypeError)
+      if (text != null) assert.throws(() => urlcheck.check('urn:a', { base: text }), TypeError)
+    }
+    for (const rule of ['', 'no-rule', 'toString', '__proto__', undefined, Symbol('percent')]) {
+      assert.throws(() => urlcheck.explain(rule), TypeError)
+    }
+    assert.equal(urlcheck.check('a', { base: 'urn:a/' }).valid, false)
+    assert.equal(urlcheck.check('http://a_b/', { base: null, profile: 'wide' }).valid, true)
+    assert.equal(urlcheck.check('http://a_b/', { base: undefined, profile: undefined }).valid, false)
+  },
+
+  async 'a refused base'() {
+    const urlcheck = await load()
+    for (const call of ['check', 'faults', 'resolve']) {
+      assert.throws(() => urlcheck[call]('x', { base: 'http://h/\u{1f600} ' }), error => {
+        assert.ok(error instanceof BaseRefused && error instanceof Error)
+        assert.deepEqual([error.rule, error.place, error.index], ['code-point', 10, 11])
+        return true
+      })
+    }
+  },
+
+  async 'what is known of the rules'() {
+    const urlcheck = await load()
+    assert.equal(urlcheck.version, version)
+    assert.ok(urlcheck.rules.length > 0)
+    for (const rule of urlcheck.rules) {
+      const { rule: name, sentence, asks, section, example } = urlcheck.explain(rule)
+      assert.equal(name, rule)
+      for (const text of [sentence, asks, section]) assert.ok(text.length > 2)
+      const options = { base: example.base }
+      const refused = urlcheck.check(example.text, options)
+      assert.deepEqual([refused.valid, refused.rule, refused.place], [false, rule, example.place])
+      assert.equal(urlcheck.check(example.mended, options).valid, true)
+    }
+  },
+
+  async 'memory stays as it is'() {
+    const { urlcheck, memory } = await withMemory(bytes)
+    const calls = () => {
+      urlcheck.resolve('http://b\u00fccher.example/\u00e9?q', { base: 'http://h/' })
+      urlcheck.faults('http://h/ ^ ^ ^')
+      urlcheck.check('http://b\u00fccher.example/')
+    }
+    calls()
+    const before = memory.buffer.byteLength
+    for (let call = 0; call < 20_000; call++) calls()
+    assert.equal(memory.buffer.byteLength, before)
+  },
+
+  async 'a long text, and a short one behind it'() {
+    const { urlcheck, memory } = await withMemory(bytes)
+    const long = `http://h/${'a'.repeat(3_000_000)}`
+    assert.equal(urlcheck.check(long).ranges.path[1], long.length)
+    assert.deepEqual(urlcheck.check(`${long}\u00e9 `), { valid: false, rule: 'code-point', place: long.length + 1,
+      index: long.length + 1 })
+    assert.equal(urlcheck.resolve(`${long}\u00e9`).text, `${long}%C3%A9`)
+    assert.equal(urlcheck.faults(`http://h/${' '.repeat(100_000)}`).length, 100_000)
+    const grown = memory.buffer.byteLength
+    assert.equal(urlcheck.check('http://h/\u00e9').path, '/\u00e9')
+    assert.equal(urlcheck.check('x', { base: long }).path, 'x')
+    assert.equal(urlcheck.check(long, { base: long }).path.length, 3_000_001)
+    assert.equal(urlcheck.resolve('http://h/a', { base: 'urn:a' }).text, 'http://h/a')
+    assert.ok(memory.buffer.byteLength <= grown + long.length * 2)
+  },
+
+  async 'a length at each border of the rooms'() {
+    const urlcheck = await load()
+    for (const unit of ['a', '\u00e9', '\u65e5', '\u{1f600}']) {
+      for (let length = 500; length < 530; length++) {
+        const text = `http://h/${unit.repeat(length)}`
+        assert.equal(urlcheck.check(text).ranges.path[1], text.length)
+        assert.equal(urlcheck.check('x', { base: text }).path, 'x')
+        assert.equal(urlcheck.check(text, { base: text }).path.length, text.length - 8)
+        assert.equal(urlcheck.faults(`${text} `, { base: `${text}/` })[0].index, text.length)
+      }
+    }
+  },
+
+  async 'want of memory, and the next call works'() {
+    const { urlcheck, memory } = await withMemory(limited(bytes, 4))
+    const form = 'http://xn--bcher-kva.example/'
+    const isShort = () => assert.equal(urlcheck.resolve('http://b\u00fccher.example/').text, form)
+    const text = `http://h/${'\u00e9'.repeat(20_000)}`
+    isShort()
+    for (let round = 0; round < 3; round++) {
+      for (const call of ['check', 'faults', 'resolve']) {
+        const large = 'x'.repeat(1_000_000)
+        assert.throws(() => urlcheck[call](large), { name: 'RangeError', message: /out of memory/ })
+        isShort()
+        assert.throws(() => urlcheck[call]('x', { base: large }), { name: 'RangeError', message: /out of memory/ })
+        isShort()
+      }
+      // The text has room, but its record hasn't; its faults, of which there are many, haven't either.
+      assert.equal(urlcheck.check(text).valid, true)
+      assert.throws(() => urlcheck.resolve(text + text), RangeError)
+      isShort()
+      assert.throws(() => urlcheck.faults(`http://h/${'^'.repeat(100_000)}`), RangeError)
+      isShort()
+    }
+    assert.ok(memory.buffer.byteLength > 0)
+  },
+
+  async 'instances beside each other'() {
+    const [one, other] = await Promise.all([load(), load()])
+    const kept = one.check('http://one/a')
+    assert.equal(other.check('http://other/bcd').path, '/bcd')
+    assert.equal(one.faults('http://h/ ').length, 1)
+    assert.equal(kept.host, 'one')
+    assert.equal(kept.path, '/a')
+  },
+
+  async 'a thread of its own'() {
+    const script = `
+      import { load } from ${JSON.stringify(pathToFileURL(join(folder, 'urlcheck.js')).href)}
+      import { parentPort } from 'node:worker_threads'
+      const urlcheck = await load()
+      parentPort.postMessage(urlcheck.check('http://h/a b'))`
+    const worker = new Worker(new URL(`data:text/javascript,${encodeURIComponent(script)}`))
+    const answer = await new Promise((yes, no) => worker.once('message', yes).once('error', no))
+    assert.deepEqual(answer, { valid: false, rule: 'code-point', place: 10, index: 10 })
+    await worker.terminate()
+  },
+
+  async 'no code from texts'() {
+    const script = readFileSync(join(folder, 'urlcheck.js'), 'utf8')
+    assert.doesNotMatch(script, /\beval\b|new Function|innerHTML|document\.write/)
+  }
+}
+
+let failed = 0
+for (const [name, test] of Object.entries(tests)) {
+  try {
+    await test()
+  } catch (error) {
+    failed++
+    console.log(`FAILED: ${name}: ${String(error.message).slice(0, 600)}`)
+  }
+}
+console.log(`page: ${Object.keys(tests).length - failed} of ${Object.keys(tests).length} tests of calls pass`)
+process.exit(failed === 0 ? 0 : 1)

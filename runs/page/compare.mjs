@@ -1,0 +1,100 @@
+// Holds a checker's answers to what the program says of the same cases: see answers.py. Runs under Node and in a
+// browser.
+
+/** The lines that `urlcheck check` prints of a record. */
+function recordLines({ scheme, host, port, segments, opaquePath, query, fragment }) {
+  const lines = ['valid', `scheme ${scheme}`]
+  if (host !== null) lines.push(host.kind === 'empty' ? 'host empty' : `host ${host.kind} ${host.text}`)
+  if (port !== null) lines.push(`port ${port}`)
+  if (opaquePath !== null) lines.push(`opaque ${opaquePath}`)
+  for (const segment of segments ?? []) lines.push(`segment ${segment}`)
+  if (query !== null) lines.push(`query ${query}`)
+  if (fragment !== null) lines.push(`fragment ${fragment}`)
+  return lines
+}
+
+/** Status, output and standard error of the program, as the checker's answer has them. */
+function ended(status, lines, error = '') {
+  return { status, out: lines.map(line => `${line}\n`).join(''), error }
+}
+
+function refusedLine({ place, rule }) {
+  return `refused ${place} ${rule}`
+}
+
+/** What the program would print of the checker's answers, for the first refusal and for all. */
+function answered(urlcheck, text, options) {
+  try {
+    const resolved = urlcheck.resolve(text, options)
+    if (resolved.valid) {
+      const valid = ended(0, recordLines(resolved.record))
+      return { first: valid, all: valid }
+    }
+    return {
+      first: ended(1, [refusedLine(resolved)]),
+      all: ended(1, urlcheck.faults(text, options).map(refusedLine))
+    }
+  } catch (error) {
+    if (error.name !== 'BaseRefused') throw error
+    const refused = ended(2, [], `base refused ${error.place} ${error.rule}\n`)
+    return { first: refused, all: refused }
+  }
+}
+
+/** What is wrong with the answer of `check`: its parts give the text again, and its ranges the parts. */
+function faultOfCheck(urlcheck, text, options) {
+  let answer
+  try {
+    answer = urlcheck.check(text, options)
+  } catch (error) {
+    return error.name === 'BaseRefused' ? null : `check throws ${error}`
+  }
+  const first = urlcheck.faults(text, options)[0]
+  if (!answer.valid) {
+    const index = [...text].slice(0, answer.place).join('').length
+    if (answer.index !== index) return `the index ${answer.index} isn't the place ${answer.place}`
+    const isFirst = first && first.place === answer.place && first.rule === answer.rule && first.index === index
+    return isFirst ? null : 'check and faults differ'
+  }
+  if (first) return 'a valid text has faults'
+  const { scheme, host, port, path, query, fragment, ranges } = answer
+  const part = (front, word) => (word === null ? '' : front + word)
+  const again = (scheme === null ? '' : `${scheme}:`) + part('//', host) + part(':', port) + path + part('?', query) +
+    part('#', fragment)
+  if (again !== text) return `the parts give ${again}`
+  for (const [name, range] of Object.entries(ranges)) {
+    if ((range === null ? null : text.slice(...range)) !== answer[name]) return `another range of ${name}`
+  }
+  return null
+}
+
+/** Whether the vectors' own wish is met, by the standard profile. */
+function isWanted(wanted, urlcheck, text, options) {
+  if (wanted === null || options.profile === 'wide') return true
+  const answer = urlcheck.resolve(text, options)
+  if (typeof wanted === 'string') return answer.valid && answer.text === wanted
+  return !answer.valid && answer.place === wanted[0] && answer.rule === wanted[1]
+}
+
+/** The first differences between a checker and the program, and how many answers were compared. */
+export function differences(urlcheck, cases) {
+  const found = []
+  let compared = 0
+  for (const { text, base, wanted, said } of cases) {
+    for (const profile of ['standard', 'wide']) {
+      const options = { base, profile }
+      const ours = answered(urlcheck, text, options)
+      const where = JSON.stringify({ text, base, profile }).slice(0, 300)
+      for (const which of ['first', 'all']) {
+        compared++
+        if (JSON.stringify(ours[which]) === JSON.stringify(said[profile][which])) continue
+        const [is, wants] = [ours[which], said[profile][which]].map(ending => JSON.stringify(ending).slice(0, 300))
+        found.push(`${where}: ${is}, and not ${wants}`)
+      }
+      const fault = faultOfCheck(urlcheck, text, options)
+      if (fault) found.push(`${where}: ${fault}`)
+      if (!isWanted(wanted, urlcheck, text, options)) found.push(`${where}: not what the vectors want`)
+    }
+  }
+  return { compared, count: found.length, found: found.slice(0, 10) }
+}

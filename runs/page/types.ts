@@ -1,0 +1,46 @@
+// A caller in TypeScript, as strictly as the compiler can: it is compiled and not run.
+import { BaseRefused, load } from './urlcheck.js'
+import type { Checker, Explanation, Fault, Profile, Range, Refused, Resolved, RuleName, Valid } from './urlcheck.js'
+import type * as Wanted from './urlcheck.js'
+import * as written from './written.js'
+
+const urlcheck: Checker = await load()
+const other: Checker = await load(new URL('./urlcheck.wasm', import.meta.url))
+const third: Checker = await load(new Uint8Array([0, 97, 115, 109]))
+
+const answer: Valid | Refused = urlcheck.check('https://example.com/a?q')
+if (answer.valid) {
+  const parts: (string | null)[] = [answer.scheme, answer.host, answer.port, answer.query, answer.fragment]
+  const path: string = answer.path
+  const [start, end]: Range = answer.ranges.path
+  console.log(parts, path, start, end)
+} else {
+  const rule: RuleName = answer.rule
+  const explained: Explanation = other.explain(rule)
+  console.log(answer.place, answer.index, explained.sentence, explained.example.mended)
+}
+
+const profile: Profile = 'wide'
+const faults: Fault[] = urlcheck.faults('x', { base: 'http://h/', profile })
+const resolved: Resolved | Refused = third.resolve('x', { base: null })
+if (resolved.valid) console.log(resolved.text, resolved.record.host?.kind, resolved.record.segments?.length)
+console.log(faults.map(({ rule, index }) => `${rule} ${index}`), urlcheck.rules.length, urlcheck.version)
+
+try {
+  urlcheck.check('x', { base: ':' })
+} catch (error) {
+  if (error instanceof BaseRefused) console.log(error.rule, error.place, error.index)
+}
+
+// @ts-expect-error: a profile has one of two names
+urlcheck.check('x', { profile: 'Wide' })
+// @ts-expect-error: a text is a string
+urlcheck.check(1)
+// @ts-expect-error: no rule has this name
+urlcheck.explain('no-rule')
+// @ts-expect-error: a refused text has no parts
+urlcheck.check('x').path
+
+// What urlcheck.js gives out, by its own comments, is what urlcheck.d.ts says of it.
+const same: typeof Wanted = written
+console.log(same)

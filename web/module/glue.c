@@ -1,0 +1,138 @@
+/*
+ * What urlcheck.js calls: the functions of include/urlcheck.h on the texts that stand in the rooms, with numbers of 32
+ * bits alone, so that the caller needs no BigInt. An answer stands at `answer_at` until the next call, as the header
+ * lays it out, and what else was written at `out_at`.
+ */
+#include "heap.h"
+#include "urlcheck.h"
+
+/* Where urlcheck.js reads: it knows these numbers. */
+_Static_assert(offsetof(urlcheck_finding, verdict) == 0 && offsetof(urlcheck_finding, rule) == 4, "layout");
+_Static_assert(offsetof(urlcheck_finding, place) == 8 && offsetof(urlcheck_finding, byte_place) == 16, "layout");
+_Static_assert(offsetof(urlcheck_answer, parts) == 24 && sizeof(urlcheck_spans) == 6 * 24, "layout");
+_Static_assert(offsetof(urlcheck_span, length) == 8 && offsetof(urlcheck_span, present) == 16, "layout");
+_Static_assert(offsetof(urlcheck_resolved, length) == 24 && offsetof(urlcheck_fault_count, count) == 24, "layout");
+_Static_assert(offsetof(urlcheck_fault, rule) == 0 && offsetof(urlcheck_fault, place) == 8, "layout");
+_Static_assert(offsetof(urlcheck_fault, byte_place) == 16 && sizeof(urlcheck_fault) == 24, "layout");
+
+/*
+ * The functions of the header as the kit lays out their calls on x86-64, which are compiled here for another machine:
+ * the answer's address comes first, and is given back.
+ */
+#define PROVED(name) __asm__("urlcheck_" name)
+uint64_t proved_check(urlcheck_answer *answer, const uint8_t *text, size_t length, uint32_t profile) PROVED("check");
+uint64_t proved_check_against(urlcheck_answer *answer, const uint8_t *text, size_t length, const uint8_t *base,
+                              size_t base_length, uint32_t profile) PROVED("check_against");
+uint64_t proved_resolve(urlcheck_resolved *answer, const uint8_t *text, size_t length, uint32_t profile, uint8_t *out,
+                        size_t room) PROVED("resolve");
+uint64_t proved_resolve_against(urlcheck_resolved *answer, const uint8_t *text, size_t length, const uint8_t *base,
+                                size_t base_length, uint32_t profile, uint8_t *out, size_t room)
+    PROVED("resolve_against");
+uint64_t proved_faults(urlcheck_fault_count *answer, const uint8_t *text, size_t length, uint32_t profile,
+                       urlcheck_fault *out, size_t room) PROVED("faults");
+uint64_t proved_faults_against(urlcheck_fault_count *answer, const uint8_t *text, size_t length, const uint8_t *base,
+                               size_t base_length, uint32_t profile, urlcheck_fault *out, size_t room)
+    PROVED("faults_against");
+
+/* The elements that a first call has room for, where more are rare. */
+enum { FAULTS = 64, ALIGNMENT = 16 };
+
+static union {
+    urlcheck_finding found;
+    urlcheck_answer checked;
+    urlcheck_resolved resolved;
+    urlcheck_fault_count counted;
+} answer;
+
+static void *out;
+
+static uint32_t address_of(const void *it) { return (uint32_t)(uintptr_t)it; }
+
+/* Makes rooms of so many bytes for the text and the base. Gives 0, and leaves the rooms, where there is no memory. */
+uint32_t make_rooms(uint32_t text_bytes, uint32_t base_bytes) {
+    return heap_lay_out(text_bytes, base_bytes);
+}
+
+uint32_t text_at(void) { return address_of(heap_text()); }
+
+uint32_t base_at(void) { return address_of(heap_base()); }
+
+uint32_t answer_at(void) { return address_of(&answer); }
+
+uint32_t out_at(void) { return address_of(out); }
+
+void check(uint32_t length, uint32_t profile) {
+    heap_empty();
+    proved_check(&answer.checked, heap_text(), length, profile);
+}
+
+void check_against(uint32_t length, uint32_t base_length, uint32_t profile) {
+    heap_empty();
+    proved_check_against(&answer.checked, heap_text(), length, heap_base(), base_length, profile);
+}
+
+/* Empties the heap and takes so many bytes of it for `out`; where there are none, the answer is want of memory. */
+static bool takes_out(uint64_t bytes) {
+    heap_empty();
+    out = heap_take(bytes, ALIGNMENT);
+    if (out == NULL) answer.found = (urlcheck_finding){.verdict = URLCHECK_MEMORY};
+    return out != NULL;
+}
+
+static void resolve_into(uint32_t length, uint32_t base_length, bool has_base, uint32_t profile, uint64_t room) {
+    if (!takes_out(room)) return;
+    if (has_base) {
+        proved_resolve_against(&answer.resolved, heap_text(), length, heap_base(), base_length, profile, out, room);
+    } else {
+        proved_resolve(&answer.resolved, heap_text(), length, profile, out, room);
+    }
+}
+
+/* The record's text stands at `out`. A first call has room for most texts; where it is too small, a second one has. */
+static void resolve_whole(uint32_t length, uint32_t base_length, bool has_base, uint32_t profile) {
+    uint64_t room = (uint64_t)length + base_length + 256;
+    resolve_into(length, base_length, has_base, profile, room);
+    if (answer.found.verdict == URLCHECK_VALID && answer.resolved.length > room) {
+        resolve_into(length, base_length, has_base, profile, answer.resolved.length);
+    }
+}
+
+void resolve(uint32_t length, uint32_t profile) { resolve_whole(length, 0, false, profile); }
+
+void resolve_against(uint32_t length, uint32_t base_length, uint32_t profile) {
+    resolve_whole(length, base_length, true, profile);
+}
+
+static void faults_into(uint32_t length, uint32_t base_length, bool has_base, uint32_t profile, uint64_t room) {
+    if (!takes_out(room * sizeof(urlcheck_fault))) return;
+    if (has_base) {
+        proved_faults_against(&answer.counted, heap_text(), length, heap_base(), base_length, profile, out, room);
+    } else {
+        proved_faults(&answer.counted, heap_text(), length, profile, out, room);
+    }
+}
+
+/* All faults stand at `out`. */
+static void all_faults(uint32_t length, uint32_t base_length, bool has_base, uint32_t profile) {
+    faults_into(length, base_length, has_base, profile, FAULTS);
+    if (answer.found.verdict == URLCHECK_REFUSED && answer.counted.count > FAULTS) {
+        faults_into(length, base_length, has_base, profile, answer.counted.count);
+    }
+}
+
+void faults(uint32_t length, uint32_t profile) { all_faults(length, 0, false, profile); }
+
+void faults_against(uint32_t length, uint32_t base_length, uint32_t profile) {
+    all_faults(length, base_length, true, profile);
+}
+
+/* A rule's name and its sentence stand at `answer_at`; their length is given, and is 0 where no rule has the number. */
+uint32_t rule_name(uint32_t rule) {
+    return (uint32_t)urlcheck_rule_name(rule, (uint8_t *)&answer, sizeof answer);
+}
+
+uint32_t rule_sentence(uint32_t rule) {
+    return (uint32_t)urlcheck_rule_sentence(rule, (uint8_t *)&answer, sizeof answer);
+}
+
+uint32_t version(void) { return urlcheck_version(); }

@@ -1,0 +1,110 @@
+/*
+ * What the compiler's code calls: the allocator of the proved code, over the heap, and what other machines find in
+ * their C library. `rattle_alloc` and `rattle_realloc` answer a pair of 64-bit words, whether there is a block and
+ * where it is.
+ */
+#include "heap.h"
+
+typedef struct {
+    uint64_t is_given;
+    uint64_t block;
+} attempt;
+
+static attempt attempt_of(void *block) { return (attempt){block != NULL, (uint64_t)(uintptr_t)block}; }
+
+attempt rattle_alloc(uint64_t size, uint64_t alignment) { return attempt_of(heap_take(size, alignment)); }
+
+attempt rattle_realloc(void *block, uint64_t kept, uint64_t size, uint64_t alignment) {
+    return attempt_of(heap_resize(block, kept, size, alignment));
+}
+
+void rattle_dealloc(void *block) { heap_give(block); }
+
+/* Bytes at any address that are read and written at once. */
+typedef struct __attribute__((packed, may_alias)) {
+    uint64_t word[4];
+} block;
+
+typedef struct __attribute__((packed, may_alias)) {
+    uint64_t whole;
+} word;
+
+void *memset(void *start, int byte, size_t count) {
+    uint64_t filled = (uint8_t)byte * 0x0101010101010101;
+    uint8_t *bytes = start;
+    for (; count >= sizeof(block); count -= sizeof(block), bytes += sizeof(block)) {
+        *(block *)bytes = (block){{filled, filled, filled, filled}};
+    }
+    for (; count >= sizeof(word); count -= sizeof(word), bytes += sizeof(word)) ((word *)bytes)->whole = filled;
+    for (; count > 0; count--) *bytes++ = (uint8_t)byte;
+    return start;
+}
+
+/* Copies from the first byte on: right where `to` stands before `from`, or the two don't overlap. */
+static void copy_upwards(uint8_t *to, const uint8_t *from, size_t count) {
+    for (; count >= sizeof(block); count -= sizeof(block), to += sizeof(block), from += sizeof(block)) {
+        *(block *)to = *(const block *)from;
+    }
+    for (; count >= sizeof(word); count -= sizeof(word), to += sizeof(word), from += sizeof(word)) {
+        *(word *)to = *(const word *)from;
+    }
+    for (; count > 0; count--) *to++ = *from++;
+}
+
+void *memcpy(void *restrict to, const void *restrict from, size_t count) {
+    copy_upwards(to, from, count);
+    return to;
+}
+
+void *memmove(void *to, const void *from, size_t count) {
+    uint8_t *written = to;
+    const uint8_t *read = from;
+    if ((uintptr_t)written <= (uintptr_t)read) {
+        copy_upwards(written, read, count);
+    } else {
+        while (count-- > 0) written[count] = read[count];
+    }
+    return to;
+}
+
+int memcmp(const void *one, const void *other, size_t count) {
+    const uint8_t *first = one, *second = other;
+    for (size_t at = 0; at < count; at++) {
+        if (first[at] != second[at]) return first[at] < second[at] ? -1 : 1;
+    }
+    return 0;
+}
+
+/* Shifts of 128 bits, by 0 to 127. */
+typedef union {
+    unsigned __int128 whole;
+    struct {
+        uint64_t low, high;
+    } half;
+} wide;
+
+unsigned __int128 __lshrti3(unsigned __int128 number, int count) {
+    wide given = {.whole = number}, shifted;
+    if (count == 0) return number;
+    if (count >= 64) {
+        shifted.half.low = given.half.high >> (count - 64);
+        shifted.half.high = 0;
+    } else {
+        shifted.half.low = given.half.low >> count | given.half.high << (64 - count);
+        shifted.half.high = given.half.high >> count;
+    }
+    return shifted.whole;
+}
+
+unsigned __int128 __ashlti3(unsigned __int128 number, int count) {
+    wide given = {.whole = number}, shifted;
+    if (count == 0) return number;
+    if (count >= 64) {
+        shifted.half.low = 0;
+        shifted.half.high = given.half.low << (count - 64);
+    } else {
+        shifted.half.low = given.half.low << count;
+        shifted.half.high = given.half.high << count | given.half.low >> (64 - count);
+    }
+    return shifted.whole;
+}

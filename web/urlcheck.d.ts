@@ -1,0 +1,170 @@
+/**
+ * The checker of valid URL strings (WHATWG URL Standard, sections 3.4 and 4.3), alone or against a base.
+ *
+ * An index counts UTF-16 units of the caller's string, from 0, and a place code points. A range is two indices, the
+ * second behind the part's end, as `slice` takes them.
+ */
+
+/**
+ * Loads the module and gives a checker. Without a source it is the `urlcheck.wasm` beside `urlcheck.js`.
+ * @param source the module, its bytes, a response that has them, or its address, which may be relative to `urlcheck.js`
+ */
+export function load(source?: Source): Promise<Checker>
+
+/** Where the module comes from. */
+export type Source = string | URL | BufferSource | Response | WebAssembly.Module
+
+/** A checker: one instance of the module. Several may stand beside each other, each with its own memory. */
+export interface Checker {
+  /**
+   * Whether a text is a valid URL string, alone or against a base, which is judged alone by the same profile.
+   * @throws {BaseRefused} where the base isn't valid alone
+   * @throws {TypeError} where a text is no string or has a lone surrogate, or no profile has the name
+   * @throws {RangeError} where there is no memory for the text; the next call works
+   */
+  check(text: string, options?: Options): Valid | Refused
+
+  /**
+   * All that is wrong with a text, by place and at one place by the rule's number; nothing where it is valid.
+   * @throws what `check` throws
+   */
+  faults(text: string, options?: Options): Fault[]
+
+  /**
+   * The record of the URL that a valid text denotes, and its text.
+   * @throws what `check` throws
+   */
+  resolve(text: string, options?: Options): Resolved | Refused
+
+  /**
+   * What a rule says and asks, where it stands in the URL Standard, and an example.
+   * @throws {TypeError} where no rule has the name
+   */
+  explain(rule: RuleName): Explanation
+
+  /** The names of the rules, in the order of their numbers. */
+  readonly rules: readonly RuleName[]
+
+  /** The version of the library. */
+  readonly version: string
+}
+
+/** How a text is judged. */
+export interface Options {
+  /** The base, or none. */
+  base?: string | null | undefined
+  /** By which written grammar the text and the base are judged; without one by the standard grammar. */
+  profile?: Profile | undefined
+}
+
+/**
+ * `standard`: the URL Standard's valid URL strings. `wide`: also `_` and hyphens wherever they stand in domains, and
+ * any segments behind an authority.
+ */
+export type Profile = 'standard' | 'wide'
+
+/** The names of the rules. */
+export type RuleName =
+  | 'no-scheme'
+  | 'opaque-base'
+  | 'two-slashes'
+  | 'host-missing'
+  | 'host-domain'
+  | 'host-number'
+  | 'host-ipv6'
+  | 'host-code-point'
+  | 'port-digit'
+  | 'port-range'
+  | 'first-segment-empty'
+  | 'drive-after-host'
+  | 'code-point'
+  | 'percent'
+
+/** Where a part begins, and the index behind its end. */
+export type Range = [start: number, end: number]
+
+/** A valid URL string, with its parts: slices of the text without their delimiters, and null where absent. */
+export interface Valid {
+  valid: true
+  scheme: string | null
+  host: string | null
+  port: string | null
+  /** The path is always there, though it may be empty. */
+  path: string
+  query: string | null
+  fragment: string | null
+  ranges: Ranges
+}
+
+/** Where the parts of a valid text stand in it. */
+export interface Ranges {
+  scheme: Range | null
+  host: Range | null
+  port: Range | null
+  path: Range
+  query: Range | null
+  fragment: Range | null
+}
+
+/** A rule that a text violates, and where. */
+export interface Fault {
+  rule: RuleName
+  /** In code points. */
+  place: number
+  /** In UTF-16 units. */
+  index: number
+}
+
+/** The first fault of a text that isn't valid. */
+export interface Refused extends Fault {
+  valid: false
+}
+
+/** The record that a valid text denotes. */
+export interface Resolved {
+  valid: true
+  /** The record's text, as a browser shows it: ASCII alone. */
+  text: string
+  record: UrlRecord
+}
+
+/** The parts of a record, as its text has them. */
+export interface UrlRecord {
+  scheme: string
+  host: { kind: 'domain' | 'ipv4' | 'ipv6' | 'opaque' | 'empty'; text: string } | null
+  port: string | null
+  /** The path, or null where it is opaque. */
+  segments: string[] | null
+  opaquePath: string | null
+  query: string | null
+  fragment: string | null
+}
+
+/** What is known of a rule. */
+export interface Explanation {
+  readonly rule: RuleName
+  /** What is wrong at the place of a fault. */
+  readonly sentence: string
+  /** What the rule asks. */
+  readonly asks: string
+  /** The section of the URL Standard that asks it. */
+  readonly section: string
+  /** A text that violates the rule, with the base that it is read against, the place, and the text mended. */
+  readonly example: Example
+}
+
+/** A text that violates a rule. */
+export interface Example {
+  readonly text: string
+  readonly base: string | null
+  readonly place: number
+  readonly mended: string
+}
+
+/** The base, judged alone, violates a rule; nothing is said of the text. */
+export class BaseRefused extends Error {
+  constructor(rule: RuleName, place: number, index: number)
+  readonly rule: RuleName
+  readonly place: number
+  readonly index: number
+}
