@@ -212,5 +212,5 @@ for (const [name, test] of Object.entries(tests)) {
     console.log(`FAILED: ${name}: ${String(error.message).slice(0, 600)}`)
   }
 }
-console.log(`page: ${Object.keys(tests).length - failed} of ${Object.keys(tests).length} tests of calls pass`)
+console.log(`browser: ${Object.keys(tests).length - failed} of ${Object.keys(tests).length} tests of calls pass`)
 process.exit(failed === 0 ? 0 : 1)

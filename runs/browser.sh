@@ -5,15 +5,15 @@
 set -euo pipefail
 program=$(realpath "$1")
 top=$(dirname "$(dirname "$(realpath "$0")")")
-here=$top/runs/page
+here=$top/runs/browser
 room=$(mktemp -d)
 trap 'rm -rf "$room"' EXIT
 
 for tool in node python3 wasm-opt; do
-    command -v "$tool" >/dev/null || { echo "page: left out, since $tool isn't installed"; exit 0; }
+    command -v "$tool" >/dev/null || { echo "browser: left out, since $tool isn't installed"; exit 0; }
 done
 [ "$(node -p 'process.versions.node.split(".")[0] >= 18')" = true ] ||
-    { echo "page: left out, since node is older than 18"; exit 0; }
+    { echo "browser: left out, since node is older than 18"; exit 0; }
 folder=${2:-$room/page}
 if [ $# -lt 2 ]; then
     URLCHECK=$program "$top/build-page" "$folder" >"$room/built" 2>&1 || { cat "$room/built"; exit 1; }
@@ -26,7 +26,7 @@ if command -v cc >/dev/null; then
         "$top/web/module/heap.c" "$here/heap.c" -o "$room/heap"
     "$room/heap"
 else
-    echo "page: the heap alone is left out, since cc isn't installed"
+    echo "browser: the heap alone is left out, since cc isn't installed"
 fi
 
 python3 "$here/answers.py" "$program" "$room/cases.json" "$top"/vectors/*.json
@@ -40,7 +40,7 @@ if command -v tsc >/dev/null; then
     cp "$folder/urlcheck.js" "$room/types/written.js"
     tsc --strict --noEmit --target es2022 --module es2022 --moduleResolution node --lib es2022,dom --allowJs --checkJs \
         "$room/types/types.ts" "$room/types/node.d.ts"
-    echo 'page: the types are those of urlcheck.js'
+    echo 'browser: the types are those of urlcheck.js'
 else
-    echo "page: the types are left out, since tsc isn't installed"
+    echo "browser: the types are left out, since tsc isn't installed"
 fi

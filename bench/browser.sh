@@ -1,16 +1,16 @@
 #!/usr/bin/env bash
 # A check from JavaScript beside the engine's own URL.canParse, for mixed links of 70 code points, under Node: at most 4
 # times, the least of 15 rounds in one run. It needs python3 and node, and builds the module unless a folder is given.
-# Usage: bench/page.sh [FOLDER [ROUNDS]]
+# Usage: bench/browser.sh [FOLDER [ROUNDS]]
 set -euo pipefail
 top=$(dirname "$(dirname "$(realpath "$0")")")
 for tool in node python3; do
-    command -v "$tool" >/dev/null || { echo "page: $tool is missing"; exit 2; }
+    command -v "$tool" >/dev/null || { echo "browser: $tool is missing"; exit 2; }
 done
 room=$(mktemp -d)
 trap 'rm -rf "$room"' EXIT
 folder=${1:-}
 [ -n "$folder" ] || { folder=$room/page && "$top/build-page" "$folder" >&2; }
 python3 "$top/bench/links.py" 40000 1 2>/dev/null | awk 'length($0) == 70' >"$room/links"
-[ -s "$room/links" ] || { echo 'page: no links'; exit 2; }
-node "$top/bench/page.mjs" "$folder" "${2:-15}" 4 <"$room/links"
+[ -s "$room/links" ] || { echo 'browser: no links'; exit 2; }
+node "$top/bench/browser.mjs" "$folder" "${2:-15}" 4 <"$room/links"

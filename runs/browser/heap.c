@@ -124,6 +124,6 @@ int main(void) {
     an_emptied_heap_begins_anew();
     a_refused_growth_leaves_all();
     no_address_is_too_high();
-    puts("page: the heap keeps blocks apart, is emptied, and bears a refused growth");
+    puts("browser: the heap keeps blocks apart, is emptied, and bears a refused growth");
     return 0;
 }

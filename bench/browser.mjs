@@ -1,6 +1,6 @@
 // A check from JavaScript beside the engine's own URL.canParse, in one run: the least of so many rounds, each of them
 // some passes over the links of standard input, one a line. It fails where a check takes more than so many times as
-// long, or where a valid link doesn't parse. See bench/page.sh. Usage: node bench/page.mjs FOLDER ROUNDS MOST <LINKS,
+// long, or where a valid link doesn't parse. See bench/browser.sh. Usage: node bench/browser.mjs FOLDER ROUNDS MOST <LINKS,
 // FOLDER being one that ./build-page has made.
 import { readFileSync } from 'node:fs'
 import { resolve } from 'node:path'
