@@ -1,11 +1,11 @@
 #!/usr/bin/env python3
 """Draws docs/profiles.svg, the picture of the profiles: `docs/profiles.py >docs/profiles.svg`.
 
-Each profile is a room within the next wider one. On each border stands a text that is outside the room and inside the
-next one: the first text that only the wider one takes.
+Each profile is a room within the next wider one. At each border stands a text that the wider one takes, and the
+narrower one within it doesn't.
 """
 
-# From the outermost room to the innermost: what it is, a text that the next room within doesn't have, and its colour.
+# From the outermost room to the innermost: what it is, a text that the next room within doesn't have, its colour.
 ROOMS = (
     ("all texts", "http://[", "#f3f4f6"),
     ("the Standard's parser repairs it, as browsers do", "http:\\\\example.com\\a b", "#fde8d7"),
@@ -27,13 +27,12 @@ def room(depth, name, example, colour):
     inner = len(ROOMS) - 1 - depth
     left, top = SIDE * depth + 1, 34 * depth + 1
     width, height = WIDTH - 2 * SIDE * depth - 2, INNERMOST + STEP * inner - 2
-    label = 10 + 7.4 * len(example)
     return """
   <rect x="{left}" y="{top}" width="{width}" height="{height}" rx="10" fill="{colour}" stroke="#4b5563"/>
   <text x="{name_x}" y="{name_y}" {font} font-size="14" fill="#111827">{name}</text>
   <text x="{text_x}" y="{text_y}" {mono} font-size="13" fill="#111827" text-anchor="end">{example}</text>""".format(
         left=left, top=top, width=width, height=height, colour=colour, name_x=left + 14, name_y=top + 22, font=FONT,
-        mono=MONO, name=escaped(name), example=escaped(example), label=label,
+        mono=MONO, name=escaped(name), example=escaped(example),
         text_x=left + width - 14, text_y=top + height - 9 if depth < len(ROOMS) - 1 else top + 46)
 
 
