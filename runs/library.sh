@@ -84,6 +84,15 @@ if command -v pkg-config >/dev/null && command -v cc >/dev/null; then
 else
     echo "library: the lines that build a program are left out, since pkg-config or cc isn't installed"
 fi
+for tests in documents errors; do
+    python3 $tests.py >"$room/tests" 2>&1 || { cat "$room/tests"; exit 1; }
+done
+echo 'library: links in documents, errors of the package'
+if python3 -m mypy --version >/dev/null 2>&1; then
+    python3 -m mypy --strict -p urlcheck >"$room/types" 2>&1 || { cat "$room/types"; exit 1; }
+else
+    echo "library: the package's types left out, since mypy isn't installed"
+fi
 python3 -c 'import doctest, sys, urlcheck; sys.exit(doctest.testmod(urlcheck).failed)'
 python3 - "$top/docs/RULES.md" <<'END'
 import sys, urlcheck

@@ -15,7 +15,7 @@ The functions keep no state and may be called from any thread.
 import ctypes
 import enum
 from dataclasses import dataclass
-from typing import Callable, List, Optional, Union
+from typing import Any, Callable, Iterable, Iterator, List, Literal, Optional, Tuple, Union
 
 from . import _library
 from ._library import LIBRARY
@@ -27,7 +27,9 @@ __all__ = [
     "RULES",
     "Refused",
     "Valid",
+    "__version__",
     "check",
+    "check_each",
     "faults",
     "resolve",
     "sentence",
@@ -57,7 +59,7 @@ class Valid:
     query: Optional[str]
     fragment: Optional[str]
 
-    def __bool__(self) -> bool:
+    def __bool__(self) -> Literal[True]:
         return True
 
 
@@ -68,7 +70,7 @@ class Refused:
     rule: str
     place: int
 
-    def __bool__(self) -> bool:
+    def __bool__(self) -> Literal[False]:
         return False
 
 
@@ -84,27 +86,44 @@ class BaseRefused(ValueError):
     """The base, judged alone, violates ``rule`` at ``place``; nothing is said of the text."""
 
     def __init__(self, rule: str, place: int) -> None:
-        super().__init__("the base is refused: {} at {}".format(rule, place))
+        super().__init__(rule, place)
         self.rule = rule
         self.place = place
+
+    def __str__(self) -> str:
+        return "the base is refused: {} at {}".format(self.rule, self.place)
 
 
 def check(text: str, base: Optional[str] = None, profile: Profile = Profile.STANDARD) -> Union[Valid, Refused]:
     """Whether the text is a valid URL string, alone or against the base.
 
     Raises ``BaseRefused`` where the base isn't valid alone, ``UnicodeEncodeError`` where a text holds a surrogate,
-    which is no code point of a text, and ``MemoryError``.
+    which is no code point of a text, ``TypeError`` where the text or the base is no ``str``, ``ValueError`` where no
+    profile has the number, and ``MemoryError``.
     """
-    data = text.encode()
-    if base is None:
-        answer = LIBRARY.urlcheck_check(data, len(data), profile)
+    data, below, number = _given(text, base, profile)
+    if below is None:
+        answer = LIBRARY.urlcheck_check(data, len(data), number)
     else:
-        below = base.encode()
-        answer = LIBRARY.urlcheck_check_against(data, len(data), below, len(below), profile)
+        answer = LIBRARY.urlcheck_check_against(data, len(data), below, len(below), number)
     _stop_unless_judged(answer.found)
     if answer.found.verdict == _REFUSED:
         return Refused(_name(answer.found.rule), answer.found.place)
-    return Valid(*(_slice(text, data, getattr(answer.parts, part)) for part in _library.PARTS))
+    slices = (_slice(text, data, getattr(answer.parts, part)) for part in _library.PARTS)
+    scheme, host, port, path, query, fragment = slices
+    return Valid(scheme, host, port, path or "", query, fragment)
+
+
+def check_each(
+    texts: Iterable[str], base: Optional[str] = None, profile: Profile = Profile.STANDARD
+) -> Iterator[Union[Valid, Refused]]:
+    """The answers of ``check`` for these texts, one after the other, as they are asked for.
+
+    Raises what ``check`` raises; a base that is refused and a profile that isn't one at the first answer.
+    """
+    if isinstance(texts, (str, bytes)):
+        raise TypeError("texts are wanted, not one {}".format(type(texts).__name__))
+    return (check(text, base, profile) for text in texts)
 
 
 def faults(text: str, base: Optional[str] = None, profile: Profile = Profile.STANDARD) -> List[Fault]:
@@ -135,7 +154,7 @@ def resolve(text: str, base: Optional[str] = None, profile: Profile = Profile.ST
         if answer.found.verdict == _REFUSED:
             return Refused(_name(answer.found.rule), answer.found.place)
         if answer.length <= room:
-            return out.raw[: answer.length].decode("ascii")
+            return str(out.raw[: answer.length], "ascii")
         room = answer.length
 
 
@@ -150,13 +169,28 @@ def version() -> str:
     return "{}.{}.{}".format(number // 10000, number // 100 % 100, number % 100)
 
 
-def _called(name: str, text: str, base: Optional[str], profile: Profile, out: ctypes.Array, room: int):
+def _given(text: str, base: Optional[str], profile: Profile) -> Tuple[bytes, Optional[bytes], Profile]:
+    """The bytes of a text and of a base, and the profile, each seen to be one."""
+    if not isinstance(text, str):
+        raise TypeError("a text is a str, not {}".format(type(text).__name__))
+    if base is not None and not isinstance(base, str):
+        raise TypeError("a base is a str or None, not {}".format(type(base).__name__))
+    if isinstance(profile, bool) or not isinstance(profile, int):
+        raise TypeError("a profile is a urlcheck.Profile, not {}".format(type(profile).__name__))
+    try:
+        judged_by = Profile(profile)
+    except ValueError:
+        names = ", ".join("{} ({})".format(it.name, it.value) for it in Profile)
+        raise ValueError("no profile has the number {}: there are {}".format(profile, names)) from None
+    return text.encode(), None if base is None else base.encode(), judged_by
+
+
+def _called(name: str, text: str, base: Optional[str], profile: Profile, out: Any, room: int) -> Any:
     """The answer of a function that writes into ``out``, alone or against the base."""
-    data = text.encode()
-    if base is None:
-        return getattr(LIBRARY, name)(data, len(data), profile, out, room)
-    below = base.encode()
-    return getattr(LIBRARY, name + "_against")(data, len(data), below, len(below), profile, out, room)
+    data, below, number = _given(text, base, profile)
+    if below is None:
+        return getattr(LIBRARY, name)(data, len(data), number, out, room)
+    return getattr(LIBRARY, name + "_against")(data, len(data), below, len(below), number, out, room)
 
 
 def _stop_unless_judged(found: _library.Finding) -> None:
@@ -192,6 +226,9 @@ _SENTENCES = {_NAMES[rule]: _read(LIBRARY.urlcheck_rule_sentence, rule) for rule
 
 RULES = tuple(_NAMES[1:])
 """The names of the rules, in the order of their numbers."""
+
+
+__version__ = version()
 
 
 def _name(rule: int) -> str:

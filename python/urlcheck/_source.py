@@ -1,0 +1,78 @@
+"""The text of a document, and the links that are found in it."""
+
+import bisect
+import re
+from dataclasses import dataclass
+from typing import Iterator, List, Optional, Tuple
+
+SPACES = " \t\n\f\r"
+"""What HTML and XML allow around a URL: ASCII whitespace."""
+
+IGNORE = "urlcheck: ignore"
+"""What a comment says on the line before a link that is meant as it is."""
+
+_WORD = re.compile("[^" + SPACES + "]+")
+
+
+@dataclass(frozen=True)
+class Link:
+    """A link of a document."""
+
+    text: str
+    """The link, without the spaces around it, and with character references read."""
+    offset: int
+    """Where it begins in the source, in code points from 0."""
+    is_verbatim: bool
+    """Whether it stands in the source as it is, so that a place within it is one of the source."""
+    base: Optional[str] = None
+    """What the document says that it is relative to, alone or against the document's own address."""
+
+
+class Broken(ValueError):
+    """Why a reader stopped before a document's end, and where, from 1; what was found before stands."""
+
+    def __init__(self, line: int, column: int, reason: str) -> None:
+        super().__init__("{}:{}: {}".format(line, column, reason))
+
+
+class Source:
+    """The text of a document, which finds the line and the column of a place in it."""
+
+    def __init__(self, text: str) -> None:
+        self.text = text
+        self._starts: List[int] = [0]
+        at = text.find("\n")
+        while at >= 0:
+            self._starts.append(at + 1)
+            at = text.find("\n", at + 1)
+
+    def position(self, offset: int) -> Tuple[int, int]:
+        """The line and the column of a place, both from 1; a column is one of code points."""
+        line = bisect.bisect_right(self._starts, offset)
+        return line, offset - self._starts[line - 1] + 1
+
+    def offset(self, line: int, column: int) -> int:
+        """The place of a line from 1 and a column from 0."""
+        return self._starts[line - 1] + column
+
+    def line(self, number: int) -> str:
+        """A line from 1, without its line feed; empty behind the last."""
+        if number > len(self._starts):
+            return ""
+        start = self._starts[number - 1]
+        end = self._starts[number] - 1 if number < len(self._starts) else len(self.text)
+        return self.text[start:end]
+
+
+def stripped(value: str, offset: int, is_verbatim: bool, base: Optional[str] = None) -> Link:
+    """The link of a value that begins there, without the spaces around it."""
+    link = value.strip(SPACES)
+    if is_verbatim:
+        offset += len(value) - len(value.lstrip(SPACES))
+    return Link(link, offset, is_verbatim, base)
+
+
+def words_of(value: str) -> Iterator[Tuple[str, int]]:
+    """The words of a value that spaces separate, each with where it begins in the value."""
+    for found in _WORD.finditer(value):
+        yield found.group(), found.start()

@@ -1,0 +1,325 @@
+"""The links of documents, where they stand: of HTML, XML and Markdown.
+
+``python3 -m urlcheck.documents FILE..`` (or ``urlcheck-documents FILE..``) prints a line ``FILE:LINE:COLUMN:LINK`` for
+each link, which ``urlcheck lint --located`` reads; with ``--check`` it judges them, and reports each that is refused.
+"""
+
+import argparse
+import os
+import re
+import resource
+import signal
+import sys
+from typing import Callable, Dict, Iterator, List, NamedTuple, Optional, Set, Tuple
+
+from . import BaseRefused, Profile, check, resolve, sentence, version
+from . import _html_links, _markdown_links, _xml_links
+from ._source import Broken, Link, Source
+
+MOST_BYTES = 32 * 1024 * 1024
+"""How many bytes a document may have."""
+
+MOST_SECONDS = 60
+"""How long a document may take to read."""
+
+MOST_MEMORY = 480 * 1024 * 1024
+"""How many bytes of memory the program may have."""
+
+SOMEWHERE = "https://example.com/"
+"""What a reference is judged against where neither the document nor the caller names a base."""
+
+KINDS = {
+    "html": "html",
+    "htm": "html",
+    "xhtml": "xml",
+    "xht": "xml",
+    "xml": "xml",
+    "rss": "xml",
+    "atom": "xml",
+    "rdf": "xml",
+    "svg": "xml",
+    "md": "markdown",
+    "markdown": "markdown",
+}
+"""The kind of a document by its name's end."""
+
+Report = Callable[[str], None]
+
+
+class Unread(Exception):
+    """Why a document can't be read."""
+
+
+class Settings(NamedTuple):
+    """What documents are read and judged by."""
+
+    kind: Optional[str] = None
+    base: Optional[str] = None
+    profile: Profile = Profile.STANDARD
+    ignored: Tuple["re.Pattern[str]", ...] = ()
+
+
+class Counts:
+    """What was seen of all documents."""
+
+    def __init__(self) -> None:
+        self.documents = 0
+        self.links = 0
+        self.refused = 0
+        self.ignored = 0
+        self.unread = 0
+
+    def status(self) -> int:
+        """2 where a document wasn't read, else 1 where a link is refused, else 0."""
+        return 2 if self.unread else 1 if self.refused else 0
+
+
+def kind_of(name: str) -> Optional[str]:
+    """The kind of a document of that name, if its end says so."""
+    return KINDS.get(os.path.basename(name).rpartition(".")[2].lower())
+
+
+class Found(NamedTuple):
+    """What was found in a document."""
+
+    source: Source
+    links: List[Link]
+    ignored: Set[int]
+    """The lines whose links are to be ignored."""
+    broken: Optional[Broken]
+    """Why the reader stopped before the document's end, if it did."""
+
+
+def links_in(data: bytes, kind: str) -> Found:
+    """The links of a document. Raises ``Unread`` where it can't be read at all."""
+    if len(data) > MOST_BYTES:
+        raise Unread("has more than {} MiB".format(MOST_BYTES >> 20))
+    try:
+        source = Source(data.decode("utf-8"))
+    except UnicodeDecodeError as error:
+        raise Unread("isn't UTF-8 at byte {}".format(error.start)) from None
+    if kind == "xml":
+        return Found(source, *_xml_links.links_of(source, data))
+    if kind == "html":
+        return Found(source, *_html_links.links_of(source))
+    try:
+        return Found(source, *_markdown_links.links_of(source), None)
+    except ImportError:
+        raise Unread("is Markdown, which needs the package markdown-it-py") from None
+
+
+def located(name: str, source: Source, link: Link) -> str:
+    """The line that says where a link stands. A line feed or a carriage return within it is written as a tab, which is
+    refused alike."""
+    line, column = source.position(link.offset)
+    return "{}:{}:{}:{}".format(name, line, column, re.sub("[\r\n]", "\t", link.text))
+
+
+class Judge:
+    """Judges links against the base of their document."""
+
+    def __init__(self, settings: Settings) -> None:
+        self._settings = settings
+        self._bases: Dict[str, str] = {}
+
+    def _base(self, named: Optional[str]) -> str:
+        """What a link is judged against: the base that its document names, read against the caller's, if valid."""
+        outer = self._settings.base or SOMEWHERE
+        if named is None:
+            return outer
+        if named not in self._bases:
+            found = resolve(named, outer, self._settings.profile)
+            self._bases[named] = found if isinstance(found, str) else outer
+        return self._bases[named]
+
+    def finding(self, name: str, source: Source, link: Link) -> Optional[str]:
+        """What is wrong with a link, if something is: a line as compilers write it."""
+        answer = check(link.text, self._base(link.base), self._settings.profile)
+        if answer:
+            return None
+        offset = link.offset + answer.place if link.is_verbatim else link.offset
+        return "{}:{}:{}: error: {} [{}]".format(name, *source.position(offset), sentence(answer.rule), answer.rule)
+
+
+def read_document(name: str) -> bytes:
+    """The document's bytes, at most one more than it may have; those of standard input for ``-``. Raises ``Unread``."""
+    try:
+        if name == "-":
+            return sys.stdin.buffer.read(MOST_BYTES + 1)
+        with open(name, "rb") as file:
+            return file.read(MOST_BYTES + 1)
+    except OSError as error:
+        raise Unread("can't be read: {}".format(error.strerror)) from None
+
+
+def documents_of(names: List[str]) -> Iterator[str]:
+    """The documents of these names, and those within a folder whose names' ends say a kind, in order."""
+    for name in names:
+        if name == "-" or not os.path.isdir(name):
+            yield name
+            continue
+        for folder, folders, files in os.walk(name):
+            folders.sort()
+            yield from (os.path.join(folder, file) for file in sorted(files) if kind_of(file))
+
+
+class Run:
+    """The documents read so far: what was asked for, and what was seen."""
+
+    def __init__(self, settings: Settings, judge: Optional[Judge], write: Report, tell: Report) -> None:
+        self._settings = settings
+        self._judge = judge
+        self._write = write
+        self._tell = tell
+        self.counts = Counts()
+
+    def take(self, name: str) -> None:
+        """Writes the located links of a document or, with a judge, what is wrong with them."""
+        shown = re.sub("[\x00-\x1f\x7f-\x9f]", "\ufffd", name)
+        try:
+            found = self._read(name, shown)
+            self.counts.documents += 1
+            for link in found.links:
+                self._take_link(shown, found, link)
+            if found.broken:
+                raise Unread(str(found.broken))
+        except (Unread, MemoryError, RecursionError) as reason:
+            self.counts.unread += 1
+            self._tell("{}: {}".format(shown, _REASONS.get(type(reason)) or reason))
+
+    def _read(self, name: str, shown: str) -> Found:
+        kind = self._settings.kind or kind_of(name)
+        if kind is None:
+            raise Unread("its name's end says no kind: give --type html, xml or markdown")
+        if self._judge is None and shown != name:
+            raise Unread("its name has a control, which no located line can hold")
+        return links_in(read_document(name), kind)
+
+    def _take_link(self, name: str, found: Found, link: Link) -> None:
+        self.counts.links += 1
+        if found.source.position(link.offset)[0] in found.ignored or self._is_meant(link.text):
+            self.counts.ignored += 1
+        elif self._judge is None:
+            self._write(located(name, found.source, link))
+        else:
+            finding = self._judge.finding(name, found.source, link)
+            if finding:
+                self.counts.refused += 1
+                self._write(finding)
+
+    def _is_meant(self, text: str) -> bool:
+        return any(it.search(text) for it in self._settings.ignored)
+
+
+_REASONS = {
+    MemoryError: "needs more than {} MiB of memory".format(MOST_MEMORY >> 20),
+    RecursionError: "is nested too deeply",
+}
+
+
+def _patterns(name: Optional[str]) -> Tuple["re.Pattern[str]", ...]:
+    """The regular expressions of a file, one a line; a line that begins with ``#`` is a comment."""
+    if name is None:
+        return ()
+    try:
+        with open(name, encoding="utf-8") as file:
+            lines = [line.rstrip("\r\n") for line in file]
+    except (OSError, UnicodeDecodeError) as error:
+        raise SystemExit(_stop("{}: can't be read: {}".format(name, getattr(error, "strerror", None) or error)))
+    patterns = []
+    for number, line in enumerate(lines, 1):
+        if line.strip() and not line.startswith("#"):
+            try:
+                patterns.append(re.compile(line))
+            except re.error as error:
+                raise SystemExit(_stop("{}:{}: no regular expression: {}".format(name, number, error)))
+    return tuple(patterns)
+
+
+def _tell(line: str) -> None:
+    """Writes a line to standard error."""
+    print("urlcheck-documents: " + line, file=sys.stderr)
+
+
+def _stop(line: str) -> int:
+    _tell(line)
+    return 2
+
+
+def _write(line: str) -> None:
+    sys.stdout.buffer.write(line.encode("utf-8", "surrogateescape") + b"\n")
+
+
+def _parser() -> argparse.ArgumentParser:
+    parser = argparse.ArgumentParser(
+        prog="urlcheck-documents",
+        description="Prints the links of documents as lines FILE:LINE:COLUMN:LINK, for `urlcheck lint --located`; "
+        "with --check, judges them.",
+        epilog="A reference is judged against the base that its document names, else against --base, else against "
+        + SOMEWHERE
+        + ", since a verdict depends on the scheme and the path of the base alone. "
+        "`urlcheck: ignore` in a comment on the line before a link in HTML, XML and Markdown leaves it out. "
+        "Status: 0 where no link is refused, 1 where one is, 2 where a document can't be read or the arguments are "
+        "wrong, 3 where the output can't be written.",
+    )
+    add = parser.add_argument
+    add("files", nargs="+", metavar="FILE", help="a document, a folder of documents, or - for standard input")
+    add("--check", action="store_true", help="judge the links, and report those that are refused")
+    add("--base", metavar="URL", help="what the documents' references are relative to")
+    names = [it.name.lower() for it in Profile]
+    add("--profile", choices=names, default="standard", help="the written grammar to judge by")
+    add("--type", dest="kind", choices=sorted(set(KINDS.values())), help="the kind of all documents")
+    add("--ignore", metavar="FILE", help="regular expressions, one a line, of links that are meant as they are")
+    add("--version", action="version", version="urlcheck-documents " + version())
+    return parser
+
+
+def _too_long(*_: object) -> None:
+    raise Unread("takes more than {} seconds to read".format(MOST_SECONDS))
+
+
+def run(words: Optional[List[str]] = None) -> int:
+    """Runs the program on these words, and gives its status."""
+    given = _parser().parse_args(words)
+    profile = Profile[given.profile.upper()]
+    settings = Settings(given.kind, given.base, profile, _patterns(given.ignore))
+    if given.base is not None:
+        try:
+            check("", given.base, profile)
+        except BaseRefused as refused:
+            return _stop("base refused {} {}".format(refused.place, refused.rule))
+    seen = Run(settings, Judge(settings) if given.check else None, _write, _tell)
+    signal.signal(signal.SIGALRM, _too_long)
+    for name in documents_of(given.files):
+        signal.setitimer(signal.ITIMER_REAL, MOST_SECONDS)
+        seen.take(name)
+        signal.setitimer(signal.ITIMER_REAL, 0)
+    sys.stdout.buffer.flush()
+    counts = seen.counts
+    refused_links = ", {} refused".format(counts.refused) if given.check else ""
+    documents, links = _number(counts.documents, "document"), _number(counts.links, "link")
+    _tell("{}, {}{}, {} ignored".format(documents, links, refused_links, counts.ignored))
+    return counts.status()
+
+
+def _number(count: int, noun: str) -> str:
+    return "{} {}{}".format(count, noun, "" if count == 1 else "s")
+
+
+def main() -> None:
+    """The program ``urlcheck-documents``."""
+    # (a hostile document is to cost no more than this)
+    resource.setrlimit(resource.RLIMIT_AS, (MOST_MEMORY, resource.getrlimit(resource.RLIMIT_AS)[1]))
+    try:
+        status = run()
+    except OSError as error:
+        # What is left to be written goes nowhere.
+        os.dup2(os.open(os.devnull, os.O_WRONLY), sys.stdout.fileno())
+        if not isinstance(error, BrokenPipeError):
+            _tell("the output can't be written: {}".format(error.strerror))
+        status = 3
+    sys.exit(status)
+
+
+if __name__ == "__main__":
+    main()

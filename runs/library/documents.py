@@ -1,0 +1,225 @@
+"""Tests of urlcheck.documents: where links stand, what is judged, and hostile documents. The package is on PYTHONPATH."""
+
+import importlib.util
+import os
+import re
+import resource
+import subprocess
+import sys
+import tempfile
+import unittest
+
+PROGRAM = [sys.executable, "-m", "urlcheck.documents"]
+
+PAGE = """<!DOCTYPE html><title>x <a href="no link"></title>
+<base href="http://h/a/b">
+<a href="ok">a</a> <a class=x href=' http://h/a b '>b</a>
+<img src="x&amp;y z" srcset="a.png 1x, b.png 2x,,c.png 100w">
+<meta http-equiv="Refresh" content="5; url='next page.html'">
+<!-- urlcheck: ignore -->
+<a href="{{ template }}">t</a>
+<a
+  title="1>2" href="urn:\u00e9 a" href="second">c</a>
+<script>var text = '<a href="no link">';</script><textarea><a href="no link"></textarea>
+<!-- <a href="no link"> --><a href="two
+lines">z</a><A HREF=bare>b</A><a ping="/p /q r">p</a>
+"""
+
+PAGE_LINKS = """2:13:http://h/a/b
+3:10:ok
+3:38:http://h/a b
+4:11:x&y z
+4:30:a.png
+4:40:b.png
+4:50:c.png
+5:45:next page.html
+9:21:urn:\u00e9 a
+11:37:two\tlines
+12:21:bare
+12:40:/p
+12:43:/q
+12:46:r
+"""
+
+FEED = """<?xml version="1.0" encoding="UTF-8"?>
+<rss version="2.0" xmlns:a="http://www.w3.org/2005/Atom"><channel>
+<link> http://h/a b </link><title>http://no/</title>
+<a:link rel="self" xmlns:x="urn:x" href="http://h:99999/"/>
+<item><guid isPermaLink="false">no link</guid><guid>http://h/%zz</guid>
+<link>http://h/?a&amp;b</link><enclosure length="1" url="/\u00e9 x"/></item>
+</channel></rss>
+"""
+
+FEED_LINKS = """3:8:http://h/a b
+4:42:http://h:99999/
+5:53:http://h/%zz
+6:7:http://h/?a&b
+6:58:/\u00e9 x
+"""
+
+SITEMAP = """<urlset xmlns="http://www.sitemaps.org/schemas/sitemap/0.9"><url><loc>
+  http://h/ b</loc></url></urlset>
+"""
+
+NOTES = """# Title [a](http://h/a%20b "t") and <http://h/%4>
+
+> quote [b](<http://h/a b>) text ![img](http://[::1)
+> more [ref] [c][two] `[no](no link)`
+
+- item <a href="http://h:x/">html</a> someone@example.com
+  [escaped](http://h/\\(a\\)^)
+
+<!-- urlcheck: ignore -->
+[meant so](http://h/^)
+
+    [code](no link)
+
+[ref]: http://h/^ref
+[two]: <http://h/r 2> "title"
+"""
+
+NOTES_LINKS = """1:13:http://h/a%20b
+1:38:http://h/%4
+3:14:http://h/a b
+3:41:http://[::1
+6:17:http://h:x/
+7:13:http://h/(a)^
+14:8:http://h/^ref
+15:9:http://h/r 2
+"""
+
+
+class Documents(unittest.TestCase):
+    def setUp(self):
+        room = tempfile.TemporaryDirectory()
+        self.addCleanup(room.cleanup)
+        self.room = room.name
+
+    def write(self, name, text):
+        with open(os.path.join(self.room, name), "wb") as file:
+            file.write(text if isinstance(text, bytes) else text.encode())
+
+    def run_on(self, *words, stdin=b""):
+        """The status, what was written, and what was said on standard error."""
+        ran = subprocess.run([*PROGRAM, *words], cwd=self.room, input=stdin, capture_output=True)
+        return ran.returncode, ran.stdout.decode(), ran.stderr.decode()
+
+    def finds(self, name, text, links):
+        self.write(name, text)
+        status, out, _ = self.run_on(name)
+        self.assertEqual(out, "".join(name + ":" + line + "\n" for line in links.splitlines()))
+        self.assertEqual(status, 0)
+
+    def judges(self, name, places, *words):
+        """The program names these places, each with its rule."""
+        status, out, _ = self.run_on("--check", *words, name)
+        found = re.findall(r"^.*?:(\d+:\d+): error: .* \[(.*)\]$", out, re.M)
+        self.assertEqual(found, places)
+        self.assertEqual(len(found), out.count("\n"))
+        self.assertEqual(status, 1 if places else 0)
+
+    def test_html(self):
+        self.finds("a.html", PAGE, PAGE_LINKS)
+        self.judges("a.html", [("3:48", "code-point"), ("4:11", "code-point"), ("5:49", "code-point"),
+                               ("9:26", "code-point"), ("11:40", "code-point")])
+
+    def test_xml(self):
+        self.finds("a.rss", FEED, FEED_LINKS)
+        self.judges("a.rss", [("3:18", "code-point"), ("4:51", "port-range"), ("5:62", "percent"), ("6:60", "code-point")])
+        self.finds("sitemap.xml", SITEMAP, "2:3:http://h/ b\n")
+
+    @unittest.skipUnless(importlib.util.find_spec("markdown_it"), "markdown-it-py isn't installed")
+    def test_markdown(self):
+        self.finds("a.md", NOTES, NOTES_LINKS)
+        self.judges("a.md", [("1:47", "percent"), ("3:24", "code-point"), ("3:48", "host-ipv6"), ("6:26", "port-digit"),
+                             ("7:13", "code-point"), ("14:17", "code-point"), ("15:19", "code-point")])
+
+    @unittest.skipIf(importlib.util.find_spec("markdown_it"), "markdown-it-py is installed")
+    def test_markdown_without_its_package(self):
+        self.write("a.md", NOTES)
+        status, out, said = self.run_on("a.md")
+        self.assertEqual((status, out), (2, ""))
+        self.assertIn("markdown-it-py", said)
+
+    def test_bases(self):
+        self.write("none.html", '<a href="//h/C|">')
+        self.judges("none.html", [("1:15", "code-point")])
+        self.write("base.html", '<base href="urn:a"><a href="x">')
+        self.judges("base.html", [("1:29", "opaque-base")])
+        self.write("given.html", '<a href="/C:/x"><a href="//">')
+        self.judges("given.html", [("1:10", "drive-after-host"), ("1:28", "host-missing")], "--base", "file://h/a")
+        self.assertEqual(self.run_on("--check", "--base", "x", "none.html")[0], 2)
+
+    def test_profiles(self):
+        self.write("a.html", '<a href="http://a_b/">')
+        self.judges("a.html", [("1:17", "host-domain")])
+        self.judges("a.html", [], "--profile", "wide")
+
+    def test_folders_and_input(self):
+        os.mkdir(os.path.join(self.room, "d"))
+        self.write("d/b.html", "<a href=x>")
+        self.write("d/a.html", "<a href=y>")
+        self.write("d/c.txt", "<a href=z>")
+        self.assertEqual(self.run_on("d")[1], "d/a.html:1:9:y\nd/b.html:1:9:x\n")
+        self.assertEqual(self.run_on("--type", "html", "-", stdin=b"\n<a href=x>")[1], "-:2:9:x\n")
+        self.assertEqual(self.run_on("-")[0], 2)
+
+    def test_ignored(self):
+        self.write("patterns", "# templates\n\\{\\{\n")
+        self.write("a.html", '<a href="{{ a }}"><a href="b c">')
+        self.judges("a.html", [("1:29", "code-point")], "--ignore", "patterns")
+        self.assertIn("1 ignored", self.run_on("--ignore", "patterns", "a.html")[2])
+        self.write("wrong", "(\n")
+        self.assertEqual(self.run_on("--ignore", "wrong", "a.html")[0], 2)
+
+    def test_unread(self):
+        self.write("a.html", "<a href=x>")
+        self.write("utf16.html", "<a href=x>".encode("utf-16"))
+        self.write("broken.xml", "<urlset>\n<loc>http://h/</loc><b></urlset>")
+        self.write("a.txt", "x")
+        status, out, said = self.run_on("missing.html", "utf16.html", "broken.xml", "a.txt", "a.html")
+        self.assertEqual(status, 2)
+        self.assertEqual(out, "broken.xml:2:6:http://h/\na.html:1:9:x\n")
+        for word in ("missing.html: can't be read: No such file", "utf16.html: isn't UTF-8 at byte 0", "broken.xml: 2:",
+                     "a.txt: its name's end says no kind"):
+            self.assertIn(word, said)
+
+    def test_names(self):
+        self.write("a\nb.html", "<a href='x y'>")
+        status, out, said = self.run_on("a\nb.html")
+        self.assertEqual((status, out), (2, ""))
+        self.assertIn("a\ufffdb.html: its name has a control", said)
+        self.assertIn("a\ufffdb.html:1:11: error: ", self.run_on("--check", "a\nb.html")[1])
+
+    def test_full_output(self):
+        self.write("a.html", "<a href=x>")
+        with open("/dev/full", "wb") as full:
+            ran = subprocess.run([*PROGRAM, "a.html"], cwd=self.room, stdout=full, stderr=subprocess.PIPE)
+        self.assertEqual(ran.returncode, 3)
+        self.assertIn(b"can't be written", ran.stderr)
+
+    def test_hostile(self):
+        entities = "".join('<!ENTITY a{} "{}">'.format(at, "&a{};".format(at - 1) * 10) for at in range(1, 10))
+        documents = {
+            "nested.html": ("<div>" * 1_000_000 + "<a href='x y'>", 1),
+            "quoted.html": ("<a href='" + "x" * (31 << 20), 0),
+            "unended.html": ("<a " * (10 << 20), 0),
+            "attributes.html": ("<a " * (10 << 20) + ">", 2),
+            "comments.html": ("<!--" * (7 << 20), 0),
+            "sections.html": ("<![" * (9 << 20) + "><a href='a b'>", 1),
+            "big.html": ("x" * (33 << 20), 2),
+            "nul.html": ("<a href='a\0b'>", 1),
+            "bomb.xml": ('<!DOCTYPE l [<!ENTITY a0 "a">' + entities + "]><l><loc>http://h/&a9;</loc></l>", 2),
+            "deep.xml": ("<a>" * 1_000_000, 2),
+        }
+        for name, (text, wanted) in documents.items():
+            with self.subTest(name):
+                self.write(name, text)
+                status, _, said = self.run_on("--check", name)
+                self.assertEqual(status, wanted, said)
+                self.assertNotIn("Traceback", said)
+        self.assertLess(resource.getrusage(resource.RUSAGE_CHILDREN).ru_maxrss, 500 * 1024)
+
+
+if __name__ == "__main__":
+    unittest.main()

@@ -1,0 +1,50 @@
+"""Tests of the package's errors and types: what is raised, that it can be sent to another process, and several texts."""
+
+import copy
+import multiprocessing
+import pickle
+import unittest
+
+import urlcheck
+
+
+def against(base):
+    return urlcheck.check("x", base)
+
+
+class Errors(unittest.TestCase):
+    def test_a_refused_base_is_copied(self):
+        refused = urlcheck.BaseRefused("no-scheme", 0)
+        for other in (pickle.loads(pickle.dumps(refused)), copy.copy(refused), copy.deepcopy(refused)):
+            self.assertEqual((other.rule, other.place, str(other)), (refused.rule, refused.place, str(refused)))
+        with multiprocessing.Pool(2) as pool, self.assertRaises(urlcheck.BaseRefused):
+            pool.map(against, ["http://h/", "no base"])
+
+    def test_what_is_wanted_is_said(self):
+        for words, error, said in (
+            ((b"x",), TypeError, "a text is a str, not bytes"),
+            ((None,), TypeError, "a text is a str, not NoneType"),
+            (("x", b"y"), TypeError, "a base is a str or None, not bytes"),
+            (("x", None, 7), ValueError, "no profile has the number 7"),
+            (("x", None, -1), ValueError, "no profile has the number -1"),
+            (("x", None, 1 << 40), ValueError, "no profile has the number"),
+            (("x", None, "wide"), TypeError, "a profile is a urlcheck.Profile, not str"),
+            (("x\ud800",), UnicodeEncodeError, "surrogates not allowed"),
+        ):
+            for function in (urlcheck.check, urlcheck.faults, urlcheck.resolve):
+                with self.subTest(words), self.assertRaisesRegex(error, said):
+                    function(*words)
+
+    def test_several_texts(self):
+        answers = list(urlcheck.check_each(["../x", "http://h:x/", ""], "http://h/a"))
+        self.assertEqual([bool(it) for it in answers], [True, False, True])
+        self.assertEqual(answers[1], urlcheck.Refused("port-digit", 9))
+        with self.assertRaises(TypeError):
+            urlcheck.check_each("http://h/")
+
+    def test_the_version(self):
+        self.assertEqual(urlcheck.__version__, urlcheck.version())
+
+
+if __name__ == "__main__":
+    unittest.main()
