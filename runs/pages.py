@@ -222,6 +222,17 @@ def check_words(top, texts, wrong):
                 wrong.append("{}: `{}` is the name of nothing here".format(page, code))
 
 
+def check_notice(top, wrong):
+    """NOTICE has a row for each crate of the toolchain that crates.txt names."""
+    lines = [line for line in (top / "crates.txt").read_text(encoding="utf-8").split("\n") if ":" in line]
+    crates = [line.partition(":") for line in lines if not line.startswith("#")]
+    own = {name.split()[0] for name, _, _ in crates}
+    notice = (top / "NOTICE").read_text(encoding="utf-8")
+    for crate in sorted({word for _, _, below in crates for word in below.split()} - own):
+        if not re.search(r"^{} ".format(crate), notice, flags=re.M):
+            wrong.append("NOTICE: no row for {}, which crates.txt names".format(crate))
+
+
 def check_readme(text, wrong):
     lines = text.rstrip("\n").split("\n")
     if len(lines) > README_LINES:
@@ -245,6 +256,7 @@ def check_texts(top):
     check_names(top, texts[PROVED], wrong)
     check_calls(top, texts[LIBRARY], wrong)
     check_words(top, texts, wrong)
+    check_notice(top, wrong)
     return wrong, "{} pages".format(len(pages))
 
 

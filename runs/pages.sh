@@ -30,6 +30,7 @@ spoiled() {
     mkdir -p "$room/copy/docs" "$room/copy/vectors"
     ln -s "$top"/* "$room/copy/" 2>/dev/null || true
     cp --remove-destination "$top"/*.md "$room/copy/"
+    cp --remove-destination "$top/NOTICE" "$room/copy/"
     cp "$top"/docs/* "$room/copy/docs/"
     cp "$top"/vectors/* "$room/copy/vectors/"
     sed -i "$5" "$room/copy/$file"
@@ -54,6 +55,7 @@ spoiled 'a link that is no URL string' 'a link of the pages' "commands $program"
 spoiled 'no word on a law' 'isn.t named' texts docs/PROVED.md '/`step_counts::runs_keep_their_end`/d'
 spoiled 'a long sentence' 'a sentence of ' texts docs/SPEED.md \
     '$a A word and another one, '"$(printf 'and one more %.0s' {1..12})"'at the end.'
+spoiled 'no notice of a crate' 'no row for idna' texts NOTICE '/^idna /d'
 spoiled 'another headline' 'the headline' texts README.md 's/in at most 3n + 16 steps/in at most 2n + 5 steps/'
-[ $failed = 0 ] && echo 'pages: each of twelve spoiled copies was found'
+[ $failed = 0 ] && echo 'pages: each of thirteen spoiled copies was found'
 exit $failed
