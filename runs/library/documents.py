@@ -9,6 +9,7 @@ import sys
 import tempfile
 import unittest
 
+TOP = os.path.join(os.path.dirname(os.path.abspath(__file__)), "..", "..")
 PROGRAM = [sys.executable, "-m", "urlcheck.documents"]
 
 PAGE = """<!DOCTYPE html><title>x <a href="no link"></title>
@@ -190,6 +191,16 @@ class Documents(unittest.TestCase):
         self.assertEqual((status, out), (2, ""))
         self.assertIn("a\ufffdb.html: its name has a control", said)
         self.assertIn("a\ufffdb.html:1:11: error: ", self.run_on("--check", "a\nb.html")[1])
+
+    def test_the_page(self):
+        """Each command of docs/DOCUMENTS.md writes what stands there."""
+        with open(os.path.join(TOP, "docs", "DOCUMENTS.md"), encoding="utf-8") as page:
+            blocks = re.findall(r"^```shell-session\n(.*?)^```$", page.read(), re.M | re.S)
+        self.assertTrue(blocks)
+        prelude = 'urlcheck-documents() {{ "{}" -m urlcheck.documents "$@"; }}\n'.format(sys.executable)
+        for command, wanted in re.findall(r"^\$ (.*)\n((?:(?!\$ ).*\n)*)", "".join(blocks), re.M):
+            ran = subprocess.run(["bash", "-c", prelude + command], cwd=self.room, capture_output=True)
+            self.assertEqual(ran.stdout.decode(), wanted, command)
 
     def test_full_output(self):
         self.write("a.html", "<a href=x>")
