@@ -88,6 +88,24 @@ for tests in documents errors; do
     python3 $tests.py >"$room/tests" 2>&1 || { cat "$room/tests"; exit 1; }
 done
 echo 'library: links in documents, errors of the package'
+
+# The links of this repository's own pages, by a Python that has the reader of Markdown. A spoiled page is found.
+with_markdown=
+for python in python3 /usr/bin/python3; do
+    [ -n "$with_markdown" ] || ! "$python" -c 'import markdown_it' 2>/dev/null || with_markdown=$python
+done
+if [ -n "$with_markdown" ]; then
+    "$with_markdown" -m urlcheck.documents --check "$top"/*.md "$top"/*/README.md "$top/docs" >"$room/own" 2>&1 ||
+        { echo "FAILED: the links of the pages: $(cat "$room/own")"; exit 1; }
+    sed 's/(docs\/COMMANDS.md)/(docs\/COM^MANDS.md)/' "$top/README.md" >"$room/spoiled.md"
+    if "$with_markdown" -m urlcheck.documents --check "$room/spoiled.md" >"$room/own" 2>&1; then
+        echo 'FAILED: a page with a wrong link passes'
+        exit 1
+    fi
+    echo 'library: the links of the pages'
+else
+    echo "library: the links of the pages are left out, since markdown-it-py isn't installed"
+fi
 if python3 -m mypy --version >/dev/null 2>&1; then
     python3 -m mypy --strict -p urlcheck >"$room/types" 2>&1 || { cat "$room/types"; exit 1; }
 else
