@@ -2,7 +2,7 @@
 """Checks the pages of this repository: those at its top, those of docs/, and each folder's README.md.
 
     runs/pages.py texts [TOP]               lengths, sentences, links, paths and names; no program is needed
-    runs/pages.py commands PROGRAM [TOP]    runs each block with `$` commands, and compares what they print
+    runs/pages.py commands PROGRAM [TOP]    runs each block of `console` commands, and compares what they print
 
 TOP is the folder of the pages, by default the one above this file's. It ends with 1 where something is wrong.
 """
@@ -129,6 +129,9 @@ def check_paths(top, page, text, wrong):
             if not (top / code).exists():
                 wrong.append("{}: `{}` isn't there".format(page, code))
     for line, language, lines in blocks_of(text):
+        # (the commands of docs/DOCUMENTS.md, in blocks of this language, are run with the package)
+        if language not in ("console", "shell-session") and any(it.startswith("$ ") for it in lines):
+            wrong.append("{}:{}: commands in a block that no run takes".format(page, line))
         for script in re.findall(r"(?:^|[ (])\./([\w-]+)", "\n".join(lines)) if language == "sh" else []:
             if not (top / script).exists():
                 wrong.append("{}:{}: ./{} isn't there".format(page, line, script))
@@ -316,7 +319,7 @@ def check_commands(top, program):
     wrong, count = check_own_links(top, program), 0
     for page in pages_of(top):
         blocks = blocks_of((top / page).read_text(encoding="utf-8"))
-        commands = [command for _, _, block in blocks for command in commands_of(block)]
+        commands = [command for _, language, block in blocks if language == "console" for command in commands_of(block)]
         with tempfile.TemporaryDirectory() as folder:
             room = room_for(top, program, folder)
             subprocess.run(["bash"], input=script_of(commands, room), text=True, check=False)
