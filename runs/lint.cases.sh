@@ -4,7 +4,7 @@
 printf 'http://h/a b\n\nhttp://ok/\r\nhttp://x_y/\n\xff\nnope' >"$room/links.txt"
 printf 'https:///a\n' >"$room/other.txt"
 printf 'http://h/\n\n\r\nurn:a\n' >"$room/right.txt"
-first='links.txt:1:11: error: this code point may not stand in a URL [code-point]\n'
+first='links.txt:1:11: error: U+0020 SPACE may not stand in a URL [code-point]\n'
 underscore='links.txt:4:8: error: the host that begins here is no valid domain [host-domain]\n'
 bytes="links.txt:5:1: error: this line isn't UTF-8 [not-utf8]\\n"
 last='links.txt:6:1: error: there is no scheme and no base [no-scheme]\n'
@@ -43,6 +43,77 @@ for name in GNU '' gnu, text; do
     expect 2 '' 'error: no format has this name; they are gnu, caret, json, github, sarif and checkstyle\nwords\n' \
         lint --base 'a b' --format "$name" links.txt
 done
+
+# A sentence names the code point: an ASCII one by its name, another one as it is, where it is shown.
+printf 'http://h/\e\nhttp://h/\xc3\xa9\xc2\x85\nfoo://a^b/\nhttp://h:8x/\nhttp://h/%%4\nhttp://h/\xf0\x9f\x98\x80\n' \
+    >"$room/points.txt"
+expect 1 'points.txt:1:10: error: U+001B ESCAPE may not stand in a URL [code-point]
+points.txt:2:11: error: U+0085 may not stand in a URL [code-point]
+points.txt:3:8: error: U+005E CIRCUMFLEX ACCENT may not stand in a host [host-code-point]
+points.txt:4:11: error: U+0078 LATIN SMALL LETTER X is no digit of a port [port-digit]
+points.txt:5:10: error: U+0025 PERCENT SIGN has to be followed by two hex digits [percent]
+' '6 lines, 5 refused\n' lint points.txt
+printf 'http://h/\xef\xbf\xbf\nurn:\xef\xb7\x90\n' >"$room/points.txt"
+expect 1 'points.txt:1:10: error: U+FFFF \xef\xbf\xbf may not stand in a URL [code-point]
+points.txt:2:5: error: U+FDD0 \xef\xb7\x90 may not stand in a URL [code-point]
+' '2 lines, 2 refused\n' lint points.txt
+
+# Credentials: the place and the rule are those of a host or a port, and the sentence says what is wrong. An `@` behind
+# the authority's end is none.
+printf 'http://user:pw@h/\nhttp://u@h/\nfoo://u@h/\nhttp://x_y/@\nfoo://a^b?@\nhttp://h:8x#@\n' >"$room/credentials.txt"
+sentence='a URL string has no credentials: no user name, password or @ before its host'
+expect 1 "credentials.txt:1:13: error: $sentence [port-digit]
+credentials.txt:2:8: error: $sentence [host-domain]
+credentials.txt:3:8: error: $sentence [host-code-point]
+credentials.txt:4:8: error: the host that begins here is no valid domain [host-domain]
+credentials.txt:5:8: error: U+005E CIRCUMFLEX ACCENT may not stand in a host [host-code-point]
+credentials.txt:6:11: error: U+0078 LATIN SMALL LETTER X is no digit of a port [port-digit]
+" '6 lines, 6 refused\n' lint credentials.txt
+
+# A line of at most 200 code points is shown whole, of a longer one a window round the place; JSON carries a link of at
+# most 2,000 code points whole.
+python3 - "$room" <<'PYTHON'
+import sys
+cases = [("urn:" + "é" * 195 + "^", 200), ("urn:" + "é" * 196 + "^", 201), ("urn:^" + "é" * 196, 5),
+    ("urn:" + "é" * 300 + "^" + "é" * 98, 305), ("urn:" + "é" * 300 + "^" + "é" * 99, 305),
+    ("urn:" + "é" * 1995 + "^", 2000), ("urn:" + "é" * 1996 + "^", 2001)]
+shown = [(cases[0][0], 199), ("…" + "é" * 99 + "^", 100), (cases[2][0][:198] + "…", 4),
+    ("…" + "é" * 99 + "^" + "é" * 98, 100), ("…" + "é" * 99 + "^" + "é" * 98 + "…", 100),
+    ("…" + "é" * 99 + "^", 100), ("…" + "é" * 99 + "^", 100)]
+sentence = "U+005E CIRCUMFLEX ACCENT may not stand in a URL"
+written = lambda name: open(f"{sys.argv[1]}/long.{name}", "w", encoding="utf-8")
+with written("txt") as text, written("caret") as caret, written("json") as json:
+    for number, ((line, column), (part, place)) in enumerate(zip(cases, shown), 1):
+        text.write(line + "\n")
+        caret.write(f"long.txt:{number}:{column}: error: {sentence} [code-point]\n{part}\n{' ' * place}^\n")
+        cut, link = ("true", part) if number == 7 else ("false", line)
+        json.write(f'{{"column":{column},"cut":{cut},"file":"long.txt","line":{number},"message":"{sentence}",'
+            f'"rule":"code-point","text":"{link}"}}\n')
+PYTHON
+for format in caret json; do
+    (cd "$room" && "$program" lint --format $format long.txt) >"$room/out" 2>"$room/err"
+    ends_with 1 $? '7 lines, 7 refused\n' "long lines as $format"
+    cmp -s "$room/out" "$room/long.$format" || fail "long lines as $format: it wrote $(cat "$room/out")"
+done
+
+# SARIF: a name is a path, whatever stands in it: no scheme, no host, no query, no fragment and no escape.
+printf 'x\n' | tee "$room/a:b.txt" "$room/a#b" "$room/a?b" "$room/a%41" "$room/ab" >"$room/https:"
+names=(a:b.txt 'a#b' 'a?b' a%41 https: "/$room/ab" "$room/ab" ./ab "//$room/ab")
+(cd "$room" && "$program" lint --format sarif "${names[@]}") >"$room/out" 2>"$room/err"
+ends_with 1 $? '9 lines, 9 refused\n' 'names as paths'
+uris=$(python3 -c 'import json, sys
+for result in json.load(sys.stdin)["runs"][0]["results"]:
+    print(result["locations"][0]["physicalLocation"]["artifactLocation"]["uri"])' <"$room/out")
+[ "$uris" = "a%3Ab.txt
+a%23b
+a%3Fb
+a%2541
+https%3A
+/%2F${room#/}/ab
+$room/ab
+./ab
+/%2F$room/ab" ] || fail "names as paths: $uris"
+rm -f "$room/long".* "$room/a:b.txt" "$room/a#b" "$room/a?b" "$room/a%41" "$room/https:" "$room/ab"
 
 # Standard input is the file named `-`, alone and among others; at its end there is no more of it.
 # of_input STATUS STDOUT STDERR TEXT WORD.. : a lint with these words, of a standard input with this text, ends so
@@ -138,7 +209,7 @@ awk 'BEGIN { for (n = 1; n <= 1000000; n++) print (n % 100 ? "https://example.co
 prlimit --as=10000000 "$program" lint "$room/million" >"$room/out" 2>"$room/err"
 ends_with 1 $? '1000000 lines, 10000 refused\n' 'lint of a million lines'
 [ "$(wc -l <"$room/out")" = 10000 ] || fail "lint of a million lines: $(wc -l <"$room/out") diagnostics"
-grep -qxF "$room/million:1000000:11: error: this code point may not stand in a URL [code-point]" "$room/out" ||
+grep -qxF "$room/million:1000000:11: error: U+0020 SPACE may not stand in a URL [code-point]" "$room/out" ||
     fail "lint of a million lines: it ends with $(tail -n 1 "$room/out")"
 rm -f "$room/million" "$room"/hostile.* "$room"/none.*
-all_cases 57
+all_cases 63

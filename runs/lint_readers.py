@@ -7,7 +7,7 @@ import json
 import re
 import sys
 import unicodedata
-from urllib.parse import unquote
+from urllib.parse import unquote, urlsplit
 from xml.etree import ElementTree
 
 directory, names = sys.argv[1], sys.argv[2:]
@@ -28,6 +28,15 @@ def shown(text):
     return HIDDEN.sub("\ufffd", text)
 
 
+def window(text, place):
+    """What is shown of a line, and where the place stands in it."""
+    if len(text) <= 200:
+        return text, place
+    start = max(0, place - 99)
+    part = ("…" if start else "") + text[start:start + 198] + ("…" if len(text) > start + 198 else "")
+    return part, part.index(text[start:start + 198]) + place - start
+
+
 def xml_shown(text):
     """What XML 1.0 can't hold stands as U+FFFD."""
     return re.sub("[\0-\x08\x0b\x0c\x0e-\x1f\ufffe\uffff]", "\ufffd", text)
@@ -38,16 +47,38 @@ lines = {}
 for name in names:
     lines[name] = open(f"{directory}/{name}", "rb").read().split(b"\n")[:-1]
 
-# JSON: an object a line, with these members and no others.
-found = []
+# JSON: an object a line, with these members and no others; a link of more than 2,000 code points is cut. The sentence
+# of some rules names the code point at the column.
+POINT = re.compile("^U\\+([0-9A-F]{4,6}) ?(.*) (may not stand in a URL|may not stand in a host|is no digit of a port"
+                   "|has to be followed by two hex digits)$")
+
+
+def names_point(sentence, c):
+    m = POINT.match(sentence)
+    if not m or m[1] != f"{ord(c):04X}":
+        return False
+    if ord(c) < 128:
+        return unicodedata.lookup(m[2]) == c
+    return m[2] == ("" if HIDDEN.match(c) else c)
+
+
+def text_of(one):
+    raw = lines[one["file"]][one["line"] - 1]
+    return "" if len(raw) > 65536 else raw.decode(errors="replace")
+
+
+found, texts = [], []
 for entry in read("hostile.json").split("\n")[:-1]:
     one = json.loads(entry)
-    want(sorted(one) == ["column", "file", "line", "message", "rule", "text"], f"json: members {sorted(one)}")
+    want(sorted(one) == ["column", "cut", "file", "line", "message", "rule", "text"], f"json: members {sorted(one)}")
     found.append((one["file"], one["line"], one["column"], one["rule"], one["message"]))
-    raw = lines[one["file"]][one["line"] - 1]
-    text = "" if len(raw) > 65536 else shown(raw.decode(errors="replace"))
-    want(one["text"] == text, f"json: the text of line {one['line']}")
-    want(1 <= one["column"] <= len(text) + 1, f"json: column {one['column']} of line {one['line']}")
+    text, place = text_of(one), one["column"] - 1
+    texts.append(text)
+    want(one["cut"] is (len(text) > 2000), f"json: the cut of line {one['line']}")
+    want(one["text"] == (window(text, place)[0] if one["cut"] else text), f"json: the text of line {one['line']}")
+    want(0 <= place <= len(text), f"json: column {one['column']} of line {one['line']}")
+    if one["rule"] in ("code-point", "host-code-point", "port-digit", "percent"):
+        want(names_point(one["message"], text[place]), f"json: {one['message']} of line {one['line']}")
 want(len(found) > 14 * len(names), f"json: {len(found)} diagnostics")
 want([name for name in names if name in {one[0] for one in found}] == names, "json: the names of the files")
 want(found == sorted(found, key=lambda one: (names.index(one[0]), one[1])), "json: the order")
@@ -77,8 +108,10 @@ written = read("hostile.caret")
 want(not HIDDEN.search(written.replace("\n", "")), "caret: it has a control")
 rows = written.split("\n")[:-1]
 want(rows[0::3] == read("hostile.gnu").split("\n")[:-1], "caret: other diagnostics")
-for one, line, caret in zip(found, rows[1::3], rows[2::3]):
-    padding = "".join(width(c) for c in line[:one[2] - 1])
+for one, text, line, caret in zip(found, texts, rows[1::3], rows[2::3]):
+    part, place = window(text, one[2] - 1)
+    want(len(part) <= 200 and line == shown(part), f"caret: {one}: {line[:40]!r} is shown")
+    padding = "".join(width(c) for c in line[:place])
     want(caret == padding + "^", f"caret: {one} below {line[:40]!r} stands {caret[:40]!r}")
 
 # GitHub: workflow commands, whose values are read back by what the runner's own reader does.
@@ -100,19 +133,26 @@ def sarif(text):
     want(driver["name"] == "urlcheck" and run["columnKind"] == "unicodeCodePoints", "sarif: the driver")
     ids = [rule["id"] for rule in driver["rules"]]
     want(len(ids) == 16 == len(set(ids)), f"sarif: the rules {ids}")
-    want(all(rule["shortDescription"]["text"] and rule["help"]["text"] for rule in driver["rules"]), "sarif: a rule")
+    for rule in driver["rules"]:
+        want(rule["shortDescription"]["text"] and rule["help"] == rule["fullDescription"], "sarif: a rule")
+        want(re.match("https://url\\.spec\\.whatwg\\.org/#[a-z0-9-]+$", rule["helpUri"]), "sarif: a rule's address")
     told = []
     for result in run["results"]:
         (location,) = result["locations"]
         place = location["physicalLocation"]
         want(result["level"] == "error" and ids[result["ruleIndex"]] == result["ruleId"], "sarif: a result's rule")
-        told.append((unquote(place["artifactLocation"]["uri"], errors="strict"), place["region"]["startLine"],
-                     place["region"]["startColumn"], result["ruleId"], result["message"]["text"]))
+        uri = place["artifactLocation"]["uri"]
+        want(urlsplit(uri)[:2] == ("", "") and urlsplit(uri).path == uri, f"sarif: {uri} is no path")
+        links.append((result["properties"]["cut"], result["properties"]["text"]))
+        told.append((unquote(uri, errors="strict"), place["region"]["startLine"], place["region"]["startColumn"],
+                     result["ruleId"], result["message"]["text"]))
     return told
 
 
-told = sarif(read("hostile.sarif"))
-want([(re.sub(r"^\./", "", one[0]),) + one[1:] for one in told] == found, "sarif: other diagnostics")
+links = []
+want(sarif(read("hostile.sarif")) == found, "sarif: other diagnostics")
+want(links == [(one["cut"], one["text"]) for one in map(json.loads, read("hostile.json").split("\n")[:-1])],
+     "sarif: other links")
 want(sarif(read("none.sarif")) == [], "sarif: results without a fault")
 
 
@@ -130,8 +170,8 @@ def checkstyle(text):
     return told
 
 
-want(checkstyle(read("hostile.checkstyle")) == [(xml_shown(one[0]),) + one[1:] for one in found],
-     "checkstyle: other diagnostics")
+want(checkstyle(read("hostile.checkstyle"))
+     == [(xml_shown(one[0]),) + one[1:4] + (xml_shown(one[4]),) for one in found], "checkstyle: other diagnostics")
 want(checkstyle(read("none.checkstyle")) == [], "checkstyle: errors without a fault")
 want(all(read(f"none.{kind}") == "" for kind in ("gnu", "caret", "json", "github")), "lines without a fault")
 

@@ -38,8 +38,8 @@ findings =
 pub record LintRows : Type 0 where
   pub diagnostics : lines_text list_setting 1 true short_lines findings
       ≡ codes "list:1:1: error: there is no scheme and no base [no-scheme]\n"
-      ++ (codes "list:4:5: error: this code point may not stand in a URL [code-point]\n"
-      ++ (codes "list:4:7: error: this code point may not stand in a URL [code-point]\n"
+      ++ (codes "list:4:5: error: U+0020 SPACE may not stand in a URL [code-point]\n"
+      ++ (codes "list:4:7: error: U+0020 SPACE may not stand in a URL [code-point]\n"
       ++ (codes "list:5:1: error: this line isn't UTF-8 [not-utf8]\n"
       ++ codes "list:6:1: error: this line has more than 65536 bytes [line-too-long]\n")))
   pub counts : tally short_lines findings ≡ record { lines = 5; refused = 4 }

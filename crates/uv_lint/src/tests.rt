@@ -57,7 +57,7 @@ fn tells_each_line_by_its_number(rt: HostRuntime) {
     reports(&rt, list, PLAIN, report, (4, 3));
     reports(&rt, b"", PLAIN, "", (0, 0));
     reports(&rt, b"\n\n\r\n", PLAIN, "", (0, 0));
-    let kept = "list:2:11: error: this code point may not stand in a URL [code-point]\n";
+    let kept = "list:2:11: error: U+000D CARRIAGE RETURN may not stand in a URL [code-point]\n";
     reports(&rt, b"http://h/\nhttp://h/a\r", PLAIN, kept, (2, 1));
 }
 
@@ -116,17 +116,19 @@ fn judges_by_the_profile_and_the_base(rt: HostRuntime) -> Result<(), Fail> {
 #[test]
 fn tells_the_least_complaint_or_all(rt: HostRuntime) {
     let list = b"http://h/a b%zz\nhttp://u@h/a b\n";
-    let first = "list:1:11: error: this code point may not stand in a URL [code-point]\n\
-        list:2:8: error: the host that begins here is no valid domain [host-domain]\n";
+    let first = "list:1:11: error: U+0020 SPACE may not stand in a URL [code-point]\n\
+        list:2:8: error: a URL string has no credentials: no user name, password or @ before its host \
+        [host-domain]\n";
     reports(&rt, list, PLAIN, first, (2, 2));
     let all = LintSetting {
         complaints: Complaints::All,
         ..PLAIN
     };
-    let each = "list:1:11: error: this code point may not stand in a URL [code-point]\n\
-        list:1:13: error: two hex digits have to follow this % [percent]\n\
-        list:2:8: error: the host that begins here is no valid domain [host-domain]\n\
-        list:2:13: error: this code point may not stand in a URL [code-point]\n";
+    let each = "list:1:11: error: U+0020 SPACE may not stand in a URL [code-point]\n\
+        list:1:13: error: U+0025 PERCENT SIGN has to be followed by two hex digits [percent]\n\
+        list:2:8: error: a URL string has no credentials: no user name, password or @ before its host \
+        [host-domain]\n\
+        list:2:13: error: U+0020 SPACE may not stand in a URL [code-point]\n";
     reports(&rt, list, all, each, (2, 2));
 }
 
@@ -147,9 +149,9 @@ fn writes_each_format(rt: HostRuntime) {
         ),
         (
             Format::Json,
-            "{\"column\":1,\"file\":\"list\",\"line\":1,\"message\":\"there is no scheme and no base\",\
+            "{\"column\":1,\"cut\":false,\"file\":\"list\",\"line\":1,\"message\":\"there is no scheme and no base\",\
             \"rule\":\"no-scheme\",\"text\":\"/\u{65E5}\u{E9} \"}\n\
-            {\"column\":1,\"file\":\"list\",\"line\":2,\"message\":\"this line isn't UTF-8\",\
+            {\"column\":1,\"cut\":false,\"file\":\"list\",\"line\":2,\"message\":\"this line isn't UTF-8\",\
             \"rule\":\"not-utf8\",\"text\":\"a\u{FFFD}b\"}\n",
         ),
         (
@@ -171,13 +173,14 @@ fn writes_each_format(rt: HostRuntime) {
     }
 }
 
-// A result of SARIF without the comma before it.
-fn sarif_result(alloc: Global, line: u64, column: u64) -> Result<String, Fail> {
+// A result of SARIF on a link, without the comma before it.
+fn sarif_result(alloc: Global, line: u64, column: u64, link: &str) -> Result<String, Fail> {
     Ok(format!(in alloc;
         "{{\"level\":\"error\",\"locations\":[{{\"physicalLocation\":\
         {{\"artifactLocation\":{{\"uri\":\"list\"}},\"region\":\
         {{\"startColumn\":{column},\"startLine\":{line}}}}}}}],\"message\":\
-        {{\"text\":\"this code point may not stand in a URL\"}},\
+        {{\"text\":\"U+0020 SPACE may not stand in a URL\"}},\
+        \"properties\":{{\"cut\":false,\"text\":\"{link}\"}},\
         \"ruleId\":\"code-point\",\"ruleIndex\":14}}\n"
     )?)
 }
@@ -190,9 +193,9 @@ fn puts_commas_between_results(rt: HostRuntime) -> Result<(), Fail> {
         format: Format::Sarif,
         ..PLAIN
     };
-    let one = sarif_result(rt.alloc(), 2, 6)?;
-    let two = sarif_result(rt.alloc(), 2, 8)?;
-    let three = sarif_result(rt.alloc(), 3, 5)?;
+    let one = sarif_result(rt.alloc(), 2, 6, "urn:a b c")?;
+    let two = sarif_result(rt.alloc(), 2, 8, "urn:a b c")?;
+    let three = sarif_result(rt.alloc(), 3, 5, "urn: ")?;
     let report = format!(in rt.alloc(); "{one},{two},{three}")?;
     let list = b"urn:a\nurn:a b c\nurn: \n";
     reports(&rt, list, sarif, report.as_str(), (3, 2));
@@ -217,7 +220,7 @@ fn judges_the_longest_line(rt: HostRuntime) -> Result<(), Fail> {
     }
     let longest = longest.as_str();
     let list = format!(in rt.alloc(); "{longest}b\r\n{longest} \n{longest}bb\n{longest}bb\r")?;
-    let report = "list:2:65536: error: this code point may not stand in a URL [code-point]\n\
+    let report = "list:2:65536: error: U+0020 SPACE may not stand in a URL [code-point]\n\
         list:3:1: error: this line has more than 65536 bytes [line-too-long]\n\
         list:4:1: error: this line has more than 65536 bytes [line-too-long]\n";
     reports(&rt, list.as_bytes(), PLAIN, report, (4, 3));
@@ -225,13 +228,14 @@ fn judges_the_longest_line(rt: HostRuntime) -> Result<(), Fail> {
         format: Format::Caret,
         ..PLAIN
     };
-    let mut below = String::new(rt.alloc());
-    for _ in 0..65_535 {
+    let (mut window, mut below) = (String::new(rt.alloc()), String::new(rt.alloc()));
+    for _ in 0..99 {
+        window.push('a')?;
         below.push(' ')?;
     }
-    let below = below.as_str();
+    let (window, below) = (window.as_str(), below.as_str());
     let shown = format!(in rt.alloc();
-        "list:2:65536: error: this code point may not stand in a URL [code-point]\n{longest} \n{below}^\n\
+        "list:2:65536: error: U+0020 SPACE may not stand in a URL [code-point]\n…{window} \n {below}^\n\
         list:3:1: error: this line has more than 65536 bytes [line-too-long]\n\n^\n\
         list:4:1: error: this line has more than 65536 bytes [line-too-long]\n\n^\n"
     )?;

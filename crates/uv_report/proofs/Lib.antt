@@ -1,1 +1,4 @@
 pub mod PieceLemmas
+mod PlaceLemmas
+mod RowsLemmas
+mod UriLemmas

@@ -8,6 +8,7 @@ use Rattle.uv_report.specs.declared.escapes.Escapes.TheVariants.{Shown}
 use Rattle.uv_report.specs.Escapes.{escaped, is_hidden}
 use Rattle.uv_report.specs.Finding.{finding_place}
 use Rattle.uv_report.specs.Gnu.{gnu_text}
+use Rattle.uv_report.specs.Window.{window, window_place}
 
 -- how many columns a code point takes as it is shown
 abbrev pub columns : ℕ → ℕ
@@ -25,7 +26,11 @@ padding text = flat_map below text
 unfoldable pub caret_lines : List ℕ → ℕ → List ℕ
 caret_lines line place = escaped Shown line ++ (codes "\n" ++ (padding (take place (chars line)) ++ codes "^\n"))
 
+-- these two of what is shown of a line
+unfoldable pub window_lines : List ℕ → ℕ → List ℕ
+window_lines line place = caret_lines (window line place) (window_place line place)
+
 -- the line of the format `gnu`, and these two
 unfoldable pub caret_text : Diagnostic → List ℕ
 caret_text diagnostic =
-    gnu_text diagnostic ++ caret_lines diagnostic.text.now (finding_place diagnostic.finding)
+    gnu_text diagnostic ++ window_lines diagnostic.text.now (finding_place diagnostic.finding)

@@ -4,7 +4,8 @@ use Rattle.uv_report.specs.declared.diagnostic.Diagnostic.{Diagnostic}
 use Rattle.uv_report.specs.declared.escapes.Escapes.TheVariants.{Attribute}
 use Rattle.uv_report.specs.declared.finding.Finding.{Finding}
 use Rattle.uv_report.specs.Escapes.{escaped}
-use Rattle.uv_report.specs.Finding.{finding_column, finding_name, finding_sentence}
+use Rattle.uv_report.specs.Finding.{finding_column, finding_name}
+use Rattle.uv_report.specs.Message.{message}
 
 -- what a document begins with
 abbrev pub document_begin : List ℕ
@@ -29,11 +30,11 @@ error_place diagnostic =
     ++ (decimal (finding_column diagnostic.finding) ++ codes "\" severity=\"error\" message=\"")))
 
 -- its message and what it comes from
-unfoldable pub error_text : Finding → List ℕ
-error_text finding =
-    escaped Attribute (finding_sentence finding) ++ (codes "\" source=\"urlcheck."
+unfoldable pub error_text : List ℕ → Finding → List ℕ
+error_text line finding =
+    escaped Attribute (message line finding) ++ (codes "\" source=\"urlcheck."
     ++ (escaped Attribute (finding_name finding) ++ codes "\"/>\n"))
 
 -- the element of a diagnostic
 unfoldable pub checkstyle_text : Diagnostic → List ℕ
-checkstyle_text diagnostic = error_place diagnostic ++ error_text diagnostic.finding
+checkstyle_text diagnostic = error_place diagnostic ++ error_text diagnostic.text.now diagnostic.finding

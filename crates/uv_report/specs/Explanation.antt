@@ -46,6 +46,23 @@ rule_section DriveAfterHost = codes "4.3, path-absolute-non-Windows-file-URL str
 rule_section CodePoint = codes "4.3, URL code points"
 rule_section Percent = codes "4.3, URL units"
 
+-- the address of that section
+abbrev pub rule_uri : Rule → List ℕ
+rule_uri NoScheme = codes "https://url.spec.whatwg.org/#relative-url-string"
+rule_uri OpaqueBase = codes "https://url.spec.whatwg.org/#no-scheme-state"
+rule_uri TwoSlashes = codes "https://url.spec.whatwg.org/#absolute-url-string"
+rule_uri HostMissing = codes "https://url.spec.whatwg.org/#valid-host-string"
+rule_uri HostDomain = codes "https://url.spec.whatwg.org/#valid-domain-string"
+rule_uri HostNumber = codes "https://url.spec.whatwg.org/#ends-in-a-number-checker"
+rule_uri HostIpv6 = codes "https://url.spec.whatwg.org/#valid-ipv6-address-string"
+rule_uri HostCodePoint = codes "https://url.spec.whatwg.org/#valid-opaque-host-string"
+rule_uri PortDigit = codes "https://url.spec.whatwg.org/#url-port-string"
+rule_uri PortRange = codes "https://url.spec.whatwg.org/#url-port-string"
+rule_uri FirstSegmentEmpty = codes "https://url.spec.whatwg.org/#path-absolute-url-string"
+rule_uri DriveAfterHost = codes "https://url.spec.whatwg.org/#path-absolute-non-windows-file-url-string"
+rule_uri CodePoint = codes "https://url.spec.whatwg.org/#url-code-points"
+rule_uri Percent = codes "https://url.spec.whatwg.org/#url-units"
+
 -- the base that the example is read against
 abbrev pub rule_base : Rule → Option (List ℕ)
 rule_base OpaqueBase = Some (codes "urn:isbn:0451450523")

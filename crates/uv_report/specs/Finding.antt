@@ -1,8 +1,9 @@
 -- What is wrong with a line: its name, its sentence and its column.
-use Rattle.std.specs.Prelude.{ℕ, ◌+◌, ◌-◌, ◌^◌, List, codes, min}
+use Rattle.std.specs.Prelude.{ℕ, ◌+◌, ◌-◌, ◌^◌, List, [], ◌∷◌, codes, Option, find, min}
+use Rattle.std.specs.Str.{bytes_eq}
 use Rattle.uv_model.specs.Complaints.Rule.{rule_name, rule_number, rule_sentence}
 use Rattle.uv_report.specs.declared.finding.Finding.{Finding}
-use Rattle.uv_report.specs.Explanation.{rule_asks}
+use Rattle.uv_report.specs.Explanation.{rule_asks, rule_uri}
 use Rattle.uv_report.specs.declared.finding.Finding.TheVariants.{Refused, NotUtf8, TooLong}
 
 -- the name of the violated rule, or one of its own
@@ -10,6 +11,10 @@ abbrev pub finding_name : Finding → List ℕ
 finding_name (Refused refusal) = rule_name refusal.rule
 finding_name NotUtf8 = codes "not-utf8"
 finding_name TooLong = codes "line-too-long"
+
+-- the finding with a name that is about no refusal, where there is one
+abbrev pub named_finding : List ℕ → Option Finding
+named_finding name = find (λ finding. bytes_eq name (finding_name finding)) (NotUtf8 ∷ TooLong ∷ [])
 
 -- what is wrong at the place
 abbrev pub finding_sentence : Finding → List ℕ
@@ -22,6 +27,12 @@ abbrev pub finding_help : Finding → List ℕ
 finding_help (Refused refusal) = rule_asks refusal.rule
 finding_help NotUtf8 = codes "A line is a text in UTF-8."
 finding_help TooLong = codes "A line has at most 65536 bytes."
+
+-- where that stands: the section of the rule, or what a valid URL string is
+abbrev pub finding_uri : Finding → List ℕ
+finding_uri (Refused refusal) = rule_uri refusal.rule
+finding_uri NotUtf8 = codes "https://url.spec.whatwg.org/#valid-url-string"
+finding_uri TooLong = codes "https://url.spec.whatwg.org/#valid-url-string"
 
 -- where its rule stands among all of them, from 0: behind the two that are no refusal, by the rule's number
 abbrev pub finding_index : Finding → ℕ

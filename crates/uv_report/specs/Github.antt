@@ -4,7 +4,8 @@ use Rattle.uv_report.specs.declared.diagnostic.Diagnostic.{Diagnostic}
 use Rattle.uv_report.specs.declared.escapes.Escapes.TheVariants.{Message, Property}
 use Rattle.uv_report.specs.declared.finding.Finding.{Finding}
 use Rattle.uv_report.specs.Escapes.{escaped}
-use Rattle.uv_report.specs.Finding.{finding_column, finding_name, finding_sentence}
+use Rattle.uv_report.specs.Finding.{finding_column, finding_name}
+use Rattle.uv_report.specs.Message as told
 
 -- `::error file=FILE,line=LINE,col=COLUMN`
 unfoldable pub command_place : Diagnostic → List ℕ
@@ -13,11 +14,11 @@ command_place diagnostic =
     ++ (codes ",col=" ++ decimal (finding_column diagnostic.finding)))))
 
 -- `,title=RULE::SENTENCE` and a line feed
-unfoldable pub command_text : Finding → List ℕ
-command_text finding =
+unfoldable pub command_text : List ℕ → Finding → List ℕ
+command_text line finding =
     codes ",title=" ++ (escaped Property (finding_name finding) ++ (codes "::"
-    ++ (escaped Message (finding_sentence finding) ++ codes "\n")))
+    ++ (escaped Message (told.message line finding) ++ codes "\n")))
 
 -- the whole command
 unfoldable pub github_text : Diagnostic → List ℕ
-github_text diagnostic = command_place diagnostic ++ command_text diagnostic.finding
+github_text diagnostic = command_place diagnostic ++ command_text diagnostic.text.now diagnostic.finding

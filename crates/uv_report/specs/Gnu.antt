@@ -4,7 +4,8 @@ use Rattle.uv_report.specs.declared.diagnostic.Diagnostic.{Diagnostic}
 use Rattle.uv_report.specs.declared.escapes.Escapes.TheVariants.{Shown}
 use Rattle.uv_report.specs.declared.finding.Finding.{Finding}
 use Rattle.uv_report.specs.Escapes.{escaped}
-use Rattle.uv_report.specs.Finding.{finding_column, finding_name, finding_sentence}
+use Rattle.uv_report.specs.Finding.{finding_column, finding_name}
+use Rattle.uv_report.specs.Message.{message}
 
 -- `FILE:LINE:COLUMN`
 unfoldable pub gnu_position : Diagnostic → List ℕ
@@ -13,10 +14,10 @@ gnu_position diagnostic =
     ++ decimal (finding_column diagnostic.finding))))
 
 -- `: error: SENTENCE [RULE]` and a line feed
-unfoldable pub gnu_words : Finding → List ℕ
-gnu_words finding =
-    codes ": error: " ++ (finding_sentence finding ++ (codes " [" ++ (finding_name finding ++ codes "]\n")))
+unfoldable pub gnu_words : List ℕ → Finding → List ℕ
+gnu_words line finding =
+    codes ": error: " ++ (message line finding ++ (codes " [" ++ (finding_name finding ++ codes "]\n")))
 
 -- `FILE:LINE:COLUMN: error: SENTENCE [RULE]` and a line feed
 unfoldable pub gnu_text : Diagnostic → List ℕ
-gnu_text diagnostic = gnu_position diagnostic ++ gnu_words diagnostic.finding
+gnu_text diagnostic = gnu_position diagnostic ++ gnu_words diagnostic.text.now diagnostic.finding

@@ -1,21 +1,23 @@
 -- A diagnostic as an object of JSON.
 use Rattle.std.specs.Prelude.{ℕ, List, ◌++◌, codes}
-use Rattle.serde_json.specs.Data.{Data, number, unsigned, string, object, member, no_members}
+use Rattle.serde_json.specs.Data.{Data, boolean, number, unsigned, string, object, member, no_members}
 use Rattle.serde_json.specs.Written.{compact_text}
 use Rattle.uv_report.specs.declared.diagnostic.Diagnostic.{Diagnostic}
-use Rattle.uv_report.specs.declared.escapes.Escapes.TheVariants.{Shown}
-use Rattle.uv_report.specs.Escapes.{escaped}
-use Rattle.uv_report.specs.Finding.{finding_column, finding_name, finding_sentence}
+use Rattle.uv_report.specs.Finding.{finding_column, finding_name, finding_place}
+use Rattle.uv_report.specs.Message.{message}
+use Rattle.uv_report.specs.Window.{carried, is_cut}
 
--- the object of a diagnostic, its members by their names' order
+-- the object of a diagnostic, its members by their names' order; a text is escaped by JSON alone
 abbrev pub json_value : Diagnostic → Data
 json_value diagnostic =
     object (member (codes "column") (number (unsigned (finding_column diagnostic.finding)))
+    (member (codes "cut") (boolean (is_cut diagnostic.text.now))
     (member (codes "file") (string diagnostic.file.now)
     (member (codes "line") (number (unsigned diagnostic.line))
-    (member (codes "message") (string (finding_sentence diagnostic.finding))
+    (member (codes "message") (string (message diagnostic.text.now diagnostic.finding))
     (member (codes "rule") (string (finding_name diagnostic.finding))
-    (member (codes "text") (string (escaped Shown diagnostic.text.now)) no_members))))))
+    (member (codes "text") (string (carried diagnostic.text.now (finding_place diagnostic.finding)))
+    no_members)))))))
 
 -- its text without spaces, and a line feed
 unfoldable pub json_text : Diagnostic → List ℕ

@@ -2,11 +2,16 @@
 pub mod Explanation
 pub mod Finding
 pub mod Escapes
+pub mod CodePoint
+pub mod Message
+pub mod Window
 pub mod Format
 pub mod Gnu
 pub mod Caret
 pub mod Github
 pub mod Checkstyle
 pub mod Json
+pub mod Uri
 pub mod Sarif
 pub mod Report
+pub mod Rows

@@ -1,15 +1,16 @@
 -- A diagnostic as a result of SARIF 2.1.0 (sections 3.27 to 3.30), and the document round the results.
 use Rattle.std.specs.Prelude.{ℕ, Bool, true, false, List, [], ◌++◌, codes, flat_map}
-use Rattle.percent_encoding.specs.Percent.{percent_encode}
-use Rattle.serde_json.specs.Data.{Data, number, unsigned, string, array, no_items, item, object, member, no_members}
+use Rattle.serde_json.specs.Data.{Data, boolean, number, unsigned, string, array, no_items, item, object, member, no_members}
 use Rattle.serde_json.specs.Written.{compact_text}
 use Rattle.uv_model.specs.declared.rule.Rule.{Rule}
 use Rattle.uv_model.specs.Complaints.Rule.{rules_in_order}
-use Rattle.uv_report.specs.declared.sarif.TheConstants.{NO_PATH}
 use Rattle.uv_report.specs.declared.diagnostic.Diagnostic.{Diagnostic}
 use Rattle.uv_report.specs.declared.finding.Finding.{Finding}
 use Rattle.uv_report.specs.declared.finding.Finding.TheVariants.{Refused, NotUtf8, TooLong}
-use Rattle.uv_report.specs.Finding.{finding_column, finding_help, finding_index, finding_name, finding_sentence}
+use Rattle.uv_report.specs.Finding.{finding_column, finding_help, finding_index, finding_name, finding_place, finding_sentence, finding_uri}
+use Rattle.uv_report.specs.Message as told
+use Rattle.uv_report.specs.Uri.{uri_path}
+use Rattle.uv_report.specs.Window.{carried, is_cut}
 
 -- an object with a text alone
 abbrev pub message : List ℕ → Data
@@ -20,9 +21,11 @@ message text = object (member (codes "text") (string text) no_members)
 -- the rule of a finding
 abbrev pub rule_value : Finding → Data
 rule_value finding =
-    object (member (codes "help") (message (finding_help finding))
+    object (member (codes "fullDescription") (message (finding_help finding))
+    (member (codes "help") (message (finding_help finding))
+    (member (codes "helpUri") (string (finding_uri finding))
     (member (codes "id") (string (finding_name finding))
-    (member (codes "shortDescription") (message (finding_sentence finding)) no_members)))
+    (member (codes "shortDescription") (message (finding_sentence finding)) no_members)))))
 
 -- its text
 unfoldable pub rule_text : Finding → List ℕ
@@ -53,24 +56,45 @@ sarif_end = codes "]}]}\n"
 
 -- ---- the results
 
--- where a diagnostic is: the file's name as the path of a URI reference, and the line and the column
+-- an array of one value
+abbrev pub single : Data → Data
+single value = array (item value no_items)
+
+-- the file of a diagnostic: its name as the path of a URI reference
+abbrev pub artifact_value : List ℕ → Data
+artifact_value file = object (member (codes "uri") (string (uri_path file)) no_members)
+
+-- the line and the column
+abbrev pub region_value : Diagnostic → Data
+region_value diagnostic =
+    object (member (codes "startColumn") (number (unsigned (finding_column diagnostic.finding)))
+    (member (codes "startLine") (number (unsigned diagnostic.line)) no_members))
+
+-- these two
+abbrev pub physical_value : Diagnostic → Data
+physical_value diagnostic =
+    object (member (codes "artifactLocation") (artifact_value diagnostic.file.now)
+    (member (codes "region") (region_value diagnostic) no_members))
+
+-- where a diagnostic is
 abbrev pub location_value : Diagnostic → Data
-location_value diagnostic =
-    object (member (codes "physicalLocation") (object
-    (member (codes "artifactLocation") (object
-    (member (codes "uri") (string (percent_encode NO_PATH diagnostic.file.now)) no_members))
-    (member (codes "region") (object
-    (member (codes "startColumn") (number (unsigned (finding_column diagnostic.finding)))
-    (member (codes "startLine") (number (unsigned diagnostic.line)) no_members))) no_members))) no_members)
+location_value diagnostic = object (member (codes "physicalLocation") (physical_value diagnostic) no_members)
+
+-- the link that it is about, and whether that is cut
+abbrev pub link_value : Diagnostic → Data
+link_value diagnostic =
+    object (member (codes "cut") (boolean (is_cut diagnostic.text.now))
+    (member (codes "text") (string (carried diagnostic.text.now (finding_place diagnostic.finding))) no_members))
 
 -- the result of a diagnostic
 abbrev pub result_value : Diagnostic → Data
 result_value diagnostic =
     object (member (codes "level") (string (codes "error"))
-    (member (codes "locations") (array (item (location_value diagnostic) no_items))
-    (member (codes "message") (message (finding_sentence diagnostic.finding))
+    (member (codes "locations") (single (location_value diagnostic))
+    (member (codes "message") (message (told.message diagnostic.text.now diagnostic.finding))
+    (member (codes "properties") (link_value diagnostic)
     (member (codes "ruleId") (string (finding_name diagnostic.finding))
-    (member (codes "ruleIndex") (number (unsigned (finding_index diagnostic.finding))) no_members)))))
+    (member (codes "ruleIndex") (number (unsigned (finding_index diagnostic.finding))) no_members))))))
 
 -- a comma before each result but the first
 abbrev pub separator : Bool → List ℕ

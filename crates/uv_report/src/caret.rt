@@ -2,22 +2,36 @@
 ghost use Rattle.std.specs.Prelude.{◌≡◌, ◌++◌, OnOk, replicate, string_bytes, take};
 ghost use Rattle.std.specs.List.{flat_map};
 ghost use Rattle.std.specs.Str.{chars};
-ghost use Rattle.uv_report.specs.Caret.{below, caret_lines, caret_text, columns, padding};
+ghost use Rattle.uv_report.specs.Caret.{below, caret_lines, caret_text, columns, padding, window_lines};
 
 use crate::diagnostic::Diagnostic;
 use crate::escapes::{Escapes, is_hidden, push_escaped};
 use crate::gnu::push_gnu;
-use std::alloc::AllocError;
+use crate::window::{window, window_place};
+use std::alloc::{AllocError, Global};
 use unicode_width::UnicodeWidthChar;
 
-/// Pushes the line of `gnu`, the line that it is about, and the line of the caret.
+/// Pushes the line of `gnu`, what is shown of the line that it is about, and the line of the caret.
 #[tactic(auto, unfolding(crate::specs::Caret::caret_text))]
-pub(crate) fn push_caret(text: &mut String, diagnostic: &Diagnostic<'_>) -> Result<(), AllocError>
+pub(crate) fn push_caret(
+    alloc: Global,
+    text: &mut String,
+    diagnostic: &Diagnostic<'_>,
+) -> Result<(), AllocError>
     ensures { OnOk result (string_bytes text.new ≡ string_bytes text.old ++ caret_text diagnostic.now) }
 {
-    push_gnu(text, diagnostic)?;
-    push_lines(text, diagnostic.text, diagnostic.finding.place())?;
+    push_gnu(alloc, text, diagnostic)?;
+    push_window(alloc, text, diagnostic.text, diagnostic.finding.place())?;
     Ok(())
+}
+
+// Pushes what is shown of a line, and a caret below one of the line's places.
+#[tactic(auto, unfolding(crate::specs::Caret::window_lines))]
+fn push_window(alloc: Global, text: &mut String, line: &str, place: usize) -> Result<(), AllocError>
+    ensures { OnOk result (string_bytes text.new ≡ string_bytes text.old ++ window_lines line.now place) }
+{
+    let shown = window(alloc, line, place)?;
+    push_lines(text, shown.as_str(), window_place(line, place))
 }
 
 // Pushes a line, and a caret below one of its places.

@@ -6,7 +6,8 @@ use crate::diagnostic::Diagnostic;
 use crate::escapes::{Escapes, push_escaped};
 use crate::finding::Finding;
 use crate::gnu::push_number;
-use std::alloc::AllocError;
+use crate::message::push_escaped_message;
+use std::alloc::{AllocError, Global};
 
 /// Pushes the start tag of a file.
 #[tactic(auto, unfolding(crate::specs::Checkstyle::file_begin))]
@@ -22,13 +23,14 @@ pub(crate) fn push_checkstyle_file(text: &mut String, file: &str) -> Result<(), 
 /// Pushes the element of a diagnostic, and a line feed.
 #[tactic(auto, unfolding(crate::specs::Checkstyle::checkstyle_text))]
 pub(crate) fn push_checkstyle(
+    alloc: Global,
     text: &mut String,
     diagnostic: &Diagnostic<'_>,
 ) -> Result<(), AllocError>
     ensures { OnOk result (string_bytes text.new ≡ string_bytes text.old ++ checkstyle_text diagnostic.now) }
 {
     push_place(text, diagnostic)?;
-    push_message(text, diagnostic.finding)?;
+    push_message(alloc, text, diagnostic.text, diagnostic.finding)?;
     Ok(())
 }
 
@@ -45,12 +47,17 @@ fn push_place(text: &mut String, diagnostic: &Diagnostic<'_>) -> Result<(), Allo
     Ok(())
 }
 
-// Pushes the finding's sentence and its name.
+// Pushes what is told of the line, and the finding's name.
 #[tactic(auto, unfolding(crate::specs::Checkstyle::error_text))]
-fn push_message(text: &mut String, finding: Finding) -> Result<(), AllocError>
-    ensures { OnOk result (string_bytes text.new ≡ string_bytes text.old ++ error_text finding) }
+fn push_message(
+    alloc: Global,
+    text: &mut String,
+    line: &str,
+    finding: Finding,
+) -> Result<(), AllocError>
+    ensures { OnOk result (string_bytes text.new ≡ string_bytes text.old ++ error_text line.now finding) }
 {
-    push_escaped(text, finding.sentence(), Escapes::Attribute)?;
+    push_escaped_message(alloc, text, line, finding, Escapes::Attribute)?;
     text.push_str("\" source=\"urlcheck.")?;
     push_escaped(text, finding.name(), Escapes::Attribute)?;
     text.push_str("\"/>\n")?;

@@ -3,7 +3,7 @@
 use crate::finding::Finding;
 
 /// What is wrong with a line of a file. Its column follows from the finding.
-#[derive(Clone, Copy, Debug)]
+#[derive(Clone, Copy)]
 pub struct Diagnostic<'a> {
     /// The file's name, as it was given.
     pub file: &'a str,

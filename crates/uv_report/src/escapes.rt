@@ -7,7 +7,7 @@ ghost use Rattle.uv_report.specs.Escapes.{escape, escaped, shown_text};
 use std::alloc::AllocError;
 
 /// Which code points may not stand as they are, and what stands in their place.
-#[derive(Clone, Copy, Debug)]
+#[derive(Clone, Copy)]
 pub(crate) enum Escapes {
     /// On a terminal: controls but the tab, and what turns the direction of a text or ends a line.
     Shown,
@@ -71,12 +71,29 @@ fn shown(c: char) -> Option<&'static str>
 }
 
 /// Whether a code point isn't shown as it is: a control but the tab, a line end, or one that turns a text's direction.
-#[tactic(auto, using(std::proofs::lemmas::Bool::Decides::nat_tests))]
 pub(crate) fn is_hidden(c: char) -> bool
     ensures { result ≡ spec.is_hidden c }
 {
+    is_control(c) || turns_text(c)
+}
+
+// Whether a code point is a control, but the tab.
+#[tactic(auto, using(std::proofs::lemmas::Bool::Decides::nat_tests))]
+fn is_control(c: char) -> bool
+    ensures { result ≡ spec.is_control c }
+{
     match c {
         '\0'..='\u{8}' | '\u{A}'..='\u{1F}' | '\u{7F}'..='\u{9F}' => true,
+        _ => false,
+    }
+}
+
+// Whether a code point turns the direction of a text or ends a line of it.
+#[tactic(auto, using(std::proofs::lemmas::Bool::Decides::nat_tests))]
+fn turns_text(c: char) -> bool
+    ensures { result ≡ spec.turns_text c }
+{
+    match c {
         '\u{61C}' | '\u{200E}' | '\u{200F}' => true,
         '\u{2028}'..='\u{202E}' | '\u{2066}'..='\u{2069}' => true,
         _ => false,

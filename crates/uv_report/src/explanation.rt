@@ -1,13 +1,13 @@
 //! What each rule asks, with a text that violates it and that text mended.
 ghost use Rattle.std.specs.Prelude.{◌≡◌};
 ghost use Rattle.std.specs.Option.{option_copied};
-ghost use Rattle.uv_report.specs.Explanation.{rule_asks, rule_base, rule_mended, rule_place, rule_section, rule_wrong};
+ghost use Rattle.uv_report.specs.Explanation.{rule_asks, rule_base, rule_mended, rule_place, rule_section, rule_uri, rule_wrong};
 
 use uv_model::Rule;
 
 /// What a rule asks of a text, and an example. Both texts of the example are read by the standard profile, against
 /// `base` where there is one.
-#[derive(Clone, Copy, Debug)]
+#[derive(Clone, Copy)]
 pub struct Explanation {
     /// What the rule asks, in a sentence or two.
     pub asks: &'static str,
@@ -94,6 +94,29 @@ fn section(rule: Rule) -> &'static str
         Rule::DriveAfterHost => "4.3, path-absolute-non-Windows-file-URL string",
         Rule::CodePoint => "4.3, URL code points",
         Rule::Percent => "4.3, URL units",
+    }
+}
+
+/// The address of the section of the URL Standard.
+pub(crate) fn section_uri(rule: Rule) -> &'static str
+    ensures { result.now ≡ rule_uri rule }
+{
+    match rule {
+        Rule::NoScheme => "https://url.spec.whatwg.org/#relative-url-string",
+        Rule::OpaqueBase => "https://url.spec.whatwg.org/#no-scheme-state",
+        Rule::TwoSlashes => "https://url.spec.whatwg.org/#absolute-url-string",
+        Rule::HostMissing => "https://url.spec.whatwg.org/#valid-host-string",
+        Rule::HostDomain => "https://url.spec.whatwg.org/#valid-domain-string",
+        Rule::HostNumber => "https://url.spec.whatwg.org/#ends-in-a-number-checker",
+        Rule::HostIpv6 => "https://url.spec.whatwg.org/#valid-ipv6-address-string",
+        Rule::HostCodePoint => "https://url.spec.whatwg.org/#valid-opaque-host-string",
+        Rule::PortDigit => "https://url.spec.whatwg.org/#url-port-string",
+        Rule::PortRange => "https://url.spec.whatwg.org/#url-port-string",
+        Rule::FirstSegmentEmpty => "https://url.spec.whatwg.org/#path-absolute-url-string",
+        Rule::DriveAfterHost =>
+            "https://url.spec.whatwg.org/#path-absolute-non-windows-file-url-string",
+        Rule::CodePoint => "https://url.spec.whatwg.org/#url-code-points",
+        Rule::Percent => "https://url.spec.whatwg.org/#url-units",
     }
 }
 

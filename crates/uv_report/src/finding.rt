@@ -1,12 +1,12 @@
 //! What is wrong with a line.
 ghost use Rattle.std.specs.Prelude.{◌≡◌};
-ghost use Rattle.uv_report.specs.Finding.{finding_column, finding_help, finding_index, finding_name, finding_place, finding_sentence};
+ghost use Rattle.uv_report.specs.Finding.{finding_column, finding_help, finding_index, finding_name, finding_place, finding_sentence, finding_uri, named_finding};
 
-use crate::explanation::explain;
+use crate::explanation::{explain, section_uri};
 use uv_model::Refusal;
 
 /// What is wrong with a line of a file: as a text it is refused, or it is no text that is judged.
-#[derive(Clone, Copy, Debug, PartialEq, Eq)]
+#[derive(Clone, Copy, PartialEq, Eq)]
 pub enum Finding {
     /// The line violates a rule of valid URL strings at a place.
     Refused(Refusal),
@@ -25,6 +25,17 @@ impl Finding {
             Finding::Refused(refusal) => refusal.rule.name(),
             Finding::NotUtf8 => "not-utf8",
             Finding::TooLong => "line-too-long",
+        }
+    }
+
+    /// The finding with this name that is about no refusal, or `None` where none has it.
+    pub fn of_name(name: &str) -> Option<Finding>
+        ensures { result ≡ named_finding name.now }
+    {
+        match name {
+            "not-utf8" => Some(Finding::NotUtf8),
+            "line-too-long" => Some(Finding::TooLong),
+            _ => None,
         }
     }
 
@@ -47,6 +58,18 @@ impl Finding {
             Finding::Refused(refusal) => explain(refusal.rule).asks,
             Finding::NotUtf8 => "A line is a text in UTF-8.",
             Finding::TooLong => "A line has at most 65536 bytes.",
+        }
+    }
+
+    /// Where that stands in the URL Standard: the section of the rule, or what a valid URL string is.
+    pub(crate) fn uri(self) -> &'static str
+        ensures { result.now ≡ finding_uri self }
+    {
+        match self {
+            Finding::Refused(refusal) => section_uri(refusal.rule),
+            Finding::NotUtf8 | Finding::TooLong => {
+                "https://url.spec.whatwg.org/#valid-url-string"
+            }
         }
     }
 

@@ -6,15 +6,20 @@ use crate::diagnostic::Diagnostic;
 use crate::escapes::{Escapes, push_escaped};
 use crate::finding::Finding;
 use crate::gnu::push_number;
-use std::alloc::AllocError;
+use crate::message::push_escaped_message;
+use std::alloc::{AllocError, Global};
 
 /// Pushes the command `error` with its properties and its message, and a line feed.
 #[tactic(auto, unfolding(crate::specs::Github::github_text))]
-pub(crate) fn push_github(text: &mut String, diagnostic: &Diagnostic<'_>) -> Result<(), AllocError>
+pub(crate) fn push_github(
+    alloc: Global,
+    text: &mut String,
+    diagnostic: &Diagnostic<'_>,
+) -> Result<(), AllocError>
     ensures { OnOk result (string_bytes text.new ≡ string_bytes text.old ++ github_text diagnostic.now) }
 {
     push_place(text, diagnostic)?;
-    push_message(text, diagnostic.finding)?;
+    push_message(alloc, text, diagnostic.text, diagnostic.finding)?;
     Ok(())
 }
 
@@ -32,15 +37,20 @@ fn push_place(text: &mut String, diagnostic: &Diagnostic<'_>) -> Result<(), Allo
     Ok(())
 }
 
-// Pushes the finding's name as the title, and its sentence as the message.
+// Pushes the finding's name as the title, and what is told of the line as the message.
 #[tactic(auto, unfolding(crate::specs::Github::command_text))]
-fn push_message(text: &mut String, finding: Finding) -> Result<(), AllocError>
-    ensures { OnOk result (string_bytes text.new ≡ string_bytes text.old ++ command_text finding) }
+fn push_message(
+    alloc: Global,
+    text: &mut String,
+    line: &str,
+    finding: Finding,
+) -> Result<(), AllocError>
+    ensures { OnOk result (string_bytes text.new ≡ string_bytes text.old ++ command_text line.now finding) }
 {
     text.push_str(",title=")?;
     push_escaped(text, finding.name(), Escapes::Property)?;
     text.push_str("::")?;
-    push_escaped(text, finding.sentence(), Escapes::Message)?;
+    push_escaped_message(alloc, text, line, finding, Escapes::Message)?;
     text.push_str("\n")?;
     Ok(())
 }

@@ -5,16 +5,21 @@ ghost use Rattle.uv_report.specs.Gnu.{gnu_position, gnu_text, gnu_words};
 use crate::diagnostic::Diagnostic;
 use crate::escapes::{Escapes, push_escaped};
 use crate::finding::Finding;
+use crate::message::message;
 use itoa::Buffer;
-use std::alloc::AllocError;
+use std::alloc::{AllocError, Global};
 
 /// Pushes `FILE:LINE:COLUMN: error: SENTENCE [RULE]` and a line feed.
 #[tactic(auto, unfolding(crate::specs::Gnu::gnu_text))]
-pub(crate) fn push_gnu(text: &mut String, diagnostic: &Diagnostic<'_>) -> Result<(), AllocError>
+pub(crate) fn push_gnu(
+    alloc: Global,
+    text: &mut String,
+    diagnostic: &Diagnostic<'_>,
+) -> Result<(), AllocError>
     ensures { OnOk result (string_bytes text.new ≡ string_bytes text.old ++ gnu_text diagnostic.now) }
 {
     push_position(text, diagnostic)?;
-    push_words(text, diagnostic.finding)?;
+    push_words(alloc, text, diagnostic.text, diagnostic.finding)?;
     Ok(())
 }
 
@@ -31,13 +36,18 @@ fn push_position(text: &mut String, diagnostic: &Diagnostic<'_>) -> Result<(), A
     Ok(())
 }
 
-// Pushes the sentence and the name of a finding.
+// Pushes what is told of a line, and the name of the finding.
 #[tactic(auto, unfolding(crate::specs::Gnu::gnu_words))]
-fn push_words(text: &mut String, finding: Finding) -> Result<(), AllocError>
-    ensures { OnOk result (string_bytes text.new ≡ string_bytes text.old ++ gnu_words finding) }
+fn push_words(
+    alloc: Global,
+    text: &mut String,
+    line: &str,
+    finding: Finding,
+) -> Result<(), AllocError>
+    ensures { OnOk result (string_bytes text.new ≡ string_bytes text.old ++ gnu_words line.now finding) }
 {
     text.push_str(": error: ")?;
-    text.push_str(finding.sentence())?;
+    text.push_str(message(alloc, line, finding)?.as_str())?;
     text.push_str(" [")?;
     text.push_str(finding.name())?;
     text.push_str("]\n")?;

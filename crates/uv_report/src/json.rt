@@ -4,7 +4,8 @@ ghost use Rattle.serde_json.specs.View.{view};
 ghost use Rattle.uv_report.specs.Json.{json_text, json_value};
 
 use crate::diagnostic::Diagnostic;
-use crate::escapes::{Escapes, push_escaped};
+use crate::message::message;
+use crate::window::{carried, is_cut};
 use serde_json::{Value, json};
 use std::alloc::{AllocError, Global};
 
@@ -23,18 +24,19 @@ pub(crate) fn push_json(
     Ok(())
 }
 
-// The object of a diagnostic. Its text is shown as on a terminal.
+// The object of a diagnostic. Its texts are escaped by JSON alone.
 fn object(alloc: Global, diagnostic: &Diagnostic<'_>) -> Result<Value, AllocError>
     ensures { IfOk result (λ value. view value ≡ json_value diagnostic.now) }
 {
-    let mut shown = String::new(alloc);
-    push_escaped(&mut shown, diagnostic.text, Escapes::Shown)?;
+    let message = message(alloc, diagnostic.text, diagnostic.finding)?;
+    let text = carried(alloc, diagnostic.text, diagnostic.finding.place())?;
     json!(in alloc; {
         "column": diagnostic.finding.column() as u64,
+        "cut": is_cut(diagnostic.text),
         "file": diagnostic.file,
         "line": diagnostic.line,
-        "message": diagnostic.finding.sentence(),
+        "message": message.as_str(),
         "rule": diagnostic.finding.name(),
-        "text": shown.as_str()
+        "text": text.as_str()
     })
 }

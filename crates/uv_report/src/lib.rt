@@ -4,6 +4,7 @@
 
 mod caret;
 mod checkstyle;
+mod code_point;
 mod diagnostic;
 mod escapes;
 mod explanation;
@@ -12,8 +13,12 @@ mod format;
 mod github;
 mod gnu;
 mod json;
+pub mod laws;
+mod message;
 mod report;
 mod sarif;
+mod uri;
+mod window;
 
 pub use diagnostic::Diagnostic;
 pub use escapes::push_shown;

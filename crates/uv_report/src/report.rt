@@ -85,12 +85,12 @@ fn text_of(
 {
     let mut told = String::new(alloc);
     match format {
-        Format::Gnu => push_gnu(&mut told, diagnostic)?,
-        Format::Caret => push_caret(&mut told, diagnostic)?,
+        Format::Gnu => push_gnu(alloc, &mut told, diagnostic)?,
+        Format::Caret => push_caret(alloc, &mut told, diagnostic)?,
         Format::Json => push_json(alloc, &mut told, diagnostic)?,
-        Format::Github => push_github(&mut told, diagnostic)?,
+        Format::Github => push_github(alloc, &mut told, diagnostic)?,
         Format::Sarif => push_sarif(alloc, &mut told, diagnostic, is_first)?,
-        Format::Checkstyle => push_checkstyle(&mut told, diagnostic)?,
+        Format::Checkstyle => push_checkstyle(alloc, &mut told, diagnostic)?,
     }
     Ok(told)
 }

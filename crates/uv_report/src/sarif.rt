@@ -5,20 +5,12 @@ ghost use Rattle.uv_report.specs.Sarif as spec;
 
 use crate::diagnostic::Diagnostic;
 use crate::finding::Finding;
-use percent_encoding::{AsciiSet, NON_ALPHANUMERIC, ascii_set, utf8_percent_encode};
+use crate::message::message;
+use crate::uri::push_uri_path;
+use crate::window::{carried, is_cut};
 use serde_json::{Value, json};
 use std::alloc::{AllocError, Global};
 use uv_model::{Refusal, Rule};
-
-// What a path can't hold as it is: all but `/` and the unreserved characters (RFC 3986, section 2.3).
-const NO_PATH: AsciiSet = ascii_set!(
-    NON_ALPHANUMERIC
-        .remove(b'/')
-        .remove(b'-')
-        .remove(b'.')
-        .remove(b'_')
-        .remove(b'~')
-);
 
 /// Pushes the document up to its results: the version, the tool and its rules.
 #[tactic(auto, unfolding(crate::specs::Sarif::sarif_begin))]
@@ -82,7 +74,9 @@ fn rule_object(alloc: Global, finding: Finding) -> Result<Value, AllocError>
     ensures { IfOk result (λ value. view value ≡ spec.rule_value finding) }
 {
     json!(in alloc; {
+        "fullDescription": {"text": finding.help()},
         "help": {"text": finding.help()},
+        "helpUri": finding.uri(),
         "id": finding.name(),
         "shortDescription": {"text": finding.sentence()}
     })
@@ -112,10 +106,13 @@ fn result_object(alloc: Global, diagnostic: &Diagnostic<'_>) -> Result<Value, Al
     ensures { IfOk result (λ value. view value ≡ spec.result_value diagnostic.now) }
 {
     let location = location_object(alloc, diagnostic)?;
+    let message = message(alloc, diagnostic.text, diagnostic.finding)?;
+    let link = link_object(alloc, diagnostic)?;
     json!(in alloc; {
         "level": "error",
         "locations": [location],
-        "message": {"text": diagnostic.finding.sentence()},
+        "message": {"text": message.as_str()},
+        "properties": link,
         "ruleId": diagnostic.finding.name(),
         "ruleIndex": diagnostic.finding.index()
     })
@@ -125,15 +122,42 @@ fn result_object(alloc: Global, diagnostic: &Diagnostic<'_>) -> Result<Value, Al
 fn location_object(alloc: Global, diagnostic: &Diagnostic<'_>) -> Result<Value, AllocError>
     ensures { IfOk result (λ value. view value ≡ spec.location_value diagnostic.now) }
 {
+    let physical = physical_object(alloc, diagnostic)?;
+    json!(in alloc; {"physicalLocation": physical})
+}
+
+// The file and the region of a diagnostic.
+fn physical_object(alloc: Global, diagnostic: &Diagnostic<'_>) -> Result<Value, AllocError>
+    ensures { IfOk result (λ value. view value ≡ spec.physical_value diagnostic.now) }
+{
+    let artifact = artifact_object(alloc, diagnostic.file)?;
+    let region = region_object(alloc, diagnostic)?;
+    json!(in alloc; {"artifactLocation": artifact, "region": region})
+}
+
+// A file, by its name as the path of a URI reference.
+fn artifact_object(alloc: Global, file: &str) -> Result<Value, AllocError>
+    ensures { IfOk result (λ value. view value ≡ spec.artifact_value file.now) }
+{
     let mut uri = String::new(alloc);
-    utf8_percent_encode(diagnostic.file, NO_PATH).append_to(&mut uri)?;
+    push_uri_path(&mut uri, file)?;
+    json!(in alloc; {"uri": uri.as_str()})
+}
+
+// The line and the column of a diagnostic.
+fn region_object(alloc: Global, diagnostic: &Diagnostic<'_>) -> Result<Value, AllocError>
+    ensures { IfOk result (λ value. view value ≡ spec.region_value diagnostic.now) }
+{
     json!(in alloc; {
-        "physicalLocation": {
-            "artifactLocation": {"uri": uri.as_str()},
-            "region": {
-                "startColumn": diagnostic.finding.column() as u64,
-                "startLine": diagnostic.line
-            }
-        }
+        "startColumn": diagnostic.finding.column() as u64,
+        "startLine": diagnostic.line
     })
+}
+
+// The link that a diagnostic is about, and whether it is cut.
+fn link_object(alloc: Global, diagnostic: &Diagnostic<'_>) -> Result<Value, AllocError>
+    ensures { IfOk result (λ value. view value ≡ spec.link_value diagnostic.now) }
+{
+    let text = carried(alloc, diagnostic.text, diagnostic.finding.place())?;
+    json!(in alloc; {"cut": is_cut(diagnostic.text), "text": text.as_str()})
 }

@@ -39,7 +39,7 @@ fn writes_a_line_as_compilers_do(rt: HostRuntime) -> Result<(), Fail> {
     let found = refused("docs/a.md", Rule::CodePoint, 10, "http://h/a b");
     assert_eq!(rt;
         report(rt.alloc(), Format::Gnu, &found)?.as_str(),
-        "docs/a.md:3:11: error: this code point may not stand in a URL [code-point]\n"
+        "docs/a.md:3:11: error: U+0020 SPACE may not stand in a URL [code-point]\n"
     );
     let unread = Diagnostic {
         file: "-",
@@ -87,8 +87,8 @@ fn writes_an_object_of_json(rt: HostRuntime) -> Result<(), Fail> {
     let found = refused("a\"b.md", Rule::NoScheme, 0, "x\\\u{1B}\ty");
     assert_eq!(rt;
         report(rt.alloc(), Format::Json, &found)?.as_str(),
-        "{\"column\":1,\"file\":\"a\\\"b.md\",\"line\":3,\"message\":\"there is no scheme and no base\",\
-        \"rule\":\"no-scheme\",\"text\":\"x\\\\\u{FFFD}\\ty\"}\n"
+        "{\"column\":1,\"cut\":false,\"file\":\"a\\\"b.md\",\"line\":3,\"message\":\"there is no scheme and no base\",\
+        \"rule\":\"no-scheme\",\"text\":\"x\\\\\\u001b\\ty\"}\n"
     );
     Ok(())
 }
@@ -98,7 +98,7 @@ fn escapes_the_properties_and_the_message_of_a_command(rt: HostRuntime) -> Resul
     let found = refused("C:\\a,b%\r\n.md", Rule::Percent, 9, "http://h/%4");
     assert_eq!(rt;
         report(rt.alloc(), Format::Github, &found)?.as_str(),
-        "::error file=C%3A\\a%2Cb%25%0D%0A.md,line=3,col=10,title=percent::two hex digits have to follow this %25\n"
+        "::error file=C%3A\\a%2Cb%25%0D%0A.md,line=3,col=10,title=percent::U+0025 PERCENT SIGN has to be followed by two hex digits\n"
     );
     Ok(())
 }
@@ -149,6 +149,15 @@ fn writes_a_document_of_sarif(rt: HostRuntime) -> Result<(), Fail> {
         (
             "/runs/0/results/1/message/text",
             "the host that begins here is no valid domain",
+        ),
+        ("/runs/0/results/1/properties/text", "http://a_b/"),
+        (
+            "/runs/0/tool/driver/rules/6/helpUri",
+            "https://url.spec.whatwg.org/#valid-domain-string",
+        ),
+        (
+            "/runs/0/tool/driver/rules/9/fullDescription/text",
+            "Under a scheme that isn't special a host has URL units, but no forbidden host code points.",
         ),
         (
             "/runs/0/results/1/locations/0/physicalLocation/artifactLocation/uri",
@@ -202,34 +211,46 @@ fn joined(alloc: Global, texts: &[&str]) -> Result<String, AllocError> {
     Ok(all)
 }
 
+// What is shown of it: `…`, the 99 code points before the last one, and that one.
+fn long_window(alloc: Global) -> Result<String, AllocError> {
+    let mut text = String::new(alloc);
+    text.push_str("…")?;
+    for _ in 0..99 {
+        text.push('a')?;
+    }
+    text.push(' ')?;
+    Ok(text)
+}
+
 #[test]
 fn writes_long_lines_and_long_names(rt: HostRuntime) -> Result<(), Fail> {
     let alloc = rt.alloc();
     let line = long_line(alloc)?;
+    let window = long_window(alloc)?;
     let mut file = String::new(alloc);
     for _ in 0..4_096 {
         file.push('f')?;
     }
-    let (file, line) = (file.as_str(), line.as_str());
-    let sentence = "this code point may not stand in a URL";
+    let (file, line, window) = (file.as_str(), line.as_str(), window.as_str());
+    let sentence = "U+0020 SPACE may not stand in a URL";
     let gnu = joined(
         alloc,
         &[file, ":3:65536: error: ", sentence, " [code-point]\n"],
     )?;
-    let mut caret = joined(alloc, &[gnu.as_str(), line, "\n"])?;
-    for _ in 0..65_535 {
+    let mut caret = joined(alloc, &[gnu.as_str(), window, "\n"])?;
+    for _ in 0..100 {
         caret.push(' ')?;
     }
     caret.push_str("^\n")?;
     let json = joined(
         alloc,
         &[
-            "{\"column\":65536,\"file\":\"",
+            "{\"column\":65536,\"cut\":true,\"file\":\"",
             file,
             "\",\"line\":3,\"message\":\"",
             sentence,
             "\",\"rule\":\"code-point\",\"text\":\"",
-            line,
+            window,
             "\"}\n",
         ],
     )?;

@@ -16,7 +16,7 @@ const FOURTH: &str = "<error line=\"4\" column=\"1\" severity=\"error\" \
     message=\"this line isn't UTF-8\" source=\"urlcheck.not-utf8\"/>\n";
 
 const FIFTH: &str = "<error line=\"5\" column=\"6\" severity=\"error\" \
-    message=\"this code point may not stand in a URL\" source=\"urlcheck.code-point\"/>\n";
+    message=\"U+0020 SPACE may not stand in a URL\" source=\"urlcheck.code-point\"/>\n";
 
 const END: &str = "</file>\n";
 

@@ -3,14 +3,15 @@ use Rattle.std.proofs.Common.{codes, string_bytes}
 use Rattle.uv_report.specs.declared.escapes.Escapes.TheVariants.{Attribute}
 use Rattle.uv_report.specs.Checkstyle.{error_text}
 use Rattle.uv_report.specs.Escapes.{escaped}
+use Rattle.uv_report.specs.Message.{message}
 use Rattle.uv_report.proofs.PieceLemmas.{four_pieces}
 use Rattle.uv_report.proofs.checkstyle.push_message.Goals as goal
 
 pub returns : goal.returns
 unfolding error_text
 returns c =
-    rw (← c.sentence.ensures, ← c.name.ensures)
-    (four_pieces (string_bytes c.args.text.now) (escaped Attribute c.sentence.result.now)
+    rw (← c.name.ensures)
+    (four_pieces (string_bytes c.args.text.now) (escaped Attribute (message c.args.line.now c.args.finding))
     (codes "\" source=\"urlcheck.") (escaped Attribute c.name.result.now) (codes "\"/>\n")
-    c.in_ok-push_escaped.ensures c.in_ok-push_str.ensures.bytes c.in_ok-push_escaped-2.ensures
+    c.in_ok-push_escaped_message.ensures c.in_ok-push_str.ensures.bytes c.in_ok-push_escaped.ensures
     c.in_ok-push_str-2.ensures.bytes)

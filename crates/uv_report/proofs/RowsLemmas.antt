@@ -1,0 +1,51 @@
+-- The rows, by computation.
+use Rattle.std.proofs.Common.{refl}
+use Rattle.std.specs.Fmt.{char_count, digits, padded_integral}
+use Rattle.std.specs.Char.{encode_utf8}
+use Rattle.std.specs.Str.{chars}
+use Rattle.percent_encoding.specs.Percent.{percent_encode_byte}
+use Rattle.uv_report.specs.CodePoint.{ascii_names, capital_names, control_names, digit_names, last_names, mark_names, point_name, point_text, sign_names, small_names}
+use Rattle.uv_report.specs.Message.{refusal_message}
+use Rattle.uv_report.specs.Rows.{MessageRows, PointRows, UriRows, WindowRows}
+use Rattle.uv_report.specs.Uri.{uri_part, uri_path}
+use Rattle.uv_report.specs.Window.{cut_out, window, window_place, window_points}
+
+-- code points by name
+pub point_rows : PointRows
+unfolding point_text point_name ascii_names control_names sign_names digit_names capital_names mark_names small_names
+    last_names digits padded_integral char_count encode_utf8
+point_rows = record {
+  escape = refl;
+  space = refl;
+  letter = refl;
+  delete = refl;
+  beyond = refl;
+  hidden = refl;
+  digits = refl;
+}
+
+-- messages
+pub message_rows : MessageRows
+unfolding refusal_message point_text point_name ascii_names control_names sign_names digit_names capital_names
+    mark_names small_names last_names digits padded_integral char_count encode_utf8 chars
+message_rows = record { point = refl; port = refl; user = refl; password = refl; path = refl }
+
+-- windows
+pub window_rows : WindowRows
+unfolding window window_place cut_out window_points chars encode_utf8
+window_rows = record {
+  short = refl;
+  whole = refl;
+  first = refl;
+  within = refl;
+  last = refl;
+  place = refl;
+  further = refl;
+  own = refl;
+  carried = refl;
+}
+
+-- names as paths
+pub uri_rows : UriRows
+unfolding uri_path uri_part percent_encode_byte
+uri_rows = record { scheme = refl; marks = refl; host = refl; root = refl }

@@ -1,0 +1,75 @@
+-- What is told of a line: a sentence that names the code point at the place, where the rule is about one, or that says
+-- that a URL string has no credentials.
+use Rattle.std.specs.Prelude.{ℕ, Bool, true, false, ◌&&◌, ◌||◌, ◌==◌, List, ◌++◌, codes, drop, find, if◌then◌else◌, Option, Some, None, slice_get}
+use Rattle.std.specs.Str.{chars}
+use Rattle.uv_model.specs.declared.rule.Refusal.{Refusal}
+use Rattle.uv_model.specs.declared.rule.Rule.{Rule}
+use Rattle.uv_model.specs.declared.rule.Rule.TheVariants.{HostMissing, HostDomain, HostNumber, HostIpv6, HostCodePoint, PortDigit, PortRange, CodePoint, Percent}
+use Rattle.uv_model.specs.Complaints.Rule.{rule_sentence}
+use Rattle.uv_report.specs.CodePoint.{point_text}
+use Rattle.uv_report.specs.Finding.{finding_sentence}
+use Rattle.uv_report.specs.declared.finding.Finding.{Finding}
+use Rattle.uv_report.specs.declared.finding.Finding.TheVariants.{Refused, NotUtf8, TooLong}
+
+-- ---- a code point that violates a rule
+
+-- what is said of it; nothing by a rule that is about more than one code point
+abbrev pub said_of_point : Rule → Option (List ℕ)
+said_of_point HostCodePoint = Some (codes " may not stand in a host")
+said_of_point PortDigit = Some (codes " is no digit of a port")
+said_of_point CodePoint = Some (codes " may not stand in a URL")
+said_of_point Percent = Some (codes " has to be followed by two hex digits")
+said_of_point _ = None
+
+-- this is said of this code point, else the rule's sentence
+abbrev pub point_sentence : Rule → Option (List ℕ) → Option ℕ → List ℕ
+point_sentence rule (Some said) (Some c) = point_text c ++ said
+point_sentence rule _ _ = rule_sentence rule
+
+-- ---- credentials (URL Standard, sections 4.1 and 4.3: a valid URL string has none)
+
+-- a rule of hosts and ports
+abbrev pub is_of_authority : Rule → Bool
+is_of_authority HostMissing = true
+is_of_authority HostDomain = true
+is_of_authority HostNumber = true
+is_of_authority HostIpv6 = true
+is_of_authority HostCodePoint = true
+is_of_authority PortDigit = true
+is_of_authority PortRange = true
+is_of_authority _ = false
+
+-- an `@` ends credentials; `/`, `?` and `#` end an authority
+abbrev pub ends_part : ℕ → Bool
+ends_part c = (c == 0x40) || ((c == 0x2F) || ((c == 0x3F) || (c == 0x23)))
+
+-- the first of these is an `@`
+abbrev pub is_at_sign : Option ℕ → Bool
+is_at_sign (Some c) = c == 0x40
+is_at_sign None = false
+
+-- the first of them from a place on
+abbrev pub part_end : List ℕ → ℕ → Option ℕ
+part_end line place = find ends_part (drop place (chars line))
+
+-- an `@` follows from the place on, before the authority's end
+abbrev pub has_credentials : List ℕ → ℕ → Bool
+has_credentials line place = is_at_sign (part_end line place)
+
+-- what is said of them
+abbrev pub credentials_sentence : List ℕ
+credentials_sentence = codes "a URL string has no credentials: no user name, password or @ before its host"
+
+-- ---- a line
+
+-- what is told of a refused line
+unfoldable pub refusal_message : List ℕ → Refusal → List ℕ
+refusal_message line refusal =
+    if is_of_authority refusal.rule && has_credentials line refusal.place then credentials_sentence
+    else point_sentence refusal.rule (said_of_point refusal.rule) (slice_get (chars line) refusal.place)
+
+-- what is told of a line
+abbrev pub message : List ℕ → Finding → List ℕ
+message line (Refused refusal) = refusal_message line refusal
+message line NotUtf8 = finding_sentence NotUtf8
+message line TooLong = finding_sentence TooLong

@@ -1,0 +1,47 @@
+-- Code points that are named, messages and windows, written out.
+use Rattle.std.specs.Prelude.{◌≡◌, ℕ, Bool, true, false, List, [], ◌∷◌, ◌++◌, codes, replicate}
+use Rattle.uv_model.specs.declared.rule.Rule.TheVariants.{HostDomain, PortDigit, CodePoint}
+use Rattle.uv_report.specs.declared.finding.Finding.TheVariants.{Refused}
+use Rattle.uv_report.specs.CodePoint.{point_text}
+use Rattle.uv_report.specs.Message.{credentials_sentence, has_credentials, message}
+use Rattle.uv_report.specs.Uri.{uri_path}
+use Rattle.uv_report.specs.Window.{cut_mark, is_cut, window, window_place}
+
+-- code points: a control, a space, a letter, one beyond ASCII, one that isn't shown, and one of five digits
+pub record PointRows : Type 0 where
+  pub escape : point_text 0x1B ≡ codes "U+001B ESCAPE"
+  pub space : point_text 0x20 ≡ codes "U+0020 SPACE"
+  pub letter : point_text 0x78 ≡ codes "U+0078 LATIN SMALL LETTER X"
+  pub delete : point_text 0x7F ≡ codes "U+007F DELETE"
+  pub beyond : point_text 0xE9 ≡ codes "U+00E9 " ++ (0xC3 ∷ 0xA9 ∷ [])
+  pub hidden : point_text 0x202E ≡ codes "U+202E"
+  pub digits : point_text 0x1FFFE ≡ codes "U+1FFFE " ++ (0xF0 ∷ 0x9F ∷ 0xBF ∷ 0xBE ∷ [])
+
+-- messages: of a code point, and of credentials where an `@` follows in the authority
+pub record MessageRows : Type 0 where
+  pub point : message (codes "urn:a b") (Refused (record { place = 5; rule = CodePoint }))
+      ≡ codes "U+0020 SPACE may not stand in a URL"
+  pub port : message (codes "http://h:8x#@") (Refused (record { place = 10; rule = PortDigit }))
+      ≡ codes "U+0078 LATIN SMALL LETTER X is no digit of a port"
+  pub user : message (codes "http://u@h/") (Refused (record { place = 7; rule = HostDomain })) ≡ credentials_sentence
+  pub password : has_credentials (codes "http://user:pw@h/") 12 ≡ true
+  pub path : has_credentials (codes "http://x_y/@") 7 ≡ false
+
+-- windows of a line of 250 letters, and of a short one
+pub record WindowRows : Type 0 where
+  pub short : window (codes "ab") 1 ≡ codes "ab"
+  pub whole : window (replicate 200 97) 150 ≡ replicate 200 97
+  pub first : window (replicate 250 97) 99 ≡ replicate 198 97 ++ cut_mark true
+  pub within : window (replicate 300 97) 100 ≡ cut_mark true ++ (replicate 198 97 ++ cut_mark true)
+  pub last : window (replicate 250 97) 200 ≡ cut_mark true ++ replicate 149 97
+  pub place : window_place (replicate 250 97) 99 ≡ 99
+  pub further : window_place (replicate 250 97) 200 ≡ 100
+  pub own : window_place (replicate 200 97) 150 ≡ 150
+  pub carried : is_cut (replicate 200 97) ≡ false
+
+-- names as paths
+pub record UriRows : Type 0 where
+  pub scheme : uri_path (codes "a:b.txt") ≡ codes "a%3Ab.txt"
+  pub marks : uri_path (codes "a#b?c%d") ≡ codes "a%23b%3Fc%25d"
+  pub host : uri_path (codes "//x/y") ≡ codes "/%2Fx/y"
+  pub root : uri_path (codes "/x") ≡ codes "/x"

@@ -1,0 +1,22 @@
+//! Laws over what is told, each as the clause of a function that does nothing.
+ghost use Rattle.uv_report.specs.Rows.{MessageRows, PointRows, UriRows, WindowRows};
+
+/// Code points by name.
+pub fn point_rows()
+    ensures { PointRows }
+{}
+
+/// Messages that name a code point, or that a URL string has no credentials.
+pub fn message_rows()
+    ensures { MessageRows }
+{}
+
+/// Windows of long lines.
+pub fn window_rows()
+    ensures { WindowRows }
+{}
+
+/// Names of files as paths.
+pub fn uri_rows()
+    ensures { UriRows }
+{}

@@ -1,0 +1,116 @@
+//! What is told of a line: a sentence that names the code point at the place, where the rule is about one, or that says
+//! that a URL string has no credentials.
+ghost use Rattle.std.specs.Prelude.{◌≡◌, ◌++◌, IfOk, OnOk, option_copied, string_bytes};
+ghost use Rattle.uv_report.specs.Escapes.{escaped};
+ghost use Rattle.uv_report.specs.Message as spec;
+
+use crate::code_point::point_text;
+use crate::escapes::{Escapes, push_escaped};
+use crate::finding::Finding;
+use crate::window::point_at;
+use std::alloc::{AllocError, Global};
+use uv_model::{Refusal, Rule};
+
+const CREDENTIALS: &str =
+    "a URL string has no credentials: no user name, password or @ before its host";
+
+/// What is told of a line, in a sentence without its end.
+pub(crate) fn message(alloc: Global, line: &str, finding: Finding) -> Result<String, AllocError>
+    ensures { IfOk result (λ text. string_bytes text ≡ spec.message line.now finding) }
+{
+    match finding {
+        Finding::Refused(refusal) => refusal_message(alloc, line, refusal),
+        Finding::NotUtf8 | Finding::TooLong => String::from_str(alloc, finding.sentence()),
+    }
+}
+
+/// Pushes what is told of a line, with escapes.
+pub(crate) fn push_escaped_message(
+    alloc: Global,
+    text: &mut String,
+    line: &str,
+    finding: Finding,
+    escapes: Escapes,
+) -> Result<(), AllocError>
+    ensures { OnOk result (string_bytes text.new
+        ≡ string_bytes text.old ++ escaped escapes (spec.message line.now finding)) }
+{
+    let message = message(alloc, line, finding)?;
+    push_escaped(text, message.as_str(), escapes)
+}
+
+// What is told of a refused line.
+#[tactic(auto, unfolding(crate::specs::Message::refusal_message))]
+fn refusal_message(alloc: Global, line: &str, refusal: Refusal) -> Result<String, AllocError>
+    ensures { IfOk result (λ text. string_bytes text ≡ spec.refusal_message line.now refusal) }
+{
+    if is_of_authority(refusal.rule) && has_credentials(line, refusal.place) {
+        return String::from_str(alloc, CREDENTIALS);
+    }
+    point_sentence(alloc, refusal.rule, point_at(line, refusal.place))
+}
+
+// What is said of a code point that violates a rule, where the rule is about one, else the rule's sentence.
+fn point_sentence(alloc: Global, rule: Rule, point: Option<char>) -> Result<String, AllocError>
+    ensures { IfOk result (λ text. string_bytes text ≡ spec.point_sentence rule (spec.said_of_point rule) point) }
+{
+    let (Some(said), Some(c)) = (said_of_point(rule), point) else {
+        return String::from_str(alloc, rule.sentence());
+    };
+    let mut text = point_text(alloc, c)?;
+    text.push_str(said)?;
+    Ok(text)
+}
+
+// What is said of a code point that violates a rule, where the rule is about one.
+fn said_of_point(rule: Rule) -> Option<&'static str>
+    ensures { option_copied result ≡ spec.said_of_point rule }
+{
+    match rule {
+        Rule::HostCodePoint => Some(" may not stand in a host"),
+        Rule::PortDigit => Some(" is no digit of a port"),
+        Rule::CodePoint => Some(" may not stand in a URL"),
+        Rule::Percent => Some(" has to be followed by two hex digits"),
+        _ => None,
+    }
+}
+
+// Whether a rule is one of hosts and ports.
+fn is_of_authority(rule: Rule) -> bool
+    ensures { result ≡ spec.is_of_authority rule }
+{
+    match rule {
+        Rule::HostMissing
+        | Rule::HostDomain
+        | Rule::HostNumber
+        | Rule::HostIpv6
+        | Rule::HostCodePoint
+        | Rule::PortDigit
+        | Rule::PortRange => true,
+        _ => false,
+    }
+}
+
+// Whether an `@` follows from a place of a host or a port on, before the authority's end.
+fn has_credentials(line: &str, place: usize) -> bool
+    ensures { result ≡ spec.has_credentials line.now place }
+{
+    match part_end(line, place) {
+        Some(end) => end == '@',
+        None => false,
+    }
+}
+
+// The first code point from a place on that ends credentials or an authority.
+fn part_end(line: &str, place: usize) -> Option<char>
+    ensures { result ≡ spec.part_end line.now place }
+{
+    line.chars().skip(place).find(|c| ends_part(*c))
+}
+
+// Whether a code point ends credentials or an authority.
+fn ends_part(c: char) -> bool
+    ensures { result ≡ spec.ends_part c }
+{
+    c == '@' || c == '/' || c == '?' || c == '#'
+}

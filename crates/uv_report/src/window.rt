@@ -1,0 +1,101 @@
+//! What is shown of a line: all of it, or of a long one a window around a place.
+ghost use Rattle.std.specs.Prelude.{◌≡◌, ◌++◌, IfOk, OnOk, slice_get, string_bytes};
+ghost use Rattle.std.specs.Str.{chars};
+ghost use Rattle.uv_report.specs.Window as spec;
+
+use std::alloc::{AllocError, Global};
+
+/// What is shown of a line of which a place is told: the line, where it has at most 200 code points, else a window of
+/// it, with `…` on each side that is cut.
+#[tactic(auto, unfolding(crate::specs::Window::window))]
+pub(crate) fn window(alloc: Global, line: &str, place: usize) -> Result<String, AllocError>
+    ensures { IfOk result (λ shown. string_bytes shown ≡ spec.window line.now place) }
+{
+    if is_longer(line, 200) {
+        cut_out(alloc, line, place.saturating_sub(99))
+    } else {
+        String::from_str(alloc, line)
+    }
+}
+
+/// Where a place of a line stands in what is shown of it.
+#[tactic(auto, unfolding(crate::specs::Window::window_place))]
+pub(crate) fn window_place(line: &str, place: usize) -> usize
+    ensures { result ≡ spec.window_place line.now place }
+{
+    if is_longer(line, 200) {
+        place.min(100)
+    } else {
+        place
+    }
+}
+
+/// What a report carries of a link of which a place is told: the link, where it has at most 2,000 code points, else
+/// what is shown of it.
+#[tactic(auto, unfolding(crate::specs::Window::carried))]
+pub(crate) fn carried(alloc: Global, line: &str, place: usize) -> Result<String, AllocError>
+    ensures { IfOk result (λ link. string_bytes link ≡ spec.carried line.now place) }
+{
+    if is_cut(line) {
+        window(alloc, line, place)
+    } else {
+        String::from_str(alloc, line)
+    }
+}
+
+/// Whether a report carries a window of the link alone.
+pub(crate) fn is_cut(line: &str) -> bool
+    ensures { result ≡ spec.is_cut line.now }
+{
+    is_longer(line, 2_000)
+}
+
+// Whether a line has more code points than so many.
+fn is_longer(line: &str, most: usize) -> bool
+    ensures { result ≡ spec.is_longer most line.now }
+{
+    point_at(line, most).is_some()
+}
+
+/// The code point at a place of a line.
+pub(crate) fn point_at(line: &str, place: usize) -> Option<char>
+    ensures { result ≡ slice_get (chars line.now) place }
+{
+    line.chars().nth(place)
+}
+
+// Whether a line has more code points than so many behind a start.
+fn has_more(line: &str, start: usize, most: usize) -> bool
+    ensures { result ≡ spec.has_more most line.now start }
+{
+    line.chars().skip(start).nth(most).is_some()
+}
+
+// The window from a start on, with `…` on each side where more of the line stands.
+#[tactic(auto, unfolding(crate::specs::Window::cut_out))]
+fn cut_out(alloc: Global, line: &str, start: usize) -> Result<String, AllocError>
+    ensures { IfOk result (λ shown. string_bytes shown ≡ spec.cut_out line.now start) }
+{
+    let mut shown = String::new(alloc);
+    shown.push_str(cut_mark(start > 0))?;
+    push_points(&mut shown, line, start)?;
+    shown.push_str(cut_mark(has_more(line, start, 198)))?;
+    Ok(shown)
+}
+
+// `…`, where a line is cut.
+fn cut_mark(is_cut: bool) -> &'static str
+    ensures { result.now ≡ spec.cut_mark is_cut }
+{
+    if is_cut { "…" } else { "" }
+}
+
+// Pushes 198 code points of a line from a start on.
+fn push_points(text: &mut String, line: &str, start: usize) -> Result<(), AllocError>
+    ensures { OnOk result (string_bytes text.new ≡ string_bytes text.old ++ spec.window_points line.now start) }
+{
+    for c in line.chars().skip(start).take(198) {
+        text.push(c)?;
+    }
+    Ok(())
+}
