@@ -73,7 +73,10 @@ done <"$room/explained"
 "$program" explain percent >"$room/out" 2>"$room/err"
 ends_with 0 $? '' 'explain percent'
 sed -n '/^rule percent$/,$p' "$room/explained" | cmp -s - "$room/out" || fail "explain percent: it wrote $(cat "$room/out")"
-for word in host PERCENT '' not-utf8 'percent '; do
+expect 0 "rule not-utf8\nmeans this line isn't UTF-8\nasks A line is a text in UTF-8.\n" '' explain not-utf8
+expect 0 'rule line-too-long\nmeans this line has more than 65536 bytes\nasks A line has at most 65536 bytes.\n' '' \
+    explain line-too-long
+for word in host PERCENT '' not-utf-8 'percent '; do
     expect 2 '' 'error: no rule has this name; `urlcheck explain` names them all\nwords\n' explain "$word"
 done
 
@@ -82,4 +85,4 @@ for words in 'explain' 'explain percent'; do
     "$program" $words >/dev/full 2>"$room/err"
     ends_with 3 $? 'write\n' "$words to a full device"
 done
-all_cases 42
+all_cases 44

@@ -6,6 +6,8 @@ use Rattle.std.specs.Io.KnownBytes.{Appends}
 use Rattle.uv_model.specs.declared.rule.Rule.{Rule}
 use Rattle.uv_model.specs.Complaints.Rule.{named_rule, rule_name, rule_sentence, rules_in_order}
 use Rattle.uv_report.specs.Explanation.{rule_asks, rule_base, rule_mended, rule_place, rule_section, rule_wrong}
+use Rattle.uv_report.specs.declared.finding.Finding.{Finding}
+use Rattle.uv_report.specs.Finding.{finding_help, finding_name, finding_sentence, named_finding}
 use Rattle.uv_cli.specs.declared.explain.ExplainEnd.{ExplainEnd}
 use Rattle.uv_cli.specs.declared.explain.ExplainEnd.TheVariants.{Explained, Unknown}
 use Rattle.uv_cli.specs.CheckText.{line, line_of, refused_text}
@@ -36,12 +38,27 @@ abbrev pub explanations_text : List Rule → List ℕ
 explanations_text [] = []
 explanations_text (rule ∷ rest) = explanation_text rule ++ flat_map next_text rest
 
--- what is written where this name is asked for, or none; nothing where it is the name of no rule
+-- the lines of a finding with a line that isn't judged: its name, what is wrong, and what a line is asked
+abbrev pub finding_lines : Finding → List ℕ
+finding_lines finding =
+    line (codes "rule ") (finding_name finding) ++ (line (codes "means ") (finding_sentence finding)
+    ++ line (codes "asks ") (finding_help finding))
+
+-- what is written of the finding with this name, where there is one
+abbrev pub explained_finding : List ℕ → Option (List ℕ)
+explained_finding name = option_map finding_lines (named_finding name)
+
+-- what is written of the rule with this name, else of the finding
+abbrev pub explained_rule : List ℕ → Option Rule → Option (List ℕ)
+explained_rule name (Some rule) = Some (explanation_text rule)
+explained_rule name None = explained_finding name
+
+-- what is written where this name is asked for, or none; nothing where it is the name of no rule and of no finding
 abbrev pub explained : Option (Bor (List ℕ)) → Option (List ℕ)
 explained None = Some (explanations_text rules_in_order)
-explained (Some name) = option_map explanation_text (named_rule name.now)
+explained (Some name) = explained_rule name.now (named_rule name.now)
 
--- what was asked for was written, or it is the name of no rule
+-- what was asked for was written, or it is the name of no rule and of no finding
 abbrev pub HasExplained : Option (Bor (List ℕ)) → ExplainEnd → Option (List ℕ) → Option (List ℕ) → Type 0
 HasExplained rule Explained old new = (text : List ℕ) × (explained rule ≡ Some text) × Appends old new text
 HasExplained rule Unknown old new = explained rule ≡ None

@@ -30,6 +30,16 @@ const NAMES: &str =
     "no-scheme opaque-base two-slashes host-missing host-domain host-number host-ipv6 host-code-point \
     port-digit port-range first-segment-empty drive-after-host code-point percent";
 
+const NOT_UTF8: &str = "rule not-utf8
+means this line isn't UTF-8
+asks A line is a text in UTF-8.
+";
+
+const LINE_TOO_LONG: &str = "rule line-too-long
+means this line has more than 65536 bytes
+asks A line has at most 65536 bytes.
+";
+
 // What is written where this name is asked for, or none.
 fn written(
     rt: &(impl Abort + AllocGlobal),
@@ -42,7 +52,12 @@ fn written(
 
 #[test]
 fn explains_a_rule(rt: HostRuntime) -> Result<(), Fail> {
-    for (name, want) in [("host-missing", HOST_MISSING), ("opaque-base", OPAQUE_BASE)] {
+    for (name, want) in [
+        ("host-missing", HOST_MISSING),
+        ("opaque-base", OPAQUE_BASE),
+        ("not-utf8", NOT_UTF8),
+        ("line-too-long", LINE_TOO_LONG),
+    ] {
         let (end, lines) = written(&rt, Some(name))?;
         assert_eq!(rt; end, ExplainEnd::Explained);
         assert_eq!(rt; lines.as_slice(), want.as_bytes());
@@ -71,7 +86,7 @@ fn explains_each_rule(rt: HostRuntime) -> Result<(), Fail> {
 // The names of no rule: nothing is written.
 #[test]
 fn knows_no_other_names(rt: HostRuntime) -> Result<(), Fail> {
-    for name in ["", "host", "Percent", "percent ", "not-utf8", "no-scheme\n"] {
+    for name in ["", "host", "Percent", "percent ", "not-utf-8", "no-scheme\n"] {
         let (end, lines) = written(&rt, Some(name))?;
         assert_eq!(rt; end, ExplainEnd::Unknown, "at {name}");
         assert!(rt; lines.is_empty(), "at {name}");
