@@ -1,0 +1,51 @@
+#!/usr/bin/env bash
+# `urlcheck lint --all` on one line of 65,536 bytes of which each code point is wrong, in each format: what is written
+# has at most 100 MB, and the process needs at most 10 MB of address space, the program itself counted. It fails where a
+# bound is broken, a status isn't that of a refused line, a diagnostic is missing or no figure was taken.
+# Usage: bench/wrong_line.sh [--program FILE]
+set -euo pipefail
+top=$(dirname "$(dirname "$(realpath "$0")")")
+program=$top/crates/urlcheck/out/urlcheck
+. "$top/bench/words.sh"
+words program -- "$@"
+[ -x "$program" ] || { echo "$program is no program: build its crate first (rt run)"; exit 2; }
+for tool in grep head prlimit tr wc; do
+    command -v $tool >/dev/null || { echo "bench/wrong_line.sh needs $tool"; exit 2; }
+done
+room=$(mktemp -d)
+trap 'rm -rf "$room"' EXIT
+
+# wrong FRONT BYTE : a line of 65,536 bytes, of the front and the byte again and again
+wrong() { { printf '%s' "$1"; head -c $((65536 - ${#1})) /dev/zero | tr '\0' "$2"; echo; } >"$room/line"; }
+
+failed=0 figures=0
+# linted NAME RULE FORMAT : a lint of the line in a format
+linted() {
+    local status bytes found spent TIMEFORMAT=%U+%S
+    spent=$({ time (
+        status=0
+        prlimit --as=10000000 "$program" lint --all --format "$3" "$room/line" >"$room/out" 2>"$room/said" || status=$?
+        echo $status >"$room/status"
+    ); } 2>&1)
+    status=$(cat "$room/status")
+    bytes=$(wc -c <"$room/out")
+    found=$(grep -c "$2" "$room/out") || found=0
+    printf '%s, %s: %d bytes, %s s of the processor\n' "$1" "$3" "$bytes" "$spent"
+    figures=$((figures + 1))
+    [ "$status" = 1 ] || { echo "FAILED: status $status: $(cat "$room/said")"; failed=1; }
+    ((bytes > 65536 && bytes <= 100000000)) || { echo 'FAILED: too much is written, or too little'; failed=1; }
+    ((found >= 65000)) || { echo "FAILED: $found diagnostics"; failed=1; }
+}
+
+for format in gnu caret json github sarif checkstyle; do
+    wrong urn: '^'
+    linted 'code points' code-point $format
+    wrong foo:// '^'
+    linted 'host code points' host-code-point $format
+    wrong http://h/ '%'
+    linted 'percent signs' percent $format
+    wrong urn: '\001'
+    linted 'controls' code-point $format
+done
+[ $figures = 24 ] || { echo "FAILED: $figures figures"; exit 1; }
+exit $failed
