@@ -2,3 +2,4 @@ mod LineLemmas
 mod ReportedLemmas
 mod StandsLemmas
 mod PassLemmas
+pub mod FramedLemmas

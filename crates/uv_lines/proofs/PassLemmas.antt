@@ -98,21 +98,23 @@ waits_ended reports n start read q text all =
 pub write-left : {S : Type 0} (reports : S → Option (List ℕ) → List ℕ → S → Type 0) (limits : LineLimits)
     (start : S) (old now new : Option (List ℕ)) (written read text : List ℕ) (q r : S) (n : ℕ)
     → Appends old now written → IsReportOfSome reports limits.line_bytes start read q (written ++ text) → r ≡ q
-    → Appends now new (take n text) → WroteFront reports limits start old read r new
-write-left reports limits start old now new written read text q r n before report same part = record {
-  count = report.0;
-  within = report.1;
-  text = written ++ text;
-  reported = rw same report.2;
-  front = length written + n;
-  wrote = rw (take-append-add written text n) (Appends-trans old now new written (take n text) before part);
-}
+    → Appends now new (take n text) → WroteFront (Reported reports limits.line_bytes start) old read r new
+write-left reports limits start old now new written read text q r n before report same part = (
+  report.0,
+  report.1,
+  record {
+    text = written ++ text;
+    reported = rw same report.2;
+    front = length written + n;
+    wrote = rw (take-append-add written text n) (Appends-trans old now new written (take n text) before part);
+  },
+)
 
 -- the report on whole lines was written
 pub wrote_lines : {S : Type 0} (reports : S → Option (List ℕ) → List ℕ → S → Type 0) (n : ℕ) (start : S)
     (lines : List (List ℕ)) (old now new : Option (List ℕ)) (written text : List ℕ) (q r : S)
     → Appends old now written → Reported reports n start lines (written ++ text) q → r ≡ q
-    → Appends now new text → Wrote reports n start lines old new r
+    → Appends now new text → Wrote (Reported reports n start) lines old new r
 wrote_lines reports n start lines old now new written text q r before report same wrote = record {
   text = written ++ text;
   reported = rw same report;
@@ -184,7 +186,7 @@ finishing_reads reports limits start Endless old read q new left = refl
 pub pass_to_run : {S F : Type 0} (reports : S → Option (List ℕ) → List ℕ → S → Type 0) (limits : LineLimits)
     (start : S) (fault : LineFault F) (old : Option (List ℕ)) (read : List ℕ) (at_end : Type 0) (q : S)
     (new : Option (List ℕ)) → PassFault reports limits start fault old read q new
-    → Leaves reports limits start fault old read at_end q new
+    → Leaves (Reported reports limits.line_bytes start) limits fault old read at_end q new
 pass_to_run reports limits start (Report fault) old read at_end q new left =
     (left.0, (let few = closed_few read in let below = left.1 in omega (arith, few, below)), inl left.1, left.2)
 pass_to_run reports limits start Memory old read at_end q new left =
@@ -198,7 +200,7 @@ pass_to_run reports limits start Endless old read at_end q new left = absurd lef
 pub finish_to_run : {S F : Type 0} (reports : S → Option (List ℕ) → List ℕ → S → Type 0) (limits : LineLimits)
     (start : S) (fault : LineFault F) (old : Option (List ℕ)) (read : List ℕ) (at_end : Type 0) (q : S)
     (new : Option (List ℕ)) → at_end → FinishFault reports limits start fault old read q new
-    → Leaves reports limits start fault old read at_end q new
+    → Leaves (Reported reports limits.line_bytes start) limits fault old read at_end q new
 finish_to_run reports limits start (Report fault) old read at_end q new is left = (left.0, left.1, inr is, left.2)
 finish_to_run reports limits start Write old read at_end q new is left = left
 finish_to_run reports limits start Memory old read at_end q new is left = absurd left
@@ -208,7 +210,8 @@ finish_to_run reports limits start Endless old read at_end q new is left = absur
 
 -- before the first read nothing is reported
 pub nothing_written : {S : Type 0} (reports : S → Option (List ℕ) → List ℕ → S → Type 0) (limits : LineLimits)
-    (start : S) (old : Option (List ℕ)) (at_end : Type 0) → WroteLines reports limits start old [] at_end start old
+    (start : S) (old : Option (List ℕ)) (at_end : Type 0)
+    → WroteLines (Reported reports limits.line_bytes start) old [] at_end start old
 nothing_written reports limits start old at_end = (
   0,
   omega arith,
@@ -220,7 +223,7 @@ nothing_written reports limits start old at_end = (
 pub at_first : {S : Type 0} (reports : S → Option (List ℕ) → List ℕ → S → Type 0) (lines : S → ℕ) (limits : LineLimits)
     (start : S) (old new : Option (List ℕ)) (read : List ℕ) (p : S) (begun text : List ℕ)
     → At reports lines limits.line_bytes start old read p begun text new
-    → WroteFirst reports limits start old read (length (closed_lines read)) p new
+    → WroteFirst (Reported reports limits.line_bytes start) old read (length (closed_lines read)) p new
 at_first reports lines limits start old new read p begun text at = record {
   text = at.written;
   reported = subst (λ t. IsReportOfFirst reports limits.line_bytes start read (length (closed_lines read)) p t)

@@ -2,3 +2,4 @@ pub mod Lines
 pub mod Reported
 pub mod Progress
 pub mod Run
+pub mod Framed

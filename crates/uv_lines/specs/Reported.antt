@@ -1,6 +1,6 @@
 -- What a reporter says of lines, one after the other. It goes from state to state: what it says of a line may depend on
 -- the lines before it, as a number does.
-use Rattle.std.specs.Prelude.{◌≡◌, ℕ, List, [], ◌∷◌, ◌++◌, Option}
+use Rattle.std.specs.Prelude.{◌≡◌, ℕ, List, [], ◌∷◌, ◌++◌, Option, take}
 use Rattle.std.specs.Io.KnownBytes.{Appends}
 use Rattle.uv_lines.specs.Lines.{short_line}
 
@@ -12,9 +12,20 @@ Reported {S} reports line_bytes start (line ∷ lines) text now =
     (front : List ℕ) × (rest : List ℕ) × (next : S) × reports start (short_line line_bytes line) front next
     × Reported reports line_bytes next lines rest now × (text ≡ front ++ rest)
 
--- they were, and the text was written
-pub record Wrote {S : Type 0} (reports : S → Option (List ℕ) → List ℕ → S → Type 0) (line_bytes : ℕ) (start : S)
-    (lines : List (List ℕ)) (old new : Option (List ℕ)) (now : S) : Type 0 where
+-- ---- reports that are written. A report is given by what it is: of these lines this text, which leaves the reporter
+-- in this state.
+
+-- the report on the lines was written
+pub record Wrote {S : Type 0} (IsReport : List (List ℕ) → List ℕ → S → Type 0) (lines : List (List ℕ))
+    (old new : Option (List ℕ)) (now : S) : Type 0 where
   pub text : List ℕ
-  pub reported : Reported reports line_bytes start lines text now
+  pub reported : IsReport lines text now
   pub wrote : Appends old new text
+
+-- a front of it was
+pub record Cut {S : Type 0} (IsReport : List (List ℕ) → List ℕ → S → Type 0) (lines : List (List ℕ))
+    (old new : Option (List ℕ)) (now : S) : Type 0 where
+  pub text : List ℕ
+  pub reported : IsReport lines text now
+  pub front : ℕ
+  pub wrote : Appends old new (take front text)

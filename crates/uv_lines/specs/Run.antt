@@ -5,53 +5,46 @@ use Rattle.uv_lines.specs.declared.fault.LineFault.{LineFault}
 use Rattle.uv_lines.specs.declared.fault.LineFault.TheVariants.{Report, Memory, Read, Write, TooManyLines, Endless}
 use Rattle.uv_lines.specs.declared.limits.LineLimits.{LineLimits}
 use Rattle.uv_lines.specs.Lines.{closed_lines, lines_of}
-use Rattle.uv_lines.specs.Progress.{IsReportOfFirst, Stands}
-use Rattle.uv_lines.specs.Reported.{Wrote}
+use Rattle.uv_lines.specs.Progress.{Stands}
+use Rattle.uv_lines.specs.Reported.{Cut, Reported, Wrote}
 
 -- the report on the bytes was written, on no more lines than may come
-pub record WroteAll {S : Type 0} (reports : S → Option (List ℕ) → List ℕ → S → Type 0) (limits : LineLimits)
-    (start : S) (old : Option (List ℕ)) (read : List ℕ) (now : S) (new : Option (List ℕ)) : Type 0 where
-  pub wrote : Wrote reports limits.line_bytes start (lines_of read) old new now
+pub record WroteAll {S : Type 0} (IsReport : List (List ℕ) → List ℕ → S → Type 0) (limits : LineLimits)
+    (old : Option (List ℕ)) (read : List ℕ) (now : S) (new : Option (List ℕ)) : Type 0 where
+  pub wrote : Wrote IsReport (lines_of read) old new now
   pub few : length (lines_of read) ≤ limits.lines
 
 -- the report on so many of the first lines was written
-abbrev pub WroteFirst : {S : Type 0} → (S → Option (List ℕ) → List ℕ → S → Type 0) → LineLimits → S
-    → Option (List ℕ) → List ℕ → ℕ → S → Option (List ℕ) → Type 0
-WroteFirst reports limits start old read count now new =
-    Wrote reports limits.line_bytes start (take count (lines_of read)) old new now
+abbrev pub WroteFirst : {S : Type 0} → (List (List ℕ) → List ℕ → S → Type 0) → Option (List ℕ) → List ℕ → ℕ → S
+    → Option (List ℕ) → Type 0
+WroteFirst IsReport old read count now new = Wrote IsReport (take count (lines_of read)) old new now
 
 -- a beginning of the report on some of the first lines was written, perhaps cut within what is said of a line
-pub record WroteFront {S : Type 0} (reports : S → Option (List ℕ) → List ℕ → S → Type 0) (limits : LineLimits)
-    (start : S) (old : Option (List ℕ)) (read : List ℕ) (now : S) (new : Option (List ℕ)) : Type 0 where
-  pub count : ℕ
-  pub within : count ≤ length (lines_of read)
-  pub text : List ℕ
-  pub reported : IsReportOfFirst reports limits.line_bytes start read count now text
-  pub front : ℕ
-  pub wrote : Appends old new (take front text)
+abbrev pub WroteFront : {S : Type 0} → (List (List ℕ) → List ℕ → S → Type 0) → Option (List ℕ) → List ℕ → S
+    → Option (List ℕ) → Type 0
+WroteFront IsReport old read now new =
+    (count : ℕ) × (count ≤ length (lines_of read)) × Cut IsReport (take count (lines_of read)) old new now
 
 -- The report on some of the first lines was written. They are lines that an LF has ended, but for a last one without
 -- LF where no byte is left to come.
-abbrev pub WroteLines : {S : Type 0} → (S → Option (List ℕ) → List ℕ → S → Type 0) → LineLimits → S
-    → Option (List ℕ) → List ℕ → Type 0 → S → Option (List ℕ) → Type 0
-WroteLines reports limits start old read at_end now new =
+abbrev pub WroteLines : {S : Type 0} → (List (List ℕ) → List ℕ → S → Type 0) → Option (List ℕ) → List ℕ → Type 0 → S
+    → Option (List ℕ) → Type 0
+WroteLines IsReport old read at_end now new =
     (count : ℕ) × (count ≤ length (lines_of read)) × ((count ≤ length (closed_lines read)) ⊎ at_end)
-    × WroteFirst reports limits start old read count now new
+    × WroteFirst IsReport old read count now new
 
 -- what a fault of a run leaves, when these bytes were read
-abbrev pub Leaves : {S F : Type 0} → (S → Option (List ℕ) → List ℕ → S → Type 0) → LineLimits → S → LineFault F
+abbrev pub Leaves : {S F : Type 0} → (List (List ℕ) → List ℕ → S → Type 0) → LineLimits → LineFault F
     → Option (List ℕ) → List ℕ → Type 0 → S → Option (List ℕ) → Type 0
-Leaves reports limits start (Report fault) old read at_end now new =
-    WroteLines reports limits start old read at_end now new
-Leaves reports limits start Memory old read at_end now new =
-    WroteLines reports limits start old read at_end now new
-Leaves reports limits start Read old read at_end now new =
-    WroteFirst reports limits start old read (length (closed_lines read)) now new
-Leaves reports limits start Write old read at_end now new = WroteFront reports limits start old read now new
-Leaves reports limits start TooManyLines old read at_end now new =
-    WroteFirst reports limits start old read limits.lines now new × (limits.lines < length (lines_of read))
-Leaves reports limits start Endless old read at_end now new =
-    WroteFirst reports limits start old read (length (closed_lines read)) now new × (2 ^ 64 - 1 ≤ length read)
+Leaves IsReport limits (Report fault) old read at_end now new = WroteLines IsReport old read at_end now new
+Leaves IsReport limits Memory old read at_end now new = WroteLines IsReport old read at_end now new
+Leaves IsReport limits Read old read at_end now new =
+    WroteFirst IsReport old read (length (closed_lines read)) now new
+Leaves IsReport limits Write old read at_end now new = WroteFront IsReport old read now new
+Leaves IsReport limits TooManyLines old read at_end now new =
+    WroteFirst IsReport old read limits.lines now new × (limits.lines < length (lines_of read))
+Leaves IsReport limits Endless old read at_end now new =
+    WroteFirst IsReport old read (length (closed_lines read)) now new × (2 ^ 64 - 1 ≤ length read)
 
 -- how many failed reads and writes a fault stands for
 abbrev pub reads_failed : {F : Type 0} → LineFault F → ℕ
@@ -75,19 +68,25 @@ pub record At {S : Type 0} (reports : S → Option (List ℕ) → List ℕ → S
 -- what a fault leaves while a piece is passed on
 abbrev pub PassFault : {S F : Type 0} → (S → Option (List ℕ) → List ℕ → S → Type 0) → LineLimits → S → LineFault F
     → Option (List ℕ) → List ℕ → S → Option (List ℕ) → Type 0
-PassFault reports limits start Write old read now new = WroteFront reports limits start old read now new
+PassFault reports limits start Write old read now new =
+    WroteFront (Reported reports limits.line_bytes start) old read now new
 PassFault reports limits start (Report fault) old read now new =
-    (count : ℕ) × (count ≤ length (closed_lines read)) × WroteFirst reports limits start old read count now new
+    (count : ℕ) × (count ≤ length (closed_lines read))
+    × WroteFirst (Reported reports limits.line_bytes start) old read count now new
 PassFault reports limits start Memory old read now new =
-    (count : ℕ) × (count ≤ length (closed_lines read)) × WroteFirst reports limits start old read count now new
+    (count : ℕ) × (count ≤ length (closed_lines read))
+    × WroteFirst (Reported reports limits.line_bytes start) old read count now new
 PassFault reports limits start TooManyLines old read now new =
-    WroteFirst reports limits start old read limits.lines now new × (limits.lines < length (lines_of read))
+    WroteFirst (Reported reports limits.line_bytes start) old read limits.lines now new
+    × (limits.lines < length (lines_of read))
 PassFault reports limits start _ old read now new = ⊥
 
 -- and at the end of the list
 abbrev pub FinishFault : {S F : Type 0} → (S → Option (List ℕ) → List ℕ → S → Type 0) → LineLimits → S → LineFault F
     → Option (List ℕ) → List ℕ → S → Option (List ℕ) → Type 0
-FinishFault reports limits start Write old read now new = WroteFront reports limits start old read now new
+FinishFault reports limits start Write old read now new =
+    WroteFront (Reported reports limits.line_bytes start) old read now new
 FinishFault reports limits start (Report fault) old read now new =
-    (count : ℕ) × (count ≤ length (lines_of read)) × WroteFirst reports limits start old read count now new
+    (count : ℕ) × (count ≤ length (lines_of read))
+    × WroteFirst (Reported reports limits.line_bytes start) old read count now new
 FinishFault reports limits start _ old read now new = ⊥

@@ -3,6 +3,7 @@
 
 mod ending;
 mod fault;
+mod framed;
 mod limits;
 mod passing;
 mod progress;
@@ -11,9 +12,9 @@ mod run;
 mod taking;
 
 pub use fault::LineFault;
+pub use framed::{Frame, run_lines};
 pub use limits::LineLimits;
 pub use reporter::Reporter;
-pub use run::run_lines;
 
 #[cfg(test)]
 mod tests;

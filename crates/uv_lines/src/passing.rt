@@ -1,6 +1,7 @@
 //! Pieces of a list passed on: what is said of the lines of a piece is written before the next one is read.
 ghost use Rattle.std.specs.Prelude.{◌≡◌, ℕ, ◌+◌, ◌-◌, ◌^◌, ◌<◌, ◌++◌, List, [], Option, IfErr, OnOk, OnErr, take};
 ghost use Rattle.std.specs.Io.KnownBytes.{Appends};
+ghost use Rattle.uv_lines.specs.Reported.{Reported};
 ghost use Rattle.uv_lines.specs.Run.{At, FinishFault, PassFault, WroteAll, writes_failed};
 
 use crate::fault::LineFault;
@@ -53,7 +54,8 @@ impl<R: Reporter> Progress<R> {
         ensures report { OnOk result ((start : R) (old : Option (List ℕ)) (read : List ℕ)
             → At R.reports R.lines self.old.limits.line_bytes start old read self.old.reporter self.old.begun.items
             self.old.text.items (W.contents writer.old)
-            → WroteAll R.reports self.old.limits start old read self.new.reporter (W.contents writer.new)) }
+            → WroteAll (Reported R.reports self.old.limits.line_bytes start) self.old.limits old read
+            self.new.reporter (W.contents writer.new)) }
         ensures quiet { OnOk result (W.failed writer.new ≡ W.failed writer.old) }
         ensures fault { IfErr result (λ e. (start : R) (old : Option (List ℕ)) (read : List ℕ)
             → At R.reports R.lines self.old.limits.line_bytes start old read self.old.reporter self.old.begun.items

@@ -1,5 +1,5 @@
 //! What reports on the lines of a list.
-ghost use Rattle.std.specs.Prelude.{◌≡◌, ℕ, ◌+◌, ◌-◌, ◌^◌, ◌<◌, List, Option, OnOk, OnErr, option_copied};
+ghost use Rattle.std.specs.Prelude.{◌≡◌, ℕ, ◌+◌, ◌-◌, ◌^◌, ◌<◌, List, Option, IfOk, OnOk, OnErr, option_copied, string_bytes};
 ghost use Rattle.uv_lines.specs.Progress.{Adds};
 
 use std::alloc::Global;
@@ -33,4 +33,11 @@ pub trait Reporter: Drop {
     /// How many lines it has reported on.
     fn line_count(&self) -> u64
         ensures { result ≡ lines self.now };
+
+    // What it says behind the last line, where no fault came.
+    ghost last: { Self → List ℕ };
+
+    /// What is said behind the last line, where no fault came.
+    fn last(&self, alloc: Global) -> Result<String, Self::Fault>
+        ensures { IfOk result (λ text. string_bytes text ≡ last self.now) };
 }

@@ -1,6 +1,7 @@
-//! A run over the lines of a list.
+//! A run over the lines of a list, without what stands around the report.
 ghost use Rattle.std.specs.Prelude.{◌≡◌, ℕ, ◌+◌, ◌-◌, ◌^◌, ◌<◌, ◌≤◌, List, [], IfErr, IfOk, OnOk, length, vec_len};
 ghost use Rattle.std.specs.Io.KnownBytes.{Consumes, IsAtEnd};
+ghost use Rattle.uv_lines.specs.Reported.{Reported};
 ghost use Rattle.uv_lines.specs.Run.{Leaves, WroteAll, reads_failed, writes_failed};
 
 use crate::fault::LineFault;
@@ -15,12 +16,8 @@ const PIECE_BYTES: usize = 65_536;
 
 /// Has a reporter report on each line of a list, and gives the reporter back, as the last line on which it reported
 /// left it.
-///
-/// A line ends with LF, and one CR before that is no part of it; a last part without LF is a line where it isn't empty.
-/// What is said of the lines that a read has ended is written before the next read. The writer isn't flushed. After a
-/// fault nothing is tried again, and how far the reader was read is open.
 #[tactic(none)]
-pub fn run_lines<R: Source, W: Sink, T: Reporter>(
+pub(crate) fn run_between<R: Source, W: Sink, T: Reporter>(
     alloc: Global,
     reader: &mut R,
     writer: &mut W,
@@ -34,11 +31,12 @@ pub fn run_lines<R: Source, W: Sink, T: Reporter>(
     requires start { T.lines reporter ≡ 0 }
     ensures report { OnOk result.1 ((read : List ℕ)
         × Consumes (R.remaining reader.old) (R.remaining reader.new) read × IsAtEnd (R.remaining reader.new)
-        × WroteAll T.reports limits reporter (W.contents writer.old) read result.0 (W.contents writer.new)) }
+        × WroteAll (Reported T.reports limits.line_bytes reporter) limits (W.contents writer.old) read result.0
+        (W.contents writer.new)) }
     ensures fault { IfErr result.1 (λ e. (read : List ℕ)
         × Consumes (R.remaining reader.old) (R.remaining reader.new) read
-        × Leaves T.reports limits reporter e (W.contents writer.old) read (IsAtEnd (R.remaining reader.new)) result.0
-        (W.contents writer.new)) }
+        × Leaves (Reported T.reports limits.line_bytes reporter) limits e (W.contents writer.old) read
+        (IsAtEnd (R.remaining reader.new)) result.0 (W.contents writer.new)) }
     ensures failed { IfErr result.1 (λ e. (R.failed reader.new ≡ R.failed reader.old + reads_failed e)
         × (W.failed writer.new ≡ W.failed writer.old + writes_failed e)) }
     ensures quiet { OnOk result.1 ((R.failed reader.new ≡ R.failed reader.old)
@@ -75,11 +73,13 @@ fn run_pieces<R: Source, W: Sink, T: Reporter>(
     requires none { (progress.old.begun.items ≡ []) × (progress.old.text.items ≡ []) }
     ensures report { OnOk result ((read : List ℕ)
         × Consumes (R.remaining reader.old) (R.remaining reader.new) read × IsAtEnd (R.remaining reader.new)
-        × WroteAll T.reports progress.old.limits progress.old.reporter (W.contents writer.old) read
+        × WroteAll (Reported T.reports progress.old.limits.line_bytes progress.old.reporter) progress.old.limits
+        (W.contents writer.old) read
         progress.new.reporter (W.contents writer.new)) }
     ensures fault { IfErr result (λ e. (read : List ℕ)
         × Consumes (R.remaining reader.old) (R.remaining reader.new) read
-        × Leaves T.reports progress.old.limits progress.old.reporter e (W.contents writer.old) read
+        × Leaves (Reported T.reports progress.old.limits.line_bytes progress.old.reporter) progress.old.limits e
+        (W.contents writer.old) read
         (IsAtEnd (R.remaining reader.new)) progress.new.reporter (W.contents writer.new)
         × (R.failed reader.new ≡ R.failed reader.old + reads_failed e)
         × (W.failed writer.new ≡ W.failed writer.old + writes_failed e)) }

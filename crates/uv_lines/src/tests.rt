@@ -1,12 +1,13 @@
-//! Runs over lists written out, with a reporter that says the number of each line and how many bytes it has.
-ghost use Rattle.std.specs.Prelude.{◌≤◌};
+//! Runs over lists written out, in a frame, with a reporter that says the number of each line and how many bytes it
+//! has.
+ghost use Rattle.std.specs.Prelude.{◌≤◌, codes};
 
 use super::*;
 use std::alloc::{AllocError, Global};
 use std::test::Fail;
 use uv_model::{FromReader, ToWriter};
 
-// Says `NUMBER:BYTES `, and `NUMBER:- ` of a line that is too long.
+// Says `NUMBER:BYTES `, `NUMBER:- ` of a line that is too long, and `.` behind the last line.
 #[derive(Drop)]
 struct Lengths {
     lines: u64,
@@ -41,6 +42,12 @@ impl Reporter for Lengths {
     fn line_count(&self) -> u64 {
         self.lines
     }
+
+    ghost last = { λ _. codes "." };
+
+    fn last(&self, alloc: Global) -> Result<String, AllocError> {
+        String::from_str(alloc, ".")
+    }
 }
 
 // What a run over these bytes answers and writes, and how many lines it reported on.
@@ -54,7 +61,11 @@ fn ran(
     let mut reader = FromReader::new(bytes);
     let mut writer = ToWriter::new(Vec::new(alloc));
     let reporter = Lengths { lines: 0 };
-    let (reporter, answer) = run_lines(alloc, &mut reader, &mut writer, reporter, limits);
+    let frame = Frame {
+        begin: b"<",
+        end: b">",
+    };
+    let (reporter, answer) = run_lines(alloc, &mut reader, &mut writer, reporter, limits, frame);
     (answer, reporter.lines, writer.into_writer())
 }
 
@@ -62,13 +73,13 @@ fn ran(
 #[test]
 fn reports_on_lines_in_order(rt: HostRuntime) -> Result<(), Fail> {
     let rows: [(&[u8], &str, u64); 7] = [
-        (b"a\n\nbcd\n", "1:1 2:0 3:3 ", 3),
-        (b"a\r\n\r\nb", "1:1 2:0 3:1 ", 3),
-        (b"a\r", "1:2 ", 1),
-        (b"a\r\r\n", "1:2 ", 1),
-        (b"", "", 0),
-        (b"abcd\nabcde\nabcd\r\nabcde\r\n", "1:4 2:- 3:4 4:- ", 4),
-        (b"abcdefgh", "1:- ", 1),
+        (b"a\n\nbcd\n", "<1:1 2:0 3:3 .>", 3),
+        (b"a\r\n\r\nb", "<1:1 2:0 3:1 .>", 3),
+        (b"a\r", "<1:2 .>", 1),
+        (b"a\r\r\n", "<1:2 .>", 1),
+        (b"", "<.>", 0),
+        (b"abcd\nabcde\nabcd\r\nabcde\r\n", "<1:4 2:- 3:4 4:- .>", 4),
+        (b"abcdefgh", "<1:- .>", 1),
     ];
     let limits = LineLimits {
         line_bytes: 4,
@@ -83,7 +94,8 @@ fn reports_on_lines_in_order(rt: HostRuntime) -> Result<(), Fail> {
     Ok(())
 }
 
-// Behind as many lines as may come a further one is a fault, and what was said of those is out.
+// Behind as many lines as may come a further one is a fault. What was said of those is out, and the end of the frame,
+// but not what is said behind the last line.
 #[test]
 fn stops_behind_the_last_line_that_may_come(rt: HostRuntime) -> Result<(), Fail> {
     let two = LineLimits {
@@ -98,14 +110,14 @@ fn stops_behind_the_last_line_that_may_come(rt: HostRuntime) -> Result<(), Fail>
     ];
     for (bytes, ends) in rows {
         let (answer, count, written) = ran(rt.alloc(), bytes, two);
-        let want = if ends {
-            Ok(())
+        let (want, text) = if ends {
+            (Ok(()), "<1:1 2:1 .>")
         } else {
-            Err(LineFault::TooManyLines)
+            (Err(LineFault::TooManyLines), "<1:1 2:1 >")
         };
         assert_eq!(rt; answer, want);
         assert_eq!(rt; count, 2);
-        assert_eq!(rt; written.as_slice(), b"1:1 2:1 ".as_slice());
+        assert_eq!(rt; written.as_slice(), text.as_bytes());
     }
     Ok(())
 }

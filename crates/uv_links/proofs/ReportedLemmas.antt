@@ -1,15 +1,14 @@
 -- From lines that were reported on one after the other to the report, and to what a run has written and its faults
 -- leave.
-use Rattle.std.proofs.Common.{◌≡◌, ℕ, ◌+◌, List, [], ◌∷◌, ◌++◌, Option, Some, None, true, false, nat_le, length, take, refl, sym, ap, ◌∙◌, subst, arith, sum_by, inl, inr, zero-add, append-nil}
+use Rattle.std.proofs.Common.{◌≡◌, ℕ, ◌+◌, List, [], ◌∷◌, ◌++◌, Option, Some, None, true, false, nat_le, length, take, refl, sym, ap, ◌∙◌, subst, arith, sum_by, inl, inr, add-zero, zero-add, append-nil}
 use Rattle.std.proofs.lemmas.Grind.{common_steps}
 use Rattle.std.proofs.lemmas.Bool.{cases_lt}
 use Rattle.std.proofs.lemmas.List.Sums.{sum_by-append}
-use Rattle.std.proofs.Math.Seq.{take-append-add, take-length}
-use Rattle.std.proofs.KnownBytes.{Appends-trans, Appends-nil, Keeps-refl}
-use Rattle.std.specs.Io.KnownBytes.{Appends}
+use Rattle.std.proofs.KnownBytes.{Appends-nil, Keeps-refl}
 use Rattle.uv_lines.specs.declared.fault.LineFault.{LineFault}
 use Rattle.uv_lines.specs.declared.fault.LineFault.TheVariants as stopped
 use Rattle.uv_lines.specs.Lines.{short_line, closed_lines, lines_of}
+use Rattle.uv_lines.specs.Framed.{FailsReads, Framed, LeavesPart}
 use Rattle.uv_lines.specs.Reported.{Reported}
 use Rattle.uv_lines.specs.Run as run
 use Rattle.uv_links.specs.declared.counts.Counts.{Counts}
@@ -20,7 +19,7 @@ use Rattle.uv_links.specs.declared.fault.RoomFault.TheVariants as room
 use Rattle.uv_links.specs.Fault.{IsBaseFault}
 use Rattle.uv_links.specs.Report.{ListSetting, Said, TooLong, IsSaid, AreSaid, IsReport, IsReportOfFirst, report_line, report_lines, count_line, counted, tally, ok_of, bad_of, differs_of}
 use Rattle.uv_links.specs.Reporting.{Reporting, IsSaidOf, Says, none_counted}
-use Rattle.uv_links.specs.Run.{WroteFirst, WroteFront, WroteLines, Reports, Leaves, LeavesCounts, fault_of_run, reads_failed, writes_failed}
+use Rattle.uv_links.specs.Run.{WroteFirst, WroteFront, WroteLines, Reports, Leaves, fault_of_run, reads_failed, writes_failed}
 
 -- ---- what is said of each line
 
@@ -121,146 +120,103 @@ reported_said n p q (l ∷ ls) text is all =
 abbrev pub fresh : ListSetting → Reporting
 fresh setting = record { setting = setting; counts = none_counted }
 
+-- the report on lines, in a frame that is empty
+abbrev pub Lines : ListSetting → List (List ℕ) → List ℕ → Reporting → Type 0
+Lines s = Framed Says s.line_bytes [] (λ _. []) (fresh s)
+
+-- the same with the line of counts
+abbrev pub Whole : ListSetting → List (List ℕ) → List ℕ → Reporting → Type 0
+Whole s = Framed Says s.line_bytes [] (λ r. count_line r.counts ++ []) (fresh s)
+
 first_report : (s : ListSetting) (q : Reporting) (read text : List ℕ) (count : ℕ)
-    → Reported Says s.line_bytes (fresh s) (take count (lines_of read)) text q → IsReportOfFirst s read count text
+    → Lines s (take count (lines_of read)) text q → IsReportOfFirst s read count text
 first_report s q read text count all =
-    let was = reported_said s.line_bytes (fresh s) q (take count (lines_of read)) text refl all in
-    record { saids = was.saids; said = was.said; lines = was.lines }
-
-wrote_first : (s : ListSetting) (most : ℕ) (old new : Option (List ℕ)) (read : List ℕ) (count : ℕ) (q : Reporting)
-    → run.WroteFirst Says (record { line_bytes = s.line_bytes; lines = most }) (fresh s) old read count q new
-    → WroteFirst s old read count new
-wrote_first s most old new read count q all = record {
-  text = all.text;
-  report = first_report s q read all.text count all.reported;
-  wrote = all.wrote;
-}
-
-wrote_front : (s : ListSetting) (most : ℕ) (old new : Option (List ℕ)) (read : List ℕ) (q : Reporting)
-    → run.WroteFront Says (record { line_bytes = s.line_bytes; lines = most }) (fresh s) old read q new
-    → WroteFront s old read new
-wrote_front s most old new read q all = record {
-  text = all.text;
-  report = inr (all.count, all.within, first_report s q read all.text all.count all.reported);
-  front = all.front;
-  wrote = all.wrote;
-}
-
-wrote_some : (s : ListSetting) (most : ℕ) (old new : Option (List ℕ)) (read : List ℕ) (at_end : Type 0) (q : Reporting)
-    → run.WroteLines Says (record { line_bytes = s.line_bytes; lines = most }) (fresh s) old read at_end q new
-    → WroteLines s old read at_end new
-wrote_some s most old new read at_end q all =
-    (all.0, all.1, all.2, wrote_first s most old new read all.0 q all.3)
-
--- a fault of the run over lines
-pub run-left : (e : LineFault RoomFault) (s : ListSetting) (most : ℕ) (old : Option (List ℕ)) (read : List ℕ)
-    (at_end : Type 0) (q : Reporting) (new : Option (List ℕ))
-    → run.Leaves Says (record { line_bytes = s.line_bytes; lines = most }) (fresh s) e old read at_end q new
-    → Leaves (fault_of_run e) s most old read at_end new
-run-left (stopped.Report room.Memory) s most old read at_end q new left = wrote_some s most old new read at_end q left
-run-left (stopped.Report room.Overflow) s most old read at_end q new left = wrote_some s most old new read at_end q left
-run-left stopped.Memory s most old read at_end q new left = wrote_some s most old new read at_end q left
-run-left stopped.Read s most old read at_end q new left =
-    wrote_first s most old new read (length (closed_lines read)) q left
-run-left stopped.Write s most old read at_end q new left = wrote_front s most old new read q left
-run-left stopped.TooManyLines s most old read at_end q new left =
-    (wrote_first s most old new read most q left.0, left.1)
-run-left stopped.Endless s most old read at_end q new left =
-    (wrote_first s most old new read (length (closed_lines read)) q left.0, left.1)
-
--- it failed as many reads and writes
-pub run-reads : (e : LineFault RoomFault) → run.reads_failed e ≡ reads_failed (fault_of_run e)
-run-reads (stopped.Report room.Memory) = refl
-run-reads (stopped.Report room.Overflow) = refl
-run-reads stopped.Memory = refl
-run-reads stopped.Read = refl
-run-reads stopped.Write = refl
-run-reads stopped.TooManyLines = refl
-run-reads stopped.Endless = refl
-
--- and the same number of failed writes
-pub run-writes : (e : LineFault RoomFault) → run.writes_failed e ≡ writes_failed (fault_of_run e)
-run-writes (stopped.Report room.Memory) = refl
-run-writes (stopped.Report room.Overflow) = refl
-run-writes stopped.Memory = refl
-run-writes stopped.Read = refl
-run-writes stopped.Write = refl
-run-writes stopped.TooManyLines = refl
-run-writes stopped.Endless = refl
-
--- ---- the line of counts
+    let was = reported_said s.line_bytes (fresh s) q (take count (lines_of read)) all.said refl all.reported in
+    record { saids = was.saids; said = was.said; lines = all.whole ∙ append-nil all.said ∙ was.lines }
 
 -- the report with its line of counts
-whole_report : (s : ListSetting) (q : Reporting) (read text : List ℕ)
-    → Reported Says s.line_bytes (fresh s) (lines_of read) text q
-    → IsReport s read (text ++ count_line q.counts) q.counts
+whole_report : (s : ListSetting) (q : Reporting) (read text : List ℕ) → Whole s (lines_of read) text q
+    → IsReport s read text q.counts
 whole_report s q read text all =
-    let was = reported_said s.line_bytes (fresh s) q (lines_of read) text refl all in
+    let was = reported_said s.line_bytes (fresh s) q (lines_of read) all.said refl all.reported in
     let counts : q.counts ≡ tally was.saids = was.counts ∙ plus-none (tally was.saids) in
     record {
       saids = was.saids;
       said = was.said;
-      whole = ap (λ t. t ++ count_line q.counts) was.lines
+      whole = all.whole ∙ ap (λ t. all.said ++ t) (append-nil (count_line q.counts))
+          ∙ ap (λ t. t ++ count_line q.counts) was.lines
           ∙ ap (λ c. report_lines 1 was.saids ++ count_line c) counts;
       counted = counts;
     }
 
--- it was written
-pub run-reports : (s : ListSetting) (most : ℕ) (old now new : Option (List ℕ)) (read : List ℕ) (q : Reporting)
-    → run.WroteAll Says (record { line_bytes = s.line_bytes; lines = most }) (fresh s) old read q now
-    → Appends now new (count_line q.counts) → Reports s most old read q.counts new
-run-reports s most old now new read q all wrote = record {
-  text = all.wrote.text ++ count_line q.counts;
+wrote_first : (s : ListSetting) (old new : Option (List ℕ)) (read : List ℕ) (count : ℕ) (q : Reporting)
+    → run.WroteFirst (Lines s) old read count q new → WroteFirst s old read count new
+wrote_first s old new read count q all =
+    record { text = all.text; report = first_report s q read all.text count all.reported; wrote = all.wrote }
+
+wrote_some : (s : ListSetting) (old new : Option (List ℕ)) (read : List ℕ) (at_end : Type 0) (q : Reporting)
+    → run.WroteLines (Lines s) old read at_end q new → WroteLines s old read at_end new
+wrote_some s old new read at_end q all = (all.0, all.1, all.2, wrote_first s old new read all.0 q all.3)
+
+-- the whole report was written
+pub run-reports : (s : ListSetting) (most : ℕ) (old new : Option (List ℕ)) (read : List ℕ) (q : Reporting)
+    → run.WroteAll (Whole s) (record { line_bytes = s.line_bytes; lines = most }) old read q new
+    → Reports s most old read q.counts new
+run-reports s most old new read q all = record {
+  text = all.wrote.text;
   report = whole_report s q read all.wrote.text all.wrote.reported;
-  wrote = Appends-trans old now new all.wrote.text (count_line q.counts) all.wrote.wrote wrote;
+  wrote = all.wrote.wrote;
   few = all.few;
 }
 
--- all lines are the first of them
-all_first : (s : ListSetting) (q : Reporting) (read text : List ℕ)
-    → Reported Says s.line_bytes (fresh s) (lines_of read) text q
-    → IsReportOfFirst s read (length (lines_of read)) text
-all_first s q read text all = first_report s q read text (length (lines_of read)) (rw (take-length (lines_of read)) all)
+-- a fault left a part of its lines
+part-left : (e : LineFault RoomFault) (s : ListSetting) (most : ℕ) (old : Option (List ℕ)) (read : List ℕ)
+    (at_end : Type 0) (q : Reporting) (new : Option (List ℕ))
+    → run.Leaves (Lines s) (record { line_bytes = s.line_bytes; lines = most }) e old read at_end q new
+    → Leaves (fault_of_run e) s most old read at_end new
+part-left (stopped.Report room.Memory) s most old read at_end q new left = wrote_some s old new read at_end q left
+part-left (stopped.Report room.Overflow) s most old read at_end q new left = wrote_some s old new read at_end q left
+part-left stopped.Memory s most old read at_end q new left = wrote_some s old new read at_end q left
+part-left stopped.Read s most old read at_end q new left =
+    wrote_first s old new read (length (closed_lines read)) q left
+part-left stopped.Write s most old read at_end q new left =
+    let cut = left.2 in
+    record {
+      text = cut.text;
+      report = inr (left.0, left.1, first_report s q read cut.text left.0 cut.reported);
+      front = cut.front;
+      wrote = cut.wrote;
+    }
+part-left stopped.TooManyLines s most old read at_end q new left = (wrote_first s old new read most q left.0, left.1)
+part-left stopped.Endless s most old read at_end q new left =
+    (wrote_first s old new read (length (closed_lines read)) q left.0, left.1)
 
--- it wasn't
-pub counts-left : (e : LinkFault) (s : ListSetting) (most : ℕ) (old now new : Option (List ℕ)) (read : List ℕ)
-    (at_end : Type 0) (q : Reporting)
-    → run.WroteAll Says (record { line_bytes = s.line_bytes; lines = most }) (fresh s) old read q now → at_end
-    → LeavesCounts e q.counts now new → Leaves e s most old read at_end new
-counts-left Memory s most old now new read at_end q all ends left = (
-  length (lines_of read),
-  omega arith,
-  inr ends,
-  record {
-    text = all.wrote.text;
-    report = all_first s q read all.wrote.text all.wrote.reported;
-    wrote = subst (λ t. Appends old new t) (append-nil all.wrote.text)
-        (Appends-trans old now new all.wrote.text [] all.wrote.wrote left);
-  },
-)
-counts-left Write s most old now new read at_end q all ends left = record {
-  text = all.wrote.text ++ count_line q.counts;
-  report = inl (q.counts, whole_report s q read all.wrote.text all.wrote.reported);
-  front = length all.wrote.text + left.0;
-  wrote = rw (take-append-add all.wrote.text (count_line q.counts) left.0)
-      (Appends-trans old now new all.wrote.text (take left.0 (count_line q.counts)) all.wrote.wrote left.1);
-}
-counts-left Read s most old now new read at_end q all ends left = absurd left
-counts-left Overflow s most old now new read at_end q all ends left = absurd left
-counts-left BaseDiffers s most old now new read at_end q all ends left = absurd left
-counts-left TooManyLines s most old now new read at_end q all ends left = absurd left
-counts-left Endless s most old now new read at_end q all ends left = absurd left
+-- or of the whole report
+pub run-left : (e : LineFault RoomFault) (s : ListSetting) (most : ℕ) (old : Option (List ℕ)) (read : List ℕ)
+    (at_end : Type 0) (q : Reporting) (new : Option (List ℕ))
+    → LeavesPart (Lines s) (Whole s) (record { line_bytes = s.line_bytes; lines = most }) e old read at_end q new
+    → Leaves (fault_of_run e) s most old read at_end new
+run-left e s most old read at_end q new (inl left) = part-left e s most old read at_end q new left
+run-left e s most old read at_end q new (inr (is, cut)) =
+    subst (λ f. Leaves (fault_of_run f) s most old read at_end new) (sym is) (record {
+      text = cut.text;
+      report = inl (q.counts, whole_report s q read cut.text cut.reported);
+      front = cut.front;
+      wrote = cut.wrote;
+    })
 
--- no read failed where the line of counts was not written whole
-pub counts-reads : (e : LinkFault) (counts : Counts) (now new : Option (List ℕ)) → LeavesCounts e counts now new
-    → reads_failed e ≡ 0
-counts-reads Memory counts now new left = refl
-counts-reads Write counts now new left = refl
-counts-reads Read counts now new left = absurd left
-counts-reads Overflow counts now new left = refl
-counts-reads BaseDiffers counts now new left = refl
-counts-reads TooManyLines counts now new left = refl
-counts-reads Endless counts now new left = refl
+-- as many reads and writes have failed
+pub run-failed : (e : LineFault RoomFault) (reads reads' writes writes' : ℕ)
+    → FailsReads [] e reads reads' × (writes' ≡ writes + run.writes_failed e)
+    → (reads' ≡ reads + reads_failed (fault_of_run e)) × (writes' ≡ writes + writes_failed (fault_of_run e))
+run-failed (stopped.Report room.Memory) reads reads' writes writes' (same, one) = (same ∙ sym (add-zero reads), one)
+run-failed (stopped.Report room.Overflow) reads reads' writes writes' (same, one) = (same ∙ sym (add-zero reads), one)
+run-failed stopped.Memory reads reads' writes writes' (same, one) = (same ∙ sym (add-zero reads), one)
+run-failed stopped.Read reads reads' writes writes' fails = fails
+run-failed stopped.Write reads reads' writes writes' (inl same, one) = (same ∙ sym (add-zero reads), one)
+run-failed stopped.Write reads reads' writes writes' (inr some, one) = absurd (some.0 refl)
+run-failed stopped.TooManyLines reads reads' writes writes' (same, one) = (same ∙ sym (add-zero reads), one)
+run-failed stopped.Endless reads reads' writes writes' (same, one) = (same ∙ sym (add-zero reads), one)
 
 -- ---- before the first read
 

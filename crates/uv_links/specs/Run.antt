@@ -79,9 +79,3 @@ fault_of_run stopped.Read = Read
 fault_of_run stopped.Write = Write
 fault_of_run stopped.TooManyLines = TooManyLines
 fault_of_run stopped.Endless = Endless
-
--- what a fault leaves while the line of counts is written
-abbrev pub LeavesCounts : LinkFault → Counts → Option (List ℕ) → Option (List ℕ) → Type 0
-LeavesCounts Memory counts old new = Appends old new []
-LeavesCounts Write counts old new = (front : ℕ) × Appends old new (take front (count_line counts))
-LeavesCounts _ counts old new = ⊥

@@ -1,11 +1,11 @@
 //! The report on the lines of a list.
-ghost use Rattle.std.specs.Prelude.{◌≡◌, ◌+◌, ◌-◌, ◌^◌, ◌<◌, ◌++◌, OnOk, IfOk, OnErr, option_copied};
+ghost use Rattle.std.specs.Prelude.{◌≡◌, ◌+◌, ◌-◌, ◌^◌, ◌<◌, ◌++◌, OnOk, IfOk, OnErr, option_copied, string_bytes};
 ghost use Rattle.uv_lines.specs.Progress.{Adds};
 ghost use Rattle.uv_links.specs.Judgement.{judged_said};
 ghost use Rattle.uv_links.specs.Report.{counted, report_line};
 ghost use Rattle.uv_links.specs.Reporting.{IsSaidOf, Says, none_counted};
 
-use crate::counts::Counts;
+use crate::counts::{Counts, count_text};
 use crate::fault::RoomFault;
 use crate::judge::Judge;
 use crate::judgement::Judgement;
@@ -77,6 +77,7 @@ impl<'b> LinkReporter<'b> {
 }
 
 impl<'b> Reporter for LinkReporter<'b> {
+    ghost use Rattle.uv_links.specs.Report.{count_line};
     ghost use Rattle.uv_links.specs.Reporting.{Says};
 
     type Fault = RoomFault;
@@ -100,6 +101,12 @@ impl<'b> Reporter for LinkReporter<'b> {
 
     fn line_count(&self) -> u64 {
         self.counts.lines
+    }
+
+    ghost last = { λ r. count_line r.counts };
+
+    fn last(&self, alloc: Global) -> Result<String, RoomFault> {
+        Ok(count_text(alloc, self.counts)?)
     }
 }
 

@@ -1,19 +1,18 @@
 //! A run over a list of links.
 ghost use Rattle.std.specs.Prelude.{◌≡◌, ℕ, ◌+◌, ◌-◌, ◌^◌, ◌<◌, List, IfErr, IfOk, OnOk, option_copied};
-ghost use Rattle.std.specs.Io.KnownBytes.{Appends, Consumes, IsAtEnd};
-ghost use Rattle.uv_links.specs.Report.{count_line};
+ghost use Rattle.std.specs.Io.KnownBytes.{Consumes, IsAtEnd};
 ghost use Rattle.uv_links.specs.Run as spec;
-ghost use Rattle.uv_links.specs.Run.{Leaves, LeavesCounts, Reports, reads_failed, writes_failed};
+ghost use Rattle.uv_links.specs.Run.{Leaves, Reports, reads_failed, writes_failed};
 ghost use Rattle.uv_links.specs.Second.{AgreesOnBase};
 
-use crate::counts::{Counts, count_text};
+use crate::counts::Counts;
 use crate::fault::{LinkFault, RoomFault, fault_of_room};
 use crate::judge::Judge;
 use crate::limits::LinkLimits;
 use crate::reporter::LinkReporter;
 use std::alloc::Global;
-use uv_lines::{LineFault, LineLimits, run_lines};
-use uv_model::{DeviceFault, Profile, Record, Sink, Source, write_whole};
+use uv_lines::{Frame, LineFault, LineLimits, run_lines};
+use uv_model::{Profile, Record, Sink, Source};
 
 /// Reports on a list of links: each of its lines is judged by the profile, against the base where there is one, and
 /// each accepted line compared with the crate `url`.
@@ -64,30 +63,10 @@ pub fn run_links<R: Source, W: Sink>(
         lines: limits.lines(),
     };
     let reporter = LinkReporter::new(judge);
-    let (reporter, answer) = run_lines(alloc, reader, writer, reporter, limits);
+    let (reporter, answer) = run_lines(alloc, reader, writer, reporter, limits, Frame::none());
     match answer {
-        Ok(()) => match write_counts(alloc, writer, reporter.counts()) {
-            Ok(()) => Ok(reporter.counts()),
-            Err(fault) => Err(fault),
-        },
+        Ok(()) => Ok(reporter.counts()),
         Err(fault) => Err(fault_of_run(fault)),
-    }
-}
-
-// Writes the line of counts.
-fn write_counts<W: Sink>(alloc: Global, writer: &mut W, counts: Counts) -> Result<(), LinkFault>
-    requires { W.failed writer.old < 2 ^ 64 - 1 }
-    ensures whole { OnOk result (Appends (W.contents writer.old) (W.contents writer.new) (count_line counts)) }
-    ensures quiet { OnOk result (W.failed writer.new ≡ W.failed writer.old) }
-    ensures fault { IfErr result (λ e. LeavesCounts e counts (W.contents writer.old) (W.contents writer.new)
-        × (W.failed writer.new ≡ W.failed writer.old + writes_failed e)) }
-{
-    let Ok(line) = count_text(alloc, counts) else {
-        return Err(LinkFault::Memory);
-    };
-    match write_whole(writer, line.as_bytes()) {
-        Ok(()) => Ok(()),
-        Err(DeviceFault) => Err(LinkFault::Write),
     }
 }
 

@@ -1,5 +1,4 @@
 pub mod DiagnosticLemmas
 pub mod FindingLemmas
 pub mod RunLemmas
-pub mod FailureLemmas
 pub mod ReportRowsLemmas

@@ -44,10 +44,3 @@ pub(crate) fn answer_of_run(answer: Result<(), LineFault<AllocError>>) -> Result
         Err(fault) => Err(fault_of_run(fault)),
     }
 }
-
-/// Whether what stands behind the diagnostics is written behind this answer: it isn't behind a failed write.
-pub(crate) fn may_end(answer: Result<(), LineFault<AllocError>>) -> bool
-    ensures { result ≡ spec.may_end answer }
-{
-    !matches!(answer, Err(LineFault::Write))
-}

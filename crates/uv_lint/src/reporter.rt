@@ -1,5 +1,5 @@
 //! What reports on the lines of a file.
-ghost use Rattle.std.specs.Prelude.{◌≡◌, ◌+◌, ◌-◌, ◌^◌, ◌<◌, ◌++◌, OnErr, OnOk, if◌then◌else◌, option_copied};
+ghost use Rattle.std.specs.Prelude.{◌≡◌, ◌+◌, ◌-◌, ◌^◌, ◌<◌, ◌++◌, [], IfOk, OnErr, OnOk, if◌then◌else◌, option_copied, string_bytes};
 ghost use Rattle.uv_lint.specs.Findings.{file_setting};
 ghost use Rattle.uv_lint.specs.Report.{judged_of, line_text, none_counted};
 ghost use Rattle.uv_lint.specs.Reporting.{with_line};
@@ -172,6 +172,12 @@ impl<'a> Reporter for LintReporter<'a> {
 
     fn line_count(&self) -> u64 {
         self.lines
+    }
+
+    ghost last = { λ _. [] };
+
+    fn last(&self, alloc: Global) -> Result<String, AllocError> {
+        Ok(String::new(alloc))
     }
 }
 

@@ -1,17 +1,17 @@
 //! A run over a file.
-ghost use Rattle.std.specs.Prelude.{◌≡◌, ℕ, ◌+◌, ◌-◌, ◌^◌, ◌<◌, ◌≤◌, List, true, IfErr, IfOk, OnErr, OnOk, option_copied, string_bytes, take};
-ghost use Rattle.std.specs.Io.KnownBytes.{Appends, Consumes, IsAtEnd};
+ghost use Rattle.std.specs.Prelude.{◌≡◌, ℕ, ◌+◌, ◌-◌, ◌^◌, ◌<◌, ◌≤◌, List, IfErr, IfOk, OnOk, string_bytes};
+ghost use Rattle.std.specs.Io.KnownBytes.{Consumes, IsAtEnd};
 ghost use Rattle.uv_report.specs.Report.{file_begin_text, file_end_text};
 ghost use Rattle.uv_lint.specs.Findings.{file_setting};
-ghost use Rattle.uv_lint.specs.Run.{EndsReport, FailsReads, Leaves, Reports, line_limits, may_end, writes_failed};
+ghost use Rattle.uv_lint.specs.Run.{FailsReads, Leaves, Reports, line_limits, writes_failed};
 
 use crate::counts::LintCounts;
-use crate::fault::{LintFault, answer_of_run, may_end};
+use crate::fault::{LintFault, answer_of_run};
 use crate::reporter::LintReporter;
 use crate::setting::LintSetting;
 use std::alloc::{AllocError, Global};
-use uv_lines::{LineFault, LineLimits, run_lines};
-use uv_model::{DeviceFault, Sink, Source, write_whole};
+use uv_lines::{Frame, LineLimits, run_lines};
+use uv_model::{Sink, Source};
 use uv_report::{Format, push_file_begin, push_file_end};
 
 // How many bytes a line may have, and how many lines may come.
@@ -91,33 +91,12 @@ pub(crate) fn run_within<R: Source, W: Sink>(
     let Ok(end) = file_end(alloc, setting.format) else {
         return (reporter.counts(), Err(LintFault::Memory));
     };
-    if let Err(DeviceFault) = write_whole(writer, begin.as_bytes()) {
-        return (reporter.counts(), Err(LintFault::Write));
-    }
-    let (reporter, answer) = run_lines(alloc, reader, writer, reporter, limits);
-    (
-        reporter.counts(),
-        end_report(writer, end.as_bytes(), answer),
-    )
-}
-
-// Writes what stands behind the diagnostics of a file, where no write has failed.
-fn end_report<W: Sink>(
-    writer: &mut W,
-    end: &[u8],
-    answer: Result<(), LineFault<AllocError>>,
-) -> Result<(), LintFault>
-    requires { may_end answer ≡ true → W.failed writer.old < 2 ^ 64 - 1 }
-    ensures { EndsReport answer end.now (W.contents writer.old) (W.contents writer.new) (W.failed writer.old)
-        (W.failed writer.new) result }
-{
-    if !may_end(answer) {
-        return Err(LintFault::Write);
-    }
-    match write_whole(writer, end) {
-        Ok(()) => answer_of_run(answer),
-        Err(DeviceFault) => Err(LintFault::Write),
-    }
+    let frame = Frame {
+        begin: begin.as_bytes(),
+        end: end.as_bytes(),
+    };
+    let (reporter, answer) = run_lines(alloc, reader, writer, reporter, limits, frame);
+    (reporter.counts(), answer_of_run(answer))
 }
 
 // What stands before the diagnostics of a file.

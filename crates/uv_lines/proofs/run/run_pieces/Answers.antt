@@ -2,6 +2,7 @@
 use Rattle.std.proofs.Common.{◌≡◌, ◌+◌, ◌<◌, ◌++◌, ◌∙◌, ℕ, List, [], Option, Ok, Err, IfErr, OnOk, length, take, arith, refl, sym, ap, add-zero, length-append}
 use Rattle.std.proofs.KnownBytes.{Consumes-nil, Consumes-kept, Consumes-trans}
 use Rattle.std.specs.Io.KnownBytes.{Consumes, IsAtEnd}
+use Rattle.uv_lines.specs.Reported.{Reported}
 use Rattle.uv_lines.specs.Run.{At, FinishFault, Leaves, PassFault, WroteAll, reads_failed, writes_failed}
 use Rattle.uv_lines.proofs.PassLemmas.{At-start, at_first, read_end, pass_to_run, finish_to_run, passing_reads, finishing_reads}
 use Rattle.uv_lines.proofs.run.run_pieces.Goals as goal
@@ -88,10 +89,12 @@ returns-then-count-eq0-clause-report g c =
     bytes.0 bytes.1 in
     elim c.finish.result as (λ answer. OnOk answer ((start : g.row.T.Denot) (old : Option (List ℕ)) (read : List ℕ)
     → At reports g.T.Reporter.lines q.limits.line_bytes start old read q.reporter q.begun.items q.text.items
-    (g.W.Sink.contents c.loop-turn.writer) → WroteAll reports q.limits start old read r.reporter new)
+    (g.W.Sink.contents c.loop-turn.writer)
+    → WroteAll (Reported reports q.limits.line_bytes start) q.limits old read r.reporter new)
     → OnOk answer ((read : List ℕ)
     × Consumes (g.R.Source.remaining c.args.reader.now) (g.R.Source.remaining c.read.new.self) read
-    × IsAtEnd (g.R.Source.remaining c.read.new.self) × WroteAll reports p.limits p.reporter old read r.reporter new)) [
+    × IsAtEnd (g.R.Source.remaining c.read.new.self)
+    × WroteAll (Reported reports p.limits.line_bytes p.reporter) p.limits old read r.reporter new)) [
       | Ok _ ↦ λ wrote. (s.0, ends.0, ends.1, rw (← i.limits) (wrote p.reporter old s.0 (rw i.limits s.2)))
       | Err _ ↦ λ wrote. tt
     ] c.finish.ensures.report
@@ -133,7 +136,7 @@ returns-then-count-eq0-clause-fault g c =
     × (g.W.Sink.failed c.finish.new.writer ≡ g.W.Sink.failed c.loop-turn.writer + writes_failed e))
     → IfErr answer (λ e. (read : List ℕ)
     × Consumes (g.R.Source.remaining c.args.reader.now) (g.R.Source.remaining c.read.new.self) read
-    × Leaves reports p.limits p.reporter e old read at_end r.reporter new
+    × Leaves (Reported reports p.limits.line_bytes p.reporter) p.limits e old read at_end r.reporter new
     × (g.R.Source.failed c.read.new.self ≡ g.R.Source.failed c.args.reader.now + reads_failed e)
     × (g.W.Sink.failed c.finish.new.writer ≡ g.W.Sink.failed c.args.writer.now + writes_failed e))) [
       | Ok _ ↦ λ left. tt

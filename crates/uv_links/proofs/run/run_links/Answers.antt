@@ -1,13 +1,14 @@
 -- The base's text first, then the lines, and the line of counts.
-use Rattle.std.proofs.Common.{◌≡◌, ◌+◌, ◌∙◌, [], option_copied, sym, ap, subst, add-zero}
+use Rattle.std.proofs.Common.{◌≡◌, ◌+◌, ◌∙◌, [], ◌++◌, List, ℕ, option_copied, sym, ap, subst, add-zero}
 use Rattle.std.proofs.KnownBytes.{Consumes-nil}
-use Rattle.std.specs.Io.KnownBytes.{Appends, IsAtEnd}
+use Rattle.std.specs.Io.KnownBytes.{IsAtEnd}
 use Rattle.uv_lines.specs.declared.limits.LineLimits.{LineLimits}
+use Rattle.uv_lines.specs.Framed.{Framed, LeavesPart}
 use Rattle.uv_lines.specs.Run as run
 use Rattle.uv_links.specs.Report.{ListSetting, count_line}
-use Rattle.uv_links.specs.Reporting.{Says}
-use Rattle.uv_links.specs.Run.{Leaves, LeavesCounts, Reports, reads_failed, writes_failed}
-use Rattle.uv_links.proofs.ReportedLemmas.{base-left, counts-left, counts-reads, fresh, run-left, run-reads, run-reports, run-writes}
+use Rattle.uv_links.specs.Reporting.{Reporting, Says}
+use Rattle.uv_links.specs.Run.{Leaves, Reports, reads_failed, writes_failed}
+use Rattle.uv_links.proofs.ReportedLemmas.{Lines, Whole, base-left, fresh, run-failed, run-left, run-reports}
 use Rattle.uv_links.proofs.run.run_links.Goals as goal
 
 pub new-requires : goal.new-requires
@@ -46,13 +47,8 @@ run_lines-reporter-requires-clause-few g c = c.lines.ensures.bounded
 pub run_lines-reporter-requires-clause-start : goal.run_lines-reporter-requires-clause-start
 run_lines-reporter-requires-clause-start g c = ap (λ r. r.counts.lines) c.new-reporter.ensures
 
-pub write_counts-requires : goal.write_counts-requires
-write_counts-requires g c =
-    let quiet = rw c.in-Ok-answer.is at c.run_lines-reporter.ensures.quiet in
-    rw quiet.1 c.requires.writes
-
-pub returns-in-Ok-write_counts-clause-report : goal.returns-in-Ok-write_counts-clause-report
-returns-in-Ok-write_counts-clause-report g c =
+pub returns-in-Ok-answer-clause-report : goal.returns-in-Ok-answer-clause-report
+returns-in-Ok-answer-clause-report g c =
     let setting : ListSetting = record
     { profile = c.args.profile; base = option_copied c.args.base; line_bytes = c.args.limits.line_bytes } in
     let limits : LineLimits = record { line_bytes = c.args.limits.line_bytes; lines = c.args.limits.lines } in
@@ -67,73 +63,33 @@ returns-in-Ok-write_counts-clause-report g c =
     record { profile = c.args.profile; base = option_copied c.args.base; line_bytes = n } in s)
     c.line_bytes.ensures.value) in
     let old = g.W.Sink.contents c.args.writer.now in
-    let now = g.W.Sink.contents c.run_lines-reporter.new.writer in
+    let new = g.W.Sink.contents c.run_lines-reporter.new.writer in
     let q = c.run_lines-reporter.result.0 in
     let at_end = IsAtEnd (g.R.Source.remaining c.run_lines-reporter.new.reader) in
-    let new = g.W.Sink.contents c.write_counts.new.writer in
+    let begin = c.none.result.begin.now in
+    let end = c.none.result.end.now in
     let r = rw c.in-Ok-answer.is at c.run_lines-reporter.ensures.report in
-    let all : run.WroteAll Says limits (fresh setting) old r.0 q now =
-    subst (λ l. run.WroteAll Says l (fresh setting) old r.0 q now) same_limits
-    (subst (λ p. run.WroteAll Says given p old r.0 q now) starts r.3) in
-    let whole : Appends now new (count_line q.counts) =
-    subst (λ k. Appends now new (count_line k)) c.counts.ensures c.in-Ok-write_counts.ensures.whole in (
+    let all : run.WroteAll (Whole setting) limits old r.0 q new =
+    subst (λ p. run.WroteAll (Framed Says setting.line_bytes [] (λ s. count_line s.counts ++ []) p) limits old r.0 q
+    new) starts
+    (subst (λ e. run.WroteAll (Framed Says setting.line_bytes [] (λ s. count_line s.counts ++ e) c.new-reporter.result)
+    limits old r.0 q new) c.none.ensures.end
+    (subst (λ b. run.WroteAll (Framed Says setting.line_bytes b (λ s. count_line s.counts ++ end)
+    c.new-reporter.result) limits old r.0 q new) c.none.ensures.begin
+    (subst (λ l. run.WroteAll (Framed Says l.line_bytes begin (λ s. count_line s.counts ++ end) c.new-reporter.result)
+    l old r.0 q new) same_limits r.3))) in (
       r.0,
       r.1,
       r.2,
-      subst (λ k. Reports setting c.args.limits.lines old r.0 k new) (sym c.counts-in-Ok-write_counts.ensures)
-          (run-reports setting c.args.limits.lines old now new r.0 q all whole),
+      subst (λ k. Reports setting c.args.limits.lines old r.0 k new) (sym c.counts.ensures)
+          (run-reports setting c.args.limits.lines old new r.0 q all),
     )
 
-pub returns-in-Ok-write_counts-clause-base : goal.returns-in-Ok-write_counts-clause-base
-returns-in-Ok-write_counts-clause-base g c = c.in-Ok.ensures.agrees
+pub returns-in-Ok-answer-clause-base : goal.returns-in-Ok-answer-clause-base
+returns-in-Ok-answer-clause-base g c = c.in-Ok.ensures.agrees
 
-pub returns-in-Ok-write_counts-clause-quiet : goal.returns-in-Ok-write_counts-clause-quiet
-returns-in-Ok-write_counts-clause-quiet g c =
-    let quiet = rw c.in-Ok-answer.is at c.run_lines-reporter.ensures.quiet in
-    (quiet.0, c.in-Ok-write_counts.ensures.quiet ∙ quiet.1)
-
-pub returns-in-Ok-answer-clause-fault : goal.returns-in-Ok-answer-clause-fault
-returns-in-Ok-answer-clause-fault g c =
-    let setting : ListSetting = record
-    { profile = c.args.profile; base = option_copied c.args.base; line_bytes = c.args.limits.line_bytes } in
-    let limits : LineLimits = record { line_bytes = c.args.limits.line_bytes; lines = c.args.limits.lines } in
-    let given : LineLimits = record { line_bytes = c.line_bytes-2.result; lines = c.lines.result } in
-    let same_limits : given ≡ limits =
-    ap (λ n. let l : LineLimits = record { line_bytes = n; lines = c.lines.result } in l) c.line_bytes-2.ensures.value
-    ∙ ap (λ n. let l : LineLimits = record { line_bytes = c.args.limits.line_bytes; lines = n } in l)
-    c.lines.ensures.value in
-    let starts : c.new-reporter.result ≡ fresh setting =
-    c.new-reporter.ensures ∙ ap fresh (c.in-Ok.ensures.setting
-    ∙ ap (λ n. let s : ListSetting =
-    record { profile = c.args.profile; base = option_copied c.args.base; line_bytes = n } in s)
-    c.line_bytes.ensures.value) in
-    let old = g.W.Sink.contents c.args.writer.now in
-    let now = g.W.Sink.contents c.run_lines-reporter.new.writer in
-    let q = c.run_lines-reporter.result.0 in
-    let at_end = IsAtEnd (g.R.Source.remaining c.run_lines-reporter.new.reader) in
-    let new = g.W.Sink.contents c.write_counts.new.writer in
-    let r = rw c.in-Ok-answer.is at c.run_lines-reporter.ensures.report in
-    let all : run.WroteAll Says limits (fresh setting) old r.0 q now =
-    subst (λ l. run.WroteAll Says l (fresh setting) old r.0 q now) same_limits
-    (subst (λ p. run.WroteAll Says given p old r.0 q now) starts r.3) in
-    let left : LeavesCounts c.in-Err-write_counts.fault q.counts now new =
-    subst (λ k. LeavesCounts c.in-Err-write_counts.fault k now new) c.counts.ensures
-    c.in-Err-write_counts.ensures.fault.0 in (
-      r.0,
-      r.1,
-      counts-left c.in-Err-write_counts.fault setting c.args.limits.lines old now new r.0 at_end q all r.2 left,
-    )
-
-pub returns-in-Ok-answer-clause-failed : goal.returns-in-Ok-answer-clause-failed
-returns-in-Ok-answer-clause-failed g c =
-    let quiet = rw c.in-Ok-answer.is at c.run_lines-reporter.ensures.quiet in
-    let e = c.in-Err-write_counts.fault in
-    let reads = g.R.Source.failed c.args.reader.now in
-    let left = c.in-Err-write_counts.ensures.fault in (
-      quiet.0 ∙ sym (add-zero reads) ∙ ap (λ n. reads + n) (sym (counts-reads e c.counts.result
-          (g.W.Sink.contents c.run_lines-reporter.new.writer) (g.W.Sink.contents c.write_counts.new.writer) left.0)),
-      left.1 ∙ ap (λ n. n + writes_failed e) quiet.1,
-    )
+pub returns-in-Ok-answer-clause-quiet : goal.returns-in-Ok-answer-clause-quiet
+returns-in-Ok-answer-clause-quiet g c = rw c.in-Ok-answer.is at c.run_lines-reporter.ensures.quiet
 
 pub returns-clause-fault : goal.returns-clause-fault
 returns-clause-fault g c =
@@ -151,26 +107,34 @@ returns-clause-fault g c =
     record { profile = c.args.profile; base = option_copied c.args.base; line_bytes = n } in s)
     c.line_bytes.ensures.value) in
     let old = g.W.Sink.contents c.args.writer.now in
-    let now = g.W.Sink.contents c.run_lines-reporter.new.writer in
+    let new = g.W.Sink.contents c.run_lines-reporter.new.writer in
     let q = c.run_lines-reporter.result.0 in
     let at_end = IsAtEnd (g.R.Source.remaining c.run_lines-reporter.new.reader) in
+    let begin = c.none.result.begin.now in
+    let end = c.none.result.end.now in
     let e = c.in-Err-answer.fault in
     let r = rw c.in-Err-answer.is at c.run_lines-reporter.ensures.fault in
-    let left : run.Leaves Says limits (fresh setting) e old r.0 at_end q now =
-    subst (λ l. run.Leaves Says l (fresh setting) e old r.0 at_end q now) same_limits
-    (subst (λ p. run.Leaves Says given p e old r.0 at_end q now) starts r.2) in (
+    let left : LeavesPart (Lines setting) (Whole setting) limits e old r.0 at_end q new =
+    subst (λ p. LeavesPart (Framed Says setting.line_bytes [] (λ _. []) p)
+    (Framed Says setting.line_bytes [] (λ s. count_line s.counts ++ []) p) limits e old r.0 at_end q new) starts
+    (subst (λ t. LeavesPart (Framed Says setting.line_bytes [] (λ _. t) c.new-reporter.result)
+    (Framed Says setting.line_bytes [] (λ s. count_line s.counts ++ t) c.new-reporter.result) limits e old r.0 at_end q
+    new) c.none.ensures.end
+    (subst (λ b. LeavesPart (Framed Says setting.line_bytes b (λ _. end) c.new-reporter.result)
+    (Framed Says setting.line_bytes b (λ s. count_line s.counts ++ end) c.new-reporter.result) limits e old r.0 at_end q
+    new) c.none.ensures.begin
+    (subst (λ l. LeavesPart (Framed Says l.line_bytes begin (λ _. end) c.new-reporter.result)
+    (Framed Says l.line_bytes begin (λ s. count_line s.counts ++ end) c.new-reporter.result) l e old r.0 at_end q new)
+    same_limits r.2))) in (
       r.0,
       r.1,
-      subst (λ f. Leaves f setting c.args.limits.lines old r.0 at_end now) (sym c.fault_of_run.ensures)
-          (run-left e setting c.args.limits.lines old r.0 at_end q now left),
+      subst (λ f. Leaves f setting c.args.limits.lines old r.0 at_end new) (sym c.fault_of_run.ensures)
+          (run-left e setting c.args.limits.lines old r.0 at_end q new left),
     )
 
 pub returns-clause-failed : goal.returns-clause-failed
 returns-clause-failed g c =
-    let e = c.in-Err-answer.fault in
-    let r = rw c.in-Err-answer.is at c.run_lines-reporter.ensures.failed in
-    let reads = g.R.Source.failed c.args.reader.now in
-    let writes = g.W.Sink.failed c.args.writer.now in (
-      r.0 ∙ ap (λ n. reads + n) (run-reads e ∙ ap (λ f. reads_failed f) (sym c.fault_of_run.ensures)),
-      r.1 ∙ ap (λ n. writes + n) (run-writes e ∙ ap (λ f. writes_failed f) (sym c.fault_of_run.ensures)),
-    )
+    let r = rw (c.in-Err-answer.is, c.none.ensures.end) at c.run_lines-reporter.ensures.failed in
+    rw c.fault_of_run.ensures (run-failed c.in-Err-answer.fault (g.R.Source.failed c.args.reader.now)
+    (g.R.Source.failed c.run_lines-reporter.new.reader) (g.W.Sink.failed c.args.writer.now)
+    (g.W.Sink.failed c.run_lines-reporter.new.writer) r)

@@ -1,25 +1,22 @@
--- The report's beginning first, then the lines, and its end.
-use Rattle.std.proofs.Common.{◌≡◌, [], subst, sym, ap, ◌∙◌, inl, take, add-zero, refl}
+-- The frame of a file, and the run over its lines in it.
+use Rattle.std.proofs.Common.{◌≡◌, ◌+◌, ℕ, List, [], sym, ap, ◌∙◌, inl, add-zero, refl}
 use Rattle.std.proofs.KnownBytes.{Consumes-nil, Keeps-refl}
-use Rattle.std.specs.Io.KnownBytes.{Appends, Consumes, IsAtEnd}
-use Rattle.uv_report.specs.Report.{file_begin_text, file_end_text}
+use Rattle.std.specs.Io.KnownBytes.{Consumes, IsAtEnd}
+use Rattle.uv_lines.specs.Framed as framed
+use Rattle.uv_lines.specs.Framed.{Framed, LeavesPart}
+use Rattle.uv_lines.specs.Run as run
+use Rattle.uv_lines.proofs.FramedLemmas.{LeavesPart-map, Wrote-map}
 use Rattle.uv_lint.specs.Findings.{file_setting}
-use Rattle.uv_lint.specs.Run.{EndsReport}
-use Rattle.uv_lint.proofs.FailureLemmas.{Fails, fails, fails_err, fails_ok, may_write, stops}
-use Rattle.uv_lint.proofs.RunLemmas.{Ended, cut_begin, ended, ended_err, ended_ok, ran}
+use Rattle.uv_lint.specs.Reporting.{Says}
+use Rattle.uv_lint.specs.Run.{FailsReads, IsReportWithin, Leaves, Reports, writes_failed}
+use Rattle.uv_lint.proofs.RunLemmas.{answers_err, answers_ok, failed, is_report, left}
 use Rattle.uv_lint.proofs.run.run_within.Goals as goal
-
-pub write_whole-requires : goal.write_whole-requires
-write_whole-requires g c = c.requires.writes
-
-pub same-reporter : goal.same-reporter
-same-reporter g c = refl
 
 pub run_lines-reporter-requires-clause-reads : goal.run_lines-reporter-requires-clause-reads
 run_lines-reporter-requires-clause-reads g c = c.requires.reads
 
 pub run_lines-reporter-requires-clause-writes : goal.run_lines-reporter-requires-clause-writes
-run_lines-reporter-requires-clause-writes g c = rw c.in_default-write_whole.ensures.quiet c.requires.writes
+run_lines-reporter-requires-clause-writes g c = c.requires.writes
 
 pub run_lines-reporter-requires-clause-short : goal.run_lines-reporter-requires-clause-short
 run_lines-reporter-requires-clause-short g c = c.requires.short
@@ -30,16 +27,8 @@ run_lines-reporter-requires-clause-few g c = c.requires.few
 pub run_lines-reporter-requires-clause-start : goal.run_lines-reporter-requires-clause-start
 run_lines-reporter-requires-clause-start g c = ap (λ r. r.lines) c.new-reporter.ensures
 
-pub end_report-requires : goal.end_report-requires
-end_report-requires g c =
-    let reads = g.R.Source.failed c.args.reader.now in
-    let reads' = g.R.Source.failed c.run_lines-reporter.new.reader in
-    let writes = g.W.Sink.failed c.write_whole.new.out in
-    let writes' = g.W.Sink.failed c.run_lines-reporter.new.writer in
-    may_write c.run_lines-reporter.result.1 reads reads' writes writes' 18446744073709551615
-    (stops c.run_lines-reporter.result.1 reads reads' writes writes' c.run_lines-reporter.ensures.quiet
-    c.run_lines-reporter.ensures.failed)
-    (rw c.in_default-write_whole.ensures.quiet c.requires.writes)
+pub same-reporter : goal.same-reporter
+same-reporter g c = refl
 
 -- where no memory was left before the first write
 pub returns-in_default-clause-fault : goal.returns-in_default-clause-fault
@@ -70,115 +59,89 @@ returns-in_default-file_end-clause-fault g c = (
 pub returns-in_default-file_end-clause-failed : goal.returns-in_default-file_end-clause-failed
 returns-in_default-file_end-clause-failed g c = (refl, sym (add-zero (g.W.Sink.failed c.args.writer.now)))
 
--- where the first write failed
-pub returns-in-Err-clause-fault : goal.returns-in-Err-clause-fault
-returns-in-Err-clause-fault g c =
-    let setting = file_setting c.args.file.now c.args.setting in
-    let old = g.W.Sink.contents c.args.writer.now in
-    let new = g.W.Sink.contents c.write_whole.new.out in
-    let front = c.in-Err.ensures.front in
-    let begins : c.as_bytes.result.now ≡ file_begin_text setting.format setting.file =
-    c.as_bytes.ensures.value ∙ c.in-Ok.ensures in (
-      [],
-      Consumes-nil (g.R.Source.remaining c.args.reader.now),
-      rw (c.counts-in-Err.ensures, c.new-reporter.ensures) (cut_begin setting c.args.limits c.args.is_first old new
-          front.0 (subst (λ t. Appends old new (take front.0 t)) begins front.1)),
-    )
-
-pub returns-in-Err-clause-failed : goal.returns-in-Err-clause-failed
-returns-in-Err-clause-failed g c = (inl refl, c.in-Err.ensures.failed)
-
--- behind the lines
+-- the run over the lines
 pub returns-clause-report : goal.returns-clause-report
 returns-clause-report g c =
     let setting = file_setting c.args.file.now c.args.setting in
     let limits = c.args.limits in
+    let n = limits.line_bytes in
     let is_first = c.args.is_first in
     let old = g.W.Sink.contents c.args.writer.now in
-    let mid = g.W.Sink.contents c.write_whole.new.out in
-    let now = g.W.Sink.contents c.run_lines-reporter.new.writer in
-    let new = g.W.Sink.contents c.end_report.new.writer in
+    let new = g.W.Sink.contents c.run_lines-reporter.new.writer in
     let bytes = g.R.Source.remaining c.args.reader.now in
-    let left = g.R.Source.remaining c.run_lines-reporter.new.reader in
-    let answer = c.run_lines-reporter.result.1 in
+    let rest = g.R.Source.remaining c.run_lines-reporter.new.reader in
+    let begin = c.as_bytes.result.now in
+    let end = c.as_bytes-2.result.now in
+    let start = c.new-reporter.result in
     let q = c.run_lines-reporter.result.0 in
-    let begins : c.as_bytes.result.now ≡ file_begin_text setting.format setting.file =
-    c.as_bytes.ensures.value ∙ c.in-Ok.ensures in
-    let ends : c.as_bytes-2.result.now ≡ file_end_text setting.format =
-    c.as_bytes-2.ensures.value ∙ c.in-Ok-file_end.ensures in
-    let begun : Appends old mid (file_begin_text setting.format setting.file) =
-    subst (λ t. Appends old mid t) begins c.in_default-write_whole.ensures.whole in
-    let lines = ran setting limits is_first c.new-reporter.result answer (λ read. Consumes bytes left read) mid
-    (IsAtEnd left) q now c.new-reporter.ensures c.run_lines-reporter.ensures.report
-    c.run_lines-reporter.ensures.fault in
-    let end : EndsReport answer (file_end_text setting.format) now new (g.W.Sink.failed c.run_lines-reporter.new.writer)
-    (g.W.Sink.failed c.end_report.new.writer) c.end_report.result =
-    subst (λ t. EndsReport answer t now new (g.W.Sink.failed c.run_lines-reporter.new.writer)
-    (g.W.Sink.failed c.end_report.new.writer) c.end_report.result) ends c.end_report.ensures in
-    let whole = ended setting limits is_first answer c.end_report.result old mid now new lines.0 (IsAtEnd left) q
-    (g.W.Sink.failed c.run_lines-reporter.new.writer) (g.W.Sink.failed c.end_report.new.writer) begun lines.2 end in
-    ended_ok setting limits is_first c.end_report.result (λ read. Consumes bytes left read) old lines.0 (IsAtEnd left)
-    c.counts-2.result new lines.1
-    (subst (λ k. Ended setting limits is_first c.end_report.result old lines.0 (IsAtEnd left) k new)
-    (sym c.counts-2.ensures) whole)
+    let P = Framed Says n begin (λ _. end) start in
+    let Q = IsReportWithin setting limits is_first in
+    rw (c.counts-2.ensures, c.answer_of_run.ensures) (answers_ok c.run_lines-reporter.result.1
+    ((read : List ℕ) × Consumes bytes rest read × IsAtEnd rest × run.WroteAll P limits old read q new)
+    ((read : List ℕ) × Consumes bytes rest read × IsAtEnd rest
+    × Reports setting limits is_first old read q.counts new)
+    (λ all. (
+      all.0,
+      all.1,
+      all.2,
+      record {
+        wrote = Wrote-map P Q _ old new q q.counts (λ lines text.
+            is_report setting n is_first begin end start q lines text c.new-reporter.ensures (c.as_bytes.ensures.value ∙ c.in-Ok.ensures)
+            (c.as_bytes-2.ensures.value ∙ c.in-Ok-file_end.ensures)) all.3.wrote;
+        few = all.3.few;
+      },
+    )) c.run_lines-reporter.ensures.report)
 
 pub returns-clause-fault : goal.returns-clause-fault
 returns-clause-fault g c =
     let setting = file_setting c.args.file.now c.args.setting in
     let limits = c.args.limits in
+    let n = limits.line_bytes in
     let is_first = c.args.is_first in
     let old = g.W.Sink.contents c.args.writer.now in
-    let mid = g.W.Sink.contents c.write_whole.new.out in
-    let now = g.W.Sink.contents c.run_lines-reporter.new.writer in
-    let new = g.W.Sink.contents c.end_report.new.writer in
+    let new = g.W.Sink.contents c.run_lines-reporter.new.writer in
     let bytes = g.R.Source.remaining c.args.reader.now in
-    let left = g.R.Source.remaining c.run_lines-reporter.new.reader in
-    let answer = c.run_lines-reporter.result.1 in
+    let rest = g.R.Source.remaining c.run_lines-reporter.new.reader in
+    let begin = c.as_bytes.result.now in
+    let end = c.as_bytes-2.result.now in
+    let start = c.new-reporter.result in
     let q = c.run_lines-reporter.result.0 in
-    let begins : c.as_bytes.result.now ≡ file_begin_text setting.format setting.file =
-    c.as_bytes.ensures.value ∙ c.in-Ok.ensures in
-    let ends : c.as_bytes-2.result.now ≡ file_end_text setting.format =
-    c.as_bytes-2.ensures.value ∙ c.in-Ok-file_end.ensures in
-    let begun : Appends old mid (file_begin_text setting.format setting.file) =
-    subst (λ t. Appends old mid t) begins c.in_default-write_whole.ensures.whole in
-    let lines = ran setting limits is_first c.new-reporter.result answer (λ read. Consumes bytes left read) mid
-    (IsAtEnd left) q now c.new-reporter.ensures c.run_lines-reporter.ensures.report
-    c.run_lines-reporter.ensures.fault in
-    let end : EndsReport answer (file_end_text setting.format) now new (g.W.Sink.failed c.run_lines-reporter.new.writer)
-    (g.W.Sink.failed c.end_report.new.writer) c.end_report.result =
-    subst (λ t. EndsReport answer t now new (g.W.Sink.failed c.run_lines-reporter.new.writer)
-    (g.W.Sink.failed c.end_report.new.writer) c.end_report.result) ends c.end_report.ensures in
-    let whole = ended setting limits is_first answer c.end_report.result old mid now new lines.0 (IsAtEnd left) q
-    (g.W.Sink.failed c.run_lines-reporter.new.writer) (g.W.Sink.failed c.end_report.new.writer) begun lines.2 end in
-    ended_err setting limits is_first c.end_report.result (λ read. Consumes bytes left read) old lines.0 (IsAtEnd left)
-    c.counts-2.result new lines.1
-    (subst (λ k. Ended setting limits is_first c.end_report.result old lines.0 (IsAtEnd left) k new)
-    (sym c.counts-2.ensures) whole)
+    let P = Framed Says n begin (λ _. end) start in
+    let Q = IsReportWithin setting limits is_first in
+    let is : (lines : List (List ℕ)) (text : List ℕ) → P lines text q → Q lines text q.counts =
+    λ lines text. is_report setting n is_first begin end start q lines text
+    c.new-reporter.ensures (c.as_bytes.ensures.value ∙ c.in-Ok.ensures)
+    (c.as_bytes-2.ensures.value ∙ c.in-Ok-file_end.ensures) in
+    rw (c.counts-2.ensures, c.answer_of_run.ensures) (answers_err c.run_lines-reporter.result.1
+    (λ e. (read : List ℕ) × Consumes bytes rest read × LeavesPart P P limits e old read (IsAtEnd rest) q new)
+    (λ e. (read : List ℕ) × Consumes bytes rest read
+    × Leaves e setting limits is_first old read (IsAtEnd rest) q.counts new)
+    (λ e all. (
+      all.0,
+      all.1,
+      left e setting limits is_first old all.0 (IsAtEnd rest) q.counts new
+          (LeavesPart-map P P Q limits e old new all.0 (IsAtEnd rest) q q.counts is is all.2),
+    ))
+    c.run_lines-reporter.ensures.fault)
 
 pub returns-clause-failed : goal.returns-clause-failed
 returns-clause-failed g c =
-    let answer = c.run_lines-reporter.result.1 in
     let reads = g.R.Source.failed c.args.reader.now in
     let reads' = g.R.Source.failed c.run_lines-reporter.new.reader in
-    let writes = g.W.Sink.failed c.write_whole.new.out in
+    let writes = g.W.Sink.failed c.args.writer.now in
     let writes' = g.W.Sink.failed c.run_lines-reporter.new.writer in
-    let writes'' = g.W.Sink.failed c.end_report.new.writer in
-    let stop = stops answer reads reads' writes writes' c.run_lines-reporter.ensures.quiet
-    c.run_lines-reporter.ensures.failed in
-    fails_err c.end_report.result reads reads' (g.W.Sink.failed c.args.writer.now) writes''
-    (subst (λ n. Fails c.end_report.result reads reads' n writes'') c.in_default-write_whole.ensures.quiet
-    (fails answer c.end_report.result _ _ _ reads reads' writes writes' writes'' stop c.end_report.ensures))
+    let end = c.as_bytes-2.result.now in
+    rw c.answer_of_run.ensures (answers_err c.run_lines-reporter.result.1
+    (λ e. framed.FailsReads end e reads reads' × (writes' ≡ writes + run.writes_failed e))
+    (λ e. FailsReads e reads reads' × (writes' ≡ writes + writes_failed e))
+    (λ e. failed e end reads reads' writes writes') c.run_lines-reporter.ensures.failed)
 
 pub returns-clause-quiet : goal.returns-clause-quiet
 returns-clause-quiet g c =
-    let answer = c.run_lines-reporter.result.1 in
     let reads = g.R.Source.failed c.args.reader.now in
     let reads' = g.R.Source.failed c.run_lines-reporter.new.reader in
-    let writes = g.W.Sink.failed c.write_whole.new.out in
+    let writes = g.W.Sink.failed c.args.writer.now in
     let writes' = g.W.Sink.failed c.run_lines-reporter.new.writer in
-    let writes'' = g.W.Sink.failed c.end_report.new.writer in
-    let stop = stops answer reads reads' writes writes' c.run_lines-reporter.ensures.quiet
-    c.run_lines-reporter.ensures.failed in
-    fails_ok c.end_report.result reads reads' (g.W.Sink.failed c.args.writer.now) writes''
-    (subst (λ n. Fails c.end_report.result reads reads' n writes'') c.in_default-write_whole.ensures.quiet
-    (fails answer c.end_report.result _ _ _ reads reads' writes writes' writes'' stop c.end_report.ensures))
+    rw c.answer_of_run.ensures (answers_ok c.run_lines-reporter.result.1
+    ((reads' ≡ reads) × (writes' ≡ writes)) ((reads' ≡ reads) × (writes' ≡ writes)) (λ same. same)
+    c.run_lines-reporter.ensures.quiet)

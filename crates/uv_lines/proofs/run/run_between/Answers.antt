@@ -2,9 +2,10 @@
 use Rattle.std.proofs.Common.{◌≡◌, ◌+◌, ℕ, List, [], Ok, Err, IfErr, arith, sym, add-zero}
 use Rattle.std.proofs.KnownBytes.{Consumes-nil}
 use Rattle.std.specs.Io.KnownBytes.{Consumes, IsAtEnd}
+use Rattle.uv_lines.specs.Reported.{Reported}
 use Rattle.uv_lines.specs.Run.{Leaves, reads_failed, writes_failed}
 use Rattle.uv_lines.proofs.PassLemmas.{nothing_written}
-use Rattle.uv_lines.proofs.run.run_lines.Goals as goal
+use Rattle.uv_lines.proofs.run.run_between.Goals as goal
 
 pub returns-in_default-clause-fault : goal.returns-in_default-clause-fault
 returns-in_default-clause-fault g c = (
@@ -58,14 +59,16 @@ returns-clause-fault g c =
     rw (c.into_reporter.ensures, ← c.new-progress.ensures.setting.0, ← c.new-progress.ensures.setting.1)
     (elim c.run_pieces-answer.result as (λ answer. IfErr answer (λ e. (read : List ℕ)
     × Consumes (g.R.Source.remaining c.args.reader.now) (g.R.Source.remaining c.run_pieces-answer.new.reader) read
-    × Leaves g.T.Reporter.reports c.new-progress.result.limits c.new-progress.result.reporter e
+    × Leaves (Reported g.T.Reporter.reports c.new-progress.result.limits.line_bytes c.new-progress.result.reporter)
+    c.new-progress.result.limits e
     (g.W.Sink.contents c.args.writer.now) read (IsAtEnd (g.R.Source.remaining c.run_pieces-answer.new.reader))
     c.run_pieces-answer.new.progress.reporter (g.W.Sink.contents c.run_pieces-answer.new.writer)
     × (g.R.Source.failed c.run_pieces-answer.new.reader ≡ g.R.Source.failed c.args.reader.now + reads_failed e)
     × (g.W.Sink.failed c.run_pieces-answer.new.writer ≡ g.W.Sink.failed c.args.writer.now + writes_failed e))
     → IfErr answer (λ e. (read : List ℕ)
     × Consumes (g.R.Source.remaining c.args.reader.now) (g.R.Source.remaining c.run_pieces-answer.new.reader) read
-    × Leaves g.T.Reporter.reports c.new-progress.result.limits c.new-progress.result.reporter e
+    × Leaves (Reported g.T.Reporter.reports c.new-progress.result.limits.line_bytes c.new-progress.result.reporter)
+    c.new-progress.result.limits e
     (g.W.Sink.contents c.args.writer.now) read (IsAtEnd (g.R.Source.remaining c.run_pieces-answer.new.reader))
     c.run_pieces-answer.new.progress.reporter (g.W.Sink.contents c.run_pieces-answer.new.writer))) [
       | Ok _ ↦ λ left. tt
@@ -76,7 +79,8 @@ pub returns-clause-failed : goal.returns-clause-failed
 returns-clause-failed g c =
     elim c.run_pieces-answer.result as (λ answer. IfErr answer (λ e. (read : List ℕ)
     × Consumes (g.R.Source.remaining c.args.reader.now) (g.R.Source.remaining c.run_pieces-answer.new.reader) read
-    × Leaves g.T.Reporter.reports c.new-progress.result.limits c.new-progress.result.reporter e
+    × Leaves (Reported g.T.Reporter.reports c.new-progress.result.limits.line_bytes c.new-progress.result.reporter)
+    c.new-progress.result.limits e
     (g.W.Sink.contents c.args.writer.now) read (IsAtEnd (g.R.Source.remaining c.run_pieces-answer.new.reader))
     c.run_pieces-answer.new.progress.reporter (g.W.Sink.contents c.run_pieces-answer.new.writer)
     × (g.R.Source.failed c.run_pieces-answer.new.reader ≡ g.R.Source.failed c.args.reader.now + reads_failed e)

@@ -1,0 +1,445 @@
+-- A report in its frame: from a run over lines to one with what stands around them.
+use Rattle.std.proofs.Common.{◌≡◌, ◌≢◌, ℕ, ◌+◌, ◌<◌, ◌≤◌, Bool, true, false, List, [], ◌∷◌, ◌++◌, Option, Result, Ok, Err, OnOk, IfErr, length, take, refl, sym, ap, ◌∙◌, subst, arith, inl, inr, take_all}
+use Rattle.std.proofs.lemmas.Bool.{cases_lt}
+use Rattle.std.proofs.lemmas.List.{take-append-le}
+use Rattle.std.proofs.Math.Seq.{take-append-add, take-append_seam, take-length}
+use Rattle.std.proofs.KnownBytes.{Appends-trans}
+use Rattle.std.specs.Io.KnownBytes.{Appends}
+use Rattle.uv_lines.specs.declared.fault.LineFault.{LineFault}
+use Rattle.uv_lines.specs.declared.fault.LineFault.TheVariants.{Report, Memory, Read, Write, TooManyLines, Endless}
+use Rattle.uv_lines.specs.declared.limits.LineLimits.{LineLimits}
+use Rattle.uv_lines.specs.Lines.{closed_lines, lines_of}
+use Rattle.uv_lines.specs.Reported.{Cut, Reported, Wrote}
+use Rattle.uv_lines.specs.Run.{Leaves, WroteAll, WroteFirst, WroteFront, reads_failed, writes_failed}
+use Rattle.uv_lines.specs.Framed.{Cuts, Ends, FailsReads, Follows, FollowsFault, Framed, LeavesPart, Writes, is_write, may_write}
+use Rattle.uv_lines.proofs.PassLemmas.{closed_few}
+
+-- ---- what a fault leaves of another report
+
+-- from what was written of one report to what was written of another
+pub Leaves-map : {S T F : Type 0} (P : List (List ℕ) → List ℕ → S → Type 0) (Q : List (List ℕ) → List ℕ → T → Type 0)
+    (limits : LineLimits) (e : LineFault F) (a b c d : Option (List ℕ)) (read : List ℕ) (at_end : Type 0) (s : S)
+    (t : T)
+    → (is_write e ≡ false → (lines : List (List ℕ)) → Wrote P lines a b s → Wrote Q lines c d t)
+    → (is_write e ≡ true → (lines : List (List ℕ)) → Cut P lines a b s → Cut Q lines c d t)
+    → Leaves P limits e a read at_end s b → Leaves Q limits e c read at_end t d
+Leaves-map P Q limits (Report fault) a b c d read at_end s t whole cut left =
+    (left.0, left.1, left.2, whole refl (take left.0 (lines_of read)) left.3)
+Leaves-map P Q limits Memory a b c d read at_end s t whole cut left =
+    (left.0, left.1, left.2, whole refl (take left.0 (lines_of read)) left.3)
+Leaves-map P Q limits Read a b c d read at_end s t whole cut left =
+    whole refl (take (length (closed_lines read)) (lines_of read)) left
+Leaves-map P Q limits Write a b c d read at_end s t whole cut left =
+    (left.0, left.1, cut refl (take left.0 (lines_of read)) left.2)
+Leaves-map P Q limits TooManyLines a b c d read at_end s t whole cut left =
+    (whole refl (take limits.lines (lines_of read)) left.0, left.1)
+Leaves-map P Q limits Endless a b c d read at_end s t whole cut left =
+    (whole refl (take (length (closed_lines read)) (lines_of read)) left.0, left.1)
+
+-- one report was written where another was
+pub Wrote-map : {S T : Type 0} (P : List (List ℕ) → List ℕ → S → Type 0) (Q : List (List ℕ) → List ℕ → T → Type 0)
+    (lines : List (List ℕ)) (old new : Option (List ℕ)) (s : S) (t : T)
+    → ((lines : List (List ℕ)) (text : List ℕ) → P lines text s → Q lines text t)
+    → Wrote P lines old new s → Wrote Q lines old new t
+Wrote-map P Q lines old new s t is wrote =
+    record { text = wrote.text; reported = is lines wrote.text wrote.reported; wrote = wrote.wrote }
+
+-- and a front of it
+pub Cut-map : {S T : Type 0} (P : List (List ℕ) → List ℕ → S → Type 0) (Q : List (List ℕ) → List ℕ → T → Type 0)
+    (lines : List (List ℕ)) (old new : Option (List ℕ)) (s : S) (t : T)
+    → ((lines : List (List ℕ)) (text : List ℕ) → P lines text s → Q lines text t)
+    → Cut P lines old new s → Cut Q lines old new t
+Cut-map P Q lines old new s t is cut =
+    record { text = cut.text; reported = is lines cut.text cut.reported; front = cut.front; wrote = cut.wrote }
+
+-- what a fault leaves of one is what it leaves of the other, where a whole report is one of its own parts
+pub LeavesPart-map : {S T F : Type 0} (P W : List (List ℕ) → List ℕ → S → Type 0)
+    (Q : List (List ℕ) → List ℕ → T → Type 0) (limits : LineLimits) (e : LineFault F) (old new : Option (List ℕ))
+    (read : List ℕ) (at_end : Type 0) (s : S) (t : T)
+    → ((lines : List (List ℕ)) (text : List ℕ) → P lines text s → Q lines text t)
+    → ((lines : List (List ℕ)) (text : List ℕ) → W lines text s → Q lines text t)
+    → LeavesPart P W limits e old read at_end s new → Leaves Q limits e old read at_end t new
+LeavesPart-map P W Q limits e old new read at_end s t part whole (inl left) =
+    Leaves-map P Q limits e old new old new read at_end s t (λ _ lines. Wrote-map P Q lines old new s t part)
+    (λ _ lines. Cut-map P Q lines old new s t part) left
+LeavesPart-map P W Q limits e old new read at_end s t part whole (inr cut) =
+    subst (λ f. Leaves Q limits f old read at_end t new) (sym cut.0) (
+      length (lines_of read),
+      omega arith,
+      rw (take-length (lines_of read)) (Cut-map W Q (lines_of read) old new s t whole cut.1),
+    )
+
+-- behind each fault but one of a write the report on some of the first lines was written
+some_first : {S F : Type 0} (P : List (List ℕ) → List ℕ → S → Type 0) (limits : LineLimits) (e : LineFault F)
+    (old new : Option (List ℕ)) (read : List ℕ) (at_end : Type 0) (s : S) → is_write e ≡ false
+    → Leaves P limits e old read at_end s new
+    → (count : ℕ) × (count ≤ length (lines_of read)) × WroteFirst P old read count s new
+some_first P limits (Report fault) old new read at_end s is left = (left.0, left.1, left.3)
+some_first P limits Memory old new read at_end s is left = (left.0, left.1, left.3)
+some_first P limits Read old new read at_end s is left = (length (closed_lines read), closed_few read, left)
+some_first P limits Write old new read at_end s is left = cc
+some_first P limits TooManyLines old new read at_end s is left =
+    (limits.lines, (let more = left.1 in omega (arith, more)), left.0)
+some_first P limits Endless old new read at_end s is left = (length (closed_lines read), closed_few read, left.0)
+
+-- ---- the frame
+
+-- a front of a front is one of the whole
+pub front_of : (n : ℕ) (xs ys : List ℕ) → (m : ℕ) × (take m (xs ++ ys) ≡ take n xs)
+front_of n xs ys =
+    elim (cases_lt (length xs) n) [
+      | inl above ↦ (length xs, take-append_seam xs ys ∙ sym (take_all n xs (omega (arith, above))))
+      | inr within ↦ (n, take-append-le n xs ys within)
+    ]
+
+-- three pieces were written, one after the other
+wrote_three : (old mid now new : Option (List ℕ)) (begin text end : List ℕ) → Appends old mid begin
+    → Appends mid now text → Appends now new end → Appends old new (begin ++ (text ++ end))
+wrote_three old mid now new begin text end first second third =
+    Appends-trans old mid new begin (text ++ end) first (Appends-trans mid now new text end second third)
+
+-- the report was written, with what stands around it
+framed_wrote : {S : Type 0} (reports : S → Option (List ℕ) → List ℕ → S → Type 0) (n : ℕ) (begin : List ℕ)
+    (behind : S → List ℕ) (start : S) (lines : List (List ℕ)) (old mid now new : Option (List ℕ)) (q : S)
+    → Appends old mid begin → Wrote (Reported reports n start) lines mid now q → Appends now new (behind q)
+    → Wrote (Framed reports n begin behind start) lines old new q
+framed_wrote reports n begin behind start lines old mid now new q begun all ended = record {
+  text = begin ++ (all.text ++ behind q);
+  reported = record { said = all.text; reported = all.reported; whole = refl };
+  wrote = wrote_three old mid now new begin all.text (behind q) begun all.wrote ended;
+}
+
+-- what stands behind it was cut
+framed_cut : {S : Type 0} (reports : S → Option (List ℕ) → List ℕ → S → Type 0) (n : ℕ) (begin : List ℕ)
+    (behind : S → List ℕ) (start : S) (lines : List (List ℕ)) (old mid now new : Option (List ℕ)) (q : S) (front : ℕ)
+    → Appends old mid begin → Wrote (Reported reports n start) lines mid now q
+    → Appends now new (take front (behind q)) → Cut (Framed reports n begin behind start) lines old new q
+framed_cut reports n begin behind start lines old mid now new q front begun all cut = record {
+  text = begin ++ (all.text ++ behind q);
+  reported = record { said = all.text; reported = all.reported; whole = refl };
+  front = length begin + (length all.text + front);
+  wrote = rw (
+    take-append-add begin (all.text ++ behind q) (length all.text + front),
+    take-append-add all.text (behind q) front,
+  ) (wrote_three old mid now new begin all.text (take front (behind q)) begun all.wrote cut);
+}
+
+-- it was cut itself
+framed_front : {S : Type 0} (reports : S → Option (List ℕ) → List ℕ → S → Type 0) (n : ℕ) (begin : List ℕ)
+    (behind : S → List ℕ) (start : S) (lines : List (List ℕ)) (old mid new : Option (List ℕ)) (q : S)
+    → Appends old mid begin → Cut (Reported reports n start) lines mid new q
+    → Cut (Framed reports n begin behind start) lines old new q
+framed_front reports n begin behind start lines old mid new q begun all =
+    let front = front_of all.front all.text (behind q) in
+    record {
+      text = begin ++ (all.text ++ behind q);
+      reported = record { said = all.text; reported = all.reported; whole = refl };
+      front = length begin + front.0;
+      wrote = rw (take-append-add begin (all.text ++ behind q) front.0, front.1)
+          (Appends-trans old mid new begin (take all.front all.text) begun all.wrote);
+    }
+
+-- what stands before it was cut
+pub begin_cut : {S : Type 0} (reports : S → Option (List ℕ) → List ℕ → S → Type 0) (n : ℕ) (begin : List ℕ)
+    (behind : S → List ℕ) (start : S) (old new : Option (List ℕ)) (k : ℕ)
+    → Appends old new (take k begin) → WroteFront (Framed reports n begin behind start) old [] start new
+begin_cut reports n begin behind start old new k wrote =
+    let front = front_of k begin ([] ++ behind start) in (
+      0,
+      omega arith,
+      record {
+        text = begin ++ ([] ++ behind start);
+        reported = record { said = []; reported = (refl, refl); whole = refl };
+        front = front.0;
+        wrote = rw front.1 wrote;
+      },
+    )
+
+-- ---- pieces behind an answer
+
+-- of two pieces that are empty together each is
+append_none : (xs ys : List ℕ) → xs ++ ys ≡ [] → (xs ≡ []) × (ys ≡ [])
+append_none [] ys none = (refl, none)
+append_none (x ∷ xs) ys none = cc
+
+-- a piece behind one that was written
+pub follows_more : {F : Type 0} (first piece : List ℕ) (told result : Result (Unit {0}) (LineFault F))
+    (old now new : Option (List ℕ)) (before between after : ℕ) → Appends old now first → between ≡ before
+    → Follows piece told result now new between after → Follows (first ++ piece) told result old new before after
+follows_more first piece told result old now new before between after wrote same (inl writes) = inl (record {
+  told = writes.told;
+  wrote = Appends-trans old now new first piece wrote writes.wrote;
+  quiet = writes.quiet ∙ same;
+})
+follows_more first piece told result old now new before between after wrote same (inr cuts) = inr (record {
+  told = cuts.told;
+  some = λ none. cuts.some (append_none first piece none).1;
+  front = length first + cuts.front;
+  wrote = rw (take-append-add first piece cuts.front)
+      (Appends-trans old now new first (take cuts.front piece) wrote cuts.wrote);
+  failed = cuts.failed ∙ ap (λ n. n + 1) same;
+})
+
+-- behind one that was cut nothing is written
+pub follows_cut : {F : Type 0} (first piece : List ℕ) (told : Result (Unit {0}) (LineFault F))
+    (old new : Option (List ℕ)) (before after n : ℕ) → first ≢ [] → Appends old new (take n first)
+    → after ≡ before + 1 → Follows (first ++ piece) told (Err Write) old new before after
+follows_cut first piece told old new before after n some cut failed =
+    let front = front_of n first piece in
+    inr (record {
+      told = refl;
+      some = λ none. some (append_none first piece none).0;
+      front = front.0;
+      wrote = rw front.1 cut;
+      failed = failed;
+    })
+
+-- ---- a run
+
+-- what a run over lines leaves, by its answer
+abbrev pub Ran : {S F : Type 0} → (List (List ℕ) → List ℕ → S → Type 0) → LineLimits
+    → Result (Unit {0}) (LineFault F) → Option (List ℕ) → List ℕ → Type 0 → S → Option (List ℕ) → Type 0
+Ran P limits (Ok u) old read at_end q new = at_end × WroteAll P limits old read q new
+Ran P limits (Err e) old read at_end q new = Leaves P limits e old read at_end q new
+
+-- and what one in a frame does
+abbrev pub Ended : {S F : Type 0} → (List (List ℕ) → List ℕ → S → Type 0) → (List (List ℕ) → List ℕ → S → Type 0)
+    → LineLimits → Result (Unit {0}) (LineFault F) → Option (List ℕ) → List ℕ → Type 0 → S → Option (List ℕ) → Type 0
+Ended P W limits (Ok u) old read at_end q new = at_end × WroteAll W limits old read q new
+Ended P W limits (Err e) old read at_end q new = LeavesPart P W limits e old read at_end q new
+
+-- all lines are the first of them
+all_first : {S : Type 0} (P : List (List ℕ) → List ℕ → S → Type 0) (limits : LineLimits) (old new : Option (List ℕ))
+    (read : List ℕ) (q : S) → WroteAll P limits old read q new → WroteFirst P old read (length (lines_of read)) q new
+all_first P limits old new read q all = rw (take-length (lines_of read)) all.wrote
+
+-- behind a fault
+ended_fault : {S F : Type 0} (reports : S → Option (List ℕ) → List ℕ → S → Type 0) (limits : LineLimits)
+    (begin end : List ℕ) (W : List (List ℕ) → List ℕ → S → Type 0) (start : S) (e : LineFault F)
+    (result : Result (Unit {0}) (LineFault F)) (old mid now new : Option (List ℕ)) (read : List ℕ) (at_end : Type 0)
+    (q : S) (before after : ℕ) (is : Bool) → is_write e ≡ is → Appends old mid begin
+    → Leaves (Reported reports limits.line_bytes start) limits e mid read at_end q now
+    → FollowsFault is end e result now new before after
+    → Ended (Framed reports limits.line_bytes begin (λ _. end) start) W limits result old read at_end q new
+ended_fault reports limits begin end W start e result old mid now new read at_end q before after true is begun ran
+    (told, same, quiet) =
+    let n = limits.line_bytes in
+    let P = Framed reports n begin (λ _. end) start in
+    subst (λ r. Ended P W limits r old read at_end q new) (sym told)
+    (inl (Leaves-map (Reported reports n start) P limits e mid now old new read at_end q q
+    (λ no. let never : true ≡ false = sym is ∙ no in cc)
+    (λ _ lines cut. subst (λ o. Cut P lines old o q) (sym same)
+    (framed_front reports n begin (λ _. end) start lines old mid now q begun cut)) ran))
+ended_fault reports limits begin end W start e result old mid now new read at_end q before after false is begun ran
+    (inl writes) =
+    let n = limits.line_bytes in
+    let P = Framed reports n begin (λ _. end) start in
+    subst (λ r. Ended P W limits r old read at_end q new) (sym writes.told)
+    (inl (Leaves-map (Reported reports n start) P limits e mid now old new read at_end q q
+    (λ _ lines all. framed_wrote reports n begin (λ _. end) start lines old mid now new q begun all writes.wrote)
+    (λ yes. let never : true ≡ false = sym yes ∙ is in cc) ran))
+ended_fault reports limits begin end W start e result old mid now new read at_end q before after false is begun ran
+    (inr cuts) =
+    let n = limits.line_bytes in
+    let P = Framed reports n begin (λ _. end) start in
+    let first = some_first (Reported reports n start) limits e mid now read at_end q is ran in
+    subst (λ r. Ended P W limits r old read at_end q new) (sym cuts.told) (inl (
+      first.0,
+      first.1,
+      framed_cut reports n begin (λ _. end) start (take first.0 (lines_of read)) old mid now new q cuts.front begun
+          first.2 cuts.wrote,
+    ))
+
+-- what was written behind the lines makes the report on them whole, or leaves a part of it
+pub ended : {S F : Type 0} (reports : S → Option (List ℕ) → List ℕ → S → Type 0) (limits : LineLimits)
+    (begin end : List ℕ) (last : S → List ℕ) (start : S) (answer result : Result (Unit {0}) (LineFault F))
+    (old mid now new : Option (List ℕ)) (read : List ℕ) (at_end : Type 0) (q : S) (before after : ℕ)
+    → Appends old mid begin → Ran (Reported reports limits.line_bytes start) limits answer mid read at_end q now
+    → Ends (last q) end answer result now new before after
+    → Ended (Framed reports limits.line_bytes begin (λ _. end) start)
+    (Framed reports limits.line_bytes begin (λ s. last s ++ end) start) limits result old read at_end q new
+ended reports limits begin end last start (Ok u) result old mid now new read at_end q before after begun ran
+    (inl (inl writes)) =
+    let n = limits.line_bytes in
+    let P = Framed reports n begin (λ _. end) start in
+    let W = Framed reports n begin (λ s. last s ++ end) start in
+    subst (λ r. Ended P W limits r old read at_end q new) (sym writes.told) (
+      ran.0,
+      record {
+        wrote = framed_wrote reports n begin (λ s. last s ++ end) start (lines_of read) old mid now new q begun
+            ran.1.wrote writes.wrote;
+        few = ran.1.few;
+      },
+    )
+ended reports limits begin end last start (Ok u) result old mid now new read at_end q before after begun ran
+    (inl (inr cuts)) =
+    let n = limits.line_bytes in
+    let P = Framed reports n begin (λ _. end) start in
+    let W = Framed reports n begin (λ s. last s ++ end) start in
+    subst (λ r. Ended P W limits r old read at_end q new) (sym cuts.told) (inr (
+      refl,
+      framed_cut reports n begin (λ s. last s ++ end) start (lines_of read) old mid now new q cuts.front begun
+          ran.1.wrote cuts.wrote,
+    ))
+ended reports limits begin end last start (Ok u) result old mid now new read at_end q before after begun ran
+    (inr (fault, inl writes)) =
+    let n = limits.line_bytes in
+    let P = Framed reports n begin (λ _. end) start in
+    let W = Framed reports n begin (λ s. last s ++ end) start in
+    subst (λ r. Ended P W limits r old read at_end q new) (sym writes.told) (inl (
+      length (lines_of read),
+      omega arith,
+      inr ran.0,
+      framed_wrote reports n begin (λ _. end) start (take (length (lines_of read)) (lines_of read)) old mid now new q
+          begun (all_first (Reported reports n start) limits mid now read q ran.1) writes.wrote,
+    ))
+ended reports limits begin end last start (Ok u) result old mid now new read at_end q before after begun ran
+    (inr (fault, inr cuts)) =
+    let n = limits.line_bytes in
+    let P = Framed reports n begin (λ _. end) start in
+    let W = Framed reports n begin (λ s. last s ++ end) start in
+    subst (λ r. Ended P W limits r old read at_end q new) (sym cuts.told) (inl (
+      length (lines_of read),
+      omega arith,
+      framed_cut reports n begin (λ _. end) start (take (length (lines_of read)) (lines_of read)) old mid now new q
+          cuts.front begun (all_first (Reported reports n start) limits mid now read q ran.1) cuts.wrote,
+    ))
+ended reports limits begin end last start (Err e) result old mid now new read at_end q before after begun ran follows =
+    ended_fault reports limits begin end (Framed reports limits.line_bytes begin (λ s. last s ++ end) start) start e
+    result old mid now new read at_end q before after (is_write e) refl begun ran follows
+
+-- ---- failed reads and writes
+
+-- those of a run over lines, by its answer, where so many have failed before
+abbrev pub Stops : {F : Type 0} → Result (Unit {0}) (LineFault F) → ℕ → ℕ → ℕ → ℕ → Type 0
+Stops (Ok u) reads reads' writes writes' = (reads' ≡ reads) × (writes' ≡ writes)
+Stops (Err e) reads reads' writes writes' =
+    (reads' ≡ reads + reads_failed e) × (writes' ≡ writes + writes_failed e)
+
+-- and those of one in a frame
+abbrev pub Fails : {F : Type 0} → List ℕ → Result (Unit {0}) (LineFault F) → ℕ → ℕ → ℕ → ℕ → Type 0
+Fails end (Ok u) reads reads' writes writes' = (reads' ≡ reads) × (writes' ≡ writes)
+Fails end (Err e) reads reads' writes writes' = FailsReads end e reads reads' × (writes' ≡ writes + writes_failed e)
+
+-- a fault that is no write's fails none
+quiet_writes : {F : Type 0} (e : LineFault F) → is_write e ≡ false → writes_failed e ≡ 0
+quiet_writes (Report fault) is = refl
+quiet_writes Memory is = refl
+quiet_writes Read is = refl
+quiet_writes Write is = cc
+quiet_writes TooManyLines is = refl
+quiet_writes Endless is = refl
+
+-- a further write may come where none has failed
+pub may_go_on : {F : Type 0} (answer : Result (Unit {0}) (LineFault F)) (reads reads' writes writes' most : ℕ)
+    → Stops answer reads reads' writes writes' → writes < most → may_write answer ≡ true → writes' < most
+may_go_on (Ok u) reads reads' writes writes' most stop below may = rw stop.1 below
+may_go_on (Err Write) reads reads' writes writes' most stop below may = cc
+may_go_on (Err (Report fault)) reads reads' writes writes' most stop below may =
+    let same = stop.1 in omega (arith, same, below)
+may_go_on (Err Memory) reads reads' writes writes' most stop below may =
+    let same = stop.1 in omega (arith, same, below)
+may_go_on (Err Read) reads reads' writes writes' most stop below may =
+    let same = stop.1 in omega (arith, same, below)
+may_go_on (Err TooManyLines) reads reads' writes writes' most stop below may =
+    let same = stop.1 in omega (arith, same, below)
+may_go_on (Err Endless) reads reads' writes writes' most stop below may =
+    let same = stop.1 in omega (arith, same, below)
+
+-- the failed reads of a run over lines, and those behind a further write that failed, where that has a piece
+reads_of : {F : Type 0} (end : List ℕ) (e : LineFault F) (reads reads' : ℕ) → reads' ≡ reads + reads_failed e
+    → FailsReads end e reads reads' × (end ≢ [] → FailsReads {F = F} end Write reads reads')
+reads_of end (Report fault) reads reads' r = (omega (arith, r), λ some. inl (omega (arith, r)))
+reads_of end Memory reads reads' r = (omega (arith, r), λ some. inl (omega (arith, r)))
+reads_of end Read reads reads' r = (r, λ some. inr (some, r))
+reads_of end Write reads reads' r = (inl (omega (arith, r)), λ some. inl (omega (arith, r)))
+reads_of end TooManyLines reads reads' r = (omega (arith, r), λ some. inl (omega (arith, r)))
+reads_of end Endless reads reads' r = (omega (arith, r), λ some. inl (omega (arith, r)))
+
+-- behind a fault
+fails_behind : {F : Type 0} (end : List ℕ) (e : LineFault F) (result : Result (Unit {0}) (LineFault F))
+    (now new : Option (List ℕ)) (reads reads' writes writes' writes'' : ℕ) (is : Bool) → is_write e ≡ is
+    → (reads' ≡ reads + reads_failed e) × (writes' ≡ writes + writes_failed e)
+    → FollowsFault is end e result now new writes' writes'' → Fails end result reads reads' writes writes''
+fails_behind end e result now new reads reads' writes writes' writes'' true is stop (told, same, quiet) =
+    subst (λ r. Fails end r reads reads' writes writes'') (sym told)
+    ((reads_of end e reads reads' stop.0).0, quiet ∙ stop.1)
+fails_behind end e result now new reads reads' writes writes' writes'' false is stop (inl writes_end) =
+    subst (λ r. Fails end r reads reads' writes writes'') (sym writes_end.told)
+    ((reads_of end e reads reads' stop.0).0, writes_end.quiet ∙ stop.1)
+fails_behind end e result now new reads reads' writes writes' writes'' false is stop (inr cuts) =
+    subst (λ r. Fails end r reads reads' writes writes'') (sym cuts.told) (
+      (reads_of end e reads reads' stop.0).1 cuts.some,
+      (let failed = cuts.failed in
+          let before = stop.1 in
+          let none = quiet_writes e is in
+          omega (arith, failed, before, none)),
+    )
+
+-- behind each answer
+pub fails : {F : Type 0} (last end : List ℕ) (answer result : Result (Unit {0}) (LineFault F))
+    (now new : Option (List ℕ)) (reads reads' writes writes' writes'' : ℕ)
+    → Stops answer reads reads' writes writes' → Ends last end answer result now new writes' writes''
+    → Fails end result reads reads' writes writes''
+fails last end (Ok u) result now new reads reads' writes writes' writes'' stop (inl (inl writes_all)) =
+    subst (λ r. Fails end r reads reads' writes writes'') (sym writes_all.told) (stop.0, writes_all.quiet ∙ stop.1)
+fails last end (Ok u) result now new reads reads' writes writes' writes'' stop (inl (inr cuts)) =
+    subst (λ r. Fails end r reads reads' writes writes'') (sym cuts.told)
+    (inl stop.0, cuts.failed ∙ ap (λ n. n + 1) stop.1)
+fails last end (Ok u) result now new reads reads' writes writes' writes'' stop (inr (fault, inl writes_end)) =
+    subst (λ r. Fails end r reads reads' writes writes'') (sym writes_end.told) (
+      stop.0,
+      (let same = writes_end.quiet in let before = stop.1 in omega (arith, same, before)),
+    )
+fails last end (Ok u) result now new reads reads' writes writes' writes'' stop (inr (fault, inr cuts)) =
+    subst (λ r. Fails end r reads reads' writes writes'') (sym cuts.told)
+    (inl stop.0, cuts.failed ∙ ap (λ n. n + 1) stop.1)
+fails last end (Err e) result now new reads reads' writes writes' writes'' stop follows =
+    fails_behind end e result now new reads reads' writes writes' writes'' (is_write e) refl stop follows
+
+-- ---- from the clauses of the calls, and to those of a run
+
+-- what a run over lines leaves
+pub ran : {S F : Type 0} (P : List (List ℕ) → List ℕ → S → Type 0) (limits : LineLimits)
+    (answer : Result (Unit {0}) (LineFault F)) (C : List ℕ → Type 0) (old : Option (List ℕ)) (at_end : Type 0) (q : S)
+    (new : Option (List ℕ))
+    → OnOk answer ((read : List ℕ) × C read × at_end × WroteAll P limits old read q new)
+    → IfErr answer (λ e. (read : List ℕ) × C read × Leaves P limits e old read at_end q new)
+    → (read : List ℕ) × C read × Ran P limits answer old read at_end q new
+ran P limits (Ok u) C old at_end q new ok err = (ok.0, ok.1, (ok.2, ok.3))
+ran P limits (Err e) C old at_end q new ok err = err
+
+-- a run in a frame that answers no fault
+pub ended_ok : {S F : Type 0} (P W : List (List ℕ) → List ℕ → S → Type 0) (limits : LineLimits)
+    (result : Result (Unit {0}) (LineFault F)) (C : List ℕ → Type 0) (old : Option (List ℕ)) (read : List ℕ)
+    (at_end : Type 0) (q : S) (new : Option (List ℕ)) → C read → Ended P W limits result old read at_end q new
+    → OnOk result ((read : List ℕ) × C read × at_end × WroteAll W limits old read q new)
+ended_ok P W limits (Ok u) C old read at_end q new consumed end = (read, consumed, end.0, end.1)
+ended_ok P W limits (Err e) C old read at_end q new consumed end = tt {0}
+
+-- and one that does
+pub ended_err : {S F : Type 0} (P W : List (List ℕ) → List ℕ → S → Type 0) (limits : LineLimits)
+    (result : Result (Unit {0}) (LineFault F)) (C : List ℕ → Type 0) (old : Option (List ℕ)) (read : List ℕ)
+    (at_end : Type 0) (q : S) (new : Option (List ℕ)) → C read → Ended P W limits result old read at_end q new
+    → IfErr result (λ e. (read : List ℕ) × C read × LeavesPart P W limits e old read at_end q new)
+ended_err P W limits (Ok u) C old read at_end q new consumed end = tt {0}
+ended_err P W limits (Err e) C old read at_end q new consumed end = (read, consumed, end)
+
+-- its failed reads and writes
+pub stops : {F : Type 0} (answer : Result (Unit {0}) (LineFault F)) (reads reads' writes writes' : ℕ)
+    → OnOk answer ((reads' ≡ reads) × (writes' ≡ writes))
+    → IfErr answer (λ e. (reads' ≡ reads + reads_failed e) × (writes' ≡ writes + writes_failed e))
+    → Stops answer reads reads' writes writes'
+stops (Ok u) reads reads' writes writes' ok err = ok
+stops (Err e) reads reads' writes writes' ok err = err
+
+pub fails_ok : {F : Type 0} (end : List ℕ) (result : Result (Unit {0}) (LineFault F)) (reads reads' writes writes' : ℕ)
+    → Fails end result reads reads' writes writes' → OnOk result ((reads' ≡ reads) × (writes' ≡ writes))
+fails_ok end (Ok u) reads reads' writes writes' fail = fail
+fails_ok end (Err e) reads reads' writes writes' fail = tt {0}
+
+pub fails_err : {F : Type 0} (end : List ℕ) (result : Result (Unit {0}) (LineFault F))
+    (reads reads' writes writes' : ℕ) → Fails end result reads reads' writes writes'
+    → IfErr result (λ e. FailsReads end e reads reads' × (writes' ≡ writes + writes_failed e))
+fails_err end (Ok u) reads reads' writes writes' fail = tt {0}
+fails_err end (Err e) reads reads' writes writes' fail = fail

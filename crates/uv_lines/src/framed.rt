@@ -1,0 +1,145 @@
+//! A run over the lines of a list, with what stands around the report.
+ghost use Rattle.std.specs.Prelude.{◌≡◌, ◌≢◌, ℕ, ◌+◌, ◌-◌, ◌^◌, ◌<◌, ◌≤◌, ◌++◌, List, [], true, IfErr, IfOk, Ok, OnErr, OnOk, take};
+ghost use Rattle.std.specs.Io.KnownBytes.{Appends, Consumes, IsAtEnd};
+ghost use Rattle.uv_lines.specs.Framed.{Ends, FailsReads, Follows, Framed, LeavesPart, is_write, may_write};
+ghost use Rattle.uv_lines.specs.Run.{WroteAll, writes_failed};
+
+use crate::fault::LineFault;
+use crate::limits::LineLimits;
+use crate::reporter::Reporter;
+use crate::run::run_between;
+use std::alloc::Global;
+use uv_model::{DeviceFault, Sink, Source, write_whole};
+
+/// What stands around the report on a list.
+#[derive(Clone, Copy)]
+pub struct Frame<'a> {
+    /// What is written before the first line is read.
+    pub begin: &'a [u8],
+    /// What is written behind all else, also behind each fault but one of a write.
+    pub end: &'a [u8],
+}
+
+impl Frame<'static> {
+    /// Nothing stands around the report.
+    pub fn none() -> Frame<'static>
+        ensures begin { result.begin.now ≡ [] }
+        ensures end { result.end.now ≡ [] }
+    {
+        Frame {
+            begin: &[],
+            end: &[],
+        }
+    }
+}
+
+/// Has a reporter report on each line of a list, in a frame, and gives the reporter back, as the last line on which it
+/// reported left it.
+///
+/// A line ends with LF, and one CR before that is no part of it; a last part without LF is a line where it isn't empty.
+/// What is said of the lines that a read has ended is written before the next read. What the reporter says behind the
+/// last line is written where no fault came, and the frame's end behind each fault but one of a write. The writer isn't
+/// flushed. After a fault nothing is tried again, and how far the reader was read is open.
+#[tactic(none)]
+pub fn run_lines<R: Source, W: Sink, T: Reporter>(
+    alloc: Global,
+    reader: &mut R,
+    writer: &mut W,
+    reporter: T,
+    limits: LineLimits,
+    frame: Frame<'_>,
+) -> (T, Result<(), LineFault<T::Fault>>)
+    requires reads { R.failed reader.old < 2 ^ 64 - 1 }
+    requires writes { W.failed writer.old < 2 ^ 64 - 1 }
+    requires short { limits.line_bytes ≤ 65536 }
+    requires few { limits.lines ≤ 1000000000 }
+    requires start { T.lines reporter ≡ 0 }
+    ensures report { OnOk result.1 ((read : List ℕ)
+        × Consumes (R.remaining reader.old) (R.remaining reader.new) read × IsAtEnd (R.remaining reader.new)
+        × WroteAll (Framed T.reports limits.line_bytes frame.entry.begin.now
+        (λ now. T.last now ++ frame.entry.end.now) reporter) limits (W.contents writer.old) read result.0
+        (W.contents writer.new)) }
+    ensures fault { IfErr result.1 (λ e. (read : List ℕ)
+        × Consumes (R.remaining reader.old) (R.remaining reader.new) read
+        × LeavesPart (Framed T.reports limits.line_bytes frame.entry.begin.now (λ _. frame.entry.end.now) reporter)
+        (Framed T.reports limits.line_bytes frame.entry.begin.now (λ now. T.last now ++ frame.entry.end.now) reporter)
+        limits e (W.contents writer.old) read (IsAtEnd (R.remaining reader.new)) result.0 (W.contents writer.new)) }
+    ensures failed { IfErr result.1 (λ e.
+        FailsReads frame.entry.end.now e (R.failed reader.old) (R.failed reader.new)
+        × (W.failed writer.new ≡ W.failed writer.old + writes_failed e)) }
+    ensures quiet { OnOk result.1 ((R.failed reader.new ≡ R.failed reader.old)
+        × (W.failed writer.new ≡ W.failed writer.old)) }
+{
+    if let Err(DeviceFault) = write_whole(writer, frame.begin) {
+        return (reporter, Err(LineFault::Write));
+    }
+    let (reporter, answer) = run_between(alloc, reader, writer, reporter, limits);
+    let answer = write_end(alloc, writer, &reporter, frame.end, answer);
+    (reporter, answer)
+}
+
+// Writes what comes behind the lines.
+fn write_end<W: Sink, T: Reporter>(
+    alloc: Global,
+    writer: &mut W,
+    reporter: &T,
+    end: &[u8],
+    answer: Result<(), LineFault<T::Fault>>,
+) -> Result<(), LineFault<T::Fault>>
+    requires { may_write answer ≡ true → W.failed writer.old < 2 ^ 64 - 1 }
+    ensures { Ends (T.last reporter.now) end.now answer result (W.contents writer.old) (W.contents writer.new)
+        (W.failed writer.old) (W.failed writer.new) }
+{
+    match answer {
+        Ok(()) => match reporter.last(alloc) {
+            Ok(last) => write_last(writer, last.as_bytes(), end),
+            Err(fault) => follow(writer, end, Err(LineFault::Report(fault))),
+        },
+        Err(LineFault::Write) => Err(LineFault::Write),
+        Err(fault) => follow(writer, end, Err(fault)),
+    }
+}
+
+// Writes what is said behind the last line, and then the end.
+fn write_last<W: Sink, F: Drop>(writer: &mut W, last: &[u8], end: &[u8]) -> Result<(), LineFault<F>>
+    requires { W.failed writer.old < 2 ^ 64 - 1 }
+    ensures { (u : Unit {0}) → Follows (last.now ++ end.now) (Ok u) result (W.contents writer.old)
+        (W.contents writer.new) (W.failed writer.old) (W.failed writer.new) }
+{
+    match write_some(writer, last) {
+        Ok(()) => follow(writer, end, Ok(())),
+        Err(DeviceFault) => Err(LineFault::Write),
+    }
+}
+
+// Writes a piece behind an answer.
+fn follow<W: Sink, F: Drop>(
+    writer: &mut W,
+    piece: &[u8],
+    told: Result<(), LineFault<F>>,
+) -> Result<(), LineFault<F>>
+    requires { W.failed writer.old < 2 ^ 64 - 1 }
+    ensures { Follows piece.now told result (W.contents writer.old) (W.contents writer.new) (W.failed writer.old)
+        (W.failed writer.new) }
+{
+    match write_some(writer, piece) {
+        Ok(()) => told,
+        Err(DeviceFault) => Err(LineFault::Write),
+    }
+}
+
+// Writes a piece, where it has any bytes.
+fn write_some<W: Sink>(writer: &mut W, piece: &[u8]) -> Result<(), DeviceFault>
+    requires { W.failed writer.old < 2 ^ 64 - 1 }
+    ensures whole { OnOk result (Appends (W.contents writer.old) (W.contents writer.new) piece.now) }
+    ensures quiet { OnOk result (W.failed writer.new ≡ W.failed writer.old) }
+    ensures some { OnErr result (piece.now ≢ []) }
+    ensures front { OnErr result ((n : ℕ)
+        × Appends (W.contents writer.old) (W.contents writer.new) (take n piece.now)) }
+    ensures failed { OnErr result (W.failed writer.new ≡ W.failed writer.old + 1) }
+{
+    if piece.is_empty() {
+        return Ok(());
+    }
+    write_whole(writer, piece)
+}
