@@ -44,7 +44,7 @@ pub Wrote-map : {S T : Type 0} (P : List (List ℕ) → List ℕ → S → Type 
 Wrote-map P Q lines old new s t is wrote =
     record { text = wrote.text; reported = is lines wrote.text wrote.reported; wrote = wrote.wrote }
 
--- and a front of it
+-- and a prefix of it
 pub Cut-map : {S T : Type 0} (P : List (List ℕ) → List ℕ → S → Type 0) (Q : List (List ℕ) → List ℕ → T → Type 0)
     (lines : List (List ℕ)) (old new : Option (List ℕ)) (s : S) (t : T)
     → ((lines : List (List ℕ)) (text : List ℕ) → P lines text s → Q lines text t)
@@ -69,7 +69,7 @@ LeavesPart-map P W Q limits e old new read at_end s t part whole (inr cut) =
       rw (take-length (lines_of read)) (Cut-map W Q (lines_of read) old new s t whole cut.1),
     )
 
--- behind each fault but one of a write the report on some of the first lines was written
+-- after each fault but one of a write the report on some of the first lines was written
 some_first : {S F : Type 0} (P : List (List ℕ) → List ℕ → S → Type 0) (limits : LineLimits) (e : LineFault F)
     (old new : Option (List ℕ)) (read : List ℕ) (at_end : Type 0) (s : S) → is_write e ≡ false
     → Leaves P limits e old read at_end s new
@@ -84,7 +84,7 @@ some_first P limits Endless old new read at_end s is left = (length (closed_line
 
 -- ---- the frame
 
--- a front of a front is one of the whole
+-- a prefix of a prefix is one of the whole
 pub front_of : (n : ℕ) (xs ys : List ℕ) → (m : ℕ) × (take m (xs ++ ys) ≡ take n xs)
 front_of n xs ys =
     elim (cases_lt (length xs) n) [
@@ -109,7 +109,7 @@ framed_wrote reports n begin behind start lines old mid now new q begun all ende
   wrote = wrote_three old mid now new begin all.text (behind q) begun all.wrote ended;
 }
 
--- what stands behind it was cut
+-- what stands after it was cut
 framed_cut : {S : Type 0} (reports : S → Option (List ℕ) → List ℕ → S → Type 0) (n : ℕ) (begin : List ℕ)
     (behind : S → List ℕ) (start : S) (lines : List (List ℕ)) (old mid now new : Option (List ℕ)) (q : S) (front : ℕ)
     → Appends old mid begin → Wrote (Reported reports n start) lines mid now q
@@ -155,14 +155,14 @@ begin_cut reports n begin behind start old new k wrote =
       },
     )
 
--- ---- pieces behind an answer
+-- ---- pieces after an answer
 
 -- of two pieces that are empty together each is
 append_none : (xs ys : List ℕ) → xs ++ ys ≡ [] → (xs ≡ []) × (ys ≡ [])
 append_none [] ys none = (refl, none)
 append_none (x ∷ xs) ys none = cc
 
--- a piece behind one that was written
+-- a piece after one that was written
 pub follows_more : {F : Type 0} (first piece : List ℕ) (told result : Result (Unit {0}) (LineFault F))
     (old now new : Option (List ℕ)) (before between after : ℕ) → Appends old now first → between ≡ before
     → Follows piece told result now new between after → Follows (first ++ piece) told result old new before after
@@ -180,7 +180,7 @@ follows_more first piece told result old now new before between after wrote same
   failed = cuts.failed ∙ ap (λ n. n + 1) same;
 })
 
--- behind one that was cut nothing is written
+-- after one that was cut nothing is written
 pub follows_cut : {F : Type 0} (first piece : List ℕ) (told : Result (Unit {0}) (LineFault F))
     (old new : Option (List ℕ)) (before after n : ℕ) → first ≢ [] → Appends old new (take n first)
     → after ≡ before + 1 → Follows (first ++ piece) told (Err Write) old new before after
@@ -213,7 +213,7 @@ all_first : {S : Type 0} (P : List (List ℕ) → List ℕ → S → Type 0) (li
     (read : List ℕ) (q : S) → WroteAll P limits old read q new → WroteFirst P old read (length (lines_of read)) q new
 all_first P limits old new read q all = rw (take-length (lines_of read)) all.wrote
 
--- behind a fault
+-- after a fault
 ended_fault : {S F : Type 0} (reports : S → Option (List ℕ) → List ℕ → S → Type 0) (limits : LineLimits)
     (begin end : List ℕ) (W : List (List ℕ) → List ℕ → S → Type 0) (start : S) (e : LineFault F)
     (result : Result (Unit {0}) (LineFault F)) (old mid now new : Option (List ℕ)) (read : List ℕ) (at_end : Type 0)
@@ -250,7 +250,7 @@ ended_fault reports limits begin end W start e result old mid now new read at_en
           first.2 cuts.wrote,
     ))
 
--- what was written behind the lines makes the report on them whole, or leaves a part of it
+-- what was written after the lines makes the report on them whole, or leaves a part of it
 pub ended : {S F : Type 0} (reports : S → Option (List ℕ) → List ℕ → S → Type 0) (limits : LineLimits)
     (begin end : List ℕ) (last : S → List ℕ) (start : S) (answer result : Result (Unit {0}) (LineFault F))
     (old mid now new : Option (List ℕ)) (read : List ℕ) (at_end : Type 0) (q : S) (before after : ℕ)
@@ -346,7 +346,7 @@ may_go_on (Err TooManyLines) reads reads' writes writes' most stop below may =
 may_go_on (Err Endless) reads reads' writes writes' most stop below may =
     let same = stop.1 in omega (arith, same, below)
 
--- the failed reads of a run over lines, and those behind a further write that failed, where that has a piece
+-- the failed reads of a run over lines, and those after a further write that failed, where that has a piece
 reads_of : {F : Type 0} (end : List ℕ) (e : LineFault F) (reads reads' : ℕ) → reads' ≡ reads + reads_failed e
     → FailsReads end e reads reads' × (end ≢ [] → FailsReads {F = F} end Write reads reads')
 reads_of end (Report fault) reads reads' r = (omega (arith, r), λ some. inl (omega (arith, r)))
@@ -356,7 +356,7 @@ reads_of end Write reads reads' r = (inl (omega (arith, r)), λ some. inl (omega
 reads_of end TooManyLines reads reads' r = (omega (arith, r), λ some. inl (omega (arith, r)))
 reads_of end Endless reads reads' r = (omega (arith, r), λ some. inl (omega (arith, r)))
 
--- behind a fault
+-- after a fault
 fails_behind : {F : Type 0} (end : List ℕ) (e : LineFault F) (result : Result (Unit {0}) (LineFault F))
     (now new : Option (List ℕ)) (reads reads' writes writes' writes'' : ℕ) (is : Bool) → is_write e ≡ is
     → (reads' ≡ reads + reads_failed e) × (writes' ≡ writes + writes_failed e)
@@ -376,7 +376,7 @@ fails_behind end e result now new reads reads' writes writes' writes'' false is 
           omega (arith, failed, before, none)),
     )
 
--- behind each answer
+-- after each answer
 pub fails : {F : Type 0} (last end : List ℕ) (answer result : Result (Unit {0}) (LineFault F))
     (now new : Option (List ℕ)) (reads reads' writes writes' writes'' : ℕ)
     → Stops answer reads reads' writes writes' → Ends last end answer result now new writes' writes''

@@ -1,5 +1,5 @@
 -- A run whose report stands in a frame: what the frame begins with, what is said of the lines, what the reporter says
--- behind the last of them where no fault came, and what the frame ends with, behind each fault but one of a write.
+-- after the last of them where no fault came, and what the frame ends with, after each fault but one of a write.
 use Rattle.std.specs.Prelude.{◌≡◌, ◌≢◌, ℕ, ◌+◌, ◌⊎◌, Bool, true, false, List, [], ◌++◌, Option, Result, Ok, Err, length, take}
 use Rattle.std.specs.Io.KnownBytes.{Appends}
 use Rattle.uv_lines.specs.declared.fault.LineFault.{LineFault}
@@ -9,14 +9,14 @@ use Rattle.uv_lines.specs.Lines.{lines_of}
 use Rattle.uv_lines.specs.Reported.{Cut, Reported}
 use Rattle.uv_lines.specs.Run.{Leaves}
 
--- the text is a beginning, the report on the lines, and what stands behind it
+-- the text is a beginning, the report on the lines, and what stands after it
 pub record Framed {S : Type 0} (reports : S → Option (List ℕ) → List ℕ → S → Type 0) (line_bytes : ℕ) (begin : List ℕ)
     (behind : S → List ℕ) (start : S) (lines : List (List ℕ)) (text : List ℕ) (now : S) : Type 0 where
   pub said : List ℕ
   pub reported : Reported reports line_bytes start lines said now
   pub whole : text ≡ begin ++ (said ++ behind now)
 
--- what a fault leaves: a part of the report, or a front of the whole one on all lines, where a write failed behind them
+-- what a fault leaves: a part of the report, or a prefix of the whole one on all lines, where a write failed after them
 abbrev pub LeavesPart : {S F : Type 0} → (List (List ℕ) → List ℕ → S → Type 0)
     → (List (List ℕ) → List ℕ → S → Type 0) → LineLimits → LineFault F → Option (List ℕ) → List ℕ → Type 0 → S
     → Option (List ℕ) → Type 0
@@ -24,34 +24,34 @@ LeavesPart IsPart IsWhole limits fault old read at_end now new =
     Leaves IsPart limits fault old read at_end now new
     ⊎ ((fault ≡ Write) × Cut IsWhole (lines_of read) old new now)
 
--- How many reads have failed behind a fault, of so many before: one more for a read. A failed write comes behind a
+-- How many reads have failed after a fault, of so many before: one more for a read. A failed write comes after a
 -- failed read only where the frame has an end.
 abbrev pub FailsReads : {F : Type 0} → List ℕ → LineFault F → ℕ → ℕ → Type 0
 FailsReads end Read old new = new ≡ old + 1
 FailsReads end Write old new = (new ≡ old) ⊎ ((end ≢ []) × (new ≡ old + 1))
 FailsReads end _ old new = new ≡ old
 
--- ---- what comes behind the lines
+-- ---- what comes after the lines
 
 -- whether a fault is that of a write
 abbrev pub is_write : {F : Type 0} → LineFault F → Bool
 is_write Write = true
 is_write _ = false
 
--- a further write may come behind this answer
+-- a further write may come after this answer
 abbrev pub may_write : {F : Type 0} → Result (Unit {0}) (LineFault F) → Bool
 may_write (Ok u) = true
 may_write (Err Write) = false
 may_write (Err _) = true
 
--- a piece was written, and this answer is told
+-- a piece was written, and this answer is reported
 pub record Writes {F : Type 0} (piece : List ℕ) (answer result : Result (Unit {0}) (LineFault F))
     (old new : Option (List ℕ)) (before after : ℕ) : Type 0 where
   pub told : result ≡ answer
   pub wrote : Appends old new piece
   pub quiet : after ≡ before
 
--- a front of it was, and the failed write is told
+-- a prefix of it was, and the failed write is reported
 pub record Cuts {F : Type 0} (piece : List ℕ) (result : Result (Unit {0}) (LineFault F))
     (old new : Option (List ℕ)) (before after : ℕ) : Type 0 where
   pub told : result ≡ Err Write
@@ -72,7 +72,7 @@ abbrev pub FollowsFault : {F : Type 0} → Bool → List ℕ → LineFault F →
 FollowsFault true end fault result old new before after = (result ≡ Err fault) × (new ≡ old) × (after ≡ before)
 FollowsFault false end fault result old new before after = Follows end (Err fault) result old new before after
 
--- What comes behind the lines: where no fault came what the reporter says behind the last of them, unless it can't say
+-- What comes after the lines: where no fault came what the reporter says after the last of them, unless it can't say
 -- that, and then the end.
 abbrev pub Ends : {F : Type 0} → List ℕ → List ℕ → Result (Unit {0}) (LineFault F) → Result (Unit {0}) (LineFault F)
     → Option (List ℕ) → Option (List ℕ) → ℕ → ℕ → Type 0

@@ -16,7 +16,7 @@ use uv_model::{DeviceFault, Sink, Source, write_whole};
 pub struct Frame<'a> {
     /// What is written before the first line is read.
     pub begin: &'a [u8],
-    /// What is written behind all else, also behind each fault but one of a write.
+    /// What is written after all else, also after each fault but one of a write.
     pub end: &'a [u8],
 }
 
@@ -37,8 +37,8 @@ impl Frame<'static> {
 /// reported left it.
 ///
 /// A line ends with LF, and one CR before that is no part of it; a last part without LF is a line where it isn't empty.
-/// What is said of the lines that a read has ended is written before the next read. What the reporter says behind the
-/// last line is written where no fault came, and the frame's end behind each fault but one of a write. The writer isn't
+/// What is said of the lines that a read has ended is written before the next read. What the reporter says after the
+/// last line is written where no fault came, and the frame's end after each fault but one of a write. The writer isn't
 /// flushed. After a fault nothing is tried again, and how far the reader was read is open.
 #[tactic(none)]
 pub fn run_lines<R: Source, W: Sink, T: Reporter>(
@@ -78,7 +78,7 @@ pub fn run_lines<R: Source, W: Sink, T: Reporter>(
     (reporter, answer)
 }
 
-// Writes what comes behind the lines.
+// Writes what comes after the lines.
 fn write_end<W: Sink, T: Reporter>(
     alloc: Global,
     writer: &mut W,
@@ -100,7 +100,7 @@ fn write_end<W: Sink, T: Reporter>(
     }
 }
 
-// Writes what is said behind the last line, and then the end.
+// Writes what is said after the last line, and then the end.
 fn write_last<W: Sink, F: Drop>(writer: &mut W, last: &[u8], end: &[u8]) -> Result<(), LineFault<F>>
     requires { W.failed writer.old < 2 ^ 64 - 1 }
     ensures { (u : Unit {0}) → Follows (last.now ++ end.now) (Ok u) result (W.contents writer.old)
@@ -112,7 +112,7 @@ fn write_last<W: Sink, F: Drop>(writer: &mut W, last: &[u8], end: &[u8]) -> Resu
     }
 }
 
-// Writes a piece behind an answer.
+// Writes a piece after an answer.
 fn follow<W: Sink, F: Drop>(
     writer: &mut W,
     piece: &[u8],

@@ -34,10 +34,10 @@ pub trait Reporter: Drop {
     fn line_count(&self) -> u64
         ensures { result ≡ lines self.now };
 
-    // What it says behind the last line, where no fault came.
+    // What it says after the last line, where no fault came.
     ghost last: { Self → List ℕ };
 
-    /// What is said behind the last line, where no fault came.
+    /// What is said after the last line, where no fault came.
     fn last(&self, alloc: Global) -> Result<String, Self::Fault>
         ensures { IfOk result (λ text. string_bytes text ≡ last self.now) };
 }

@@ -1,4 +1,4 @@
--- The frame's beginning first, then the lines, and what comes behind them.
+-- The frame's beginning first, then the lines, and what comes after them.
 use Rattle.std.proofs.Common.{◌≡◌, ◌++◌, [], subst, sym, inl, add-zero, refl}
 use Rattle.std.proofs.KnownBytes.{Consumes-nil}
 use Rattle.std.specs.Io.KnownBytes.{Consumes, IsAtEnd}
@@ -50,7 +50,7 @@ returns-in-Err-clause-fault g c =
 pub returns-in-Err-clause-failed : goal.returns-in-Err-clause-failed
 returns-in-Err-clause-failed g c = (inl refl, c.in-Err.ensures.failed)
 
--- behind the lines
+-- after the lines
 pub returns-clause-report : goal.returns-clause-report
 returns-clause-report g c =
     let limits = c.args.limits in

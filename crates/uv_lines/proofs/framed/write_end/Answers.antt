@@ -1,4 +1,4 @@
--- What the reporter says behind the last line is the text that is written.
+-- What the reporter says after the last line is the text that is written.
 use Rattle.std.proofs.Common.{◌++◌, ◌∙◌, Ok, inl, subst}
 use Rattle.uv_lines.specs.Framed.{Follows}
 use Rattle.uv_lines.proofs.framed.write_end.Goals as goal
