@@ -8,11 +8,12 @@ use Rattle.std.specs.Io.KnownBytes.{Appends}
 use Rattle.uv_lines.specs.declared.fault.LineFault.{LineFault}
 use Rattle.uv_lines.specs.declared.fault.LineFault.TheVariants.{Report, Memory, Read, Write, TooManyLines, Endless}
 use Rattle.uv_lines.specs.declared.limits.LineLimits.{LineLimits}
+use Rattle.uv_lines.specs.Fault.{is_write, may_write}
 use Rattle.uv_lines.specs.Lines.{closed_lines, lines_of}
 use Rattle.uv_lines.specs.Reported.{Cut, Reported, Wrote}
 use Rattle.uv_lines.specs.Run.{Leaves, WroteAll, WroteFirst, WroteFront, reads_failed, writes_failed}
-use Rattle.uv_lines.specs.Framed.{Cuts, Ends, FailsReads, Follows, FollowsFault, Framed, LeavesPart, Writes, is_write, may_write}
-use Rattle.uv_lines.proofs.PassLemmas.{closed_few}
+use Rattle.uv_lines.specs.Framed.{Ends, FailsReads, Follows, FollowsFault, Framed, LeavesPart}
+use Rattle.uv_lines.proofs.PassLemmas.{closed_few, quiet_writes}
 
 -- ---- what a fault leaves of another report
 
@@ -320,15 +321,6 @@ Stops (Err e) reads reads' writes writes' =
 abbrev pub Fails : {F : Type 0} → List ℕ → Result (Unit {0}) (LineFault F) → ℕ → ℕ → ℕ → ℕ → Type 0
 Fails end (Ok u) reads reads' writes writes' = (reads' ≡ reads) × (writes' ≡ writes)
 Fails end (Err e) reads reads' writes writes' = FailsReads end e reads reads' × (writes' ≡ writes + writes_failed e)
-
--- a fault that is no write's fails none
-quiet_writes : {F : Type 0} (e : LineFault F) → is_write e ≡ false → writes_failed e ≡ 0
-quiet_writes (Report fault) is = refl
-quiet_writes Memory is = refl
-quiet_writes Read is = refl
-quiet_writes Write is = cc
-quiet_writes TooManyLines is = refl
-quiet_writes Endless is = refl
 
 -- a further write may come where none has failed
 pub may_go_on : {F : Type 0} (answer : Result (Unit {0}) (LineFault F)) (reads reads' writes writes' most : ℕ)

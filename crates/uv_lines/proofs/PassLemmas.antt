@@ -1,5 +1,5 @@
 -- What is written between two pieces and at the end of the list.
-use Rattle.std.proofs.Common.{◌≡◌, ℕ, ◌+◌, ◌<◌, ◌≤◌, List, [], ◌++◌, Option, length, take, refl, sym, ap, ◌∙◌, subst, arith, append-nil, inl, inr}
+use Rattle.std.proofs.Common.{◌≡◌, ℕ, ◌+◌, ◌<◌, ◌≤◌, Bool, true, false, not, Result, Ok, Err, List, [], ◌++◌, Option, length, take, refl, sym, ap, ◌∙◌, subst, arith, append-nil, inl, inr}
 use Rattle.std.proofs.lemmas.List.{length-append}
 use Rattle.std.proofs.Math.Seq.{take-append-add, take-length}
 use Rattle.std.proofs.KnownBytes.{Appends-trans, Appends-nil, Consumes-trans}
@@ -7,40 +7,52 @@ use Rattle.std.specs.Io.KnownBytes.{Appends, Consumes, IsAtEnd}
 use Rattle.uv_lines.specs.declared.fault.LineFault.{LineFault}
 use Rattle.uv_lines.specs.declared.fault.LineFault.TheVariants.{Report, Memory, Read, Write, TooManyLines, Endless}
 use Rattle.uv_lines.specs.declared.limits.LineLimits.{LineLimits}
+use Rattle.uv_lines.specs.Fault.{is_write, may_write}
 use Rattle.uv_lines.specs.Lines.{split, closed_lines, open_lines, lines_of}
 use Rattle.uv_lines.specs.Progress.{Stands, IsReportOfFirst, TakeFault}
 use Rattle.uv_lines.specs.Reported.{Reported, Wrote}
-use Rattle.uv_lines.specs.Run.{At, WroteFirst, WroteFront, WroteLines, Leaves, PassFault, FinishFault, reads_failed, writes_failed}
-use Rattle.uv_lines.proofs.StandsLemmas.{Stands-start, front_report}
+use Rattle.uv_lines.specs.Run.{At, WaitFault, Waits, WroteFirst, WroteFront, WroteLines, Leaves, PassFault, FinishFault, reads_failed, writes_failed}
+use Rattle.uv_lines.proofs.StandsLemmas.{Stands-start, front_count, front_report}
 
 -- before the first piece
 pub At-start : {S : Type 0} (reports : S → Option (List ℕ) → List ℕ → S → Type 0) (lines : S → ℕ) (n : ℕ) (p : S)
     (old : Option (List ℕ)) (begun text : List ℕ) → lines p ≡ 0 → begun ≡ [] → text ≡ []
     → At reports lines n p old [] p begun text old
 At-start reports lines n p old begun text count none empty = record {
-  written = [];
-  wrote = Appends-nil old;
-  stands = Stands-start reports lines n p begun text count none empty;
+  waits = record {
+    written = [];
+    wrote = Appends-nil old;
+    stands = Stands-start reports lines n p begun text count none empty;
+  };
   none = empty;
 }
 
 -- what waited was written
-pub At-passed : {S : Type 0} (reports : S → Option (List ℕ) → List ℕ → S → Type 0) (lines : S → ℕ) (n : ℕ) (start : S)
-    (old now new : Option (List ℕ)) (written read : List ℕ) (q r : S) (begun text left none : List ℕ)
-    → Appends old now written → Stands reports lines n start written read q begun text → Appends now new text
-    → r ≡ q → left ≡ begun → none ≡ [] → At reports lines n start old read r left none new
-At-passed reports lines n start old now new written read q r begun text left none before stands wrote same kept
-    empty = record {
-      written = written ++ text;
-      wrote = Appends-trans old now new written text before wrote;
+pub Waits-written : {S : Type 0} (reports : S → Option (List ℕ) → List ℕ → S → Type 0) (lines : S → ℕ) (n : ℕ)
+    (start : S) (old now new : Option (List ℕ)) (read : List ℕ) (q r : S) (begun text left none : List ℕ)
+    → Waits reports lines n start old read q begun text now → Appends now new text
+    → r ≡ q → left ≡ begun → none ≡ [] → Waits reports lines n start old read r left none new
+Waits-written reports lines n start old now new read q r begun text left none waits wrote same kept empty =
+    let all = waits.written ++ text in
+    record {
+      written = all;
+      wrote = Appends-trans old now new waits.written text waits.wrote wrote;
       stands = record {
         reported = rw same (subst (λ t. Reported reports n start (closed_lines read) t q)
-            (sym (ap (λ t. (written ++ text) ++ t) empty ∙ append-nil (written ++ text))) stands.reported);
-        kept = kept ∙ stands.kept;
-        count = ap lines same ∙ stands.count;
+            (sym (ap (λ t. all ++ t) empty ∙ append-nil all)) waits.stands.reported);
+        kept = kept ∙ waits.stands.kept;
+        count = ap lines same ∙ waits.stands.count;
       };
-      none = empty;
     }
+
+-- behind a fault that isn't a write's the report on some lines waits
+pub waits-left : {S F : Type 0} (reports : S → Option (List ℕ) → List ℕ → S → Type 0) (limits : LineLimits)
+    (start : S) (e : LineFault F) (old : Option (List ℕ)) (read : List ℕ) (q : S) (text : List ℕ)
+    (new : Option (List ℕ)) (written : List ℕ) → is_write e ≡ false → Appends old new written
+    → TakeFault reports limits start e read q (written ++ text)
+    → WaitFault (is_write e) reports limits start e old read q text new
+waits-left reports limits start e old read q text new written is wrote left =
+    subst (λ b. WaitFault b reports limits start e old read q text new) (sym is) (written, wrote, left)
 
 -- no more lines are closed than there are
 pub closed_few : (read : List ℕ) → length (closed_lines read) ≤ length (lines_of read)
@@ -92,6 +104,64 @@ pub waits_ended : {S : Type 0} (reports : S → Option (List ℕ) → List ℕ �
 waits_ended reports n start read q text all =
     (length (lines_of read), omega arith, rw (take-length (lines_of read)) all)
 
+-- ---- what a piece has come to
+
+-- by the answer of what has taken it
+abbrev pub Taken : {S F : Type 0} → (S → Option (List ℕ) → List ℕ → S → Type 0) → (S → ℕ) → LineLimits → S
+    → Result (Unit {0}) (LineFault F) → Option (List ℕ) → List ℕ → S → List ℕ → List ℕ → Option (List ℕ) → Type 0
+Taken reports lines limits start (Ok u) old read q begun text now =
+    Waits reports lines limits.line_bytes start old read q begun text now
+Taken reports lines limits start (Err e) old read q begun text now =
+    WaitFault (is_write e) reports limits start e old read q text now
+
+-- what isn't false is true
+not_false : (b : Bool) → not b ≡ false → b ≡ true
+not_false true is = refl
+not_false false is = cc
+
+not_true : (b : Bool) → not b ≡ true → b ≡ false
+not_true true is = cc
+not_true false is = refl
+
+-- a fault behind which a write may come is none of a write
+pub no_write : {F : Type 0} (e : LineFault F) → may_write (Err e) ≡ true → is_write e ≡ false
+no_write e may = not_true (is_write e) may
+
+-- such a fault fails none
+pub quiet_writes : {F : Type 0} (e : LineFault F) → is_write e ≡ false → writes_failed e ≡ 0
+quiet_writes (Report fault) is = refl
+quiet_writes Memory is = refl
+quiet_writes Read is = refl
+quiet_writes Write is = cc
+quiet_writes TooManyLines is = refl
+quiet_writes Endless is = refl
+
+-- a write failed
+pub taken_cut : {S F : Type 0} (reports : S → Option (List ℕ) → List ℕ → S → Type 0) (lines : S → ℕ)
+    (limits : LineLimits) (start : S) (answer : Result (Unit {0}) (LineFault F)) (old : Option (List ℕ))
+    (read : List ℕ) (q : S) (begun text : List ℕ) (now : Option (List ℕ)) → may_write answer ≡ false
+    → Taken reports lines limits start answer old read q begun text now
+    → WroteFront (Reported reports limits.line_bytes start) old read q now
+taken_cut reports lines limits start (Ok u) old read q begun text now none taken = cc
+taken_cut reports lines limits start (Err e) old read q begun text now none taken =
+    subst (λ b. WaitFault b reports limits start e old read q text now) (not_false (is_write e) none) taken
+
+-- none did
+pub taken_waits : {S F : Type 0} (reports : S → Option (List ℕ) → List ℕ → S → Type 0) (lines : S → ℕ)
+    (limits : LineLimits) (start : S) (answer : Result (Unit {0}) (LineFault F)) (old : Option (List ℕ))
+    (read : List ℕ) (q : S) (begun text : List ℕ) (now : Option (List ℕ)) → may_write answer ≡ true
+    → Taken reports lines limits start answer old read q begun text now
+    → (written : List ℕ) × Appends old now written
+    × IsReportOfSome reports limits.line_bytes start read q (written ++ text)
+taken_waits reports lines limits start (Ok u) old read q begun text now may taken = (
+  taken.written,
+  taken.wrote,
+  waits_standing reports lines limits.line_bytes start taken.written read q begun text taken.stands,
+)
+taken_waits reports lines limits start (Err e) old read q begun text now may taken =
+    let left = subst (λ b. WaitFault b reports limits start e old read q text now) (no_write e may) taken in
+    (left.0, left.1, waits_faulty reports limits start e read q (left.0 ++ text) left.2)
+
 -- ---- what a fault leaves
 
 -- a write failed
@@ -109,6 +179,25 @@ write-left reports limits start old now new written read text q r n before repor
     wrote = rw (take-append-add written text n) (Appends-trans old now new written (take n text) before part);
   },
 )
+
+-- the same in the midst of a piece
+pub write-cut : {S : Type 0} (reports : S → Option (List ℕ) → List ℕ → S → Type 0) (lines : S → ℕ) (n : ℕ) (start : S)
+    (old now new : Option (List ℕ)) (read rest : List ℕ) (p q : S) (begun text : List ℕ) (k : ℕ)
+    → Waits reports lines n start old read p begun text now → q ≡ p → Appends now new (take k text)
+    → WroteFront (Reported reports n start) old (read ++ rest) q new
+write-cut reports lines n start old now new read rest p q begun text k waits same part =
+    let few = closed_few (read ++ rest) in
+    let more = front_count read rest in (
+      length (closed_lines read),
+      omega (arith, few, more),
+      record {
+        text = waits.written ++ text;
+        reported = rw same (front_report reports lines n start waits.written read rest p begun text waits.stands);
+        front = length waits.written + k;
+        wrote = rw (take-append-add waits.written text k)
+            (Appends-trans old now new waits.written (take k text) waits.wrote part);
+      },
+    )
 
 -- the report on whole lines was written
 pub wrote_lines : {S : Type 0} (reports : S → Option (List ℕ) → List ℕ → S → Type 0) (n : ℕ) (start : S)
@@ -147,18 +236,7 @@ pass-left reports limits start Read old now new written read text q r before lef
 pass-left reports limits start Write old now new written read text q r before left same wrote = absurd left
 pass-left reports limits start Endless old now new written read text q r before left same wrote = absurd left
 
--- such a fault is no failed write
-pub taking_writes : {S F : Type 0} (reports : S → Option (List ℕ) → List ℕ → S → Type 0) (limits : LineLimits)
-    (start : S) (fault : LineFault F) (read : List ℕ) (q : S) (text : List ℕ)
-    → TakeFault reports limits start fault read q text → writes_failed fault ≡ 0
-taking_writes reports limits start (Report fault) read q text left = refl
-taking_writes reports limits start Memory read q text left = refl
-taking_writes reports limits start TooManyLines read q text left = refl
-taking_writes reports limits start Read read q text left = refl
-taking_writes reports limits start Write read q text left = absurd left
-taking_writes reports limits start Endless read q text left = refl
-
--- and no failed read
+-- such a fault is no failed read
 pub passing_reads : {S F : Type 0} (reports : S → Option (List ℕ) → List ℕ → S → Type 0) (limits : LineLimits)
     (start : S) (fault : LineFault F) (old : Option (List ℕ)) (read : List ℕ) (q : S) (new : Option (List ℕ))
     → PassFault reports limits start fault old read q new → reads_failed fault ≡ 0
@@ -225,11 +303,11 @@ pub at_first : {S : Type 0} (reports : S → Option (List ℕ) → List ℕ → 
     → At reports lines limits.line_bytes start old read p begun text new
     → WroteFirst (Reported reports limits.line_bytes start) old read (length (closed_lines read)) p new
 at_first reports lines limits start old new read p begun text at = record {
-  text = at.written;
+  text = at.waits.written;
   reported = subst (λ t. IsReportOfFirst reports limits.line_bytes start read (length (closed_lines read)) p t)
-      (ap (λ t. at.written ++ t) at.none ∙ append-nil at.written)
-      (stands_first reports lines limits.line_bytes start at.written read p begun text at.stands);
-  wrote = at.wrote;
+      (ap (λ t. at.waits.written ++ t) at.none ∙ append-nil at.waits.written)
+      (stands_first reports lines limits.line_bytes start at.waits.written read p begun text at.waits.stands);
+  wrote = at.waits.wrote;
 }
 
 -- a read that gives nothing has come to the end

@@ -114,7 +114,7 @@ pub front_report : {S : Type 0} (reports : S → Option (List ℕ) → List ℕ 
 front_report reports lines n start written read rest p begun text h = rw (first_lines read rest) h.reported
 
 -- as many lines are closed as a front of the list closes, or more
-front_count : (xs ys : List ℕ) → length (closed_lines xs) ≤ length (closed_lines (xs ++ ys))
+pub front_count : (xs ys : List ℕ) → length (closed_lines xs) ≤ length (closed_lines (xs ++ ys))
 front_count xs ys = let m = closed_front xs ys in rw (m.1, length-append (closed_lines xs) m.0) (omega arith)
 
 -- no line more was reported on

@@ -1,10 +1,11 @@
 -- A run whose report stands in a frame: what the frame begins with, what is said of the lines, what the reporter says
 -- after the last of them where no fault came, and what the frame ends with, after each fault but one of a write.
-use Rattle.std.specs.Prelude.{◌≡◌, ◌≢◌, ℕ, ◌+◌, ◌⊎◌, Bool, true, false, List, [], ◌++◌, Option, Result, Ok, Err, length, take}
+use Rattle.std.specs.Prelude.{◌≡◌, ◌≢◌, ℕ, ◌+◌, ◌⊎◌, Bool, true, false, List, [], ◌++◌, Option, Result, Ok, Err, take}
 use Rattle.std.specs.Io.KnownBytes.{Appends}
 use Rattle.uv_lines.specs.declared.fault.LineFault.{LineFault}
 use Rattle.uv_lines.specs.declared.fault.LineFault.TheVariants.{Report, Read, Write}
 use Rattle.uv_lines.specs.declared.limits.LineLimits.{LineLimits}
+use Rattle.uv_lines.specs.Fault.{is_write}
 use Rattle.uv_lines.specs.Lines.{lines_of}
 use Rattle.uv_lines.specs.Reported.{Cut, Reported}
 use Rattle.uv_lines.specs.Run.{Leaves}
@@ -32,17 +33,6 @@ FailsReads end Write old new = (new ≡ old) ⊎ ((end ≢ []) × (new ≡ old +
 FailsReads end _ old new = new ≡ old
 
 -- ---- what comes after the lines
-
--- whether a fault is that of a write
-abbrev pub is_write : {F : Type 0} → LineFault F → Bool
-is_write Write = true
-is_write _ = false
-
--- a further write may come after this answer
-abbrev pub may_write : {F : Type 0} → Result (Unit {0}) (LineFault F) → Bool
-may_write (Ok u) = true
-may_write (Err Write) = false
-may_write (Err _) = true
 
 -- a piece was written, and this answer is reported
 pub record Writes {F : Type 0} (piece : List ℕ) (answer result : Result (Unit {0}) (LineFault F))

@@ -1,11 +1,11 @@
 -- What a run has written, and what its faults leave.
-use Rattle.std.specs.Prelude.{◌≡◌, ℕ, ◌-◌, ◌^◌, ◌≤◌, ◌<◌, ◌⊎◌, List, [], Option, length, take}
+use Rattle.std.specs.Prelude.{◌≡◌, ℕ, ◌-◌, ◌^◌, ◌≤◌, ◌<◌, ◌⊎◌, Bool, true, false, List, [], ◌++◌, Option, length, take}
 use Rattle.std.specs.Io.KnownBytes.{Appends}
 use Rattle.uv_lines.specs.declared.fault.LineFault.{LineFault}
 use Rattle.uv_lines.specs.declared.fault.LineFault.TheVariants.{Report, Memory, Read, Write, TooManyLines, Endless}
 use Rattle.uv_lines.specs.declared.limits.LineLimits.{LineLimits}
 use Rattle.uv_lines.specs.Lines.{closed_lines, lines_of}
-use Rattle.uv_lines.specs.Progress.{Stands}
+use Rattle.uv_lines.specs.Progress.{Stands, TakeFault}
 use Rattle.uv_lines.specs.Reported.{Cut, Reported, Wrote}
 
 -- the report on the bytes was written, on no more lines than may come
@@ -56,14 +56,29 @@ abbrev pub writes_failed : {F : Type 0} → LineFault F → ℕ
 writes_failed Write = 1
 writes_failed _ = 0
 
--- between two pieces nothing waits to be written
-pub record At {S : Type 0} (reports : S → Option (List ℕ) → List ℕ → S → Type 0) (lines : S → ℕ) (line_bytes : ℕ)
+-- what was written, and what waits to be
+pub record Waits {S : Type 0} (reports : S → Option (List ℕ) → List ℕ → S → Type 0) (lines : S → ℕ) (line_bytes : ℕ)
     (start : S) (old : Option (List ℕ)) (read : List ℕ) (now : S) (begun text : List ℕ) (new : Option (List ℕ))
     : Type 0 where
   pub written : List ℕ
   pub wrote : Appends old new written
   pub stands : Stands reports lines line_bytes start written read now begun text
+
+-- between two pieces nothing waits to be written
+pub record At {S : Type 0} (reports : S → Option (List ℕ) → List ℕ → S → Type 0) (lines : S → ℕ) (line_bytes : ℕ)
+    (start : S) (old : Option (List ℕ)) (read : List ℕ) (now : S) (begun text : List ℕ) (new : Option (List ℕ))
+    : Type 0 where
+  pub waits : Waits reports lines line_bytes start old read now begun text new
   pub none : text ≡ []
+
+-- What a fault leaves while lines are taken: behind a failed write a front of the report on some of the first lines was
+-- written, behind each other one the report on some of them was written or waits to be.
+abbrev pub WaitFault : {S F : Type 0} → Bool → (S → Option (List ℕ) → List ℕ → S → Type 0) → LineLimits → S
+    → LineFault F → Option (List ℕ) → List ℕ → S → List ℕ → Option (List ℕ) → Type 0
+WaitFault true reports limits start fault old read now text new =
+    WroteFront (Reported reports limits.line_bytes start) old read now new
+WaitFault false reports limits start fault old read now text new =
+    (written : List ℕ) × Appends old new written × TakeFault reports limits start fault read now (written ++ text)
 
 -- what a fault leaves while a piece is passed on
 abbrev pub PassFault : {S F : Type 0} → (S → Option (List ℕ) → List ℕ → S → Type 0) → LineLimits → S → LineFault F

@@ -1,4 +1,6 @@
 //! Why a run over the lines of a list stopped.
+ghost use Rattle.std.specs.Prelude.{◌≡◌};
+ghost use Rattle.uv_lines.specs.Fault as spec;
 
 /// Why a run over the lines of a list stopped, and what it had written by then. How far the reader was read is open.
 #[derive(Clone, Copy, Debug, PartialEq, Eq)]
@@ -16,4 +18,11 @@ pub enum LineFault<F> {
     TooManyLines,
     /// 2^64 - 1 reads gave bytes, and none the end. The report on whole lines was written.
     Endless,
+}
+
+/// Whether a further write may come behind this answer: none does behind a failed one.
+pub(crate) fn may_write<F>(answer: &Result<(), LineFault<F>>) -> bool
+    ensures { result ≡ spec.may_write answer.now }
+{
+    !matches!(answer, Err(LineFault::Write))
 }

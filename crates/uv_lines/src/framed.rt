@@ -1,7 +1,8 @@
 //! A run over the lines of a list, with what stands around the report.
 ghost use Rattle.std.specs.Prelude.{◌≡◌, ◌≢◌, ℕ, ◌+◌, ◌-◌, ◌^◌, ◌<◌, ◌≤◌, ◌++◌, List, [], true, IfErr, IfOk, Ok, OnErr, OnOk, take};
 ghost use Rattle.std.specs.Io.KnownBytes.{Appends, Consumes, IsAtEnd};
-ghost use Rattle.uv_lines.specs.Framed.{Ends, FailsReads, Follows, Framed, LeavesPart, is_write, may_write};
+ghost use Rattle.uv_lines.specs.Fault.{may_write};
+ghost use Rattle.uv_lines.specs.Framed.{Ends, FailsReads, Follows, Framed, LeavesPart};
 ghost use Rattle.uv_lines.specs.Run.{WroteAll, writes_failed};
 
 use crate::fault::LineFault;

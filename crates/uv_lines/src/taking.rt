@@ -1,42 +1,52 @@
 //! The lines of a piece, each reported on where it ends.
-ghost use Rattle.std.specs.Prelude.{◌≡◌, ℕ, ◌+◌, ◌-◌, ◌^◌, ◌<◌, List, [], ◌∷◌, ◌++◌, IfErr, IfSome, None, OnOk, OnErr, drop, length, take, vec_len};
+ghost use Rattle.std.specs.Prelude.{◌≡◌, ℕ, ◌+◌, ◌-◌, ◌^◌, ◌<◌, List, [], ◌∷◌, ◌++◌, IfErr, IfSome, None, OnOk, OnErr, Option, drop, false, length, take, true, vec_len};
 ghost use Rattle.std.specs.Str.Lines.{strip_carriage_return};
 ghost use Rattle.uv_lines.specs.Lines.{line_feed, short_line, split};
+ghost use Rattle.uv_lines.specs.Fault.{is_write, may_write};
 ghost use Rattle.uv_lines.specs.Progress.{Adds, Stands, TakeFault, ended};
+ghost use Rattle.uv_lines.specs.Run.{WaitFault, Waits};
 
 use crate::fault::LineFault;
 use crate::progress::Progress;
 use crate::reporter::Reporter;
 use memchr::memchr;
 use std::alloc::{AllocError, Global};
+use uv_model::{DeviceFault, Sink};
 
 impl<R: Reporter> Progress<R> {
-    /// Takes a piece of the list: reports on each line that ends in it, and keeps what of the next one decides what is
-    /// said of it.
+    /// Takes a piece of the list: reports on each line that ends in it, writes what was said where that is much, and
+    /// keeps what of the next line decides what is said of it.
     ///
-    /// After a fault the text that waits holds the report on whole lines: on as many as may come, where a further line
-    /// began.
-    pub(crate) fn take_piece(
+    /// After a fault but one of a write the text that waits holds the report on whole lines: on as many as may come,
+    /// where a further line began.
+    pub(crate) fn take_piece<W: Sink>(
         &mut self,
         alloc: Global,
+        writer: &mut W,
         piece: &[u8],
     ) -> Result<(), LineFault<R::Fault>>
+        requires { W.failed writer.old < 2 ^ 64 - 1 }
         ensures setting { self.new.limits ≡ self.old.limits }
-        ensures stands { OnOk result ((start : R) (written read : List ℕ)
-            → Stands R.reports R.lines self.old.limits.line_bytes start written read self.old.reporter
-            self.old.begun.items self.old.text.items
-            → Stands R.reports R.lines self.old.limits.line_bytes start written (read ++ piece.now) self.new.reporter
-            self.new.begun.items self.new.text.items) }
-        ensures fault { IfErr result (λ e. (start : R) (written read : List ℕ)
-            → Stands R.reports R.lines self.old.limits.line_bytes start written read self.old.reporter
-            self.old.begun.items self.old.text.items
-            → TakeFault R.reports self.old.limits start e (read ++ piece.now) self.new.reporter
-            (written ++ self.new.text.items)) }
+        ensures waits { OnOk result ((start : R) (old : Option (List ℕ)) (read : List ℕ)
+            → Waits R.reports R.lines self.old.limits.line_bytes start old read self.old.reporter
+            self.old.begun.items self.old.text.items (W.contents writer.old)
+            → Waits R.reports R.lines self.old.limits.line_bytes start old (read ++ piece.now) self.new.reporter
+            self.new.begun.items self.new.text.items (W.contents writer.new)) }
+        ensures fault { IfErr result (λ e. (start : R) (old : Option (List ℕ)) (read : List ℕ)
+            → Waits R.reports R.lines self.old.limits.line_bytes start old read self.old.reporter
+            self.old.begun.items self.old.text.items (W.contents writer.old)
+            → WaitFault (is_write e) R.reports self.old.limits start e old (read ++ piece.now) self.new.reporter
+            self.new.text.items (W.contents writer.new)) }
+        ensures quiet { may_write result ≡ true → W.failed writer.new ≡ W.failed writer.old }
+        ensures failed { may_write result ≡ false → W.failed writer.new ≡ W.failed writer.old + 1 }
     {
         let mut start = 0;
         while let Some(length) = line_end(&piece[start..]) {
             if let Err(fault) = self.close_line(alloc, &piece[start..start + length]) {
                 return Err(fault);
+            }
+            if let Err(DeviceFault) = self.write_much(writer) {
+                return Err(LineFault::Write);
             }
             start += length + 1;
         }
@@ -49,6 +59,7 @@ impl<R: Reporter> Progress<R> {
     // Reports on the line that an LF ends behind this front of a piece.
     fn close_line(&mut self, alloc: Global, front: &[u8]) -> Result<(), LineFault<R::Fault>>
         requires { split front.now ≡ ([], front.now) }
+        ensures kind { IfErr result (λ e. is_write e ≡ false) }
         ensures setting { self.new.limits ≡ self.old.limits }
         ensures stands { OnOk result ((start : R) (written read : List ℕ)
             → Stands R.reports R.lines self.old.limits.line_bytes start written read self.old.reporter
@@ -80,6 +91,7 @@ impl<R: Reporter> Progress<R> {
     fn close_begun_line(&mut self, alloc: Global, front: &[u8]) -> Result<(), LineFault<R::Fault>>
         requires begun { 0 < vec_len self.old.begun }
         requires line { split front.now ≡ ([], front.now) }
+        ensures kind { IfErr result (λ e. is_write e ≡ false) }
         ensures setting { self.new.limits ≡ self.old.limits }
         ensures stands { OnOk result ((start : R) (written read : List ℕ)
             → Stands R.reports R.lines self.old.limits.line_bytes start written read self.old.reporter
@@ -104,6 +116,7 @@ impl<R: Reporter> Progress<R> {
     // Keeps the end of a piece, in which a line goes on or begins.
     fn begin_line(&mut self, rest: &[u8]) -> Result<(), LineFault<R::Fault>>
         requires { split rest.now ≡ ([], rest.now) }
+        ensures kind { IfErr result (λ e. is_write e ≡ false) }
         ensures setting { self.new.limits ≡ self.old.limits }
         ensures stands { OnOk result ((start : R) (written read : List ℕ)
             → Stands R.reports R.lines self.old.limits.line_bytes start written read self.old.reporter

@@ -1,5 +1,5 @@
 -- The frame's beginning first, then the lines, and what comes after them.
-use Rattle.std.proofs.Common.{◌≡◌, ◌++◌, [], subst, sym, inl, add-zero, refl}
+use Rattle.std.proofs.Common.{◌++◌, [], subst, inl, refl}
 use Rattle.std.proofs.KnownBytes.{Consumes-nil}
 use Rattle.std.specs.Io.KnownBytes.{Consumes, IsAtEnd}
 use Rattle.uv_lines.specs.Reported.{Reported}

@@ -86,7 +86,8 @@ returns-clause-report g c =
       all.2,
       record {
         wrote = Wrote-map P Q _ old new q q.counts (λ lines text.
-            is_report setting n is_first begin end start q lines text c.new-reporter.ensures (c.as_bytes.ensures.value ∙ c.in-Ok.ensures)
+            is_report setting n is_first begin end start q lines text c.new-reporter.ensures
+            (c.as_bytes.ensures.value ∙ c.in-Ok.ensures)
             (c.as_bytes-2.ensures.value ∙ c.in-Ok-file_end.ensures)) all.3.wrote;
         few = all.3.few;
       },
