@@ -4,7 +4,7 @@
 # installed is left out, and a line says so.
 set -uo pipefail
 [ $# = 1 ] && [ -x "$1" ] || { echo 'usage: runs/uses.sh PROGRAM'; exit 2; }
-for tool in awk git make python3; do
+for tool in awk find python3; do
     command -v "$tool" >/dev/null || { echo "uses: $tool is missing; CONTRIBUTING.md says what the gate needs"; exit 70; }
 done
 top=$(dirname "$(dirname "$(realpath "$0")")")
@@ -81,40 +81,45 @@ hard_names() {
 in_folder find
 recipe 'As compilers write it' sh >../find.sh
 hard_names 'find' bash ../find.sh
-in_folder make
-recipe 'A Makefile' make >Makefile
-hard_names 'make' make -s check-links
+if has make; then
+    in_folder make
+    recipe 'A Makefile' make >Makefile
+    hard_names 'make' make -s check-links
+fi
 
 # The hook: what is staged is judged, whatever the working tree has, and a list that is renamed too.
-in_folder hook
-git init -q . && git commit -q --allow-empty -m first
-recipe 'A hook before a commit' sh >.git/hooks/pre-commit
-chmod +x .git/hooks/pre-commit
-ends 0 'a commit without a list' git commit -q --allow-empty -m none
-for name in right.links 'two words.links' -x.links; do echo $right >"./$name"; done
-git add .
-ends 0 'a commit of right lists' git commit -q -m right
-for name in wrong.links 'two words.links' -x.links; do
-    echo "$wrong" >"./$name"
-    git add -- "./$name"
-    echo $right >"./$name"
-    ends any "a commit of $name" git commit -q -m wrong
+try_hook() {
+    in_folder hook
+    git init -q . && git commit -q --allow-empty -m first
+    recipe 'A hook before a commit' sh >.git/hooks/pre-commit
+    chmod +x .git/hooks/pre-commit
+    ends 0 'a commit without a list' git commit -q --allow-empty -m none
+    for name in right.links 'two words.links' -x.links; do echo $right >"./$name"; done
+    git add .
+    ends 0 'a commit of right lists' git commit -q -m right
+    for name in wrong.links 'two words.links' -x.links; do
+        echo "$wrong" >"./$name"
+        git add -- "./$name"
+        echo $right >"./$name"
+        ends any "a commit of $name" git commit -q -m wrong
+        git reset -q --hard
+    done
+    echo "$wrong" >right.links
+    ends 0 'a commit whose working tree alone is wrong' git commit -q --allow-empty -m tree
     git reset -q --hard
-done
-echo "$wrong" >right.links
-ends 0 'a commit whose working tree alone is wrong' git commit -q --allow-empty -m tree
-git reset -q --hard
-git mv right.links renamed.links && { seq -f 'https://example.com/%g' 100; echo "$wrong"; } >renamed.links && git add .
-ends any 'a commit of a list that is renamed' git commit -q -m renamed
-seq -f 'https://example.com/%g' 100 >renamed.links && git add . && git commit -q -m long
-git mv renamed.links again.links && echo "$wrong" >>again.links && git add .
-git diff --cached --name-status | grep -q '^R' || { echo 'FAILED: the list is not seen as renamed'; failed=1; }
-ends any 'a commit of a list that is renamed and much the same' git commit -q -m again
-git reset -q --hard
-git rm -q again.links renamed.links 2>/dev/null || git rm -q renamed.links
-ends 0 'a commit that deletes a list' git commit -q -m deleted
+    git mv right.links renamed.links && { seq -f 'https://example.com/%g' 100; echo "$wrong"; } >renamed.links && git add .
+    ends any 'a commit of a list that is renamed' git commit -q -m renamed
+    seq -f 'https://example.com/%g' 100 >renamed.links && git add . && git commit -q -m long
+    git mv renamed.links again.links && echo "$wrong" >>again.links && git add .
+    git diff --cached --name-status | grep -q '^R' || { echo 'FAILED: the list is not seen as renamed'; failed=1; }
+    ends any 'a commit of a list that is renamed and much the same' git commit -q -m again
+    git reset -q --hard
+    git rm -q again.links renamed.links 2>/dev/null || git rm -q renamed.links
+    ends 0 'a commit that deletes a list' git commit -q -m deleted
+}
+if has git; then try_hook; fi
 
-if has pre-commit; then
+if has git && has pre-commit; then
     in_folder source
     git init -q . && cp "$top/.pre-commit-hooks.yaml" . && git add . && git commit -q -m hooks && git tag v0.1.0
     in_folder framework
