@@ -57,6 +57,15 @@ in_folder() {
     mkdir -p "$room/$1" && cd "$room/$1" || exit 1
 }
 
+# Each block of the page, but for commands with their output and for Spark, is taken by a line of this file.
+while IFS=$'\t' read -r heading language number; do
+    [ "$number" = 1 ] && number= || number=" $number"
+    grep -qF -e "recipe '$heading' $language$number" -e "recipe $heading $language$number" "$0" ||
+        { echo "FAILED: docs/USES.md, $heading: the block in $language isn't run"; failed=1; }
+    count=$((count + 1))
+done < <(awk -v fence='^```[a-z]' '/^## / { section = substr($0, 4); delete seen }
+    $0 ~ fence && !/console$/ && !/scala$/ { language = substr($0, 4); print section "\t" language "\t" ++seen[language] }' "$page")
+
 right='https://example.com/' wrong='http://h/a b'
 
 # hard_names COMMAND.. : the command in a folder of lists: none, right ones, and wrong ones with names that are hard
