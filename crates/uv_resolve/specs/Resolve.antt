@@ -2,14 +2,18 @@
 use Rattle.std.specs.Prelude.{◌≡◌, ℕ, List, Option, Result, Ok, Err}
 use Rattle.uv_model.specs.declared.profile.Profile.{Profile}
 use Rattle.uv_model.specs.declared.profile.Profile.TheVariants.{Wide}
+use Rattle.uv_model.specs.declared.rule.Refusal.{Refusal}
+use Rattle.uv_model.specs.Cut.{cut_of}
 use Rattle.uv_model.specs.Records.Denote.{denote}
 use Rattle.uv_model.specs.Parts.{Parts}
 use Rattle.uv_parser.specs.Laws.Silence.{RunsSilently}
 use Rattle.uv_parser.specs.Laws.StepCounts.{least_step_bound}
 use Rattle.uv_parser.specs.Run.{Done, run}
 use Rattle.uv_model.specs.Records.Url.{Url}
+use Rattle.uv_model.specs.Setting.{setting_of}
 use Rattle.uv_model.specs.Valid.{Valid}
 use Rattle.uv_model.specs.Records.WellFormed.{MayBeWellFormed, WellFormed}
+use Rattle.uv_grammar.specs.NoMemory.{TakesNoMemory}
 use Rattle.uv_grammar.specs.Verdict.{IsRefused}
 use Rattle.uv_resolve.specs.declared.fault.ResolveFault.{ResolveFault}
 use Rattle.uv_resolve.specs.declared.fault.ResolveFault.TheVariants.{Refused, Memory}
@@ -28,6 +32,17 @@ abbrev pub IsResolved : Profile → Option Url → List ℕ → Result Url Resol
 IsResolved profile base text (Ok url) = Denotes profile base text url
 IsResolved profile base text (Err (Refused refusal)) = IsRefused profile base text refusal
 IsResolved profile base text (Err (Memory error)) = Unit {0}
+
+-- the text is judged without memory, against the base
+abbrev pub IsJudgedWithoutMemory : Profile → Option Url → List ℕ → Type 0
+IsJudgedWithoutMemory profile base text =
+    let cut = cut_of base text in TakesNoMemory (setting_of profile base cut.scheme) text cut
+
+-- a text that is valid with no parts and is judged without memory is answered by a refusal, whatever memory there is
+abbrev pub RefusesWithoutMemory : Profile → Option Url → List ℕ → Result Url ResolveFault → Type 0
+RefusesWithoutMemory profile base text result =
+    IsJudgedWithoutMemory profile base text → ((parts : Parts) → ¬ (Valid profile base text parts))
+    → (refusal : Refusal) × (result ≡ Err (Refused refusal))
 
 -- The parser runs on the text to its end with no validation error and no failure, within the bound on its steps and
 -- within the least such bound, and its record is the one that the parts denote. That is well formed by the wide

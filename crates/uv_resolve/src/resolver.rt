@@ -1,7 +1,7 @@
 //! The record of a text, alone or against a base.
 ghost use Rattle.std.specs.Prelude.{option_copied};
 ghost use Rattle.std.specs.Str.{chars};
-ghost use Rattle.uv_resolve.specs.Resolve.{IsResolved, RunsToItsRecord};
+ghost use Rattle.uv_resolve.specs.Resolve.{IsResolved, RefusesWithoutMemory, RunsToItsRecord};
 
 use crate::fault::ResolveFault;
 use crate::laws::valid_text_runs_to_its_record;
@@ -20,6 +20,7 @@ pub fn resolve(
     profile: Profile,
 ) -> Result<Record, ResolveFault>
     ensures resolved { IsResolved profile (option_copied base.entry) (chars text.now) result }
+    ensures memory { RefusesWithoutMemory profile (option_copied base.entry) (chars text.now) result }
     ensures runs { RunsToItsRecord profile (option_copied base.entry) (chars text.now) }
 {
     valid_text_runs_to_its_record(text, base, profile);
