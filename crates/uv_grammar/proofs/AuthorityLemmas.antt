@@ -1,5 +1,6 @@
 -- Lemmas on the `:` of a port in the bytes of an authority and in its code points.
-use Rattle.std.proofs.Common.{◌≡◌, ◌≢◌, ℕ, ◌+◌, ◌<◌, ◌≤◌, List, [], ◌∷◌, ◌++◌, Bool, true, false, not, ◌==◌, take, drop, refl, sym, ap, ◌∙◌, inl, inr, arith, Option, Some, None, lit<, ne_eqb, append-nil}
+use Rattle.std.proofs.Common.{◌≡◌, ◌≢◌, ℕ, ◌+◌, ◌<◌, ◌≤◌, List, [], ◌∷◌, ◌++◌, Bool, true, false, not, ◌==◌, take, drop}
+use Rattle.std.proofs.Common.{refl, sym, ap, ◌∙◌, inl, inr, arith, Option, Some, None, lit<, ne_eqb, append-nil}
 use Rattle.std.specs.Prelude.{◌⊎◌, if◌then◌else◌, option_map, slice_range, IsSome}
 use Rattle.std.specs.Str.{chars, IsUtf8, IsCharBoundary}
 use Rattle.std.proofs.lemmas.Bool.{cases_lt, cases_Bool, false≢true}

@@ -1,25 +1,33 @@
 -- The parts built from a cut without a complaint are valid.
-use Rattle.std.proofs.Common.{◌≡◌, ◌≢◌, ℕ, List, [], ◌∷◌, ◌++◌, true, false, Option, Some, None, refl, sym, ap, ◌∙◌, subst, inl, inr}
+use Rattle.std.proofs.Common.{◌≡◌, ◌≢◌, ℕ, List, [], ◌∷◌, ◌++◌, true, false, Option, Some, None, refl, sym, ap, ◌∙◌}
+use Rattle.std.proofs.Common.{subst, inl, inr}
 use Rattle.std.specs.Prelude.{◌⊎◌, ◌+◌, IsSome, is_some}
 use Rattle.std.proofs.lemmas.Bool.{cases_Bool, false≢true}
 use Rattle.uv_model.specs.declared.host.Host.{Host}
 use Rattle.uv_model.specs.declared.profile.Profile.{Profile}
 use Rattle.uv_model.specs.declared.profile.Profile.TheVariants.{Standard, Wide}
 use Rattle.uv_model.specs.declared.rule.Rule.{Rule}
-use Rattle.uv_model.specs.declared.rule.Rule.TheVariants.{NoScheme, OpaqueBase, TwoSlashes, FirstSegmentEmpty, DriveAfterHost}
+use Rattle.uv_model.specs.declared.rule.Rule.TheVariants.{NoScheme, OpaqueBase, TwoSlashes, FirstSegmentEmpty}
+use Rattle.uv_model.specs.declared.rule.Rule.TheVariants.{DriveAfterHost}
 use Rattle.uv_model.specs.declared.scheme.Class.{Class}
 use Rattle.uv_model.specs.declared.scheme.Class.TheVariants.{Special, File, Other}
 use Rattle.uv_model.specs.Ascii.{number_sign, question_mark}
-use Rattle.uv_model.specs.Complaints.Complaint.{HasEmptyFirst, HasHost, MayBeUnitComplaint, IsStarted, starts_with_number_sign}
-use Rattle.uv_model.specs.Cut.{Cut, IsCut, IsHostCut, IsSchemeCut, class_in, path_place, query_place, fragment_place, starts_with_two_slashes, written_front, written_middle, written_start}
-use Rattle.uv_model.specs.Parts.{Form, NoPath, Parts, PathAbsolute, PathRelative, SchemeOpaque, SchemePath, has_scheme, written_authority, written_behind, written_scheme}
-use Rattle.uv_model.specs.Path.{IsPathAbsolute, IsPathRelative, is_without, starts_with_drive_segment, starts_with_slash}
+use Rattle.uv_model.specs.Complaints.Complaint.{HasEmptyFirst, HasHost, MayBeUnitComplaint, IsStarted}
+use Rattle.uv_model.specs.Complaints.Complaint.{starts_with_number_sign}
+use Rattle.uv_model.specs.Cut.{Cut, IsCut, IsHostCut, IsSchemeCut, class_in, path_place, query_place, fragment_place}
+use Rattle.uv_model.specs.Cut.{starts_with_two_slashes, written_front, written_middle, written_start}
+use Rattle.uv_model.specs.Parts.{Form, NoPath, Parts, PathAbsolute, PathRelative, SchemeOpaque, SchemePath, has_scheme}
+use Rattle.uv_model.specs.Parts.{written_authority, written_behind, written_scheme}
+use Rattle.uv_model.specs.Path.{IsPathAbsolute, IsPathRelative, is_without, starts_with_drive_segment}
+use Rattle.uv_model.specs.Path.{starts_with_slash}
 use Rattle.uv_model.specs.Complaints.Refusal.{IsLeast}
 use Rattle.uv_model.specs.Scheme.{scheme_class}
 use Rattle.uv_model.specs.Units.{IsUnits}
 use Rattle.uv_model.specs.Records.Url.{Url, is_opaque}
 use Rattle.uv_model.specs.Setting.{Setting, setting_of}
-use Rattle.uv_model.specs.Valid.{FitsAuthority, FitsBase, FitsDrive, FitsForm, HasAuthority, HasNoAuthority, IsOpaqueHostText, IsOpaquePath, FitsScheme, IsPathBehind, MayBePathBehind, MayBePortText, MayBeUnits, Valid, port_given, starts_with_scheme}
+use Rattle.uv_model.specs.Valid.{FitsAuthority, FitsBase, FitsDrive, FitsForm, HasAuthority, HasNoAuthority}
+use Rattle.uv_model.specs.Valid.{IsOpaqueHostText, IsOpaquePath, FitsScheme, IsPathBehind, MayBePathBehind}
+use Rattle.uv_model.specs.Valid.{MayBePortText, MayBeUnits, Valid, port_given, starts_with_scheme}
 use Rattle.uv_model.proofs.Complaints.ComplaintLemmas.{cut_with}
 use Rattle.uv_model.proofs.Texts.MarkLemmas.{is_without-cons, is_without-parts}
 use Rattle.uv_model.proofs.Complaints.UnitComplaintLemmas.{units_uncomplained}

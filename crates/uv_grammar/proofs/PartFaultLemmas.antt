@@ -1,5 +1,6 @@
 -- The complaints of the start, the host, the port and the path's start: one at most, or one of each code point.
-use Rattle.std.proofs.Common.{◌≡◌, ◌≢◌, ℕ, ◌⊎◌, List, [], ◌∷◌, ◌++◌, true, false, not, Option, Some, inl, inr, refl, sym, ap, ◌∙◌, subst, ◌==◌, eqb-true}
+use Rattle.std.proofs.Common.{◌≡◌, ◌≢◌, ℕ, ◌⊎◌, List, [], ◌∷◌, ◌++◌, true, false, not, Option, Some, inl, inr, refl}
+use Rattle.std.proofs.Common.{sym, ap, ◌∙◌, subst, ◌==◌, eqb-true}
 use Rattle.std.specs.Prelude.{◌<◌, ◌+◌, is_some}
 use Rattle.std.specs.Char.{is_ascii_digit, is_ascii_alphabetic}
 use Rattle.std.specs.List.{list_all}
@@ -7,13 +8,18 @@ use Rattle.std.proofs.lemmas.Bool.{and_parts, cases_Bool, false≢true}
 use Rattle.uv_model.specs.declared.profile.Profile.{Profile}
 use Rattle.uv_model.specs.declared.profile.Profile.TheVariants.{Standard, Wide}
 use Rattle.uv_model.specs.declared.rule.Rule.{Rule}
-use Rattle.uv_model.specs.declared.rule.Rule.TheVariants.{NoScheme, OpaqueBase, TwoSlashes, HostMissing, HostIpv6, HostCodePoint, Percent, PortDigit, PortRange, FirstSegmentEmpty, DriveAfterHost}
+use Rattle.uv_model.specs.declared.rule.Rule.TheVariants.{NoScheme, OpaqueBase, TwoSlashes, HostMissing, HostIpv6}
+use Rattle.uv_model.specs.declared.rule.Rule.TheVariants.{HostCodePoint, Percent, PortDigit, PortRange}
+use Rattle.uv_model.specs.declared.rule.Rule.TheVariants.{FirstSegmentEmpty, DriveAfterHost}
 use Rattle.uv_model.specs.declared.rule.Refusal.{Refusal}
 use Rattle.uv_model.specs.declared.scheme.Class.{Class}
 use Rattle.uv_model.specs.declared.scheme.Class.TheVariants.{Special, File, Other}
 use Rattle.uv_model.specs.Ascii.{slash}
 use Rattle.uv_model.specs.Complaints.AllComplaints.{AreFaults, ListsComplaints}
-use Rattle.uv_model.specs.Complaints.Complaint.{Behind, Complaint, ComplaintOf, HasEmptyFirst, HasOpaquePath, ContentComplaint, HostContentComplaint, HostComplaint, HostPartComplaint, IsStarted, JudgedComplaint, PathStartComplaint, PortComplaint, PortPartComplaint, StartComplaint}
+use Rattle.uv_model.specs.Complaints.Complaint.{Behind, Complaint, ComplaintOf, HasEmptyFirst, HasOpaquePath}
+use Rattle.uv_model.specs.Complaints.Complaint.{ContentComplaint, HostContentComplaint, HostComplaint}
+use Rattle.uv_model.specs.Complaints.Complaint.{HostPartComplaint, IsStarted, JudgedComplaint, PathStartComplaint}
+use Rattle.uv_model.specs.Complaints.Complaint.{PortComplaint, PortPartComplaint, StartComplaint}
 use Rattle.uv_model.specs.Cut.{Cut, IsCut, host_place, path_place, port_place}
 use Rattle.uv_model.specs.Hosts.OpaqueHost.{starts_with_bracket}
 use Rattle.uv_model.specs.Parts.{Parts}
@@ -27,7 +33,8 @@ use Rattle.uv_model.proofs.Complaints.AllComplaintsLemmas.{contains_here, lists_
 use Rattle.uv_model.proofs.Cuts.CutLemmas.{cut_is_computed}
 use Rattle.uv_model.proofs.Complaints.ComplaintsExcludeParts.{faultless}
 use Rattle.uv_model.proofs.Complaints.LeastLemmas.{Either, Precedes}
-use Rattle.uv_model.proofs.Complaints.RefusedLemmas.{FromPort, host_first, path_first, path_start_first, port_first, query_first, start_before_held}
+use Rattle.uv_model.proofs.Complaints.RefusedLemmas.{FromPort, host_first, path_first, path_start_first, port_first}
+use Rattle.uv_model.proofs.Complaints.RefusedLemmas.{query_first, start_before_held}
 use Rattle.uv_grammar.specs.Faults.{AddsComplaints, FirstComplaint, fault_list}
 use Rattle.uv_grammar.specs.HostValues.{is_scanned}
 use Rattle.uv_grammar.specs.declared.judged.Judged.{Judged}

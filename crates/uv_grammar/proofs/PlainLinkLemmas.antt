@@ -1,5 +1,6 @@
 -- A link of plain parts is valid with them.
-use Rattle.std.proofs.Common.{◌≡◌, ◌≢◌, ℕ, true, false, ◌==◌, List, [], ◌∷◌, ◌++◌, Option, Some, None, refl, sym, ap, ◌∙◌, subst, inl, inr, arith, append_assoc, append-nil}
+use Rattle.std.proofs.Common.{◌≡◌, ◌≢◌, ℕ, true, false, ◌==◌, List, [], ◌∷◌, ◌++◌, Option, Some, None, refl, sym, ap}
+use Rattle.std.proofs.Common.{◌∙◌, subst, inl, inr, arith, append_assoc, append-nil}
 use Rattle.std.specs.Char.{is_ascii_digit}
 use Rattle.std.specs.List.{list_all}
 use Rattle.std.specs.Str.{chars}
@@ -12,12 +13,14 @@ use Rattle.uv_model.specs.declared.host.Host.TheVariants.{Domain}
 use Rattle.uv_model.specs.declared.profile.Profile.{Profile}
 use Rattle.uv_model.specs.declared.profile.Profile.TheVariants.{Standard}
 use Rattle.uv_model.specs.declared.rule.Rule.{Rule}
-use Rattle.uv_model.specs.declared.rule.Rule.TheVariants.{NoScheme, OpaqueBase, TwoSlashes, FirstSegmentEmpty, DriveAfterHost}
+use Rattle.uv_model.specs.declared.rule.Rule.TheVariants.{NoScheme, OpaqueBase, TwoSlashes, FirstSegmentEmpty}
+use Rattle.uv_model.specs.declared.rule.Rule.TheVariants.{DriveAfterHost}
 use Rattle.uv_model.specs.declared.scheme.Class.TheVariants.{Special}
 use Rattle.uv_model.specs.Ascii.{slash, colon, question_mark, number_sign, left_bracket, right_bracket}
 use Rattle.uv_model.specs.Valid.{MayBePortText}
 use Rattle.uv_model.specs.Complaints.Complaint.{IsStarted, PathStartComplaint, MayBeUnitComplaint}
-use Rattle.uv_model.specs.Cut.{Cut, IsCut, EndsAtPort, IsHostCut, is_within, is_within_at_end, written_cut, written_start, starts_with_two_slashes}
+use Rattle.uv_model.specs.Cut.{Cut, IsCut, EndsAtPort, IsHostCut, is_within, is_within_at_end, written_cut}
+use Rattle.uv_model.specs.Cut.{written_start, starts_with_two_slashes}
 use Rattle.uv_model.specs.Hosts.Domain.{IsDomain, is_form_code_point}
 use Rattle.uv_model.specs.Parts.{written_behind}
 use Rattle.uv_model.specs.Path.{is_without}

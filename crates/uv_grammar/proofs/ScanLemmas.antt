@@ -1,5 +1,6 @@
 -- Texts that are judged code point by code point, and lists to which complaints are added.
-use Rattle.std.proofs.Common.{◌≡◌, ◌≢◌, ℕ, ◌+◌, ◌<◌, ◌≤◌, ◌⊎◌, List, [], ◌∷◌, ◌++◌, true, false, Option, Some, None, length, drop, inl, inr, arith, refl, sym, ap, ◌∙◌, subst, append_assoc, append-nil}
+use Rattle.std.proofs.Common.{◌≡◌, ◌≢◌, ℕ, ◌+◌, ◌<◌, ◌≤◌, ◌⊎◌, List, [], ◌∷◌, ◌++◌, true, false, Option, Some, None}
+use Rattle.std.proofs.Common.{length, drop, inl, inr, arith, refl, sym, ap, ◌∙◌, subst, append_assoc, append-nil}
 use Rattle.std.specs.Str.{chars, IsUtf8}
 use Rattle.std.proofs.lemmas.Bool.{false≢true}
 use Rattle.std.proofs.lemmas.List.{drop-drop, length-drop}
@@ -14,7 +15,8 @@ use Rattle.uv_model.specs.Complaints.OpaqueHostComplaint.{OpaqueHostComplaint}
 use Rattle.uv_model.specs.Complaints.Refusal.{IsLeast}
 use Rattle.uv_model.specs.Complaints.UnitComplaint.{HasBarePercent, UnitComplaint}
 use Rattle.uv_model.specs.Units.{is_url_code_point}
-use Rattle.uv_model.proofs.Complaints.AllComplaintsLemmas.{IsScan, lists_both, lists_like, lists_none, lists_one, lists_scan}
+use Rattle.uv_model.proofs.Complaints.AllComplaintsLemmas.{IsScan, lists_both, lists_like, lists_none, lists_one}
+use Rattle.uv_model.proofs.Complaints.AllComplaintsLemmas.{lists_scan}
 use Rattle.uv_model.proofs.Complaints.ComplaintLemmas.{within_text}
 use Rattle.uv_model.proofs.Complaints.RefusalLemmas.{IsLeast-like}
 use Rattle.uv_model.proofs.Complaints.LeastLemmas.{Either, Precedes}

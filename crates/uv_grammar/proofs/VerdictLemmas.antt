@@ -4,7 +4,8 @@ use Rattle.std.specs.Str.{chars, IsUtf8}
 use Rattle.std.proofs.lemmas.Str.{encodes-chars, length-le-encodes}
 use Rattle.uv_model.specs.declared.profile.Profile.{Profile}
 use Rattle.uv_model.specs.declared.rule.Refusal.{Refusal}
-use Rattle.uv_model.specs.Complaints.Complaint.{Complaint, HostPartComplaint, IsStarted, PortPartComplaint, StartComplaint}
+use Rattle.uv_model.specs.Complaints.Complaint.{Complaint, HostPartComplaint, IsStarted, PortPartComplaint}
+use Rattle.uv_model.specs.Complaints.Complaint.{StartComplaint}
 use Rattle.uv_model.specs.Cut.{Cut, IsCut, cut_of, written_cut}
 use Rattle.uv_model.specs.Parts.{Parts, written}
 use Rattle.uv_model.specs.Complaints.Refusal.{IsLeast}
@@ -15,7 +16,8 @@ use Rattle.uv_model.proofs.Complaints.ComplaintPlaces.{complaint_within}
 use Rattle.uv_model.proofs.Complaints.ComplaintsExcludeParts.{faultless}
 use Rattle.uv_model.proofs.Cuts.CutLemmas.{cut_is_computed}
 use Rattle.uv_model.proofs.Cuts.UniqueParts.{parts_are_unique}
-use Rattle.uv_model.proofs.Complaints.RefusedLemmas.{FromHost, host_passes, host_refuses, least_of_parts, port_passes, port_refuses, refused_at_start}
+use Rattle.uv_model.proofs.Complaints.RefusedLemmas.{FromHost, host_passes, host_refuses, least_of_parts, port_passes}
+use Rattle.uv_model.proofs.Complaints.RefusedLemmas.{port_refuses, refused_at_start}
 use Rattle.uv_grammar.specs.Laws.{PartsAreTheText}
 use Rattle.uv_grammar.specs.NoMemory.{HostPartTakesNoMemory, TakesNoMemory}
 use Rattle.uv_grammar.specs.PartComplaints.{BehindAuthority, IsCountable}

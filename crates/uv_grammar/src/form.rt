@@ -1,7 +1,7 @@
 //! The forms of valid URL strings.
 
 /// How a valid URL string begins (URL Standard, section 4.3).
-#[derive(Clone, Copy, Debug, PartialEq, Eq)]
+#[derive(Clone, Copy, PartialEq, Eq)]
 pub enum Form {
     /// A scheme, `//` and a host.
     SchemeAuthority,

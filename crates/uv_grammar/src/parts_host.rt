@@ -8,7 +8,7 @@ use std::marker::Model;
 use uv_model::{Host, Text};
 
 /// A slice of ASCII. Contracts see its code points, which are its bytes.
-#[derive(Debug, Drop)]
+#[derive(Drop)]
 pub struct AsciiText<'t> {
     text: &'t str,
 }
@@ -82,7 +82,7 @@ impl<'t> PartsHost<'t> {
 }
 
 /// A host, lent.
-#[derive(Debug, Drop)]
+#[derive(Drop)]
 pub enum HostRef<'p> {
     /// A domain in its ASCII form.
     Domain(AsciiText<'p>),

@@ -1,9 +1,11 @@
 -- IPv6 texts in brackets, on bytes.
-use Rattle.std.proofs.Common.{◌≡◌, ℕ, List, [], ◌∷◌, ◌++◌, length, take_at, Option, Some, None, refl, sym, ap, ◌∙◌, lit<}
+use Rattle.std.proofs.Common.{◌≡◌, ℕ, List, [], ◌∷◌, ◌++◌, length, take_at, Option, Some, None, refl, sym, ap, ◌∙◌}
+use Rattle.std.proofs.Common.{lit<}
 use Rattle.std.specs.Char.{encode_utf8}
 use Rattle.std.specs.Str.{chars, IsAscii, IsUtf8}
 use Rattle.std.proofs.lemmas.List.{append_cancel_right}
-use Rattle.std.proofs.lemmas.Str.{IsAscii-append, chars-IsAscii, IsUtf8-from_ascii, IsUtf8-past_char, IsUtf8-take, IsCharBoundary-at_seam}
+use Rattle.std.proofs.lemmas.Str.{IsAscii-append, chars-IsAscii, IsUtf8-from_ascii, IsUtf8-past_char, IsUtf8-take}
+use Rattle.std.proofs.lemmas.Str.{IsCharBoundary-at_seam}
 use Rattle.std.proofs.lemmas.Str.Ascii.{IsAscii-nil, IsAscii-cons}
 use Rattle.uv_model.specs.Ascii.{left_bracket, right_bracket}
 use Rattle.uv_model.specs.Hosts.Address.{IsIpv6, IsBracketedIpv6, Reads}

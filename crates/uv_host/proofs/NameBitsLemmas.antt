@@ -1,5 +1,7 @@
 -- Bits of the bytes that go on as a name does.
-use Rattle.std.proofs.Common.{◌≡◌, ◌⊎◌, ℕ, zero, suc, ◌+◌, ◌-◌, ◌*◌, ◌/◌, ◌%◌, ◌^◌, ◌<◌, ◌≤◌, Bool, true, false, ◌==◌, cond, List, [], ◌∷◌, length, map, take, get_or, get_or-take, bit_and, bit_or, w64, refl, sym, ap, ◌∙◌, inl, inr, arith}
+use Rattle.std.proofs.Common.{◌≡◌, ◌⊎◌, ℕ, zero, suc, ◌+◌, ◌-◌, ◌*◌, ◌/◌, ◌%◌, ◌^◌, ◌<◌, ◌≤◌, Bool, true, false, ◌==◌}
+use Rattle.std.proofs.Common.{cond, List, [], ◌∷◌, length, map, take, get_or, get_or-take, bit_and, bit_or, w64, refl}
+use Rattle.std.proofs.Common.{sym, ap, ◌∙◌, inl, inr, arith}
 use Rattle.std.specs.Prelude.{slice_index}
 use Rattle.std.specs.Int.{bit_at, trailing_ones}
 use Rattle.std.specs.Int.Bits.{and_zero_r}
@@ -10,7 +12,8 @@ use Rattle.std.proofs.lemmas.Bool.Decides.{nat_tests}
 use Rattle.std.proofs.lemmas.List.{get_or-map, length-take}
 use Rattle.std.proofs.lemmas.Nat.{and_le_l, or_lt}
 use Rattle.std.proofs.lemmas.Simd.{bit_mask_l}
-use Rattle.std.proofs.lemmas.Nat.Bits.{bit_at-lt, bit_at-trailing_ones, bit_at_above, bit_at_and, bit_at_cat_high, bit_at_cat_low, bit_at_or}
+use Rattle.std.proofs.lemmas.Nat.Bits.{bit_at-lt, bit_at-trailing_ones, bit_at_above, bit_at_and, bit_at_cat_high}
+use Rattle.std.proofs.lemmas.Nat.Bits.{bit_at_cat_low, bit_at_or}
 use Rattle.uv_text.specs.Rows.{high_bit, is_in_rows, row_at}
 use Rattle.uv_text.proofs.MaskLemmas.{bit-set, mask-small}
 use Rattle.uv_host.specs.declared.plain_names.TheConstants.{JOINT_ROWS, SIGN_ROWS}

@@ -1,5 +1,6 @@
 -- The front of a text that goes on as a name does.
-use Rattle.std.proofs.Common.{◌≡◌, ◌≢◌, ℕ, zero, suc, ◌+◌, ◌-◌, ◌≤◌, Bool, true, false, ◌==◌, List, [], ◌∷◌, ◌++◌, take, drop, add-zero, refl, sym, ap, ◌∙◌, subst, inl, inr, arith, eqb-true, ne_eqb}
+use Rattle.std.proofs.Common.{◌≡◌, ◌≢◌, ℕ, zero, suc, ◌+◌, ◌-◌, ◌≤◌, Bool, true, false, ◌==◌, List, [], ◌∷◌, ◌++◌, take}
+use Rattle.std.proofs.Common.{drop, add-zero, refl, sym, ap, ◌∙◌, subst, inl, inr, arith, eqb-true, ne_eqb}
 use Rattle.std.specs.Prelude.{slice_index}
 use Rattle.std.proofs.lemmas.List.{get_or-drop, length-drop}
 use Rattle.std.proofs.lemmas.Bool.{cases_Bool, cases_lt, false≢true}

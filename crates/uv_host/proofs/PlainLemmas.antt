@@ -1,5 +1,6 @@
 -- A plain name is its own form at both settings.
-use Rattle.std.proofs.Common.{◌≡◌, ℕ, ◌<◌, ◌≢◌, true, false, List, Some, chars, encode_utf8_all, IsUtf8, get_or, length, inl, inr, refl, sym, ap, ◌∙◌, arith}
+use Rattle.std.proofs.Common.{◌≡◌, ℕ, ◌<◌, ◌≢◌, true, false, List, Some, chars, encode_utf8_all, IsUtf8, get_or, length}
+use Rattle.std.proofs.Common.{inl, inr, refl, sym, ap, ◌∙◌, arith}
 use Rattle.std.specs.Prelude.{All}
 use Rattle.std.specs.Str.{IsAscii}
 use Rattle.std.specs.List.{list_all}
@@ -22,7 +23,8 @@ use Rattle.idna.proofs.Uts46Lemmas.{has_ace_prefix-passes, list_all-passes_hyphe
 use Rattle.idna.proofs.ValidityLemmas.{denies-EMPTY, denies-STD3, denies-may_be_denied, is_valid_char-ascii}
 use Rattle.uv_model.specs.declared.profile.Profile.{Profile}
 use Rattle.uv_model.specs.declared.profile.Profile.TheVariants.{Standard, Wide}
-use Rattle.uv_model.specs.Hosts.Domain.{HasNoForm, IsForm, has_lengths, has_permitted, is_form_code_point, is_permitted, strict_form}
+use Rattle.uv_model.specs.Hosts.Domain.{HasNoForm, IsForm, has_lengths, has_permitted, is_form_code_point, is_permitted}
+use Rattle.uv_model.specs.Hosts.Domain.{strict_form}
 use Rattle.uv_model.proofs.Hosts.DomainLemmas.{IsForm-from, no_parsed_lengths, wide_form, wide_text}
 use Rattle.uv_host.specs.Domains.{is_plain_name, is_simple}
 

@@ -18,7 +18,7 @@ use std::borrow::CowStr;
 use uv_model::{Profile, ends_in_number, is_domain_mark};
 
 /// What a text is as the domain of a special URL.
-#[derive(Debug, Drop)]
+#[derive(Drop)]
 pub enum DomainAnswer {
     /// A valid domain, with its ASCII form.
     Ascii(String),
@@ -54,7 +54,7 @@ pub fn domain(alloc: Global, text: &str, profile: Profile) -> Result<DomainAnswe
 }
 
 /// What a plain name is as a domain. A valid one is its own ASCII form.
-#[derive(Clone, Copy, Debug, PartialEq, Eq)]
+#[derive(Clone, Copy, PartialEq, Eq)]
 pub enum PlainAnswer {
     /// A valid domain.
     Domain,

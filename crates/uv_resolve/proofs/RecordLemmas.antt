@@ -6,7 +6,8 @@ use Rattle.uv_model.specs.declared.profile.Profile.{Profile}
 use Rattle.uv_model.specs.declared.scheme.Class.{Class}
 use Rattle.uv_model.specs.declared.host.Host.{Host}
 use Rattle.uv_model.specs.declared.path.UrlPath.{UrlPath}
-use Rattle.uv_model.specs.Records.Denote.{denote, denoted_scheme, denoted_host, denoted_port, denoted_path, denoted_query}
+use Rattle.uv_model.specs.Records.Denote.{denote, denoted_scheme, denoted_host, denoted_port, denoted_path}
+use Rattle.uv_model.specs.Records.Denote.{denoted_query}
 use Rattle.uv_model.specs.Encoding.{encoded}
 use Rattle.uv_model.specs.Parts.{Parts, has_scheme}
 use Rattle.uv_model.specs.Scheme.{is_scheme, scheme_class}

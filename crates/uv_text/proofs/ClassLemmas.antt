@@ -1,5 +1,6 @@
 -- Classes of bytes: they hold ASCII bytes alone, and which bytes the two classes in use hold.
-use Rattle.std.proofs.Common.{◌≡◌, ℕ, ◌<◌, Bool, true, false, not, ◌&&◌, ◌||◌, ◌==◌, List, [], ◌∷◌, take, refl, sym, ◌∙◌, inl, inr, arith, le-ltb, lt-ltb}
+use Rattle.std.proofs.Common.{◌≡◌, ℕ, ◌<◌, Bool, true, false, not, ◌&&◌, ◌||◌, ◌==◌, List, [], ◌∷◌, take, refl, sym}
+use Rattle.std.proofs.Common.{◌∙◌, inl, inr, arith, le-ltb, lt-ltb}
 use Rattle.std.specs.Char.{is_ascii, is_ascii_alphanumeric, is_ascii_hexdigit}
 use Rattle.std.specs.List.{list_any}
 use Rattle.std.proofs.lemmas.Bool.{agree_below_at, cases_lt, false_from_ne_true, false≢true, or_cases, or_parts}
@@ -7,12 +8,14 @@ use Rattle.std.proofs.lemmas.Bool.Decides.{nat_tests}
 use Rattle.uv_model.specs.Ascii.{question_mark}
 use Rattle.uv_model.specs.Hosts.OpaqueHost.{is_forbidden_host}
 use Rattle.uv_model.specs.Units.{is_url_code_point}
-use Rattle.uv_text.specs.Class.{HasHexDigits, HoldsOpaqueHostBytes, HoldsPathBytes, HoldsUrlBytes, in_class, is_wide, within}
+use Rattle.uv_text.specs.Class.{HasHexDigits, HoldsOpaqueHostBytes, HoldsPathBytes, HoldsUrlBytes, in_class, is_wide}
+use Rattle.uv_text.specs.Class.{within}
 use Rattle.uv_text.specs.declared.units.UnitClass.{UnitClass}
 use Rattle.uv_text.specs.declared.units.UnitClass.TheVariants.{Url, Path, OpaqueHost}
 use Rattle.uv_text.specs.Splits.{class_has}
 use Rattle.uv_text.specs.Rows.{HoldClass, is_in_rows}
-use Rattle.uv_text.specs.declared.class.TheConstants.{OPAQUE_HOST_RANGES, OPAQUE_HOST_ROWS, PATH_RANGES, PATH_ROWS, URL_RANGES, URL_ROWS}
+use Rattle.uv_text.specs.declared.class.TheConstants.{OPAQUE_HOST_RANGES, OPAQUE_HOST_ROWS, PATH_RANGES, PATH_ROWS}
+use Rattle.uv_text.specs.declared.class.TheConstants.{URL_RANGES, URL_ROWS}
 
 -- a range within ASCII holds ASCII bytes alone
 within-ascii : (range : ℕ × ℕ) (byte : ℕ) → is_wide range ≡ false → within range byte ≡ true → byte < 128

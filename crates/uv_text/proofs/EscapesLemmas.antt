@@ -1,5 +1,6 @@
 -- The percent-encoding of the bytes of a text is the text encoded code point by code point.
-use Rattle.std.proofs.Common.{◌≡◌, ℕ, ◌<◌, ◌≤◌, Bool, true, false, ◌&&◌, ◌==◌, List, [], ◌∷◌, ◌++◌, flat_map, codes, chars, encode_utf8_all, refl, ap, ◌∙◌, inl, inr, arith, lt-ltb, le-ltb, ne_eqb}
+use Rattle.std.proofs.Common.{◌≡◌, ℕ, ◌<◌, ◌≤◌, Bool, true, false, ◌&&◌, ◌==◌, List, [], ◌∷◌, ◌++◌, flat_map, codes}
+use Rattle.std.proofs.Common.{chars, encode_utf8_all, refl, ap, ◌∙◌, inl, inr, arith, lt-ltb, le-ltb, ne_eqb}
 use Rattle.std.specs.Prelude.{if◌then◌else◌, IsUtf8}
 use Rattle.std.specs.Char.{encode_utf8}
 use Rattle.std.proofs.lemmas.Bool.{agree_below_at, cases_lt, cases_eq}

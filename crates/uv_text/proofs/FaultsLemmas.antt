@@ -1,5 +1,6 @@
 -- The first fault that is found from code point to code point is the least complaint of units.
-use Rattle.std.proofs.Common.{◌≡◌, ℕ, zero, suc, ◌+◌, ◌≤◌, ◌==◌, Bool, true, false, ◌&&◌, ◌||◌, List, [], ◌∷◌, drop, Option, Some, None, refl, sym, ap, ◌∙◌, subst, inl, inr, arith, lt-ltb, le-ltb, ne_eqb}
+use Rattle.std.proofs.Common.{◌≡◌, ℕ, zero, suc, ◌+◌, ◌≤◌, ◌==◌, Bool, true, false, ◌&&◌, ◌||◌, List, [], ◌∷◌, drop}
+use Rattle.std.proofs.Common.{Option, Some, None, refl, sym, ap, ◌∙◌, subst, inl, inr, arith, lt-ltb, le-ltb, ne_eqb}
 use Rattle.std.specs.Prelude.{IsNone, ◌↔◌, nat_le}
 use Rattle.std.specs.Char.{is_ascii}
 use Rattle.std.proofs.lemmas.Bool.{cases_Bool, cases_eq, cases_lt, false≢true}
@@ -13,7 +14,9 @@ use Rattle.uv_model.specs.Complaints.UnitComplaint.{UnitComplaint, unit_rule}
 use Rattle.uv_model.specs.Ascii.{percent_sign}
 use Rattle.uv_model.specs.Units.{IsUnits, is_unit_at, is_url_code_point}
 use Rattle.uv_model.proofs.Complaints.RefusalLemmas.{IsLeast-like}
-use Rattle.uv_model.proofs.Complaints.UnitComplaintLemmas.{UnitComplaint-earlier, UnitComplaint-here, UnitComplaint-later, UnitComplaint-nil, UnitComplaint-said, no_complaint-units, units_uncomplained}
+use Rattle.uv_model.proofs.Complaints.UnitComplaintLemmas.{UnitComplaint-earlier, UnitComplaint-here}
+use Rattle.uv_model.proofs.Complaints.UnitComplaintLemmas.{UnitComplaint-later, UnitComplaint-nil, UnitComplaint-said}
+use Rattle.uv_model.proofs.Complaints.UnitComplaintLemmas.{no_complaint-units, units_uncomplained}
 use Rattle.uv_text.specs.Class.{HoldsUrlBytes}
 use Rattle.uv_text.specs.Faults.{fault_from}
 use Rattle.uv_text.specs.Splits.{begins_unit, unit_length}

@@ -1,5 +1,6 @@
 -- Classes by rows: a byte beyond ASCII is in none, and rows of the bits of a class hold it.
-use Rattle.std.proofs.Common.{◌≡◌, ℕ, suc, ◌+◌, ◌*◌, ◌/◌, ◌%◌, ◌<◌, ◌≤◌, ◌==◌, Bool, true, false, not, ◌&&◌, List, [], ◌∷◌, get_or, bit_and, refl, sym, ap, ◌∙◌, inl, inr, arith, Fits, w8, eqb-true}
+use Rattle.std.proofs.Common.{◌≡◌, ℕ, suc, ◌+◌, ◌*◌, ◌/◌, ◌%◌, ◌<◌, ◌≤◌, ◌==◌, Bool, true, false, not, ◌&&◌, List, []}
+use Rattle.std.proofs.Common.{◌∷◌, get_or, bit_and, refl, sym, ap, ◌∙◌, inl, inr, arith, Fits, w8, eqb-true}
 use Rattle.std.specs.Prelude.{nat_le, slice_index}
 use Rattle.std.specs.Int.Bits.{and_zero_r}
 use Rattle.std.specs.List.{list_any, prefix_len}

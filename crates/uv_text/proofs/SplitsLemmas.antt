@@ -1,5 +1,6 @@
 -- Fronts of URL units: parts of them by runs, by escapes and by code points beyond ASCII, and the cut behind the whole.
-use Rattle.std.proofs.Common.{◌≡◌, ◌≢◌, ℕ, Bool, get_or, zero, suc, ◌+◌, ◌-◌, ◌<◌, ◌≤◌, ◌==◌, true, false, List, [], ◌∷◌, ◌++◌, length, take, drop, refl, sym, ap, ◌∙◌, subst, inl, inr, arith, lit<, ne_eqb}
+use Rattle.std.proofs.Common.{◌≡◌, ◌≢◌, ℕ, Bool, get_or, zero, suc, ◌+◌, ◌-◌, ◌<◌, ◌≤◌, ◌==◌, true, false, List, []}
+use Rattle.std.proofs.Common.{◌∷◌, ◌++◌, length, take, drop, refl, sym, ap, ◌∙◌, subst, inl, inr, arith, lit<, ne_eqb}
 use Rattle.std.specs.Prelude.{nat_le, slice_range}
 use Rattle.std.specs.Char.{is_ascii, is_ascii_hexdigit}
 use Rattle.std.specs.List.{prefix_len}
@@ -9,14 +10,17 @@ use Rattle.std.proofs.Math.Utf8.{encodes}
 use Rattle.std.proofs.lemmas.Bool.{and_parts, cases_Bool, false≢true}
 use Rattle.std.proofs.lemmas.Bool.Decides.{nat_tests}
 use Rattle.std.proofs.lemmas.List.{drop-drop, length-append, length-drop, take-append-drop}
-use Rattle.std.proofs.lemmas.Str.{chars-append, chars-IsAscii, chars-nil, chars_from_encodes, encode_ascii, encodes-append, encodes-chars, IsCharBoundary-after_ascii, IsCharBoundary-at_seam, IsUtf8-drop, IsUtf8-from_ascii, IsUtf8-take}
+use Rattle.std.proofs.lemmas.Str.{chars-append, chars-IsAscii, chars-nil, chars_from_encodes, encode_ascii}
+use Rattle.std.proofs.lemmas.Str.{encodes-append, encodes-chars, IsCharBoundary-after_ascii, IsCharBoundary-at_seam}
+use Rattle.std.proofs.lemmas.Str.{IsUtf8-drop, IsUtf8-from_ascii, IsUtf8-take}
 use Rattle.std.proofs.lemmas.Str.Ascii.{IsAscii-cons}
 use Rattle.uv_model.specs.Ascii.{percent_sign}
 use Rattle.uv_model.specs.Units.{starts_with_two_hex}
 use Rattle.uv_text.specs.declared.units.UnitClass.{UnitClass}
 use Rattle.uv_text.specs.declared.units.UnitClass.TheVariants.{Url, Path, OpaqueHost}
 use Rattle.uv_text.specs.Tails.{EndsWith}
-use Rattle.uv_text.specs.Splits.{PassesMarks, PassesUnits, class_has, begins_mark, begins_unit, starts_in, starts_with_mark, unit_length}
+use Rattle.uv_text.specs.Splits.{PassesMarks, PassesUnits, class_has, begins_mark, begins_unit, starts_in}
+use Rattle.uv_text.specs.Splits.{starts_with_mark, unit_length}
 
 -- ---- parts of a front
 

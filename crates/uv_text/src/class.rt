@@ -8,7 +8,7 @@ use crate::lanes::row_end;
 use std::marker::Model;
 
 /// A set of ASCII bytes: those within one of at most 12 ranges. Contracts see the ranges.
-#[derive(Debug, Drop)]
+#[derive(Drop)]
 pub struct ByteClass {
     kept: [(u8, u8); 12],
     count: usize,

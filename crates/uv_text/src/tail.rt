@@ -13,7 +13,7 @@ use std::marker::Model;
 
 /// What stands behind a place of a text, with that text, so that a load of its last bytes may begin before the place.
 /// Contracts see its bytes.
-#[derive(Debug, Drop)]
+#[derive(Drop)]
 pub struct Tail<'t> {
     whole: &'t str,
     place: usize,
@@ -102,20 +102,35 @@ impl<'t> Tail<'t> {
 mod tests {
     use super::*;
     use crate::splits::split_tail;
-    use std::test::Fail;
+    use std::alloc::{AllocError, Global};
+
+    // So many bytes of a path, `?`, so many of a query, and two that are none.
+    fn long_text(alloc: Global, before: usize, behind: usize) -> Result<String, AllocError> {
+        let mut text = String::new(alloc);
+        for _ in 0..before {
+            text.push('a')?;
+        }
+        text.push('?')?;
+        for _ in 0..behind {
+            text.push('b')?;
+        }
+        text.push_str("^?")?;
+        Ok(text)
+    }
+
+    // The lengths of the path and of the units behind it, and what stands behind both.
+    fn cut_twice(text: &str) -> (usize, usize, &str) {
+        let (path, rest) = split_tail(&Tail::of(text), UnitClass::Path);
+        let (units, rest) = split_tail(&rest, UnitClass::Url);
+        (path.len(), units.len(), rest.as_str())
+    }
 
     #[test]
-    fn cuts_behind_each_place(rt: HostRuntime) -> Result<(), Fail> {
+    fn cuts_behind_each_place(rt: HostRuntime) -> Result<(), AllocError> {
         for before in 0..66usize {
             for behind in [0, 1, 5, 30, 31, 32, 33, 65usize] {
-                let front = "a".repeat(rt.alloc(), before)?;
-                let rest = "b".repeat(rt.alloc(), behind)?;
-                let text = format!(in rt.alloc(); "{front}?{rest}^?")?;
-                let (path, tail) = split_tail(&Tail::of(text.as_str()), UnitClass::Path);
-                assert_eq!(rt; path.len(), before);
-                let (units, tail) = split_tail(&tail, UnitClass::Url);
-                assert_eq!(rt; units.len(), behind + 1, "behind {before}");
-                assert_eq!(rt; tail.as_str(), "^?");
+                let text = long_text(rt.alloc(), before, behind)?;
+                assert!(rt; cut_twice(text.as_str()) == (before, behind + 1, "^?"));
             }
         }
         Ok(())

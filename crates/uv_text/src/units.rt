@@ -8,7 +8,7 @@ use crate::class::{OPAQUE_HOST_ROWS, PATH_ROWS, URL_ROWS};
 use crate::lanes::row_end;
 
 /// The units that a part of a text may consist of, by their ASCII code points (URL Standard, section 4.3).
-#[derive(Clone, Copy, Debug, PartialEq, Eq)]
+#[derive(Clone, Copy, PartialEq, Eq)]
 pub enum UnitClass {
     /// The ASCII URL code points, of which queries and fragments consist.
     Url,

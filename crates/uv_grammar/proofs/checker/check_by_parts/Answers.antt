@@ -4,7 +4,8 @@ use Rattle.std.specs.Prelude.{option_copied, option_map}
 use Rattle.std.specs.Str.{chars}
 use Rattle.std.proofs.lemmas.Bool.{false≢true}
 use Rattle.uv_grammar.specs.PartsHost.{as_host}
-use Rattle.uv_grammar.proofs.VerdictLemmas.{accepted, countable, host_without_memory, refused_behind, refused_host, refused_port, refused_start}
+use Rattle.uv_grammar.proofs.VerdictLemmas.{accepted, countable, host_without_memory, refused_behind, refused_host}
+use Rattle.uv_grammar.proofs.VerdictLemmas.{refused_port, refused_start}
 use Rattle.uv_grammar.proofs.checker.check_by_parts.Goals as goal
 
 pub start_fault-requires : goal.start_fault-requires

@@ -1,7 +1,8 @@
 -- The special schemes in the bytes.
 use Rattle.std.proofs.Common.{drop, refl}
 use Rattle.std.specs.Prelude.{codes}
-use Rattle.uv_grammar.proofs.PlainFrontLemmas.{ftp_special, http_special, https_special, special_front, ws_special, wss_special}
+use Rattle.uv_grammar.proofs.PlainFrontLemmas.{ftp_special, http_special, https_special, special_front, ws_special}
+use Rattle.uv_grammar.proofs.PlainFrontLemmas.{wss_special}
 use Rattle.uv_grammar.proofs.plain_links.special_end.Goals as goal
 
 pub returns-then-has_front : goal.returns-then-has_front

@@ -1,5 +1,6 @@
 -- The code point behind the units is the first fault, and the place counts the units.
-use Rattle.std.proofs.Common.{◌≡◌, ◌↔◌, ◌∷◌, ℕ, Bool, refl, List, [], Option, None, Some, drop, length, arith, sym, ap, ◌∙◌, subst}
+use Rattle.std.proofs.Common.{◌≡◌, ◌↔◌, ◌∷◌, ℕ, Bool, refl, List, [], Option, None, Some, drop, length, arith, sym, ap}
+use Rattle.std.proofs.Common.{◌∙◌, subst}
 use Rattle.std.specs.Prelude.{IsNone}
 use Rattle.std.specs.Str.{chars}
 use Rattle.std.proofs.lemmas.List.{length-take-le}

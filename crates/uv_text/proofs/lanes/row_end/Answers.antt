@@ -1,5 +1,6 @@
 -- 32 bytes that pass are a step more; the first front that is shorter has the end.
-use Rattle.std.proofs.Common.{◌≡◌, ◌≢◌, ℕ, Bool, List, ◌+◌, ◌≤◌, drop, take, take_all, length, ap, ◌∙◌, sym, inl, inr, arith}
+use Rattle.std.proofs.Common.{◌≡◌, ◌≢◌, ℕ, Bool, List, ◌+◌, ◌≤◌, drop, take, take_all, length, ap, ◌∙◌, sym, inl, inr}
+use Rattle.std.proofs.Common.{arith}
 use Rattle.std.proofs.lemmas.Bool.{cases_lt}
 use Rattle.std.specs.List.{prefix_len}
 use Rattle.std.proofs.lemmas.List.{length-drop, length-take, drop-drop}

@@ -1,6 +1,7 @@
 -- The rows hold the ranges, which are the class.
 use Rattle.std.proofs.Common.{◌∙◌}
-use Rattle.uv_text.proofs.ClassLemmas.{opaque_host_ranges, opaque_host_rows, path_ranges, path_rows, url_ranges, url_rows}
+use Rattle.uv_text.proofs.ClassLemmas.{opaque_host_ranges, opaque_host_rows, path_ranges, path_rows, url_ranges}
+use Rattle.uv_text.proofs.ClassLemmas.{url_rows}
 use Rattle.uv_text.proofs.units.UnitClass.rows.Goals as goal
 
 pub returns-in-Url : goal.returns-in-Url
