@@ -101,8 +101,8 @@ mod tests {
 
     #[test]
     fn counts_the_place_behind_a_long_front(rt: HostRuntime) -> Result<(), Fail> {
-        let letters = "a".repeat(rt.alloc(), 64)?;
-        let text = format!(in rt.alloc(); "{letters}^")?;
+        let mut text = "a".repeat(rt.alloc(), 64)?;
+        text.push_str("^")?;
         assert_eq!(rt;
             opaque_fault(text.as_str()),
             Some(Refusal {

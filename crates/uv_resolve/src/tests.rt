@@ -5,50 +5,82 @@ use crate::{ResolveFault, resolve};
 use std::alloc::{AllocError, Global};
 use std::process::Abort;
 use std::test::Fail;
-use uv_model::{Host, Profile, Record, Refusal, Rule, UrlPath};
+use uv_model::{Host, Profile, Record, Refusal, Rule, Text, UrlPath};
 
 mod absolute;
 mod fields;
 mod memory;
 mod references;
 
-// The text of the record that a text denotes against a record as base, or the words of its fault.
-fn answer_against(alloc: Global, text: &str, base: Option<&Record>) -> Result<String, Fail> {
+// What a text is answered by: the text of its record, or its refusal.
+#[derive(Clone, Copy)]
+enum Answer<'a> {
+    Url(&'a str),
+    No(usize, Rule),
+}
+
+// The record of a text alone.
+fn record_of(alloc: Global, text: &str) -> Result<Record, ResolveFault> {
+    resolve(alloc, text, None, Profile::Standard)
+}
+
+// Whether a text is answered so, alone or against a base.
+fn is_answer(
+    alloc: Global,
+    text: &str,
+    base: Option<&Record>,
+    want: &Answer<'_>,
+) -> Result<bool, ResolveFault> {
     match resolve(alloc, text, base, Profile::Standard) {
-        Ok(record) => Ok(record.text(alloc)?),
-        Err(fault) => Ok(fault.to_string(alloc)?),
+        Ok(record) => Ok(is_text(alloc, &record, want)?),
+        Err(ResolveFault::Refused(refusal)) => Ok(is_refusal(refusal, want)),
+        Err(fault) => Err(fault),
     }
+}
+
+// Whether the text of the record is wanted.
+fn is_text(alloc: Global, record: &Record, want: &Answer<'_>) -> Result<bool, AllocError> {
+    let text = record.text(alloc)?;
+    Ok(matches!(want, Answer::Url(want) if text.as_str() == *want))
+}
+
+// Whether the refusal is wanted.
+fn is_refusal(refusal: Refusal, want: &Answer<'_>) -> bool {
+    match want {
+        Answer::Url(_) => false,
+        Answer::No(place, rule) => refusal.place == *place && refusal.rule == *rule,
+    }
+}
+
+// Each text of the table is answered so, alone or against a base.
+fn are_answers(
+    rt: &(impl Abort + AllocGlobal),
+    base: Option<&Record>,
+    rows: &[(&str, Answer<'_>)],
+) -> Result<(), ResolveFault> {
+    for (text, want) in rows {
+        let found = is_answer(rt.alloc(), *text, base, want)?;
+        assert!(rt; found, "{text}");
+    }
+    Ok(())
+}
+
+// The same without a base.
+fn answers_alone(
+    rt: &(impl Abort + AllocGlobal),
+    rows: &[(&str, Answer<'_>)],
+) -> Result<(), ResolveFault> {
+    are_answers(rt, None, rows)
 }
 
 // The same against a base given as text, which is resolved alone.
-fn answer(alloc: Global, text: &str, base: Option<&str>) -> Result<String, Fail> {
-    let Some(base) = base else {
-        return answer_against(alloc, text, None);
-    };
-    let base = resolve(alloc, base, None, Profile::Standard)?;
-    answer_against(alloc, text, Some(&base))
-}
-
-// Each text of the table is answered, without a base, by these words.
-fn answers_alone(rt: &(impl Abort + AllocGlobal), rows: &[(&str, &str)]) -> Result<(), Fail> {
-    for (text, want) in rows {
-        let found = answer(rt.alloc(), text, None)?;
-        assert_eq!(rt; found.as_str(), *want, "at {text}");
-    }
-    Ok(())
-}
-
-// Each text of the table is answered, against this base, by these words.
 fn answers_against(
     rt: &(impl Abort + AllocGlobal),
     base: &str,
-    rows: &[(&str, &str)],
-) -> Result<(), Fail> {
-    for (text, want) in rows {
-        let found = answer(rt.alloc(), text, Some(base))?;
-        assert_eq!(rt; found.as_str(), *want, "at {text} against {base}");
-    }
-    Ok(())
+    rows: &[(&str, Answer<'_>)],
+) -> Result<(), ResolveFault> {
+    let base = record_of(rt.alloc(), base)?;
+    are_answers(rt, Some(&base), rows)
 }
 
 // The words of faults.

@@ -69,18 +69,20 @@ mod tests {
     }
 
     #[test]
-    fn counts_code_points(rt: HostRuntime) -> Result<(), Fail> {
-        for front in ["a", "\u{E9}", "\u{20AC}", "\u{1F600}"] {
-            for (fault, rule) in [(" ", Rule::CodePoint), ("%4", Rule::Percent)] {
-                let text = format!(in rt.alloc(); "{front}{front}{fault}")?;
-                assert_eq!(rt; first_fault(text.as_str()), at(2, rule));
-            }
+    fn counts_code_points(rt: HostRuntime) {
+        for (text, place, rule) in [
+            ("aa ", 2, Rule::CodePoint),
+            ("aa%4", 2, Rule::Percent),
+            ("\u{E9}\u{E9} ", 2, Rule::CodePoint),
+            ("\u{E9}\u{E9}%4", 2, Rule::Percent),
+            ("\u{20AC}\u{20AC} ", 2, Rule::CodePoint),
+            ("\u{20AC}\u{20AC}%4", 2, Rule::Percent),
+            ("\u{1F600}\u{1F600} ", 2, Rule::CodePoint),
+            ("\u{1F600}\u{1F600}%4", 2, Rule::Percent),
+            ("a\u{E9}\u{20AC}\u{1F600}^", 4, Rule::CodePoint),
+        ] {
+            assert_eq!(rt; first_fault(text), at(place, rule), "of {text}");
         }
-        assert_eq!(rt;
-            first_fault("a\u{E9}\u{20AC}\u{1F600}^"),
-            at(4, Rule::CodePoint)
-        );
-        Ok(())
     }
 
     #[test]
@@ -94,11 +96,16 @@ mod tests {
 
     #[test]
     fn counts_the_place_behind_a_long_front(rt: HostRuntime) -> Result<(), Fail> {
-        let letters = "a".repeat(rt.alloc(), 100)?;
-        let text = format!(in rt.alloc(); "{letters} ")?;
+        let mut text = "a".repeat(rt.alloc(), 100)?;
+        text.push_str(" ")?;
         assert_eq!(rt; first_fault(text.as_str()), at(100, Rule::CodePoint));
-        let letters = "\u{E9}".repeat(rt.alloc(), 40)?;
-        let text = format!(in rt.alloc(); "{letters}%4")?;
+        Ok(())
+    }
+
+    #[test]
+    fn counts_the_place_behind_a_long_front_beyond_ascii(rt: HostRuntime) -> Result<(), Fail> {
+        let mut text = "\u{E9}".repeat(rt.alloc(), 40)?;
+        text.push_str("%4")?;
         assert_eq!(rt; first_fault(text.as_str()), at(40, Rule::Percent));
         Ok(())
     }

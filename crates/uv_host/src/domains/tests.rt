@@ -2,7 +2,6 @@
 //! UTS #46 (`IdnaTestV2.txt`, column toAsciiN), a sample of an RFC, or the Unicode charts and the rules by hand.
 
 use super::*;
-use std::test::Fail;
 
 const A61: &str = "aaaaaaaaaaaaaaaaaaaaaaaaaaaaaaaaaaaaaaaaaaaaaaaaaaaaaaaaaaaaa";
 
@@ -11,6 +10,15 @@ const A62: &str = "aaaaaaaaaaaaaaaaaaaaaaaaaaaaaaaaaaaaaaaaaaaaaaaaaaaaaaaaaaaaa
 const A63: &str = "aaaaaaaaaaaaaaaaaaaaaaaaaaaaaaaaaaaaaaaaaaaaaaaaaaaaaaaaaaaaaaa";
 
 const A64: &str = "aaaaaaaaaaaaaaaaaaaaaaaaaaaaaaaaaaaaaaaaaaaaaaaaaaaaaaaaaaaaaaaa";
+
+/// The pieces as one text.
+fn joined(alloc: Global, pieces: &[&str]) -> Result<String, AllocError> {
+    let mut text = String::new(alloc);
+    for piece in pieces {
+        text.push_str(*piece)?;
+    }
+    Ok(text)
+}
 
 /// The form of a valid domain, `(number)` or `(not)`.
 fn shown(answer: &DomainAnswer) -> &str {
@@ -22,7 +30,7 @@ fn shown(answer: &DomainAnswer) -> &str {
 }
 
 #[test]
-fn gives_forms(rt: HostRuntime) -> Result<(), Fail> {
+fn gives_forms(rt: HostRuntime) -> Result<(), AllocError> {
     for (text, form) in [
         // ASCII: lower case (URL Standard, section 3.3)
         ("EXAMPLE.com", "example.com"),
@@ -65,7 +73,7 @@ fn gives_forms(rt: HostRuntime) -> Result<(), Fail> {
 }
 
 #[test]
-fn gives_forms_of_right_to_left_labels(rt: HostRuntime) -> Result<(), Fail> {
+fn gives_forms_of_right_to_left_labels(rt: HostRuntime) -> Result<(), AllocError> {
     let hebrew = "\u{5DC}\u{5DE}\u{5D4}\u{5D4}\u{5DD}\u{5E4}\u{5E9}\u{5D5}\u{5D8}\u{5DC}\u{5D0}\
         \u{5DE}\u{5D3}\u{5D1}\u{5E8}\u{5D9}\u{5DD}\u{5E2}\u{5D1}\u{5E8}\u{5D9}\u{5EA}";
     // RFC 3492, section 7.1, the Hebrew sample, alone and beside a label of RFC 5893, section 2, rules 5 and 6
@@ -74,14 +82,14 @@ fn gives_forms_of_right_to_left_labels(rt: HostRuntime) -> Result<(), Fail> {
         shown(&domain(rt.alloc(), hebrew, Profile::Standard)?),
         form
     );
-    let beside = format!(in rt.alloc(); "example.{hebrew}")?;
-    let beside_form = format!(in rt.alloc(); "example.{form}")?;
+    let beside = joined(rt.alloc(), &["example.", hebrew])?;
+    let beside_form = joined(rt.alloc(), &["example.", form])?;
     assert_eq!(rt;
         shown(&domain(rt.alloc(), beside.as_str(), Profile::Standard)?),
         beside_form.as_str()
     );
     // RFC 5893, section 2, rule 1: beside a right-to-left label none begins with a digit
-    let digit = format!(in rt.alloc(); "1.{hebrew}")?;
+    let digit = joined(rt.alloc(), &["1.", hebrew])?;
     assert_eq!(rt;
         shown(&domain(rt.alloc(), digit.as_str(), Profile::Standard)?),
         "(not)"
@@ -102,7 +110,7 @@ fn gives_forms_of_right_to_left_labels(rt: HostRuntime) -> Result<(), Fail> {
 }
 
 #[test]
-fn refuses_numbers(rt: HostRuntime) -> Result<(), Fail> {
+fn refuses_numbers(rt: HostRuntime) -> Result<(), AllocError> {
     for text in [
         "1.2.3",
         "1.2.3.4",
@@ -122,7 +130,7 @@ fn refuses_numbers(rt: HostRuntime) -> Result<(), Fail> {
 }
 
 #[test]
-fn refuses_texts(rt: HostRuntime) -> Result<(), Fail> {
+fn refuses_texts(rt: HostRuntime) -> Result<(), AllocError> {
     for text in [
         // no label, or an empty one
         "",
@@ -161,7 +169,7 @@ fn refuses_texts(rt: HostRuntime) -> Result<(), Fail> {
 
 // The same texts by the wide profile: with `_`, with hyphens wherever they stand, and what stays refused.
 #[test]
-fn gives_wide_forms(rt: HostRuntime) -> Result<(), Fail> {
+fn gives_wide_forms(rt: HostRuntime) -> Result<(), AllocError> {
     for (text, form) in [
         ("EXAMPLE.com", "example.com"),
         ("b\u{FC}cher.example", "xn--bcher-kva.example"),
@@ -195,7 +203,7 @@ fn gives_wide_forms(rt: HostRuntime) -> Result<(), Fail> {
 }
 
 #[test]
-fn counts_code_points(rt: HostRuntime) -> Result<(), Fail> {
+fn counts_code_points(rt: HostRuntime) -> Result<(), AllocError> {
     assert_eq!(rt;
         (A61.len(), A62.len(), A63.len(), A64.len()),
         (61, 62, 63, 64)
@@ -205,24 +213,41 @@ fn counts_code_points(rt: HostRuntime) -> Result<(), Fail> {
         shown(&domain(rt.alloc(), A64, Profile::Standard)?),
         "(not)"
     );
-    let longest = format!(in rt.alloc(); "{A63}.{A63}.{A63}.{A61}")?;
+    let longest = joined(rt.alloc(), &[A63, ".", A63, ".", A63, ".", A61])?;
     assert_eq!(rt; longest.len(), 253);
     assert_eq!(rt;
         shown(&domain(rt.alloc(), longest.as_str(), Profile::Standard)?),
         longest.as_str()
     );
-    let with_root = format!(in rt.alloc(); "{longest}.")?;
+    let with_root = joined(rt.alloc(), &[longest.as_str(), "."])?;
     assert_eq!(rt;
         shown(&domain(rt.alloc(), with_root.as_str(), Profile::Standard)?),
         with_root.as_str()
     );
-    let longer = format!(in rt.alloc(); "{A63}.{A63}.{A63}.{A62}")?;
+    let longer = joined(rt.alloc(), &[A63, ".", A63, ".", A63, ".", A62])?;
     assert_eq!(rt; longer.len(), 254);
     assert_eq!(rt;
         shown(&domain(rt.alloc(), longer.as_str(), Profile::Standard)?),
         "(not)"
     );
     Ok(())
+}
+
+// The size of a block to ask for behind one that was refused.
+fn smaller(size: usize) -> usize {
+    if size > 4096 {
+        size / 2
+    } else {
+        size.saturating_sub(8)
+    }
+}
+
+// Takes a block, and gives the size of the next one.
+fn take_block(alloc: Global, size: usize, held: &mut Vec<Vec<u8>>) -> usize {
+    match Vec::with_capacity(alloc, size) {
+        Ok(block) => if held.push(block).is_ok() { size } else { 0 },
+        Err(_) => smaller(size),
+    }
 }
 
 /// Takes all the memory that there is, down to blocks of eight bytes. An allocator keeps what was freed by its size, so
@@ -234,14 +259,7 @@ fn take_all(alloc: Global, held: &mut Vec<Vec<u8>>) {
         if size < 8 {
             break;
         }
-        match Vec::with_capacity(alloc, size) {
-            Ok(block) => {
-                if held.push(block).is_err() {
-                    break;
-                }
-            }
-            Err(_) => size = if size > 4096 { size / 2 } else { size - 8 },
-        }
+        size = take_block(alloc, size, held);
     }
 }
 

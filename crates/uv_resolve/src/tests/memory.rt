@@ -4,87 +4,141 @@ use super::*;
 
 const LONG: usize = 100_000;
 
-// A front, and then a piece so many times.
-fn repeated(alloc: Global, front: &str, piece: &str, count: usize) -> Result<String, Fail> {
-    let mut text = String::from_str(alloc, front)?;
+// A text so many times.
+fn push_often(text: &mut String, piece: &str, count: usize) -> Result<(), AllocError> {
     for _ in 0..count {
         text.push_str(piece)?;
     }
+    Ok(())
+}
+
+// A front, and then a piece so many times.
+fn repeated(alloc: Global, front: &str, piece: &str, count: usize) -> Result<String, AllocError> {
+    let mut text = String::from_str(alloc, front)?;
+    push_often(&mut text, piece, count)?;
     Ok(text)
 }
 
-// Long opaque paths, segments, queries and fragments, where each code point becomes six.
+// Whether long opaque paths, segments, queries and fragments behind a front are encoded, each code point as six.
+fn encodes_behind(alloc: Global, front: &str) -> Result<bool, ResolveFault> {
+    let text = repeated(alloc, front, "\u{E9}", LONG)?;
+    let want = repeated(alloc, front, "%C3%A9", LONG)?;
+    is_answer(alloc, text.as_str(), None, &Answer::Url(want.as_str()))
+}
+
 #[test]
-fn resolves_long_texts(rt: HostRuntime) -> Result<(), Fail> {
+fn resolves_long_texts(rt: HostRuntime) -> Result<(), ResolveFault> {
     for front in ["urn:", "http://h/", "http://h/?", "http://h/#", "foo://"] {
-        let text = repeated(rt.alloc(), front, "\u{E9}", LONG)?;
-        let want = repeated(rt.alloc(), front, "%C3%A9", LONG)?;
-        let found = answer(rt.alloc(), text.as_str(), None)?;
-        assert!(rt; found.as_str() == want.as_str(), "behind {front}");
+        let found = encodes_behind(rt.alloc(), front)?;
+        assert!(rt; found, "{front}");
     }
     Ok(())
 }
 
 #[test]
-fn resolves_many_segments(rt: HostRuntime) -> Result<(), Fail> {
+fn resolves_many_segments(rt: HostRuntime) -> Result<(), ResolveFault> {
     let text = repeated(rt.alloc(), "http://h", "/a", LONG)?;
-    let found = answer(rt.alloc(), text.as_str(), None)?;
-    assert!(rt; found.as_str() == text.as_str());
-    let relative = repeated(rt.alloc(), "", "../", LONG - 1)?;
-    let found = answer(rt.alloc(), relative.as_str(), Some(text.as_str()))?;
-    assert_eq!(rt; found.as_str(), "http://h/");
+    let found = is_answer(rt.alloc(), text.as_str(), None, &Answer::Url(text.as_str()))?;
+    assert!(rt; found);
     Ok(())
 }
 
-// Each kind of host in the text, alone and against a base, and in the base.
 #[test]
-fn resolves_each_kind_of_host(rt: HostRuntime) -> Result<(), Fail> {
-    for (scheme, host) in [
-        ("http:", "//h"),
-        ("http:", "//xn--bcher-kva.example"),
-        ("http:", "//192.168.0.1"),
-        ("http:", "//[1:2::8]"),
-        ("file:", "//h"),
-        ("file:", "//"),
-        ("foo:", "//h"),
-        ("foo:", "//"),
-        ("foo:", "//[1:2::8]"),
-        ("foo:", ""),
-    ] {
-        is_the_base_host(&rt, scheme, host)?;
-        is_the_own_host(&rt, scheme, host)?;
+fn removes_many_segments(rt: HostRuntime) -> Result<(), ResolveFault> {
+    let text = repeated(rt.alloc(), "http://h", "/a", LONG)?;
+    let base = record_of(rt.alloc(), text.as_str())?;
+    let relative = repeated(rt.alloc(), "", "../", LONG - 1)?;
+    let found = is_answer(
+        rt.alloc(),
+        relative.as_str(),
+        Some(&base),
+        &Answer::Url("http://h/"),
+    )?;
+    assert!(rt; found);
+    Ok(())
+}
+
+// A base with each kind of host, and what `c` is against it.
+const BASE_HOSTS: [(&str, &str); 10] = [
+    ("http://h/a/b?q", "http://h/a/c"),
+    (
+        "http://xn--bcher-kva.example/a/b?q",
+        "http://xn--bcher-kva.example/a/c",
+    ),
+    ("http://192.168.0.1/a/b?q", "http://192.168.0.1/a/c"),
+    ("http://[1:2::8]/a/b?q", "http://[1:2::8]/a/c"),
+    ("file://h/a/b?q", "file://h/a/c"),
+    ("file:///a/b?q", "file:///a/c"),
+    ("foo://h/a/b?q", "foo://h/a/c"),
+    ("foo:///a/b?q", "foo:///a/c"),
+    ("foo://[1:2::8]/a/b?q", "foo://[1:2::8]/a/c"),
+    ("foo:/a/b?q", "foo:/a/c"),
+];
+
+#[test]
+fn keeps_each_kind_of_host(rt: HostRuntime) -> Result<(), ResolveFault> {
+    for (base, want) in BASE_HOSTS.iter() {
+        answers_against(&rt, *base, &[("c", Answer::Url(*want))])?;
     }
     Ok(())
 }
 
-// A path is resolved against a base with this host.
-fn is_the_base_host(rt: &(impl Abort + AllocGlobal), scheme: &str, host: &str) -> Result<(), Fail> {
-    let whole = format!(in rt.alloc(); "{scheme}{host}/a/b?q")?;
-    let sibling = format!(in rt.alloc(); "{scheme}{host}/a/c")?;
-    let found = answer(rt.alloc(), "c", Some(whole.as_str()))?;
-    assert_eq!(rt; found.as_str(), sibling.as_str());
-    Ok(())
-}
+// A text with each kind of host, or with none, a base with another, and what the text is against it.
+const OWN_HOSTS: [(&str, &str, &str); 10] = [
+    ("//h/a/b?q", "http://g/x", "http://h/a/b?q"),
+    (
+        "//xn--bcher-kva.example/a/b?q",
+        "http://g/x",
+        "http://xn--bcher-kva.example/a/b?q",
+    ),
+    (
+        "//192.168.0.1/a/b?q",
+        "http://g/x",
+        "http://192.168.0.1/a/b?q",
+    ),
+    ("//[1:2::8]/a/b?q", "http://g/x", "http://[1:2::8]/a/b?q"),
+    ("//h/a/b?q", "file://g/x", "file://h/a/b?q"),
+    ("///a/b?q", "file://g/x", "file:///a/b?q"),
+    ("//h/a/b?q", "foo://g/x", "foo://h/a/b?q"),
+    ("///a/b?q", "foo://g/x", "foo:///a/b?q"),
+    ("//[1:2::8]/a/b?q", "foo://g/x", "foo://[1:2::8]/a/b?q"),
+    ("/a/b?q", "foo://g/x", "foo://g/a/b?q"),
+];
 
-// A text with this host, or with none, is resolved against a base with another host.
-fn is_the_own_host(rt: &(impl Abort + AllocGlobal), scheme: &str, host: &str) -> Result<(), Fail> {
-    let reference = format!(in rt.alloc(); "{host}/a/b?q")?;
-    let base = format!(in rt.alloc(); "{scheme}//g/x")?;
-    let found = answer(rt.alloc(), reference.as_str(), Some(base.as_str()))?;
-    let kept = if host.is_empty() { "//g" } else { host };
-    let want = format!(in rt.alloc(); "{scheme}{kept}/a/b?q")?;
-    assert_eq!(rt; found.as_str(), want.as_str());
+#[test]
+fn resolves_each_kind_of_host(rt: HostRuntime) -> Result<(), ResolveFault> {
+    for (text, base, want) in OWN_HOSTS.iter() {
+        answers_against(&rt, *base, &[(*text, Answer::Url(*want))])?;
+    }
     Ok(())
 }
 
 // A long text that is refused at its end.
 #[test]
-fn refuses_a_long_text(rt: HostRuntime) -> Result<(), Fail> {
+fn refuses_a_long_text(rt: HostRuntime) -> Result<(), ResolveFault> {
     let mut text = repeated(rt.alloc(), "http://h/", "a/", LONG)?;
     text.push_str(" ")?;
-    let found = answer(rt.alloc(), text.as_str(), None)?;
-    assert_eq!(rt; found.as_str(), "refused 200009 code-point");
+    let want = Answer::No(200_009, Rule::CodePoint);
+    let found = is_answer(rt.alloc(), text.as_str(), None, &want)?;
+    assert!(rt; found);
     Ok(())
+}
+
+// The size of a block to ask for behind one that was refused.
+fn smaller(size: usize) -> usize {
+    if size > 4096 {
+        size / 2
+    } else {
+        size.saturating_sub(8)
+    }
+}
+
+// Takes a block, and gives the size of the next one.
+fn take_block(alloc: Global, size: usize, held: &mut Vec<Vec<u8>>) -> usize {
+    match Vec::with_capacity(alloc, size) {
+        Ok(block) => if held.push(block).is_ok() { size } else { 0 },
+        Err(_) => smaller(size),
+    }
 }
 
 /// Takes all the memory that there is, down to blocks of eight bytes. An allocator keeps what was freed by its size, so
@@ -95,58 +149,37 @@ fn take_all(alloc: Global, held: &mut Vec<Vec<u8>>) {
         if size < 8 {
             break;
         }
-        match Vec::with_capacity(alloc, size) {
-            Ok(block) => {
-                if held.push(block).is_err() {
-                    break;
-                }
-            }
-            Err(_) => size = if size > 4096 { size / 2 } else { size - 8 },
-        }
-    }
-}
-
-// The fault of a text, if there is one.
-fn fault_of(alloc: Global, text: &str) -> Option<ResolveFault> {
-    resolve(alloc, text, None, Profile::Standard).err()
-}
-
-// The refusal of a text that isn't valid.
-fn refusal_of(alloc: Global, text: &str) -> Option<Refusal> {
-    match fault_of(alloc, text) {
-        Some(ResolveFault::Refused(refusal)) => Some(refusal),
-        _ => None,
+        size = take_block(alloc, size, held);
     }
 }
 
 // Whether memory is wanted for a text.
 fn wants_memory(alloc: Global, text: &str) -> bool {
-    matches!(fault_of(alloc, text), Some(ResolveFault::Memory(_)))
+    matches!(
+        resolve(alloc, text, None, Profile::Standard),
+        Err(ResolveFault::Memory(_))
+    )
+}
+
+// Whether a text is refused so.
+fn is_refused(alloc: Global, text: &str, place: usize, rule: Rule) -> bool {
+    matches!(
+        is_answer(alloc, text, None, &Answer::No(place, rule)),
+        Ok(true)
+    )
 }
 
 // A text whose check takes no memory is refused while there is none.
 #[test]
-fn refuses_without_memory(rt: HostRuntime) -> Result<(), Fail> {
+fn refuses_without_memory(rt: HostRuntime) -> Result<(), AllocError> {
     let mut held = Vec::with_capacity(rt.alloc(), 400_000)?;
     take_all(rt.alloc(), &mut held);
     let upper = wants_memory(rt.alloc(), "http://EXAMPLE.com/");
-    let slashes = refusal_of(rt.alloc(), "http:x");
-    let underscore = refusal_of(rt.alloc(), "http://a_b/");
+    let slashes = is_refused(rt.alloc(), "http:x", 5, Rule::TwoSlashes);
+    let underscore = is_refused(rt.alloc(), "http://a_b/", 7, Rule::HostDomain);
     drop(held);
     assert!(rt; upper, "memory was found");
-    assert_eq!(rt;
-        slashes,
-        Some(Refusal {
-            place: 5,
-            rule: Rule::TwoSlashes
-        })
-    );
-    assert_eq!(rt;
-        underscore,
-        Some(Refusal {
-            place: 7,
-            rule: Rule::HostDomain
-        })
-    );
+    assert!(rt; slashes);
+    assert!(rt; underscore);
     Ok(())
 }

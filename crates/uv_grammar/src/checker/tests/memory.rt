@@ -6,8 +6,11 @@ use crate::checker::tests::references::base_of;
 use uv_host::domain;
 use uv_model::{Host, Rule, Text};
 
+// A text, whether it is against a base, and its refusal.
+type Row = (&'static str, bool, Option<(usize, Rule)>);
+
 // Texts of whose host no form is made, each alone or against the base `http://x/a`, and their refusals.
-const ROWS: [(&str, bool, Option<(usize, Rule)>); 19] = [
+const ROWS: [Row; 19] = [
     ("urn:a", false, None),
     ("http://1.2.3.4/a/b", false, None),
     ("foo://h/", false, None),
@@ -32,6 +35,23 @@ const ROWS: [(&str, bool, Option<(usize, Rule)>); 19] = [
     ("http://1.2.3/", false, Some((7, Rule::HostNumber))),
 ];
 
+// The size of a block to ask for behind one that was refused.
+fn smaller(size: usize) -> usize {
+    if size > 4096 {
+        size / 2
+    } else {
+        size.saturating_sub(8)
+    }
+}
+
+// Takes a block, and gives the size of the next one.
+fn take_block(alloc: Global, size: usize, held: &mut Vec<Vec<u8>>) -> usize {
+    match Vec::with_capacity(alloc, size) {
+        Ok(block) => if held.push(block).is_ok() { size } else { 0 },
+        Err(_) => smaller(size),
+    }
+}
+
 /// Takes all the memory that there is, down to blocks of eight bytes. An allocator keeps what was freed by its size, so
 /// every small size is asked for, and not the powers of two alone.
 fn take_all(alloc: Global, held: &mut Vec<Vec<u8>>) {
@@ -40,14 +60,7 @@ fn take_all(alloc: Global, held: &mut Vec<Vec<u8>>) {
         if size < 8 {
             break;
         }
-        match Vec::with_capacity(alloc, size) {
-            Ok(block) => {
-                if held.push(block).is_err() {
-                    break;
-                }
-            }
-            Err(_) => size = if size > 4096 { size / 2 } else { size - 8 },
-        }
+        size = take_block(alloc, size, held);
     }
 }
 
@@ -60,36 +73,56 @@ fn answer(alloc: Global, text: &str, base: Option<&Record>) -> Option<Option<(us
     }
 }
 
-// The answers on the rows; the room for them is there already.
-fn answers(alloc: Global, base: &Record, found: &mut Vec<Option<Option<(usize, Rule)>>>) {
+// Whether a row's text is answered as the row says.
+fn is_answered(alloc: Global, row: &Row, base: &Record) -> bool {
+    let base = if row.1 { Some(base) } else { None };
+    answer(alloc, row.0, base) == Some(row.2)
+}
+
+// The text of the first row that is answered otherwise.
+fn first_wrong(alloc: Global, base: &Record) -> Option<&'static str> {
     for row in ROWS.iter() {
-        let base = if row.1 { Some(base) } else { None };
-        if found.push(answer(alloc, row.0, base)).is_err() {
-            break;
+        if !is_answered(alloc, row, base) {
+            return Some(row.0);
         }
     }
+    None
+}
+
+// Whether a form is made of a text's host.
+fn makes_form(alloc: Global, text: &str) -> bool {
+    domain(alloc, text, Profile::Standard).is_ok()
+}
+
+// The base of the rows.
+fn row_base(alloc: Global) -> Result<Option<Record>, AllocError> {
+    let host = Host::Domain(Text::of(String::from_str(alloc, "x")?));
+    base_of(alloc, "http", Some(host), &["a"], None)
+}
+
+// What is seen while there is no memory: whether a form is made, whether a text whose host needs one is answered, and
+// the first row that is answered otherwise than it says.
+fn seen_without_memory(
+    alloc: Global,
+    base: &Record,
+) -> Result<(bool, bool, Option<&'static str>), AllocError> {
+    let mut held = Vec::with_capacity(alloc, 400_000)?;
+    take_all(alloc, &mut held);
+    let made = makes_form(alloc, "EXAMPLE.com");
+    let answered = answer(alloc, "http://EXAMPLE.com/", None).is_some();
+    let wrong = first_wrong(alloc, base);
+    Ok((made, answered, wrong))
 }
 
 #[test]
-fn takes_no_memory(rt: HostRuntime) -> Result<(), Fail> {
-    let host = Host::Domain(Text::of(String::from_str(rt.alloc(), "x")?));
-    let Some(base) = base_of(rt.alloc(), "http", Some(host), &["a"], None)? else {
+fn takes_no_memory(rt: HostRuntime) -> Result<(), AllocError> {
+    let Some(base) = row_base(rt.alloc())? else {
         panic!(rt; "no base");
     };
-    let mut found = Vec::with_capacity(rt.alloc(), ROWS.len())?;
-    let mut held = Vec::with_capacity(rt.alloc(), 400_000)?;
-    take_all(rt.alloc(), &mut held);
-    let upper = domain(rt.alloc(), "EXAMPLE.com", Profile::Standard);
-    let wanting = answer(rt.alloc(), "http://EXAMPLE.com/", None);
-    answers(rt.alloc(), &base, &mut found);
-    drop(held);
-    assert!(rt; upper.is_err(), "memory was found");
-    assert_eq!(rt; wanting, None, "a form was made");
-    assert_eq!(rt; found.len(), ROWS.len());
-    for (row, answer) in ROWS.iter().zip(found.iter()) {
-        let text = row.0;
-        assert_eq!(rt; *answer, Some(row.2), "{text}");
-    }
+    let (made, answered, wrong) = seen_without_memory(rt.alloc(), &base)?;
+    assert!(rt; !made, "memory was found");
+    assert!(rt; !answered, "a form was made");
+    assert_eq!(rt; wrong, None);
     assert_eq!(rt; answer(rt.alloc(), "http://EXAMPLE.com/", None), Some(None));
     Ok(())
 }

@@ -4,89 +4,92 @@
 use super::*;
 
 #[test]
-fn takes_ports_root_dots_and_capitals(rt: HostRuntime) -> Result<(), Fail> {
-    for (text, line) in [
-        (
-            "http://h:8080/x",
-            "scheme-authority scheme http host h is domain h port 8080 is 8080 path /x (x)",
-        ),
-        (
-            "HTTPS://h:443/",
-            "scheme-authority scheme HTTPS host h is domain h port 443 is none path / ()",
-        ),
-        (
-            "Ftp://h:80?a",
-            "scheme-authority scheme Ftp host h is domain h port 80 is 80 path  query a",
-        ),
-        (
-            "http://example.com./",
-            "scheme-authority scheme http host example.com. is domain example.com. path / ()",
-        ),
-        (
-            "ws://a-b.c.:0#d",
-            "scheme-authority scheme ws host a-b.c. is domain a-b.c. port 0 is 0 path  fragment d",
-        ),
-        (
-            "FILE:///x",
-            "scheme-authority scheme FILE host  is empty path /x (x)",
-        ),
-        ("X://h/", "scheme-authority scheme X host h is - path / ()"),
-    ] {
-        let found = verdict_line(rt.alloc(), text, None)?;
-        assert_eq!(rt; found.as_str(), line, "{text}");
-    }
-    Ok(())
+fn takes_ports_root_dots_and_capitals(rt: HostRuntime) -> Result<(), AllocError> {
+    are_lines(
+        &rt,
+        None,
+        Profile::Standard,
+        &[
+            (
+                "http://h:8080/x",
+                "scheme-authority scheme http host h is domain h port 8080 is 8080 path /x (x)",
+            ),
+            (
+                "HTTPS://h:443/",
+                "scheme-authority scheme HTTPS host h is domain h port 443 is none path / ()",
+            ),
+            (
+                "Ftp://h:80?a",
+                "scheme-authority scheme Ftp host h is domain h port 80 is 80 path  query a",
+            ),
+            (
+                "http://example.com./",
+                "scheme-authority scheme http host example.com. is domain example.com. path / ()",
+            ),
+            (
+                "ws://a-b.c.:0#d",
+                "scheme-authority scheme ws host a-b.c. is domain a-b.c. port 0 is 0 path  fragment d",
+            ),
+            (
+                "FILE:///x",
+                "scheme-authority scheme FILE host  is empty path /x (x)",
+            ),
+            ("X://h/", "scheme-authority scheme X host h is - path / ()"),
+        ],
+    )
 }
 
 #[test]
-fn refuses_what_is_nearly_plain(rt: HostRuntime) -> Result<(), Fail> {
-    for (text, line) in [
-        ("http://h:65536/x", "no 9 port-range"),
-        ("http://h:80a/x", "no 11 port-digit"),
-        ("http://h:80:80/x", "no 11 port-digit"),
-        ("http://a-/", "no 7 host-domain"),
-        ("http://a-.b/", "no 7 host-domain"),
-        ("http://a../", "no 7 host-domain"),
-        ("http://./", "no 7 host-domain"),
-        ("http://1./", "no 7 host-number"),
-        ("http://h.:1//a", "no 12 first-segment-empty"),
-        ("HTTP:/h", "no 6 two-slashes"),
-        ("HTTP://", "no 7 host-missing"),
-    ] {
-        let found = verdict_line(rt.alloc(), text, None)?;
-        assert_eq!(rt; found.as_str(), line, "{text}");
-    }
-    Ok(())
+fn refuses_what_is_nearly_plain(rt: HostRuntime) -> Result<(), AllocError> {
+    are_lines(
+        &rt,
+        None,
+        Profile::Standard,
+        &[
+            ("http://h:65536/x", "no 9 port-range"),
+            ("http://h:80a/x", "no 11 port-digit"),
+            ("http://h:80:80/x", "no 11 port-digit"),
+            ("http://a-/", "no 7 host-domain"),
+            ("http://a-.b/", "no 7 host-domain"),
+            ("http://a../", "no 7 host-domain"),
+            ("http://./", "no 7 host-domain"),
+            ("http://1./", "no 7 host-number"),
+            ("http://h.:1//a", "no 12 first-segment-empty"),
+            ("HTTP:/h", "no 6 two-slashes"),
+            ("HTTP://", "no 7 host-missing"),
+        ],
+    )
 }
 
 #[test]
-fn tells_numbers_from_words(rt: HostRuntime) -> Result<(), Fail> {
-    for (text, line) in [
-        (
-            "http://a.0xg/",
-            "scheme-authority scheme http host a.0xg is domain a.0xg path / ()",
-        ),
-        (
-            "http://a.f",
-            "scheme-authority scheme http host a.f is domain a.f path ",
-        ),
-        (
-            "http://a.9x.",
-            "scheme-authority scheme http host a.9x. is domain a.9x. path ",
-        ),
-        (
-            "http://0x1.x",
-            "scheme-authority scheme http host 0x1.x is domain 0x1.x path ",
-        ),
-        ("http://a.0x", "no 7 host-number"),
-        ("http://a.0x./", "no 7 host-number"),
-        ("http://a.0xf/", "no 7 host-number"),
-        ("http://a.9.?x", "no 7 host-number"),
-    ] {
-        let found = verdict_line(rt.alloc(), text, None)?;
-        assert_eq!(rt; found.as_str(), line, "{text}");
-    }
-    Ok(())
+fn tells_numbers_from_words(rt: HostRuntime) -> Result<(), AllocError> {
+    are_lines(
+        &rt,
+        None,
+        Profile::Standard,
+        &[
+            (
+                "http://a.0xg/",
+                "scheme-authority scheme http host a.0xg is domain a.0xg path / ()",
+            ),
+            (
+                "http://a.f",
+                "scheme-authority scheme http host a.f is domain a.f path ",
+            ),
+            (
+                "http://a.9x.",
+                "scheme-authority scheme http host a.9x. is domain a.9x. path ",
+            ),
+            (
+                "http://0x1.x",
+                "scheme-authority scheme http host 0x1.x is domain 0x1.x path ",
+            ),
+            ("http://a.0x", "no 7 host-number"),
+            ("http://a.0x./", "no 7 host-number"),
+            ("http://a.0xf/", "no 7 host-number"),
+            ("http://a.9.?x", "no 7 host-number"),
+        ],
+    )
 }
 
 // A front, a piece so many times, and an end.
@@ -96,7 +99,7 @@ fn long_text(
     piece: &str,
     count: usize,
     end: &str,
-) -> Result<String, Fail> {
+) -> Result<String, AllocError> {
     let mut text = String::from_str(alloc, front)?;
     for _ in 0..count {
         text.push_str(piece)?;
@@ -106,15 +109,34 @@ fn long_text(
 }
 
 #[test]
-fn names_places_behind_long_fronts(rt: HostRuntime) -> Result<(), Fail> {
-    for (front, piece, count, end, line) in [
-        ("http://h/", "a", 100usize, " ", "no 109 code-point"),
-        ("http://h/", "\u{E9}", 40, "%4", "no 49 percent"),
-        ("foo://", "a", 64, "^/", "no 70 host-code-point"),
-    ] {
-        let text = long_text(rt.alloc(), front, piece, count, end)?;
-        let found = verdict_line(rt.alloc(), text.as_str(), None)?;
-        assert_eq!(rt; found.as_str(), line, "{front}{piece}");
-    }
-    Ok(())
+fn names_places_behind_long_fronts(rt: HostRuntime) -> Result<(), AllocError> {
+    let letters = long_text(rt.alloc(), "http://h/", "a", 100, " ")?;
+    are_lines(
+        &rt,
+        None,
+        Profile::Standard,
+        &[(letters.as_str(), "no 109 code-point")],
+    )
+}
+
+#[test]
+fn names_places_behind_long_fronts_beyond_ascii(rt: HostRuntime) -> Result<(), AllocError> {
+    let accents = long_text(rt.alloc(), "http://h/", "\u{E9}", 40, "%4")?;
+    are_lines(
+        &rt,
+        None,
+        Profile::Standard,
+        &[(accents.as_str(), "no 49 percent")],
+    )
+}
+
+#[test]
+fn names_places_behind_long_hosts(rt: HostRuntime) -> Result<(), AllocError> {
+    let host = long_text(rt.alloc(), "foo://", "a", 64, "^/")?;
+    are_lines(
+        &rt,
+        None,
+        Profile::Standard,
+        &[(host.as_str(), "no 70 host-code-point")],
+    )
 }

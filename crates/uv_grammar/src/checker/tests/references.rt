@@ -5,7 +5,7 @@ use super::*;
 use uv_model::{Text, TextList, UrlPath, well_formed};
 
 // An ASCII text, empty in place of any other.
-fn ascii(alloc: Global, text: &str) -> Result<Text, Fail> {
+fn ascii(alloc: Global, text: &str) -> Result<Text, AllocError> {
     let string = String::from_str(alloc, text)?;
     if string.as_str().is_ascii() {
         Ok(Text::of(string))
@@ -15,7 +15,7 @@ fn ascii(alloc: Global, text: &str) -> Result<Text, Fail> {
 }
 
 // A path of these segments.
-fn path_of(alloc: Global, segments: &[&str]) -> Result<UrlPath, Fail> {
+fn path_of(alloc: Global, segments: &[&str]) -> Result<UrlPath, AllocError> {
     let mut items = Vec::new(alloc);
     for segment in segments {
         items.push(ascii(alloc, *segment)?)?;
@@ -30,7 +30,7 @@ pub(super) fn base_of(
     host: Option<Host>,
     segments: &[&str],
     query: Option<&str>,
-) -> Result<Option<Record>, Fail> {
+) -> Result<Option<Record>, AllocError> {
     let path = path_of(alloc, segments)?;
     made(alloc, scheme, host, path, query)
 }
@@ -41,7 +41,7 @@ fn made(
     host: Option<Host>,
     path: UrlPath,
     query: Option<&str>,
-) -> Result<Option<Record>, Fail> {
+) -> Result<Option<Record>, AllocError> {
     let scheme = String::from_str(alloc, scheme)?;
     if !well_formed(
         scheme.as_str(),
@@ -61,35 +61,42 @@ fn made(
     Ok(Some(Record::make(scheme, host, None, path, query, None)))
 }
 
-#[test]
-fn judges_references_against_special_bases(rt: HostRuntime) -> Result<(), Fail> {
-    let host = Host::Domain(ascii(rt.alloc(), "h")?);
-    let base = base_of(rt.alloc(), "http", Some(host), &["a", "b"], Some("q"))?;
-    for (text, line) in [
-        ("", "no-path path "),
-        ("#f", "no-path path  fragment f"),
-        ("?x", "no-path path  query x"),
-        (".", "path-relative path . (.)"),
-        ("..", "path-relative path .. (..)"),
-        ("x", "path-relative path x (x)"),
-        ("/x", "path-absolute path /x (x)"),
-        ("a:b", "scheme-opaque scheme a path b"),
-        ("./a:b", "path-relative path ./a:b (.) (a:b)"),
-        ("1:b", "path-relative path 1:b (1:b)"),
-        ("//g", "authority host g is domain g path "),
-        ("//", "no 2 host-missing"),
-        ("///x", "no 2 host-missing"),
-        ("http:x", "no 5 two-slashes"),
-        ("x y", "no 1 code-point"),
-    ] {
-        let found = verdict_line(rt.alloc(), text, base.as_ref())?;
-        assert_eq!(rt; found.as_str(), line, "{text}");
-    }
-    Ok(())
+// `http://h/a/b?q`.
+fn special_base(alloc: Global) -> Result<Option<Record>, AllocError> {
+    let host = Host::Domain(ascii(alloc, "h")?);
+    base_of(alloc, "http", Some(host), &["a", "b"], Some("q"))
 }
 
 #[test]
-fn judges_references_against_file_bases(rt: HostRuntime) -> Result<(), Fail> {
+fn judges_references_against_special_bases(rt: HostRuntime) -> Result<(), AllocError> {
+    let base = special_base(rt.alloc())?;
+    assert!(rt; base.is_some());
+    are_lines(
+        &rt,
+        base.as_ref(),
+        Profile::Standard,
+        &[
+            ("", "no-path path "),
+            ("#f", "no-path path  fragment f"),
+            ("?x", "no-path path  query x"),
+            (".", "path-relative path . (.)"),
+            ("..", "path-relative path .. (..)"),
+            ("x", "path-relative path x (x)"),
+            ("/x", "path-absolute path /x (x)"),
+            ("a:b", "scheme-opaque scheme a path b"),
+            ("./a:b", "path-relative path ./a:b (.) (a:b)"),
+            ("1:b", "path-relative path 1:b (1:b)"),
+            ("//g", "authority host g is domain g path "),
+            ("//", "no 2 host-missing"),
+            ("///x", "no 2 host-missing"),
+            ("http:x", "no 5 two-slashes"),
+            ("x y", "no 1 code-point"),
+        ],
+    )
+}
+
+#[test]
+fn judges_references_against_file_bases(rt: HostRuntime) -> Result<(), AllocError> {
     let drive = base_of(
         rt.alloc(),
         "file",
@@ -97,61 +104,89 @@ fn judges_references_against_file_bases(rt: HostRuntime) -> Result<(), Fail> {
         &["C:", "d", "f"],
         None,
     )?;
-    for (text, line) in [
-        ("/x", "path-absolute path /x (x)"),
-        ("/D:?q", "path-absolute path /D: (D:) query q"),
-        ("/D:/x", "path-absolute path /D:/x (D:) (x)"),
-        ("/..", "path-absolute path /.. (..)"),
-        ("C:/x", "scheme-path scheme C path /x (x)"),
-        ("..", "path-relative path .. (..)"),
-        ("///x", "authority host  is empty path /x (x)"),
-        ("//h/x", "authority host h is domain h path /x (x)"),
-        ("//", "no 2 host-missing"),
-        ("C|/x", "no 1 code-point"),
-        ("/D|/x", "no 2 code-point"),
-    ] {
-        let found = verdict_line(rt.alloc(), text, drive.as_ref())?;
-        assert_eq!(rt; found.as_str(), line, "{text}");
-    }
-    let name = Host::Domain(ascii(rt.alloc(), "h")?);
-    let host = base_of(rt.alloc(), "file", Some(name), &["a"], None)?;
-    for (text, line) in [
-        ("/C:/x", "no 0 drive-after-host"),
-        ("/b", "path-absolute path /b (b)"),
-        ("C:/x", "scheme-path scheme C path /x (x)"),
-        ("file:/C:/x", "no 6 two-slashes"),
-    ] {
-        let found = verdict_line(rt.alloc(), text, host.as_ref())?;
-        assert_eq!(rt; found.as_str(), line, "{text}");
-    }
-    Ok(())
+    assert!(rt; drive.is_some());
+    are_lines(
+        &rt,
+        drive.as_ref(),
+        Profile::Standard,
+        &[
+            ("/x", "path-absolute path /x (x)"),
+            ("/D:?q", "path-absolute path /D: (D:) query q"),
+            ("/D:/x", "path-absolute path /D:/x (D:) (x)"),
+            ("/..", "path-absolute path /.. (..)"),
+            ("C:/x", "scheme-path scheme C path /x (x)"),
+            ("..", "path-relative path .. (..)"),
+            ("///x", "authority host  is empty path /x (x)"),
+            ("//h/x", "authority host h is domain h path /x (x)"),
+            ("//", "no 2 host-missing"),
+            ("C|/x", "no 1 code-point"),
+            ("/D|/x", "no 2 code-point"),
+        ],
+    )
+}
+
+// `file://h/a`.
+fn file_base(alloc: Global) -> Result<Option<Record>, AllocError> {
+    let host = Host::Domain(ascii(alloc, "h")?);
+    base_of(alloc, "file", Some(host), &["a"], None)
 }
 
 #[test]
-fn judges_references_against_other_bases(rt: HostRuntime) -> Result<(), Fail> {
+fn judges_references_against_files_of_a_host(rt: HostRuntime) -> Result<(), AllocError> {
+    let host = file_base(rt.alloc())?;
+    assert!(rt; host.is_some());
+    are_lines(
+        &rt,
+        host.as_ref(),
+        Profile::Standard,
+        &[
+            ("/C:/x", "no 0 drive-after-host"),
+            ("/b", "path-absolute path /b (b)"),
+            ("C:/x", "scheme-path scheme C path /x (x)"),
+            ("file:/C:/x", "no 6 two-slashes"),
+        ],
+    )
+}
+
+#[test]
+fn judges_references_against_other_bases(rt: HostRuntime) -> Result<(), AllocError> {
     let bare = base_of(rt.alloc(), "foo", None, &["a"], None)?;
-    for (text, line) in [
-        ("..//x", "path-relative path ..//x (..) () (x)"),
-        ("//", "authority host  is empty path "),
-        ("//g", "authority host g is - path "),
-        ("/C:/x", "path-absolute path /C:/x (C:) (x)"),
-    ] {
-        let found = verdict_line(rt.alloc(), text, bare.as_ref())?;
-        assert_eq!(rt; found.as_str(), line, "{text}");
-    }
-    let path = UrlPath::Opaque(ascii(rt.alloc(), "a")?);
-    let opaque = made(rt.alloc(), "urn", None, path, None)?;
-    for (text, line) in [
-        ("#t", "no-path path  fragment t"),
-        ("x", "no 0 opaque-base"),
-        ("", "no 0 opaque-base"),
-        ("?q", "no 0 opaque-base"),
-        ("//h%4/x", "no 0 opaque-base"),
-        ("#t u", "no 2 code-point"),
-        ("urn:b", "scheme-opaque scheme urn path b"),
-    ] {
-        let found = verdict_line(rt.alloc(), text, opaque.as_ref())?;
-        assert_eq!(rt; found.as_str(), line, "{text}");
-    }
-    Ok(())
+    assert!(rt; bare.is_some());
+    are_lines(
+        &rt,
+        bare.as_ref(),
+        Profile::Standard,
+        &[
+            ("..//x", "path-relative path ..//x (..) () (x)"),
+            ("//", "authority host  is empty path "),
+            ("//g", "authority host g is - path "),
+            ("/C:/x", "path-absolute path /C:/x (C:) (x)"),
+        ],
+    )
+}
+
+// `urn:a`.
+fn opaque_base(alloc: Global) -> Result<Option<Record>, AllocError> {
+    let path = UrlPath::Opaque(ascii(alloc, "a")?);
+    made(alloc, "urn", None, path, None)
+}
+
+#[test]
+fn judges_references_against_an_opaque_base(rt: HostRuntime) -> Result<(), AllocError> {
+    let opaque = opaque_base(rt.alloc())?;
+    assert!(rt; opaque.is_some());
+    are_lines(
+        &rt,
+        opaque.as_ref(),
+        Profile::Standard,
+        &[
+            ("#t", "no-path path  fragment t"),
+            ("x", "no 0 opaque-base"),
+            ("", "no 0 opaque-base"),
+            ("?q", "no 0 opaque-base"),
+            ("//h%4/x", "no 0 opaque-base"),
+            ("#t u", "no 2 code-point"),
+            ("urn:b", "scheme-opaque scheme urn path b"),
+        ],
+    )
 }
