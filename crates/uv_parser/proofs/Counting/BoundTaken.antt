@@ -1,6 +1,7 @@
 -- Of each length from four on there is a text whose run takes the whole bound on its steps: `//h:` and zeros, against
 -- `http://h/`.
-use Rattle.std.proofs.Common.{◌≡◌, ℕ, zero, suc, ◌+◌, ◌*◌, true, false, List, [], ◌∷◌, length, drop, Option, Some, None, codes, refl, sym, ap, subst, ◌∙◌, append-nil, arith}
+use Rattle.std.proofs.Common.{◌≡◌, ℕ, zero, suc, ◌+◌, ◌*◌, true, false, List, [], ◌∷◌, length, drop, Option, Some, None}
+use Rattle.std.proofs.Common.{codes, refl, sym, ap, subst, ◌∙◌, append-nil, arith}
 use Rattle.std.specs.Prelude.{nat_lt, replicate}
 use Rattle.std.specs.List.{list_all}
 use Rattle.std.specs.Char.{is_ascii_digit}
@@ -8,13 +9,16 @@ use Rattle.std.specs.Str.Parse.{digits_value, digits_value_after}
 use Rattle.std.proofs.lemmas.List.{length-replicate}
 use Rattle.uv_model.specs.declared.host.Host.TheVariants.{Domain}
 use Rattle.uv_model.specs.Ascii.{slash, colon}
-use Rattle.uv_parser.specs.Machine.{Variables, end, emptied, empty_variables, port_in, with_host, with_more, with_port, with_scheme, AuthorityState, HostState, PathStartState, PathState, PortState, SchemeStartState}
+use Rattle.uv_parser.specs.Machine.{Variables, end, emptied, empty_variables, port_in, with_host, with_more, with_port}
+use Rattle.uv_parser.specs.Machine.{with_scheme, AuthorityState, HostState, PathStartState, PathState, PortState}
+use Rattle.uv_parser.specs.Machine.{SchemeStartState}
 use Rattle.uv_parser.specs.Rows.References.{root_base}
 use Rattle.uv_parser.specs.Run.{Outcome, first_outcome, run, run_from, settle}
 use Rattle.uv_parser.specs.Removed.{first_removed, removed_behind}
 use Rattle.uv_parser.specs.Laws.StepCounts.{BoundIsTaken, IsEnded}
 use Rattle.uv_model.specs.Records.Url.{Url}
-use Rattle.uv_parser.proofs.Loops.AuthorityLoops.{authority_back, drop_many, is_authority_letter, port_row_end, port_steps}
+use Rattle.uv_parser.proofs.Loops.AuthorityLoops.{authority_back, drop_many, is_authority_letter, port_row_end}
+use Rattle.uv_parser.proofs.Loops.AuthorityLoops.{port_steps}
 use Rattle.uv_parser.proofs.Rows.Computing.{parser}
 use Rattle.uv_parser.proofs.Running.Steps.{Leads, at, leads_none, leads_step, leads_then, step_at}
 

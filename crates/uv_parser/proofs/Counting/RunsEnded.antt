@@ -1,18 +1,22 @@
 -- Each run of the parser machine ends within twice the length of the text and five steps, and more steps change
 -- nothing: so a run that has ended after some steps has ended so within the bound.
-use Rattle.std.proofs.Common.{◌≡◌, ℕ, zero, suc, ◌+◌, ◌-◌, ◌<◌, ◌≤◌, List, [], ◌∷◌, length, drop, Option, Some, None, ◌==◌, true, false, refl, sym, ap, subst, ◌∙◌, inl, inr, arith}
+use Rattle.std.proofs.Common.{◌≡◌, ℕ, zero, suc, ◌+◌, ◌-◌, ◌<◌, ◌≤◌, List, [], ◌∷◌, length, drop, Option, Some, None}
+use Rattle.std.proofs.Common.{◌==◌, true, false, refl, sym, ap, subst, ◌∙◌, inl, inr, arith}
 use Rattle.std.specs.Char.{is_ascii_alphabetic}
 use Rattle.std.proofs.lemmas.Bool.{cases_Bool}
 use Rattle.std.proofs.lemmas.Bool.Decides.{nat_tests}
 use Rattle.uv_model.specs.Ascii.{slash}
-use Rattle.uv_parser.specs.Machine.{Turn, onward, again, from_place, stop, turn, begins, SchemeStartState, empty_variables}
-use Rattle.uv_parser.specs.Run.{Machine, Outcome, Done, Stopped, Going, first_outcome, settle, step, run, run_from, step_bound}
+use Rattle.uv_parser.specs.Machine.{Turn, onward, again, from_place, stop, turn, begins, SchemeStartState}
+use Rattle.uv_parser.specs.Machine.{empty_variables}
+use Rattle.uv_parser.specs.Run.{Machine, Outcome, Done, Stopped, Going, first_outcome, settle, step, run, run_from}
+use Rattle.uv_parser.specs.Run.{step_bound}
 use Rattle.uv_parser.specs.Removed.{first_removed}
 use Rattle.uv_parser.specs.Laws.StepCounts.{IsEnded, RunsEnd, RunsKeepTheirEnd, least_step_bound}
 use Rattle.uv_model.specs.Records.Url.{Url}
 use Rattle.uv_parser.proofs.Counting.StepCosts.{LeavesFewer, later, later_at_start, later_without_scheme}
 use Rattle.uv_parser.proofs.Counting.StepsFewer.{turn_fewer}
-use Rattle.uv_parser.proofs.Running.Steps.{EndsAs, Ending, HasEnded, drop_one, leads_done, leads_ended, leads_stopped, run_in_parts}
+use Rattle.uv_parser.proofs.Running.Steps.{EndsAs, Ending, HasEnded, drop_one, leads_done, leads_ended, leads_stopped}
+use Rattle.uv_parser.proofs.Running.Steps.{run_in_parts}
 
 -- behind the step from the first place so many steps come at most
 start_leaves : (text : List ℕ) → later_at_start text 0 text < least_step_bound text
@@ -95,8 +99,8 @@ runs_keep_their_end base text steps within =
     ∙ ended_stays base text (run_from base text first bound) (steps - bound) (runs_end base text))
 
 -- a run that has ended after some steps has ended so within the bound
-pub ended_within_bound : (base : Option Url) (text : List ℕ) (ending : Ending) (k : ℕ) → HasEnded ending (run base text k)
-    → HasEnded ending (run base text (step_bound text))
+pub ended_within_bound : (base : Option Url) (text : List ℕ) (ending : Ending) (k : ℕ)
+    → HasEnded ending (run base text k) → HasEnded ending (run base text (step_bound text))
 unfolding run
 ended_within_bound base text ending k ended =
     let first = first_outcome (first_removed text) in

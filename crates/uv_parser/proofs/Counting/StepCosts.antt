@@ -1,12 +1,19 @@
 -- How many steps of the parser machine are still to come: a bound by the state, the length of the buffer and the rest
 -- of the text, and tools for turns that leave fewer.
-use Rattle.std.proofs.Common.{◌≡◌, ℕ, suc, ◌+◌, ◌*◌, ◌-◌, ◌<◌, ◌≤◌, Bool, true, false, ◌==◌, List, [], ◌∷◌, length, drop, Option, Some, None, if◌then◌else◌, refl, sym, ap, ◌∙◌, length-append, arith}
+use Rattle.std.proofs.Common.{◌≡◌, ℕ, suc, ◌+◌, ◌*◌, ◌-◌, ◌<◌, ◌≤◌, Bool, true, false, ◌==◌, List, [], ◌∷◌, length}
+use Rattle.std.proofs.Common.{drop, Option, Some, None, if◌then◌else◌, refl, sym, ap, ◌∙◌, length-append, arith}
 use Rattle.std.specs.Char.{is_ascii_alphabetic}
 use Rattle.std.proofs.lemmas.Bool.{false≢true, and_parts}
 use Rattle.std.proofs.lemmas.List.{length-drop}
 use Rattle.uv_model.specs.declared.host.Host.{Host}
 use Rattle.uv_model.specs.Ascii.{slash}
-use Rattle.uv_parser.specs.Machine.{State, SchemeStartState, SchemeState, NoSchemeState, SpecialRelativeOrAuthorityState, PathOrAuthorityState, RelativeState, RelativeSlashState, SpecialAuthoritySlashesState, SpecialAuthorityIgnoreSlashesState, AuthorityState, HostState, PortState, FileState, FileSlashState, FileHostState, PathStartState, PathState, OpaquePathState, QueryState, FragmentState, Variables, Turn, onward, again, from_place, stop, begins, begins_two_slashes, put, with_parsed}
+use Rattle.uv_parser.specs.Machine.{State, SchemeStartState, SchemeState, NoSchemeState}
+use Rattle.uv_parser.specs.Machine.{SpecialRelativeOrAuthorityState, PathOrAuthorityState, RelativeState}
+use Rattle.uv_parser.specs.Machine.{RelativeSlashState, SpecialAuthoritySlashesState}
+use Rattle.uv_parser.specs.Machine.{SpecialAuthorityIgnoreSlashesState, AuthorityState, HostState, PortState, FileState}
+use Rattle.uv_parser.specs.Machine.{FileSlashState, FileHostState, PathStartState, PathState, OpaquePathState}
+use Rattle.uv_parser.specs.Machine.{QueryState, FragmentState, Variables, Turn, onward, again, from_place, stop, begins}
+use Rattle.uv_parser.specs.Machine.{begins_two_slashes, put, with_parsed}
 
 -- ---- how many steps are still to come
 

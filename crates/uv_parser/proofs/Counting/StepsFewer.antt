@@ -1,15 +1,29 @@
 -- Each row of the parser machine leaves fewer steps to come than the state had before it (specs/Machine has the rows).
-use Rattle.std.proofs.Common.{◌≡◌, ℕ, ◌+◌, ◌*◌, ◌-◌, ◌<◌, ◌≤◌, Bool, true, false, ◌&&◌, ◌==◌, List, [], ◌∷◌, length, drop, Option, Some, None, if◌then◌else◌, refl, inl, inr, arith}
+use Rattle.std.proofs.Common.{◌≡◌, ℕ, ◌+◌, ◌*◌, ◌-◌, ◌<◌, ◌≤◌, Bool, true, false, ◌&&◌, ◌==◌, List, [], ◌∷◌, length}
+use Rattle.std.proofs.Common.{drop, Option, Some, None, if◌then◌else◌, refl, inl, inr, arith}
 use Rattle.std.specs.Char.{is_ascii_alphabetic, to_ascii_lowercase}
 use Rattle.std.proofs.lemmas.Bool.{cases_Bool}
 use Rattle.std.proofs.lemmas.List.{length-drop}
 use Rattle.uv_model.specs.declared.scheme.Class.{Class}
 use Rattle.uv_model.specs.declared.scheme.Class.TheVariants.{Special, File, Other}
 use Rattle.uv_model.specs.Ascii.{slash, colon, question_mark, number_sign}
-use Rattle.uv_parser.specs.Machine.{State, SchemeStartState, SchemeState, NoSchemeState, SpecialRelativeOrAuthorityState, PathOrAuthorityState, RelativeState, RelativeSlashState, SpecialAuthoritySlashesState, SpecialAuthorityIgnoreSlashesState, AuthorityState, HostState, PortState, FileState, FileSlashState, FileHostState, PathStartState, PathState, OpaquePathState, QueryState, FragmentState, Variables, is_file, is_special, onward, again, from_place, stop, turn, AtPointer, end, file_base, fragment_row, ignore_slashes_row, path_or_authority_row, two_slashes_row, slash_mark, query_mark, fragment_mark, another, at_pointer, begins, begins_two_slashes, after_scheme, authority_at, emptied, file_at, file_host_at, file_slash_row, host_ended, host_at, no_scheme_row, opaque_path_at, path_at, path_start_at, port_at, put, query_at, relative_at, relative_row, relative_slash_row, scheme_row, scheme_start_row, with_scheme}
+use Rattle.uv_parser.specs.Machine.{State, SchemeStartState, SchemeState, NoSchemeState}
+use Rattle.uv_parser.specs.Machine.{SpecialRelativeOrAuthorityState, PathOrAuthorityState, RelativeState}
+use Rattle.uv_parser.specs.Machine.{RelativeSlashState, SpecialAuthoritySlashesState}
+use Rattle.uv_parser.specs.Machine.{SpecialAuthorityIgnoreSlashesState, AuthorityState, HostState, PortState, FileState}
+use Rattle.uv_parser.specs.Machine.{FileSlashState, FileHostState, PathStartState, PathState, OpaquePathState}
+use Rattle.uv_parser.specs.Machine.{QueryState, FragmentState, Variables, is_file, is_special, onward, again}
+use Rattle.uv_parser.specs.Machine.{from_place, stop, turn, AtPointer, end, file_base, fragment_row, ignore_slashes_row}
+use Rattle.uv_parser.specs.Machine.{path_or_authority_row, two_slashes_row, slash_mark, query_mark, fragment_mark}
+use Rattle.uv_parser.specs.Machine.{another, at_pointer, begins, begins_two_slashes, after_scheme, authority_at}
+use Rattle.uv_parser.specs.Machine.{emptied, file_at, file_host_at, file_slash_row, host_ended, host_at, no_scheme_row}
+use Rattle.uv_parser.specs.Machine.{opaque_path_at, path_at, path_start_at, port_at, put, query_at, relative_at}
+use Rattle.uv_parser.specs.Machine.{relative_row, relative_slash_row, scheme_row, scheme_start_row, with_scheme}
 use Rattle.uv_model.specs.Scheme.{is_scheme_code_point, scheme_class}
 use Rattle.uv_model.specs.Records.Url.{Url}
-use Rattle.uv_parser.proofs.Counting.StepCosts.{Fewer, either, goes, later, later_at_start, later_without_scheme, moves, parsed, put_length, rest_length, slash_is_some, stays, stops, two_slashes_are_two, zero_not_suc}
+use Rattle.uv_parser.proofs.Counting.StepCosts.{Fewer, either, goes, later, later_at_start, later_without_scheme, moves}
+use Rattle.uv_parser.proofs.Counting.StepCosts.{parsed, put_length, rest_length, slash_is_some, stays, stops}
+use Rattle.uv_parser.proofs.Counting.StepCosts.{two_slashes_are_two, zero_not_suc}
 
 -- ---- the loops over a path, a query and a fragment
 

@@ -1,6 +1,7 @@
 -- A text with an authority, with a scheme or without one: the parser is silent on it as its grammar says, or stops. How
 -- a run comes to what follows `//` is a parameter, since there alone the two differ.
-use Rattle.std.proofs.Common.{◌≡◌, ◌≢◌, ℕ, true, false, ◌||◌, ◌⊎◌, List, [], ◌∷◌, ◌++◌, Option, Some, None, refl, sym, ap, subst, ◌∙◌, inl, inr, eqb-true, append-nil}
+use Rattle.std.proofs.Common.{◌≡◌, ◌≢◌, ℕ, true, false, ◌||◌, ◌⊎◌, List, [], ◌∷◌, ◌++◌, Option, Some, None, refl, sym}
+use Rattle.std.proofs.Common.{ap, subst, ◌∙◌, inl, inr, eqb-true, append-nil}
 use Rattle.std.specs.List.{list_all}
 use Rattle.std.proofs.lemmas.Bool.{and_parts, cases_Bool}
 use Rattle.uv_model.specs.declared.host.Host.{Host}
@@ -21,7 +22,8 @@ use Rattle.uv_model.specs.Valid.{port_given}
 use Rattle.uv_parser.proofs.HostParsing.OtherHosts.{silent_other}
 use Rattle.uv_parser.proofs.Loops.AuthorityStarts.{file_variables, variables_behind_slashes, state_behind_slashes}
 use Rattle.uv_parser.proofs.Loops.AuthorityLoops.{IsDelimiter, is_authority_letter}
-use Rattle.uv_parser.proofs.Decided.DecidedAuthority.{IsHostTaken, IsUnended, authority_decided, letters_no_at_sign, letters_no_backslash}
+use Rattle.uv_parser.proofs.Decided.DecidedAuthority.{IsHostTaken, IsUnended, authority_decided, letters_no_at_sign}
+use Rattle.uv_parser.proofs.Decided.DecidedAuthority.{letters_no_backslash}
 use Rattle.uv_parser.proofs.Decided.DecidedFile.{FileHostFits, file_host_decided}
 use Rattle.uv_parser.proofs.Decided.DecidedPath.{AreFine, FreeOfMarks, path_start_decided}
 use Rattle.uv_model.proofs.Texts.MarkLemmas.{is_without-cons}

@@ -1,5 +1,6 @@
 -- An authority of a URL whose scheme isn't `file`: its host and its port are taken, or the parser machine stops.
-use Rattle.std.proofs.Common.{◌≡◌, ℕ, Bool, true, false, not, ◌&&◌, ◌||◌, ◌==◌, ◌⊎◌, List, [], ◌∷◌, ◌++◌, length, Option, Some, None, refl, sym, ◌∙◌, inl, inr, lt-ltb, le-ltb, append_assoc, append-nil}
+use Rattle.std.proofs.Common.{◌≡◌, ℕ, Bool, true, false, not, ◌&&◌, ◌||◌, ◌==◌, ◌⊎◌, List, [], ◌∷◌, ◌++◌, length}
+use Rattle.std.proofs.Common.{Option, Some, None, refl, sym, ◌∙◌, inl, inr, lt-ltb, le-ltb, append_assoc, append-nil}
 use Rattle.std.specs.Prelude.{nat_lt}
 use Rattle.std.specs.List.{list_all}
 use Rattle.std.specs.Char.{is_ascii_digit}
@@ -10,12 +11,17 @@ use Rattle.uv_model.specs.declared.host.Host.{Host}
 use Rattle.uv_model.specs.Ascii.{slash, colon, question_mark, number_sign, at_sign, backslash}
 use Rattle.uv_model.specs.Cut.{EndsAtPort, is_within_at_end}
 use Rattle.uv_parser.specs.HostParser.{parse_host}
-use Rattle.uv_parser.specs.Machine.{Variables, AtPointer, end, slash_mark, query_mark, fragment_mark, another, at_pointer, turn, stop, AuthorityState, HostState, PortState, PathStartState, emptied, host_at, is_special, port_at, port_in, with_brackets, with_host, with_more, with_port}
+use Rattle.uv_parser.specs.Machine.{Variables, AtPointer, end, slash_mark, query_mark, fragment_mark, another}
+use Rattle.uv_parser.specs.Machine.{at_pointer, turn, stop, AuthorityState, HostState, PortState, PathStartState}
+use Rattle.uv_parser.specs.Machine.{emptied, host_at, is_special, port_at, port_in, with_brackets, with_host, with_more}
+use Rattle.uv_parser.specs.Machine.{with_port}
 use Rattle.uv_model.specs.Parts.{written_behind}
 use Rattle.uv_model.specs.Path.{is_without}
 use Rattle.uv_model.specs.Records.Url.{Url}
 use Rattle.uv_model.specs.Valid.{IsPortText, MayBePortText}
-use Rattle.uv_parser.proofs.Loops.AuthorityLoops.{IsDelimiter, authority_law, authority_row_on, host_law, host_row_end, host_row_port, is_authority_letter, is_read_as_host, letter, port_law, port_row_end, port_row_on}
+use Rattle.uv_parser.proofs.Loops.AuthorityLoops.{IsDelimiter, authority_law, authority_row_on, host_law, host_row_end}
+use Rattle.uv_parser.proofs.Loops.AuthorityLoops.{host_row_port, is_authority_letter, is_read_as_host, letter, port_law}
+use Rattle.uv_parser.proofs.Loops.AuthorityLoops.{port_row_end, port_row_on}
 use Rattle.uv_model.proofs.Cuts.AuthorityCutLemmas.{ends_from_start}
 use Rattle.uv_parser.proofs.Done.DoneAuthority.{reads_from}
 use Rattle.uv_parser.proofs.Loops.FileHosts.{and_true-right}

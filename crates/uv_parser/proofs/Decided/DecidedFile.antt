@@ -1,11 +1,14 @@
 -- The host of a file URL: it is taken, or the parser machine stops.
-use Rattle.std.proofs.Common.{◌≡◌, ℕ, true, false, ◌==◌, ◌⊎◌, List, [], ◌∷◌, ◌++◌, length, Option, Some, None, refl, inl, inr}
+use Rattle.std.proofs.Common.{◌≡◌, ℕ, true, false, ◌==◌, ◌⊎◌, List, [], ◌∷◌, ◌++◌, length, Option, Some, None, refl}
+use Rattle.std.proofs.Common.{inl, inr}
 use Rattle.std.proofs.lemmas.Bool.{cases_Bool, true≢false}
 use Rattle.uv_model.specs.declared.host.Host.{Host}
 use Rattle.uv_model.specs.declared.host.Host.TheVariants as host
 use Rattle.uv_model.specs.Ascii.{slash, question_mark, number_sign, backslash}
 use Rattle.uv_parser.specs.HostParser.{parse_host}
-use Rattle.uv_parser.specs.Machine.{Variables, AtPointer, end, slash_mark, query_mark, fragment_mark, another, at_pointer, turn, onward, stop, again, FileHostState, PathStartState, file_host_at, emptied, put, with_host, with_more}
+use Rattle.uv_parser.specs.Machine.{Variables, AtPointer, end, slash_mark, query_mark, fragment_mark, another}
+use Rattle.uv_parser.specs.Machine.{at_pointer, turn, onward, stop, again, FileHostState, PathStartState, file_host_at}
+use Rattle.uv_parser.specs.Machine.{emptied, put, with_host, with_more}
 use Rattle.uv_model.specs.Valid.{without_localhost}
 use Rattle.uv_parser.specs.SilentTexts.{IsTakenFileHost}
 use Rattle.uv_model.specs.Path.{is_drive_letter, is_without}

@@ -1,9 +1,11 @@
 -- A path of segments, with the query and the fragment behind it: all of it is units, or the parser machine stops.
-use Rattle.std.proofs.Common.{◌≡◌, ◌≢◌, ℕ, true, false, ◌==◌, ◌⊎◌, List, [], ◌∷◌, ◌++◌, Option, refl, inl, inr, eqb-true}
+use Rattle.std.proofs.Common.{◌≡◌, ◌≢◌, ℕ, true, false, ◌==◌, ◌⊎◌, List, [], ◌∷◌, ◌++◌, Option, refl, inl, inr}
+use Rattle.std.proofs.Common.{eqb-true}
 use Rattle.std.proofs.lemmas.Bool.{and_parts, cases_Bool}
 use Rattle.uv_model.specs.Ascii.{slash, question_mark, number_sign}
 use Rattle.uv_model.specs.Encoding.{encoded_code_point}
-use Rattle.uv_parser.specs.Machine.{Variables, turn, onward, PathStartState, PathState, is_special, segment_ended, with_more}
+use Rattle.uv_parser.specs.Machine.{Variables, turn, onward, PathStartState, PathState, is_special, segment_ended}
+use Rattle.uv_parser.specs.Machine.{with_more}
 use Rattle.uv_model.specs.Path.{is_without, starts_with_slash}
 use Rattle.uv_model.specs.Units.{is_faultless, is_unit_at, is_url_code_point}
 use Rattle.uv_model.specs.Records.Url.{Url}

@@ -1,13 +1,18 @@
 -- A text without a scheme, against a base: the parser is silent on it as its grammar says, or stops.
-use Rattle.std.proofs.Common.{◌≡◌, ℕ, true, false, ◌==◌, ◌⊎◌, List, [], ◌∷◌, ◌++◌, Option, Some, None, refl, sym, ap, subst, ◌∙◌, inl, inr, eqb-true, append_assoc}
+use Rattle.std.proofs.Common.{◌≡◌, ℕ, true, false, ◌==◌, ◌⊎◌, List, [], ◌∷◌, ◌++◌, Option, Some, None, refl, sym, ap}
+use Rattle.std.proofs.Common.{subst, ◌∙◌, inl, inr, eqb-true, append_assoc}
 use Rattle.std.specs.Prelude.{IsSome}
 use Rattle.std.proofs.lemmas.Bool.{cases_Bool, false≢true}
 use Rattle.uv_model.specs.declared.host.Host.{Host}
 use Rattle.uv_model.specs.declared.host.Host.TheVariants as host
 use Rattle.uv_model.specs.Ascii.{slash, colon, question_mark, number_sign}
 use Rattle.uv_model.specs.Cut.{Cut, IsCut}
-use Rattle.uv_parser.specs.Machine.{Variables, State, with_fragment, begins, starts_with_drive_letter, turn, stop, again, FileSlashState, FileState, NoSchemeState, PathState, RelativeSlashState, RelativeState, empty_variables, is_file, with_base, with_base_host, with_file_base, with_kept_drive, list_in, with_host, with_opaque_base, with_query, shortened}
-use Rattle.uv_model.specs.Parts.{Form, Parts, Authority, PathAbsolute, PathRelative, NoPath, written_authority, written_behind}
+use Rattle.uv_parser.specs.Machine.{Variables, State, with_fragment, begins, starts_with_drive_letter, turn, stop}
+use Rattle.uv_parser.specs.Machine.{again, FileSlashState, FileState, NoSchemeState, PathState, RelativeSlashState}
+use Rattle.uv_parser.specs.Machine.{RelativeState, empty_variables, is_file, with_base, with_base_host, with_file_base}
+use Rattle.uv_parser.specs.Machine.{with_kept_drive, list_in, with_host, with_opaque_base, with_query, shortened}
+use Rattle.uv_model.specs.Parts.{Form, Parts, Authority, PathAbsolute, PathRelative, NoPath, written_authority}
+use Rattle.uv_model.specs.Parts.{written_behind}
 use Rattle.uv_parser.specs.SilentTexts.{Silent}
 use Rattle.uv_model.specs.Path.{starts_with_slash}
 use Rattle.uv_parser.specs.Removed.{first_removed}

@@ -1,11 +1,14 @@
 -- A text with a scheme: the parser is silent on it as its grammar says, or stops.
-use Rattle.std.proofs.Common.{◌≡◌, ℕ, true, false, ◌==◌, ◌⊎◌, List, [], ◌∷◌, ◌++◌, Option, Some, None, refl, ap, ◌∙◌, inl, inr, eqb-true, append_assoc}
+use Rattle.std.proofs.Common.{◌≡◌, ℕ, true, false, ◌==◌, ◌⊎◌, List, [], ◌∷◌, ◌++◌, Option, Some, None, refl, ap, ◌∙◌}
+use Rattle.std.proofs.Common.{inl, inr, eqb-true, append_assoc}
 use Rattle.std.proofs.lemmas.Bool.{and_right, cases_Bool}
 use Rattle.uv_model.specs.declared.host.Host.{Host}
 use Rattle.uv_model.specs.declared.scheme.Class.TheVariants.{Special, File, Other}
 use Rattle.uv_model.specs.Ascii.{slash, colon, question_mark, number_sign}
 use Rattle.uv_model.specs.Cut.{IsCut, starts_with_two_slashes}
-use Rattle.uv_parser.specs.Machine.{begins, begins_two_slashes, has_same_scheme, PathOrAuthorityState, SchemeState, SpecialAuthoritySlashesState, SpecialRelativeOrAuthorityState, empty_variables, with_more}
+use Rattle.uv_parser.specs.Machine.{begins, begins_two_slashes, has_same_scheme, PathOrAuthorityState, SchemeState}
+use Rattle.uv_parser.specs.Machine.{SpecialAuthoritySlashesState, SpecialRelativeOrAuthorityState, empty_variables}
+use Rattle.uv_parser.specs.Machine.{with_more}
 use Rattle.uv_model.specs.Parts.{Parts, SchemeAuthority, SchemePath, written_behind}
 use Rattle.uv_parser.specs.SilentTexts.{Silent}
 use Rattle.uv_model.specs.Path.{is_without, starts_with_slash}
@@ -15,7 +18,8 @@ use Rattle.uv_model.specs.Records.Url.{Url}
 use Rattle.uv_model.specs.Valid.{FitsBase}
 use Rattle.uv_model.proofs.Complaints.ComplaintLemmas.{cut_with}
 use Rattle.uv_parser.proofs.Decided.CutTexts.{HasMarks, marks, scheme_text}
-use Rattle.uv_parser.proofs.Decided.AuthorityTexts.{SilentOrStops, authority_parts, authority_silent_or_stops, class_cases, slashed_path}
+use Rattle.uv_parser.proofs.Decided.AuthorityTexts.{SilentOrStops, authority_parts, authority_silent_or_stops}
+use Rattle.uv_parser.proofs.Decided.AuthorityTexts.{class_cases, slashed_path}
 use Rattle.uv_model.proofs.SchemeLemmas.{scheme_class-lowercase}
 use Rattle.uv_parser.proofs.Decided.DecidedOpaque.{opaque_parts, opaque_silent_or_stops}
 use Rattle.uv_parser.proofs.Decided.DecidedPath.{AreFine, FreeOfMarks, path_decided}

@@ -1,16 +1,19 @@
 -- The parser machine over a text without a scheme: it comes to the no scheme state at the text's first place.
-use Rattle.std.proofs.Common.{◌≡◌, ℕ, suc, ◌+◌, Bool, true, false, ◌||◌, ◌==◌, List, [], ◌∷◌, drop, Option, None, refl, ap, subst, sym, ◌∙◌, inl, inr}
+use Rattle.std.proofs.Common.{◌≡◌, ℕ, suc, ◌+◌, Bool, true, false, ◌||◌, ◌==◌, List, [], ◌∷◌, drop, Option, None, refl}
+use Rattle.std.proofs.Common.{ap, subst, sym, ◌∙◌, inl, inr}
 use Rattle.std.specs.Char.{is_ascii_alphabetic, to_ascii_lowercase}
 use Rattle.std.proofs.lemmas.Bool.{cases_Bool, true≢false}
 use Rattle.uv_model.specs.Ascii.{colon}
-use Rattle.uv_parser.specs.Machine.{Variables, State, NoSchemeState, SchemeStartState, SchemeState, turn, again, onward, from_place, emptied, empty_variables, put}
+use Rattle.uv_parser.specs.Machine.{Variables, State, NoSchemeState, SchemeStartState, SchemeState, turn, again, onward}
+use Rattle.uv_parser.specs.Machine.{from_place, emptied, empty_variables, put}
 use Rattle.uv_parser.specs.Run.{run, run_from, settle, step, step_bound}
 use Rattle.uv_parser.specs.Removed.{first_removed}
 use Rattle.uv_model.specs.Scheme.{is_scheme_code_point}
 use Rattle.uv_model.specs.Records.Url.{Url}
 use Rattle.uv_model.specs.Valid.{goes_on_to_colon, starts_with_scheme}
 use Rattle.uv_parser.proofs.Counting.RunsEnded.{ended_within_bound}
-use Rattle.uv_parser.proofs.Running.Steps.{Ending, EndsAs, HasEnded, Leads, at, drop_one, leads_none, leads_step, leads_then, step_at}
+use Rattle.uv_parser.proofs.Running.Steps.{Ending, EndsAs, HasEnded, Leads, at, drop_one, leads_none, leads_step}
+use Rattle.uv_parser.proofs.Running.Steps.{leads_then, step_at}
 use Rattle.uv_parser.proofs.Loops.Looping.{scheme_row_on}
 
 -- Some steps lead to the no scheme state at the first place, with this buffer emptied.

@@ -8,7 +8,8 @@ use Rattle.uv_model.specs.Path.{is_without}
 use Rattle.uv_model.specs.Units.{is_faultless}
 use Rattle.uv_model.specs.Records.Url.{Url}
 use Rattle.uv_model.specs.Valid.{MayBeUnits}
-use Rattle.uv_parser.specs.Machine.{State, Variables, turn, to_query, to_fragment, QueryState, FragmentState, with_query, with_fragment, with_more, query_ended}
+use Rattle.uv_parser.specs.Machine.{State, Variables, turn, to_query, to_fragment, QueryState, FragmentState}
+use Rattle.uv_parser.specs.Machine.{with_query, with_fragment, with_more, query_ended}
 use Rattle.uv_parser.proofs.Loops.Looping.{query_law}
 use Rattle.uv_parser.proofs.Running.Steps.{Stops, ends_step, ends_after}
 use Rattle.uv_parser.proofs.Loops.StoppingLoops.{no_hex_first, query_stops, fragment_stops}

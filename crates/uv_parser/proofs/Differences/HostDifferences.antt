@@ -1,5 +1,6 @@
 -- A host text that the host parser takes is a valid one, or it has a difference with a name.
-use Rattle.std.proofs.Common.{◌≡◌, ◌≢◌, ℕ, ◌/◌, ◌%◌, ◌^◌, true, false, ◌==◌, ◌⊎◌, List, [], ◌∷◌, length, Option, Some, None, encode_utf8_all, sym, ap, subst, ◌∙◌, inl, inr, arith}
+use Rattle.std.proofs.Common.{◌≡◌, ◌≢◌, ℕ, ◌/◌, ◌%◌, ◌^◌, true, false, ◌==◌, ◌⊎◌, List, [], ◌∷◌, length, Option, Some}
+use Rattle.std.proofs.Common.{None, encode_utf8_all, sym, ap, subst, ◌∙◌, inl, inr, arith}
 use Rattle.std.specs.Prelude.{option_map, option_and_then}
 use Rattle.std.specs.List.{list_any}
 use Rattle.std.specs.Str.{bytes_eq, is_utf8}
@@ -12,13 +13,16 @@ use Rattle.uv_model.specs.declared.host.Host.TheVariants as host
 use Rattle.uv_model.specs.Hosts.Address.{IsIpv4, IsBracketedIpv6}
 use Rattle.uv_model.specs.Ascii.{left_bracket}
 use Rattle.uv_model.specs.Hosts.Domain.{ends_in_number, has_lengths, has_permitted, parser_form, strict_form, IsDomain}
-use Rattle.uv_parser.specs.HostParser.{host_of_form, is_forbidden_domain, parse_bracketed, parse_domain, parse_host, percent_decoded}
+use Rattle.uv_parser.specs.HostParser.{host_of_form, is_forbidden_domain, parse_bracketed, parse_domain, parse_host}
+use Rattle.uv_parser.specs.HostParser.{percent_decoded}
 use Rattle.uv_parser.specs.Ipv4Parser.{parse_ipv4}
 use Rattle.uv_model.specs.Records.Serialize.{serial_ipv4}
 use Rattle.uv_parser.specs.Laws.Differences.{HostDiffers}
 use Rattle.uv_model.specs.Valid.{IsHostText}
 use Rattle.uv_model.proofs.Hosts.DomainLemmas.{IsForm-from, parser_form-is}
-use Rattle.uv_parser.proofs.HostParsing.HostParserLemmas.{ipv4_hosts_are_parsed, no_percent-encoded, no_percent-permitted, percent_decode-plain, percent_decoded-plain}
+use Rattle.uv_parser.proofs.HostParsing.HostParserLemmas.{ipv4_hosts_are_parsed, no_percent-encoded}
+use Rattle.uv_parser.proofs.HostParsing.HostParserLemmas.{no_percent-permitted, percent_decode-plain}
+use Rattle.uv_parser.proofs.HostParsing.HostParserLemmas.{percent_decoded-plain}
 use Rattle.uv_model.proofs.Addresses.AddressesReadBack.{ipv4_written}
 use Rattle.uv_model.proofs.Addresses.AddressSizes.{ipv4_small}
 use Rattle.uv_parser.proofs.HostParsing.OtherHostsTaken.{bracketed_taken}

@@ -1,5 +1,6 @@
 -- A text on which the parser is silent is valid with the same parts exactly where it has none of the named differences.
-use Rattle.std.proofs.Common.{◌≡◌, ◌≢◌, ℕ, true, ◌⊎◌, List, [], ◌∷◌, Option, Some, None, refl, sym, ap, subst, ◌∙◌, inl, inr}
+use Rattle.std.proofs.Common.{◌≡◌, ◌≢◌, ℕ, true, ◌⊎◌, List, [], ◌∷◌, Option, Some, None, refl, sym, ap, subst, ◌∙◌, inl}
+use Rattle.std.proofs.Common.{inr}
 use Rattle.std.proofs.lemmas.Bool.{cases_Bool, false≢true}
 use Rattle.std.proofs.lemmas.Option.{same_Some}
 use Rattle.uv_model.specs.declared.profile.Profile.TheVariants.{Standard}
@@ -12,13 +13,16 @@ use Rattle.uv_model.specs.Ascii.{slash}
 use Rattle.uv_model.specs.Complaints.Complaint.{HasHost}
 use Rattle.uv_model.specs.Cut.{class_in, starts_with_two_slashes}
 use Rattle.uv_parser.specs.SilentTexts.{IsTakenFileHost, Silent, Takes, TakesFile, TakesForm, TakesHostText}
-use Rattle.uv_model.specs.Parts.{Form, SchemeAuthority, SchemePath, SchemeOpaque, Authority, PathAbsolute, PathRelative, NoPath, Parts, has_scheme}
+use Rattle.uv_model.specs.Parts.{Form, SchemeAuthority, SchemePath, SchemeOpaque, Authority, PathAbsolute, PathRelative}
+use Rattle.uv_model.specs.Parts.{NoPath, Parts, has_scheme}
 use Rattle.uv_model.specs.Path.{MayBePathSlashed, starts_with_drive_segment, starts_with_slash}
 use Rattle.uv_model.specs.Scheme.{scheme_class}
-use Rattle.uv_parser.specs.Laws.Differences.{Differs, HasDriveBehindHost, HasEmptyAuthority, HasForeignHost, SilentTextsAreValidOrDiffer}
+use Rattle.uv_parser.specs.Laws.Differences.{Differs, HasDriveBehindHost, HasEmptyAuthority, HasForeignHost}
+use Rattle.uv_parser.specs.Laws.Differences.{SilentTextsAreValidOrDiffer}
 use Rattle.uv_model.specs.Setting.{setting_of}
 use Rattle.uv_model.specs.Records.Url.{Url}
-use Rattle.uv_model.specs.Valid.{FitsAuthority, FitsDrive, FitsForm, FitsHostText, FitsScheme, IsFileHostText, IsHostText, MayBePathBehind, Valid, scheme_in}
+use Rattle.uv_model.specs.Valid.{FitsAuthority, FitsDrive, FitsForm, FitsHostText, FitsScheme, IsFileHostText}
+use Rattle.uv_model.specs.Valid.{IsHostText, MayBePathBehind, Valid, scheme_in}
 use Rattle.uv_model.proofs.Hosts.FileHosts.{file_host_fits}
 use Rattle.uv_model.proofs.Complaints.FaultlessHosts.{file_host_is_host, host_not_empty}
 use Rattle.uv_model.proofs.Complaints.ComplaintsExcludeParts.{faultless_form}

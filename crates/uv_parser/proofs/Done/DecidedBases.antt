@@ -1,5 +1,6 @@
 -- Against no base and against each well-formed base each text is decided.
-use Rattle.std.proofs.Common.{◌≡◌, ℕ, true, false, not, ◌⊎◌, List, [], ◌∷◌, ◌++◌, codes, Option, Some, None, refl, sym, ap, subst, ◌∙◌, inl, inr}
+use Rattle.std.proofs.Common.{◌≡◌, ℕ, true, false, not, ◌⊎◌, List, [], ◌∷◌, ◌++◌, codes, Option, Some, None, refl, sym}
+use Rattle.std.proofs.Common.{ap, subst, ◌∙◌, inl, inr}
 use Rattle.std.specs.Prelude.{IsSome}
 use Rattle.std.specs.List.{list_all}
 use Rattle.std.specs.Char.{is_ascii_uppercase}
@@ -12,7 +13,8 @@ use Rattle.uv_model.specs.declared.path.UrlPath.{UrlPath}
 use Rattle.uv_model.specs.declared.path.UrlPath.TheVariants.{Opaque, Segments}
 use Rattle.uv_model.specs.Ascii.{number_sign}
 use Rattle.uv_parser.specs.Machine.{empty_variables, is_file, with_opaque_base}
-use Rattle.uv_model.specs.Parts.{Form, Parts, SchemeAuthority, SchemePath, SchemeOpaque, Authority, PathAbsolute, PathRelative, NoPath, has_scheme}
+use Rattle.uv_model.specs.Parts.{Form, Parts, SchemeAuthority, SchemePath, SchemeOpaque, Authority, PathAbsolute}
+use Rattle.uv_model.specs.Parts.{PathRelative, NoPath, has_scheme}
 use Rattle.uv_parser.specs.SilentTexts.{Silent}
 use Rattle.uv_parser.specs.Laws.DecidedTexts.{IsDecided}
 use Rattle.uv_model.specs.Scheme.{lowercase, scheme_class}
@@ -25,7 +27,8 @@ use Rattle.uv_parser.proofs.Done.DecidedAlone.{option_some, texts_alone_are_deci
 use Rattle.uv_parser.proofs.Decided.AuthorityTexts.{class_cases}
 use Rattle.uv_parser.proofs.Done.DecidedTexts.{scheme_done}
 use Rattle.uv_parser.proofs.Done.DoneBases.{other_reference_done, special_reference_done}
-use Rattle.uv_parser.proofs.Done.DoneReferences.{absolute_done, no_path_done, path_text, reference_query, reference_runs, relative_done}
+use Rattle.uv_parser.proofs.Done.DoneReferences.{absolute_done, no_path_done, path_text, reference_query}
+use Rattle.uv_parser.proofs.Done.DoneReferences.{reference_runs, relative_done}
 use Rattle.uv_parser.proofs.Done.DoneFileBases.{file_authority_done, file_no_path_done, file_relative_done}
 use Rattle.uv_parser.proofs.Done.KeptDrives.{file_absolute_done}
 use Rattle.uv_parser.proofs.Loops.FileHosts.{file_scheme}

@@ -1,6 +1,7 @@
 -- The run of a text with a scheme and an authority on which the parser is silent is done, with the URL that the parts
 -- denote.
-use Rattle.std.proofs.Common.{◌≡◌, ℕ, Bool, true, false, ◌==◌, ◌&&◌, ◌⊎◌, List, [], ◌∷◌, ◌++◌, length, Option, Some, None, refl, sym, ap, subst, ◌∙◌, inl, inr}
+use Rattle.std.proofs.Common.{◌≡◌, ℕ, Bool, true, false, ◌==◌, ◌&&◌, ◌⊎◌, List, [], ◌∷◌, ◌++◌, length, Option, Some}
+use Rattle.std.proofs.Common.{None, refl, sym, ap, subst, ◌∙◌, inl, inr}
 use Rattle.std.specs.List.{list_all}
 use Rattle.std.proofs.lemmas.Bool.{and_from, and_left, and_parts, and_right, true≢false}
 use Rattle.uv_model.specs.declared.host.Host.{Host}
@@ -14,7 +15,8 @@ use Rattle.uv_model.specs.Encoding.{encoded}
 use Rattle.uv_parser.specs.HostParser.{parse_host}
 use Rattle.uv_parser.specs.Machine.{is_special}
 use Rattle.uv_model.specs.Parts.{Form, Parts, SchemeAuthority, has_scheme, written_authority, written_behind}
-use Rattle.uv_parser.specs.SilentTexts.{IsTakenFileHost, Silent, Takes, TakesAuthority, TakesFile, TakesHostText, TakesOther, TakesSpecial}
+use Rattle.uv_parser.specs.SilentTexts.{IsTakenFileHost, Silent, Takes, TakesAuthority, TakesFile, TakesHostText}
+use Rattle.uv_parser.specs.SilentTexts.{TakesOther, TakesSpecial}
 use Rattle.uv_parser.specs.Laws.OtherHosts.{own_value}
 use Rattle.uv_model.specs.Path.{MayBePathSlashed, is_without}
 use Rattle.uv_model.specs.Scheme.{is_scheme, lowercase, scheme_class}
@@ -33,7 +35,8 @@ use Rattle.uv_parser.proofs.HostParsing.OtherHosts.{silent_other_hosts_are_valid
 use Rattle.uv_parser.proofs.HostParsing.OtherHostsTaken.{other_hosts_are_taken}
 use Rattle.uv_model.proofs.Texts.MarkLemmas.{is_without-parts, is_without-cons}
 use Rattle.uv_parser.proofs.Loops.SchemeStretch.{scheme_there}
-use Rattle.uv_parser.proofs.Silence.SilentAuthority.{HasParsed, authority_runs, is_special_scheme, not_special, other_starts, special_some, special_starts, valued_some}
+use Rattle.uv_parser.proofs.Silence.SilentAuthority.{HasParsed, authority_runs, is_special_scheme, not_special}
+use Rattle.uv_parser.proofs.Silence.SilentAuthority.{other_starts, special_some, special_starts, valued_some}
 use Rattle.uv_parser.proofs.Silence.SilentFile.{HasFileHost, empty_host_ends, file_host_ends, file_runs}
 use Rattle.uv_model.proofs.Cuts.ValidCutLemmas.{written_as_cut}
 
@@ -313,8 +316,8 @@ taken_file base text parts scheme host_text silent is takes =
         no_port = takes.no_port;
         valued = valued;
         path = is.path;
-        ends = rw empty (empty_host_ends base parts.segments parts.path_text parts.query parts.fragment is.path silent.query
-            silent.fragment);
+        ends = rw empty (empty_host_ends base parts.segments parts.path_text parts.query parts.fragment is.path
+            silent.query silent.fragment);
       },
     )
 

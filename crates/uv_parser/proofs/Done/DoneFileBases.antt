@@ -1,6 +1,7 @@
 -- The run of a reference to a well-formed file base on which the parser is silent is done, with the URL that the parts
 -- denote.
-use Rattle.std.proofs.Common.{◌≡◌, ◌≢◌, ℕ, true, false, ◌==◌, List, [], ◌∷◌, ◌++◌, codes, Option, Some, None, refl, sym, ap, ◌∙◌, inl, inr, append_assoc, append-nil}
+use Rattle.std.proofs.Common.{◌≡◌, ◌≢◌, ℕ, true, false, ◌==◌, List, [], ◌∷◌, ◌++◌, codes, Option, Some, None, refl, sym}
+use Rattle.std.proofs.Common.{ap, ◌∙◌, inl, inr, append_assoc, append-nil}
 use Rattle.std.specs.Char.{is_ascii_alphabetic}
 use Rattle.std.proofs.lemmas.Bool.{and_parts, cases_Bool, eqb-true, false≢true, true≢false}
 use Rattle.uv_model.specs.declared.host.Host.{Host}
@@ -9,7 +10,9 @@ use Rattle.uv_model.specs.declared.scheme.Class.TheVariants.{File}
 use Rattle.uv_model.specs.declared.path.UrlPath.TheVariants.{Segments}
 use Rattle.uv_model.specs.Ascii.{slash, colon, vertical_bar, question_mark, number_sign}
 use Rattle.uv_model.specs.Records.Denote.{authority_path, quotes, listed_segments}
-use Rattle.uv_parser.specs.Machine.{starts_with_drive_letter, turn, again, FileState, NoSchemeState, PathState, empty_variables, is_file, is_special, list_in, shortened, with_file_base, with_query}
+use Rattle.uv_parser.specs.Machine.{starts_with_drive_letter, turn, again, FileState, NoSchemeState, PathState}
+use Rattle.uv_parser.specs.Machine.{empty_variables, is_file, is_special, list_in, shortened, with_file_base}
+use Rattle.uv_parser.specs.Machine.{with_query}
 use Rattle.uv_model.specs.Parts.{Parts, Authority, NoPath, PathRelative, written_authority, written_behind}
 use Rattle.uv_parser.specs.SilentTexts.{Silent}
 use Rattle.uv_model.specs.Path.{is_without, shorten, starts_with_slash, walk}

@@ -9,9 +9,13 @@ use Rattle.uv_model.specs.declared.path.UrlPath.{UrlPath}
 use Rattle.uv_model.specs.declared.path.UrlPath.TheVariants.{Opaque, Segments}
 use Rattle.uv_model.specs.Ascii.{slash, question_mark, number_sign}
 use Rattle.uv_model.specs.Cut.{texts_of}
-use Rattle.uv_model.specs.Records.Denote.{denote, denoted_host, denoted_path, denoted_port, denoted_query, denoted_scheme, kept_drive, quotes, listed_segments}
-use Rattle.uv_parser.specs.Machine.{Variables, turn, again, NoSchemeState, PathState, RelativeSlashState, RelativeState, empty_variables, is_file, is_special, list_in, shortened, with_base, with_base_host, with_query, with_scheme}
-use Rattle.uv_model.specs.Parts.{Form, Parts, SchemeAuthority, SchemePath, SchemeOpaque, Authority, PathAbsolute, PathRelative, NoPath}
+use Rattle.uv_model.specs.Records.Denote.{denote, denoted_host, denoted_path, denoted_port, denoted_query}
+use Rattle.uv_model.specs.Records.Denote.{denoted_scheme, kept_drive, quotes, listed_segments}
+use Rattle.uv_parser.specs.Machine.{Variables, turn, again, NoSchemeState, PathState, RelativeSlashState, RelativeState}
+use Rattle.uv_parser.specs.Machine.{empty_variables, is_file, is_special, list_in, shortened, with_base, with_base_host}
+use Rattle.uv_parser.specs.Machine.{with_query, with_scheme}
+use Rattle.uv_model.specs.Parts.{Form, Parts, SchemeAuthority, SchemePath, SchemeOpaque, Authority, PathAbsolute}
+use Rattle.uv_model.specs.Parts.{PathRelative, NoPath}
 use Rattle.uv_parser.specs.SilentTexts.{Silent}
 use Rattle.uv_model.specs.Path.{AreSegments, JoinsTo, is_without, shorten, starts_with_slash, walk}
 use Rattle.uv_model.specs.Scheme.{scheme_class}

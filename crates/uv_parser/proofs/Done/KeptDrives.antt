@@ -1,5 +1,6 @@
 -- The drive letter that a path-absolute reference to a file base keeps, and the run of such a reference.
-use Rattle.std.proofs.Common.{◌≡◌, ℕ, true, false, ◌&&◌, ◌==◌, ◌⊎◌, List, [], ◌∷◌, ◌++◌, codes, Option, Some, None, refl, sym, ap, subst, ◌∙◌, inl, inr, append_assoc}
+use Rattle.std.proofs.Common.{◌≡◌, ℕ, true, false, ◌&&◌, ◌==◌, ◌⊎◌, List, [], ◌∷◌, ◌++◌, codes, Option, Some, None}
+use Rattle.std.proofs.Common.{refl, sym, ap, subst, ◌∙◌, inl, inr, append_assoc}
 use Rattle.std.specs.List.{join_with_byte}
 use Rattle.std.specs.Char.{is_ascii_alphabetic}
 use Rattle.std.proofs.lemmas.Bool.{and_parts, and_right, cases_Bool, eqb-true, false≢true}
@@ -9,7 +10,9 @@ use Rattle.uv_model.specs.declared.scheme.Class.TheVariants.{File}
 use Rattle.uv_model.specs.declared.path.UrlPath.TheVariants.{Segments}
 use Rattle.uv_model.specs.Ascii.{slash, backslash, question_mark, number_sign}
 use Rattle.uv_model.specs.Records.Denote.{kept_drive, listed_segments}
-use Rattle.uv_parser.specs.Machine.{Variables, another, starts_with_drive_letter, is_drive_end, at_pointer, turn, again, FileSlashState, FileState, PathState, empty_variables, is_file, list_in, with_host, with_kept_drive, with_scheme}
+use Rattle.uv_parser.specs.Machine.{Variables, another, starts_with_drive_letter, is_drive_end, at_pointer, turn, again}
+use Rattle.uv_parser.specs.Machine.{FileSlashState, FileState, PathState, empty_variables, is_file, list_in, with_host}
+use Rattle.uv_parser.specs.Machine.{with_kept_drive, with_scheme}
 use Rattle.uv_model.specs.Parts.{Parts, PathAbsolute}
 use Rattle.uv_parser.specs.SilentTexts.{Silent}
 use Rattle.uv_model.specs.Path.{IsSegment, is_drive_letter, is_normalized_drive_letter, walk}
@@ -92,7 +95,8 @@ drive_before (c ∷ m ∷ x ∷ more) rest is ends =
     let a = is_without-cons slash x more
     (is_without-cons slash m (x ∷ more) (is_without-cons slash c (m ∷ x ∷ more) is.no_slash).1).1 in
     let b = is_without-cons question_mark x more
-    (is_without-cons question_mark m (x ∷ more) (is_without-cons question_mark c (m ∷ x ∷ more) is.no_question_mark).1).1 in
+    (is_without-cons question_mark m (x ∷ more)
+    (is_without-cons question_mark c (m ∷ x ∷ more) is.no_question_mark).1).1 in
     and_right (is_drive_letter (c ∷ m ∷ [])) _ (no_drive_end x more (more ++ rest) unit a.0 b.0)
 
 delimits_tail : (query fragment : Option (List ℕ)) → IsDelimiter (at_pointer (tail query fragment))

@@ -1,5 +1,7 @@
 -- The host parser on valid hosts: domains, addresses and opaque hosts.
-use Rattle.std.proofs.Common.{◌≡◌, ◌≢◌, ℕ, ◌-◌, ◌<◌, true, false, not, ◌==◌, List, [], ◌∷◌, ◌++◌, length, All, Some, None, decimal, codes, chars, encode_utf8_all, refl, sym, ap, subst, ◌∙◌, inl, inr, arith, append_assoc, length-append, take_at, ne_eqb}
+use Rattle.std.proofs.Common.{◌≡◌, ◌≢◌, ℕ, ◌-◌, ◌<◌, true, false, not, ◌==◌, List, [], ◌∷◌, ◌++◌, length, All, Some}
+use Rattle.std.proofs.Common.{None, decimal, codes, chars, encode_utf8_all, refl, sym, ap, subst, ◌∙◌, inl, inr, arith}
+use Rattle.std.proofs.Common.{append_assoc, length-append, take_at, ne_eqb}
 use Rattle.std.specs.List.{list_all, list_any}
 use Rattle.std.specs.Str.{is_utf8}
 use Rattle.std.proofs.lemmas.Bool.{false≢true, cases_Bool, and_parts, not-true}
@@ -8,7 +10,8 @@ use Rattle.std.proofs.lemmas.List.Elements.{All-weaker, All-head, All-tail}
 use Rattle.std.proofs.lemmas.List.Folds.{list_any_none}
 use Rattle.std.proofs.lemmas.List.Sums.{AllPass-from_list_all}
 use Rattle.std.proofs.lemmas.Option.{none-some}
-use Rattle.std.proofs.lemmas.Str.{chars-encodes, encodes_same, encodes-IsAscii, IsUtf8-from_ascii, IsUtf8-from_is_utf8, is_utf8-from_IsUtf8}
+use Rattle.std.proofs.lemmas.Str.{chars-encodes, encodes_same, encodes-IsAscii, IsUtf8-from_ascii, IsUtf8-from_is_utf8}
+use Rattle.std.proofs.lemmas.Str.{is_utf8-from_IsUtf8}
 use Rattle.std.proofs.lemmas.Str.Ascii.{IsAscii-from_all}
 use Rattle.std.proofs.NetLemmas.Alphabet.{IsDigitOrDot}
 use Rattle.percent_encoding.specs.Percent.{percent_decode}
@@ -23,9 +26,12 @@ use Rattle.uv_model.specs.declared.profile.Profile.TheVariants.{Standard, Wide}
 use Rattle.uv_model.specs.declared.host.Host.TheVariants.{Domain, V4, Opaque}
 use Rattle.uv_model.specs.Hosts.Address.{IsIpv4}
 use Rattle.uv_model.specs.Ascii.{percent_sign, full_stop, left_bracket, right_bracket}
-use Rattle.uv_model.specs.Hosts.Domain.{is_permitted, has_permitted, is_form_code_point, has_lengths, parser_form, IsDomain}
+use Rattle.uv_model.specs.Hosts.Domain.{is_permitted, has_permitted, is_form_code_point, has_lengths, parser_form}
+use Rattle.uv_model.specs.Hosts.Domain.{IsDomain}
 use Rattle.uv_model.specs.Encoding.{encoded}
-use Rattle.uv_parser.specs.HostParser.{is_forbidden_domain, is_faultless_host, percent_decoded, parse_domain, parse_host, DomainsAreParsed, Ipv4HostsAreParsed, Ipv6HostsAreParsed, OpaqueHostsAreParsed, EmptyHostIsParsed}
+use Rattle.uv_parser.specs.HostParser.{is_forbidden_domain, is_faultless_host, percent_decoded, parse_domain}
+use Rattle.uv_parser.specs.HostParser.{parse_host, DomainsAreParsed, Ipv4HostsAreParsed, Ipv6HostsAreParsed}
+use Rattle.uv_parser.specs.HostParser.{OpaqueHostsAreParsed, EmptyHostIsParsed}
 use Rattle.uv_model.specs.Hosts.OpaqueHost.{is_forbidden_host}
 use Rattle.uv_model.specs.Units.{is_unit_at, is_faultless}
 use Rattle.uv_model.proofs.Hosts.DomainLemmas.{parser_form-is}
@@ -33,7 +39,8 @@ use Rattle.uv_parser.proofs.HostParsing.Ipv4ParserLemmas.{ipv4_parsed}
 use Rattle.uv_parser.proofs.HostParsing.Ipv6ParserLemmas.{ipv6_parsed}
 use Rattle.uv_model.proofs.Hosts.LastLabelLemmas.{All-encoded, last_of}
 use Rattle.uv_model.proofs.Texts.UnitsLemmas.{is_faultless-units}
-use Rattle.uv_model.proofs.Hosts.Ipv4Domains.{form_byte, no_percent, ascii_byte, all_simple, ends_in_number-ipv4, parser_form-ipv4}
+use Rattle.uv_model.proofs.Hosts.Ipv4Domains.{form_byte, no_percent, ascii_byte, all_simple, ends_in_number-ipv4}
+use Rattle.uv_model.proofs.Hosts.Ipv4Domains.{parser_form-ipv4}
 use Rattle.uv_model.proofs.Complaints.FaultlessHosts.{form_not_empty}
 
 -- ---- percent-decoding

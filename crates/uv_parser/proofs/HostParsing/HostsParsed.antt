@@ -1,5 +1,6 @@
 -- What the host parser makes of a valid host text: its value, and the parser machine reads the whole text.
-use Rattle.std.proofs.Common.{◌≡◌, ◌≢◌, ℕ, suc, true, false, ◌==◌, List, [], ◌∷◌, length, Option, Some, None, refl, sym, ap, ◌∙◌, ne_eqb, arith}
+use Rattle.std.proofs.Common.{◌≡◌, ◌≢◌, ℕ, suc, true, false, ◌==◌, List, [], ◌∷◌, length, Option, Some, None, refl, sym}
+use Rattle.std.proofs.Common.{ap, ◌∙◌, ne_eqb, arith}
 use Rattle.std.specs.List.{list_all}
 use Rattle.std.proofs.lemmas.Bool.{and_parts, true≢false}
 use Rattle.uv_parser.proofs.Running.Unremoved.{is_unremoved}
@@ -13,7 +14,8 @@ use Rattle.uv_model.specs.Path.{is_without}
 use Rattle.uv_model.specs.Valid.{IsHostText, IsOpaqueHostText}
 use Rattle.uv_parser.proofs.Loops.AuthorityLoops.{is_authority_letter, letter}
 use Rattle.uv_parser.proofs.Loops.FileHosts.{file_text}
-use Rattle.uv_parser.proofs.HostParsing.HostParserLemmas.{domains_are_parsed, ipv4_hosts_are_parsed, ipv6_hosts_are_parsed}
+use Rattle.uv_parser.proofs.HostParsing.HostParserLemmas.{domains_are_parsed, ipv4_hosts_are_parsed}
+use Rattle.uv_parser.proofs.HostParsing.HostParserLemmas.{ipv6_hosts_are_parsed}
 use Rattle.uv_parser.proofs.Loops.HostTextsRead.{IsReadWhole, read_domain, read_ipv4, read_ipv6, read_opaque}
 use Rattle.uv_model.proofs.Texts.MarkLemmas.{is_without-more}
 use Rattle.uv_parser.proofs.Running.Unremoved.{is_unremoved}

@@ -1,5 +1,6 @@
 -- The IPv4 parser on an IPv4 text gives its value.
-use Rattle.std.proofs.Common.{◌≡◌, ℕ, suc, ◌+◌, ◌*◌, List, [], ◌∷◌, ◌++◌, Some, None, decimal, refl, sym, ap, ◌∙◌, lit≤, append_assoc, append-nil}
+use Rattle.std.proofs.Common.{◌≡◌, ℕ, suc, ◌+◌, ◌*◌, List, [], ◌∷◌, ◌++◌, Some, None, decimal, refl, sym, ap, ◌∙◌, lit≤}
+use Rattle.std.proofs.Common.{append_assoc, append-nil}
 use Rattle.uv_model.specs.Hosts.Address.{IsIpv4}
 use Rattle.uv_parser.specs.Ipv4Parser.{read_rest, parse_ipv4}
 use Rattle.uv_parser.specs.Ipv6Parser.{read_digits}

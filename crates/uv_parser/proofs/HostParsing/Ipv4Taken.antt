@@ -1,5 +1,6 @@
 -- What the IPv4 parser takes is an IPv4 text of the value that it gives.
-use Rattle.std.proofs.Common.{◌≡◌, ℕ, suc, ◌+◌, ◌*◌, ◌<◌, ◌==◌, List, [], ◌∷◌, ◌++◌, Some, None, decimal, refl, sym, ap, ◌∙◌, eqb-true}
+use Rattle.std.proofs.Common.{◌≡◌, ℕ, suc, ◌+◌, ◌*◌, ◌<◌, ◌==◌, List, [], ◌∷◌, ◌++◌, Some, None, decimal, refl, sym, ap}
+use Rattle.std.proofs.Common.{◌∙◌, eqb-true}
 use Rattle.std.proofs.lemmas.Option.{none-some, same_Some, option_and_then_some}
 use Rattle.uv_model.specs.Hosts.Address.{IsFourNumbers, IsIpv4}
 use Rattle.uv_model.specs.Ascii.{full_stop}

@@ -1,12 +1,15 @@
 -- The parser's main loop over groups.
-use Rattle.std.proofs.Common.{◌≡◌, ◌≢◌, ℕ, suc, ◌+◌, ◌*◌, ◌<◌, ◌≤◌, false, ◌||◌, ◌==◌, List, [], ◌∷◌, ◌++◌, length, Option, Some, None, decimal, refl, ap, ◌∙◌, arith, le-ltb, ne_eqb, lit≤, append_assoc, append-nil, length-append}
+use Rattle.std.proofs.Common.{◌≡◌, ◌≢◌, ℕ, suc, ◌+◌, ◌*◌, ◌<◌, ◌≤◌, false, ◌||◌, ◌==◌, List, [], ◌∷◌, ◌++◌, length}
+use Rattle.std.proofs.Common.{Option, Some, None, decimal, refl, ap, ◌∙◌, arith, le-ltb, ne_eqb, lit≤, append_assoc}
+use Rattle.std.proofs.Common.{append-nil, length-append}
 use Rattle.std.specs.Prelude.{slice_index, slice_set, if◌then◌else◌}
 use Rattle.std.specs.Str.Parse.{AllDigits}
 use Rattle.std.specs.Net.Addr.{segments_of}
 use Rattle.std.specs.Net.Grammar.{IsDotted, IsGroup}
 use Rattle.uv_parser.specs.Ipv6Parser.{read_digits, read_dotted, main_loop}
 use Rattle.std.proofs.lemmas.Fmt.{decimal_is_IsNumeral, length-decimal-le}
-use Rattle.uv_parser.proofs.HostParsing.Ipv6ReadersLemmas.{hexadecimal, pad, set_pad, get_pad, set_again, get_again, read_hex_group, not_colon, read_number}
+use Rattle.uv_parser.proofs.HostParsing.Ipv6ReadersLemmas.{hexadecimal, pad, set_pad, get_pad, set_again, get_again}
+use Rattle.uv_parser.proofs.HostParsing.Ipv6ReadersLemmas.{read_hex_group, not_colon, read_number}
 use Rattle.uv_model.specs.Ascii.{colon, full_stop}
 
 -- a group at the end

@@ -1,5 +1,7 @@
 -- The parser on lists of groups, and on a whole IPv6 text.
-use Rattle.std.proofs.Common.{◌≡◌, ◌≢◌, ℕ, zero, suc, ◌+◌, ◌-◌, ◌<◌, ◌≤◌, Bool, true, false, ◌==◌, List, [], ◌∷◌, ◌++◌, length, Option, Some, None, decimal, codes, refl, ap, ◌∙◌, inl, inr, arith, ne_eqb, append_assoc, append-nil, length-append}
+use Rattle.std.proofs.Common.{◌≡◌, ◌≢◌, ℕ, zero, suc, ◌+◌, ◌-◌, ◌<◌, ◌≤◌, Bool, true, false, ◌==◌, List, [], ◌∷◌, ◌++◌}
+use Rattle.std.proofs.Common.{length, Option, Some, None, decimal, codes, refl, ap, ◌∙◌, inl, inr, arith, ne_eqb}
+use Rattle.std.proofs.Common.{append_assoc, append-nil, length-append}
 use Rattle.std.specs.Prelude.{replicate, slice_index, slice_set}
 use Rattle.std.specs.Str.Parse.{AllDigits}
 use Rattle.std.specs.Net.Addr.{segments_of}
@@ -10,7 +12,8 @@ use Rattle.uv_model.specs.Hosts.Address.{IsIpv6}
 use Rattle.uv_parser.specs.Ipv6Parser.{Parsed, main_loop, finish, parse_ipv6}
 use Rattle.uv_model.proofs.Addresses.AddressLemmas.{colon_hex_from_ipv6}
 use Rattle.uv_parser.proofs.HostParsing.Ipv6MovesLemmas.{moved}
-use Rattle.uv_parser.proofs.HostParsing.Ipv6ReadersLemmas.{hexadecimal, pad, set_pad, pad_full, pad_append, pad_zero, not_colon}
+use Rattle.uv_parser.proofs.HostParsing.Ipv6ReadersLemmas.{hexadecimal, pad, set_pad, pad_full, pad_append, pad_zero}
+use Rattle.uv_parser.proofs.HostParsing.Ipv6ReadersLemmas.{not_colon}
 use Rattle.uv_parser.proofs.HostParsing.Ipv6LoopLemmas.{turn_end, turn_more, turn_dotted}
 use Rattle.uv_model.specs.Ascii.{colon, full_stop}
 

@@ -1,5 +1,7 @@
 -- What one turn of the IPv6 parser's main loop takes, where it gives something in the end.
-use Rattle.std.proofs.Common.{◌≡◌, ◌≢◌, ℕ, zero, suc, ◌+◌, ◌*◌, ◌<◌, ◌≤◌, ◌⊎◌, Bool, true, false, not, ◌&&◌, ◌||◌, ◌==◌, List, [], ◌∷◌, ◌++◌, length, drop, Option, Some, None, if◌then◌else◌, refl, sym, ap, subst, ◌∙◌, inl, inr, append-nil, eqb-true, ne_eqb, arith}
+use Rattle.std.proofs.Common.{◌≡◌, ◌≢◌, ℕ, zero, suc, ◌+◌, ◌*◌, ◌<◌, ◌≤◌, ◌⊎◌, Bool, true, false, not, ◌&&◌, ◌||◌, ◌==◌}
+use Rattle.std.proofs.Common.{List, [], ◌∷◌, ◌++◌, length, drop, Option, Some, None, if◌then◌else◌, refl, sym, ap}
+use Rattle.std.proofs.Common.{subst, ◌∙◌, inl, inr, append-nil, eqb-true, ne_eqb, arith}
 use Rattle.std.specs.Prelude.{nat_lt, slice_index, slice_set, is_some, option_map}
 use Rattle.std.specs.List.{list_all}
 use Rattle.std.specs.Char.{is_ascii_hexdigit}
@@ -10,7 +12,8 @@ use Rattle.std.proofs.lemmas.Option.{none-some, same_Some}
 use Rattle.uv_model.specs.Hosts.Address.{IsGroup, IsTwoPieces}
 use Rattle.uv_model.specs.Ascii.{colon, full_stop}
 use Rattle.uv_parser.specs.Ipv6Parser.{main_loop, read_dotted, read_hex}
-use Rattle.uv_parser.proofs.HostParsing.Ipv6ReadersTaken.{TakesHex, dotted_taken, fails_where_false, fails_where_true, hex_taken}
+use Rattle.uv_parser.proofs.HostParsing.Ipv6ReadersTaken.{TakesHex, dotted_taken, fails_where_false, fails_where_true}
+use Rattle.uv_parser.proofs.HostParsing.Ipv6ReadersTaken.{hex_taken}
 
 -- ---- one turn
 

@@ -1,5 +1,6 @@
 -- What the host parser takes for a URL that isn't special: nothing, an IPv6 text in brackets, or an opaque-host string.
-use Rattle.std.proofs.Common.{◌≡◌, ℕ, ◌+◌, ◌-◌, ◌<◌, true, false, not, ◌==◌, List, [], ◌∷◌, ◌++◌, length, take, Option, Some, None, if◌then◌else◌, refl, sym, ap, subst, ◌∙◌, inl, inr, eqb-true, arith}
+use Rattle.std.proofs.Common.{◌≡◌, ℕ, ◌+◌, ◌-◌, ◌<◌, true, false, not, ◌==◌, List, [], ◌∷◌, ◌++◌, length, take, Option}
+use Rattle.std.proofs.Common.{Some, None, if◌then◌else◌, refl, sym, ap, subst, ◌∙◌, inl, inr, eqb-true, arith}
 use Rattle.std.specs.Prelude.{slice_index, option_map}
 use Rattle.std.specs.List.{list_all}
 use Rattle.std.proofs.Math.Seq.{take-length}
@@ -11,11 +12,13 @@ use Rattle.uv_model.specs.declared.host.Host.TheVariants.{V6, Opaque}
 use Rattle.uv_model.specs.Hosts.Address.{IsBracketedIpv6}
 use Rattle.uv_model.specs.Ascii.{left_bracket, right_bracket}
 use Rattle.uv_model.specs.Encoding.{encoded}
-use Rattle.uv_parser.specs.HostParser.{IsTakenOtherHost, OtherHostsAreTaken, is_faultless_host, parse_bracketed, parse_host, parse_opaque_host}
+use Rattle.uv_parser.specs.HostParser.{IsTakenOtherHost, OtherHostsAreTaken, is_faultless_host, parse_bracketed}
+use Rattle.uv_parser.specs.HostParser.{parse_host, parse_opaque_host}
 use Rattle.uv_parser.specs.Ipv6Parser.{parse_ipv6}
 use Rattle.uv_model.specs.Hosts.OpaqueHost.{IsOpaqueHost, is_forbidden_host}
 use Rattle.uv_model.specs.Units.{is_faultless, is_unit_at}
-use Rattle.uv_parser.proofs.HostParsing.HostParserLemmas.{empty_host_is_parsed, ipv6_hosts_are_parsed, opaque_hosts_are_parsed}
+use Rattle.uv_parser.proofs.HostParsing.HostParserLemmas.{empty_host_is_parsed, ipv6_hosts_are_parsed}
+use Rattle.uv_parser.proofs.HostParsing.HostParserLemmas.{opaque_hosts_are_parsed}
 use Rattle.uv_parser.proofs.HostParsing.Ipv6ReadersTaken.{fails_where_false}
 use Rattle.uv_parser.proofs.HostParsing.Ipv6Taken.{ipv6_texts_alone}
 use Rattle.uv_model.proofs.Texts.UnitsLemmas.{IsUnits-faultless}

@@ -1,7 +1,8 @@
 -- The parser machine from the start of an authority to the end of the text, where host and port are followed by a path,
 -- a query and a fragment.
 use Rattle.uv_model.specs.Path.{MayBePathSlashed}
-use Rattle.std.proofs.Common.{◌≡◌, ℕ, Bool, true, false, ◌&&◌, ◌==◌, ◌⊎◌, List, [], ◌∷◌, ◌++◌, length, Option, Some, None, refl, ap, subst, ◌∙◌, inl, inr, ⊎_elim, append_assoc, append-nil, le-ltb}
+use Rattle.std.proofs.Common.{◌≡◌, ℕ, Bool, true, false, ◌&&◌, ◌==◌, ◌⊎◌, List, [], ◌∷◌, ◌++◌, length, Option, Some}
+use Rattle.std.proofs.Common.{None, refl, ap, subst, ◌∙◌, inl, inr, ⊎_elim, append_assoc, append-nil, le-ltb}
 use Rattle.std.specs.Prelude.{nat_lt}
 use Rattle.std.specs.List.{list_all}
 use Rattle.std.specs.Char.{is_ascii_digit}
@@ -17,8 +18,11 @@ use Rattle.uv_model.specs.Scheme.{default_port, lowercase, scheme_class}
 use Rattle.uv_model.specs.Records.Url.{Url}
 use Rattle.uv_model.specs.Cut.{is_within_at_end}
 use Rattle.uv_model.specs.Valid.{MayBePortText, MayBeUnits, port_given}
-use Rattle.uv_parser.specs.Machine.{Variables, again, at_pointer, with_brackets, AuthorityState, HostState, PortState, PathStartState, with_host, with_more, with_port, port_in, is_special}
-use Rattle.uv_parser.proofs.Loops.AuthorityLoops.{IsDelimiter, IsRead, authority_law, digit_letter, host_law, host_row_end, host_row_port, is_authority_letter, port_law, port_row_end}
+use Rattle.uv_parser.specs.Machine.{Variables, again, at_pointer, with_brackets, AuthorityState, HostState, PortState}
+use Rattle.uv_parser.specs.Machine.{PathStartState, with_host, with_more, with_port, port_in, is_special}
+use Rattle.uv_parser.proofs.Loops.AuthorityLoops.{IsDelimiter, IsRead, authority_law, digit_letter, host_law}
+use Rattle.uv_parser.proofs.Loops.AuthorityLoops.{host_row_end, host_row_port, is_authority_letter, port_law}
+use Rattle.uv_parser.proofs.Loops.AuthorityLoops.{port_row_end}
 use Rattle.uv_parser.proofs.Loops.PathLoops.{walking}
 use Rattle.uv_parser.proofs.Loops.PathStarts.{path_start_ends}
 use Rattle.uv_model.proofs.SchemeLemmas.{default_port-lowercase}

@@ -1,5 +1,7 @@
 -- Laws of the parser machine's loops over an authority, a host and a port, and the rows that end each of them.
-use Rattle.std.proofs.Common.{◌≡◌, ℕ, suc, ◌+◌, ◌-◌, Bool, true, false, not, ◌&&◌, ◌==◌, List, [], ◌∷◌, ◌++◌, length, drop, Option, Some, refl, sym, ap, ◌∙◌, inl, inr, append_assoc, append-nil, drop-drop, add-zero, arith}
+use Rattle.std.proofs.Common.{◌≡◌, ℕ, suc, ◌+◌, ◌-◌, Bool, true, false, not, ◌&&◌, ◌==◌, List, [], ◌∷◌, ◌++◌, length}
+use Rattle.std.proofs.Common.{drop, Option, Some, refl, sym, ap, ◌∙◌, inl, inr, append_assoc, append-nil, drop-drop}
+use Rattle.std.proofs.Common.{add-zero, arith}
 use Rattle.std.specs.Prelude.{nat_lt}
 use Rattle.std.specs.List.{list_all}
 use Rattle.std.specs.Char.{is_ascii_digit}
@@ -8,13 +10,18 @@ use Rattle.std.proofs.lemmas.Bool.{and_parts, cases_Bool, not-true}
 use Rattle.std.proofs.lemmas.Bool.Decides.{nat_tests}
 use Rattle.std.proofs.Math.Seq.{drop-append_seam}
 use Rattle.uv_model.specs.declared.host.Host.{Host}
-use Rattle.uv_model.specs.Ascii.{slash, colon, question_mark, number_sign, at_sign, backslash, left_bracket, right_bracket}
+use Rattle.uv_model.specs.Ascii.{slash, colon, question_mark, number_sign, at_sign, backslash, left_bracket}
+use Rattle.uv_model.specs.Ascii.{right_bracket}
 use Rattle.uv_model.specs.Cut.{is_within, is_within_at_end, is_port_mark}
 use Rattle.uv_parser.specs.HostParser.{parse_host}
 use Rattle.uv_model.specs.Records.Url.{Url}
-use Rattle.uv_parser.specs.Machine.{Variables, AtPointer, end, slash_mark, query_mark, fragment_mark, another, at_pointer, turn, onward, again, from_place, authority_at, host_at, port_at, port_in, AuthorityState, HostState, PortState, PathStartState, bracketed, put, with_more, emptied, with_brackets, with_host, with_port, is_special}
+use Rattle.uv_parser.specs.Machine.{Variables, AtPointer, end, slash_mark, query_mark, fragment_mark, another}
+use Rattle.uv_parser.specs.Machine.{at_pointer, turn, onward, again, from_place, authority_at, host_at, port_at}
+use Rattle.uv_parser.specs.Machine.{port_in, AuthorityState, HostState, PortState, PathStartState, bracketed, put}
+use Rattle.uv_parser.specs.Machine.{with_more, emptied, with_brackets, with_host, with_port, is_special}
 use Rattle.uv_parser.specs.Run.{step, settle}
-use Rattle.uv_parser.proofs.Running.Steps.{at, drop_one, step_at, Leads, leads_none, leads_step, leads_then, Reaches, reaches_none, onward_then}
+use Rattle.uv_parser.proofs.Running.Steps.{at, drop_one, step_at, Leads, leads_none, leads_step, leads_then, Reaches}
+use Rattle.uv_parser.proofs.Running.Steps.{reaches_none, onward_then}
 
 -- a code point that neither ends an authority nor stops at it: none of `/ ? # @`, and of a special URL no `\`
 abbrev pub is_authority_letter : Bool → ℕ → Bool

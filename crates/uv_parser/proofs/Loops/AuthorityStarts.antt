@@ -9,7 +9,11 @@ use Rattle.uv_model.specs.declared.scheme.Class.TheVariants.{Special, File, Othe
 use Rattle.uv_model.specs.Ascii.{slash, colon}
 use Rattle.uv_model.specs.Records.Url.{Url, is_opaque}
 use Rattle.uv_model.specs.Scheme.{lowercase, scheme_class}
-use Rattle.uv_parser.specs.Machine.{Variables, State, has_same_scheme, is_file, is_special, AuthorityState, FileHostState, FileSlashState, FileState, NoSchemeState, PathOrAuthorityState, RelativeSlashState, RelativeState, SchemeState, SpecialAuthorityIgnoreSlashesState, SpecialAuthoritySlashesState, SpecialRelativeOrAuthorityState, empty_variables, with_host, with_more, with_scheme}
+use Rattle.uv_parser.specs.Machine.{Variables, State, has_same_scheme, is_file, is_special, AuthorityState}
+use Rattle.uv_parser.specs.Machine.{FileHostState, FileSlashState, FileState, NoSchemeState, PathOrAuthorityState}
+use Rattle.uv_parser.specs.Machine.{RelativeSlashState, RelativeState, SchemeState, SpecialAuthorityIgnoreSlashesState}
+use Rattle.uv_parser.specs.Machine.{SpecialAuthoritySlashesState, SpecialRelativeOrAuthorityState, empty_variables}
+use Rattle.uv_parser.specs.Machine.{with_host, with_more, with_scheme}
 use Rattle.uv_parser.proofs.Loops.SchemeStretch.{colon_row, scheme_variables}
 use Rattle.uv_parser.proofs.Running.Steps.{Ending, EndsAs, ends_again, ends_past_two, ends_step}
 

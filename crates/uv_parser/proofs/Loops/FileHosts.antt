@@ -1,5 +1,6 @@
 -- The parser machine over the host of a file URL, and what the host parser makes of each valid one.
-use Rattle.std.proofs.Common.{◌≡◌, ℕ, true, false, ◌||◌, ◌==◌, List, [], ◌∷◌, ◌++◌, length, codes, Option, Some, refl, sym, ◌∙◌, Bool, ◌&&◌, inl, inr, append_assoc, append-nil, arith}
+use Rattle.std.proofs.Common.{◌≡◌, ℕ, true, false, ◌||◌, ◌==◌, List, [], ◌∷◌, ◌++◌, length, codes, Option, Some, refl}
+use Rattle.std.proofs.Common.{sym, ◌∙◌, Bool, ◌&&◌, inl, inr, append_assoc, append-nil, arith}
 use Rattle.std.specs.Prelude.{is_some}
 use Rattle.std.specs.List.{list_all}
 use Rattle.std.specs.Char.{is_ascii_alphabetic}
@@ -12,18 +13,22 @@ use Rattle.uv_model.specs.declared.profile.Profile.TheVariants.{Standard, Wide}
 use Rattle.uv_model.specs.declared.host.Host.{Host}
 use Rattle.uv_model.specs.declared.host.Host.TheVariants as host
 use Rattle.uv_model.specs.declared.scheme.Class.TheVariants.{File}
-use Rattle.uv_model.specs.Ascii.{backslash, colon, left_bracket, number_sign, question_mark, right_bracket, slash, vertical_bar}
+use Rattle.uv_model.specs.Ascii.{backslash, colon, left_bracket, number_sign, question_mark, right_bracket, slash}
+use Rattle.uv_model.specs.Ascii.{vertical_bar}
 use Rattle.uv_model.specs.Hosts.Domain.{is_permitted, has_permitted}
 use Rattle.uv_parser.specs.HostParser.{parse_host}
-use Rattle.uv_parser.specs.Machine.{Variables, AtPointer, end, slash_mark, query_mark, fragment_mark, another, again, FileHostState, PathStartState, file_host_at, put, with_more, with_host, emptied}
+use Rattle.uv_parser.specs.Machine.{Variables, AtPointer, end, slash_mark, query_mark, fragment_mark, another, again}
+use Rattle.uv_parser.specs.Machine.{FileHostState, PathStartState, file_host_at, put, with_more, with_host, emptied}
 use Rattle.uv_model.specs.Path.{is_drive_letter, is_without}
 use Rattle.uv_model.specs.Scheme.{default_port, lowercase, scheme_class}
 use Rattle.uv_model.specs.Records.Url.{Url}
 use Rattle.uv_model.specs.Valid.{IsFileHostText, without_localhost}
 use Rattle.uv_parser.proofs.Loops.AuthorityLoops.{IsDelimiter, is_authority_letter, letter}
-use Rattle.uv_parser.proofs.HostParsing.HostParserLemmas.{domains_are_parsed, ipv4_hosts_are_parsed, ipv6_hosts_are_parsed}
+use Rattle.uv_parser.proofs.HostParsing.HostParserLemmas.{domains_are_parsed, ipv4_hosts_are_parsed}
+use Rattle.uv_parser.proofs.HostParsing.HostParserLemmas.{ipv6_hosts_are_parsed}
 use Rattle.uv_model.proofs.Texts.MarkLemmas.{is_without-more, is_without-cons}
-use Rattle.uv_parser.proofs.Loops.HostTextsRead.{IsReadWhole, dotted_numbers, is_dotted, read_domain, read_ipv4, read_ipv6}
+use Rattle.uv_parser.proofs.Loops.HostTextsRead.{IsReadWhole, dotted_numbers, is_dotted, read_domain, read_ipv4}
+use Rattle.uv_parser.proofs.Loops.HostTextsRead.{read_ipv6}
 use Rattle.uv_parser.proofs.Running.Steps.{Reaches, reaches_none, onward_then}
 
 -- ---- the loop

@@ -1,5 +1,6 @@
 -- What the parser machine reads of a valid host text: all of it, since it holds letters of an authority alone.
-use Rattle.std.proofs.Common.{◌≡◌, ℕ, ◌<◌, ◌≤◌, Bool, true, false, not, ◌&&◌, ◌||◌, ◌==◌, List, [], ◌∷◌, ◌++◌, length, codes, decimal, refl, lt-ltb, ne_eqb, inl, inr, arith}
+use Rattle.std.proofs.Common.{◌≡◌, ℕ, ◌<◌, ◌≤◌, Bool, true, false, not, ◌&&◌, ◌||◌, ◌==◌, List, [], ◌∷◌, ◌++◌, length}
+use Rattle.std.proofs.Common.{codes, decimal, refl, lt-ltb, ne_eqb, inl, inr, arith}
 use Rattle.std.specs.Prelude.{nat_lt}
 use Rattle.std.specs.List.{list_all}
 use Rattle.std.specs.Char.{is_ascii_digit, is_ascii_hexdigit}
@@ -161,7 +162,8 @@ inner_groups dotted text [] h = absurd h
 inner_groups dotted text (p ∷ []) h = inner_digits text h.digits
 inner_groups dotted text (p ∷ q ∷ rest) (inl (group, others, split, is, more)) =
     rw split
-    (passes-append is_inner group (colon ∷ others) (inner_digits group is.digits) (inner_groups dotted others (q ∷ rest) more))
+    (passes-append is_inner group (colon ∷ others) (inner_digits group is.digits)
+    (inner_groups dotted others (q ∷ rest) more))
 inner_groups dotted text (p ∷ q ∷ rest) (inr (allowed, none, (a, b, c, d, is, first, second))) =
     passes-weaker is_dotted is_inner inner_dotted text (dotted_numbers a b c d text is)
 

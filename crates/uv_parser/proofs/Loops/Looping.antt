@@ -1,6 +1,7 @@
 -- Laws of the parser machine's loops over a scheme, an opaque path, a query and a fragment: it is led behind what the
 -- state reads, whatever the variables are before it and whatever text follows it.
-use Rattle.std.proofs.Common.{◌≡◌, ℕ, true, false, ◌==◌, List, [], ◌∷◌, ◌++◌, Option, Some, refl, append_assoc, append-nil, eqb-true, inl, inr}
+use Rattle.std.proofs.Common.{◌≡◌, ℕ, true, false, ◌==◌, List, [], ◌∷◌, ◌++◌, Option, Some, refl, append_assoc}
+use Rattle.std.proofs.Common.{append-nil, eqb-true, inl, inr}
 use Rattle.std.specs.List.{list_all}
 use Rattle.std.specs.Char.{to_ascii_lowercase}
 use Rattle.std.proofs.lemmas.Bool.{and_parts, cases_Bool}
@@ -12,7 +13,8 @@ use Rattle.uv_model.specs.Path.{is_without}
 use Rattle.uv_model.specs.Scheme.{is_scheme_code_point, lowercase}
 use Rattle.uv_model.specs.Units.{is_unit_at, is_faultless}
 use Rattle.uv_model.specs.Records.Url.{Url}
-use Rattle.uv_parser.specs.Machine.{Variables, turn, onward, SchemeState, OpaquePathState, QueryState, FragmentState, put, with_more, with_path, with_opaque, with_fragment}
+use Rattle.uv_parser.specs.Machine.{Variables, turn, onward, SchemeState, OpaquePathState, QueryState, FragmentState}
+use Rattle.uv_parser.specs.Machine.{put, with_more, with_path, with_opaque, with_fragment}
 use Rattle.uv_parser.proofs.Running.Steps.{Reaches, reaches_none, onward_then}
 use Rattle.uv_model.proofs.Texts.MarkLemmas.{is_without-cons}
 

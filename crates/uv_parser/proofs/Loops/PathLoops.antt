@@ -1,6 +1,7 @@
 -- Laws of the parser machine over a path of segments: each segment is walked as the denotation walks it, and behind the
 -- path a run ends through the query and the fragment.
-use Rattle.std.proofs.Common.{◌≡◌, ℕ, Bool, true, false, not, ◌==◌, List, [], ◌∷◌, ◌++◌, Option, refl, ap, inl, inr, append_assoc, append-nil}
+use Rattle.std.proofs.Common.{◌≡◌, ℕ, Bool, true, false, not, ◌==◌, List, [], ◌∷◌, ◌++◌, Option, refl, ap, inl, inr}
+use Rattle.std.proofs.Common.{append_assoc, append-nil}
 use Rattle.std.specs.List.{join_with_byte}
 use Rattle.std.proofs.lemmas.Bool.{and_parts, cases_Bool}
 use Rattle.uv_model.specs.declared.path.UrlPath.TheVariants.{Segments}
@@ -11,7 +12,8 @@ use Rattle.uv_model.specs.Scheme.{scheme_class}
 use Rattle.uv_model.specs.Units.{is_unit_at, is_faultless}
 use Rattle.uv_model.specs.Records.Url.{Url}
 use Rattle.uv_model.specs.Valid.{MayBeUnits}
-use Rattle.uv_parser.specs.Machine.{Variables, turn, onward, to_query, to_fragment, PathState, with_more, with_path, segment_ended}
+use Rattle.uv_parser.specs.Machine.{Variables, turn, onward, to_query, to_fragment, PathState, with_more, with_path}
+use Rattle.uv_parser.specs.Machine.{segment_ended}
 use Rattle.uv_model.proofs.Paths.DotSegmentLemmas.{is_single_dot-encoded, is_double_dot-encoded}
 use Rattle.uv_parser.proofs.Running.Steps.{Reaches, Ends, reaches_none, onward_then, ends_step, ends_after}
 use Rattle.uv_parser.proofs.Loops.Tails.{bare, tail, with_tail, TurnsToTail, tail_ends}

@@ -6,7 +6,8 @@ use Rattle.uv_model.specs.declared.scheme.Class.TheVariants.{Special, File, Othe
 use Rattle.uv_model.specs.Ascii.{slash}
 use Rattle.uv_model.specs.Records.Denote.{authority_path}
 use Rattle.uv_model.specs.Encoding.{encoded}
-use Rattle.uv_model.specs.Path.{MayBePathSlashed, AreSegments, IsPathRelative, IsPathSlashed, JoinsTo, is_single_dot, is_double_dot, walk}
+use Rattle.uv_model.specs.Path.{MayBePathSlashed, AreSegments, IsPathRelative, IsPathSlashed, JoinsTo, is_single_dot}
+use Rattle.uv_model.specs.Path.{is_double_dot, walk}
 use Rattle.uv_model.specs.Scheme.{scheme_class}
 use Rattle.uv_model.specs.Records.Url.{Url}
 use Rattle.uv_model.specs.Valid.{MayBeUnits}

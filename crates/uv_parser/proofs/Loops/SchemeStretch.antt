@@ -7,7 +7,8 @@ use Rattle.uv_model.specs.Ascii.{colon}
 use Rattle.uv_model.specs.Scheme.{is_scheme, is_scheme_code_point, lowercase, scheme_class}
 use Rattle.uv_model.specs.Records.Url.{Url}
 use Rattle.uv_model.specs.Valid.{FitsScheme}
-use Rattle.uv_parser.specs.Machine.{Variables, turn, SchemeStartState, SchemeState, put, with_more, with_scheme, empty_variables, after_scheme}
+use Rattle.uv_parser.specs.Machine.{Variables, turn, SchemeStartState, SchemeState, put, with_more, with_scheme}
+use Rattle.uv_parser.specs.Machine.{empty_variables, after_scheme}
 use Rattle.uv_model.proofs.SchemeLemmas.{scheme_class-lowercase}
 use Rattle.uv_parser.proofs.Running.Steps.{Reaches, onward_then}
 use Rattle.uv_parser.proofs.Loops.Looping.{scheme_law}

@@ -8,7 +8,8 @@ use Rattle.uv_model.specs.Path.{starts_with_slash}
 use Rattle.uv_model.specs.Units.{IsUnits}
 use Rattle.uv_model.specs.Records.Url.{Url}
 use Rattle.uv_model.specs.Valid.{MayBeUnits}
-use Rattle.uv_parser.specs.Machine.{State, Variables, turn, onward, to_query, to_fragment, QueryState, FragmentState, emptied, with_query, with_fragment, with_more, query_ended, is_special, begins}
+use Rattle.uv_parser.specs.Machine.{State, Variables, turn, onward, to_query, to_fragment, QueryState, FragmentState}
+use Rattle.uv_parser.specs.Machine.{emptied, with_query, with_fragment, with_more, query_ended, is_special, begins}
 use Rattle.uv_parser.proofs.Running.Steps.{Ends, ends_onward, ends_step, ends_after}
 use Rattle.uv_model.proofs.Texts.UnitsLemmas.{is_faultless-units}
 use Rattle.uv_parser.proofs.Loops.Looping.{query_law, fragment_law}
@@ -48,7 +49,8 @@ module _ (base : Option Url) where
 
   -- a query that has begun ends the run at its end, or at that of a fragment behind it
   pub query_ends : (cs : List ℕ) (fragment : Option (List ℕ)) (v : Variables) → IsUnits cs → MayBeUnits fragment
-      → Ends base QueryState (with_query (Some []) (bare v)) (cs ++ written_behind number_sign fragment) (with_tail (Some cs) fragment v)
+      → Ends base QueryState (with_query (Some []) (bare v)) (cs ++ written_behind number_sign fragment)
+      (with_tail (Some cs) fragment v)
   query_ends cs None v units fragment_units =
       ends_after base (query_law base cs [] (with_query (Some []) (bare v)) (is_faultless-units cs units))
       (ends_onward base (λ p. refl))

@@ -1,5 +1,6 @@
 -- What the host parser makes of a text it makes again of that host's own text.
-use Rattle.std.proofs.Common.{◌≡◌, ◌≢◌, ℕ, true, false, not, ◌==◌, List, [], ◌∷◌, All, length, encode_utf8_all, IsAscii, Option, Some, None, refl, sym, ap, subst, ◌∙◌, inl, inr, ne_eqb}
+use Rattle.std.proofs.Common.{◌≡◌, ◌≢◌, ℕ, true, false, not, ◌==◌, List, [], ◌∷◌, All, length, encode_utf8_all, IsAscii}
+use Rattle.std.proofs.Common.{Option, Some, None, refl, sym, ap, subst, ◌∙◌, inl, inr, ne_eqb}
 use Rattle.std.specs.Prelude.{option_and_then, option_map}
 use Rattle.std.specs.List.{list_all, list_any}
 use Rattle.std.specs.Str.{is_utf8}
@@ -18,7 +19,8 @@ use Rattle.uv_model.specs.declared.scheme.Class.TheVariants.{Special, Other}
 use Rattle.uv_model.specs.Ascii.{left_bracket, percent_sign}
 use Rattle.uv_model.specs.Hosts.Address.{IsAddress}
 use Rattle.uv_model.specs.Hosts.Domain.{ends_in_number, parser_form}
-use Rattle.uv_parser.specs.HostParser.{IsTakenOtherHost, host_of_form, is_forbidden_domain, parse_bracketed, parse_domain, parse_host, percent_decoded}
+use Rattle.uv_parser.specs.HostParser.{IsTakenOtherHost, host_of_form, is_forbidden_domain, parse_bracketed}
+use Rattle.uv_parser.specs.HostParser.{parse_domain, parse_host, percent_decoded}
 use Rattle.uv_parser.specs.Ipv4Parser.{parse_ipv4}
 use Rattle.uv_parser.specs.Laws.RoundTrip.{IsReadableHost}
 use Rattle.uv_model.specs.Records.WellFormed.{takes_port}

@@ -1,5 +1,6 @@
 -- The URL with which a run of the parser is done is readable: the parser makes of its serialized text that URL again.
-use Rattle.std.proofs.Common.{◌≡◌, ℕ, true, false, List, [], ◌∷◌, codes, Option, Some, None, refl, sym, ap, subst, ◌∙◌, inl, inr}
+use Rattle.std.proofs.Common.{◌≡◌, ℕ, true, false, List, [], ◌∷◌, codes, Option, Some, None, refl, sym, ap, subst, ◌∙◌}
+use Rattle.std.proofs.Common.{inl, inr}
 use Rattle.std.specs.Prelude.{option_map}
 use Rattle.std.specs.Str.{bytes_eq}
 use Rattle.std.proofs.lemmas.Bool.{cases_Bool, false≢true}
@@ -13,21 +14,27 @@ use Rattle.uv_model.specs.declared.path.UrlPath.TheVariants.{Segments}
 use Rattle.uv_model.specs.Records.Denote.{authority_host, authority_path, denote, denoted_query, denoted_scheme}
 use Rattle.uv_model.specs.Encoding.{encoded}
 use Rattle.uv_parser.specs.HostParser.{IsTakenOtherHost}
-use Rattle.uv_model.specs.Parts.{Form, Parts, SchemeAuthority, SchemePath, SchemeOpaque, Authority, PathAbsolute, PathRelative, NoPath, has_scheme}
+use Rattle.uv_model.specs.Parts.{Form, Parts, SchemeAuthority, SchemePath, SchemeOpaque, Authority, PathAbsolute}
+use Rattle.uv_model.specs.Parts.{PathRelative, NoPath, has_scheme}
 use Rattle.uv_parser.specs.SilentTexts.{Silent, Takes, TakesAuthority, TakesHostText}
 use Rattle.uv_model.specs.Path.{IsPathAbsolute}
-use Rattle.uv_parser.specs.Laws.RoundTrip.{IsReadable, IsReadableFileHost, IsReadableHost, IsReadableSpecialHost, MayBeStable, ParsedUrlsAreReadBack}
+use Rattle.uv_parser.specs.Laws.RoundTrip.{IsReadable, IsReadableFileHost, IsReadableHost, IsReadableSpecialHost}
+use Rattle.uv_parser.specs.Laws.RoundTrip.{MayBeStable, ParsedUrlsAreReadBack}
 use Rattle.uv_parser.specs.Run.{Done, run, step_bound}
 use Rattle.uv_model.specs.Setting.{setting_of}
 use Rattle.uv_model.specs.Scheme.{default_port, scheme_class}
 use Rattle.uv_model.specs.Records.Url.{Url}
-use Rattle.uv_model.specs.Valid.{FitsBase, FitsForm, FitsScheme, MayBePortText, MayBeUnits, port_given, scheme_in, without_localhost}
-use Rattle.uv_model.specs.Records.WellFormed.{IsUrlPath, IsUrlPort, IsUrlQuery, IsUrlScheme, MayBeWellFormed, takes_port}
+use Rattle.uv_model.specs.Valid.{FitsBase, FitsForm, FitsScheme, MayBePortText, MayBeUnits, port_given, scheme_in}
+use Rattle.uv_model.specs.Valid.{without_localhost}
+use Rattle.uv_model.specs.Records.WellFormed.{IsUrlPath, IsUrlPort, IsUrlQuery, IsUrlScheme, MayBeWellFormed}
+use Rattle.uv_model.specs.Records.WellFormed.{takes_port}
 use Rattle.uv_model.proofs.Cuts.AuthorityLemmas.{IsUrlPath-authority, IsUrlPort-given, AreSegments-maybe}
 use Rattle.uv_parser.proofs.Done.Decided.{takes_form}
 use Rattle.uv_parser.proofs.Differences.SilentDifferences.{valid_from}
 use Rattle.uv_parser.proofs.Done.DecidedBases.{texts_are_decided}
-use Rattle.uv_model.proofs.Records.DenotedRecords.{AreDenoted-reference, IsUrlPath-absolute, IsUrlPort-same, IsUrlQuery-own, IsUrlScheme-own, WellFormed-denoted, class-denoted, default_port-denoted, denote_as, denoted_records_are_well_formed}
+use Rattle.uv_model.proofs.Records.DenotedRecords.{AreDenoted-reference, IsUrlPath-absolute, IsUrlPort-same}
+use Rattle.uv_model.proofs.Records.DenotedRecords.{IsUrlQuery-own, IsUrlScheme-own, WellFormed-denoted, class-denoted}
+use Rattle.uv_model.proofs.Records.DenotedRecords.{default_port-denoted, denote_as, denoted_records_are_well_formed}
 use Rattle.uv_parser.proofs.Done.DoneAuthority.{other_valued}
 use Rattle.uv_parser.proofs.HostParsing.OtherHosts.{silent_other_hosts_are_valid}
 use Rattle.uv_parser.proofs.HostParsing.OtherHostsTaken.{other_hosts_are_taken}

@@ -12,8 +12,11 @@ use Rattle.uv_model.specs.declared.host.Host.TheVariants as host
 use Rattle.uv_model.specs.declared.path.UrlPath.{UrlPath}
 use Rattle.uv_model.specs.declared.path.UrlPath.TheVariants.{Opaque, Segments}
 use Rattle.uv_model.specs.Records.Denote.{authority_host, base_host, base_port, denote, denoted_host, denoted_port}
-use Rattle.uv_model.specs.Parts.{Form, Parts, SchemeAuthority, SchemePath, SchemeOpaque, Authority, PathAbsolute, PathRelative, NoPath, written}
-use Rattle.uv_parser.specs.Laws.RoundTrip.{DenotedUrlsAreReadBack, IsReadBack, IsReadable, IsReadableHost, IsStable, MayBePortNumber, MayBeStable, MayBeStableHost, ReadableUrlsAreReadBack, StableUrlsAreReadBack}
+use Rattle.uv_model.specs.Parts.{Form, Parts, SchemeAuthority, SchemePath, SchemeOpaque, Authority, PathAbsolute}
+use Rattle.uv_model.specs.Parts.{PathRelative, NoPath, written}
+use Rattle.uv_parser.specs.Laws.RoundTrip.{DenotedUrlsAreReadBack, IsReadBack, IsReadable, IsReadableHost, IsStable}
+use Rattle.uv_parser.specs.Laws.RoundTrip.{MayBePortNumber, MayBeStable, MayBeStableHost, ReadableUrlsAreReadBack}
+use Rattle.uv_parser.specs.Laws.RoundTrip.{StableUrlsAreReadBack}
 use Rattle.uv_parser.specs.Run.{Done, run, step_bound}
 use Rattle.uv_model.specs.Scheme.{scheme_class}
 use Rattle.uv_model.specs.Records.Url.{Url}
@@ -23,7 +26,8 @@ use Rattle.uv_parser.proofs.Done.DecidedBases.{texts_are_decided, takes_none}
 use Rattle.uv_model.proofs.Records.DenotedRecords.{denoted_records_are_well_formed}
 use Rattle.uv_parser.proofs.RoundTrip.SerializedAuthorities.{authority_read}
 use Rattle.uv_parser.proofs.RoundTrip.SerializedPaths.{IsSilentOn, opaque_read, path_read, url_of}
-use Rattle.uv_parser.proofs.RoundTrip.StableHosts.{authority_host_stable, file_host_stable, host_stable, opaque_host_stable, port_small}
+use Rattle.uv_parser.proofs.RoundTrip.StableHosts.{authority_host_stable, file_host_stable, host_stable}
+use Rattle.uv_parser.proofs.RoundTrip.StableHosts.{opaque_host_stable, port_small}
 
 -- ---- each well-formed stable URL
 

@@ -1,5 +1,6 @@
 -- The serialized text of a well-formed URL with a host: the parser is silent on it, and its parts denote the URL.
-use Rattle.std.proofs.Common.{◌≡◌, ℕ, true, List, [], ◌∷◌, ◌++◌, ◌⊎◌, decimal, Option, Some, None, refl, sym, ap, ◌∙◌, inl, inr, append_assoc}
+use Rattle.std.proofs.Common.{◌≡◌, ℕ, true, List, [], ◌∷◌, ◌++◌, ◌⊎◌, decimal, Option, Some, None, refl, sym, ap, ◌∙◌}
+use Rattle.std.proofs.Common.{inl, inr, append_assoc}
 use Rattle.std.specs.Prelude.{option_map}
 use Rattle.std.specs.List.{list_all, join_with_byte}
 use Rattle.std.proofs.lemmas.Bool.{false≢true}
@@ -20,11 +21,15 @@ use Rattle.uv_model.specs.Scheme.{default_port, scheme_class}
 use Rattle.uv_model.specs.Records.Serialize.{serial, serial_host, serial_port, serial_segments}
 use Rattle.uv_model.specs.Records.Url.{Url}
 use Rattle.uv_model.specs.Valid.{MayBePortText, port_given}
-use Rattle.uv_model.specs.Records.WellFormed.{AreUrlSegments, IsUrlFragment, IsUrlPath, IsUrlPort, IsUrlQuery, IsUrlScheme, takes_port}
+use Rattle.uv_model.specs.Records.WellFormed.{AreUrlSegments, IsUrlFragment, IsUrlPath, IsUrlPort, IsUrlQuery}
+use Rattle.uv_model.specs.Records.WellFormed.{IsUrlScheme, takes_port}
 use Rattle.uv_parser.proofs.HostParsing.OtherHosts.{silent_other}
-use Rattle.uv_parser.proofs.RoundTrip.SerializedHosts.{IsHostRead, file_taken, host_read, host_without, other_parsed, special_taken}
+use Rattle.uv_parser.proofs.RoundTrip.SerializedHosts.{IsHostRead, file_taken, host_read, host_without, other_parsed}
+use Rattle.uv_parser.proofs.RoundTrip.SerializedHosts.{special_taken}
 use Rattle.uv_parser.proofs.RoundTrip.SerializedPaths.{IsSilentOn, denoted_query-own, lowercase-scheme, url_of}
-use Rattle.uv_parser.proofs.RoundTrip.SerializedTexts.{AreSegments-url, encoded-ascii, encoded-fragment, fragment_units, port_given-decimal, port_text-decimal, query_units, serial_segments-joined, walk-kept}
+use Rattle.uv_parser.proofs.RoundTrip.SerializedTexts.{AreSegments-url, encoded-ascii, encoded-fragment, fragment_units}
+use Rattle.uv_parser.proofs.RoundTrip.SerializedTexts.{port_given-decimal, port_text-decimal, query_units}
+use Rattle.uv_parser.proofs.RoundTrip.SerializedTexts.{serial_segments-joined, walk-kept}
 use Rattle.uv_parser.proofs.Silence.SilentAuthority.{written_with_authority}
 use Rattle.uv_parser.proofs.Silence.ValidSilent.{unremoved_authority, unremoved_path}
 use Rattle.uv_parser.proofs.Silence.SilentSchemes.{kept_text}

@@ -1,10 +1,12 @@
 -- The texts of a well-formed URL's host: what they hold, where they end, and that the host parser makes of them the
 -- host.
-use Rattle.std.proofs.Common.{◌≡◌, ℕ, ◌⊎◌, ◌==◌, ◌||◌, not, Bool, true, false, List, [], ◌∷◌, codes, Some, refl, sym, ap, ◌∙◌, inl, inr, arith, lt-ltb, ne_eqb}
+use Rattle.std.proofs.Common.{◌≡◌, ℕ, ◌⊎◌, ◌==◌, ◌||◌, not, Bool, true, false, List, [], ◌∷◌, codes, Some, refl, sym}
+use Rattle.std.proofs.Common.{ap, ◌∙◌, inl, inr, arith, lt-ltb, ne_eqb}
 use Rattle.std.specs.List.{list_all}
 use Rattle.std.specs.Char.{is_ascii_alphabetic}
 use Rattle.std.specs.Str.{bytes_eq}
-use Rattle.std.proofs.lemmas.Bool.{agree_below_at, and_parts, and_right, cases_Bool, cases_lt, false_from_ne_true, false≢true}
+use Rattle.std.proofs.lemmas.Bool.{agree_below_at, and_parts, and_right, cases_Bool, cases_lt, false_from_ne_true}
+use Rattle.std.proofs.lemmas.Bool.{false≢true}
 use Rattle.std.proofs.lemmas.Slice.Eq.{bytes_eq-Decides}
 use Rattle.uv_model.specs.declared.profile.Profile.TheVariants.{Wide}
 use Rattle.uv_model.specs.declared.host.Host.{Host}
@@ -17,14 +19,18 @@ use Rattle.uv_model.specs.Hosts.OpaqueHost.{is_forbidden_host}
 use Rattle.uv_parser.specs.HostParser.{is_forbidden_domain, parse_host}
 use Rattle.uv_parser.specs.SilentTexts.{IsTakenFileHost, IsTakenHost}
 use Rattle.uv_model.specs.Path.{is_drive_letter, is_without}
-use Rattle.uv_parser.specs.Laws.RoundTrip.{IsReadableFileHost, IsReadableHost, IsReadableOtherHost, IsReadableSpecialHost, IsStableHost}
+use Rattle.uv_parser.specs.Laws.RoundTrip.{IsReadableFileHost, IsReadableHost, IsReadableOtherHost}
+use Rattle.uv_parser.specs.Laws.RoundTrip.{IsReadableSpecialHost, IsStableHost}
 use Rattle.uv_model.specs.Records.Serialize.{serial_host, serial_ipv4, serial_ipv6}
 use Rattle.uv_parser.proofs.Loops.AuthorityLoops.{is_authority_letter}
 use Rattle.uv_parser.proofs.Loops.FileHosts.{file_parsed}
-use Rattle.uv_model.proofs.Cuts.HostCutLemmas.{IsHostWord, is_without-passes, passes-weaker, word_of_ipv4, word_of_ipv6, word_of_nothing, word_of_opaque, word_passes}
-use Rattle.uv_parser.proofs.HostParsing.HostParserLemmas.{empty_host_is_parsed, ipv4_hosts_are_parsed, ipv6_hosts_are_parsed, opaque_hosts_are_parsed}
+use Rattle.uv_model.proofs.Cuts.HostCutLemmas.{IsHostWord, is_without-passes, passes-weaker, word_of_ipv4, word_of_ipv6}
+use Rattle.uv_model.proofs.Cuts.HostCutLemmas.{word_of_nothing, word_of_opaque, word_passes}
+use Rattle.uv_parser.proofs.HostParsing.HostParserLemmas.{empty_host_is_parsed, ipv4_hosts_are_parsed}
+use Rattle.uv_parser.proofs.HostParsing.HostParserLemmas.{ipv6_hosts_are_parsed, opaque_hosts_are_parsed}
 use Rattle.uv_model.proofs.Addresses.AddressesReadBack.{read_back}
-use Rattle.uv_parser.proofs.Loops.HostTextsRead.{IsReadWhole, read_ipv4, read_ipv6, read_allowed, read_opaque, read_plain}
+use Rattle.uv_parser.proofs.Loops.HostTextsRead.{IsReadWhole, read_ipv4, read_ipv6, read_allowed, read_opaque}
+use Rattle.uv_parser.proofs.Loops.HostTextsRead.{read_plain}
 use Rattle.uv_parser.proofs.RoundTrip.ParsedHosts.{domain_allowed}
 use Rattle.uv_parser.proofs.RoundTrip.SerializedTexts.{encoded-ascii}
 use Rattle.uv_parser.proofs.Running.Unremoved.{is_unremoved}

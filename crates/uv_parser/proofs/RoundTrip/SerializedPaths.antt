@@ -1,5 +1,6 @@
 -- The serialized text of a well-formed URL without a host: the parser is silent on it, and its parts denote the URL.
-use Rattle.std.proofs.Common.{◌≡◌, ℕ, true, false, not, ◌&&◌, ◌==◌, List, [], ◌∷◌, ◌++◌, codes, Option, Some, None, refl, sym, ap, ◌∙◌, append_assoc}
+use Rattle.std.proofs.Common.{◌≡◌, ℕ, true, false, not, ◌&&◌, ◌==◌, List, [], ◌∷◌, ◌++◌, codes, Option, Some, None}
+use Rattle.std.proofs.Common.{refl, sym, ap, ◌∙◌, append_assoc}
 use Rattle.std.specs.List.{list_all, join_with_byte}
 use Rattle.std.specs.Char.{is_ascii, is_ascii_uppercase}
 use Rattle.std.proofs.lemmas.Bool.{and_parts, and_from}
@@ -13,7 +14,8 @@ use Rattle.uv_model.specs.Ascii.{slash, colon}
 use Rattle.uv_model.specs.Records.Denote.{denote, denoted_query}
 use Rattle.uv_model.specs.Parts.{Form, Parts, SchemePath, SchemeOpaque, written}
 use Rattle.uv_parser.specs.SilentTexts.{Silent, TakesForm}
-use Rattle.uv_model.specs.Path.{AreSegments, IsPathAbsolute, IsSegment, is_double_dot, is_single_dot, starts_with_slash, walk}
+use Rattle.uv_model.specs.Path.{AreSegments, IsPathAbsolute, IsSegment, is_double_dot, is_single_dot, starts_with_slash}
+use Rattle.uv_model.specs.Path.{walk}
 use Rattle.uv_model.specs.Scheme.{is_scheme, lowercase, scheme_class}
 use Rattle.uv_model.specs.Records.Serialize.{serial, serial_authority, serial_path, serial_segments}
 use Rattle.uv_model.specs.Units.{is_faultless, is_unit_at, is_url_code_point}
@@ -26,7 +28,8 @@ use Rattle.uv_model.proofs.Texts.MarkLemmas.{is_without-cons}
 use Rattle.uv_model.proofs.Paths.PathLemmas.{slash_is_url}
 use Rattle.uv_model.proofs.Paths.PathPieces.{path_relative, pieces}
 use Rattle.uv_model.proofs.SchemeLemmas.{is_ascii-scheme, lowercase-name}
-use Rattle.uv_parser.proofs.RoundTrip.SerializedTexts.{AreSegments-url, encoded-ascii, encoded-fragment, encoded-query, fragment_units, query_units, serial_segments-joined, walk-kept}
+use Rattle.uv_parser.proofs.RoundTrip.SerializedTexts.{AreSegments-url, encoded-ascii, encoded-fragment, encoded-query}
+use Rattle.uv_parser.proofs.RoundTrip.SerializedTexts.{fragment_units, query_units, serial_segments-joined, walk-kept}
 use Rattle.uv_parser.proofs.Silence.SilentSchemes.{kept_text, written_without_authority}
 use Rattle.uv_parser.proofs.Loops.Tails.{tail}
 use Rattle.uv_model.proofs.Texts.UnitsLemmas.{is_faultless-units, is_unit_at-url}

@@ -1,6 +1,7 @@
 -- The texts of a well-formed URL are read as themselves: encoding keeps them, a walk over their segments gives those
 -- segments, and a port's digits give the port.
-use Rattle.std.proofs.Common.{◌≡◌, ℕ, ◌<◌, ◌^◌, Bool, true, false, not, ◌&&◌, ◌==◌, List, [], ◌∷◌, ◌++◌, length, decimal, Option, Some, None, refl, sym, ap, ◌∙◌, append_assoc, append-nil, arith}
+use Rattle.std.proofs.Common.{◌≡◌, ℕ, ◌<◌, ◌^◌, Bool, true, false, not, ◌&&◌, ◌==◌, List, [], ◌∷◌, ◌++◌, length}
+use Rattle.std.proofs.Common.{decimal, Option, Some, None, refl, sym, ap, ◌∙◌, append_assoc, append-nil, arith}
 use Rattle.std.specs.Prelude.{if◌then◌else◌, option_map}
 use Rattle.std.specs.List.{list_all, join_with_byte}
 use Rattle.std.specs.Char.{is_ascii}

@@ -1,5 +1,6 @@
 -- The rows of specs/Rows/Definitions hold: what computes by computation, and addresses by the laws of their parsers.
-use Rattle.std.proofs.Common.{◌≡◌, ℕ, List, zero, suc, ◌<◌, ◌^◌, true, [], ◌∷◌, Option, Some, None, codes, refl, sym, subst, inl, inr, arith}
+use Rattle.std.proofs.Common.{◌≡◌, ℕ, List, zero, suc, ◌<◌, ◌^◌, true, [], ◌∷◌, Option, Some, None, codes, refl, sym}
+use Rattle.std.proofs.Common.{subst, inl, inr, arith}
 use Rattle.std.specs.Prelude.{slice_index}
 use Rattle.std.proofs.lemmas.Bool.{false≢true, true≢false}
 use Rattle.std.proofs.lemmas.Option.{none-some, same_Some}
@@ -19,7 +20,8 @@ use Rattle.uv_model.specs.Records.WellFormed.{IsSpecialHost, IsUrlPort, WellForm
 use Rattle.uv_model.specs.Scheme.{default_port, scheme_class}
 use Rattle.uv_model.specs.Valid.{IsHostText, MayBePortText, Valid, port_given}
 use Rattle.uv_parser.specs.Rows.{domain, empty_host, ipv4, ipv6, listed, opaque}
-use Rattle.uv_parser.specs.Rows.Definitions.{DefinitionRows, ValidRows, WellFormedRows, default_parts, http_url, port_parts, root_parts}
+use Rattle.uv_parser.specs.Rows.Definitions.{DefinitionRows, ValidRows, WellFormedRows, default_parts, http_url}
+use Rattle.uv_parser.specs.Rows.Definitions.{port_parts, root_parts}
 use Rattle.uv_model.proofs.Complaints.ComplaintsExcludeParts.{faultless}
 use Rattle.uv_model.proofs.Cuts.CutRowsLemmas.{cut_and_complaint_rows, judged_row}
 use Rattle.uv_model.proofs.Hosts.DomainLemmas.{not_permitted}

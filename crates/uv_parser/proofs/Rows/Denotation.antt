@@ -1,7 +1,9 @@
 -- The rows of specs/Rows/Denotation hold, by computation.
 use Rattle.std.specs.Prelude.{refl}
 use Rattle.uv_parser.specs.Rows.{Agree}
-use Rattle.uv_parser.specs.Rows.Denotation.{DenotationRows, readings, expected, authority_readings, path_readings, reference_readings, empty_readings, shortened_here, shortened_there, shortened_paths, walked_here, walked_there, walked_paths}
+use Rattle.uv_parser.specs.Rows.Denotation.{DenotationRows, readings, expected, authority_readings, path_readings}
+use Rattle.uv_parser.specs.Rows.Denotation.{reference_readings, empty_readings, shortened_here, shortened_there}
+use Rattle.uv_parser.specs.Rows.Denotation.{shortened_paths, walked_here, walked_there, walked_paths}
 use Rattle.uv_parser.proofs.Rows.Computing.{parser}
 use Rattle.uv_parser.proofs.Rows.RowsLemmas.{agree}
 

@@ -1,5 +1,6 @@
 -- The rows of specs/Rows/Profiles hold: each text by its parts, and what computes by computation.
-use Rattle.std.proofs.Common.{◌≡◌, ◌≢◌, ℕ, true, false, List, [], ◌∷◌, Some, None, codes, refl, sym, subst, ◌∙◌, inl, inr}
+use Rattle.std.proofs.Common.{◌≡◌, ◌≢◌, ℕ, true, false, List, [], ◌∷◌, Some, None, codes, refl, sym, subst, ◌∙◌, inl}
+use Rattle.std.proofs.Common.{inr}
 use Rattle.std.specs.List.{list_all}
 use Rattle.std.proofs.lemmas.Bool.{false≢true}
 use Rattle.std.proofs.lemmas.Option.{none-some}
@@ -11,12 +12,14 @@ use Rattle.uv_model.specs.declared.rule.Rule.TheVariants.{HostDomain, HostNumber
 use Rattle.uv_model.specs.Ascii.{slash, question_mark}
 use Rattle.uv_model.specs.Complaints.Complaint.{Complaint, ComplaintOf, HostTextComplaint, ShouldBeDomain}
 use Rattle.uv_model.specs.Cut.{Cut, cut_of}
-use Rattle.uv_model.specs.Hosts.Domain.{IsDomain, IsNumberText, HasNoForm, has_lengths, has_permitted, is_form_code_point, parser_form, ends_in_number}
+use Rattle.uv_model.specs.Hosts.Domain.{IsDomain, IsNumberText, HasNoForm, has_lengths, has_permitted}
+use Rattle.uv_model.specs.Hosts.Domain.{is_form_code_point, parser_form, ends_in_number}
 use Rattle.uv_parser.specs.Ipv4Parser.{parse_ipv4}
 use Rattle.uv_model.specs.Hosts.OpaqueHost.{starts_with_bracket}
 use Rattle.uv_model.specs.Parts.{written}
 use Rattle.uv_model.specs.Path.{IsPathSlashed, IsSegment, is_without}
-use Rattle.uv_parser.specs.Rows.Profiles.{IsWide, ProfileRows, WideReferenceRows, WideRecordRows, file_parts, http_parts}
+use Rattle.uv_parser.specs.Rows.Profiles.{IsWide, ProfileRows, WideReferenceRows, WideRecordRows, file_parts}
+use Rattle.uv_parser.specs.Rows.Profiles.{http_parts}
 use Rattle.uv_model.specs.Scheme.{scheme_class, default_port}
 use Rattle.uv_model.specs.Setting.{setting_of}
 use Rattle.uv_model.specs.Units.{is_faultless}

@@ -9,7 +9,10 @@ use Rattle.uv_model.specs.Complaints.Complaint.{Complaint, IsStarted, starts_wit
 use Rattle.uv_model.specs.Cut.{Cut, cut_of}
 use Rattle.uv_parser.specs.Rows.{Agree, AllHold}
 use Rattle.uv_parser.specs.Rows.References.{file_host_base, urn_base, opaque_base}
-use Rattle.uv_parser.specs.Rows.ReferenceMatrix.{ReferenceMatrixRows, RefusedPairs, AllViolate, host_drive_base, other_texts, base_rows, http_rows, root_rows, drive_rows, file_host_rows, host_drive_rows, hostless_rows, other_host_rows, opaque_rows, opaque_query_rows}
+use Rattle.uv_parser.specs.Rows.ReferenceMatrix.{ReferenceMatrixRows, RefusedPairs, AllViolate, host_drive_base}
+use Rattle.uv_parser.specs.Rows.ReferenceMatrix.{other_texts, base_rows, http_rows, root_rows, drive_rows}
+use Rattle.uv_parser.specs.Rows.ReferenceMatrix.{file_host_rows, host_drive_rows, hostless_rows, other_host_rows}
+use Rattle.uv_parser.specs.Rows.ReferenceMatrix.{opaque_rows, opaque_query_rows}
 use Rattle.uv_model.specs.Scheme.{scheme_class, default_port}
 use Rattle.uv_model.specs.Setting.{setting_of}
 use Rattle.uv_model.specs.Records.Url.{Url, is_opaque}

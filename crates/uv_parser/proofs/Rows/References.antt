@@ -1,7 +1,8 @@
 -- The rows of specs/Rows/References hold, by computation.
 use Rattle.std.specs.Prelude.{refl}
 use Rattle.uv_parser.specs.Rows.{AllHold}
-use Rattle.uv_parser.specs.Rows.References.{ReferenceRows, http_rows, root_rows, drive_rows, file_host_rows, opaque_rows, other_rows}
+use Rattle.uv_parser.specs.Rows.References.{ReferenceRows, http_rows, root_rows, drive_rows, file_host_rows}
+use Rattle.uv_parser.specs.Rows.References.{opaque_rows, other_rows}
 use Rattle.uv_parser.proofs.Rows.Computing.{parser}
 use Rattle.uv_parser.proofs.Rows.RowsLemmas.{all_hold}
 

@@ -1,5 +1,6 @@
 -- The rows of specs/Rows/SilentDifferences hold: the runs are done, and a test on the cut finds the difference.
-use Rattle.std.proofs.Common.{◌≡◌, ◌≢◌, ℕ, Bool, true, false, not, ◌&&◌, ◌||◌, ◌==◌, List, [], ◌∷◌, Option, Some, None, refl, sym, ap, ◌∙◌, inl, inr, ◌⊎◌, eqb-true}
+use Rattle.std.proofs.Common.{◌≡◌, ◌≢◌, ℕ, Bool, true, false, not, ◌&&◌, ◌||◌, ◌==◌, List, [], ◌∷◌, Option, Some, None}
+use Rattle.std.proofs.Common.{refl, sym, ap, ◌∙◌, inl, inr, ◌⊎◌, eqb-true}
 use Rattle.std.specs.List.{list_all}
 use Rattle.std.specs.Prelude.{is_some}
 use Rattle.std.specs.Str.{bytes_eq}
@@ -20,11 +21,13 @@ use Rattle.uv_model.specs.Parts.{Parts}
 use Rattle.uv_model.specs.Path.{starts_with_drive_segment}
 use Rattle.uv_parser.specs.Rows.{Answer, Row, AllHold, answer_of, computed, goes_on, has_stopped, is_done}
 use Rattle.uv_parser.specs.Rows.SilentDifferences.{AllDiffer, DiffersSilently, SilentDifferenceRows}
-use Rattle.uv_parser.specs.Rows.SilentRefusals.{file_rows, host_rows, domain_rows, number_rows, segment_rows, drive_rows}
+use Rattle.uv_parser.specs.Rows.SilentRefusals.{file_rows, host_rows, domain_rows, number_rows, segment_rows}
+use Rattle.uv_parser.specs.Rows.SilentRefusals.{drive_rows}
 use Rattle.uv_parser.specs.Run.{Stopped, run, step_bound}
 use Rattle.uv_model.specs.Records.Serialize.{serial_ipv4}
 use Rattle.uv_model.specs.Valid.{IsHostText}
-use Rattle.uv_parser.specs.Laws.Differences.{Differs, HasDriveBehindHost, HasEmptyAuthority, HasEmptyFirstSegment, HasForeignHost}
+use Rattle.uv_parser.specs.Laws.Differences.{Differs, HasDriveBehindHost, HasEmptyAuthority, HasEmptyFirstSegment}
+use Rattle.uv_parser.specs.Laws.Differences.{HasForeignHost}
 use Rattle.uv_model.specs.Records.Url.{Url}
 use Rattle.idna.specs.Uts46.{to_ascii}
 use Rattle.uv_parser.proofs.Rows.Computing.{parser}

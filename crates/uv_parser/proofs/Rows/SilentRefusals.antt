@@ -1,7 +1,8 @@
 -- The rows of specs/Rows/SilentRefusals hold, by computation.
 use Rattle.std.specs.Prelude.{refl}
 use Rattle.uv_parser.specs.Rows.{AllHold}
-use Rattle.uv_parser.specs.Rows.SilentRefusals.{SilentRefusalRows, file_rows, host_rows, domain_rows, number_rows, segment_rows, drive_rows}
+use Rattle.uv_parser.specs.Rows.SilentRefusals.{SilentRefusalRows, file_rows, host_rows, domain_rows, number_rows}
+use Rattle.uv_parser.specs.Rows.SilentRefusals.{segment_rows, drive_rows}
 use Rattle.uv_parser.proofs.Rows.Computing.{parser}
 use Rattle.uv_parser.proofs.Rows.RowsLemmas.{all_hold}
 

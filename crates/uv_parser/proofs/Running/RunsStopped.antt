@@ -33,4 +33,5 @@ pub scheme_stops : (base : Option Url) (text scheme rest : List ℕ) → first_r
     → is_scheme scheme ≡ true → text ≡ scheme ++ colon ∷ rest
     → Stops base SchemeState (with_more (lowercase scheme) empty_variables) (colon ∷ rest) → RunStops base text
 scheme_stops base text scheme rest kept named whole stops =
-    starts_ended base text stopped kept (rw whole (ends_after base (scheme_stretch base scheme (colon ∷ rest) named) stops))
+    starts_ended base text stopped kept
+    (rw whole (ends_after base (scheme_stretch base scheme (colon ∷ rest) named) stops))

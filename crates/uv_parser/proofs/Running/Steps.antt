@@ -1,6 +1,7 @@
 -- Tools for laws of the parser machine: one step, and many steps one after the other, counted and not counted. Each
 -- holds of every state, over any base and any text.
-use Rattle.std.proofs.Common.{◌≡◌, ℕ, zero, suc, ◌+◌, List, [], ◌∷◌, Option, drop, refl, sym, ap, subst, ◌∙◌, drop-drop, zero-add, arith}
+use Rattle.std.proofs.Common.{◌≡◌, ℕ, zero, suc, ◌+◌, List, [], ◌∷◌, Option, drop, refl, sym, ap, subst, ◌∙◌, drop-drop}
+use Rattle.std.proofs.Common.{zero-add, arith}
 use Rattle.uv_model.specs.Records.Url.{Url}
 use Rattle.uv_parser.specs.Machine.{State, Variables, onward, again, from_place, stop, turn}
 use Rattle.uv_parser.specs.Run.{Machine, Outcome, Done, Stopped, Going, settle, step, run_from}
@@ -79,7 +80,8 @@ module _ (base : Option Url) (text : List ℕ) where
   leads_then from next to j k first later = run_in_parts from j k ∙ (ap (λ o. run_from base text o k) first ∙ later)
 
   -- a run that has ended stays there
-  pub leads_ended : (ending : Ending) (o : Outcome) (k : ℕ) → HasEnded ending o → HasEnded ending (run_from base text o k)
+  pub leads_ended : (ending : Ending) (o : Outcome) (k : ℕ) → HasEnded ending o
+      → HasEnded ending (run_from base text o k)
   leads_ended (done_with url) o k e = ap (λ (x : Outcome). run_from base text x k) e ∙ leads_done url k
   leads_ended stopped o k (q, e) = (q, ap (λ (x : Outcome). run_from base text x k) e ∙ leads_stopped q k)
 

@@ -1,13 +1,15 @@
 -- The whole run of a text with a scheme of class File and a host.
 use Rattle.uv_model.specs.Path.{MayBePathSlashed}
-use Rattle.std.proofs.Common.{◌≡◌, ℕ, true, List, ◌∷◌, ◌++◌, codes, Option, Some, None, refl, sym, ap, ◌∙◌, append_assoc, append-nil}
+use Rattle.std.proofs.Common.{◌≡◌, ℕ, true, List, ◌∷◌, ◌++◌, codes, Option, Some, None, refl, sym, ap, ◌∙◌}
+use Rattle.std.proofs.Common.{append_assoc, append-nil}
 use Rattle.uv_model.specs.declared.host.Host.{Host}
 use Rattle.uv_model.specs.declared.host.Host.TheVariants as host
 use Rattle.uv_model.specs.declared.scheme.Class.TheVariants.{File}
 use Rattle.uv_model.specs.declared.path.UrlPath.TheVariants.{Segments}
 use Rattle.uv_model.specs.Ascii.{slash, colon}
 use Rattle.uv_model.specs.Records.Denote.{authority_path}
-use Rattle.uv_parser.specs.Machine.{AtPointer, end, slash_mark, query_mark, fragment_mark, another, at_pointer, again, FileHostState, PathStartState, file_host_at, with_more}
+use Rattle.uv_parser.specs.Machine.{AtPointer, end, slash_mark, query_mark, fragment_mark, another, at_pointer, again}
+use Rattle.uv_parser.specs.Machine.{FileHostState, PathStartState, file_host_at, with_more}
 use Rattle.uv_model.specs.Parts.{Parts, SchemeAuthority, written, written_behind}
 use Rattle.uv_parser.specs.Removed.{first_removed}
 use Rattle.uv_model.specs.Scheme.{is_scheme, scheme_class}
@@ -52,7 +54,8 @@ module _ (base : Option Url) (segments : List (List ℕ)) (path : List ℕ) (que
 
   -- from a host with a text to the end
   pub file_host_ends : (text : List ℕ) (value : Host) → IsFileRead text value
-      → Ends base FileHostState (file_variables host.Empty) (text ++ (path ++ tail query fragment)) (file_url value segments query fragment)
+      → Ends base FileHostState (file_variables host.Empty) (text ++ (path ++ tail query fragment))
+      (file_url value segments query fragment)
   file_host_ends text value is =
       ends_after base (file_host_law base text (path ++ tail query fragment) (file_variables host.Empty) is.letters)
       (ends_again base
@@ -64,7 +67,8 @@ module _ (base : Option Url) (segments : List (List ℕ)) (path : List ℕ) (que
 
   -- from an empty host to the end
   pub empty_host_ends :
-      Ends base FileHostState (file_variables host.Empty) (path ++ tail query fragment) (file_url host.Empty segments query fragment)
+      Ends base FileHostState (file_variables host.Empty) (path ++ tail query fragment)
+      (file_url host.Empty segments query fragment)
   empty_host_ends =
       ends_again base
       (λ p. empty_host_row (at_pointer (path ++ tail query fragment)) (delimits segments path query fragment segmented))

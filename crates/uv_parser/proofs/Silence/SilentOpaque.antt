@@ -17,7 +17,8 @@ use Rattle.uv_model.specs.Valid.{FitsForm, FitsScheme, MayBeUnits}
 use Rattle.uv_model.proofs.Paths.JoinedSegments.{faultless_path, without_path}
 use Rattle.uv_parser.proofs.Loops.Looping.{opaque_path_law}
 use Rattle.uv_parser.proofs.Loops.SchemeStretch.{scheme_variables, colon_row, scheme_there}
-use Rattle.uv_parser.proofs.Silence.SilentSchemes.{EndsBehindScheme, HoldsDenoted, denoted_from_variables, runs_kept, written_without_authority}
+use Rattle.uv_parser.proofs.Silence.SilentSchemes.{EndsBehindScheme, HoldsDenoted, denoted_from_variables, runs_kept}
+use Rattle.uv_parser.proofs.Silence.SilentSchemes.{written_without_authority}
 use Rattle.uv_parser.proofs.Running.Steps.{Ends, ends_step, ends_after}
 use Rattle.uv_parser.proofs.Loops.Tails.{tail, with_tail, TurnsToTail, tail_ends, no_slash_before_tail}
 use Rattle.uv_model.proofs.Cuts.ValidCutLemmas.{written_as_cut}
@@ -35,7 +36,8 @@ module _ (base : Option Url) where
   -- from the scheme's `:` to the end
   opaque_ends : (scheme path : List ℕ) (segments : List (List ℕ)) (query fragment : Option (List ℕ))
       → scheme_class scheme ≡ Other → IsPathRelative segments path → MayBeUnits query → MayBeUnits fragment
-      → Ends base SchemeState (with_more (lowercase scheme) empty_variables) (colon ∷ (path ++ tail query fragment)) (with_tail query fragment (path_variables scheme path))
+      → Ends base SchemeState (with_more (lowercase scheme) empty_variables) (colon ∷ (path ++ tail query fragment))
+      (with_tail query fragment (path_variables scheme path))
   opaque_ends scheme path segments query fragment other relative query_units fragment_units =
       let no_slash = no_slash_before_tail path query fragment relative.start in
       ends_step base (λ p. colon_row base scheme (path ++ tail query fragment) p ∙ rw (other, no_slash) refl)

@@ -9,7 +9,8 @@ use Rattle.uv_model.specs.Cut.{Cut, class_in, texts_of}
 use Rattle.uv_parser.specs.HostParser.{parse_host}
 use Rattle.uv_parser.specs.SilentTexts.{IsTakenFileHost, IsValidOtherHost, Takes, TakesForm, TakesHostText}
 use Rattle.uv_parser.specs.Laws.OtherHosts.{own_value}
-use Rattle.uv_model.specs.Parts.{Form, SchemeAuthority, SchemePath, SchemeOpaque, Authority, PathAbsolute, PathRelative, NoPath, Parts, has_scheme}
+use Rattle.uv_model.specs.Parts.{Form, SchemeAuthority, SchemePath, SchemeOpaque, Authority, PathAbsolute, PathRelative}
+use Rattle.uv_model.specs.Parts.{NoPath, Parts, has_scheme}
 use Rattle.uv_model.specs.Path.{MayBePathSlashed, starts_with_slash}
 use Rattle.uv_parser.specs.Laws.ValidTexts.{SilentPartsAreUnique}
 use Rattle.uv_model.specs.Scheme.{default_port}
@@ -18,7 +19,8 @@ use Rattle.uv_model.specs.Valid.{FitsScheme, HasNoAuthority, port_given, scheme_
 use Rattle.uv_model.proofs.Cuts.CutLemmas.{cut_is_computed}
 use Rattle.uv_parser.proofs.HostParsing.HostsParsed.{parsed_not_empty}
 use Rattle.uv_parser.proofs.HostParsing.OtherHosts.{silent_other_hosts_are_valid}
-use Rattle.uv_model.proofs.Cuts.UniqueParts.{absolute_segments, alone_form, authority_form, form_of, no_port, relative_form, relative_segments, same_parts, segments_of, may_be_segments}
+use Rattle.uv_model.proofs.Cuts.UniqueParts.{absolute_segments, alone_form, authority_form, form_of, no_port}
+use Rattle.uv_model.proofs.Cuts.UniqueParts.{relative_form, relative_segments, same_parts, segments_of, may_be_segments}
 
 -- ---- the host
 

@@ -17,7 +17,8 @@ use Rattle.uv_parser.proofs.Loops.PathLoops.{walking}
 use Rattle.uv_parser.proofs.Loops.PathStarts.{relative_ends}
 use Rattle.uv_model.proofs.SchemeLemmas.{scheme_class-lowercase}
 use Rattle.uv_parser.proofs.Loops.SchemeStretch.{scheme_variables, colon_row, scheme_there}
-use Rattle.uv_parser.proofs.Silence.SilentSchemes.{EndsBehindScheme, HoldsDenoted, denoted_from_variables, runs_kept, written_without_authority}
+use Rattle.uv_parser.proofs.Silence.SilentSchemes.{EndsBehindScheme, HoldsDenoted, denoted_from_variables, runs_kept}
+use Rattle.uv_parser.proofs.Silence.SilentSchemes.{written_without_authority}
 use Rattle.uv_parser.proofs.Running.Steps.{Ends, ends_past_two, ends_again}
 use Rattle.uv_parser.proofs.Loops.Tails.{tail, with_tail, no_slash_before_tail}
 use Rattle.uv_model.proofs.Cuts.ValidCutLemmas.{written_as_cut}

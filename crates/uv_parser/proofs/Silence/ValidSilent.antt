@@ -1,5 +1,6 @@
 -- The parser's grammar takes each valid text with the same parts, so that the parser machine is silent on it.
-use Rattle.std.proofs.Common.{◌≡◌, ℕ, Bool, true, false, ◌==◌, List, [], ◌∷◌, ◌++◌, length, Option, Some, None, refl, sym, ap, subst, ◌∙◌, inl, inr, arith}
+use Rattle.std.proofs.Common.{◌≡◌, ℕ, Bool, true, false, ◌==◌, List, [], ◌∷◌, ◌++◌, length, Option, Some, None, refl}
+use Rattle.std.proofs.Common.{sym, ap, subst, ◌∙◌, inl, inr, arith}
 use Rattle.std.specs.List.{list_all}
 use Rattle.std.specs.Char.{is_ascii_digit}
 use Rattle.std.proofs.lemmas.Bool.{true≢false, and_parts, and_from}
@@ -10,14 +11,16 @@ use Rattle.uv_model.specs.declared.scheme.Class.TheVariants.{Special, File, Othe
 use Rattle.uv_model.specs.Ascii.{colon}
 use Rattle.uv_model.specs.Cut.{class_in}
 use Rattle.uv_parser.specs.SilentTexts.{Takes, TakesForm, TakesHostText}
-use Rattle.uv_model.specs.Parts.{Form, SchemeAuthority, SchemePath, SchemeOpaque, Authority, PathAbsolute, PathRelative, NoPath, Parts, has_scheme, written, written_scheme, written_authority}
+use Rattle.uv_model.specs.Parts.{Form, SchemeAuthority, SchemePath, SchemeOpaque, Authority, PathAbsolute, PathRelative}
+use Rattle.uv_model.specs.Parts.{NoPath, Parts, has_scheme, written, written_scheme, written_authority}
 use Rattle.uv_model.specs.Path.{IsPathAbsolute, IsPathRelative, MayBePathSlashed}
 use Rattle.uv_parser.specs.Removed.{first_removed}
 use Rattle.uv_parser.specs.Laws.Silence.{RunsSilently}
 use Rattle.uv_parser.specs.Laws.ValidTexts.{ValidTextsAreSilent, ValidTextsRunSilently}
 use Rattle.uv_model.specs.Setting.{scheme_or, setting_of}
 use Rattle.uv_model.specs.Records.Url.{Url}
-use Rattle.uv_model.specs.Valid.{FitsAuthority, FitsForm, FitsHostText, FitsScheme, HasNoAuthority, MayBePortText, Valid}
+use Rattle.uv_model.specs.Valid.{FitsAuthority, FitsForm, FitsHostText, FitsScheme, HasNoAuthority, MayBePortText}
+use Rattle.uv_model.specs.Valid.{Valid}
 use Rattle.uv_parser.proofs.Done.DecidedBases.{texts_are_decided}
 use Rattle.uv_parser.proofs.Done.DecidedTexts.{scheme_done}
 use Rattle.uv_parser.proofs.Loops.FileHosts.{file_parsed, file_text}
@@ -26,7 +29,8 @@ use Rattle.uv_model.proofs.Paths.JoinedSegments.{faultless_joined, faultless_pat
 use Rattle.uv_model.proofs.Paths.SlashedPaths.{slashed_behind, slashed_or_none}
 use Rattle.uv_parser.proofs.Loops.SchemeStretch.{scheme_there}
 use Rattle.uv_parser.proofs.Loops.Tails.{tail}
-use Rattle.uv_parser.proofs.Running.Unremoved.{is_unremoved, first_removed-none, unremoved_append, unremoved_faultless, unremoved_scheme, unremoved_tail}
+use Rattle.uv_parser.proofs.Running.Unremoved.{is_unremoved, first_removed-none, unremoved_append, unremoved_faultless}
+use Rattle.uv_parser.proofs.Running.Unremoved.{unremoved_scheme, unremoved_tail}
 use Rattle.uv_model.proofs.Cuts.ValidCutLemmas.{valid_is_cut}
 
 -- ---- authorities
