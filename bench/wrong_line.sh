@@ -1,7 +1,7 @@
 #!/usr/bin/env bash
 # `urlcheck lint --all` on one line of 65,536 bytes of which each code point is wrong, in each format: what is written
-# has at most 100 MB, and the process needs at most 10 MB of address space, the program itself counted. It fails where a
-# bound is broken, a status isn't that of a refused line, a diagnostic is missing or no figure was taken.
+# has at most 100 MB, and the peak of resident memory is below 10 MB. It fails where a bound is broken, a status isn't
+# that of a refused line, a diagnostic is missing or no figure was taken.
 # Usage: bench/wrong_line.sh [--program FILE]
 set -euo pipefail
 top=$(dirname "$(dirname "$(realpath "$0")")")
@@ -9,7 +9,7 @@ program=$top/crates/urlcheck/out/urlcheck
 . "$top/bench/words.sh"
 words program -- "$@"
 [ -x "$program" ] || { echo "$program is no program: build its crate first (rt run)"; exit 2; }
-for tool in grep head prlimit tr wc; do
+for tool in grep head mkfifo sed tr wc; do
     command -v $tool >/dev/null || { echo "bench/wrong_line.sh needs $tool"; exit 2; }
 done
 room=$(mktemp -d)
@@ -18,23 +18,38 @@ trap 'rm -rf "$room"' EXIT
 # wrong FRONT BYTE : a line of 65,536 bytes, of the front and the byte again and again
 wrong() { { printf '%s' "$1"; head -c $((65536 - ${#1})) /dev/zero | tr '\0' "$2"; echo; } >"$room/line"; }
 
+# rests PID : waits until a process has waited for input three times in turn, as it does once the line is reported
+rests() {
+    local turns=0
+    while ((turns < 3)); do
+        sleep 0.1
+        [ -e "/proc/$1/status" ] || return 0
+        if grep -q '^State:[^a-zA-Z]*S' "/proc/$1/status"; then turns=$((turns + 1)); else turns=0; fi
+    done
+}
+
 failed=0 figures=0
-# linted NAME RULE FORMAT : a lint of the line in a format
+# linted NAME RULE FORMAT : a lint of the line in a format; the peak is read before the end of the input is seen
 linted() {
-    local status bytes found spent TIMEFORMAT=%U+%S
-    spent=$({ time (
-        status=0
-        prlimit --as=10000000 "$program" lint --all --format "$3" "$room/line" >"$room/out" 2>"$room/said" || status=$?
-        echo $status >"$room/status"
-    ); } 2>&1)
-    status=$(cat "$room/status")
+    local pid status=0 bytes found peak
+    rm -f "$room/pipe"
+    mkfifo "$room/pipe"
+    "$program" lint --all --format "$3" - <"$room/pipe" >"$room/out" 2>"$room/said" &
+    pid=$!
+    exec 7>"$room/pipe"
+    cat "$room/line" >&7
+    rests $pid
+    peak=$(sed -n 's/^VmHWM:[^0-9]*\([0-9]*\) kB$/\1/p' "/proc/$pid/status")
+    exec 7>&-
+    wait $pid || status=$?
     bytes=$(wc -c <"$room/out")
     found=$(grep -c "$2" "$room/out") || found=0
-    printf '%s, %s: %d bytes, %s s of the processor\n' "$1" "$3" "$bytes" "$spent"
+    printf '%s, %s: %d bytes, a peak of %s KiB\n' "$1" "$3" "$bytes" "$peak"
     figures=$((figures + 1))
-    [ "$status" = 1 ] || { echo "FAILED: status $status: $(cat "$room/said")"; failed=1; }
+    [ $status = 1 ] || { echo "FAILED: status $status: $(cat "$room/said")"; failed=1; }
     ((bytes > 65536 && bytes <= 100000000)) || { echo 'FAILED: too much is written, or too little'; failed=1; }
     ((found >= 65000)) || { echo "FAILED: $found diagnostics"; failed=1; }
+    [ -n "$peak" ] && ((peak > 0 && peak < 10000)) || { echo "FAILED: the memory isn't below 10 MB"; failed=1; }
 }
 
 for format in gnu caret json github sarif checkstyle; do
