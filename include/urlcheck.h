@@ -4,7 +4,7 @@
  * A text is bytes and their length; it needs no NUL at its end, and may hold any bytes. Each function has a proved
  * contract: on every input it is safe, ends, and gives what is said here. What it asks of its caller is this alone:
  *
- * - a pointer isn't null, also where its length is 0, and so many bytes or elements stand behind it;
+ * - so many bytes or elements stand behind a pointer; where that is 0 it may be null;
  * - nothing writes to what was handed in during the call, and an `out` overlaps no other argument;
  * - malloc, realloc and free are the C library's, or behave so, and the call isn't made from a signal handler.
  *
@@ -12,14 +12,23 @@
  * keeps no pointer. Any number of threads may call at once.
  *
  * A place counts from 0, in code points or in bytes, as is said. A profile is a number: see urlcheck_profile.
- * C99 and later, C++11 and later.
+ * C89 and later, C++98 and later, where the compiler has <stdint.h>.
  */
 #ifndef URLCHECK_H
 #define URLCHECK_H
 
-#include <stdbool.h>
 #include <stddef.h>
 #include <stdint.h>
+
+/* A truth value, of one byte: 0 or 1. */
+#if defined(__cplusplus)
+typedef bool urlcheck_bool;
+#elif defined(__STDC_VERSION__) && __STDC_VERSION__ >= 199901L
+#include <stdbool.h>
+typedef bool urlcheck_bool;
+#else
+typedef unsigned char urlcheck_bool;
+#endif
 
 #ifdef __cplusplus
 extern "C" {
@@ -73,7 +82,7 @@ typedef struct urlcheck_finding {
 typedef struct urlcheck_span {
     size_t start;
     size_t length;
-    bool present;
+    urlcheck_bool present;
 } urlcheck_span;
 
 /* The parts of a valid text. The path begins with its `/` and is always there, though it may be empty. */
@@ -155,5 +164,35 @@ uint32_t urlcheck_version(void);
 
 #ifdef __cplusplus
 }
+#endif
+
+/* The structs are laid out as those of the library, whose own build asserts the same sizes. */
+#if defined(__cplusplus)
+#if __cplusplus >= 201103L
+#define URLCHECK_HOLDS(fact) static_assert(fact, "the library lays out its structs in another way")
+#endif
+#elif defined(__STDC_VERSION__) && __STDC_VERSION__ >= 201112L
+#define URLCHECK_HOLDS(fact) _Static_assert(fact, "the library lays out its structs in another way")
+#endif
+#ifdef URLCHECK_HOLDS
+URLCHECK_HOLDS(sizeof(urlcheck_finding) == 24 && offsetof(urlcheck_finding, verdict) == 0);
+URLCHECK_HOLDS(offsetof(urlcheck_finding, rule) == 4 && offsetof(urlcheck_finding, place) == 8);
+URLCHECK_HOLDS(offsetof(urlcheck_finding, byte_place) == 16);
+URLCHECK_HOLDS(sizeof(urlcheck_span) == 24 && offsetof(urlcheck_span, start) == 0);
+URLCHECK_HOLDS(offsetof(urlcheck_span, length) == 8 && offsetof(urlcheck_span, present) == 16);
+URLCHECK_HOLDS(sizeof(urlcheck_bool) == 1);
+URLCHECK_HOLDS(sizeof(urlcheck_spans) == 144 && offsetof(urlcheck_spans, scheme) == 0);
+URLCHECK_HOLDS(offsetof(urlcheck_spans, host) == 24 && offsetof(urlcheck_spans, port) == 48);
+URLCHECK_HOLDS(offsetof(urlcheck_spans, path) == 72 && offsetof(urlcheck_spans, query) == 96);
+URLCHECK_HOLDS(offsetof(urlcheck_spans, fragment) == 120);
+URLCHECK_HOLDS(sizeof(urlcheck_answer) == 168 && offsetof(urlcheck_answer, found) == 0);
+URLCHECK_HOLDS(offsetof(urlcheck_answer, parts) == 24);
+URLCHECK_HOLDS(sizeof(urlcheck_resolved) == 32 && offsetof(urlcheck_resolved, found) == 0);
+URLCHECK_HOLDS(offsetof(urlcheck_resolved, length) == 24);
+URLCHECK_HOLDS(sizeof(urlcheck_fault) == 24 && offsetof(urlcheck_fault, rule) == 0);
+URLCHECK_HOLDS(offsetof(urlcheck_fault, place) == 8 && offsetof(urlcheck_fault, byte_place) == 16);
+URLCHECK_HOLDS(sizeof(urlcheck_fault_count) == 32 && offsetof(urlcheck_fault_count, found) == 0);
+URLCHECK_HOLDS(offsetof(urlcheck_fault_count, count) == 24);
+#undef URLCHECK_HOLDS
 #endif
 #endif

@@ -1,46 +1,114 @@
-"""Builds the wheel of the package (PEP 517) by the standard library alone, so that installing it needs no network."""
+"""Builds the wheel of the package (PEP 517) by the standard library alone, so that installing it needs no network.
+
+The folder is what ./build-library writes: beside pyproject.toml stand VERSION, PLATFORM (the tag of the systems on which
+the shared library runs), the licences, and the package with the shared library. Two builds give the same bytes.
+"""
 
 import base64
+import glob
 import hashlib
 import os
 import re
+import time
 import zipfile
 
-TAG = "py3-none-linux_x86_64"
+NAME = "urlcheck"
+LIBRARY = "liburlcheck.so"
+TABLE = "pyproject.toml"
 
 
-def _project(key):
+def _text(path):
+    """What a file says, without its last line feed."""
+    with open(path, encoding="utf-8") as file:
+        return file.read().rstrip("\n")
+
+
+def _project(pattern):
     """A text of the project's table."""
-    with open("pyproject.toml", encoding="utf-8") as file:
-        return re.search('^' + key + ' = "(.*)"$', file.read(), re.M).group(1)
+    return re.search("^" + pattern, _text(TABLE), re.M).group(1)
+
+
+def _licences():
+    """The files with the terms, where they stand here."""
+    return sorted(glob.glob("LICENSE*") + glob.glob("NOTICE"))
+
+
+def _metadata():
+    """The metadata of the package (core metadata 2.4)."""
+    author = '"(.*)", email = "(.*)"'
+    name, email = re.search("^authors = .*name = " + author, _text(TABLE), re.M).groups()
+    lines = [
+        "Metadata-Version: 2.4",
+        "Name: " + NAME,
+        "Version: " + _text("VERSION"),
+        "Summary: " + _project('description = "(.*)"'),
+        'Author-email: "{}" <{}>'.format(name, email),
+        "License-Expression: " + _project('license = "(.*)"'),
+    ]
+    lines += ["License-File: " + file for file in _licences()]
+    lines += ["Requires-Python: " + _project('requires-python = "(.*)"')]
+    return "\n".join(lines) + "\n"
+
+
+def _folder():
+    """The folder of the metadata."""
+    return "{}-{}.dist-info".format(NAME, _text("VERSION"))
+
+
+def write_about(directory):
+    """Writes the metadata into the directory, for an installation without pip, and gives the name of its folder."""
+    folder = os.path.join(directory, _folder())
+    os.makedirs(folder, exist_ok=True)
+    with open(os.path.join(folder, "METADATA"), "w", encoding="utf-8") as file:
+        file.write(_metadata())
+    return os.path.basename(folder)
+
+
+def prepare_metadata_for_build_wheel(metadata_directory, config_settings=None):
+    """The hook of PEP 517."""
+    return write_about(metadata_directory)
+
+
+def _files(tag):
+    """What the wheel holds, by its names."""
+    files = {}
+    for name in sorted(os.listdir(NAME)):
+        path = os.path.join(NAME, name)
+        if os.path.isfile(path):
+            with open(path, "rb") as file:
+                files[NAME + "/" + name] = file.read()
+    if NAME + "/" + LIBRARY not in files:
+        raise FileNotFoundError(LIBRARY + ": run ./build-library DIR, and install DIR/python")
+    files[_folder() + "/METADATA"] = _metadata().encode()
+    for name in _licences():
+        files[_folder() + "/licenses/" + name] = (_text(name) + "\n").encode()
+    kind = "Wheel-Version: 1.0\nGenerator: wheel_backend\nRoot-Is-Purelib: false\nTag: {}\n"
+    files[_folder() + "/WHEEL"] = kind.format(tag).encode()
+    return files
 
 
 def _digest(data):
     return base64.urlsafe_b64encode(hashlib.sha256(data).digest()).rstrip(b"=").decode()
 
 
+def _date():
+    """The date of each file in the wheel: that of SOURCE_DATE_EPOCH, else the first that a zip file can tell."""
+    seconds = int(os.environ.get("SOURCE_DATE_EPOCH", "315532800"))
+    return time.gmtime(max(seconds, 315532800))[:6]
+
+
 def build_wheel(wheel_directory, config_settings=None, metadata_directory=None):
     """Writes the wheel into the folder, and gives its name."""
-    folder = _project("name")
-    whole = folder + "-" + _project("version")
-    files = {}
-    for name in sorted(os.listdir(folder)):
-        if os.path.isfile(os.path.join(folder, name)):
-            with open(os.path.join(folder, name), "rb") as file:
-                files[folder + "/" + name] = file.read()
-    if folder + "/liburlcheck.so" not in files:
-        raise FileNotFoundError("liburlcheck.so: run ./build-library DIR, and install DIR/python")
-    about = "Metadata-Version: 2.1\nName: {}\nVersion: {}\nSummary: {}\nRequires-Python: {}\n".format(
-        folder, _project("version"), _project("description"), _project("requires-python")
-    )
-    kind = "Wheel-Version: 1.0\nGenerator: wheel_backend\nRoot-Is-Purelib: false\nTag: {}\n".format(TAG)
-    files[whole + ".dist-info/METADATA"] = about.encode()
-    files[whole + ".dist-info/WHEEL"] = kind.encode()
-    record = whole + ".dist-info/RECORD"
+    tag = "py3-none-" + _text("PLATFORM")
+    files = _files(tag)
+    record = _folder() + "/RECORD"
     lines = ["{},sha256={},{}".format(name, _digest(data), len(data)) for name, data in files.items()]
     files[record] = "".join(line + "\n" for line in lines + [record + ",,"]).encode()
-    wheel = "{}-{}.whl".format(whole, TAG)
+    wheel = "{}-{}-{}.whl".format(NAME, _text("VERSION"), tag)
     with zipfile.ZipFile(os.path.join(wheel_directory, wheel), "w", zipfile.ZIP_DEFLATED) as out:
         for name, data in files.items():
-            out.writestr(name, data)
+            entry = zipfile.ZipInfo(name, _date())
+            entry.compress_type = zipfile.ZIP_DEFLATED
+            entry.external_attr = 0o644 << 16
+            out.writestr(entry, data)
     return wheel

@@ -48,7 +48,7 @@ shows '  urlcheck check --base http://h/a/b ../x' check --help
 shows '  urlcheck links --base http://h/ < links.txt' help links
 shows '  urlcheck lint --format caret links.txt' lint --help
 shows '  urlcheck vectors vectors/standard.json' help vectors
-shows 'urlcheck 0.1.0' --version
+shows "urlcheck $(cat "$(dirname "$here")/VERSION")" --version
 
 # The text and the base are taken as they are given.
 expect 1 'refused 0 no-scheme\n' '' check ''

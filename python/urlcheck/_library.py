@@ -58,7 +58,7 @@ def _path() -> str:
     if given:
         return given
     beside = os.path.join(os.path.dirname(os.path.abspath(__file__)), "liburlcheck.so")
-    return beside if os.path.exists(beside) else "liburlcheck.so"
+    return beside if os.path.exists(beside) else "liburlcheck.so.0"
 
 
 def _load() -> ctypes.CDLL:

@@ -1,4 +1,8 @@
-/* Answers each case of a file of cases (see cases.py) by the library, in both profiles, a line each. */
+/*
+ * Answers each case of a file of cases (see cases.py) by the library, in both profiles, a line each. With the word
+ * `places` behind the file a line has where the parts of a valid text stand, and is empty for each other text. No bytes
+ * are handed in by a null pointer.
+ */
 #include "urlcheck.h"
 
 #include <stdio.h>
@@ -25,13 +29,15 @@ static int read_text(FILE *file, text *read) {
     if (count != 4) fail("a length is cut off");
     read->length = (uint32_t)front[0] | (uint32_t)front[1] << 8 | (uint32_t)front[2] << 16 | (uint32_t)front[3] << 24;
     size_t length = read->length == NONE ? 0 : read->length;
-    read->bytes = malloc(length ? length : 1);
-    if (!read->bytes) fail("memory");
-    if (fread(read->bytes, 1, length, file) != length) fail("a text is cut off");
+    read->bytes = length ? malloc(length) : NULL;
+    if (length && !read->bytes) fail("memory");
+    if (length && fread(read->bytes, 1, length, file) != length) fail("a text is cut off");
     return 1;
 }
 
-static void print_bytes(const uint8_t *bytes, size_t length) { fwrite(bytes, 1, length, stdout); }
+static void print_bytes(const uint8_t *bytes, size_t length) {
+    if (length) fwrite(bytes, 1, length, stdout);
+}
 
 static void print_rule(uint32_t rule) {
     uint8_t name[19];
@@ -47,7 +53,7 @@ static void print_part(const text *given, urlcheck_span span) {
     }
     putchar('+');
     if (span.start > given->length || span.length > given->length - span.start) fail("a span leaves the text");
-    print_bytes(given->bytes + span.start, span.length);
+    if (span.length) print_bytes(given->bytes + span.start, span.length);
 }
 
 static int is_same(urlcheck_finding one, urlcheck_finding other) {
@@ -71,6 +77,7 @@ static void print_record(const text *given, const text *base, uint32_t profile, 
     uint8_t small = 'x';
     urlcheck_resolved asked = resolve(given, base, profile, &small, 0);
     if (!is_same(asked.found, found) || small != 'x') fail("resolve and check differ, or more was written than fits");
+    if (resolve(given, base, profile, NULL, 0).length != asked.length) fail("a null buffer changes a length");
     uint8_t *out = malloc(asked.length ? asked.length : 1);
     if (!out) fail("memory");
     urlcheck_resolved written = resolve(given, base, profile, out, asked.length);
@@ -89,6 +96,7 @@ static void print_faults(const text *given, const text *base, uint32_t profile, 
     urlcheck_fault first[2];
     urlcheck_fault_count asked = faults(given, base, profile, first, 2);
     if (!is_same(asked.found, found)) fail("faults and check differ");
+    if (faults(given, base, profile, NULL, 0).count != asked.count) fail("a null buffer changes a count");
     if ((asked.count > 0) != (found.verdict == URLCHECK_REFUSED)) fail("a count of faults that the verdict denies");
     urlcheck_fault *all = malloc((asked.count ? asked.count : 1) * sizeof *all);
     if (!all) fail("memory");
@@ -103,10 +111,13 @@ static void print_faults(const text *given, const text *base, uint32_t profile, 
     free(all);
 }
 
+static urlcheck_answer check(const text *given, const text *base, uint32_t profile) {
+    if (base->length == NONE) return urlcheck_check(given->bytes, given->length, profile);
+    return urlcheck_check_against(given->bytes, given->length, base->bytes, base->length, profile);
+}
+
 static void answer(const text *given, const text *base, uint32_t profile) {
-    urlcheck_answer answer =
-        base->length == NONE ? urlcheck_check(given->bytes, given->length, profile)
-                             : urlcheck_check_against(given->bytes, given->length, base->bytes, base->length, profile);
+    urlcheck_answer answer = check(given, base, profile);
     urlcheck_finding found = answer.found;
     printf("%u", found.verdict);
     if (found.rule) {
@@ -126,15 +137,32 @@ static void answer(const text *given, const text *base, uint32_t profile) {
     putchar('\n');
 }
 
+static void print_place(const char *name, urlcheck_span span) {
+    if (span.present) printf("%s %zu %zu ", name, span.start, span.length);
+}
+
+static void place(const text *given, const text *base, uint32_t profile) {
+    urlcheck_answer answer = check(given, base, profile);
+    print_place("scheme", answer.parts.scheme);
+    print_place("host", answer.parts.host);
+    print_place("port", answer.parts.port);
+    print_place("path", answer.parts.path);
+    print_place("query", answer.parts.query);
+    print_place("fragment", answer.parts.fragment);
+    putchar('\n');
+}
+
 int main(int count, char **words) {
-    if (count != 2) fail("usage: answers CASES");
+    int is_place = count == 3 && strcmp(words[2], "places") == 0;
+    if (count != 2 + is_place) fail("usage: answers CASES [places]");
+    if (urlcheck_rule_name(URLCHECK_PERCENT, NULL, 0) != 7) fail("a null buffer changes the length of a name");
     FILE *file = fopen(words[1], "rb");
     if (!file) fail("the cases can't be opened");
     text given, base;
     while (read_text(file, &given)) {
         if (!read_text(file, &base)) fail("a case is cut off");
-        answer(&given, &base, URLCHECK_STANDARD);
-        answer(&given, &base, URLCHECK_WIDE);
+        (is_place ? place : answer)(&given, &base, URLCHECK_STANDARD);
+        (is_place ? place : answer)(&given, &base, URLCHECK_WIDE);
         free(given.bytes);
         free(base.bytes);
     }

@@ -2,6 +2,7 @@
 
     cases.py pack CASES VECTORS..          writes the cases of the vectors
     cases.py compare PROGRAM ANSWERS VECTORS..   compares the answers of the library with the program's and the vectors'
+    cases.py places PLACES VECTORS..       compares where the parts of the valid cases stand with their delimiters
 
 A file of cases has for each case the text and the base, each behind its length in four bytes, lowest first; an absent
 base has the length 0xFFFFFFFF.
@@ -9,6 +10,7 @@ base has the length 0xFFFFFFFF.
 
 import concurrent.futures
 import json
+import re
 import struct
 import subprocess
 import sys
@@ -31,7 +33,23 @@ MORE = [
     ("#\u00e9", "urn:isbn:1"),
     ("a", "urn:isbn:1"),
     ("urn:isbn:0451450523", None),
+    ("http://h", None),
+    ("http://h:?#", None),
+    ("http://h:/\u00e9?#\u00e9", None),
+    ("file:///", None),
+    ("foo://?#", None),
+    ("foo:", None),
+    ("?", "http://h/"),
+    ("#", "http://h/\u65e5"),
+    ("//h", "http://b/"),
 ]
+# The parts of a valid text by its delimiters alone (RFC 3986, appendix B, with the host and the port apart).
+DELIMITED = re.compile(
+    rb"(?:(?P<scheme>[A-Za-z][A-Za-z0-9+.-]*):)?"
+    rb"(?://(?P<host>\[[^\]]*\]|[^:/?#]*)(?::(?P<port>[^/?#]*))?)?"
+    rb"(?P<path>[^?#]*)(?:\?(?P<query>[^#]*))?(?:#(?P<fragment>.*))?",
+    re.S,
+)
 
 
 def cases_of(paths):
@@ -123,7 +141,28 @@ def compare(program, answers, paths):
     return 0 if not bad and len(lines) == len(asked) else 1
 
 
+def places_of(text):
+    """Where the parts of a valid text stand in its bytes: each with its name, its start and its length."""
+    found = DELIMITED.fullmatch(text.encode())
+    spans = {name: found.span(name) for name in ("scheme", "host", "port", "path", "query", "fragment")}
+    return "".join("{} {} {} ".format(name, at, end - at) for name, (at, end) in spans.items() if at >= 0)
+
+
+def compare_places(answers, paths):
+    lines = open(answers, encoding="utf-8").read().split("\n")[:-1]
+    asked = [text for text, _, _ in cases_of(paths) for _ in range(2)]
+    valid = [(text, line) for text, line in zip(asked, lines) if line]
+    bad = [(text, line) for text, line in valid if line != places_of(text)]
+    for one in bad[:20]:
+        print("FAILED:", one)
+    empty = sum(line.count(" 0 ") for _, line in valid)
+    print("library: {} valid texts, {} with parts at other places".format(len(valid), len(bad)))
+    return 0 if not bad and len(lines) == len(asked) and valid and empty else 1
+
+
 if __name__ == "__main__":
+    if sys.argv[1] == "places":
+        sys.exit(compare_places(sys.argv[2], sys.argv[3:]))
     if sys.argv[1] == "pack":
         with open(sys.argv[2], "wb") as out:
             for text, base, _ in cases_of(sys.argv[3:]):

@@ -1,5 +1,5 @@
 -- The parts of a valid text in its bytes.
-use Rattle.std.proofs.Common.{◌≡◌, ℕ, ◌+◌, ◌-◌, ◌<◌, lit<, List, [], ◌∷◌, ◌++◌, length, refl, sym, ap, ◌∙◌, arith, append-nil}
+use Rattle.std.proofs.Common.{◌≡◌, ℕ, ◌+◌, ◌-◌, ◌≤◌, ◌<◌, lit<, List, [], ◌∷◌, ◌++◌, length, refl, sym, ap, ◌∙◌, arith, append-nil}
 use Rattle.std.specs.Prelude.{Option, Some, None, slice_range}
 use Rattle.std.specs.Str.{chars, IsUtf8, encode_utf8_all}
 use Rattle.std.proofs.lemmas.Str.{encodes-append, encodes-chars, encode_ascii}
@@ -79,23 +79,37 @@ range_seam front part back =
     let count : length front + length part - length front ≡ length part = omega arith in
     rw (count, drop-append_seam front (part ++ back)) (take-append_seam part back)
 
+-- it ends within the text
+end_within : (front mark part back : List ℕ)
+    → length front + length mark + length part ≤ length (front ++ ((mark ++ part) ++ back))
+end_within front mark part back = simp (length-append) (omega arith)
+
+-- so does a scheme
+scheme_within : (part mark back : List ℕ) → 0 + length part ≤ length ((part ++ mark) ++ back)
+scheme_within part mark back = simp (length-append) (omega arith)
+
 scheme_span : (scheme : Option (List ℕ)) (back : List ℕ)
-    → IsSpan (scheme_piece scheme ++ back) scheme (span_of 0 0 scheme)
+    → IsSpan (scheme_piece scheme ++ back) 0 0 scheme (span_of 0 0 scheme)
 scheme_span None back = refl
 scheme_span (Some scheme) back = (
   refl,
+  scheme_within (encode_utf8_all scheme) (58 ∷ []) back,
   rw (append_assoc (encode_utf8_all scheme) (58 ∷ []) back)
       (range_seam [] (encode_utf8_all scheme) ((58 ∷ []) ++ back)),
 )
 
 piece_span : (front mark : List ℕ) (part : Option (List ℕ)) (back : List ℕ)
-    → IsSpan (front ++ (piece mark part ++ back)) part (span_of (length front) (length mark) part)
+    → IsSpan (front ++ (piece mark part ++ back)) (length front) (length mark) part
+    (span_of (length front) (length mark) part)
 piece_span front mark None back = refl
 piece_span front mark (Some part) back =
     let same : front ++ ((mark ++ encode_utf8_all part) ++ back) ≡ (front ++ mark) ++ (encode_utf8_all part ++ back)
     = ap (λ t. front ++ t) (append_assoc mark (encode_utf8_all part) back)
-    ∙ sym (append_assoc front mark (encode_utf8_all part ++ back)) in
-    (refl, rw (same, sym (length-append front mark)) (range_seam (front ++ mark) (encode_utf8_all part) back))
+    ∙ sym (append_assoc front mark (encode_utf8_all part ++ back)) in (
+      refl,
+      end_within front mark (encode_utf8_all part) back,
+      rw (same, sym (length-append front mark)) (range_seam (front ++ mark) (encode_utf8_all part) back),
+    )
 
 scheme_extent : (scheme : Option (List ℕ)) → length (scheme_piece scheme) ≡ extent 1 scheme
 scheme_extent None = refl
@@ -153,7 +167,8 @@ whole_length p =
 
 -- the span of a piece, where the text is regrouped
 regrouped : (bytes front mark : List ℕ) (part : Option (List ℕ)) (back : List ℕ) (at : ℕ)
-    → bytes ≡ front ++ (piece mark part ++ back) → length front ≡ at → IsSpan bytes part (span_of at (length mark) part)
+    → bytes ≡ front ++ (piece mark part ++ back) → length front ≡ at
+    → IsSpan bytes at (length mark) part (span_of at (length mark) part)
 regrouped bytes front mark part back at same here = rw (same, ← here) (piece_span front mark part back)
 
 -- the spans of the parts in that text
@@ -185,4 +200,5 @@ laid_spans p =
           (simp (length-append) (omega (arith, se, he, oe, ae)));
       fragment = regrouped (laid_out p) ((((s ++ h) ++ o) ++ a) ++ q) (35 ∷ []) p.fragment [] _ at_fragment
           (simp (length-append) (omega (arith, se, he, oe, ae, qe)));
+      whole = whole_length p;
     }

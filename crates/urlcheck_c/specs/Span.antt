@@ -1,5 +1,5 @@
 -- The parts of a text as places in its bytes.
-use Rattle.std.specs.Prelude.{◌≡◌, ℕ, ◌+◌, true, false, List, Option, Some, None, length, slice_range}
+use Rattle.std.specs.Prelude.{◌≡◌, ℕ, ◌+◌, ◌≤◌, true, false, List, Option, Some, None, length, slice_range}
 use Rattle.std.specs.Str.{encode_utf8_all}
 use Rattle.urlcheck_c.specs.declared.spans.Span.{Span}
 use Rattle.urlcheck_c.specs.declared.spans.Spans.{Spans}
@@ -20,21 +20,6 @@ no_spans = record {
   fragment = no_span;
 }
 
--- the bytes at the span are the UTF-8 of the part, or the part is absent
-abbrev pub IsSpan : List ℕ → Option (List ℕ) → Span → Type 0
-IsSpan bytes None span = span ≡ no_span
-IsSpan bytes (Some part) span =
-    (span.present ≡ true) × (slice_range bytes span.start (span.start + span.length) ≡ encode_utf8_all part)
-
--- the spans are those of the parts
-pub record AreSpans (bytes : List ℕ) (parts : Parts) (spans : Spans) : Type 0 where
-  pub scheme : IsSpan bytes parts.scheme spans.scheme
-  pub host : IsSpan bytes parts.host_text spans.host
-  pub port : IsSpan bytes parts.port_text spans.port
-  pub path : IsSpan bytes (Some parts.path_text) spans.path
-  pub query : IsSpan bytes parts.query spans.query
-  pub fragment : IsSpan bytes parts.fragment spans.fragment
-
 -- ---- how the parts are laid
 
 -- how many bytes a part takes with its delimiter
@@ -42,11 +27,29 @@ abbrev pub extent : ℕ → Option (List ℕ) → ℕ
 extent mark None = 0
 extent mark (Some part) = mark + length (encode_utf8_all part)
 
+-- the place of the authority's `//`, behind the scheme and its `:`
+abbrev pub host_at : Parts → ℕ
+host_at parts = extent 1 parts.scheme
+
+-- the place of the port's `:`, behind the host
+abbrev pub port_at : Parts → ℕ
+port_at parts = host_at parts + extent 2 parts.host_text
+
+-- the place of the path, behind the port
+abbrev pub path_at : Parts → ℕ
+path_at parts = port_at parts + extent 1 parts.port_text
+
+-- the place of the query's `?`, behind the path
+abbrev pub query_at : Parts → ℕ
+query_at parts = path_at parts + extent 0 (Some parts.path_text)
+
+-- the place of the fragment's `#`, behind the query
+abbrev pub fragment_at : Parts → ℕ
+fragment_at parts = query_at parts + extent 1 parts.query
+
 -- how many bytes the parts take
 abbrev pub whole_extent : Parts → ℕ
-whole_extent parts =
-    extent 1 parts.scheme + extent 2 parts.host_text + extent 1 parts.port_text + extent 0 (Some parts.path_text)
-    + extent 1 parts.query + extent 1 parts.fragment
+whole_extent parts = fragment_at parts + extent 1 parts.fragment
 
 -- the span of a part whose delimiter begins here
 abbrev pub span_of : ℕ → ℕ → Option (List ℕ) → Span
@@ -57,14 +60,29 @@ span_of at mark (Some part) = record { start = at + mark; length = length (encod
 abbrev pub spans_of : Parts → Spans
 spans_of parts = record {
   scheme = span_of 0 0 parts.scheme;
-  host = span_of (extent 1 parts.scheme) 2 parts.host_text;
-  port = span_of (extent 1 parts.scheme + extent 2 parts.host_text) 1 parts.port_text;
-  path =
-      span_of (extent 1 parts.scheme + extent 2 parts.host_text + extent 1 parts.port_text) 0 (Some parts.path_text);
-  query =
-      span_of (extent 1 parts.scheme + extent 2 parts.host_text + extent 1 parts.port_text
-      + extent 0 (Some parts.path_text)) 1 parts.query;
-  fragment =
-      span_of (extent 1 parts.scheme + extent 2 parts.host_text + extent 1 parts.port_text
-      + extent 0 (Some parts.path_text) + extent 1 parts.query) 1 parts.fragment;
+  host = span_of (host_at parts) 2 parts.host_text;
+  port = span_of (port_at parts) 1 parts.port_text;
+  path = span_of (path_at parts) 0 (Some parts.path_text);
+  query = span_of (query_at parts) 1 parts.query;
+  fragment = span_of (fragment_at parts) 1 parts.fragment;
 }
+
+-- ---- where the parts stand
+
+-- The part stands behind its delimiter, which begins here: its span ends within the text, and the bytes there are its
+-- UTF-8. An absent part has no span.
+abbrev pub IsSpan : List ℕ → ℕ → ℕ → Option (List ℕ) → Span → Type 0
+IsSpan bytes at mark None span = span ≡ no_span
+IsSpan bytes at mark (Some part) span =
+    (span ≡ span_of at mark (Some part)) × (span.start + span.length ≤ length bytes)
+    × (slice_range bytes span.start (span.start + span.length) ≡ encode_utf8_all part)
+
+-- the spans are those of the parts, each behind the one before, and the parts with their delimiters are the whole text
+pub record AreSpans (bytes : List ℕ) (parts : Parts) (spans : Spans) : Type 0 where
+  pub scheme : IsSpan bytes 0 0 parts.scheme spans.scheme
+  pub host : IsSpan bytes (host_at parts) 2 parts.host_text spans.host
+  pub port : IsSpan bytes (port_at parts) 1 parts.port_text spans.port
+  pub path : IsSpan bytes (path_at parts) 0 (Some parts.path_text) spans.path
+  pub query : IsSpan bytes (query_at parts) 1 parts.query spans.query
+  pub fragment : IsSpan bytes (fragment_at parts) 1 parts.fragment spans.fragment
+  pub whole : length bytes ≡ whole_extent parts

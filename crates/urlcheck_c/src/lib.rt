@@ -8,6 +8,7 @@ mod checks;
 mod fault_lists;
 mod finding;
 pub mod laws;
+mod layout;
 mod names;
 mod places;
 mod records;

@@ -1,17 +1,18 @@
 //! The names and the sentences of the rules, and the version.
-ghost use Rattle.std.specs.Prelude.{◌≡◌};
+ghost use Rattle.std.specs.Prelude.{◌≡◌, ◌==◌, find};
+ghost use Rattle.uv_model.specs.Complaints.Rule.{rule_number};
 ghost use Rattle.urlcheck_c.specs.Buffer.{IsWritten};
 ghost use Rattle.urlcheck_c.specs.Names.{name_of_number, rule_with_number, sentence_of_number};
 
 use crate::buffers::write_front;
 use uv_model::Rule;
 
-/// The version of the library, 0.1.0, as 10000 times its first number, 100 times its second and its third.
+/// The version of the library, 0.2.0, as 10000 times its first number, 100 times its second and its third.
 #[unsafe(no_mangle)]
 pub extern "C" fn urlcheck_version() -> u32
-    ensures { result ≡ 100 }
+    ensures { result ≡ 200 }
 {
-    100
+    200
 }
 
 /// Writes the name of the rule with this number to the front of `out` where it fits, and gives its length: 0 where no
@@ -55,21 +56,15 @@ fn sentence_of(number: u32) -> &'static str
 fn rule_of(number: u32) -> Option<Rule>
     ensures { result ≡ rule_with_number number }
 {
-    match number {
-        1 => Some(Rule::NoScheme),
-        2 => Some(Rule::OpaqueBase),
-        3 => Some(Rule::TwoSlashes),
-        4 => Some(Rule::HostMissing),
-        5 => Some(Rule::HostDomain),
-        6 => Some(Rule::HostNumber),
-        7 => Some(Rule::HostIpv6),
-        8 => Some(Rule::HostCodePoint),
-        9 => Some(Rule::PortDigit),
-        10 => Some(Rule::PortRange),
-        11 => Some(Rule::FirstSegmentEmpty),
-        12 => Some(Rule::DriveAfterHost),
-        13 => Some(Rule::CodePoint),
-        14 => Some(Rule::Percent),
-        _ => None,
-    }
+    numbered(Rule::in_order().as_slice(), number)
+}
+
+// The first of the rules with this number.
+fn numbered(rules: &[Rule], number: u32) -> Option<Rule>
+    ensures { result ≡ find (λ rule. rule_number rule == number) rules.now }
+{
+    rules
+        .iter()
+        .find(|rule| u32::from(rule.number()) == number)
+        .copied()
 }

@@ -5,6 +5,7 @@ use crate::fault_lists::{Fault, urlcheck_faults, urlcheck_faults_against};
 use crate::finding::Finding;
 use crate::names::{urlcheck_rule_name, urlcheck_rule_sentence};
 use crate::records::{urlcheck_resolve, urlcheck_resolve_against};
+use crate::spans::Span;
 use std::process::Abort;
 
 // What was found is this verdict and rule, at this place in code points and in bytes.
@@ -15,16 +16,36 @@ fn finds(rt: &impl Abort, found: Finding, wanted: (u32, u32, usize, usize)) {
     assert_eq!(rt; found.byte_place, wanted.3);
 }
 
+// A part begins here and is so long, or it is absent.
+fn stands(rt: &impl Abort, part: Span, wanted: Option<(usize, usize)>) {
+    assert_eq!(rt; part.present, wanted.is_some());
+    let (start, length) = wanted.unwrap_or((0, 0));
+    assert_eq!(rt; part.start, start);
+    assert_eq!(rt; part.length, length);
+}
+
 #[test]
 fn lays_out_the_parts_in_bytes(rt: HostRuntime) {
-    let text = "http://h/\u{e9}?q#f".as_bytes();
-    let answer = urlcheck_check(rt.alloc(), text, 0);
-    finds(&rt, answer.found, (0, 0, 0, 0));
-    assert_eq!(rt; answer.parts.path.start, 8);
-    assert_eq!(rt; answer.parts.path.length, 3);
-    assert_eq!(rt; answer.parts.query.start, 12);
-    assert_eq!(rt; answer.parts.fragment.start, 14);
-    assert!(rt; !answer.parts.port.present);
+    let parts = urlcheck_check(rt.alloc(), "http://h/\u{e9}?q#f".as_bytes(), 0).parts;
+    stands(&rt, parts.scheme, Some((0, 4)));
+    stands(&rt, parts.host, Some((7, 1)));
+    stands(&rt, parts.port, None);
+    stands(&rt, parts.path, Some((8, 3)));
+    stands(&rt, parts.query, Some((12, 1)));
+    stands(&rt, parts.fragment, Some((14, 1)));
+}
+
+#[test]
+fn lays_out_empty_parts(rt: HostRuntime) {
+    let parts = urlcheck_check(rt.alloc(), b"http://h:?#", 0).parts;
+    stands(&rt, parts.port, Some((9, 0)));
+    stands(&rt, parts.path, Some((9, 0)));
+    stands(&rt, parts.query, Some((10, 0)));
+    stands(&rt, parts.fragment, Some((11, 0)));
+    let parts = urlcheck_check(rt.alloc(), b"file:///a", 0).parts;
+    stands(&rt, parts.host, Some((7, 0)));
+    stands(&rt, parts.path, Some((7, 2)));
+    stands(&rt, parts.query, None);
 }
 
 #[test]

@@ -47,7 +47,7 @@ unfoldable pub sarif_begin : List ℕ
 sarif_begin =
     codes "{\"$schema\":\"https://json.schemastore.org/sarif-2.1.0.json\",\"version\":\"2.1.0\","
     ++ (codes "\"runs\":[{\"columnKind\":\"unicodeCodePoints\",\"tool\":{\"driver\":{"
-    ++ (codes "\"name\":\"urlcheck\",\"version\":\"0.1.0\",\"rules\":["
+    ++ (codes "\"name\":\"urlcheck\",\"version\":\"0.2.0\",\"rules\":["
     ++ (all_rules ++ codes "]}},\"results\":[\n")))
 
 -- what it ends with

@@ -21,7 +21,7 @@ pub(crate) fn push_sarif_begin(alloc: Global, text: &mut String) -> Result<(), A
         "{\"$schema\":\"https://json.schemastore.org/sarif-2.1.0.json\",\"version\":\"2.1.0\",",
     )?;
     text.push_str("\"runs\":[{\"columnKind\":\"unicodeCodePoints\",\"tool\":{\"driver\":{")?;
-    text.push_str("\"name\":\"urlcheck\",\"version\":\"0.1.0\",\"rules\":[")?;
+    text.push_str("\"name\":\"urlcheck\",\"version\":\"0.2.0\",\"rules\":[")?;
     push_rules(alloc, text)?;
     text.push_str("]}},\"results\":[\n")?;
     Ok(())

@@ -51,7 +51,7 @@ pub(crate) fn urlcheck<'a>(alloc: Global) -> Result<Command<'a>, AllocError>
     ensures { IfOk result (λ c. app_of c ≡ urlcheck) }
 {
     let program = Command::new(alloc, "urlcheck")
-        .version("0.1.0")
+        .version("0.2.0")
         .about("Says whether a text is a valid URL string")
         .after_help(STATUSES)
         .subcommand_required(true);

@@ -1,0 +1,22 @@
+//! The layout of what C gets: the sizes that include/urlcheck.h asserts too. In each size there is no room for a field at
+//! another place than there.
+
+use crate::checks::Answer;
+use crate::fault_lists::{Fault, FaultCount};
+use crate::finding::Finding;
+use crate::records::Resolved;
+use crate::spans::{Span, Spans};
+
+const _: () = prove!(size_of::<Finding>() == 24);
+
+const _: () = prove!(size_of::<Span>() == 24);
+
+const _: () = prove!(size_of::<Spans>() == 144);
+
+const _: () = prove!(size_of::<Answer>() == 168);
+
+const _: () = prove!(size_of::<Resolved>() == 32);
+
+const _: () = prove!(size_of::<Fault>() == 24);
+
+const _: () = prove!(size_of::<FaultCount>() == 32);

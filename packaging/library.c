@@ -1,0 +1,93 @@
+/*
+ * The exports of the library. Each hands its call to the proved function of the same name, in the build that this
+ * processor runs: plain x86-64, or x86-64-v2. A null pointer becomes one to nothing, so that it may stand for no bytes.
+ */
+#include "processor.h"
+#include "urlcheck.h"
+
+#define EXPORT __attribute__((visibility("default")))
+
+/* The functions of one build. */
+#define DECLARE(build)                                                                                                 \
+    urlcheck_answer urlcheck_check_##build(const uint8_t *, size_t, uint32_t);                                         \
+    urlcheck_answer urlcheck_check_against_##build(const uint8_t *, size_t, const uint8_t *, size_t, uint32_t);        \
+    urlcheck_resolved urlcheck_resolve_##build(const uint8_t *, size_t, uint32_t, uint8_t *, size_t);                  \
+    urlcheck_resolved urlcheck_resolve_against_##build(const uint8_t *, size_t, const uint8_t *, size_t, uint32_t,     \
+                                                       uint8_t *, size_t);                                             \
+    urlcheck_fault_count urlcheck_faults_##build(const uint8_t *, size_t, uint32_t, urlcheck_fault *, size_t);         \
+    urlcheck_fault_count urlcheck_faults_against_##build(const uint8_t *, size_t, const uint8_t *, size_t, uint32_t,   \
+                                                         urlcheck_fault *, size_t);                                    \
+    size_t urlcheck_rule_name_##build(uint32_t, uint8_t *, size_t);                                                    \
+    size_t urlcheck_rule_sentence_##build(uint32_t, uint8_t *, size_t);                                                \
+    uint32_t urlcheck_version_##build(void)
+
+DECLARE(x86_64);
+DECLARE(x86_64_v2);
+
+enum { UNKNOWN, PLAIN, NEWER };
+static int known = UNKNOWN;
+
+/* Asks the processor. Threads that ask at once learn the same. */
+static __attribute__((cold, noinline)) int asked(void) {
+    int level = is_x86_64_v2() ? NEWER : PLAIN;
+    __atomic_store_n(&known, level, __ATOMIC_RELAXED);
+    return level;
+}
+
+/* Whether the build for x86-64-v2 answers. */
+static int is_newer(void) {
+    int level = __atomic_load_n(&known, __ATOMIC_RELAXED);
+    return (level == UNKNOWN ? asked() : level) == NEWER;
+}
+
+#define CALL(name, ...) (is_newer() ? name##_x86_64_v2(__VA_ARGS__) : name##_x86_64(__VA_ARGS__))
+
+/* What is pointed to in the place of null: of length 0, so it is neither read nor written. */
+static uint8_t no_bytes[1];
+static urlcheck_fault no_faults[1];
+
+static const uint8_t *read_from(const uint8_t *bytes) { return bytes ? bytes : no_bytes; }
+static uint8_t *written_to(uint8_t *bytes) { return bytes ? bytes : no_bytes; }
+static urlcheck_fault *listed_in(urlcheck_fault *faults) { return faults ? faults : no_faults; }
+
+EXPORT urlcheck_answer urlcheck_check(const uint8_t *text, size_t length, uint32_t profile) {
+    return CALL(urlcheck_check, read_from(text), length, profile);
+}
+
+EXPORT urlcheck_answer urlcheck_check_against(const uint8_t *text, size_t length, const uint8_t *base,
+                                              size_t base_length, uint32_t profile) {
+    return CALL(urlcheck_check_against, read_from(text), length, read_from(base), base_length, profile);
+}
+
+EXPORT urlcheck_resolved urlcheck_resolve(const uint8_t *text, size_t length, uint32_t profile, uint8_t *out,
+                                          size_t room) {
+    return CALL(urlcheck_resolve, read_from(text), length, profile, written_to(out), room);
+}
+
+EXPORT urlcheck_resolved urlcheck_resolve_against(const uint8_t *text, size_t length, const uint8_t *base,
+                                                  size_t base_length, uint32_t profile, uint8_t *out, size_t room) {
+    return CALL(urlcheck_resolve_against, read_from(text), length, read_from(base), base_length, profile,
+                written_to(out), room);
+}
+
+EXPORT urlcheck_fault_count urlcheck_faults(const uint8_t *text, size_t length, uint32_t profile, urlcheck_fault *out,
+                                            size_t room) {
+    return CALL(urlcheck_faults, read_from(text), length, profile, listed_in(out), room);
+}
+
+EXPORT urlcheck_fault_count urlcheck_faults_against(const uint8_t *text, size_t length, const uint8_t *base,
+                                                    size_t base_length, uint32_t profile, urlcheck_fault *out,
+                                                    size_t room) {
+    return CALL(urlcheck_faults_against, read_from(text), length, read_from(base), base_length, profile,
+                listed_in(out), room);
+}
+
+EXPORT size_t urlcheck_rule_name(uint32_t rule, uint8_t *out, size_t room) {
+    return CALL(urlcheck_rule_name, rule, written_to(out), room);
+}
+
+EXPORT size_t urlcheck_rule_sentence(uint32_t rule, uint8_t *out, size_t room) {
+    return CALL(urlcheck_rule_sentence, rule, written_to(out), room);
+}
+
+EXPORT uint32_t urlcheck_version(void) { return CALL(urlcheck_version); }
