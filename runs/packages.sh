@@ -1,0 +1,125 @@
+#!/usr/bin/env bash
+# Installs the program given as the first argument, and the library, into a folder: what is installed there, that the
+# programs of docs/LIBRARY.md build and run by it, that each file tells the one version, what the shared library exports,
+# that the header is taken by each standard of C and C++, that an old processor runs the library, and that nothing is left
+# once it is removed. What isn't installed on the machine is left out, and a line says so. LIBRARY may name a folder that
+# ./build-library wrote.
+set -euo pipefail
+program=$(realpath "$1")
+top=$(dirname "$(dirname "$(realpath "$0")")")
+room=$(mktemp -d)
+trap 'rm -rf "$room"' EXIT
+cd "$top"
+for tool in cc gcc objcopy pkg-config python3; do
+    command -v "$tool" >/dev/null || { echo "packages: left out, since $tool isn't installed"; exit 0; }
+done
+
+fail() {
+    echo "FAILED: $*"
+    exit 1
+}
+
+# quietly COMMAND.. : what it says is shown where it fails alone
+quietly() {
+    "$@" >"$room/said" 2>&1 || { cat "$room/said"; fail "$*"; }
+}
+
+version=$(cat VERSION)
+library=${LIBRARY:-$room/library}
+[ -n "${LIBRARY:-}" ] || quietly ./build-library "$library"
+root=$room/root
+prefix=/opt/urlcheck
+at=$root$prefix
+export DESTDIR=$root PROGRAM=$program LIBRARY=$library
+quietly ./install $prefix
+
+# ---- what is installed
+
+python=$(cd "$at/lib" && ls -d python*/*-packages)
+{
+    sed -e "s|PYTHON|$python|" -e "s|VERSION|$version|" runs/packages/files
+    printf 'share/doc/urlcheck/%s\n' docs/*.md docs/*.svg vectors/*
+} | sort >"$room/wanted"
+(cd "$at" && find . ! -type d -printf '%P\n' | sort) >"$room/found"
+diff "$room/wanted" "$room/found" || fail "other files are installed than runs/packages/files and the pages"
+cmp "$program" "$at/bin/urlcheck"
+for link in liburlcheck.so liburlcheck.so.0; do
+    [ "$(realpath "$at/lib/$link")" = "$(realpath "$at/lib")/liburlcheck.so.$version" ] || fail "$link names another file"
+done
+if grep -rlF "$room" "$at"; then fail "an installed file names the folder that it was built in"; fi
+
+# ---- the version
+
+"$at/bin/urlcheck" --version | cmp - <(echo "urlcheck $version") || fail "the program has another version than VERSION"
+echo x >"$room/links"
+"$at/bin/urlcheck" lint --quiet --format sarif "$room/links" >"$room/report" || [ $? = 1 ] || fail "lint --format sarif"
+told=$(python3 -c 'import json, sys; print(json.load(sys.stdin)["runs"][0]["tool"]["driver"]["version"])' <"$room/report")
+[ "$told" = "$version" ] || fail "SARIF says that the version is $told"
+grep -qF "urlcheck $version" man/urlcheck.1 || fail "man/urlcheck.1 has another version than VERSION"
+grep -qF "rev: v$version " docs/USES.md || fail "docs/USES.md names another tag than VERSION"
+grep -qE "^## $version - [0-9]{4}-[0-9]{2}-[0-9]{2}$" CHANGELOG.md || fail "CHANGELOG.md has no '## $version - ' with its day"
+
+# ---- programs
+
+export PKG_CONFIG_PATH=$at/lib/pkgconfig PKG_CONFIG_SYSROOT_DIR=$root PYTHONDONTWRITEBYTECODE=1
+[ "$(pkg-config --modversion urlcheck)" = "$version" ] || fail "pkg-config has another version than VERSION"
+grep -qx "prefix=$prefix" "$at/lib/pkgconfig/urlcheck.pc" || fail "the file for pkg-config has another prefix"
+python3 runs/library/programs.py "$top" "$room"
+cc "$room/page.c" $(pkg-config --cflags --libs urlcheck) -o "$room/page"
+{ LD_LIBRARY_PATH=$at/lib "$room/page" || [ $? = 1 ]; } | cmp - "$room/page.c.out" || fail "the program in C"
+PYTHONPATH=$at/lib/$python LD_LIBRARY_PATH=$at/lib python3 "$room/page.py" | cmp - "$room/page.py.out" ||
+    fail "the program in Python"
+told=$(PYTHONPATH=$at/lib/$python LD_LIBRARY_PATH=$at/lib python3 -c 'import urlcheck; print(urlcheck.version())')
+[ "$told" = "$version" ] || fail "the library says that its version is $told"
+told=$(PYTHONPATH=$at/lib/$python python3 -c 'from importlib.metadata import version; print(version("urlcheck"))')
+[ "$told" = "$version" ] || fail "the Python package says that its version is $told"
+bash -n "$at/share/bash-completion/completions/urlcheck"
+if command -v man >/dev/null; then
+    man --warnings -E UTF-8 -l "$at/share/man/man1/urlcheck.1" >"$room/page.txt" 2>"$room/said"
+    [ ! -s "$room/said" ] || { cat "$room/said"; fail "the manual page has warnings"; }
+    grep -q '^NAME' "$room/page.txt" || fail "the manual page has no NAME"
+else
+    echo "packages: the manual page isn't shown, since man isn't installed"
+fi
+
+# ---- the shared library
+
+node=$(sed -n 's/^\(URLCHECK_[0-9.]*\) {$/\1/p' packaging/library.map)
+sed -n "s/^ *\(urlcheck_[a-z_]*\);$/\1@@$node/p" packaging/library.map | sort >"$room/wanted"
+declared=$(grep -o '\burlcheck_[a-z_]*(' include/urlcheck.h | tr -d '(' | sort)
+[ "$declared" = "$(sed 's/@@.*//' "$room/wanted")" ] || fail "packaging/library.map has other names than include/urlcheck.h"
+nm -D --defined-only --with-symbol-versions "$at/lib/liburlcheck.so" | awk '$2 != "A" { print $3 }' | sort >"$room/found"
+diff "$room/wanted" "$room/found" || fail "the library exports other names than packaging/library.map"
+objdump -p "$at/lib/liburlcheck.so" | grep -q 'SONAME *liburlcheck\.so\.0$' || fail "the library has another SONAME"
+if command -v qemu-x86_64 >/dev/null; then
+    { LD_LIBRARY_PATH=$at/lib qemu-x86_64 -cpu qemu64 "$room/page" || [ $? = 1 ]; } | cmp - "$room/page.c.out" ||
+        fail "the program in C on an old processor"
+else
+    echo "packages: no old processor is tried, since qemu-x86_64 isn't installed"
+fi
+
+# ---- the header
+
+printf '#include "urlcheck.h"\nint main(void) { return urlcheck_version() == 0; }\n' >"$room/header.c"
+cp "$room/header.c" "$room/header.cpp"
+strict=(-Wall -Wextra -Wpedantic -Wundef -Wconversion -Wshadow -Werror -fsyntax-only -I "$at/include")
+count=0
+for compiler in gcc clang g++ clang++; do
+    command -v $compiler >/dev/null || { echo "packages: the header isn't tried by $compiler, which isn't installed"; continue; }
+    standards=(c89 c99 c11 c17 c2x) file=$room/header.c
+    case $compiler in *++) standards=(c++98 c++11 c++14 c++17 c++20 c++2b) file=$room/header.cpp ;; esac
+    for standard in "${standards[@]}"; do
+        $compiler -std=$standard "${strict[@]}" "$file" || fail "the header by $compiler -std=$standard"
+        count=$((count + 1))
+    done
+done
+
+# ---- removed again
+
+quietly ./install $prefix
+quietly ./install --uninstall $prefix
+left=$(find "$root" -mindepth 1)
+[ -z "$left" ] || fail "what is left once it is removed: $left"
+if ./install --uninstall $prefix 2>"$room/said"; then fail "what isn't installed is removed"; fi
+if ./install --other 2>"$room/said"; then fail "another option is taken"; fi
+echo "packages: installed, tried and removed; the header by $count compilers and standards; version $version"
