@@ -39,9 +39,10 @@ python=$(cd "$at/lib" && ls -d python*/*-packages)
 {
     sed -e "s|PYTHON|$python|" -e "s|VERSION|$version|" runs/packages/files
     printf 'share/doc/urlcheck/%s\n' docs/*.md docs/*.svg vectors/*
+    (cd python && printf "lib/$python/%s\n" urlcheck/*.py urlcheck/py.typed)
 } | sort >"$room/wanted"
 (cd "$at" && find . ! -type d -printf '%P\n' | sort) >"$room/found"
-diff "$room/wanted" "$room/found" || fail "other files are installed than runs/packages/files and the pages"
+diff "$room/wanted" "$room/found" || fail "other files are installed than those of runs/packages/files, docs/, vectors/ and python/"
 cmp "$program" "$at/bin/urlcheck"
 for link in liburlcheck.so liburlcheck.so.0; do
     [ "$(realpath "$at/lib/$link")" = "$(realpath "$at/lib")/liburlcheck.so.$version" ] || fail "$link names another file"

@@ -130,7 +130,7 @@ if has git; then try_hook; fi
 
 if has git && has pre-commit; then
     in_folder source
-    git init -q . && cp "$top/.pre-commit-hooks.yaml" . && git add . && git commit -q -m hooks && git tag v0.1.0
+    git init -q . && cp "$top/.pre-commit-hooks.yaml" . && git add . && git commit -q -m hooks && git tag "v$(cat "$top/VERSION")"
     in_folder framework
     git init -q .
     recipe 'A hook before a commit' yaml | sed "s|https://example.com/urlcheck.git.*|$room/source|" >.pre-commit-config.yaml

@@ -1,5 +1,5 @@
 -- The check of a text that takes no memory never wants it.
-use Rattle.std.proofs.Common.{List, ℕ, ◌∙◌, inr, subst}
+use Rattle.std.proofs.Common.{◌∙◌, inr, subst}
 use Rattle.std.specs.Prelude.{Option}
 use Rattle.std.specs.Str.{chars}
 use Rattle.uv_model.specs.Records.Url.{Url}
