@@ -20,9 +20,9 @@ export PYTHONPATH=$room/installed/python PYTHONDONTWRITEBYTECODE=1
 strict=(-Wall -Wextra -Werror -O2 -g)
 sanitized=(-fsanitize=address,undefined -fno-sanitize-recover=all)
 
-# Only names of this library are visible, in the archive and in the shared object.
+# Only names of this library are visible, in the archive and in the shared object (where A is a symbol version).
 for seen in "$(nm -g --defined-only "$archive")" "$(nm -D --defined-only "$shared")"; do
-    if grep -E ' [A-Z] ' <<<"$seen" | grep -qv ' urlcheck_'; then echo "FAILED: another name is visible"; exit 1; fi
+    if grep -E ' [B-Z] ' <<<"$seen" | grep -qv ' urlcheck_'; then echo "FAILED: another name is visible"; exit 1; fi
 done
 
 python3 cases.py pack "$room/cases" "$top"/vectors/*.json
