@@ -129,6 +129,13 @@ of_input 1 "$other"'-:1:1: error: there is no scheme and no base [no-scheme]\n' 
     other.txt - right.txt -
 of_input 0 '' '0 lines, 0 refused\n' '' -
 of_input 0 '' '0 lines, 0 refused\n' '\n\r\n\n' -
+
+# A byte order mark at a file's start is no part of its first line; on another line it is.
+of_input 1 '-:1:10: error: U+0020 SPACE may not stand in a URL [code-point]\n' '2 lines, 1 refused\n' \
+    '\xef\xbb\xbfhttp://h/ \nurn:a\n' -
+of_input 0 '' '0 lines, 0 refused\n' '\xef\xbb\xbf\n' -
+of_input 1 '-:2:1: error: there is no scheme and no base [no-scheme]\n' '2 lines, 1 refused\n' \
+    'urn:a\n\xef\xbb\xbfurn:a\n' -
 "$program" lint - <&- >"$room/out" 2>"$room/err"
 ends_with 2 $? "-: can't be read\\n0 lines, 0 refused\\n" 'lint of a standard input that is closed'
 

@@ -15,4 +15,13 @@ pub lint_rows : LintRows
 unfolding gnu_position gnu_text gnu_words refusal_message point_text point_name ascii_names control_names sign_names
     digit_names capital_names mark_names small_names last_names escaped digits padded_integral char_count chars is_utf8
     utf8_lossy utf8_valid_len utf8_error_len encode_utf8
-lint_rows = record { diagnostics = refl; counts = refl; still_first = refl; no_more = refl; shown_lines = refl }
+lint_rows = record {
+  diagnostics = refl;
+  counts = refl;
+  still_first = refl;
+  no_more = refl;
+  marked = refl;
+  mark_alone = refl;
+  mark_counted = refl;
+  shown_lines = refl;
+}

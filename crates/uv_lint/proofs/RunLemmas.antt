@@ -15,7 +15,7 @@ use Rattle.uv_lines.specs.Run as run
 use Rattle.uv_lint.specs.declared.counts.LintCounts.{LintCounts}
 use Rattle.uv_lint.specs.declared.fault.LintFault.{LintFault}
 use Rattle.uv_lint.specs.Findings.{AreAllFindings, FileSetting}
-use Rattle.uv_lint.specs.Report.{IsReport, counted, judged_of, line_text, lines_text, none_counted, refused_of, tally}
+use Rattle.uv_lint.specs.Report.{IsReport, counted, judged_line, judged_lines, judged_of, line_text, lines_text, lines_within, none_counted, refused_of, tally}
 use Rattle.uv_lint.specs.Reporting.{Linting, Says, with_line}
 use Rattle.uv_lint.specs.Run.{FailsReads, IsReportWithin, Leaves, answer_of_run, fault_of_run, writes_failed}
 
@@ -51,9 +51,9 @@ plus-no_lines c = same_counts c.lines (c.lines + 0) c.refused (c.refused + 0) (o
 -- what was said of lines, one after the other
 record WasTold (n : ℕ) (p : Linting) (ls : List (List ℕ)) (text : List ℕ) (q : Linting) : Type 0 where
   findings : List (List Finding)
-  found : AreAllFindings p.setting (map (short_line n) ls) findings
-  lines : text ≡ lines_text p.setting (p.lines + 1) p.is_first (map (short_line n) ls) findings
-  counts : q.counts ≡ plus p.counts (tally (map (short_line n) ls) findings)
+  found : AreAllFindings p.setting (judged_lines p.lines (map (short_line n) ls)) findings
+  lines : text ≡ lines_text p.setting (p.lines + 1) p.is_first (judged_lines p.lines (map (short_line n) ls)) findings
+  counts : q.counts ≡ plus p.counts (tally (judged_lines p.lines (map (short_line n) ls)) findings)
 
 was_told : (n : ℕ) (p q : Linting) (ls : List (List ℕ)) (text : List ℕ) → Reported Says n p ls text q
     → WasTold n p ls text q
@@ -66,14 +66,16 @@ was_told n p q [] text all = record {
 was_told n p q (l ∷ ls) text all =
     let rest = all.1 in
     let says = all.3 in
-    let more : WasTold n (with_line p (short_line n l) says.findings) ls rest q =
+    let line = judged_line p.lines (short_line n l) in
+    let more : WasTold n (with_line p line says.findings) ls rest q =
     subst (λ s. WasTold n s ls rest q) says.left (was_told n all.2 q ls rest all.4) in
     record {
       findings = says.findings ∷ more.findings;
       found = (says.found, more.found);
       lines = all.5 ∙ ap (λ t. t ++ rest) says.written
-          ∙ ap (λ t. line_text p.setting (p.lines + 1) (short_line n l) p.is_first says.findings ++ t) more.lines;
-      counts = more.counts ∙ plus-counted p.counts (short_line n l) says.findings (map (short_line n) ls) more.findings;
+          ∙ ap (λ t. line_text p.setting (p.lines + 1) line p.is_first says.findings ++ t) more.lines;
+      counts = more.counts ∙ plus-counted p.counts line says.findings
+          (judged_lines (p.lines + 1) (map (short_line n) ls)) more.findings;
     }
 
 -- ---- from a run over lines to the report
@@ -101,7 +103,7 @@ is_report s n is_first begin end p q ls text starts begins ends framed =
       found = told.found;
       whole = framed.whole ∙ ap (λ t. t ++ (framed.said ++ end)) begins
           ∙ ap (λ t. begin_of s ++ (framed.said ++ t)) ends ∙ ap (λ t. begin_of s ++ (t ++ end_of s)) told.lines;
-      counts_are = told.counts ∙ plus-none (tally (map (short_line n) ls) told.findings);
+      counts_are = told.counts ∙ plus-none (tally (lines_within n ls) told.findings);
     }
 
 -- ---- the answer

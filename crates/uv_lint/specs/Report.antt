@@ -1,7 +1,8 @@
 -- The report on a file: what stands before its diagnostics, the diagnostics on each line, in order and numbered from 1,
 -- and what stands behind them.
-use Rattle.std.specs.Prelude.{◌≡◌, ℕ, ◌+◌, Bool, false, List, [], ◌∷◌, ◌++◌, Option, Some, None, map, sum_by}
+use Rattle.std.specs.Prelude.{◌≡◌, ℕ, ◌+◌, ◌==◌, Bool, false, List, [], ◌∷◌, ◌++◌, Option, Some, None, drop, if◌then◌else◌, map, option_map, sum_by, take}
 use Rattle.std.specs.Borrow.{Bor}
+use Rattle.std.specs.Str.{bytes_eq}
 use Rattle.std.specs.Str.Lossy.{utf8_lossy}
 use Rattle.uv_report.specs.declared.finding.Finding.{Finding}
 use Rattle.uv_report.specs.declared.format.Format.{Format}
@@ -47,6 +48,30 @@ lines_text setting number is_first (line ∷ lines) (findings ∷ rest) =
     ++ lines_text setting (number + 1) (is_still_first is_first findings) lines rest
 lines_text setting number is_first _ _ = []
 
+-- ---- the lines as they are judged
+
+-- U+FEFF in UTF-8
+abbrev pub byte_order_mark : List ℕ
+byte_order_mark = 0xEF ∷ 0xBB ∷ 0xBF ∷ []
+
+-- a line without a mark before it
+abbrev pub without_mark : List ℕ → List ℕ
+without_mark line = if bytes_eq (take 3 line) byte_order_mark then drop 3 line else line
+
+-- A line as it is judged after so many others: a byte order mark at the file's start is no part of the first one. It is
+-- among the bytes that a line may have.
+abbrev pub judged_line : ℕ → Option (List ℕ) → Option (List ℕ)
+judged_line before line = if before == 0 then option_map without_mark line else line
+
+-- lines as they are judged after so many others
+abbrev pub judged_lines : ℕ → List (Option (List ℕ)) → List (Option (List ℕ))
+judged_lines before [] = []
+judged_lines before (line ∷ lines) = judged_line before line ∷ judged_lines (before + 1) lines
+
+-- the lines of a file as they are judged, where none may have more than so many bytes
+abbrev pub lines_within : ℕ → List (List ℕ) → List (Option (List ℕ))
+lines_within line_bytes lines = judged_lines 0 (map (short_line line_bytes) lines)
+
 -- ---- the counts
 
 -- a judged line counts once; an empty one isn't judged
@@ -81,8 +106,8 @@ tally lines findings = record { lines = sum_by judged_of lines; refused = sum_by
 pub record IsReport (setting : FileSetting) (line_bytes : ℕ) (is_first : Bool) (lines : List (List ℕ))
     (text : List ℕ) (counts : LintCounts) : Type 0 where
   pub findings : List (List Finding)
-  pub found : AreAllFindings setting (map (short_line line_bytes) lines) findings
+  pub found : AreAllFindings setting (lines_within line_bytes lines) findings
   pub whole : text
       ≡ file_begin_text setting.format setting.file
-      ++ (lines_text setting 1 is_first (map (short_line line_bytes) lines) findings ++ file_end_text setting.format)
-  pub counts_are : counts ≡ tally (map (short_line line_bytes) lines) findings
+      ++ (lines_text setting 1 is_first (lines_within line_bytes lines) findings ++ file_end_text setting.format)
+  pub counts_are : counts ≡ tally (lines_within line_bytes lines) findings

@@ -1,14 +1,14 @@
 -- Lists that are written out, with what is found with their lines: the diagnostics on them, and the counts.
-use Rattle.std.specs.Prelude.{◌≡◌, ℕ, ◌++◌, true, false, List, [], ◌∷◌, Option, None, codes, map}
+use Rattle.std.specs.Prelude.{◌≡◌, ℕ, ◌++◌, true, false, List, [], ◌∷◌, Option, Some, None, codes, map}
 use Rattle.uv_model.specs.declared.profile.Profile.TheVariants.{Standard}
 use Rattle.uv_model.specs.declared.rule.Rule.TheVariants.{NoScheme, CodePoint}
 use Rattle.uv_report.specs.declared.finding.Finding.{Finding}
 use Rattle.uv_report.specs.declared.finding.Finding.TheVariants.{Refused, NotUtf8, TooLong}
 use Rattle.uv_report.specs.declared.format.Format.TheVariants.{Gnu}
-use Rattle.uv_lines.specs.Lines.{lines_of, short_line}
+use Rattle.uv_lines.specs.Lines.{lines_of}
 use Rattle.uv_lint.specs.declared.setting.Complaints.TheVariants.{All}
 use Rattle.uv_lint.specs.Findings.{FileSetting}
-use Rattle.uv_lint.specs.Report.{is_still_first, lines_text, shown, tally}
+use Rattle.uv_lint.specs.Report.{byte_order_mark, is_still_first, lines_text, lines_within, shown, tally}
 
 -- the setting of the file
 abbrev pub list_setting : FileSetting
@@ -21,7 +21,7 @@ written_list = codes "b\n\nurn:a\nurn: b " ++ (13 ∷ 10 ∷ 255 ∷ codes "\nab
 
 -- its lines, where one may have twelve bytes
 abbrev pub short_lines : List (Option (List ℕ))
-short_lines = map (short_line 12) (lines_of written_list)
+short_lines = lines_within 12 (lines_of written_list)
 
 -- what is found with them
 abbrev pub findings : List (List Finding)
@@ -45,5 +45,9 @@ pub record LintRows : Type 0 where
   pub counts : tally short_lines findings ≡ record { lines = 5; refused = 4 }
   pub still_first : is_still_first true [] ≡ true
   pub no_more : is_still_first true (NotUtf8 ∷ []) ≡ false
+  pub marked : lines_within 12 (lines_of (byte_order_mark ++ (codes "b\n" ++ (byte_order_mark ++ codes "c"))))
+      ≡ Some (codes "b") ∷ Some (byte_order_mark ++ codes "c") ∷ []
+  pub mark_alone : lines_within 12 (lines_of byte_order_mark) ≡ Some [] ∷ []
+  pub mark_counted : lines_within 2 (lines_of byte_order_mark) ≡ None ∷ []
   pub shown_lines : map shown short_lines
       ≡ codes "b" ∷ [] ∷ codes "urn:a" ∷ codes "urn: b " ∷ (0xEF ∷ 0xBF ∷ 0xBD ∷ []) ∷ [] ∷ []

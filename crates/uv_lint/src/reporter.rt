@@ -2,6 +2,7 @@
 ghost use Rattle.std.specs.Prelude.{◌≡◌, ◌+◌, ◌-◌, ◌^◌, ◌<◌, ◌++◌, [], IfOk, OnErr, OnOk, if◌then◌else◌, option_copied, string_bytes};
 ghost use Rattle.uv_lint.specs.Findings.{file_setting};
 ghost use Rattle.uv_lint.specs.Report.{judged_of, line_text, none_counted};
+ghost use Rattle.uv_lint.specs.Report as spec;
 ghost use Rattle.uv_lint.specs.Reporting.{with_line};
 
 use crate::counts::LintCounts;
@@ -162,6 +163,7 @@ impl<'a> Reporter for LintReporter<'a> {
         line: Option<&[u8]>,
         text: &mut Vec<u8>,
     ) -> Result<(), AllocError> {
+        let line = judged_line(self.lines, line);
         let findings = self.findings(alloc, line)?;
         if !findings.is_empty() {
             self.tell(alloc, line, findings.as_slice(), text)?;
@@ -188,5 +190,25 @@ fn is_judged(line: Option<&[u8]>) -> bool
     match line {
         Some(line) => !line.is_empty(),
         None => true,
+    }
+}
+
+// A line as it is judged after so many others: a byte order mark at the file's start is no part of the first one.
+fn judged_line(before: u64, line: Option<&[u8]>) -> Option<&[u8]>
+    ensures { option_copied result ≡ spec.judged_line before (option_copied line.entry) }
+{
+    match line {
+        Some(line) if before == 0 => Some(without_mark(line)),
+        _ => line,
+    }
+}
+
+// A line without a byte order mark before it.
+fn without_mark(line: &[u8]) -> &[u8]
+    ensures { result.now ≡ spec.without_mark line.now }
+{
+    match line.strip_prefix(b"\xef\xbb\xbf") {
+        Some(rest) => rest,
+        None => line,
     }
 }

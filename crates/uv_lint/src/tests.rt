@@ -61,6 +61,23 @@ fn tells_each_line_by_its_number(rt: HostRuntime) {
     reports(&rt, b"http://h/\nhttp://h/a\r", PLAIN, kept, (2, 1));
 }
 
+// A byte order mark at the start is no part of the first line, alone too; before another line it is one of its code
+// points.
+#[test]
+fn takes_a_byte_order_mark_off(rt: HostRuntime) {
+    let list = b"\xef\xbb\xbfhttp://h/ \n\xef\xbb\xbfurn:a\n";
+    let report = "list:1:10: error: U+0020 SPACE may not stand in a URL [code-point]\n\
+        list:2:1: error: there is no scheme and no base [no-scheme]\n";
+    reports(&rt, list, PLAIN, report, (2, 2));
+    reports(&rt, b"\xef\xbb\xbf", PLAIN, "", (0, 0));
+    let caret = LintSetting {
+        format: Format::Caret,
+        ..PLAIN
+    };
+    let shown = "list:1:1: error: there is no scheme and no base [no-scheme]\nb\n^\n";
+    reports(&rt, b"\xef\xbb\xbfb", caret, shown, (1, 1));
+}
+
 // The record of `http://h/`, none where it isn't well formed.
 fn base_of(alloc: Global) -> Result<Option<Record>, Fail> {
     let name = String::from_str(alloc, "h")?;
