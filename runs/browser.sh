@@ -1,7 +1,9 @@
 #!/usr/bin/env bash
 # Runs the checker for JavaScript, and the page, over every file of vectors, and compares with the program given as the
-# first argument; then what callers see, types, want of memory, and the page in a browser. What isn't installed is left
-# out, and a line says so. A folder that ./build-page has made may be given second; else one is made.
+# first argument; then what callers see, types, want of memory, and the page in a browser; and it sees that spoiled
+# copies are found. What isn't installed is left out, and a line says so. A folder that ./build-page has made may be
+# given second; else one is made. Where the environment has GLUE, copies with a spoiled glue are compiled and tried too;
+# where it has PICTURE, the picture of the page is written there.
 set -euo pipefail
 program=$(realpath "$1")
 top=$(dirname "$(dirname "$(realpath "$0")")")
@@ -16,7 +18,8 @@ done
     { echo "browser: left out, since node is older than 18"; exit 0; }
 folder=${2:-$room/page}
 if [ $# -lt 2 ]; then
-    URLCHECK=$program "$top/build-page" "$folder" >"$room/built" 2>&1 || { cat "$room/built"; exit 1; }
+    URLCHECK=$program KEEP=$room/module.bc "$top/build-page" "$folder" >"$room/built" 2>&1 ||
+        { cat "$room/built"; exit 1; }
 fi
 
 # The heap of the module, on a memory that refuses to grow.
@@ -44,3 +47,35 @@ if command -v tsc >/dev/null; then
 else
     echo "browser: the types are left out, since tsc isn't installed"
 fi
+
+module=''
+if [ -n "${GLUE:-}" ] && [ -e "$room/module.bc" ]; then module=$room/module.bc; fi
+bash "$here/plants.sh" "$folder" "$room/cases.json" "$module"
+
+# The page in Chromium, and a copy in which texts are read as markup.
+python=''
+for it in python3 /usr/bin/python3; do
+    if "$it" -c 'import selenium' 2>/dev/null; then python=$it; fi
+done
+if [ -z "$python" ] || ! command -v chromium >/dev/null || ! [ -x /usr/bin/chromedriver ]; then
+    echo "browser: the page is left out, since chromium, chromium-driver or python3-selenium isn't installed"
+    exit 0
+fi
+export PYTHONDONTWRITEBYTECODE=1
+cp -r "$folder" "$room/limited"
+node "$here/limited.mjs" "$folder/urlcheck.wasm" 4 "$room/limited/urlcheck.wasm"
+"$python" "$here/page.py" "$folder" "$room/limited" "$room/cases.json" "$program" ${PICTURE:+"$PICTURE"}
+
+cp -r "$folder" "$room/spoiled"
+markup='for (const it of children) typeof it === "string" ? (made.innerHTML += it) : it \&\& made.append(it)'
+sed -i "s/made\.append(.*/$markup/" "$room/spoiled/page/elements.js"
+if cmp -s "$folder/page/elements.js" "$room/spoiled/page/elements.js"; then
+    echo 'FAILED: the plant changes nothing'
+    exit 1
+fi
+if ONLY=hostile_texts "$python" "$here/page.py" "$room/spoiled" "$room/limited" "$room/cases.json" "$program" \
+    >"$room/said" 2>&1 || ! grep -q 'FAILED: hostile texts: markup was' "$room/said"; then
+    echo "FAILED: texts that are read as markup aren't found: $(cat "$room/said")"
+    exit 1
+fi
+echo 'browser: texts that are read as markup are found'

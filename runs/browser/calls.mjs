@@ -173,7 +173,20 @@ const tests = {
       assert.throws(() => urlcheck.faults(`http://h/${'^'.repeat(100_000)}`), RangeError)
       isShort()
     }
-    assert.ok(memory.buffer.byteLength > 0)
+    // The largest text that has room leaves none for its record; the room is given up then.
+    let [least, most] = [0, 1_000_000]
+    while (most - least > 1) {
+      const middle = Math.floor((least + most) / 2)
+      try {
+        urlcheck.check(`http://h/${'a'.repeat(middle)}`)
+        least = middle
+      } catch {
+        most = middle
+      }
+    }
+    assert.throws(() => urlcheck.resolve(`http://h/${'a'.repeat(least)}`), RangeError)
+    isShort()
+    assert.ok(memory.buffer.byteLength > least)
   },
 
   async 'instances beside each other'() {

@@ -76,24 +76,34 @@ function isWanted(wanted, urlcheck, text, options) {
   return !answer.valid && answer.place === wanted[0] && answer.rule === wanted[1]
 }
 
+/** What differs on one text. */
+function differencesOf(urlcheck, text, options, wanted, said) {
+  const found = []
+  const ours = answered(urlcheck, text, options)
+  for (const which of ['first', 'all']) {
+    const [is, wants] = [ours[which], said[which]].map(ending => JSON.stringify(ending))
+    if (is !== wants) found.push(`${is.slice(0, 300)}, and not ${wants.slice(0, 300)}`)
+  }
+  const fault = faultOfCheck(urlcheck, text, options)
+  if (fault) found.push(fault)
+  if (!isWanted(wanted, urlcheck, text, options)) found.push('not what the vectors want')
+  return found
+}
+
 /** The first differences between a checker and the program, and how many answers were compared. */
 export function differences(urlcheck, cases) {
   const found = []
   let compared = 0
   for (const { text, base, wanted, said } of cases) {
     for (const profile of ['standard', 'wide']) {
-      const options = { base, profile }
-      const ours = answered(urlcheck, text, options)
       const where = JSON.stringify({ text, base, profile }).slice(0, 300)
-      for (const which of ['first', 'all']) {
-        compared++
-        if (JSON.stringify(ours[which]) === JSON.stringify(said[profile][which])) continue
-        const [is, wants] = [ours[which], said[profile][which]].map(ending => JSON.stringify(ending).slice(0, 300))
-        found.push(`${where}: ${is}, and not ${wants}`)
+      compared += 2
+      try {
+        const wrong = differencesOf(urlcheck, text, { base, profile }, wanted, said[profile])
+        found.push(...wrong.map(it => `${where}: ${it}`))
+      } catch (error) {
+        found.push(`${where}: it throws ${error}`)
       }
-      const fault = faultOfCheck(urlcheck, text, options)
-      if (fault) found.push(`${where}: ${fault}`)
-      if (!isWanted(wanted, urlcheck, text, options)) found.push(`${where}: not what the vectors want`)
     }
   }
   return { compared, count: found.length, found: found.slice(0, 10) }

@@ -119,14 +119,14 @@ export function drawnText(text, ranges, faults) {
 const SHOWN_UNITS = 300
 const SHOWN_BEFORE = 200
 
-/** A text in a row of a report, with the code point at its wrong place marked. */
+/** A text in a row of a report, with the code point at its wrong place marked; below 0 there is no such place. */
 export function shownText(text, index) {
   const shown = element('span', { class: 'shown mono', dir: 'ltr', translate: 'no' })
   const start = between(text, index > SHOWN_UNITS ? index - SHOWN_BEFORE : 0)
   const end = between(text, Math.min(text.length, start + SHOWN_UNITS))
-  const point = index < end ? String.fromCodePoint(text.codePointAt(index)) : ''
+  const point = index >= 0 && index < end ? String.fromCodePoint(text.codePointAt(index)) : ''
   if (start > 0) shown.append('… ')
-  appendPoints(shown, text.slice(start, Math.min(index, end)))
+  appendPoints(shown, text.slice(start, index < 0 ? end : Math.min(index, end)))
   if (point) {
     shown.append(element('span', { class: 'point' }, shownPoint(point, true)))
     appendPoints(shown, text.slice(index + point.length, end))

@@ -4,12 +4,19 @@
 /** A line has at most so many bytes. */
 export const LONGEST_LINE = 65536
 
-/** Lines that have no text. */
-export const NOT_UTF8 = Symbol('not-utf8')
-export const TOO_LONG = Symbol('line-too-long')
+/** A line that isn't judged: by which rule, and what is shown of it. */
+export class Unjudged {
+  constructor(rule, text) {
+    this.rule = rule
+    this.text = text
+  }
+}
+
+const TOO_LONG = new Unjudged('line-too-long', '')
 
 const LF = 10
 const decoder = new TextDecoder('utf-8', { fatal: true, ignoreBOM: true })
+const lossy = new TextDecoder('utf-8', { ignoreBOM: true })
 const encoder = new TextEncoder()
 
 /** A line without its CR; too many bytes make it one that isn't judged. */
@@ -24,7 +31,7 @@ function decoded(bytes) {
     return lineOf(decoder.decode(bytes))
   } catch {
     const end = bytes[bytes.length - 1] === 13 ? bytes.length - 1 : bytes.length
-    return end > LONGEST_LINE ? TOO_LONG : NOT_UTF8
+    return end > LONGEST_LINE ? TOO_LONG : new Unjudged('not-utf8', lossy.decode(bytes.subarray(0, end)))
   }
 }
 

@@ -173,7 +173,6 @@ const LONGEST_VALUE = 2000
 function cell(column, rows, name) {
   const common = { role: 'cell', 'data-column': column }
   const made = (attributes, ...children) => element('td', { ...common, ...attributes }, ...children)
-  if (rows === null) return made({ class: 'none' }, '–')
   const value = rows[name]
   if (value === null) return made({ class: 'none' }, 'none')
   if (value === '') return made({ class: 'none' }, 'empty')
@@ -182,16 +181,18 @@ function cell(column, rows, name) {
   return made({}, element('span', {}, element('span', { class: 'mono', dir: 'ltr', translate: 'no' }, shown), kind))
 }
 
+/** A table of what is there of the two. */
 function comparisonTable(ours, theirs) {
   const names = ['as text', 'scheme', 'host', 'port', 'path', 'query', 'fragment']
+  const columns = [['record', ours], ['new URL()', theirs]].filter(([, rows]) => rows !== null)
   const row = name => element('tr', { role: 'row' },
     element('th', { scope: 'row', role: 'rowheader' }, name),
-    cell('record', ours, name), cell('new URL()', theirs, name))
-  const column = name => element('th', { scope: 'col', role: 'columnheader' }, name)
+    ...columns.map(([column, rows]) => cell(column, rows, name)))
   return element('div', { class: 'scrolled', tabindex: '0', role: 'region', 'aria-label': 'Record and URL' },
     element('table', { class: 'comparison', role: 'table' },
       element('thead', { role: 'rowgroup' }, element('tr', { role: 'row' },
-        element('td', { role: 'cell' }), column('record'), column('new URL()'))),
+        element('td', { role: 'cell' }),
+        ...columns.map(([column]) => element('th', { scope: 'col', role: 'columnheader' }, column)))),
       element('tbody', { role: 'rowgroup' }, ...names.map(row))))
 }
 

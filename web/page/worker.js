@@ -3,7 +3,7 @@
 // The page sends `judge` with a source, and then `stop`, `rows` and `download` for the job with the same number. The
 // worker sends `progress`, `done` or `failed`, and what was asked for.
 import { BaseRefused, load } from '../urlcheck.js'
-import { NOT_UTF8, TOO_LONG, linesOfFile, linesOfText } from './lines.js'
+import { Unjudged, linesOfFile, linesOfText } from './lines.js'
 import { gnuPieces, jsonPieces, sarifPieces } from './reports.js'
 
 /** So long, in milliseconds, lines are judged before messages are read, and so often progress is told. */
@@ -54,8 +54,7 @@ class Job {
 
   /** What is wrong with a line: a rule and a place, or nothing. */
   judged(line) {
-    if (line === NOT_UTF8) return { rule: 'not-utf8', place: 0 }
-    if (line === TOO_LONG) return { rule: 'line-too-long', place: 0 }
+    if (line instanceof Unjudged) return { rule: line.rule, place: 0 }
     try {
       const answer = this.urlcheck.check(line, this.options)
       return answer.valid ? null : answer
@@ -72,7 +71,7 @@ class Job {
     this.count++
     const wrong = this.judged(line)
     if (wrong === null) return
-    const text = typeof line === 'string' ? line : ''
+    const text = typeof line === 'string' ? line : line.text
     const where = this.source.kind === 'links' ? this.source.links[number - 1].where : undefined
     this.rows.push({ number, rule: wrong.rule, place: wrong.place, index: wrong.index ?? -1, text, where })
     this.counts.set(wrong.rule, (this.counts.get(wrong.rule) ?? 0) + 1)

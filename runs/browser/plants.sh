@@ -1,0 +1,113 @@
+#!/usr/bin/env bash
+# plants.sh FOLDER CASES [MODULE]: spoils a copy of what ./build-page has made in each of these ways, and sees that the
+# runs find it. MODULE is the LLVM module that ./build-page keeps; with it the glue is spoiled too, and compiled anew.
+set -euo pipefail
+folder=$(realpath "$1") cases=$(realpath "$2") module=${3:-}
+here=$(dirname "$(realpath "$0")")
+top=$(dirname "$(dirname "$here")")
+room=$(mktemp -d)
+trap 'rm -rf "$room"' EXIT
+failed=0
+count=0
+
+# edited WHAT FILE SED : this edit of a file changes it
+edited() {
+    cp "$2" "$room/before"
+    sed -i "$3" "$2"
+    if cmp -s "$2" "$room/before"; then
+        echo "FAILED: $1: the edit changes nothing"
+        failed=1
+        return 1
+    fi
+}
+
+# found WHAT COMMAND.. : the command fails, and says why
+found() {
+    local what=$1
+    shift
+    count=$((count + 1))
+    if "$@" >"$room/said" 2>&1 || ! grep -q 'FAILED' "$room/said"; then
+        echo "FAILED: $what isn't found: $(tail -n 3 "$room/said")"
+        failed=1
+    fi
+}
+
+# script WHAT RUN SED : with this edit of urlcheck.js the run fails
+script() {
+    rm -rf "$room/copy"
+    cp -r "$folder" "$room/copy"
+    edited "$1" "$room/copy/urlcheck.js" "$3" || return 0
+    case $2 in
+        vectors) found "$1" node "$here/vectors.mjs" "$room/copy" "$cases" ;;
+        calls) found "$1" node "$here/calls.mjs" "$room/copy" ;;
+    esac
+}
+
+node "$here/vectors.mjs" "$folder" "$cases" >"$room/said" && node "$here/calls.mjs" "$folder" >>"$room/said" ||
+    { cat "$room/said"; echo 'FAILED: the runs fail on what is not spoiled'; exit 1; }
+
+script 'a wrong offset of the byte place' vectors 's/^const BYTE_PLACE = 4$/const BYTE_PLACE = 2/'
+script 'a wrong offset of the place' vectors 's/^const PLACE = 2$/const PLACE = 4/'
+script 'a wrong offset of the parts' vectors 's/^const PARTS = 6$/const PARTS = 12/'
+script 'a wrong offset of a length' vectors 's/^const SPAN_LENGTH = 2$/const SPAN_LENGTH = 0/'
+script 'a wrong offset of a presence' vectors 's/^const SPAN_PRESENT = 4$/const SPAN_PRESENT = 2/'
+script 'a wrong offset of a fault' vectors 's/^const FAULT_BYTE_PLACE = 4$/const FAULT_BYTE_PLACE = 2/'
+script 'a wrong size of a fault' vectors 's/^const FAULT_WORDS = 6$/const FAULT_WORDS = 4/'
+swap='s/textLength, room.baseLength/baseLength, room.textLength/'
+script 'a swapped parameter of check' vectors "/room.checkAgainst(/$swap"
+script 'a swapped parameter of resolve' vectors "/resolve_against(/$swap"
+script 'a swapped parameter of faults' vectors "/faults_against(/$swap"
+script 'a rule with the next number' vectors 's/this.#names\[room.word(RULE) - 1\]/this.#names[room.word(RULE)]/'
+script 'the wide profile read as the standard one' vectors "/=== 'wide'/s/return 1/return 0/"
+script 'units counted as bytes' vectors 's/room.textLength === text.length/true/'
+script 'a lone surrogate let through' calls 's/ && text.length <= SHORT) utf8Length/ \&\& false) utf8Length/'
+script 'a room that is too small' calls 's/^const SMALL_ROOM = 3 \* SHORT$/const SMALL_ROOM = SHORT/'
+script 'a memory that is seen as it was' calls 's/if (this.answer.length !== 0) return$/if (this.textRoom > 1) return/'
+script 'large rooms kept after want of memory' calls 's/^    if (this.textRoom > SMALL_ROOM || .*$//'
+script 'a profile of any name' calls 's/^  throw new TypeError("the profile.*$/  return 0/'
+
+# The heap alone: with this edit of it its test fails.
+heap() {
+    rm -rf "$room/module"
+    cp -r "$top/web/module" "$room/module"
+    edited "$1" "$room/module/heap.c" "$2" || return 0
+    cc -std=c11 -g -fsanitize=address,undefined -fno-sanitize-recover=all -I "$room/module" "$room/module/heap.c" \
+        "$here/heap.c" -o "$room/heap"
+    found "$1" "$room/heap"
+}
+
+if command -v cc >/dev/null; then
+    heap 'a heap that is not emptied' '/^void heap_empty(/s/top = last = bottom/last = bottom/'
+    heap 'a refused growth taken for one' 's/return end <= memory_end();/return true;/'
+    heap 'an address that is too high' 's/start <= LIMIT \&\& size <= LIMIT - start/start + size <= LIMIT/'
+    heap 'a block that is not aligned' 's/uint64_t start = aligned(top, alignment);/uint64_t start = top;/'
+    heap 'a block that moves without its bytes' 's/at < kept; at++/at < kept \&\& 0; at++/'
+else
+    echo "browser: the plants of the heap alone are left out, since cc isn't installed"
+fi
+
+# glue WHAT RUN FILE SED : with this edit of the glue, compiled anew, the run fails
+glue() {
+    rm -rf "$room/module" "$room/copy"
+    cp -r "$top/web/module" "$room/module"
+    cp -r "$folder" "$room/copy"
+    edited "$1" "$room/module/$3" "$4" || return 0
+    "$room/module/compile" "$(dirname "$(rt doc)")" "$module" "$top/include" "$room/copy/urlcheck.wasm"
+    case $2 in
+        vectors) found "$1" node "$here/vectors.mjs" "$room/copy" "$cases" ;;
+        calls) found "$1" node "$here/calls.mjs" "$room/copy" ;;
+    esac
+}
+
+if [ -n "$module" ]; then
+    glue 'a heap of the module that is not emptied' calls heap.c \
+        '/^void heap_empty(/s/top = last = bottom/if (!top) top = last = bottom/'
+    glue 'a swapped parameter of the glue' vectors glue.c \
+        '/ proved_check_against(&/s/heap_text(), length, heap_base()/heap_base(), length, heap_text()/'
+    glue 'a growth that is refused and not seen' calls heap.c 's/return end <= memory_end();/return true;/'
+else
+    echo 'browser: the plants of the glue are left out, since no module was given'
+fi
+
+[ $failed = 0 ] && echo "browser: each of $count plants was found"
+exit $failed
