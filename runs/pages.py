@@ -236,10 +236,13 @@ def check_notice(top, wrong):
             wrong.append("NOTICE: no row for {}, which crates.txt names".format(crate))
 
 
-def check_readme(text, wrong):
+def check_readme(top, text, wrong):
     lines = text.rstrip("\n").split("\n")
     if len(lines) > README_LINES:
         wrong.append("README.md: {} lines, and not {}".format(len(lines), README_LINES))
+    version = (top / "VERSION").read_text(encoding="utf-8").strip()
+    if "Version {},".format(version) not in text:
+        wrong.append("README.md: it doesn't name the version of VERSION, {}".format(version))
     if HEADLINE not in re.sub(r"\s+", " ", text):
         wrong.append("README.md: the headline isn't there, word for word")
     if not any(re.match(r"\s+\^$", line) for line in lines[:FIRST_SCREEN]):
@@ -254,7 +257,7 @@ def check_texts(top):
         check_sentences(page, text, wrong)
         check_links(top, page, text, wrong)
         check_paths(top, page, text, wrong)
-    check_readme(texts[pathlib.Path("README.md")], wrong)
+    check_readme(top, texts[pathlib.Path("README.md")], wrong)
     check_index(top, pages, texts, wrong)
     check_names(top, texts[PROVED], wrong)
     check_calls(top, texts[LIBRARY], wrong)
