@@ -13,7 +13,7 @@ import time
 import zipfile
 
 NAME = "urlcheck"
-LIBRARY = "liburlcheck.so"
+LIBRARY = "liburlcheck.so.0"
 TABLE = "pyproject.toml"
 
 

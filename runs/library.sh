@@ -39,6 +39,10 @@ else
     echo "library: the package is read from its folder, since pip isn't installed"
 fi
 python3 answers.py "$room/cases" >"$room/python"
+if python3 -c 'import urlcheck.liburlcheck' 2>"$room/said" || ! grep -q ModuleNotFoundError "$room/said"; then
+    echo "FAILED: Python takes the shared library for a module: $(cat "$room/said")"
+    exit 1
+fi
 cmp "$room/c" "$room/python"
 if command -v g++ >/dev/null; then
     g++ -std=c++11 "${strict[@]}" "${sanitized[@]}" -I "$include" answers.cpp "$archive" -o "$room/answers_cpp"

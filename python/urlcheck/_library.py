@@ -1,4 +1,4 @@
-"""The shared object ``liburlcheck.so`` and its functions, as ``include/urlcheck.h`` declares them."""
+"""The shared library and its functions, as ``include/urlcheck.h`` declares them."""
 
 import ctypes
 import os
@@ -52,13 +52,17 @@ class FaultCount(ctypes.Structure):
     _fields_ = [("found", Finding), ("count", SIZE)]
 
 
+NAME = "liburlcheck.so.0"
+"""The library's name, of which Python makes no module."""
+
+
 def _path() -> str:
-    """The shared object: that of ``URLCHECK_LIBRARY``, else beside this file, else where the system looks."""
+    """The library: that of ``URLCHECK_LIBRARY``, else the one beside this file, else where the system looks."""
     given = os.environ.get("URLCHECK_LIBRARY")
     if given:
         return given
-    beside = os.path.join(os.path.dirname(os.path.abspath(__file__)), "liburlcheck.so")
-    return beside if os.path.exists(beside) else "liburlcheck.so.0"
+    beside = os.path.join(os.path.dirname(os.path.abspath(__file__)), NAME)
+    return beside if os.path.exists(beside) else NAME
 
 
 def _load() -> ctypes.CDLL:
