@@ -2,23 +2,30 @@
 //! UTS #46 (`IdnaTestV2.txt`, column toAsciiN), a sample of an RFC, or the Unicode charts and the rules by hand.
 
 use super::*;
-
-const A61: &str = "aaaaaaaaaaaaaaaaaaaaaaaaaaaaaaaaaaaaaaaaaaaaaaaaaaaaaaaaaaaaa";
-
-const A62: &str = "aaaaaaaaaaaaaaaaaaaaaaaaaaaaaaaaaaaaaaaaaaaaaaaaaaaaaaaaaaaaaa";
+use std::process::Abort;
 
 const A63: &str = "aaaaaaaaaaaaaaaaaaaaaaaaaaaaaaaaaaaaaaaaaaaaaaaaaaaaaaaaaaaaaaa";
 
 const A64: &str = "aaaaaaaaaaaaaaaaaaaaaaaaaaaaaaaaaaaaaaaaaaaaaaaaaaaaaaaaaaaaaaaa";
 
-/// The pieces as one text.
-fn joined(alloc: Global, pieces: &[&str]) -> Result<String, AllocError> {
-    let mut text = String::new(alloc);
-    for piece in pieces {
-        text.push_str(*piece)?;
-    }
-    Ok(text)
-}
+// Four labels of 253 code points in all, the same with the root's full stop, and four of 254.
+const LONGEST: &str = "\
+    aaaaaaaaaaaaaaaaaaaaaaaaaaaaaaaaaaaaaaaaaaaaaaaaaaaaaaaaaaaaaaa.\
+    aaaaaaaaaaaaaaaaaaaaaaaaaaaaaaaaaaaaaaaaaaaaaaaaaaaaaaaaaaaaaaa.\
+    aaaaaaaaaaaaaaaaaaaaaaaaaaaaaaaaaaaaaaaaaaaaaaaaaaaaaaaaaaaaaaa.\
+    aaaaaaaaaaaaaaaaaaaaaaaaaaaaaaaaaaaaaaaaaaaaaaaaaaaaaaaaaaaaa";
+
+const LONGEST_ROOTED: &str = "\
+    aaaaaaaaaaaaaaaaaaaaaaaaaaaaaaaaaaaaaaaaaaaaaaaaaaaaaaaaaaaaaaa.\
+    aaaaaaaaaaaaaaaaaaaaaaaaaaaaaaaaaaaaaaaaaaaaaaaaaaaaaaaaaaaaaaa.\
+    aaaaaaaaaaaaaaaaaaaaaaaaaaaaaaaaaaaaaaaaaaaaaaaaaaaaaaaaaaaaaaa.\
+    aaaaaaaaaaaaaaaaaaaaaaaaaaaaaaaaaaaaaaaaaaaaaaaaaaaaaaaaaaaaa.";
+
+const LONGER: &str = "\
+    aaaaaaaaaaaaaaaaaaaaaaaaaaaaaaaaaaaaaaaaaaaaaaaaaaaaaaaaaaaaaaa.\
+    aaaaaaaaaaaaaaaaaaaaaaaaaaaaaaaaaaaaaaaaaaaaaaaaaaaaaaaaaaaaaaa.\
+    aaaaaaaaaaaaaaaaaaaaaaaaaaaaaaaaaaaaaaaaaaaaaaaaaaaaaaaaaaaaaaa.\
+    aaaaaaaaaaaaaaaaaaaaaaaaaaaaaaaaaaaaaaaaaaaaaaaaaaaaaaaaaaaaaa";
 
 /// The form of a valid domain, `(number)` or `(not)`.
 fn shown(answer: &DomainAnswer) -> &str {
@@ -29,208 +36,200 @@ fn shown(answer: &DomainAnswer) -> &str {
     }
 }
 
-#[test]
-fn gives_forms(rt: HostRuntime) -> Result<(), AllocError> {
-    for (text, form) in [
-        // ASCII: lower case (URL Standard, section 3.3)
-        ("EXAMPLE.com", "example.com"),
-        ("example.com.", "example.com."),
-        ("1.a", "1.a"),
-        ("a.0xg", "a.0xg"),
-        ("a--b", "a--b"),
-        // RFC 3492, section 6: the first label by Punycode, the second as it is
-        ("b\u{FC}cher.example", "xn--bcher-kva.example"),
-        // UTS #46 test file: Buecher.de with its umlaut, in both cases
-        ("b\u{FC}cher.de", "xn--bcher-kva.de"),
-        ("B\u{DC}CHER.de", "xn--bcher-kva.de"),
-        ("bu\u{308}cher.de", "xn--bcher-kva.de"),
-        ("xn--bcher-kva.de", "xn--bcher-kva.de"),
-        ("XN--BCHER-KVA.de", "xn--bcher-kva.de"),
-        // UTS #46 test file: sharp s and final sigma stay, since processing isn't transitional
-        ("fa\u{DF}.de", "xn--fa-hia.de"),
-        (
-            "\u{3B2}\u{3CC}\u{3BB}\u{3BF}\u{3C2}.com",
-            "xn--nxasmm1c.com",
-        ),
-        // UTS #46 test file: an ideographic full stop, and fullwidth letters
-        (
-            "\u{65E5}\u{672C}\u{8A9E}\u{3002}\u{FF2A}\u{FF30}",
-            "xn--wgv71a119e.jp",
-        ),
-        // Unicode chart FF00: U+FF0E is a wide full stop, U+FF21 a wide A
-        ("\u{FF21}\u{FF0E}b", "a.b"),
-        // UTS #46 test file: a joiner after a virama
-        ("a\u{94D}\u{200C}b", "xn--ab-fsf604u"),
-        ("a\u{94D}\u{200D}b", "xn--ab-fsf014u"),
-    ] {
-        assert_eq!(rt;
-            shown(&domain(rt.alloc(), text, Profile::Standard)?),
-            form,
-            "{text}"
-        );
+/// Whether a text has this form by the profile.
+fn is_form_of(alloc: Global, text: &str, profile: Profile, form: &str) -> Result<bool, AllocError> {
+    let answer = domain(alloc, text, profile)?;
+    Ok(shown(&answer) == form)
+}
+
+/// Each text of the table has its form by the profile.
+fn are_forms(
+    rt: &(impl Abort + AllocGlobal),
+    profile: Profile,
+    rows: &[(&str, &str)],
+) -> Result<(), AllocError> {
+    for (text, form) in rows {
+        let found = is_form_of(rt.alloc(), *text, profile, *form)?;
+        assert!(rt; found, "{text}");
     }
     Ok(())
 }
 
 #[test]
+fn gives_forms(rt: HostRuntime) -> Result<(), AllocError> {
+    are_forms(
+        &rt,
+        Profile::Standard,
+        &[
+            // ASCII: lower case (URL Standard, section 3.3)
+            ("EXAMPLE.com", "example.com"),
+            ("example.com.", "example.com."),
+            ("1.a", "1.a"),
+            ("a.0xg", "a.0xg"),
+            ("a--b", "a--b"),
+            // RFC 3492, section 6: the first label by Punycode, the second as it is
+            ("b\u{FC}cher.example", "xn--bcher-kva.example"),
+            // UTS #46 test file: Buecher.de with its umlaut, in both cases
+            ("b\u{FC}cher.de", "xn--bcher-kva.de"),
+            ("B\u{DC}CHER.de", "xn--bcher-kva.de"),
+            ("bu\u{308}cher.de", "xn--bcher-kva.de"),
+            ("xn--bcher-kva.de", "xn--bcher-kva.de"),
+            ("XN--BCHER-KVA.de", "xn--bcher-kva.de"),
+            // UTS #46 test file: sharp s and final sigma stay, since processing isn't transitional
+            ("fa\u{DF}.de", "xn--fa-hia.de"),
+            (
+                "\u{3B2}\u{3CC}\u{3BB}\u{3BF}\u{3C2}.com",
+                "xn--nxasmm1c.com",
+            ),
+            // UTS #46 test file: an ideographic full stop, and fullwidth letters
+            (
+                "\u{65E5}\u{672C}\u{8A9E}\u{3002}\u{FF2A}\u{FF30}",
+                "xn--wgv71a119e.jp",
+            ),
+            // Unicode chart FF00: U+FF0E is a wide full stop, U+FF21 a wide A
+            ("\u{FF21}\u{FF0E}b", "a.b"),
+            // UTS #46 test file: a joiner after a virama
+            ("a\u{94D}\u{200C}b", "xn--ab-fsf604u"),
+            ("a\u{94D}\u{200D}b", "xn--ab-fsf014u"),
+        ],
+    )
+}
+
+// RFC 3492, section 7.1: the Hebrew sample and its form, each alone, behind `example.` and behind a digit.
+const HEBREW: &str = "\
+    \u{5DC}\u{5DE}\u{5D4}\u{5D4}\u{5DD}\u{5E4}\u{5E9}\u{5D5}\u{5D8}\u{5DC}\u{5D0}\
+    \u{5DE}\u{5D3}\u{5D1}\u{5E8}\u{5D9}\u{5DD}\u{5E2}\u{5D1}\u{5E8}\u{5D9}\u{5EA}";
+
+const HEBREW_FORM: &str = "xn--4dbcagdahymbxekheh6e0a7fei0b";
+
+const BEHIND_EXAMPLE: &str = "\
+    example.\u{5DC}\u{5DE}\u{5D4}\u{5D4}\u{5DD}\u{5E4}\u{5E9}\u{5D5}\u{5D8}\u{5DC}\u{5D0}\
+    \u{5DE}\u{5D3}\u{5D1}\u{5E8}\u{5D9}\u{5DD}\u{5E2}\u{5D1}\u{5E8}\u{5D9}\u{5EA}";
+
+const BEHIND_EXAMPLE_FORM: &str = "example.xn--4dbcagdahymbxekheh6e0a7fei0b";
+
+const BEHIND_DIGIT: &str = "\
+    1.\u{5DC}\u{5DE}\u{5D4}\u{5D4}\u{5DD}\u{5E4}\u{5E9}\u{5D5}\u{5D8}\u{5DC}\u{5D0}\
+    \u{5DE}\u{5D3}\u{5D1}\u{5E8}\u{5D9}\u{5DD}\u{5E2}\u{5D1}\u{5E8}\u{5D9}\u{5EA}";
+
+#[test]
 fn gives_forms_of_right_to_left_labels(rt: HostRuntime) -> Result<(), AllocError> {
-    let hebrew = "\u{5DC}\u{5DE}\u{5D4}\u{5D4}\u{5DD}\u{5E4}\u{5E9}\u{5D5}\u{5D8}\u{5DC}\u{5D0}\
-        \u{5DE}\u{5D3}\u{5D1}\u{5E8}\u{5D9}\u{5DD}\u{5E2}\u{5D1}\u{5E8}\u{5D9}\u{5EA}";
-    // RFC 3492, section 7.1, the Hebrew sample, alone and beside a label of RFC 5893, section 2, rules 5 and 6
-    let form = "xn--4dbcagdahymbxekheh6e0a7fei0b";
-    assert_eq!(rt;
-        shown(&domain(rt.alloc(), hebrew, Profile::Standard)?),
-        form
-    );
-    let beside = joined(rt.alloc(), &["example.", hebrew])?;
-    let beside_form = joined(rt.alloc(), &["example.", form])?;
-    assert_eq!(rt;
-        shown(&domain(rt.alloc(), beside.as_str(), Profile::Standard)?),
-        beside_form.as_str()
-    );
-    // RFC 5893, section 2, rule 1: beside a right-to-left label none begins with a digit
-    let digit = joined(rt.alloc(), &["1.", hebrew])?;
-    assert_eq!(rt;
-        shown(&domain(rt.alloc(), digit.as_str(), Profile::Standard)?),
-        "(not)"
-    );
-    for (text, form) in [
-        // UTS #46 test file
-        ("\u{E0}.\u{5D0}\u{308}", "xn--0ca.xn--ssa73l"),
-        ("0\u{E0}.\u{5D0}", "(not)"),
-        ("\u{E0}\u{5D0}", "(not)"),
-    ] {
-        assert_eq!(rt;
-            shown(&domain(rt.alloc(), text, Profile::Standard)?),
-            form,
-            "{text}"
-        );
-    }
-    Ok(())
+    are_forms(
+        &rt,
+        Profile::Standard,
+        &[
+            // the sample alone, and beside a label of RFC 5893, section 2, rules 5 and 6
+            (HEBREW, HEBREW_FORM),
+            (BEHIND_EXAMPLE, BEHIND_EXAMPLE_FORM),
+            // RFC 5893, section 2, rule 1: beside a right-to-left label none begins with a digit
+            (BEHIND_DIGIT, "(not)"),
+            // UTS #46 test file
+            ("\u{E0}.\u{5D0}\u{308}", "xn--0ca.xn--ssa73l"),
+            ("0\u{E0}.\u{5D0}", "(not)"),
+            ("\u{E0}\u{5D0}", "(not)"),
+        ],
+    )
 }
 
 #[test]
 fn refuses_numbers(rt: HostRuntime) -> Result<(), AllocError> {
-    for text in [
-        "1.2.3",
-        "1.2.3.4",
-        "a.1.",
-        "0x",
-        "a.0x1F",
-        // Unicode chart FF00: U+FF11 is a wide digit one
-        "\u{FF11}.2.3.4",
-    ] {
-        assert_eq!(rt;
-            shown(&domain(rt.alloc(), text, Profile::Standard)?),
-            "(number)",
-            "{text}"
-        );
-    }
-    Ok(())
+    are_forms(
+        &rt,
+        Profile::Standard,
+        &[
+            ("1.2.3", "(number)"),
+            ("1.2.3.4", "(number)"),
+            ("a.1.", "(number)"),
+            ("0x", "(number)"),
+            ("a.0x1F", "(number)"),
+            // Unicode chart FF00: U+FF11 is a wide digit one
+            ("\u{FF11}.2.3.4", "(number)"),
+        ],
+    )
 }
 
 #[test]
 fn refuses_texts(rt: HostRuntime) -> Result<(), AllocError> {
-    for text in [
-        // no label, or an empty one
-        "",
-        ".",
-        "a..b",
-        "a..1",
-        "a..",
-        // a hyphen at a label's end, or in its third and fourth place (UTS #46, section 4.1)
-        "-a",
-        "a-",
-        "ab--c",
-        // ASCII other than letters, digits, `-` and `.`
-        "a_b",
-        "a%62",
-        "a b",
-        // U+00AD is ignored (UTS #46, section 5), which leaves no label
-        "\u{AD}",
-        // Unicode chart 2200: U+2260 is `=` with U+0338
-        "a=\u{338}",
-        // UTS #46 test file: Punycode of a control, of nothing, and of a text that isn't composed
-        "xn--a.pt",
-        "xn--0.pt",
-        "xn--u-ccb",
-        // UTS #46 test file: joiners out of context
-        "a\u{200C}b",
-        "a\u{200D}b",
-    ] {
-        assert_eq!(rt;
-            shown(&domain(rt.alloc(), text, Profile::Standard)?),
-            "(not)",
-            "{text}"
-        );
-    }
-    Ok(())
+    are_forms(
+        &rt,
+        Profile::Standard,
+        &[
+            // no label, or an empty one
+            ("", "(not)"),
+            (".", "(not)"),
+            ("a..b", "(not)"),
+            ("a..1", "(not)"),
+            ("a..", "(not)"),
+            // a hyphen at a label's end, or in its third and fourth place (UTS #46, section 4.1)
+            ("-a", "(not)"),
+            ("a-", "(not)"),
+            ("ab--c", "(not)"),
+            // ASCII other than letters, digits, `-` and `.`
+            ("a_b", "(not)"),
+            ("a%62", "(not)"),
+            ("a b", "(not)"),
+            // U+00AD is ignored (UTS #46, section 5), which leaves no label
+            ("\u{AD}", "(not)"),
+            // Unicode chart 2200: U+2260 is `=` with U+0338
+            ("a=\u{338}", "(not)"),
+            // UTS #46 test file: Punycode of a control, of nothing, and of a text that isn't composed
+            ("xn--a.pt", "(not)"),
+            ("xn--0.pt", "(not)"),
+            ("xn--u-ccb", "(not)"),
+            // UTS #46 test file: joiners out of context
+            ("a\u{200C}b", "(not)"),
+            ("a\u{200D}b", "(not)"),
+        ],
+    )
 }
 
 // The same texts by the wide profile: with `_`, with hyphens wherever they stand, and what stays refused.
 #[test]
 fn gives_wide_forms(rt: HostRuntime) -> Result<(), AllocError> {
-    for (text, form) in [
-        ("EXAMPLE.com", "example.com"),
-        ("b\u{FC}cher.example", "xn--bcher-kva.example"),
-        ("a_b", "a_b"),
-        ("A_B.example", "a_b.example"),
-        ("_", "_"),
-        ("-a", "-a"),
-        ("a-", "a-"),
-        ("ab--c", "ab--c"),
-        // Unicode chart FF00: U+FF3F is a wide low line
-        ("a\u{FF3F}b", "a_b"),
-        ("1.2.3", "(number)"),
-        ("a_b.1", "(number)"),
-        ("a..b", "(not)"),
-        ("a%62", "(not)"),
-        ("\u{AD}", "(not)"),
-        ("a=\u{338}", "(not)"),
-        // Unicode chart FF00: U+FF0B is a wide plus sign
-        ("a\u{FF0B}b", "(not)"),
-        ("xn--a.pt", "(not)"),
-        (A63, A63),
-        (A64, "(not)"),
-    ] {
-        assert_eq!(rt;
-            shown(&domain(rt.alloc(), text, Profile::Wide)?),
-            form,
-            "{text}"
-        );
-    }
-    Ok(())
+    are_forms(
+        &rt,
+        Profile::Wide,
+        &[
+            ("EXAMPLE.com", "example.com"),
+            ("b\u{FC}cher.example", "xn--bcher-kva.example"),
+            ("a_b", "a_b"),
+            ("A_B.example", "a_b.example"),
+            ("_", "_"),
+            ("-a", "-a"),
+            ("a-", "a-"),
+            ("ab--c", "ab--c"),
+            // Unicode chart FF00: U+FF3F is a wide low line
+            ("a\u{FF3F}b", "a_b"),
+            ("1.2.3", "(number)"),
+            ("a_b.1", "(number)"),
+            ("a..b", "(not)"),
+            ("a%62", "(not)"),
+            ("\u{AD}", "(not)"),
+            ("a=\u{338}", "(not)"),
+            // Unicode chart FF00: U+FF0B is a wide plus sign
+            ("a\u{FF0B}b", "(not)"),
+            ("xn--a.pt", "(not)"),
+            (A63, A63),
+            (A64, "(not)"),
+        ],
+    )
 }
 
 #[test]
 fn counts_code_points(rt: HostRuntime) -> Result<(), AllocError> {
-    assert_eq!(rt;
-        (A61.len(), A62.len(), A63.len(), A64.len()),
-        (61, 62, 63, 64)
-    );
-    assert_eq!(rt; shown(&domain(rt.alloc(), A63, Profile::Standard)?), A63);
-    assert_eq!(rt;
-        shown(&domain(rt.alloc(), A64, Profile::Standard)?),
-        "(not)"
-    );
-    let longest = joined(rt.alloc(), &[A63, ".", A63, ".", A63, ".", A61])?;
-    assert_eq!(rt; longest.len(), 253);
-    assert_eq!(rt;
-        shown(&domain(rt.alloc(), longest.as_str(), Profile::Standard)?),
-        longest.as_str()
-    );
-    let with_root = joined(rt.alloc(), &[longest.as_str(), "."])?;
-    assert_eq!(rt;
-        shown(&domain(rt.alloc(), with_root.as_str(), Profile::Standard)?),
-        with_root.as_str()
-    );
-    let longer = joined(rt.alloc(), &[A63, ".", A63, ".", A63, ".", A62])?;
-    assert_eq!(rt; longer.len(), 254);
-    assert_eq!(rt;
-        shown(&domain(rt.alloc(), longer.as_str(), Profile::Standard)?),
-        "(not)"
-    );
-    Ok(())
+    assert_eq!(rt; (A63.len(), A64.len()), (63, 64));
+    assert_eq!(rt; (LONGEST.len(), LONGER.len()), (253, 254));
+    are_forms(
+        &rt,
+        Profile::Standard,
+        &[
+            (A63, A63),
+            (A64, "(not)"),
+            (LONGEST, LONGEST),
+            (LONGEST_ROOTED, LONGEST_ROOTED),
+            (LONGER, "(not)"),
+        ],
+    )
 }
 
 // The size of a block to ask for behind one that was refused.
@@ -263,17 +262,26 @@ fn take_all(alloc: Global, held: &mut Vec<Vec<u8>>) {
     }
 }
 
+// What is seen while there is no memory: whether a text has a form, and whether two that have none are refused.
+fn seen_without_memory(alloc: Global) -> Result<(bool, bool, bool), AllocError> {
+    let mut held = Vec::with_capacity(alloc, 400_000)?;
+    take_all(alloc, &mut held);
+    let upper = domain(alloc, "EXAMPLE.com", Profile::Standard);
+    let underscore = domain(alloc, "a_b", Profile::Standard);
+    let escaped = domain(alloc, "a%62", Profile::Wide);
+    Ok((
+        upper.is_ok(),
+        matches!(underscore, Ok(DomainAnswer::Not)),
+        matches!(escaped, Ok(DomainAnswer::Not)),
+    ))
+}
+
 #[test]
 fn refuses_without_memory(rt: HostRuntime) -> Result<(), AllocError> {
-    let mut held = Vec::with_capacity(rt.alloc(), 400_000)?;
-    take_all(rt.alloc(), &mut held);
-    let upper = domain(rt.alloc(), "EXAMPLE.com", Profile::Standard);
-    let underscore = domain(rt.alloc(), "a_b", Profile::Standard);
-    let escaped = domain(rt.alloc(), "a%62", Profile::Wide);
-    drop(held);
-    assert!(rt; upper.is_err(), "memory was found");
-    assert!(rt; matches!(underscore, Ok(DomainAnswer::Not)));
-    assert!(rt; matches!(escaped, Ok(DomainAnswer::Not)));
+    let (made, underscore, escaped) = seen_without_memory(rt.alloc())?;
+    assert!(rt; !made, "memory was found");
+    assert!(rt; underscore);
+    assert!(rt; escaped);
     assert!(rt; domain(rt.alloc(), "EXAMPLE.com", Profile::Standard).is_ok());
     Ok(())
 }
