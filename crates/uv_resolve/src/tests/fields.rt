@@ -66,7 +66,7 @@ fn gives_the_fields(rt: HostRuntime) -> Result<(), ResolveFault> {
     for (text, kind, port, segments) in FIELDS.iter() {
         let record = record_of(rt.alloc(), *text)?;
         assert!(rt; is_kind(record.host(), kind), "the host of {text}");
-        assert_eq!(rt; record.port(), *port, "the port of {text}");
+        assert!(rt; record.port() == *port, "the port of {text}");
         assert!(rt;
             has_segments(record.path(), *segments),
             "the path of {text}"
@@ -103,18 +103,27 @@ fn forgets_the_base_of_a_text_with_a_scheme(rt: HostRuntime) -> Result<(), Resol
     Ok(())
 }
 
+// Whether a record has this query and this fragment.
+fn has_ends(record: &Record, query: Option<&str>, fragment: Option<&str>) -> bool {
+    record.query() == query && record.fragment() == fragment
+}
+
+// A text with its query and its fragment.
+type Ends = (&'static str, Option<&'static str>, Option<&'static str>);
+
+const ENDS: [Ends; 4] = [
+    ("http://h/", None, None),
+    ("http://h/?", Some(""), None),
+    ("http://h/#", None, Some("")),
+    ("http://h/?#", Some(""), Some("")),
+];
+
 // An absent query or fragment isn't an empty one.
 #[test]
 fn tells_empty_from_absent(rt: HostRuntime) -> Result<(), ResolveFault> {
-    for (text, query, fragment) in [
-        ("http://h/", None, None),
-        ("http://h/?", Some(""), None),
-        ("http://h/#", None, Some("")),
-        ("http://h/?#", Some(""), Some("")),
-    ] {
-        let record = record_of(rt.alloc(), text)?;
-        assert_eq!(rt; record.query(), query, "the query of {text}");
-        assert_eq!(rt; record.fragment(), fragment, "the fragment of {text}");
+    for (text, query, fragment) in ENDS.iter() {
+        let record = record_of(rt.alloc(), *text)?;
+        assert!(rt; has_ends(&record, *query, *fragment), "{text}");
     }
     Ok(())
 }

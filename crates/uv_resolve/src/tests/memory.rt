@@ -43,17 +43,23 @@ fn resolves_many_segments(rt: HostRuntime) -> Result<(), ResolveFault> {
     Ok(())
 }
 
+// Whether a text is answered so against a base given as text.
+fn is_answer_against(
+    alloc: Global,
+    text: &str,
+    base: &str,
+    want: &Answer<'_>,
+) -> Result<bool, ResolveFault> {
+    let base = record_of(alloc, base)?;
+    is_answer(alloc, text, Some(&base), want)
+}
+
 #[test]
 fn removes_many_segments(rt: HostRuntime) -> Result<(), ResolveFault> {
-    let text = repeated(rt.alloc(), "http://h", "/a", LONG)?;
-    let base = record_of(rt.alloc(), text.as_str())?;
-    let relative = repeated(rt.alloc(), "", "../", LONG - 1)?;
-    let found = is_answer(
-        rt.alloc(),
-        relative.as_str(),
-        Some(&base),
-        &Answer::Url("http://h/"),
-    )?;
+    let base = repeated(rt.alloc(), "http://h", "/a", LONG)?;
+    let text = repeated(rt.alloc(), "", "../", LONG - 1)?;
+    let want = Answer::Url("http://h/");
+    let found = is_answer_against(rt.alloc(), text.as_str(), base.as_str(), &want)?;
     assert!(rt; found);
     Ok(())
 }
