@@ -10,7 +10,9 @@ const [folder, rounds, most] = [process.argv[2], Number(process.argv[3]), Number
 const { load } = await import(pathToFileURL(resolve(folder, 'urlcheck.js')).href)
 const urlcheck = await load()
 const links = readFileSync(0, 'utf8').split('\n').filter(link => link !== '')
-const PASSES = Math.max(1, Math.round(2000 / links.length))
+// A pass is short, so that other work of the machine comes between as seldom as can be.
+const PASSES = Math.max(1, Math.round(1_000 / links.length))
+const WARMING = 100
 
 /** The nanoseconds that a judge takes for a link, and how many links it takes. */
 function timed(judge) {
@@ -21,6 +23,7 @@ function timed(judge) {
 }
 
 const judges = { check: link => urlcheck.check(link).valid, canParse: link => URL.canParse(link) }
+for (const judge of Object.values(judges)) for (let pass = 0; pass < WARMING; pass++) timed(judge)
 const least = { check: Infinity, canParse: Infinity }
 const taken = {}
 for (let round = 0; round < rounds; round++) {

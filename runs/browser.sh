@@ -36,6 +36,15 @@ python3 "$here/answers.py" "$program" "$room/cases.json" "$top"/vectors/*.json
 node "$here/vectors.mjs" "$folder" "$room/cases.json"
 node "$here/calls.mjs" "$folder"
 
+# The program of docs/BROWSER.md, as it stands there.
+cp -r "$folder" "$room/example"
+sed -n '/^```js$/,/^```$/p' "$top/docs/BROWSER.md" | sed '/^```/d' >"$room/example/example.mjs"
+awk '/^```js$/ { found = 1 } found && /^```$/ { fences++; next } fences == 2' "$top/docs/BROWSER.md" >"$room/wanted"
+[ -s "$room/wanted" ] || { echo 'FAILED: docs/BROWSER.md has no example'; exit 1; }
+node "$room/example/example.mjs" >"$room/said" || { cat "$room/said"; exit 1; }
+diff "$room/wanted" "$room/said" || { echo 'FAILED: the example of docs/BROWSER.md prints something else'; exit 1; }
+echo 'browser: the example of docs/BROWSER.md'
+
 if command -v tsc >/dev/null; then
     mkdir "$room/types"
     cp "$folder/urlcheck.js" "$folder/urlcheck.d.ts" "$folder/explanations.js" "$here/types.ts" "$here/node.d.ts" \

@@ -1,5 +1,6 @@
 // The lines of a list, as `urlcheck lint` reads them: a line ends with LF, one CR before that is no part of it, and an
-// empty line is passed over. A line that isn't UTF-8, or has too many bytes, isn't judged.
+// empty line is passed over. A byte order mark at a file's start is no part of the first line. A line that isn't UTF-8,
+// or has too many bytes, isn't judged.
 
 /** A line has at most so many bytes. */
 export const LONGEST_LINE = 65536
@@ -15,6 +16,7 @@ export class Unjudged {
 const TOO_LONG = new Unjudged('line-too-long', '')
 
 const LF = 10
+const BYTE_ORDER_MARK = [0xef, 0xbb, 0xbf]
 const decoder = new TextDecoder('utf-8', { fatal: true, ignoreBOM: true })
 const lossy = new TextDecoder('utf-8', { ignoreBOM: true })
 const encoder = new TextEncoder()
@@ -57,11 +59,17 @@ function joined(one, other) {
   return whole
 }
 
+/** A file's first bytes without their byte order mark. */
+function withoutMark(bytes) {
+  return BYTE_ORDER_MARK.every((byte, at) => bytes[at] === byte) ? bytes.subarray(BYTE_ORDER_MARK.length) : bytes
+}
+
 /** The lines of a file, piece by piece: each piece with the bytes that were read up to its end. */
 export async function* linesOfFile(file) {
   const reader = file.stream().getReader()
   let rest = new Uint8Array(0)
   let isLong = false
+  let isFirst = true
   let done = 0
   for (let piece = await reader.read(); !piece.done; piece = await reader.read()) {
     done += piece.value.length
@@ -72,14 +80,15 @@ export async function* linesOfFile(file) {
       if (isLong) rest = new Uint8Array(0)
       continue
     }
-    const lines = linesOfBytes(joined(rest, piece.value.subarray(0, last)))
+    const bytes = joined(rest, piece.value.subarray(0, last))
+    const lines = linesOfBytes(isFirst ? withoutMark(bytes) : bytes)
     if (isLong) lines[0] = TOO_LONG
-    isLong = false
+    isLong = isFirst = false
     rest = piece.value.slice(last + 1)
     yield { lines, done }
   }
   if (isLong) yield { lines: [TOO_LONG], done }
-  else if (rest.length > 0) yield { lines: [decoded(rest)], done }
+  else if (rest.length > 0) yield { lines: [decoded(isFirst ? withoutMark(rest) : rest)], done }
 }
 
 /** So many units of a text are cut at a time. */

@@ -16,7 +16,7 @@ export function* gnuPieces(name, rows, told) {
 /** An object of JSON a line. */
 export function* jsonPieces(name, rows, told) {
   for (const { number, rule, place, text, where } of rows) {
-    const row = { column: place + 1, file: name, line: number, message: told(rule).sentence, rule, text: shown(text) }
+    const row = { column: place + 1, file: name, line: number, message: told(rule).sentence, rule, text }
     yield `${JSON.stringify(where === undefined ? row : { ...row, where })}\n`
   }
 }
