@@ -1,4 +1,5 @@
 mod PlaceLemmas
+mod RecordLemmas
 mod SeenLemmas
 mod SpanLemmas
 mod StoreLemmas

@@ -1,0 +1,17 @@
+-- The answer on a text that denotes a URL.
+use Rattle.std.proofs.Common.{◌≡◌, List, ℕ, inl, inr, subst}
+use Rattle.std.specs.Prelude.{Option}
+use Rattle.std.specs.Str.{chars}
+use Rattle.uv_model.specs.declared.profile.Profile.{Profile}
+use Rattle.uv_model.specs.Records.Url.{Url}
+use Rattle.uv_resolve.specs.Resolve.{Denotes}
+use Rattle.urlcheck_c.specs.declared.records.Resolved.{Resolved}
+use Rattle.urlcheck_c.specs.Resolved.{IsRecordAnswer, IsRecordWritten}
+
+-- the URL's text is written, or memory ran out
+pub written_is_answer : (profile : Profile) (given base : Option Url) (bytes old new : List ℕ) (url : Url)
+    (answer : Resolved) → given ≡ base → Denotes profile given (chars bytes) url → IsRecordWritten url old new answer
+    → IsRecordAnswer profile base bytes old new answer
+written_is_answer profile given base bytes old new url answer same denotes (inl front) =
+    inl (url, subst (λ (b : Option Url). Denotes profile b (chars bytes) url) same denotes, front)
+written_is_answer profile given base bytes old new url answer same denotes (inr wanting) = inr (inr wanting)
