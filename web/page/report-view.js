@@ -66,19 +66,19 @@ export class ReportView {
     this.stop = button('Stop', () => this.ask('stop'), { class: 'button' })
     this.running = element('div', { class: 'running' }, this.progress, this.stop)
     this.chart = element('div', { class: 'card', hidden: '' })
-    this.table = element('tbody', {})
+    this.table = element('tbody', { role: 'rowgroup' })
     this.more = button('Show more', () => this.askRows(), { class: 'button', hidden: '' })
     this.downloads = element('div', { class: 'downloads', hidden: '' },
       element('span', { class: 'hint' }, 'Download the refused ones as'),
       ...[['gnu', 'lines'], ['json', 'JSON'], ['sarif', 'SARIF']].map(([format, name]) =>
         button(name, () => this.ask('download', { format }), { class: 'button', 'data-format': format })))
-    const head = element('tr', {}, ...[this.unit, 'column', 'what is wrong', 'text'].map(name =>
-      element('th', { scope: 'col' }, name)))
+    const head = element('tr', { role: 'row' }, ...[this.unit, 'column', 'what is wrong', 'text'].map(name =>
+      element('th', { scope: 'col', role: 'columnheader' }, name)))
     this.rows = element('div', { class: 'card', hidden: '' },
       element('h2', {}, 'Refused'),
       this.downloads,
       element('div', { class: 'scrolled', tabindex: '0', role: 'region', 'aria-label': 'Refused' },
-        element('table', { class: 'rows' }, element('thead', {}, head), this.table)),
+        element('table', { class: 'rows', role: 'table' }, element('thead', { role: 'rowgroup' }, head), this.table)),
       this.more)
     const notes = note ? [element('p', { class: 'hint note' }, ...note)] : []
     this.section.replaceChildren(this.line, ...notes, this.running, this.chart, this.rows)
@@ -162,11 +162,12 @@ export class ReportView {
     this.rows.hidden = false
     this.shown += rows.length
     this.table.append(...rows.map(({ number, place, index, rule, sentence, text, where }) =>
-      element('tr', {},
-        element('td', { class: 'count' }, counted(number)),
-        element('td', { class: 'count' }, counted(place + 1)),
-        element('td', {}, sentence, ' ', element('code', {}, rule)),
-        element('td', {}, where ? element('span', { class: 'where' }, where) : null, shownText(text, index)))))
+      element('tr', { role: 'row' },
+        element('td', { class: 'count', role: 'cell', 'data-column': this.unit }, counted(number)),
+        element('td', { class: 'count', role: 'cell', 'data-column': 'column' }, counted(place + 1)),
+        element('td', { role: 'cell' }, sentence, ' ', element('code', {}, rule)),
+        element('td', { role: 'cell' }, where ? element('span', { class: 'where' }, where) : null,
+          shownText(text, index)))))
     this.showMore()
   }
 
