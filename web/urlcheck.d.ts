@@ -83,8 +83,16 @@ export type RuleName =
 /** Where a part begins, and the index behind its end. */
 export type Range = [start: number, end: number]
 
-/** A valid URL string, with its parts: slices of the text without their delimiters, and null where absent. */
-export interface Valid {
+/**
+ * A valid URL string. Its parts are taken out of the text when they are asked for; `toJSON` gives them all as a plain
+ * object, which can be sent to a worker or spread.
+ */
+export interface Valid extends Parts {
+  toJSON(): Parts
+}
+
+/** The parts of a valid text: slices of it without their delimiters, and null where absent. */
+export interface Parts {
   valid: true
   scheme: string | null
   host: string | null

@@ -57,6 +57,7 @@ const tests = {
     assert.deepEqual(JSON.parse(JSON.stringify(urlcheck.check('urn:'))), { valid: true, scheme: 'urn', host: null,
       port: null, path: '', query: null, fragment: null,
       ranges: { scheme: [0, 3], host: null, port: null, path: [4, 4], query: null, fragment: null } })
+    assert.deepEqual(structuredClone(urlcheck.check('urn:').toJSON()), urlcheck.check('urn:').toJSON())
     assert.deepEqual(urlcheck.check('http://h/\u{1f600} '), { valid: false, rule: 'code-point', place: 10, index: 11 })
   },
 

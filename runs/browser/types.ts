@@ -1,6 +1,7 @@
 // A caller in TypeScript, as strictly as the compiler can: it is compiled and not run.
 import { BaseRefused, load } from './urlcheck.js'
-import type { Checker, Explanation, Fault, Profile, Range, Refused, Resolved, RuleName, Valid } from './urlcheck.js'
+import type { Checker, Explanation, Fault, Parts, Profile, Range, Refused, Resolved, RuleName } from './urlcheck.js'
+import type { Valid } from './urlcheck.js'
 import type * as Wanted from './urlcheck.js'
 import * as written from './written.js'
 
@@ -13,6 +14,8 @@ if (answer.valid) {
   const parts: (string | null)[] = [answer.scheme, answer.host, answer.port, answer.query, answer.fragment]
   const path: string = answer.path
   const [start, end]: Range = answer.ranges.path
+  const all: Parts = answer.toJSON()
+  console.log(all.valid)
   console.log(parts, path, start, end)
 } else {
   const rule: RuleName = answer.rule
