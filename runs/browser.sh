@@ -2,8 +2,8 @@
 # Runs the checker for JavaScript, and the page, over every file of vectors, and compares with the program given as the
 # first argument; then what callers see, types, want of memory, and the page in a browser; and it sees that spoiled
 # copies are found. What isn't installed is left out, and a line says so. A folder that ./build-page has made may be
-# given second; else one is made. Where the environment has GLUE, copies with a spoiled glue are compiled and tried too;
-# where it has PICTURE, the picture of the page is written there.
+# given second; else one is made. Words of the environment: QUICK leaves out the browser and the spoiled copies, GLUE
+# compiles and tries copies with a spoiled glue too, and PICTURE is a file for the picture of the page.
 set -euo pipefail
 program=$(realpath "$1")
 top=$(dirname "$(dirname "$(realpath "$0")")")
@@ -57,6 +57,10 @@ else
     echo "browser: the types are left out, since tsc isn't installed"
 fi
 
+if [ -n "${QUICK:-}" ]; then
+    echo 'browser: the browser and the spoiled copies are left out, since QUICK is set'
+    exit 0
+fi
 module=''
 if [ -n "${GLUE:-}" ] && [ -e "$room/module.bc" ]; then module=$room/module.bc; fi
 bash "$here/plants.sh" "$folder" "$room/cases.json" "$module"
