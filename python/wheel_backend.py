@@ -47,6 +47,7 @@ def _metadata():
     ]
     lines += ["License-File: " + file for file in _licences()]
     lines += ["Requires-Python: " + _project('requires-python = "(.*)"')]
+    lines += ["Provides-Extra: markdown", 'Requires-Dist: markdown-it-py; extra == "markdown"']
     return "\n".join(lines) + "\n"
 
 
@@ -82,6 +83,8 @@ def _files(tag):
     files[_folder() + "/METADATA"] = _metadata().encode()
     for name in _licences():
         files[_folder() + "/licenses/" + name] = (_text(name) + "\n").encode()
+    script, called = re.search('^scripts = { (.*) = "(.*)" }$', _text(TABLE), re.M).groups()
+    files[_folder() + "/entry_points.txt"] = "[console_scripts]\n{} = {}\n".format(script, called).encode()
     kind = "Wheel-Version: 1.0\nGenerator: wheel_backend\nRoot-Is-Purelib: false\nTag: {}\n"
     files[_folder() + "/WHEEL"] = kind.format(tag).encode()
     return files
