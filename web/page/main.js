@@ -168,6 +168,7 @@ function listenToFields() {
 function listenToViews() {
   for (const link of document.querySelectorAll('nav a')) {
     link.addEventListener('click', event => {
+      if (event.ctrlKey || event.metaKey || event.shiftKey) return
       event.preventDefault()
       if (state.view === link.dataset.view) return
       if (report) report.clear()
