@@ -1,5 +1,6 @@
-# Sourced at the top of the repository: the builds of the program and of the library for each processor, which the proofs
-# of the crates below them come before. They are kept in the crates' folders out/, and made again where a source is newer.
+# Sourced at the top of the repository: the builds of the program and of the library for each processor, which the
+# proofs of the crates below them come before. They are kept in the crates' folders out/, and made again where a source
+# is newer.
 
 # The processors, plain x86-64 first.
 processors=(x86-64 x86-64-v2)

@@ -1,7 +1,7 @@
 """Builds the wheel of the package (PEP 517) by the standard library alone, so that installing it needs no network.
 
-The folder is what ./build-library writes: beside pyproject.toml stand VERSION, PLATFORM (the tag of the systems on which
-the shared library runs), the licences, and the package with the shared library. Two builds give the same bytes.
+The folder is what ./build-library writes: beside pyproject.toml stand VERSION, PLATFORM (the tag of the systems on
+which the shared library runs), the licences, and the package with the shared library. Two builds give the same bytes.
 """
 
 import base64

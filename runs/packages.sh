@@ -1,9 +1,9 @@
 #!/usr/bin/env bash
 # Installs the program given as the first argument, and the library, into a folder: what is installed there, that the
-# programs of docs/LIBRARY.md build and run by it, that each file tells the one version, what the shared library exports,
-# that the header is taken by each standard of C and C++, that an old processor runs the library, and that nothing is left
-# once it is removed. What isn't installed on the machine is left out, and a line says so. LIBRARY may name a folder that
-# ./build-library wrote.
+# programs of docs/LIBRARY.md build and run by it, that each file tells the one version, what the shared library
+# exports, that the header is taken by each standard of C and C++, that an old processor runs the library, and that
+# nothing is left once it is removed. What isn't installed on the machine is left out, and a line says so. LIBRARY may
+# name a folder that ./build-library wrote.
 set -euo pipefail
 program=$(realpath "$1")
 top=$(dirname "$(dirname "$(realpath "$0")")")
@@ -42,10 +42,12 @@ python=$(cd "$at/lib" && ls -d python*/*-packages)
     (cd python && printf "lib/$python/%s\n" urlcheck/*.py urlcheck/py.typed)
 } | sort >"$room/wanted"
 (cd "$at" && find . ! -type d -printf '%P\n' | sort) >"$room/found"
-diff "$room/wanted" "$room/found" || fail "other files are installed than those of runs/packages/files, docs/, vectors/ and python/"
+diff "$room/wanted" "$room/found" ||
+    fail "other files are installed than those of runs/packages/files, docs/, vectors/ and python/"
 cmp "$program" "$at/bin/urlcheck"
 for link in liburlcheck.so liburlcheck.so.0; do
-    [ "$(realpath "$at/lib/$link")" = "$(realpath "$at/lib")/liburlcheck.so.$version" ] || fail "$link names another file"
+    [ "$(realpath "$at/lib/$link")" = "$(realpath "$at/lib")/liburlcheck.so.$version" ] ||
+        fail "$link names another file"
 done
 if grep -rlF "$room" "$at"; then fail "an installed file names the folder that it was built in"; fi
 
@@ -54,11 +56,13 @@ if grep -rlF "$room" "$at"; then fail "an installed file names the folder that i
 "$at/bin/urlcheck" --version | cmp - <(echo "urlcheck $version") || fail "the program has another version than VERSION"
 echo x >"$room/links"
 "$at/bin/urlcheck" lint --quiet --format sarif "$room/links" >"$room/report" || [ $? = 1 ] || fail "lint --format sarif"
-told=$(python3 -c 'import json, sys; print(json.load(sys.stdin)["runs"][0]["tool"]["driver"]["version"])' <"$room/report")
+told=$(python3 -c 'import json, sys; print(json.load(sys.stdin)["runs"][0]["tool"]["driver"]["version"])' \
+    <"$room/report")
 [ "$told" = "$version" ] || fail "SARIF says that the version is $told"
 grep -qF "urlcheck $version" man/urlcheck.1 || fail "man/urlcheck.1 has another version than VERSION"
 grep -qF "rev: v$version " docs/USES.md || fail "docs/USES.md names another tag than VERSION"
-grep -qE "^## $version - [0-9]{4}-[0-9]{2}-[0-9]{2}$" CHANGELOG.md || fail "CHANGELOG.md has no '## $version - ' with its day"
+grep -qE "^## $version - [0-9]{4}-[0-9]{2}-[0-9]{2}$" CHANGELOG.md ||
+    fail "CHANGELOG.md has no '## $version - ' with its day"
 
 # ---- programs
 
@@ -88,8 +92,10 @@ fi
 node=$(sed -n 's/^\(URLCHECK_[0-9.]*\) {$/\1/p' packaging/library.map)
 sed -n "s/^ *\(urlcheck_[a-z_]*\);$/\1@@$node/p" packaging/library.map | sort >"$room/wanted"
 declared=$(grep -o '\burlcheck_[a-z_]*(' include/urlcheck.h | tr -d '(' | sort)
-[ "$declared" = "$(sed 's/@@.*//' "$room/wanted")" ] || fail "packaging/library.map has other names than include/urlcheck.h"
-nm -D --defined-only --with-symbol-versions "$at/lib/liburlcheck.so" | awk '$2 != "A" { print $3 }' | sort >"$room/found"
+[ "$declared" = "$(sed 's/@@.*//' "$room/wanted")" ] ||
+    fail "packaging/library.map has other names than include/urlcheck.h"
+nm -D --defined-only --with-symbol-versions "$at/lib/liburlcheck.so" | awk '$2 != "A" { print $3 }' | sort \
+    >"$room/found"
 diff "$room/wanted" "$room/found" || fail "the library exports other names than packaging/library.map"
 objdump -p "$at/lib/liburlcheck.so" | grep -q 'SONAME *liburlcheck\.so\.0$' || fail "the library has another SONAME"
 if command -v qemu-x86_64 >/dev/null; then
@@ -106,7 +112,7 @@ cp "$room/header.c" "$room/header.cpp"
 strict=(-Wall -Wextra -Wpedantic -Wundef -Wconversion -Wshadow -Werror -fsyntax-only -I "$at/include")
 count=0
 for compiler in gcc clang g++ clang++; do
-    command -v $compiler >/dev/null || { echo "packages: the header isn't tried by $compiler, which isn't installed"; continue; }
+    command -v $compiler >/dev/null || { echo "packages: no header by $compiler, which isn't installed"; continue; }
     standards=(c89 c99 c11 c17 c2x) file=$room/header.c
     case $compiler in *++) standards=(c++98 c++11 c++14 c++17 c++20 c++2b) file=$room/header.cpp ;; esac
     for standard in "${standards[@]}"; do
