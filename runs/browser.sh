@@ -47,8 +47,7 @@ echo 'browser: the example of docs/BROWSER.md'
 
 if command -v tsc >/dev/null; then
     mkdir "$room/types"
-    cp "$folder/urlcheck.js" "$folder/urlcheck.d.ts" "$folder/explanations.js" "$here/types.ts" "$here/node.d.ts" \
-        "$room/types/"
+    cp "$folder"/*.js "$folder/urlcheck.d.ts" "$here/types.ts" "$here/node.d.ts" "$room/types/"
     cp "$folder/urlcheck.js" "$room/types/written.js"
     tsc --strict --noEmit --target es2022 --module es2022 --moduleResolution node --lib es2022,dom --allowJs --checkJs \
         "$room/types/types.ts" "$room/types/node.d.ts"

@@ -212,8 +212,10 @@ const tests = {
   },
 
   async 'no code from texts'() {
-    const script = readFileSync(join(folder, 'urlcheck.js'), 'utf8')
-    assert.doesNotMatch(script, /\beval\b|new Function|innerHTML|document\.write/)
+    for (const name of ['urlcheck.js', 'memory.js', 'parts.js', 'layout.js', 'explanations.js']) {
+      const script = readFileSync(join(folder, name), 'utf8')
+      assert.doesNotMatch(script, /\beval\b|new Function|innerHTML|document\.write/)
+    }
   }
 }
 

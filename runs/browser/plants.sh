@@ -32,11 +32,11 @@ found() {
     fi
 }
 
-# script WHAT RUN SED : with this edit of urlcheck.js the run fails
+# script WHAT RUN FILE SED : with this edit of a script of the package the run fails
 script() {
     rm -rf "$room/copy"
     cp -r "$folder" "$room/copy"
-    edited "$1" "$room/copy/urlcheck.js" "$3" || return 0
+    edited "$1" "$room/copy/$3" "$4" || return 0
     case $2 in
         vectors) found "$1" node "$here/vectors.mjs" "$room/copy" "$cases" ;;
         calls) found "$1" node "$here/calls.mjs" "$room/copy" ;;
@@ -46,25 +46,30 @@ script() {
 node "$here/vectors.mjs" "$folder" "$cases" >"$room/said" && node "$here/calls.mjs" "$folder" >>"$room/said" ||
     { cat "$room/said"; echo 'FAILED: the runs fail on what is not spoiled'; exit 1; }
 
-script 'a wrong offset of the byte place' vectors 's/^const BYTE_PLACE = 4$/const BYTE_PLACE = 2/'
-script 'a wrong offset of the place' vectors 's/^const PLACE = 2$/const PLACE = 4/'
-script 'a wrong offset of the parts' vectors 's/^const PARTS = 6$/const PARTS = 12/'
-script 'a wrong offset of a length' vectors 's/^const SPAN_LENGTH = 2$/const SPAN_LENGTH = 0/'
-script 'a wrong offset of a presence' vectors 's/^const SPAN_PRESENT = 4$/const SPAN_PRESENT = 2/'
-script 'a wrong offset of a fault' vectors 's/^const FAULT_BYTE_PLACE = 4$/const FAULT_BYTE_PLACE = 2/'
-script 'a wrong size of a fault' vectors 's/^const FAULT_WORDS = 6$/const FAULT_WORDS = 4/'
+script 'a wrong offset of the byte place' vectors layout.js \
+    's/^export const BYTE_PLACE = 4$/export const BYTE_PLACE = 2/'
+script 'a wrong offset of the place' vectors layout.js 's/^export const PLACE = 2$/export const PLACE = 4/'
+script 'a wrong offset of the parts' vectors layout.js 's/^export const PARTS = 6$/export const PARTS = 12/'
+script 'a wrong offset of a length' vectors layout.js 's/^export const SPAN_LENGTH = 2$/export const SPAN_LENGTH = 0/'
+script 'a wrong offset of a presence' vectors layout.js \
+    's/^export const SPAN_PRESENT = 4$/export const SPAN_PRESENT = 2/'
+script 'a wrong offset of a fault' vectors layout.js \
+    's/^export const FAULT_BYTE_PLACE = 4$/export const FAULT_BYTE_PLACE = 2/'
+script 'a wrong size of a fault' vectors layout.js 's/^export const FAULT_WORDS = 6$/export const FAULT_WORDS = 4/'
 swap='s/textLength, room.baseLength/baseLength, room.textLength/'
-script 'a swapped parameter of check' vectors "/room.checkAgainst(/$swap"
-script 'a swapped parameter of resolve' vectors "/resolve_against(/$swap"
-script 'a swapped parameter of faults' vectors "/faults_against(/$swap"
-script 'a rule with the next number' vectors 's/this.#names\[room.word(RULE) - 1\]/this.#names[room.word(RULE)]/'
-script 'the wide profile read as the standard one' vectors "/=== 'wide'/s/return 1/return 0/"
-script 'units counted as bytes' vectors 's/room.textLength === text.length/true/'
-script 'a lone surrogate let through' calls 's/ && text.length <= SHORT) utf8Length/ \&\& false) utf8Length/'
-script 'a room that is too small' calls 's/^const SMALL_ROOM = 3 \* SHORT$/const SMALL_ROOM = SHORT/'
-script 'a memory that is seen as it was' calls 's/if (this.answer.length !== 0) return$/if (this.textRoom > 1) return/'
-script 'large rooms kept after want of memory' calls 's/^    if (this.textRoom > SMALL_ROOM || .*$//'
-script 'a profile of any name' calls 's/^  throw new TypeError("the profile.*$/  return 0/'
+script 'a swapped parameter of check' vectors urlcheck.js "/room.checkAgainst(/$swap"
+script 'a swapped parameter of resolve' vectors urlcheck.js "/resolve_against(/$swap"
+script 'a swapped parameter of faults' vectors urlcheck.js "/faults_against(/$swap"
+script 'a rule with the next number' vectors urlcheck.js \
+    's/this.#names\[room.word(RULE) - 1\]/this.#names[room.word(RULE)]/'
+script 'the wide profile read as the standard one' vectors urlcheck.js "/=== 'wide'/s/return 1/return 0/"
+script 'units counted as bytes' vectors urlcheck.js 's/room.textLength === text.length/true/'
+script 'a lone surrogate let through' calls memory.js 's/ && text.length <= SHORT) utf8Length/ \&\& false) utf8Length/'
+script 'a room that is too small' calls memory.js 's/^const SMALL_ROOM = 3 \* SHORT$/const SMALL_ROOM = SHORT/'
+script 'a memory that is seen as it was' calls memory.js \
+    's/if (this.answer.length !== 0) return$/if (this.textRoom > 1) return/'
+script 'large rooms kept after want of memory' calls memory.js 's/^    if (this.textRoom > SMALL_ROOM || .*$//'
+script 'a profile of any name' calls urlcheck.js 's/^  throw new TypeError("the profile.*$/  return 0/'
 
 # The heap alone: with this edit of it its test fails.
 heap() {

@@ -1,0 +1,168 @@
+// The memory of the module: texts go in as UTF-8, and answers come out as words of 32 bits.
+import { ANSWER_WORDS } from './layout.js'
+
+/**
+ * What the module exports.
+ * @typedef {object} Exports
+ * @property {WebAssembly.Memory} memory
+ * @property {(textBytes: number, baseBytes: number) => number} make_rooms
+ * @property {() => number} text_at
+ * @property {() => number} base_at
+ * @property {() => number} answer_at
+ * @property {() => number} out_at
+ * @property {(length: number, profile: number) => void} check
+ * @property {(length: number, baseLength: number, profile: number) => void} check_against
+ * @property {(length: number, profile: number) => void} resolve
+ * @property {(length: number, baseLength: number, profile: number) => void} resolve_against
+ * @property {(length: number, profile: number) => void} faults
+ * @property {(length: number, baseLength: number, profile: number) => void} faults_against
+ * @property {(rule: number) => number} rule_name
+ * @property {(rule: number) => number} rule_sentence
+ * @property {() => number} version
+ */
+
+/** A text of at most so many UTF-16 units finds room without being measured. */
+const SHORT = 512
+/** The room that holds any such text, and the one above which it is given up with the next call. */
+const SMALL_ROOM = 3 * SHORT
+const LARGE_ROOM = 1 << 20
+
+const encoder = new TextEncoder()
+const decoder = new TextDecoder()
+
+/**
+ * The length of a text's UTF-8.
+ * @param {string} text
+ * @param {string} name what the text is called in a refusal
+ * @returns {number}
+ * @throws {TypeError} where the text has a lone surrogate
+ */
+function utf8Length(text, name) {
+  let length = 0
+  for (let at = 0; at < text.length; at++) {
+    const unit = text.charCodeAt(at)
+    if (unit < 0x80) length += 1
+    else if (unit < 0x800) length += 2
+    else if ((unit & 0xf800) !== 0xd800) length += 3
+    else if (unit < 0xdc00 && (text.charCodeAt(at + 1) & 0xfc00) === 0xdc00) {
+      length += 4
+      at++
+    } else throw new TypeError(`the ${name} has a lone surrogate at index ${at}`)
+  }
+  return length
+}
+
+/**
+ * @param {unknown} text
+ * @param {string} name
+ */
+function stopUnlessString(text, name) {
+  if (typeof text !== 'string') throw new TypeError(`the ${name} is no string`)
+}
+
+/** The module's memory: texts go in, answers come out. */
+export class Room {
+  /** @param {Exports} exports */
+  constructor(exports) {
+    this.exports = exports
+    // An export is looked up once, since each look takes as long as a short call.
+    this.check = exports.check
+    this.checkAgainst = exports.check_against
+    this.answerAt = exports.answer_at()
+    this.textRoom = this.baseRoom = 0
+    /** The answer, in words of 32 bits. */
+    this.answer = new Uint32Array(0)
+    /** The rooms of the text and of the base, and the length of the UTF-8 that stands there. */
+    this.text = this.base = new Uint8Array(0)
+    this.textLength = this.baseLength = 0
+    this.isLarge = false
+    this.layOut(SMALL_ROOM, SMALL_ROOM)
+  }
+
+  /** Sees the memory anew where it has grown: what was seen of it has then no elements. */
+  look() {
+    if (this.answer.length !== 0) return
+    const { memory, text_at, base_at } = this.exports
+    const buffer = memory.buffer
+    this.answer = new Uint32Array(buffer, this.answerAt, ANSWER_WORDS)
+    this.text = new Uint8Array(buffer, text_at(), this.textRoom)
+    this.base = new Uint8Array(buffer, base_at(), this.baseRoom)
+  }
+
+  /**
+   * Makes rooms of so many bytes.
+   * @param {number} textRoom
+   * @param {number} baseRoom
+   */
+  layOut(textRoom, baseRoom) {
+    if (!this.exports.make_rooms(textRoom, baseRoom)) this.stopForMemory()
+    this.textRoom = textRoom
+    this.baseRoom = baseRoom
+    this.isLarge = textRoom > LARGE_ROOM || baseRoom > LARGE_ROOM
+    this.answer = new Uint32Array(0)
+    this.look()
+  }
+
+  /** Gives up large rooms, so that the next call finds all of the memory. */
+  stopForMemory() {
+    if (this.textRoom > SMALL_ROOM || this.baseRoom > SMALL_ROOM) this.layOut(SMALL_ROOM, SMALL_ROOM)
+    throw new RangeError('out of memory')
+  }
+
+  /**
+   * Puts a text, and a base where there is one, into their rooms.
+   * @param {string} text
+   * @param {string | undefined} base
+   */
+  put(text, base) {
+    stopUnlessString(text, 'text')
+    if (base !== undefined) stopUnlessString(base, 'base')
+    const isLong = text.length > SHORT || (base !== undefined && base.length > SHORT)
+    if (isLong || this.isLarge) this.makeRoomFor(text, base)
+    this.textLength = this.written(text, 'text', this.text)
+    if (base !== undefined) this.baseLength = this.written(base, 'base', this.base)
+  }
+
+  /**
+   * Lays out the rooms anew where the text or the base needs more, or where they are large.
+   * @param {string} text
+   * @param {string | undefined} base
+   */
+  makeRoomFor(text, base) {
+    const textRoom = text.length > SHORT ? utf8Length(text, 'text') : SMALL_ROOM
+    const baseRoom = base !== undefined && base.length > SHORT ? utf8Length(base, 'base') : SMALL_ROOM
+    if (textRoom > this.text.length || baseRoom > this.base.length || this.isLarge) this.layOut(textRoom, baseRoom)
+  }
+
+  /**
+   * Writes a text into its room, and gives the length of its UTF-8.
+   * @param {string} text
+   * @param {string} name
+   * @param {Uint8Array} room which holds it
+   * @returns {number}
+   */
+  written(text, name, room) {
+    const { written } = encoder.encodeInto(text, room)
+    if (written !== text.length && text.length <= SHORT) utf8Length(text, name)
+    return /** @type {number} */ (written)
+  }
+
+  /**
+   * A word of the answer.
+   * @param {number} at
+   * @returns {number}
+   */
+  word(at) {
+    return this.answer[at]
+  }
+
+  /**
+   * An ASCII text in the memory.
+   * @param {number} start
+   * @param {number} length
+   * @returns {string}
+   */
+  ascii(start, length) {
+    return decoder.decode(new Uint8Array(this.exports.memory.buffer, start, length))
+  }
+}
