@@ -52,7 +52,7 @@ for ((round = 0; round < rounds; round++)); do
     for name in lint ada; do
         figure=$(spent $name)
         [ -n "$figure" ] || { echo "FAILED: $name gave no figure"; exit 1; }
-        if [ $name = lint ] && ! grep -q "^$count lines, $refused refused\$" "$room/said"; then
+        if [ $name = lint ] && ! grep -q "^urlcheck: $count lines, $refused refused\$" "$room/said"; then
             echo "FAILED: lint said: $(grep refused "$room/said")"
             exit 1
         fi

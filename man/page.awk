@@ -48,7 +48,7 @@ FNR == 1 {
     is_late = section != "Options"
     if (section == "Commands") next
     if (is_program) say(".SH " toupper(section))
-    else if (section == "Example") say(".PP\nExample:")
+    else if (section == "Example" || section == "Exit statuses") say(".PP\n" section ":")
     next
 }
 

@@ -6,18 +6,26 @@ for words in 'check urn:a' 'check x' 'links'; do
     ends_with 3 $? 'write\n' "$words to a full device"
     "$program" $words <"$room/list" >&- 2>"$room/err"
     ends_with 3 $? 'write\n' "$words with standard output closed"
-    # A pipe without a reader, with the signal SIGPIPE at its default, and ignored.
+    # A pipe without a reader, of which nothing is said, with the signal SIGPIPE at its default, and ignored.
     (sleep 0.2; "$program" $words <"$room/list" 2>"$room/err"; echo $? >"$room/status") | true
-    ends_with 3 "$(cat "$room/status")" 'write\n' "$words to a closed pipe"
+    ends_with 3 "$(cat "$room/status")" '' "$words to a closed pipe"
     (trap '' PIPE; sleep 0.2; "$program" $words <"$room/list" 2>"$room/err"; echo $? >"$room/status") | true
-    ends_with 3 "$(cat "$room/status")" 'write\n' "$words to a closed pipe, SIGPIPE ignored"
+    ends_with 3 "$(cat "$room/status")" '' "$words to a closed pipe, SIGPIPE ignored"
+done
+
+# Help and the version, into a full device and to a closed pipe.
+for words in '--help' 'help' 'check --help' 'help lint' '--version'; do
+    "$program" $words >/dev/full 2>"$room/err"
+    ends_with 3 $? 'write\n' "$words to a full device"
+    (sleep 0.2; "$program" $words 2>"$room/err"; echo $? >"$room/status") | true
+    ends_with 3 "$(cat "$room/status")" '' "$words to a closed pipe"
 done
 
 # A pipe that is closed behind one line: the line is whole, and the list, which is longer than a pipe holds, isn't read
-# to its end in silence.
+# to its end.
 awk 'BEGIN { for (n = 1; n <= 100000; n++) print "urn:isbn:" n }' >"$room/long"
 ("$program" links <"$room/long" 2>"$room/err"; echo $? >"$room/status") | head -n 1 >"$room/out"
-ends_with 3 "$(cat "$room/status")" 'write\n' 'links to a pipe closed behind one line'
+ends_with 3 "$(cat "$room/status")" '' 'links to a pipe closed behind one line'
 [ "$(cat "$room/out")" = '1 ok urn:isbn:1' ] || fail "a pipe closed behind one line: it wrote $(cat "$room/out")"
 
 # Inputs: closed, open for writing alone, a folder; and a list that ends within a line, a code point and a scheme.
@@ -42,4 +50,4 @@ ends_early 13 1 '1 ok urn:a\n2 bad 7 host-missing\nlinks 2 ok 1 bad 1 differs 0\
 ends_early 16 1 '1 ok urn:a\n2 bad 0 not-utf8\nlinks 2 ok 1 bad 1 differs 0\n'
 ends_early 17 0 '1 ok urn:a\n2 ok http://h/%C3%A9\nlinks 2 ok 2 bad 0 differs 0\n'
 
-all_cases 22
+all_cases 32

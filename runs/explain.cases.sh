@@ -76,8 +76,15 @@ sed -n '/^rule percent$/,$p' "$room/explained" | cmp -s - "$room/out" || fail "e
 expect 0 "rule not-utf8\nmeans this line isn't UTF-8\nasks A line is a text in UTF-8.\n" '' explain not-utf8
 expect 0 'rule line-too-long\nmeans this line has more than 65536 bytes\nasks A line has at most 65536 bytes.\n' '' \
     explain line-too-long
-for word in host PERCENT '' not-utf-8 'percent '; do
-    expect 2 '' 'error: no rule has this name; `urlcheck explain` names them all\nwords\n' explain "$word"
+rules='urlcheck: the rules:'
+for name in $("$program" explain | awk '$1 == "rule" { print $2 }'); do rules+=" $name"; done
+rules+=' not-utf8 line-too-long'
+for pair in 'PERCENT percent' 'percent_ percent' 'host-mising host-missing' 'codepoint code-point' 'not-utf-8 not-utf8'; do
+    word=${pair% *}
+    expect 2 '' "urlcheck: no rule is named '${word/_/ }'; the nearest is ${pair#* }\\n$rules\\nwords\\n" explain "${word/_/ }"
+done
+for word in host '' nothing; do
+    expect 2 '' "urlcheck: no rule is named '$word'\\n$rules\\nwords\\n" explain "$word"
 done
 
 # The output can't be written.
@@ -85,4 +92,4 @@ for words in 'explain' 'explain percent'; do
     "$program" $words >/dev/full 2>"$room/err"
     ends_with 3 $? 'write\n' "$words to a full device"
 done
-all_cases 44
+all_cases 47

@@ -11,13 +11,15 @@ last='links.txt:6:1: error: there is no scheme and no base [no-scheme]\n'
 other='other.txt:1:9: error: a host has to stand here [host-missing]\n'
 
 # Statuses, counts, files in their order, each read anew; without a FILE there is nothing to do.
-expect 0 '' '2 lines, 0 refused\n' lint right.txt
-expect 1 "$other" '1 line, 1 refused\n' lint other.txt
-expect 1 "$first$underscore$bytes$last" '5 lines, 4 refused\n' lint links.txt
-expect 1 "$first$underscore$bytes$last$other" '8 lines, 5 refused\n' lint links.txt right.txt other.txt
+expect 0 '' 'urlcheck: 2 lines, 0 refused\n' lint right.txt
+expect 1 "$other" 'urlcheck: 1 line, 1 refused\n' lint other.txt
+expect 1 "$first$underscore$bytes$last" 'urlcheck: 5 lines, 4 refused\n' lint links.txt
+expect 1 "$first$underscore$bytes$last$other" 'urlcheck: 8 lines, 5 refused\n' lint links.txt right.txt other.txt
 expect 1 "$other$other" '' lint other.txt --quiet other.txt
 expect 0 '' '' lint --quiet right.txt
-expect 1 "$other" '1 line, 1 refused\n' lint -- other.txt
+expect 0 '' '' lint -q right.txt
+expect 1 "$other" '' lint other.txt -q
+expect 1 "$other" 'urlcheck: 1 line, 1 refused\n' lint -- other.txt
 "$program" lint >"$room/out" 2>"$room/err"
 ended=$?
 count=$((count + 1))
@@ -26,23 +28,32 @@ if [ $ended != 2 ] || [ -s "$room/out" ] || [ "$(tail -n 1 "$room/err")" != word
 fi
 
 # The base, the profile, all faults, and the format by its name.
-expect 1 "$first$underscore$bytes" '5 lines, 3 refused\n' lint --base http://b/ links.txt
-expect 1 "$first$bytes" '5 lines, 2 refused\n' lint --base=http://b/ --wide links.txt
+expect 1 "$first$underscore$bytes" 'urlcheck: 5 lines, 3 refused\n' lint --base http://b/ links.txt
+expect 1 "$first$bytes" 'urlcheck: 5 lines, 2 refused\n' lint --base=http://b/ --wide links.txt
+expect 1 "$first$bytes" 'urlcheck: 5 lines, 2 refused\n' lint --base=http://b/ --profile wide links.txt
+expect 1 "$first$underscore$bytes" 'urlcheck: 5 lines, 3 refused\n' lint --profile=standard --base http://b/ links.txt
 printf 'http://a b:x/ %%\n' >"$room/faults.txt"
-expect 1 'faults.txt:1:8: error: the host that begins here is no valid domain [host-domain]\n' '1 line, 1 refused\n' \
+expect 1 'faults.txt:1:8: error: the host that begins here is no valid domain [host-domain]\n' 'urlcheck: 1 line, 1 refused\n' \
     lint faults.txt
 "$program" lint --all "$room/faults.txt" >"$room/out" 2>"$room/err"
-ends_with 1 $? '1 line, 1 refused\n' 'lint --all'
+ends_with 1 $? 'urlcheck: 1 line, 1 refused\n' 'lint --all'
 places=$("$program" check --all 'http://a b:x/ %' | awk '{ print "1:" $2 + 1 " [" $3 "]" }')
 [ "$(sed 's/.*txt:\([0-9]*:[0-9]*\): .* \(\[[a-z-]*\]\)$/\1 \2/' "$room/out")" = "$places" ] ||
     fail "lint --all: it wrote $(cat "$room/out")"
 [ "$(wc -l <"$room/out")" -gt 2 ] || fail "lint --all: it wrote $(cat "$room/out")"
 expect 2 '' 'base refused 7 host-domain\n' lint --base 'http://h a/' links.txt
 expect 2 '' 'base refused 0 no-scheme\n' lint --base '' missing.txt
-for name in GNU '' gnu, text; do
-    expect 2 '' 'error: no format has this name; they are gnu, caret, json, github, sarif and checkstyle\nwords\n' \
+formats='urlcheck: the formats: gnu caret json github sarif checkstyle\nwords\n'
+for name in GNU gnu, jsan checkstle; do
+    near=gnu
+    case $name in j*) near=json ;; c*) near=checkstyle ;; esac
+    expect 2 '' "urlcheck: no format is named '$name'; the nearest is $near\\n$formats" \
         lint --base 'a b' --format "$name" links.txt
 done
+for name in '' xyz gnujson; do
+    expect 2 '' "urlcheck: no format is named '$name'\\n$formats" lint --base 'a b' --format="$name" links.txt
+done
+expect 2 '' "urlcheck: no format is named 'a\\0357\\0277\\0275[2J'\\n$formats" lint --format $'a\e[2J' links.txt
 
 # A sentence names the code point: an ASCII one by its name, another one as it is, where it is shown.
 printf 'http://h/\e\nhttp://h/\xc3\xa9\xc2\x85\nfoo://a^b/\nhttp://h:8x/\nhttp://h/%%4\nhttp://h/\xf0\x9f\x98\x80\n' \
@@ -124,38 +135,83 @@ of_input() {
     ends_with "$status" $? "$stderr" "lint $*"
     printf '%b' "$stdout" | cmp -s - "$room/out" || fail "lint $*: it wrote $(cat "$room/out")"
 }
-of_input 1 '-:2:1: error: there is no scheme and no base [no-scheme]\n' '2 lines, 1 refused\n' 'urn:a\nx' -
-of_input 1 "$other"'-:1:1: error: there is no scheme and no base [no-scheme]\n' '4 lines, 2 refused\n' 'x\n' \
+of_input 1 '-:2:1: error: there is no scheme and no base [no-scheme]\n' 'urlcheck: 2 lines, 1 refused\n' 'urn:a\nx' -
+of_input 1 "$other"'-:1:1: error: there is no scheme and no base [no-scheme]\n' 'urlcheck: 4 lines, 2 refused\n' 'x\n' \
     other.txt - right.txt -
-of_input 0 '' '0 lines, 0 refused\n' '' -
-of_input 0 '' '0 lines, 0 refused\n' '\n\r\n\n' -
+of_input 0 '' 'urlcheck: 0 lines, 0 refused\n' '' -
+of_input 0 '' 'urlcheck: 0 lines, 0 refused\n' '\n\r\n\n' -
 
 # A byte order mark at a file's start is no part of its first line; on another line it is.
-of_input 1 '-:1:10: error: U+0020 SPACE may not stand in a URL [code-point]\n' '2 lines, 1 refused\n' \
+of_input 1 '-:1:10: error: U+0020 SPACE may not stand in a URL [code-point]\n' 'urlcheck: 2 lines, 1 refused\n' \
     '\xef\xbb\xbfhttp://h/ \nurn:a\n' -
-of_input 0 '' '0 lines, 0 refused\n' '\xef\xbb\xbf\n' -
-of_input 1 '-:2:1: error: there is no scheme and no base [no-scheme]\n' '2 lines, 1 refused\n' \
+of_input 0 '' 'urlcheck: 0 lines, 0 refused\n' '\xef\xbb\xbf\n' -
+of_input 1 '-:2:1: error: there is no scheme and no base [no-scheme]\n' 'urlcheck: 2 lines, 1 refused\n' \
     'urn:a\n\xef\xbb\xbfurn:a\n' -
 "$program" lint - <&- >"$room/out" 2>"$room/err"
-ends_with 2 $? "-: can't be read\\n0 lines, 0 refused\\n" 'lint of a standard input that is closed'
+ends_with 2 $? "urlcheck: -: can't be read\\nurlcheck: 0 lines, 0 refused\\n" 'lint of a standard input that is closed'
 
 # Files that can't be opened or read are told by their names, and the others go on: one that isn't there, a folder, a
 # path through a file, one whose first read fails, and one that may not be read.
-expect 2 "$other" "missing: can't be read\\n1 line, 1 refused\\n" lint missing other.txt
-expect 2 "$other" ".: can't be read\\n: can't be read\\nother.txt/x: can't be read\\n1 line, 1 refused\\n" \
+expect 2 "$other" "urlcheck: missing: can't be read: there is no such file\\nurlcheck: 1 line, 1 refused\\n" \
+    lint missing other.txt
+expect 2 "$other" "urlcheck: .: can't be read: it is a folder\\nurlcheck: : can't be read: there is no such file\\n\
+urlcheck: other.txt/x: can't be read: a part of its path is no folder\\nurlcheck: 1 line, 1 refused\\n" \
     lint . '' other.txt other.txt/x
-expect 2 '' "/proc/self/mem: can't be read\\n2 lines, 0 refused\\n" lint /proc/self/mem right.txt
-expect 2 '' "missing: can't be read\\n" lint --quiet missing right.txt
-expect 2 '' "a\\0357\\0277\\0275[2J\\0357\\0277\\0275b: can't be read\\n0 lines, 0 refused\\n" lint $'a\e[2J\nb'
+expect 2 '' "urlcheck: /proc/self/mem: can't be read\\nurlcheck: 2 lines, 0 refused\\n" lint /proc/self/mem right.txt
+expect 2 '' "urlcheck: missing: can't be read: there is no such file\\n" lint --quiet missing right.txt
+expect 2 '' "urlcheck: a\\0357\\0277\\0275[2J\\0357\\0277\\0275b: can't be read: there is no such file\\n\
+urlcheck: 0 lines, 0 refused\\n" lint $'a\e[2J\nb'
 chmod 755 "$room"
 cp "$program" "$room/program"
 chmod 000 "$room/links.txt"
 as_nobody=()
 if [ "$(id -u)" = 0 ]; then as_nobody=(setpriv --reuid=65534 --regid=65534 --clear-groups); fi
 (cd "$room" && "${as_nobody[@]}" ./program lint links.txt other.txt) >"$room/out" 2>"$room/err"
-ends_with 2 $? "links.txt: can't be read\\n1 line, 1 refused\\n" 'lint of a file that may not be read'
+ends_with 2 $? "urlcheck: links.txt: can't be read: it may not be read\\nurlcheck: 1 line, 1 refused\\n" \
+    'lint of a file that may not be read'
 printf '%b' "$other" | cmp -s - "$room/out" || fail "lint of a file that isn't permitted: it wrote $(cat "$room/out")"
 chmod 644 "$room/links.txt"
+
+# Each file is opened by the very name that was given: with spaces, a `%`, a `:`, `..`, of 255 bytes, beyond ASCII, and
+# also through a folder; beside each stands a file whose name is nearly the same.
+name_255=$(printf 'n%.0s' {1..255})
+mkdir "$room/folder"
+names=('two  words ' 'a%20b' '%' 'a:b' ' ' '~' '$HOME' 'a\b' "$name_255" $'\u00e9\u4e2d' 'folder/../dots' './here' 'folder//twice' '*')
+for name in "${names[@]}"; do
+    printf 'x\n' >"$room/$name"
+    shown=${name//\\/\\\\}
+    expect 1 "$shown:1:1: error: there is no scheme and no base [no-scheme]\\n" '' lint -q -- "$name"
+done
+for name in 'two words ' 'two  words' 'a b' 'a%2520b' "${name_255%n}" $'e\u0301\u4e2d' 'dots ' 'Here'; do
+    expect 2 '' "urlcheck: $name: can't be read: there is no such file\\n" lint -q -- "$name"
+done
+expect 2 '' "urlcheck: right.txt/: can't be read: a part of its path is no folder\\n" lint -q right.txt/
+expect 2 '' "urlcheck: folder/: can't be read: it is a folder\\n" lint -q folder/
+expect 2 '' "urlcheck: ${name_255}n: can't be read\\n" lint -q "${name_255}n"
+for name in "${names[@]}"; do rm -f -- "$room/$name"; done
+rmdir "$room/folder"
+
+# A name that isn't UTF-8 is told by its number, and the other files are judged.
+printf 'x\n' >"$room/"$'\xff'
+expect 2 "$other" "urlcheck: argument 4 isn't UTF-8\\nurlcheck: 1 line, 1 refused\\n" lint --all other.txt $'\xff'
+expect 2 '' "urlcheck: argument 2 isn't UTF-8\\nwords\\n" lint --base=$'\xff' $'\xff'
+rm -f -- "$room/"$'\xff'
+
+# 5,000 files are a run, and each of them is judged.
+mkdir "$room/many"
+for number in {1..5000}; do echo "http://h/ $number" >"$room/many/$number.txt"; done
+(cd "$room/many" && "$program" lint *.txt) >"$room/out" 2>"$room/err"
+ends_with 1 $? 'urlcheck: 5000 lines, 5000 refused\n' 'lint of 5,000 files'
+[ "$(cut -d: -f1 "$room/out" | sort -u | wc -l)" = 5000 ] || fail "lint of 5,000 files: $(wc -l <"$room/out") diagnostics"
+rm -rf "$room/many"
+
+# A pipe that is closed behind one line: in silence, with the status of a write.
+awk 'BEGIN { for (n = 1; n <= 100000; n++) print n }' >"$room/long"
+(cd "$room" && "$program" lint long 2>"$room/err"; echo $? >"$room/status") | head -n 1 >"$room/out"
+ends_with 3 "$(cat "$room/status")" '' 'lint to a pipe closed behind one line'
+[ "$(cat "$room/out")" = 'long:1:1: error: there is no scheme and no base [no-scheme]' ] ||
+    fail "a pipe closed behind one line: it wrote $(cat "$room/out")"
+rm -f "$room/long"
 
 # An output that takes nothing stops the lint: no further file is opened. So it is in each format, also where nothing is
 # found and a document alone would be written.
@@ -214,9 +270,9 @@ done
 awk 'BEGIN { for (n = 1; n <= 1000000; n++) print (n % 100 ? "https://example.com/" n "/a?b" : "http://h/a b") }' \
     >"$room/million"
 prlimit --as=10000000 "$program" lint "$room/million" >"$room/out" 2>"$room/err"
-ends_with 1 $? '1000000 lines, 10000 refused\n' 'lint of a million lines'
+ends_with 1 $? 'urlcheck: 1000000 lines, 10000 refused\n' 'lint of a million lines'
 [ "$(wc -l <"$room/out")" = 10000 ] || fail "lint of a million lines: $(wc -l <"$room/out") diagnostics"
 grep -qxF "$room/million:1000000:11: error: U+0020 SPACE may not stand in a URL [code-point]" "$room/out" ||
     fail "lint of a million lines: it ends with $(tail -n 1 "$room/out")"
 rm -f "$room/million" "$room"/hostile.* "$room"/none.*
-all_cases 66
+all_cases 103

@@ -56,6 +56,14 @@ awk -v long="${long:0:65000}" 'BEGIN {
 walks lint --quiet -
 walks lint --quiet --all --format caret --base "http://h/$long" -
 
+# A vector file is read into memory whole: want of memory for its bytes, and for its cases, is told as such.
+{
+    printf '['
+    awk 'BEGIN { for (n = 1; n <= 3000; n++) printf "%s{\"input\":\"http://h/%d\",\"text\":\"http://h/%d\"}", (n > 1 ? "," : ""), n, n }'
+    printf ']'
+} >"$room/vectors.json"
+walks vectors "$room/vectors.json"
+
 # While there is memory, none is wanted: each kind of host and many segments, in a line and in the base.
 many=$(awk 'BEGIN { for (n = 0; n < 20000; n++) printf "/a" }')
 for front in http://h http://xn--bcher-kva.example http://192.168.0.1 'http://[1:2::8]' file://h file:// foo://h foo:// \
@@ -94,4 +102,4 @@ awk -v ends=0 '/^links / { print $2, other; if ($2 != $4 + $6 + $8 || $2 != NR -
     / bad 0 not-utf8$/ { other++ }' "$room/out" | cmp -s - "$room/wanted" ||
     fail "64 MiB of random bytes: $(tail -n 1 "$room/out"), and not $(cat "$room/wanted")"
 
-all_cases 23
+all_cases 24

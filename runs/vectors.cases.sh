@@ -42,11 +42,12 @@ expect 2 '' 'vectors too large\n' vectors vectors.json
 expect 1 "$(seq 1000 1000 100000 | sed 's/^/fail /; s/$/\\n/' | tr -d '\n')vectors 100000 pass 99900 fail 100\\n" '' vectors vectors.json
 
 # A file that isn't there, a folder, a path through a file, and a file whose first read fails: memory at address 0.
-expect 3 '' 'read\n' vectors missing.json
-expect 3 '' 'read\n' vectors .
-expect 3 '' 'read\n' vectors ''
-expect 3 '' 'read\n' vectors vectors.json/x
-expect 3 '' 'read\n' vectors /proc/self/mem
+expect 3 '' "urlcheck: missing.json: can't be read: there is no such file\\nread\\n" vectors missing.json
+expect 3 '' "urlcheck: .: can't be read: it is a folder\\nread\\n" vectors .
+expect 3 '' "urlcheck: : can't be read: there is no such file\\nread\\n" vectors ''
+expect 3 '' "urlcheck: vectors.json/x: can't be read: a part of its path is no folder\\nread\\n" \
+    vectors vectors.json/x
+expect 3 '' "urlcheck: /proc/self/mem: can't be read\\nread\\n" vectors /proc/self/mem
 
 # A file that may not be read. Root may read every file, so root runs the program as nobody.
 chmod 755 "$room"
@@ -55,7 +56,7 @@ chmod 000 "$room/vectors.json"
 as_nobody=()
 if [ "$(id -u)" = 0 ]; then as_nobody=(setpriv --reuid=65534 --regid=65534 --clear-groups); fi
 (cd "$room" && "${as_nobody[@]}" ./program vectors vectors.json) >"$room/out" 2>"$room/err"
-ends_with 3 $? 'read\n' 'vectors, of a file that may not be read'
+ends_with 3 $? "urlcheck: vectors.json: can't be read: it may not be read\\nread\\n" 'vectors, of a file that may not be read'
 rm -f "$room/vectors.json"
 
 # The output can't be written.
@@ -64,7 +65,7 @@ vector_file '[]'
 ends_with 3 $? 'write\n' 'vectors, into a full device'
 
 # The suite of the tests is the file for others, byte for byte.
-suite=$(dirname "$here")/crates/uv_cli/src/vectors/suite.rt
+suite=$(dirname "$here")/crates/uv_vectors/src/tests/suite.rt
 count=$((count + 1))
 if ! sed -n '/r##"/,/^"##;$/p' "$suite" | sed '1s/.*r##"//; $d' | cmp -s - "$vectors/standard.json"; then
     fail 'the suite of the tests and vectors/standard.json differ'

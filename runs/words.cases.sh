@@ -1,6 +1,7 @@
 # The words of the command line, and the statuses that they give.
 
-# refused WHY WORD.. : these words are refused: standard error says why, how the program is used, and at its end `words`
+# refused WHY WORD.. : these words are refused: standard error says why, how the program is used, and at its end `words`,
+# each line but this one behind the program's name
 refused() {
     local why=$1
     shift
@@ -9,8 +10,8 @@ refused() {
     count=$((count + 1))
     if [ "$ended" != 2 ]; then fail "$*: status $ended, and not 2"; fi
     if [ -s "$room/out" ]; then fail "$*: it wrote: $(cat "$room/out")"; fi
-    if ! grep -qF -- "$why" "$room/err" || ! grep -q '^Usage: urlcheck' "$room/err" ||
-        [ "$(tail -n 1 "$room/err")" != words ]; then
+    if ! grep -qF -- "$why" "$room/err" || ! grep -q '^urlcheck: Usage: urlcheck' "$room/err" ||
+        [ "$(tail -n 1 "$room/err")" != words ] || [ "$(grep -vc '^urlcheck: ' "$room/err")" != 1 ]; then
         fail "$*: on standard error: $(cat "$room/err")"
     fi
 }
@@ -32,7 +33,7 @@ refused 'requires a subcommand'
 refused "'-x'" -x
 refused '<TEXT>' check
 refused "'-a'" check -a
-expect 2 '' "error: a value is required for '--base <TEXT>' but none was supplied\n\nFor more information, try '--help'.\nwords\n" \
+expect 2 '' "urlcheck: a value is required for '--base <TEXT>' but none was supplied\nurlcheck: For more information, try '--help'.\nwords\n" \
     check --base
 refused "'urn:b'" check urn:a urn:b
 refused "'urn:b'" check -- urn:a urn:b
@@ -40,15 +41,42 @@ refused "'b'" check -- --base b t
 refused "'chek'" chek urn:a
 refused "'x'" links x
 refused '<FILE>' vectors
-expect 2 '' 'words\n' check $'\xff'
-shows "  2  the words, the base or the vector file are refused, or a file of lint can't be read" --help
-shows "  2  the words, the base or the vector file are refused, or a file of lint can't be read" -h
+expect 2 '' "urlcheck: argument 2 isn't UTF-8\nwords\n" check $'\xff'
+expect 2 '' "urlcheck: argument 1 isn't UTF-8\nwords\n" $'\xff'
+expect 2 '' "urlcheck: argument 3 isn't UTF-8\nwords\n" check a $'b\xff' --base $'\xfe'
+expect 2 '' "urlcheck: argument 2 isn't UTF-8\nwords\n" vectors $'\xff'
+refused $'unexpected argument \'-\xef\xbf\xbd[2J\'' check $'-\e[2J' a
+refused $'unrecognized subcommand \'a\xef\xbf\xbd\'' $'a\a'
+shows "  2  the arguments, the base or the vector file are refused, or a file of lint can't be read" --help
+shows "  2  the arguments, the base or the vector file are refused, or a file of lint can't be read" -h
 shows "  urlcheck check 'http://h/a b'" help
 shows '  urlcheck check --base http://h/a/b ../x' check --help
 shows '  urlcheck links --base http://h/ < links.txt' help links
 shows '  urlcheck lint --format caret links.txt' lint --help
 shows '  urlcheck vectors vectors/standard.json' help vectors
 shows "urlcheck $(cat "$(dirname "$here")/VERSION")" --version
+
+# The statuses of each command stand in its help, and each command that judges says what the profiles are.
+shows '  1  the text is refused' check --help
+shows "  2  the arguments or the base are refused, or a file can't be read; the others are judged" lint --help
+shows "  1  a line isn't ok" help links
+shows '  1  a vector fails' vectors --help
+shows '  2  the arguments are refused, or no rule has the name' explain --help
+shows '      --profile <PROFILE>  standard or wide; without it standard' links --help
+shows '  -q, --quiet              Leaves out the counts on standard error' lint --help
+
+# A profile by its name, by `--wide`, and by a name that none has.
+expect 0 'valid\nscheme http\nhost domain a_b\nsegment \n' '' check --profile wide http://a_b/
+expect 1 'refused 7 host-domain\n' '' check --profile=standard http://a_b/
+expect 0 'valid\nscheme http\nhost domain a_b\nsegment x\n' '' check x --base http://a_b/ --profile wide
+profiles='urlcheck: the profiles: standard wide\nwords\n'
+expect 2 '' "urlcheck: no profile is named 'wyde'; the nearest is wide\n$profiles" check --profile wyde urn:a
+expect 2 '' "urlcheck: no profile is named 'WIDE'; the nearest is wide\n$profiles" links --profile WIDE --base 'a b'
+expect 2 '' "urlcheck: no profile is named 'browser'\n$profiles" lint --profile browser missing
+expect 2 '' "urlcheck: no profile is named ''\n$profiles" check --profile= urn:a
+both='urlcheck: --wide stands for --profile wide: only one of them may be given\nwords\n'
+expect 2 '' "$both" check --wide --profile wide urn:a
+expect 2 '' "$both" links --profile standard --wide
 
 # The text and the base are taken as they are given.
 expect 1 'refused 0 no-scheme\n' '' check ''
@@ -108,4 +136,4 @@ expect 2 '' 'base refused 7 host-domain\n' check --base http://a_b/ x
 expect 0 'valid\nscheme http\nhost domain a_b\nsegment x\n' '' check --wide --base http://a_b/ x
 expect 1 'refused 7 host-domain\nrefused 11 code-point\n' '' check --all 'http://a_b/ '
 expect 1 'refused 11 code-point\n' '' check --all --wide 'http://a_b/ '
-all_cases 76
+all_cases 97

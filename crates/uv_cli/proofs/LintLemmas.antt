@@ -1,5 +1,5 @@
 -- Files that were linted: a source, and one file behind others.
-use Rattle.std.proofs.Common.{◌≡◌, ◌∙◌, ◌+◌, ◌<◌, ◌≤◌, ℕ, Bool, true, false, List, [], ◌∷◌, ◌++◌, Option, Some, None, Result, Ok, Err, IfErr, OnOk, String, Global, refl, sym, subst, ap, arith, inl, inr, is_some, length, map, option_copied, take, get_or, string_bytes}
+use Rattle.std.proofs.Common.{◌≡◌, ◌∙◌, ◌+◌, ◌<◌, ◌≤◌, ℕ, Bool, true, false, List, [], ◌∷◌, ◌++◌, Option, Some, None, Result, Ok, Err, IfErr, OnOk, String, Global, refl, sym, subst, ap, arith, inl, inr, is_some, length, map, take, get_or, string_bytes}
 use Rattle.std.proofs.lemmas.List.{map-append, take_all, take_more}
 use Rattle.std.specs.Borrow.{Bor}
 use Rattle.std.specs.Io.KnownBytes.{Consumes, IsAtEnd}
@@ -11,16 +11,15 @@ use Rattle.uv_lint.specs.Findings.{FileSetting, file_setting}
 use Rattle.uv_lint.specs.Run.{FailsReads, Leaves, Reports, writes_failed}
 use Rattle.uv_report.specs.declared.format.Format.{Format}
 use Rattle.uv_model.specs.Records.Url.{Url}
+use Rattle.uv_resolve.specs.Base.{IsBase}
 use Rattle.uv_words.specs.declared.words.LintJob.{LintJob}
 use Rattle.uv_cli.specs.declared.ends.End.{End}
 use Rattle.uv_cli.specs.declared.ends.End.TheVariants as end
-use Rattle.uv_cli.specs.declared.fault.CliFault.TheVariants as cli
+use Rattle.uv_vectors.specs.declared.fault.CliFault.TheVariants as cli
 use Rattle.uv_cli.specs.declared.linted.Linted.{Linted}
-use Rattle.uv_cli.specs.Check.{IsBase}
-use Rattle.uv_cli.specs.Ends.{complaints_of, profile_of}
 use Rattle.uv_cli.specs.Device.{Device}
 use Rattle.uv_cli.specs.Lint.{FailsAsAnswered, HasLinted, HasLintedAgainst, LintsAll, LintsNamed, LintsNext}
-use Rattle.uv_cli.specs.Lint.{LintsSource, WritesPiece, format_of, most, setting_of}
+use Rattle.uv_cli.specs.Lint.{LintsSource, WritesPiece, format_of, most}
 use Rattle.uv_cli.specs.Linted.{is_stopped, is_writable, no_file, with_file}
 
 -- what a run over a source has done
@@ -88,11 +87,11 @@ named_quiet : (is_input : Bool) (setting : FileSetting) (is_first : Bool) (befor
     → is_writable (with_file before counts answer).stopped ≡ true → new.failed ≡ old.failed
 named_quiet true setting is_first before counts answer input rest old new named writable = elim named [
   | inl source ↦ source_quiet before counts answer input rest old new source.failed writable
-  | inr nothing ↦ ap (λ d. d.failed) nothing.0.2
+  | inr nothing ↦ ap (λ d. d.failed) nothing.0.1
 ]
 named_quiet false setting is_first before counts answer input rest old new named writable = elim (named.0) [
   | inl opened ↦ source_quiet before counts answer opened.0 opened.1 old new opened.2.failed writable
-  | inr nothing ↦ ap (λ d. d.failed) nothing.2
+  | inr nothing ↦ ap (λ d. d.failed) nothing.0.1
 ]
 
 -- what hasn't stopped can write
@@ -131,26 +130,18 @@ begins_with piece text is_quiet none first old begun is same wrote =
     subst (λ t. WritesPiece true t (no_file is_quiet) first old begun) same
     (subst (λ l. WritesPiece (is_writable l.stopped) piece l first old begun) is wrote)
 
--- the files were linted by what the job asks for
-pub lints_by : (asked : LintJob) (setting : LintSetting) (files names : List (List ℕ)) (before after : Linted)
+-- the same files were linted
+pub lints_files : (setting : LintSetting) (files names : List (List ℕ)) (before after : Linted)
     (input rest old new : Device)
-    → setting.profile ≡ profile_of asked.wide → setting.complaints ≡ complaints_of asked.all → files ≡ names
-    → LintsAll (λ file. file_setting file setting) files before after input rest old new
-    → LintsAll (setting_of asked (option_copied setting.base) setting.format) names before after input rest old new
-lints_by asked setting files names before after input rest old new profile complaints same all =
-    subst (λ f. LintsAll (setting_of asked (option_copied setting.base) setting.format) f
-    before after input rest old new) same
-    (subst (λ c. LintsAll (λ file. file_setting file (record setting {
-      profile = profile_of asked.wide;
-      complaints = c;
-    })) files before after input rest old new) complaints
-    (subst (λ p. LintsAll (λ file. file_setting file (record setting { profile = p })) files
-    before after input rest old new) profile all))
+    → files ≡ names → LintsAll (λ file. file_setting file setting) files before after input rest old new
+    → LintsAll (λ file. file_setting file setting) names before after input rest old new
+lints_files setting files names before after input rest old new same all =
+    subst (λ f. LintsAll (λ file. file_setting file setting) f before after input rest old new) same all
 
 -- what was done against the URL of the base's text
 pub linted_against : (asked : LintJob) (base name : Option (Bor (List ℕ))) (url : Option Url) (format : Format)
     (end : End) (input rest old new : Device)
-    → IsBase (profile_of asked.wide) base url → format_of name ≡ Some format
+    → IsBase asked.profile base url → format_of name ≡ Some format
     → HasLintedAgainst asked url format end input rest old new → HasLinted asked base name end input rest old new
 linted_against asked base name url format (end.Linted linted) input rest old new is named done =
     (url, format, is, named, done)
@@ -162,6 +153,7 @@ linted_against asked base name url format end.Shown input rest old new is named 
 linted_against asked base name url format end.Words input rest old new is named done = absurd done
 linted_against asked base name url format end.UnknownRule input rest old new is named done = absurd done
 linted_against asked base name url format end.UnknownFormat input rest old new is named done = absurd done
+linted_against asked base name url format end.UnknownProfile input rest old new is named done = absurd done
 linted_against asked base name url format (end.BaseRefused refusal) input rest old new is named done = absurd done
 linted_against asked base name url format (end.Stopped fault) input rest old new is named done = absurd done
 linted_against asked base name url format (end.Vectors ended) input rest old new is named done = absurd done

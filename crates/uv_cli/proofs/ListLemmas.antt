@@ -3,11 +3,11 @@ use Rattle.std.proofs.Common.{List, ℕ, Option}
 use Rattle.std.specs.Borrow.{Bor}
 use Rattle.uv_model.specs.declared.profile.Profile.{Profile}
 use Rattle.uv_model.specs.Records.Url.{Url}
+use Rattle.uv_resolve.specs.Base.{IsBase}
 use Rattle.uv_cli.specs.declared.ends.End.{End}
-use Rattle.uv_cli.specs.declared.ends.End.TheVariants.{Valid, Refused, Shown, Words, UnknownRule, UnknownFormat, BaseRefused}
+use Rattle.uv_cli.specs.declared.ends.End.TheVariants.{Valid, Refused, Shown, Words, UnknownRule, UnknownFormat, UnknownProfile, BaseRefused}
 use Rattle.uv_cli.specs.declared.ends.End.TheVariants.{Fault, Linted, Stopped, Vectors, Unread}
-use Rattle.uv_cli.specs.declared.fault.CliFault.TheVariants.{Memory, Write}
-use Rattle.uv_cli.specs.Check.{IsBase}
+use Rattle.uv_vectors.specs.declared.fault.CliFault.TheVariants.{Memory, Write}
 use Rattle.uv_cli.specs.Device.{Device}
 use Rattle.uv_cli.specs.Jobs.{HasListed, HasListedAgainst}
 
@@ -23,6 +23,7 @@ listed_against profile base url Shown input rest old new is listed = absurd list
 listed_against profile base url Words input rest old new is listed = absurd listed
 listed_against profile base url UnknownRule input rest old new is listed = absurd listed
 listed_against profile base url UnknownFormat input rest old new is listed = absurd listed
+listed_against profile base url UnknownProfile input rest old new is listed = absurd listed
 listed_against profile base url (Linted linted) input rest old new is listed = absurd listed
 listed_against profile base url (BaseRefused refusal) input rest old new is listed = absurd listed
 listed_against profile base url (Fault Memory) input rest old new is listed = absurd listed

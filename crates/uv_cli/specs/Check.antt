@@ -3,6 +3,8 @@ use Rattle.std.specs.Prelude.{◌≡◌, ℕ, List, Option, Some, None, take}
 use Rattle.std.specs.Borrow.{Bor}
 use Rattle.std.specs.Io.KnownBytes.{Appends}
 use Rattle.std.specs.Str.{chars}
+use Rattle.uv_model.specs.declared.extent.Extent.{Extent}
+use Rattle.uv_model.specs.declared.extent.Extent.TheVariants.{First, All}
 use Rattle.uv_model.specs.declared.profile.Profile.{Profile}
 use Rattle.uv_model.specs.declared.rule.Refusal.{Refusal}
 use Rattle.uv_model.specs.Complaints.AllComplaints.{AreFaults}
@@ -12,70 +14,58 @@ use Rattle.uv_parser.specs.Laws.Silence.{RunsSilently}
 use Rattle.uv_model.specs.Records.Url.{Url}
 use Rattle.uv_model.specs.Valid.{Valid}
 use Rattle.uv_grammar.specs.Verdict.{IsRefused}
+use Rattle.uv_resolve.specs.Base.{IsBase, IsBaseRefused}
 use Rattle.uv_resolve.specs.Resolve.{RunsToItsRecord}
 use Rattle.uv_cli.specs.declared.check.CheckEnd.{CheckEnd}
 use Rattle.uv_cli.specs.declared.check.CheckEnd.TheVariants as check
-use Rattle.uv_lint.specs.declared.setting.Complaints.{Complaints}
-use Rattle.uv_lint.specs.declared.setting.Complaints.TheVariants.{Least, All}
 use Rattle.uv_cli.specs.CheckText.{check_text, faults_text, refused_text}
 
--- the line of a refused text's least complaint, or a line for each of its complaints, in their order
-abbrev pub SaysRefused : Complaints → Profile → Option Url → List ℕ → List ℕ → Type 0
-SaysRefused Least profile base text whole =
+-- the line of a refused text's first violation, or a line for each of its violations, in their order
+abbrev pub SaysRefused : Extent → Profile → Option Url → List ℕ → List ℕ → Type 0
+SaysRefused First profile base text whole =
     (refusal : Refusal) × IsRefused profile base text refusal × (whole ≡ refused_text refusal)
 SaysRefused All profile base text whole =
     ((refusal : Refusal) × IsRefused profile base text refusal)
     × ((refusals : List Refusal) × AreFaults profile base text refusals × (whole ≡ faults_text refusals))
 
 -- What a check says of a text against a URL as base, and how it ends: the lines of the URL that the text denotes, or
--- those of its complaints. On a valid text the URL parser is silent, and gives the URL that is denoted.
-abbrev pub Says : Complaints → Profile → Option Url → List ℕ → CheckEnd → List ℕ → Type 0
-Says complaints profile base text check.Valid whole =
+-- those of its violations. On a valid text the URL parser is silent, and gives the URL that is denoted.
+abbrev pub Says : Extent → Profile → Option Url → List ℕ → CheckEnd → List ℕ → Type 0
+Says extent profile base text check.Valid whole =
     (parts : Parts) × Valid profile base text parts × RunsSilently base text parts
     × (whole ≡ check_text (denote base parts))
-Says complaints profile base text check.Refused whole = SaysRefused complaints profile base text whole
-Says complaints profile base text (check.BaseRefused refusal) whole = ⊥
-
--- the base: none, or the URL that its text denotes alone
-abbrev pub IsBase : Profile → Option (Bor (List ℕ)) → Option Url → Type 0
-IsBase profile None base = base ≡ None
-IsBase profile (Some text) base =
-    (parts : Parts) × Valid profile None (chars text.now) parts × (base ≡ Some (denote None parts))
-
--- the base's text is refused alone by this refusal
-abbrev pub IsBaseRefused : Profile → Option (Bor (List ℕ)) → Refusal → Type 0
-IsBaseRefused profile None refusal = ⊥
-IsBaseRefused profile (Some text) refusal = IsRefused profile None (chars text.now) refusal
+Says extent profile base text check.Refused whole = SaysRefused extent profile base text whole
+Says extent profile base text (check.BaseRefused refusal) whole = ⊥
 
 -- the whole of what is said of the text was written
-pub record WritesWhole (complaints : Complaints) (profile : Profile) (base : Option Url) (text : List ℕ)
+pub record WritesWhole (extent : Extent) (profile : Profile) (base : Option Url) (text : List ℕ)
     (end : CheckEnd)
     (old new : Option (List ℕ)) : Type 0 where
   pub whole : List ℕ
-  pub says : Says complaints profile base text end whole
+  pub says : Says extent profile base text end whole
   pub wrote : Appends old new whole
 
 -- a front of what is said of the text was written
-pub record WritesFront (complaints : Complaints) (profile : Profile) (base : Option Url) (text : List ℕ)
+pub record WritesFront (extent : Extent) (profile : Profile) (base : Option Url) (text : List ℕ)
     (old new : Option (List ℕ)) : Type 0 where
   pub end : CheckEnd
   pub whole : List ℕ
-  pub says : Says complaints profile base text end whole
+  pub says : Says extent profile base text end whole
   pub count : ℕ
   pub wrote : Appends old new (take count whole)
 
 -- what is said of the text against the base's text was written, or the base is refused
 abbrev pub HasWritten
-    : Complaints → Profile → Option (Bor (List ℕ)) → List ℕ → CheckEnd → Option (List ℕ) → Option (List ℕ) → Type 0
-HasWritten complaints profile base text (check.BaseRefused refusal) old new = IsBaseRefused profile base refusal
-HasWritten complaints profile base text end old new =
-    (url : Option Url) × IsBase profile base url × WritesWhole complaints profile url text end old new
+    : Extent → Profile → Option (Bor (List ℕ)) → List ℕ → CheckEnd → Option (List ℕ) → Option (List ℕ) → Type 0
+HasWritten extent profile base text (check.BaseRefused refusal) old new = IsBaseRefused profile base refusal
+HasWritten extent profile base text end old new =
+    (url : Option Url) × IsBase profile base url × WritesWhole extent profile url text end old new
 
 -- a front of what is said of the text against the base's text was written
 abbrev pub HasWrittenFront
-    : Complaints → Profile → Option (Bor (List ℕ)) → List ℕ → Option (List ℕ) → Option (List ℕ) → Type 0
-HasWrittenFront complaints profile base text old new =
-    (url : Option Url) × IsBase profile base url × WritesFront complaints profile url text old new
+    : Extent → Profile → Option (Bor (List ℕ)) → List ℕ → Option (List ℕ) → Option (List ℕ) → Type 0
+HasWrittenFront extent profile base text old new =
+    (url : Option Url) × IsBase profile base url × WritesFront extent profile url text old new
 
 -- the parser runs to the record of the text where it is valid, alone or against the URL that the base's text denotes,
 -- and to the record of the base's text where that is valid alone

@@ -1,7 +1,5 @@
 -- How the program ends: the end of what was given, its exit status, and its line on standard error.
 use Rattle.std.specs.Prelude.{ℕ, Bool, true, false, List, [], ◌++◌, Result, Ok, Err, codes, decimal, if◌then◌else◌, ◌==◌}
-use Rattle.uv_model.specs.declared.profile.Profile.{Profile}
-use Rattle.uv_model.specs.declared.profile.Profile.TheVariants as profile
 use Rattle.uv_model.specs.declared.rule.Refusal.{Refusal}
 use Rattle.uv_model.specs.Complaints.Rule.{rule_name}
 use Rattle.uv_links.specs.declared.counts.Counts.{Counts}
@@ -13,32 +11,18 @@ use Rattle.uv_words.specs.declared.words.WordsFault.TheVariants as words
 use Rattle.uv_words.specs.Words.{asks_to_show}
 use Rattle.uv_cli.specs.declared.check.CheckEnd.{CheckEnd}
 use Rattle.uv_cli.specs.declared.check.CheckEnd.TheVariants as check
-use Rattle.uv_lint.specs.declared.setting.Complaints.{Complaints}
-use Rattle.uv_lint.specs.declared.setting.Complaints.TheVariants as complaints
 use Rattle.uv_cli.specs.declared.explain.ExplainEnd.{ExplainEnd}
 use Rattle.uv_cli.specs.declared.explain.ExplainEnd.TheVariants as explain
-use Rattle.uv_cli.specs.declared.fault.CliFault.{CliFault}
-use Rattle.uv_cli.specs.declared.fault.CliFault.TheVariants as cli
+use Rattle.uv_vectors.specs.declared.fault.CliFault.{CliFault}
+use Rattle.uv_vectors.specs.declared.fault.CliFault.TheVariants as cli
 use Rattle.uv_cli.specs.declared.ends.End.{End}
-use Rattle.uv_cli.specs.declared.ends.End.TheVariants.{Valid, Refused, Shown, Words, UnknownRule, UnknownFormat, BaseRefused}
+use Rattle.uv_cli.specs.declared.ends.End.TheVariants.{Valid, Refused, Shown, Words, UnknownRule, UnknownFormat, UnknownProfile, BaseRefused}
 use Rattle.uv_cli.specs.declared.ends.End.TheVariants.{Fault, Linted, Stopped, Vectors, Unread}
-use Rattle.uv_cli.specs.declared.vectors.VectorEnd.{VectorEnd}
-use Rattle.uv_cli.specs.declared.vectors.VectorEnd.TheVariants as vectors
-use Rattle.uv_cli.specs.declared.vectors.file.FileFault.{FileFault}
-use Rattle.uv_cli.specs.declared.vectors.file.FileFault.TheVariants as file
+use Rattle.uv_vectors.specs.declared.run.VectorEnd.{VectorEnd}
+use Rattle.uv_vectors.specs.declared.run.VectorEnd.TheVariants as vectors
+use Rattle.uv_cli.specs.declared.unread.FileFault.{FileFault}
+use Rattle.uv_cli.specs.declared.unread.FileFault.TheVariants as file
 use Rattle.uv_cli.specs.Linted.{lint_status, linted_text, with_fault}
-
--- ---- what the flags say
-
--- the profile, with `--wide` and without
-abbrev pub profile_of : Bool → Profile
-profile_of true = profile.Wide
-profile_of false = profile.Standard
-
--- which complaints are written, with `--all` and without
-abbrev pub complaints_of : Bool → Complaints
-complaints_of true = complaints.All
-complaints_of false = complaints.Least
 
 -- ---- the end of what was given
 
@@ -68,7 +52,7 @@ end_of_explanation (Err fault) = Fault fault
 -- the end where a vector file isn't read
 abbrev pub end_without_file : FileFault → End
 end_without_file file.Memory = Fault cli.Memory
-end_without_file file.Read = Unread
+end_without_file (file.Unread reason) = Unread
 
 -- the end where the words give no job
 abbrev pub end_without_job : WordsFault → End
@@ -96,6 +80,7 @@ status_of Shown = 0
 status_of Words = 2
 status_of UnknownRule = 2
 status_of UnknownFormat = 2
+status_of UnknownProfile = 2
 status_of (BaseRefused refusal) = 2
 status_of (Fault fault) = 3
 status_of (Linted linted) = lint_status linted
@@ -134,15 +119,15 @@ vectors_text vectors.NotArray = codes "vectors not an array\n"
 vectors_text vectors.TooLarge = codes "vectors too large\n"
 vectors_text (vectors.Malformed number) = malformed_text number
 
--- the line on standard error, or nothing
+-- the last line on standard error, with the counts of a lint before it, or nothing
 abbrev pub error_text : End → List ℕ
 error_text Valid = []
 error_text Refused = []
 error_text Shown = []
 error_text Words = codes "words\n"
-error_text UnknownRule = codes "error: no rule has this name; `urlcheck explain` names them all\nwords\n"
-error_text UnknownFormat =
-    codes "error: no format has this name; they are gnu, caret, json, github, sarif and checkstyle\nwords\n"
+error_text UnknownRule = codes "words\n"
+error_text UnknownFormat = codes "words\n"
+error_text UnknownProfile = codes "words\n"
 error_text (BaseRefused refusal) = base_refused_text refusal
 error_text (Fault cli.Memory) = codes "memory\n"
 error_text (Fault cli.Write) = codes "write\n"

@@ -4,6 +4,7 @@ use Rattle.std.specs.Borrow.{Bor}
 use Rattle.std.specs.Io.KnownBytes.{Consumes, IsAtEnd}
 use Rattle.std.specs.Str.{chars}
 use Rattle.std.specs.declared.alloc.Global.{Global}
+use Rattle.uv_model.specs.declared.extent.Extent.{Extent}
 use Rattle.uv_model.specs.declared.profile.Profile.{Profile}
 use Rattle.uv_model.specs.Records.Url.{Url}
 use Rattle.uv_links.specs.declared.counts.Counts.{Counts}
@@ -11,35 +12,34 @@ use Rattle.uv_links.specs.declared.fault.LinkFault.{LinkFault}
 use Rattle.uv_links.specs.Report.{ListSetting}
 use Rattle.uv_links.specs.Run.{Leaves, Reports, reads_failed, writes_failed}
 use Rattle.uv_links.specs.Second.{AgreesOnBase}
+use Rattle.uv_resolve.specs.Base.{IsBase, IsBaseRefused}
+use Rattle.uv_vectors.specs.Run.{WritesVectors, WritesVectorsFront, is_judged}
 use Rattle.uv_words.specs.declared.words.Job.{Job}
 use Rattle.uv_words.specs.declared.words.Job.TheVariants as job
 use Rattle.uv_cli.specs.declared.check.CheckEnd.TheVariants as check
-use Rattle.uv_lint.specs.declared.setting.Complaints.{Complaints}
 use Rattle.uv_cli.specs.declared.explain.ExplainEnd.TheVariants as explain
-use Rattle.uv_cli.specs.declared.fault.CliFault.TheVariants as cli
+use Rattle.uv_vectors.specs.declared.fault.CliFault.TheVariants as cli
 use Rattle.uv_cli.specs.declared.ends.End.{End}
 use Rattle.uv_cli.specs.declared.ends.End.TheVariants as end
-use Rattle.uv_cli.specs.Check.{HasWritten, HasWrittenFront, IsBase, IsBaseRefused, RunsAgainst}
+use Rattle.uv_cli.specs.Check.{HasWritten, HasWrittenFront, RunsAgainst}
 use Rattle.uv_cli.specs.Device.{Device}
-use Rattle.uv_cli.specs.Ends.{complaints_of, profile_of}
 use Rattle.uv_cli.specs.Explain.{HasExplained, HasExplainedFront}
 use Rattle.uv_cli.specs.Lint.{HasLinted}
-use Rattle.uv_cli.specs.Vectors.Run.{WritesVectors, WritesVectorsFront, is_judged}
 
 -- ---- a check
 
 -- what was written of the text against the base's text
-abbrev pub HasChecked : Complaints → Profile → Option (Bor (List ℕ)) → List ℕ → End → Device → Device → Type 0
-HasChecked complaints profile base text end.Valid old new =
-    HasWritten complaints profile base text check.Valid old.bytes new.bytes
-HasChecked complaints profile base text end.Refused old new =
-    HasWritten complaints profile base text check.Refused old.bytes new.bytes
-HasChecked complaints profile base text (end.BaseRefused refusal) old new =
-    HasWritten complaints profile base text (check.BaseRefused refusal) old.bytes new.bytes × (new ≡ old)
-HasChecked complaints profile base text (end.Fault cli.Memory) old new = new ≡ old
-HasChecked complaints profile base text (end.Fault cli.Write) old new =
-    HasWrittenFront complaints profile base text old.bytes new.bytes × (new.failed ≡ old.failed + 1)
-HasChecked complaints profile base text _ old new = ⊥
+abbrev pub HasChecked : Extent → Profile → Option (Bor (List ℕ)) → List ℕ → End → Device → Device → Type 0
+HasChecked extent profile base text end.Valid old new =
+    HasWritten extent profile base text check.Valid old.bytes new.bytes × (new.failed ≡ old.failed)
+HasChecked extent profile base text end.Refused old new =
+    HasWritten extent profile base text check.Refused old.bytes new.bytes × (new.failed ≡ old.failed)
+HasChecked extent profile base text (end.BaseRefused refusal) old new =
+    HasWritten extent profile base text (check.BaseRefused refusal) old.bytes new.bytes × (new ≡ old)
+HasChecked extent profile base text (end.Fault cli.Memory) old new = new ≡ old
+HasChecked extent profile base text (end.Fault cli.Write) old new =
+    HasWrittenFront extent profile base text old.bytes new.bytes × (new.failed ≡ old.failed + 1)
+HasChecked extent profile base text _ old new = ⊥
 
 -- ---- a list of links
 
@@ -95,7 +95,7 @@ HasListed profile base end input rest old new =
 -- what a run over the bytes of a vector file has written
 abbrev pub HasRunVectors : List ℕ → End → Device → Device → Type 0
 HasRunVectors bytes (end.Vectors ended) old new =
-    WritesVectors bytes ended old.bytes new.bytes × (is_judged ended ≡ false → new ≡ old)
+    WritesVectors bytes ended old.bytes new.bytes × (is_judged ended ≡ false → new ≡ old) × (new.failed ≡ old.failed)
 HasRunVectors bytes (end.Fault cli.Memory) old new = new ≡ old
 HasRunVectors bytes (end.Fault cli.Write) old new =
     WritesVectorsFront bytes old.bytes new.bytes × (new.failed ≡ old.failed + 1)
@@ -122,13 +122,15 @@ AtLent text P =
 
 -- what the job has read and written, where its file has these bytes
 abbrev pub HasDone : Job → List ℕ → End → Device → Device → Device → Device → Type 0
-HasDone (job.Check text base all wide) bytes end input rest old new =
-    AtLent base (λ lent. HasChecked (complaints_of all) (profile_of wide) lent (chars (string_bytes text)) end old new
-    × RunsAgainst (profile_of wide) lent (chars (string_bytes text))) × (rest ≡ input)
+HasDone (job.Check text base extent profile) bytes end input rest old new =
+    AtLent base (λ lent. HasChecked extent profile lent (chars (string_bytes text)) end old new
+    × RunsAgainst profile lent (chars (string_bytes text))) × (rest ≡ input)
 HasDone (job.Lint asked) bytes end input rest old new =
     AtLent asked.base (λ base. AtLent asked.format (λ format. HasLinted asked base format end input rest old new))
-HasDone (job.Links base wide) bytes end input rest old new =
-    AtLent base (λ lent. HasListed (profile_of wide) lent end input rest old new)
+HasDone (job.Links base profile) bytes end input rest old new =
+    AtLent base (λ lent. HasListed profile lent end input rest old new)
 HasDone (job.Vectors file) bytes end input rest old new = HasRunVectors bytes end old new × (rest ≡ input)
 HasDone (job.Explain rule) bytes end input rest old new =
     AtLent rule (λ lent. HasRunExplain lent end old new) × (rest ≡ input)
+HasDone (job.UnknownProfile name) bytes ended input rest old new =
+    (ended ≡ end.UnknownProfile) × (rest ≡ input) × (new ≡ old)

@@ -6,4 +6,5 @@ pub mod Explain
 pub mod Jobs
 pub mod Lint
 pub mod Linted
-pub mod Vectors
+pub mod Messages
+pub mod Unread

@@ -1,29 +1,27 @@
 -- What a lint of files has read and written, and what it has come to.
-use Rattle.std.specs.Prelude.{◌≡◌, ℕ, ◌+◌, Bool, true, false, List, [], ◌∷◌, ◌++◌, ◌⊎◌, Option, Some, None, Result, Ok, Err, codes, map, string_bytes, take}
+use Rattle.std.specs.Prelude.{◌≡◌, ℕ, ◌+◌, ◌-◌, ◌^◌, Bool, true, false, List, [], ◌∷◌, ◌⊎◌, Option, Some, None, Result, Ok, Err, codes, map, string_bytes, take}
 use Rattle.std.specs.Borrow.{Bor}
 use Rattle.std.specs.Io.KnownBytes.{Appends, Consumes, IsAtEnd}
 use Rattle.std.specs.Str.{bytes_eq}
 use Rattle.uv_model.specs.Records.Url.{Url}
 use Rattle.uv_report.specs.declared.format.Format.{Format}
 use Rattle.uv_report.specs.declared.format.Format.TheVariants.{Gnu}
-use Rattle.uv_report.specs.Escapes.{shown_text}
 use Rattle.uv_report.specs.Format.{named_format}
 use Rattle.uv_report.specs.Report.{begin_text, end_text}
 use Rattle.uv_lines.specs.declared.limits.LineLimits.{LineLimits}
 use Rattle.uv_lint.specs.declared.counts.LintCounts.{LintCounts}
 use Rattle.uv_lint.specs.declared.fault.LintFault.{LintFault}
-use Rattle.uv_lint.specs.declared.fault.LintFault.TheVariants.{Write}
+use Rattle.uv_lint.specs.declared.fault.LintFault.TheVariants.{Memory, Read, Write}
 use Rattle.uv_lint.specs.Findings.{FileSetting}
 use Rattle.uv_lint.specs.Report.{none_counted}
 use Rattle.uv_lint.specs.Run.{FailsReads, Leaves, Reports, writes_failed}
+use Rattle.uv_resolve.specs.Base.{IsBase, IsBaseRefused}
 use Rattle.uv_words.specs.declared.words.LintJob.{LintJob}
 use Rattle.uv_cli.specs.declared.ends.End.{End}
 use Rattle.uv_cli.specs.declared.ends.End.TheVariants as end
-use Rattle.uv_cli.specs.declared.fault.CliFault.TheVariants as cli
+use Rattle.uv_vectors.specs.declared.fault.CliFault.TheVariants as cli
 use Rattle.uv_cli.specs.declared.linted.Linted.{Linted}
-use Rattle.uv_cli.specs.Check.{IsBase, IsBaseRefused}
 use Rattle.uv_cli.specs.Device.{Device}
-use Rattle.uv_cli.specs.Ends.{complaints_of, profile_of}
 use Rattle.uv_cli.specs.Linted.{is_clean, is_stopped, is_writable, no_file, with_fault, with_file}
 
 -- ---- what the job asks for
@@ -38,8 +36,8 @@ abbrev pub setting_of : LintJob → Option Url → Format → List ℕ → FileS
 setting_of asked base format file = record {
   file = file;
   base = base;
-  profile = profile_of asked.wide;
-  complaints = complaints_of asked.all;
+  profile = asked.profile;
+  extent = asked.extent;
   format = format;
 }
 
@@ -76,19 +74,29 @@ abbrev pub LintsOpened : FileSetting → Bool → LintCounts → Result (Unit {0
 LintsOpened setting is_first counts answer old new =
     (file : Device) × (left : Device) × LintsSource setting is_first counts answer file left old new
 
--- nothing of a file was read or written, for this reason
-abbrev pub LintsNothing : LintCounts → Result (Unit {0}) LintFault → Device → Device → Type 0
-LintsNothing counts answer old new =
-    (counts ≡ none_counted) × ((reason : LintFault) × (answer ≡ Err reason)) × (new ≡ old)
+-- nothing of a file was read or written
+abbrev pub LintsNothing : LintCounts → Device → Device → Type 0
+LintsNothing counts old new = (counts ≡ none_counted) × (new ≡ old)
+
+-- a file wasn't opened: it couldn't be, or memory ran out
+abbrev pub IsUnopened : Result (Unit {0}) LintFault → Type 0
+IsUnopened (Err Read) = Unit {0}
+IsUnopened (Err Memory) = Unit {0}
+IsUnopened _ = ⊥
+
+-- the input isn't read where its count of failed reads stands at its end
+abbrev pub IsUnreadable : Result (Unit {0}) LintFault → Device → Type 0
+IsUnreadable answer input = (answer ≡ Err Read) × (input.failed ≡ 2 ^ 64 - 1)
 
 -- the input was linted for the file that is named `-`, else a file that was opened by its name, if it could be
 abbrev pub LintsNamed : Bool → FileSetting → Bool → LintCounts → Result (Unit {0}) LintFault
     → Device → Device → Device → Device → Type 0
 LintsNamed true setting is_first counts answer input rest old new =
     LintsSource setting is_first counts answer input rest old new
-    ⊎ (LintsNothing counts answer old new × (rest ≡ input))
+    ⊎ (LintsNothing counts old new × IsUnreadable answer input × (rest ≡ input))
 LintsNamed false setting is_first counts answer input rest old new =
-    (LintsOpened setting is_first counts answer old new ⊎ LintsNothing counts answer old new) × (rest ≡ input)
+    (LintsOpened setting is_first counts answer old new
+    ⊎ (LintsNothing counts old new × IsUnopened answer)) × (rest ≡ input)
 
 -- the next file was linted
 pub record LintsFile (setting : FileSetting) (before after : Linted) (input rest old new : Device) : Type 0 where
@@ -160,15 +168,9 @@ abbrev pub HasLinted : LintJob → Option (Bor (List ℕ)) → Option (Bor (List
 HasLinted asked base name end.UnknownFormat input rest old new =
     (format_of name ≡ None) × (rest ≡ input) × (new ≡ old)
 HasLinted asked base name (end.BaseRefused refusal) input rest old new =
-    IsBaseRefused (profile_of asked.wide) base refusal × (rest ≡ input) × (new ≡ old)
+    IsBaseRefused asked.profile base refusal × (rest ≡ input) × (new ≡ old)
 HasLinted asked base name (end.Fault cli.Memory) input rest old new = (rest ≡ input) × (new ≡ old)
 HasLinted asked base name (end.Linted linted) input rest old new =
-    (url : Option Url) × (format : Format) × IsBase (profile_of asked.wide) base url × (format_of name ≡ Some format)
+    (url : Option Url) × (format : Format) × IsBase asked.profile base url × (format_of name ≡ Some format)
     × HasLintedAgainst asked url format (end.Linted linted) input rest old new
 HasLinted asked base name _ input rest old new = ⊥
-
--- ---- on standard error
-
--- the line of a file that wasn't read
-unfoldable pub unread_text : List ℕ → List ℕ
-unread_text file = shown_text file ++ codes ": can't be read\n"

@@ -56,8 +56,9 @@ lint_status linted =
 -- the line of counts
 unfoldable pub counts_text : LintCounts → List ℕ
 counts_text counts =
-    decimal counts.lines ++ (codes " " ++ ((if counts.lines == 1 then codes "line" else codes "lines")
-    ++ (codes ", " ++ (decimal counts.refused ++ codes " refused\n"))))
+    codes "urlcheck: " ++ (decimal counts.lines ++ (codes " "
+    ++ ((if counts.lines == 1 then codes "line" else codes "lines")
+    ++ (codes ", " ++ (decimal counts.refused ++ codes " refused\n")))))
 
 -- the line of what stopped it
 abbrev pub stopped_text : Option LintFault → List ℕ

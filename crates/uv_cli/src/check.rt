@@ -1,19 +1,18 @@
-//! The check of one text, alone or against a base, with the least of its complaints or with all of them.
+//! The check of one text, alone or against a base, with the first of its violations or with all of them.
 ghost use Rattle.std.specs.Prelude.{◌≡◌, ◌+◌, ◌-◌, ◌^◌, ◌<◌, ℕ, List, Option, Some, None, IfOk, OnOk, OnErr, chars, option_copied, string_bytes, take};
 ghost use Rattle.std.specs.Io.KnownBytes.{Appends};
 ghost use Rattle.uv_cli.specs.Check.{HasWritten, HasWrittenFront, RunsAgainst, Says, SaysRefused, WritesFront, WritesWhole};
 ghost use Rattle.uv_grammar.specs.Verdict.{IsRefused};
 
-use crate::fault::CliFault;
 use crate::report::{check_lines, fault_lines, refused_line};
 use std::alloc::{AllocError, Global};
 use uv_grammar::faults;
-use uv_lint::Complaints;
-use uv_model::{DeviceFault, Profile, Record, Refusal, Sink, write_whole};
-use uv_resolve::{ResolveFault, resolve};
+use uv_model::{DeviceFault, Extent, Profile, Record, Refusal, Sink, write_whole};
+use uv_resolve::{ResolveFault, resolve, resolve_base};
+use uv_vectors::CliFault;
 
 /// How a check ends.
-#[derive(Clone, Copy, Debug, PartialEq, Eq)]
+#[derive(Clone, Copy, PartialEq, Eq)]
 pub enum CheckEnd {
     /// The text is valid, and the lines of its record were written.
     Valid,
@@ -24,7 +23,7 @@ pub enum CheckEnd {
 }
 
 /// Checks a text by a profile, alone or against a base, and writes what it says of it: the lines of a valid text's
-/// record, or the line of a refused text's least complaint.
+/// record, or the line of a refused text's first violation.
 ///
 /// The base is resolved alone by the same profile, before the text is looked at. An error of memory leaves the output
 /// as it was; an error of a write leaves a beginning of what was to be written.
@@ -36,21 +35,21 @@ pub fn run_check<S: Sink>(
     out: &mut S,
 ) -> Result<CheckEnd, CliFault>
     requires { S.failed out.old < 2 ^ 64 - 1 }
-    ensures written { IfOk result (λ end. HasWritten Complaints.Least profile base.entry (chars text.now) end
+    ensures written { IfOk result (λ end. HasWritten Extent.First profile base.entry (chars text.now) end
         (S.contents out.old) (S.contents out.new)) }
     ensures base_refused { (refusal : Refusal) → result ≡ Ok (CheckEnd.BaseRefused refusal)
         → out.new ≡ out.old }
     ensures quiet { OnOk result (S.failed out.new ≡ S.failed out.old) }
     ensures memory { result ≡ Err CliFault.Memory → out.new ≡ out.old }
-    ensures front { result ≡ Err CliFault.Write → HasWrittenFront Complaints.Least profile base.entry (chars text.now)
+    ensures front { result ≡ Err CliFault.Write → HasWrittenFront Extent.First profile base.entry (chars text.now)
         (S.contents out.old) (S.contents out.new) }
     ensures failed { result ≡ Err CliFault.Write → S.failed out.new ≡ S.failed out.old + 1 }
     ensures runs { RunsAgainst profile base.entry (chars text.now) }
 {
-    check_with_base(alloc, text, base, profile, Complaints::Least, out)
+    check_with_base(alloc, text, base, profile, Extent::First, out)
 }
 
-/// Checks a text as `run_check` does, and writes for a refused one a line for each of its complaints, by place and at
+/// Checks a text as `run_check` does, and writes for a refused one a line for each of its violations, by place and at
 /// one place by the rule's number.
 pub fn run_faults<S: Sink>(
     alloc: Global,
@@ -60,18 +59,18 @@ pub fn run_faults<S: Sink>(
     out: &mut S,
 ) -> Result<CheckEnd, CliFault>
     requires { S.failed out.old < 2 ^ 64 - 1 }
-    ensures written { IfOk result (λ end. HasWritten Complaints.All profile base.entry (chars text.now) end
+    ensures written { IfOk result (λ end. HasWritten Extent.All profile base.entry (chars text.now) end
         (S.contents out.old) (S.contents out.new)) }
     ensures base_refused { (refusal : Refusal) → result ≡ Ok (CheckEnd.BaseRefused refusal)
         → out.new ≡ out.old }
     ensures quiet { OnOk result (S.failed out.new ≡ S.failed out.old) }
     ensures memory { result ≡ Err CliFault.Memory → out.new ≡ out.old }
-    ensures front { result ≡ Err CliFault.Write → HasWrittenFront Complaints.All profile base.entry (chars text.now)
+    ensures front { result ≡ Err CliFault.Write → HasWrittenFront Extent.All profile base.entry (chars text.now)
         (S.contents out.old) (S.contents out.new) }
     ensures failed { result ≡ Err CliFault.Write → S.failed out.new ≡ S.failed out.old + 1 }
     ensures runs { RunsAgainst profile base.entry (chars text.now) }
 {
-    check_with_base(alloc, text, base, profile, Complaints::All, out)
+    check_with_base(alloc, text, base, profile, Extent::All, out)
 }
 
 // Checks a text against a base's text, and writes what it says of it.
@@ -80,30 +79,33 @@ fn check_with_base<S: Sink>(
     text: &str,
     base: Option<&str>,
     profile: Profile,
-    complaints: Complaints,
+    extent: Extent,
     out: &mut S,
 ) -> Result<CheckEnd, CliFault>
     requires { S.failed out.old < 2 ^ 64 - 1 }
-    ensures written { IfOk result (λ end. HasWritten complaints profile base.entry (chars text.now) end
+    ensures written { IfOk result (λ end. HasWritten extent profile base.entry (chars text.now) end
         (S.contents out.old) (S.contents out.new)) }
     ensures base_refused { (refusal : Refusal) → result ≡ Ok (CheckEnd.BaseRefused refusal)
         → out.new ≡ out.old }
     ensures quiet { OnOk result (S.failed out.new ≡ S.failed out.old) }
     ensures memory { result ≡ Err CliFault.Memory → out.new ≡ out.old }
-    ensures front { result ≡ Err CliFault.Write → HasWrittenFront complaints profile base.entry (chars text.now)
+    ensures front { result ≡ Err CliFault.Write → HasWrittenFront extent profile base.entry (chars text.now)
         (S.contents out.old) (S.contents out.new) }
     ensures failed { result ≡ Err CliFault.Write → S.failed out.new ≡ S.failed out.old + 1 }
     ensures runs { RunsAgainst profile base.entry (chars text.now) }
 {
-    let Some(base) = base else {
-        return check_against(alloc, text, None, profile, complaints, out);
-    };
-    match resolve(alloc, base, None, profile) {
-        Ok(base) => check_against(alloc, text, Some(&base), profile, complaints, out),
+    parser_runs_against(text, base, profile);
+    match resolve_base(alloc, base, profile) {
+        Ok(base) => check_against(alloc, text, base.as_ref(), profile, extent, out),
         Err(ResolveFault::Refused(refusal)) => Ok(CheckEnd::BaseRefused(refusal)),
         Err(ResolveFault::Memory(_)) => Err(CliFault::Memory),
     }
 }
+
+// The parser runs to the record of a valid text, alone or against the URL of its base's text.
+fn parser_runs_against(text: &str, base: Option<&str>, profile: Profile)
+    ensures { RunsAgainst profile base.entry (chars text.now) }
+{}
 
 // Checks a text against a record as base, and writes what it says of it.
 fn check_against<S: Sink>(
@@ -111,19 +113,19 @@ fn check_against<S: Sink>(
     text: &str,
     base: Option<&Record>,
     profile: Profile,
-    complaints: Complaints,
+    extent: Extent,
     out: &mut S,
 ) -> Result<CheckEnd, CliFault>
     requires { S.failed out.old < 2 ^ 64 - 1 }
-    ensures written { IfOk result (λ end. WritesWhole complaints profile (option_copied base.entry) (chars text.now) end
+    ensures written { IfOk result (λ end. WritesWhole extent profile (option_copied base.entry) (chars text.now) end
         (S.contents out.old) (S.contents out.new)) }
     ensures quiet { OnOk result (S.failed out.new ≡ S.failed out.old) }
     ensures memory { result ≡ Err CliFault.Memory → out.new ≡ out.old }
-    ensures front { result ≡ Err CliFault.Write → WritesFront complaints profile (option_copied base.entry)
+    ensures front { result ≡ Err CliFault.Write → WritesFront extent profile (option_copied base.entry)
         (chars text.now) (S.contents out.old) (S.contents out.new) }
     ensures failed { result ≡ Err CliFault.Write → S.failed out.new ≡ S.failed out.old + 1 }
 {
-    let (end, whole) = say(alloc, text, base, profile, complaints)?;
+    let (end, whole) = say(alloc, text, base, profile, extent)?;
     match write_whole(out, whole.as_bytes()) {
         Ok(()) => Ok(end),
         Err(DeviceFault) => Err(CliFault::Write),
@@ -136,15 +138,15 @@ fn say(
     text: &str,
     base: Option<&Record>,
     profile: Profile,
-    complaints: Complaints,
+    extent: Extent,
 ) -> Result<(CheckEnd, String), AllocError>
     ensures { IfOk result (λ r.
-        Says complaints profile (option_copied base.entry) (chars text.now) r.0 (string_bytes r.1)) }
+        Says extent profile (option_copied base.entry) (chars text.now) r.0 (string_bytes r.1)) }
 {
     match resolve(alloc, text, base, profile) {
         Ok(url) => Ok((CheckEnd::Valid, check_lines(alloc, &url)?)),
         Err(ResolveFault::Refused(refusal)) => {
-            let lines = refused_lines(alloc, text, base, profile, complaints, refusal)?;
+            let lines = refused_lines(alloc, text, base, profile, extent, refusal)?;
             Ok((CheckEnd::Refused, lines))
         }
         Err(ResolveFault::Memory(error)) => Err(error),
@@ -157,16 +159,16 @@ fn refused_lines(
     text: &str,
     base: Option<&Record>,
     profile: Profile,
-    complaints: Complaints,
+    extent: Extent,
     refusal: Refusal,
 ) -> Result<String, AllocError>
     requires { IsRefused profile (option_copied base) (chars text.now) refusal }
     ensures { IfOk result (λ lines.
-        SaysRefused complaints profile (option_copied base.entry) (chars text.now) (string_bytes lines)) }
+        SaysRefused extent profile (option_copied base.entry) (chars text.now) (string_bytes lines)) }
 {
-    match complaints {
-        Complaints::Least => refused_line(alloc, refusal),
-        Complaints::All => {
+    match extent {
+        Extent::First => refused_line(alloc, refusal),
+        Extent::All => {
             let found = faults(alloc, text, base, profile)?;
             fault_lines(alloc, found.as_slice())
         }

@@ -5,25 +5,17 @@ ghost use Rattle.uv_cli.specs.Ends.{base_refused_text, error_text, malformed_tex
 
 use crate::check::CheckEnd;
 use crate::explain::ExplainEnd;
-use crate::fault::CliFault;
 use crate::linted::Linted;
-use crate::vectors::{FileFault, VectorEnd};
+use crate::unread::FileFault;
 use std::alloc::{AllocError, Global};
 use uv_links::{Counts, LinkFault};
 use uv_lint::LintFault;
 use uv_model::Refusal;
+use uv_vectors::{CliFault, VectorEnd};
 use uv_words::WordsFault;
 
-// What is said of a word that has to be the name of a rule, and is the name of none.
-const UNKNOWN_RULE: &str =
-    "error: no rule has this name; `urlcheck explain` names them all\nwords\n";
-
-// What is said of a word that has to be the name of a format, and is the name of none.
-const UNKNOWN_FORMAT: &str =
-    "error: no format has this name; they are gnu, caret, json, github, sarif and checkstyle\nwords\n";
-
 /// How a run of the program ends.
-#[derive(Clone, Copy, Debug, PartialEq, Eq)]
+#[derive(Clone, Copy, PartialEq, Eq)]
 pub enum End {
     /// The text is valid, or every line of the list is ok.
     Valid,
@@ -37,6 +29,8 @@ pub enum End {
     UnknownRule,
     /// A word that has to be the name of a format is the name of none.
     UnknownFormat,
+    /// A word that has to be the name of a profile is the name of none.
+    UnknownProfile,
     /// The base's text is refused alone, for this reason.
     BaseRefused(Refusal),
     /// A growth was refused, or a write or a flush failed.
@@ -106,7 +100,7 @@ pub(crate) fn end_without_file(fault: FileFault) -> End
 {
     match fault {
         FileFault::Memory => End::Fault(CliFault::Memory),
-        FileFault::Read => End::Unread,
+        FileFault::Unread(_) => End::Unread,
     }
 }
 
@@ -150,22 +144,23 @@ pub fn status(end: End) -> u8
         End::Valid | End::Shown | End::Vectors(VectorEnd::AllPass) => 0,
         End::Refused | End::Vectors(VectorEnd::SomeFail) => 1,
         End::Linted(linted) => linted.status(),
-        End::Words | End::UnknownRule | End::UnknownFormat => 2,
+        End::Words | End::UnknownRule | End::UnknownFormat | End::UnknownProfile => 2,
         End::BaseRefused(_) | End::Vectors(_) => 2,
         End::Stopped(LinkFault::BaseDiffers) => 2,
         End::Fault(_) | End::Stopped(_) | End::Unread => 3,
     }
 }
 
-/// What is said on standard error: a line, or nothing.
+/// What is said on standard error at the end: the last line, which tells a script why there is a status above 1, or
+/// nothing; of a lint also the counts.
 pub fn error_line(alloc: Global, end: End) -> Result<String, AllocError>
     ensures { IfOk result (λ text. string_bytes text ≡ error_text end) }
 {
     match end {
         End::Valid | End::Refused | End::Shown => Ok(String::new(alloc)),
-        End::Words => "words\n".to_string(alloc),
-        End::UnknownRule => UNKNOWN_RULE.to_string(alloc),
-        End::UnknownFormat => UNKNOWN_FORMAT.to_string(alloc),
+        End::Words | End::UnknownRule | End::UnknownFormat | End::UnknownProfile => {
+            "words\n".to_string(alloc)
+        }
         End::Linted(linted) => linted.error_lines(alloc),
         End::BaseRefused(refusal) => base_refused_line(alloc, refusal),
         End::Fault(CliFault::Memory) => "memory\n".to_string(alloc),

@@ -3,14 +3,14 @@ ghost use Rattle.std.specs.Prelude.{◌≡◌, ◌++◌, ◌+◌, ◌-◌, ◌^�
 ghost use Rattle.uv_cli.specs.Explain.{HasExplained, HasExplainedFront, example_lines, explained, explanation_text};
 ghost use Rattle.uv_cli.specs.Explain.{explanations_text, explained_finding, finding_lines, rule_lines};
 
-use crate::fault::CliFault;
 use crate::report::{push_line, push_present, refused_line};
 use std::alloc::{AllocError, Global};
 use uv_model::{DeviceFault, Refusal, Rule, Sink, write_whole};
 use uv_report::{Finding, explain};
+use uv_vectors::CliFault;
 
 /// How an explanation ends.
-#[derive(Clone, Copy, Debug, PartialEq, Eq)]
+#[derive(Clone, Copy, PartialEq, Eq)]
 pub enum ExplainEnd {
     /// What was asked for was written.
     Explained,

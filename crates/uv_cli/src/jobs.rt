@@ -1,7 +1,6 @@
 //! A job and the run that it asks for, over any devices.
 ghost use Rattle.std.specs.Prelude.{◌≡◌, ◌-◌, ◌^◌, ◌<◌, chars};
 ghost use Rattle.uv_cli.specs.Check.{RunsAgainst};
-ghost use Rattle.uv_cli.specs.Ends as spec;
 ghost use Rattle.uv_cli.specs.Jobs.{HasChecked, HasDone, HasRunExplain, HasRunVectors};
 
 use crate::check::{run_check, run_faults};
@@ -9,11 +8,10 @@ use crate::ends::{End, end_of_check, end_of_explanation, end_of_vectors};
 use crate::explain::run_explain;
 use crate::links::list_links;
 use crate::lint::lint_files;
-use crate::vectors::run_vectors;
 use std::alloc::Global;
 use std::fs::Files;
-use uv_lint::Complaints;
-use uv_model::{Profile, Sink, Source};
+use uv_model::{Extent, Profile, Sink, Source};
+use uv_vectors::run_vectors;
 use uv_words::Job;
 
 /// Does what a job asks for: it checks the job's text, against the job's base and by the profile that the job names, or
@@ -42,14 +40,14 @@ pub fn run_job<R: Files + Eprint + AllocGlobal, I: Source, S: Sink>(
         Job::Check {
             text,
             base,
-            all,
-            wide,
+            extent,
+            profile,
         } => check_text(
             alloc,
             text.as_str(),
             base.as_deref(),
-            complaints_of(*all),
-            profile_of(*wide),
+            *extent,
+            *profile,
             out,
         ),
         Job::Lint(asked) => lint_files(
@@ -60,11 +58,10 @@ pub fn run_job<R: Files + Eprint + AllocGlobal, I: Source, S: Sink>(
             input,
             out,
         ),
-        Job::Links { base, wide } => {
-            list_links(alloc, base.as_deref(), profile_of(*wide), input, out)
-        }
+        Job::Links { base, profile } => list_links(alloc, base.as_deref(), *profile, input, out),
         Job::Vectors { .. } => vectors_run(alloc, file, out),
         Job::Explain { rule } => explained(alloc, rule.as_deref(), out),
+        Job::UnknownProfile { .. } => End::UnknownProfile,
     }
 }
 
@@ -93,40 +90,18 @@ fn check_text<S: Sink>(
     alloc: Global,
     text: &str,
     base: Option<&str>,
-    complaints: Complaints,
+    extent: Extent,
     profile: Profile,
     out: &mut S,
 ) -> End
     requires { S.failed out.old < 2 ^ 64 - 1 }
-    ensures checked { HasChecked complaints profile base.entry (chars text.now) result
+    ensures checked { HasChecked extent profile base.entry (chars text.now) result
         (record { bytes = S.contents out.old; failed = S.failed out.old })
         (record { bytes = S.contents out.new; failed = S.failed out.new }) }
     ensures runs { RunsAgainst profile base.entry (chars text.now) }
 {
-    match complaints {
-        Complaints::Least => end_of_check(run_check(alloc, text, base, profile, out)),
-        Complaints::All => end_of_check(run_faults(alloc, text, base, profile, out)),
-    }
-}
-
-/// The profile, with `--wide` and without.
-pub(crate) fn profile_of(wide: bool) -> Profile
-    ensures { result ≡ spec.profile_of wide }
-{
-    if wide {
-        Profile::Wide
-    } else {
-        Profile::Standard
-    }
-}
-
-/// Which complaints are written, with `--all` and without.
-pub(crate) fn complaints_of(all: bool) -> Complaints
-    ensures { result ≡ spec.complaints_of all }
-{
-    if all {
-        Complaints::All
-    } else {
-        Complaints::Least
+    match extent {
+        Extent::First => end_of_check(run_check(alloc, text, base, profile, out)),
+        Extent::All => end_of_check(run_faults(alloc, text, base, profile, out)),
     }
 }

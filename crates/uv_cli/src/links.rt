@@ -3,11 +3,11 @@ ghost use Rattle.std.specs.Prelude.{◌≡◌, ◌-◌, ◌^◌, ◌<◌, option
 ghost use Rattle.uv_cli.specs.Jobs.{HasListed, HasListedAgainst};
 
 use crate::ends::{End, end_of_list};
-use crate::fault::CliFault;
 use std::alloc::Global;
 use uv_links::{LinkLimits, run_links};
 use uv_model::{Profile, Record, Sink, Source};
-use uv_resolve::{ResolveFault, resolve};
+use uv_resolve::{ResolveFault, resolve_base};
+use uv_vectors::CliFault;
 
 /// Reports on the lines of an input at the largest limits, alone or against a base, which is resolved alone, before
 /// anything is read.
@@ -26,11 +26,8 @@ pub(crate) fn list_links<I: Source, S: Sink>(
         (record { bytes = S.contents out.old; failed = S.failed out.old })
         (record { bytes = S.contents out.new; failed = S.failed out.new }) }
 {
-    let Some(text) = base else {
-        return list_against(alloc, None, profile, input, out);
-    };
-    match resolve(alloc, text, None, profile) {
-        Ok(base) => list_against(alloc, Some(&base), profile, input, out),
+    match resolve_base(alloc, base, profile) {
+        Ok(base) => list_against(alloc, base.as_ref(), profile, input, out),
         Err(ResolveFault::Refused(refusal)) => End::BaseRefused(refusal),
         Err(ResolveFault::Memory(_)) => End::Fault(CliFault::Memory),
     }

@@ -4,21 +4,24 @@ ghost use Rattle.std.specs.Str.{bytes_eq};
 ghost use Rattle.uv_lint.specs.Findings.{file_setting};
 ghost use Rattle.uv_report.specs.Report.{begin_text, end_text};
 ghost use Rattle.uv_cli.specs.Lint.{HasLinted, HasLintedAgainst, LintsAll, LintsNamed, LintsNext, LintsNothing};
-ghost use Rattle.uv_cli.specs.Lint.{LintsOpened, WritesPiece, format_of, unread_text};
+ghost use Rattle.uv_cli.specs.Lint.{LintsOpened, IsUnopened, WritesPiece, format_of};
 ghost use Rattle.uv_cli.specs.Linted.{is_stopped, is_writable};
 
+use crate::arguments::said_of;
 use crate::ends::End;
-use crate::fault::CliFault;
-use crate::jobs::{complaints_of, profile_of};
 use crate::linted::Linted;
+use crate::messages::{message_line, say};
+use crate::unread::{Unread, report_unread};
+use crate::watched::Watched;
 use std::alloc::{AllocError, Global};
 use std::fs;
 use std::fs::Files;
 use std::io::ErrorKind;
 use uv_lint::{LintCounts, LintFault, LintSetting, run_lint};
 use uv_model::{DeviceFault, FromReader, Record, Sink, Source, write_whole};
-use uv_report::{Format, push_begin, push_end, push_shown};
-use uv_resolve::{ResolveFault, resolve};
+use uv_report::{Format, push_begin, push_end};
+use uv_resolve::{ResolveFault, resolve_base};
+use uv_vectors::CliFault;
 use uv_words::LintJob;
 
 // Nothing was counted.
@@ -31,8 +34,8 @@ const NONE_COUNTED: LintCounts = LintCounts {
 /// alone or against the base, which is resolved alone, before anything is read. The base and the name are the texts
 /// that the job has. The input is read for each file named `-`.
 ///
-/// A file that can't be opened, or not be read to its end, is told on standard error by its name, and the next files go
-/// on. Another fault stops the lint; what the report ends with is still written where no write has failed.
+/// A file that can't be opened, or not be read to its end, is reported on standard error by its name, and the next
+/// files go on. Another fault stops the lint; what the report ends with is still written where no write has failed.
 pub(crate) fn lint_files<R: Files + Eprint + AllocGlobal, I: Source, S: Sink>(
     rt: &R,
     job: &LintJob,
@@ -52,11 +55,8 @@ pub(crate) fn lint_files<R: Files + Eprint + AllocGlobal, I: Source, S: Sink>(
     let Some(format) = format_of(name) else {
         return End::UnknownFormat;
     };
-    let Some(text) = base else {
-        return lint_against(rt, job, None, format, input, out);
-    };
-    match resolve(rt.alloc(), text, None, profile_of(job.wide)) {
-        Ok(base) => lint_against(rt, job, Some(&base), format, input, out),
+    match resolve_base(rt.alloc(), base, job.profile) {
+        Ok(base) => lint_against(rt, job, base.as_ref(), format, input, out),
         Err(ResolveFault::Refused(refusal)) => End::BaseRefused(refusal),
         Err(ResolveFault::Memory(_)) => End::Fault(CliFault::Memory),
     }
@@ -91,8 +91,8 @@ fn lint_against<R: Files + Eprint + AllocGlobal, I: Source, S: Sink>(
 {
     let setting = LintSetting {
         base,
-        profile: profile_of(job.wide),
-        complaints: complaints_of(job.all),
+        profile: job.profile,
+        extent: job.extent,
         format,
     };
     let Ok((begin, end)) = begin_and_end(rt.alloc(), format) else {
@@ -176,14 +176,11 @@ fn lint_next<R: Files + Eprint + AllocGlobal, I: Source, S: Sink>(
         return linted;
     }
     let (counts, answer) = lint_named(rt, file, setting, linted.is_clean(), input, out);
-    if answer == Err(LintFault::Read) {
-        tell_unread(rt, file);
-    }
     linted.with_file(counts, answer)
 }
 
 // Reports on the file with a name: on the input where that is `-`.
-fn lint_named<R: Files + AllocGlobal, I: Source, S: Sink>(
+fn lint_named<R: Files + Eprint + AllocGlobal, I: Source, S: Sink>(
     rt: &R,
     file: &str,
     setting: LintSetting<'_>,
@@ -202,14 +199,35 @@ fn lint_named<R: Files + AllocGlobal, I: Source, S: Sink>(
     if file != "-" {
         return lint_opened(rt, file, setting, is_first, out);
     }
+    let answer = lint_input(rt.alloc(), file, setting, is_first, input, out);
+    report_failed_read(rt, file, answer.1, None);
+    answer
+}
+
+// Reports on the input by this name, unless its count of failed reads stands at its end.
+fn lint_input<I: Source, S: Sink>(
+    alloc: Global,
+    file: &str,
+    setting: LintSetting<'_>,
+    is_first: bool,
+    input: &mut I,
+    out: &mut S,
+) -> (LintCounts, Result<(), LintFault>)
+    requires { S.failed out.old < 2 ^ 64 - 1 }
+    ensures { LintsNamed true (file_setting file.now setting.entry) is_first result.0 result.1
+        (record { bytes = I.remaining input.old; failed = I.failed input.old })
+        (record { bytes = I.remaining input.new; failed = I.failed input.new })
+        (record { bytes = S.contents out.old; failed = S.failed out.old })
+        (record { bytes = S.contents out.new; failed = S.failed out.new }) }
+{
     if input.failures() == u64::MAX {
         return (NONE_COUNTED, Err(LintFault::Read));
     }
-    run_lint(rt.alloc(), input, out, file, is_first, setting)
+    run_lint(alloc, input, out, file, is_first, setting)
 }
 
-// Reports on the file that is opened by its name.
-fn lint_opened<R: Files + AllocGlobal, S: Sink>(
+// Reports on the file that is opened by its name, and reports why it isn't read, where it isn't read to its end.
+fn lint_opened<R: Files + Eprint + AllocGlobal, S: Sink>(
     rt: &R,
     file: &str,
     setting: LintSetting<'_>,
@@ -220,41 +238,45 @@ fn lint_opened<R: Files + AllocGlobal, S: Sink>(
     ensures { LintsOpened (file_setting file.now setting.entry) is_first result.0 result.1
         (record { bytes = S.contents out.old; failed = S.failed out.old })
         (record { bytes = S.contents out.new; failed = S.failed out.new })
-        ⊎ LintsNothing result.0 result.1
+        ⊎ (LintsNothing result.0
         (record { bytes = S.contents out.old; failed = S.failed out.old })
-        (record { bytes = S.contents out.new; failed = S.failed out.new }) }
+        (record { bytes = S.contents out.new; failed = S.failed out.new })
+        × IsUnopened result.1) }
 {
+    if let Some(said) = said_of(file) {
+        say(rt, message_line(rt.alloc(), said));
+        return (NONE_COUNTED, Err(LintFault::Read));
+    }
     match fs::open(rt, file) {
         Ok(opened) => {
-            let mut source = FromReader::new(opened);
-            run_lint(rt.alloc(), &mut source, out, file, is_first, setting)
+            let mut source = FromReader::new(Watched::new(opened));
+            let answer = run_lint(rt.alloc(), &mut source, out, file, is_first, setting);
+            report_failed_read(rt, file, answer.1, source.into_reader().fault());
+            answer
         }
-        Err(error) if error.kind() == ErrorKind::OutOfMemory => {
-            (NONE_COUNTED, Err(LintFault::Memory))
-        }
-        Err(_) => (NONE_COUNTED, Err(LintFault::Read)),
+        Err(error) => (NONE_COUNTED, Err(unopened(rt, file, error.kind()))),
     }
 }
 
-// Tells on standard error that a file wasn't read. A failed write there has nowhere to be told.
-fn tell_unread<R: Eprint + AllocGlobal>(rt: &R, file: &str) {
-    match unread_line(rt.alloc(), file) {
-        Ok(line) => {
-            let _ = rt.eprint(line.as_str());
-        }
-        Err(AllocError) => {
-            let _ = rt.eprintln("memory");
-        }
+// Reports that a file wasn't read to its end, where a read of it failed, by the kind of the error, if it is known.
+fn report_failed_read<R: Eprint + AllocGlobal>(
+    rt: &R,
+    file: &str,
+    answer: Result<(), LintFault>,
+    kind: Option<ErrorKind>,
+) {
+    if answer == Err(LintFault::Read) {
+        report_unread(rt, file, Unread::of(kind));
     }
 }
 
-// The line of a file that wasn't read. Its name is shown as a terminal may show it.
-#[tactic(auto, unfolding(crate::specs::Lint::unread_text))]
-fn unread_line(alloc: Global, file: &str) -> Result<String, AllocError>
-    ensures { IfOk result (λ line. string_bytes line ≡ unread_text file.now) }
+// Why a file isn't opened. What isn't want of memory is reported.
+fn unopened<R: Eprint + AllocGlobal>(rt: &R, file: &str, kind: ErrorKind) -> LintFault
+    ensures { IsUnopened (Err result) }
 {
-    let mut line = String::new(alloc);
-    push_shown(&mut line, file)?;
-    line.push_str(": can't be read\n")?;
-    Ok(line)
+    if kind == ErrorKind::OutOfMemory {
+        return LintFault::Memory;
+    }
+    report_unread(rt, file, Unread::of(Some(kind)));
+    LintFault::Read
 }

@@ -7,7 +7,7 @@ use std::alloc::{AllocError, Global};
 use uv_lint::{LintCounts, LintFault};
 
 /// What a lint of files has come to: what was counted, and what went wrong.
-#[derive(Clone, Copy, Debug, PartialEq, Eq)]
+#[derive(Clone, Copy, PartialEq, Eq)]
 pub struct Linted {
     /// How many lines of all files were judged, and of how many something was found. Each is 2^64 - 1 at most.
     pub counts: LintCounts,
@@ -129,7 +129,7 @@ fn counts_line(alloc: Global, counts: LintCounts) -> Result<String, AllocError>
     let lines = counts.lines;
     let refused = counts.refused;
     let noun = if lines == 1 { "line" } else { "lines" };
-    format!(in alloc; "{lines} {noun}, {refused} refused\n")
+    format!(in alloc; "urlcheck: {lines} {noun}, {refused} refused\n")
 }
 
 fn stopped_line(stopped: Option<LintFault>) -> &'static str

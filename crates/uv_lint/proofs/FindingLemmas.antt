@@ -8,14 +8,14 @@ use Rattle.uv_model.specs.Records.Url.{Url}
 use Rattle.uv_model.proofs.Complaints.AllComplaintsLemmas.{lists_none}
 use Rattle.uv_grammar.specs.Verdict.{IsAccepted, IsRefused}
 use Rattle.uv_report.specs.declared.finding.Finding.TheVariants.{Refused}
-use Rattle.uv_lint.specs.declared.setting.Complaints.{Complaints}
-use Rattle.uv_lint.specs.declared.setting.Complaints.TheVariants.{Least, All}
+use Rattle.uv_model.specs.declared.extent.Extent.{Extent}
+use Rattle.uv_model.specs.declared.extent.Extent.TheVariants.{First, All}
 use Rattle.uv_lint.specs.Findings.{AreReported, AreTextFindings, FileSetting}
 
 -- nothing is found with a valid text
-reported_none : (complaints : Complaints) (profile : Profile) (base : Option Url) (text : List ℕ) (parts : Parts)
-    → IsAccepted profile base text parts → AreReported complaints profile base text []
-reported_none Least profile base text parts accepted = tt {0}
+reported_none : (extent : Extent) (profile : Profile) (base : Option Url) (text : List ℕ) (parts : Parts)
+    → IsAccepted profile base text parts → AreReported extent profile base text []
+reported_none First profile base text parts accepted = tt {0}
 reported_none All profile base text parts accepted = record {
   lists = lists_none (Complaint profile base text) accepted.silent;
   least = accepted.silent;
@@ -28,16 +28,16 @@ pub valid_findings : (setting : FileSetting) (text : List ℕ) (parts : Parts)
 valid_findings setting text parts accepted = record {
   refusals = [];
   judges = (parts, accepted.valid);
-  reported = reported_none setting.complaints setting.profile setting.base text parts accepted;
+  reported = reported_none setting.extent setting.profile setting.base text parts accepted;
   are = refl;
 }
 
--- the least complaint is found with a refused text
-pub least_finding : (setting : FileSetting) (text : List ℕ) (refusal : Refusal) → setting.complaints ≡ Least
+-- the first violation is found with a refused text
+pub least_finding : (setting : FileSetting) (text : List ℕ) (refusal : Refusal) → setting.extent ≡ First
     → IsRefused setting.profile setting.base text refusal → AreTextFindings setting text (Refused refusal ∷ [])
-least_finding setting text refusal least refused = record {
+least_finding setting text refusal first refused = record {
   refusals = refusal ∷ [];
   judges = refused;
-  reported = rw least refl;
+  reported = rw first refl;
   are = refl;
 }

@@ -1,6 +1,8 @@
 -- What is found with a line of a file.
 use Rattle.std.specs.Prelude.{◌≡◌, ℕ, List, [], ◌∷◌, ◌⊎◌, Option, Some, None, map, option_copied}
 use Rattle.std.specs.Str.{IsUtf8, chars}
+use Rattle.uv_model.specs.declared.extent.Extent.{Extent}
+use Rattle.uv_model.specs.declared.extent.Extent.TheVariants.{First, All}
 use Rattle.uv_model.specs.declared.profile.Profile.{Profile}
 use Rattle.uv_model.specs.declared.rule.Refusal.{Refusal}
 use Rattle.uv_model.specs.Complaints.AllComplaints.{AreFaults}
@@ -11,8 +13,6 @@ use Rattle.uv_grammar.specs.Verdict.{IsRefused}
 use Rattle.uv_report.specs.declared.finding.Finding.{Finding}
 use Rattle.uv_report.specs.declared.finding.Finding.TheVariants.{Refused, NotUtf8, TooLong}
 use Rattle.uv_report.specs.declared.format.Format.{Format}
-use Rattle.uv_lint.specs.declared.setting.Complaints.{Complaints}
-use Rattle.uv_lint.specs.declared.setting.Complaints.TheVariants.{Least, All}
 use Rattle.uv_lint.specs.declared.setting.LintSetting.{LintSetting}
 
 -- a file's name, what its lines are judged by, and how what is found is written
@@ -20,7 +20,7 @@ pub record FileSetting : Type 0 where
   pub file : List ℕ
   pub base : Option Url
   pub profile : Profile
-  pub complaints : Complaints
+  pub extent : Extent
   pub format : Format
 
 -- the setting of a file with this name
@@ -29,7 +29,7 @@ file_setting file setting = record {
   file = file;
   base = option_copied setting.base;
   profile = setting.profile;
-  complaints = setting.complaints;
+  extent = setting.extent;
   format = setting.format;
 }
 
@@ -43,16 +43,16 @@ abbrev pub HasOneAtMost : List Refusal → Type 0
 HasOneAtMost [] = Unit {0}
 HasOneAtMost (refusal ∷ rest) = rest ≡ []
 
--- these complaints of the text are reported: the least of them, or all of them, each once, in their order
-abbrev pub AreReported : Complaints → Profile → Option Url → List ℕ → List Refusal → Type 0
-AreReported Least profile base text refusals = HasOneAtMost refusals
+-- these violations of the text are reported: the first of them, or all of them, each once, in their order
+abbrev pub AreReported : Extent → Profile → Option Url → List ℕ → List Refusal → Type 0
+AreReported First profile base text refusals = HasOneAtMost refusals
 AreReported All profile base text refusals = AreFaults profile base text refusals
 
--- what is found with a text: nothing where it is valid, else the complaints of it that are reported
+-- what is found with a text: nothing where it is valid, else the violations of it that are reported
 pub record AreTextFindings (setting : FileSetting) (text : List ℕ) (findings : List Finding) : Type 0 where
   pub refusals : List Refusal
   pub judges : Judges setting.profile setting.base text refusals
-  pub reported : AreReported setting.complaints setting.profile setting.base text refusals
+  pub reported : AreReported setting.extent setting.profile setting.base text refusals
   pub are : findings ≡ map Refused refusals
 
 -- What is found with a line; none stands for one that has more bytes than a line may have. It is found that such a line

@@ -6,11 +6,10 @@ ghost use Rattle.uv_lint.specs.Findings.{AreFindings, AreTextFindings};
 ghost use Rattle.uv_report.specs.declared.finding.Finding.TheVariants.{Refused};
 
 use crate::reporter::LintReporter;
-use crate::setting::Complaints;
 use std::alloc::{AllocError, Global};
 use std::str::from_utf8;
 use uv_grammar::{Verdict, check, faults};
-use uv_model::Refusal;
+use uv_model::{Extent, Refusal};
 use uv_report::Finding;
 
 impl<'a> LintReporter<'a> {
@@ -55,9 +54,9 @@ impl<'a> LintReporter<'a> {
         requires { IsRefused self.now.setting.profile self.now.setting.base (chars text.now) refusal }
         ensures { IfOk result (λ found. AreTextFindings self.now.setting (chars text.now) found.items) }
     {
-        match self.complaints() {
-            Complaints::Least => alone(alloc, Finding::Refused(refusal)),
-            Complaints::All => {
+        match self.extent() {
+            Extent::First => alone(alloc, Finding::Refused(refusal)),
+            Extent::All => {
                 let refusals = faults(alloc, text, self.base(), self.profile())?;
                 each_refused(alloc, refusals.as_slice())
             }

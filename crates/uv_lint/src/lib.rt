@@ -13,7 +13,7 @@ mod told_line;
 pub use counts::LintCounts;
 pub use fault::LintFault;
 pub use run::run_lint;
-pub use setting::{Complaints, LintSetting};
+pub use setting::LintSetting;
 
 #[cfg(test)]
 mod tests;

@@ -6,12 +6,12 @@ ghost use Rattle.uv_lint.specs.Report as spec;
 ghost use Rattle.uv_lint.specs.Reporting.{with_line};
 
 use crate::counts::LintCounts;
-use crate::setting::{Complaints, LintSetting};
+use crate::setting::LintSetting;
 use crate::told_line::{ToldLine, shown_text};
 use std::alloc::{AllocError, Global};
 use std::marker::Model;
 use uv_lines::Reporter;
-use uv_model::{Profile, Record};
+use uv_model::{Extent, Profile, Record};
 use uv_report::Finding;
 
 /// What reports on the lines of a file: what they are judged by, whether no diagnostic of the report was written yet,
@@ -94,11 +94,11 @@ impl<'a> LintReporter<'a> {
         self.setting.profile
     }
 
-    /// Which complaints of a refused line are reported.
-    pub(crate) fn complaints(&self) -> Complaints
-        ensures { result ≡ self.now.setting.complaints }
+    /// How many of the violations of a refused line are reported.
+    pub(crate) fn extent(&self) -> Extent
+        ensures { result ≡ self.now.setting.extent }
     {
-        self.setting.complaints
+        self.setting.extent
     }
 
     // Appends the diagnostics on the next line.

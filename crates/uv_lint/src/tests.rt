@@ -10,14 +10,16 @@ use std::alloc::Global;
 use std::process::Abort;
 use std::test::Fail;
 use uv_lines::LineLimits;
-use uv_model::{FromReader, Host, Profile, Record, Text, TextList, ToWriter, UrlPath, well_formed};
+use uv_model::{
+    Extent, FromReader, Host, Profile, Record, Text, TextList, ToWriter, UrlPath, well_formed,
+};
 use uv_report::Format;
 
-// The standard profile, no base, the least complaints, and lines as compilers write them.
+// The standard profile, no base, the first violation, and lines as compilers write them.
 const PLAIN: LintSetting<'static> = LintSetting {
     base: None,
     profile: Profile::Standard,
-    complaints: Complaints::Least,
+    extent: Extent::First,
     format: Format::Gnu,
 };
 
@@ -138,7 +140,7 @@ fn tells_the_least_complaint_or_all(rt: HostRuntime) {
         [host-domain]\n";
     reports(&rt, list, PLAIN, first, (2, 2));
     let all = LintSetting {
-        complaints: Complaints::All,
+        extent: Extent::All,
         ..PLAIN
     };
     let each = "list:1:11: error: U+0020 SPACE may not stand in a URL [code-point]\n\
@@ -206,7 +208,7 @@ fn sarif_result(alloc: Global, line: u64, column: u64, link: &str) -> Result<Str
 #[test]
 fn puts_commas_between_results(rt: HostRuntime) -> Result<(), Fail> {
     let sarif = LintSetting {
-        complaints: Complaints::All,
+        extent: Extent::All,
         format: Format::Sarif,
         ..PLAIN
     };

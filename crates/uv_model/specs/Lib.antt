@@ -7,6 +7,7 @@ pub mod Scheme
 pub mod Hosts
 pub mod Path
 pub mod Parts
+pub mod ProfileName
 pub mod Setting
 pub mod Valid
 pub mod Cut

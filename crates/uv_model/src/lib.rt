@@ -5,6 +5,7 @@ mod ascii_units;
 mod code_points;
 mod devices;
 mod domain;
+mod extent;
 mod host;
 pub mod laws;
 mod opaque_host;
@@ -26,6 +27,7 @@ pub use devices::{
     DeviceFault, FromReader, ScriptSink, ScriptSource, Sink, Source, ToWriter, write_whole,
 };
 pub use domain::{ends_in_number, is_domain_mark};
+pub use extent::Extent;
 pub use host::Host;
 pub use opaque_host::is_forbidden_host;
 pub use path::UrlPath;

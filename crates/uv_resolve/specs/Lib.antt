@@ -1,3 +1,4 @@
+pub mod Base
 pub mod Laws
 pub mod Resolve
 pub mod Walk

@@ -1,5 +1,6 @@
 -- The record of a text, and the run of the URL parser on it (URL Standard, sections 4.3 and 4.4).
 use Rattle.std.specs.Prelude.{◌≡◌, ℕ, List, Option, Result, Ok, Err}
+use Rattle.std.specs.Str.{chars}
 use Rattle.uv_model.specs.declared.profile.Profile.{Profile}
 use Rattle.uv_model.specs.declared.profile.Profile.TheVariants.{Wide}
 use Rattle.uv_model.specs.declared.rule.Refusal.{Refusal}
@@ -9,6 +10,7 @@ use Rattle.uv_model.specs.Parts.{Parts}
 use Rattle.uv_parser.specs.Laws.Silence.{RunsSilently}
 use Rattle.uv_parser.specs.Laws.StepCounts.{least_step_bound}
 use Rattle.uv_parser.specs.Run.{Done, run}
+use Rattle.uv_model.specs.Records.Serialize.{serial}
 use Rattle.uv_model.specs.Records.Url.{Url}
 use Rattle.uv_model.specs.Setting.{setting_of}
 use Rattle.uv_model.specs.Valid.{Valid}
@@ -21,6 +23,10 @@ use Rattle.uv_resolve.specs.declared.fault.ResolveFault.TheVariants.{Refused, Me
 -- the text is valid with parts that denote the URL
 abbrev pub Denotes : Profile → Option Url → List ℕ → Url → Type 0
 Denotes profile base text url = (parts : Parts) × Valid profile base text parts × (url ≡ denote base parts)
+
+-- the text, given by its bytes, denotes a URL with this text
+abbrev pub DenotesText : Profile → Option Url → List ℕ → List ℕ → Type 0
+DenotesText profile base bytes text = (url : Url) × Denotes profile base (chars bytes) url × (text ≡ serial url)
 
 -- the parts are those of some valid text, of either profile
 abbrev pub HaveValidText : Option Url → Parts → Type 0

@@ -2,6 +2,7 @@
 //! 4.4).
 #![tactic(auto)]
 
+mod base;
 mod fault;
 pub mod laws;
 mod paths;
@@ -9,6 +10,7 @@ mod records;
 mod resolver;
 mod walker;
 
+pub use base::resolve_base;
 pub use fault::ResolveFault;
 pub use resolver::resolve;
 

@@ -1,22 +1,22 @@
 -- The commands of the program, as what `clap`'s definition reads of them: each option and each text to be given.
 use Rattle.std.specs.Prelude.{◌≡◌, Some, codes, true, false}
-use Rattle.clap.specs.Words.{App, Rule, app_of, new_app, new_rule, with_rule, with_subcommand}
+use Rattle.clap.specs.Words.{App, Rule, Text, app_of, new_app, new_rule, with_rule, with_subcommand}
 use Rattle.clap.specs.Simple.{on_top}
 use Rattle.clap.specs.declared.builder.action.ArgAction.TheVariants.{Append, SetTrue}
 use Rattle.clap.specs.declared.builder.command.Command.{Command}
 use Rattle.clap.specs.declared.builder.command.Command.TheViews.{out-Command}
 
--- `--base TEXT`
-abbrev pub base_rule : Rule
-base_rule = record (new_rule (codes "base")) { long = Some (codes "base"); value_names = 1 }
+-- an option with a value, by its name
+abbrev pub option_rule : Text → Rule
+option_rule id = record (new_rule id) { long = Some id; value_names = 1 }
 
--- `--all`
-abbrev pub all_rule : Rule
-all_rule = record (new_rule (codes "all")) { long = Some (codes "all"); action = Some SetTrue }
+-- an option without a value, by its name
+abbrev pub flag_rule : Text → Rule
+flag_rule id = record (new_rule id) { long = Some id; action = Some SetTrue }
 
--- `--wide`
-abbrev pub wide_rule : Rule
-wide_rule = record (new_rule (codes "wide")) { long = Some (codes "wide"); action = Some SetTrue }
+-- `--quiet`, which is `-q` too
+abbrev pub quiet_rule : Rule
+quiet_rule = record (flag_rule (codes "quiet")) { short = Some 113 }
 
 -- TEXT
 abbrev pub text_rule : Rule
@@ -30,32 +30,31 @@ file_rule = record (new_rule (codes "FILE")) { required = true }
 abbrev pub files_rule : Rule
 files_rule = record (new_rule (codes "FILE")) { required = true; action = Some Append }
 
--- `--format FORMAT`
-abbrev pub format_rule : Rule
-format_rule = record (new_rule (codes "format")) { long = Some (codes "format"); value_names = 1 }
-
--- `--quiet`
-abbrev pub quiet_rule : Rule
-quiet_rule = record (new_rule (codes "quiet")) { long = Some (codes "quiet"); action = Some SetTrue }
-
 -- RULE
 abbrev pub name_rule : Rule
 name_rule = new_rule (codes "RULE")
 
--- `check [--base TEXT] [--all] [--wide] TEXT`
+-- `check [--base TEXT] [--all] [--profile PROFILE] [--wide] TEXT`
 abbrev pub check_command : App
 check_command =
-    with_rule (with_rule (with_rule (with_rule (new_app (codes "check")) base_rule) all_rule) wide_rule) text_rule
+    with_rule (with_rule (with_rule (with_rule (with_rule (new_app (codes "check"))
+    (option_rule (codes "base"))) (flag_rule (codes "all"))) (option_rule (codes "profile")))
+    (flag_rule (codes "wide")))
+    text_rule
 
--- `lint [--base TEXT] [--all] [--wide] [--format FORMAT] [--quiet] FILE..`
+-- `lint [--base TEXT] [--all] [--profile PROFILE] [--wide] [--format FORMAT] [--quiet] FILE..`
 abbrev pub lint_command : App
 lint_command =
-    with_rule (with_rule (with_rule (with_rule (with_rule (with_rule (new_app (codes "lint"))
-    base_rule) all_rule) wide_rule) format_rule) quiet_rule) files_rule
+    with_rule (with_rule (with_rule (with_rule (with_rule (with_rule (with_rule (new_app (codes "lint"))
+    (option_rule (codes "base"))) (flag_rule (codes "all"))) (option_rule (codes "profile")))
+    (flag_rule (codes "wide")))
+    (option_rule (codes "format"))) quiet_rule) files_rule
 
--- `links [--base TEXT] [--wide]`
+-- `links [--base TEXT] [--profile PROFILE] [--wide]`
 abbrev pub links_command : App
-links_command = with_rule (with_rule (new_app (codes "links")) base_rule) wide_rule
+links_command =
+    with_rule (with_rule (with_rule (new_app (codes "links"))
+    (option_rule (codes "base"))) (option_rule (codes "profile"))) (flag_rule (codes "wide"))
 
 -- `vectors FILE`
 abbrev pub vectors_command : App

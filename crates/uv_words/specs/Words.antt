@@ -1,4 +1,4 @@
--- What the words of the command line ask for, by `clap`'s definition of the words that a command takes.
+-- What the arguments of the command line ask for, by `clap`'s definition of the words that a command takes.
 use Rattle.std.specs.Prelude.{◌≡◌, ◌≢◌, Bool, List, Option, Some, None, true, false, String, codes, map, option_and_then, option_map, string_bytes, if◌then◌else◌}
 use Rattle.std.specs.Option.{option_map_or}
 use Rattle.std.specs.Str.{bytes_eq}
@@ -8,7 +8,14 @@ use Rattle.clap.specs.Words.{IsAmong, fault_of, kind_of}
 use Rattle.clap.specs.declared.error.Error.{Error}
 use Rattle.clap.specs.declared.error.kind.ErrorKind.{ErrorKind}
 use Rattle.clap.specs.declared.error.kind.ErrorKind.TheVariants.{DisplayHelp, DisplayVersion, OutOfMemory}
+use Rattle.uv_model.specs.declared.extent.Extent.{Extent}
+use Rattle.uv_model.specs.declared.extent.Extent.TheVariants.{First, All}
+use Rattle.uv_model.specs.declared.profile.Profile.{Profile}
+use Rattle.uv_model.specs.declared.profile.Profile.TheVariants.{Standard, Wide}
+use Rattle.uv_model.specs.ProfileName.{named_profile}
 use Rattle.uv_words.specs.Commands.{urlcheck}
+use Rattle.uv_words.specs.declared.profile.Asked.{Asked}
+use Rattle.uv_words.specs.declared.profile.Asked.TheVariants as asked
 use Rattle.uv_words.specs.declared.words.Job.{Job}
 use Rattle.uv_words.specs.declared.words.Job.TheVariants as job
 use Rattle.uv_words.specs.declared.words.LintJob.{LintJob}
@@ -17,24 +24,25 @@ use Rattle.uv_words.specs.declared.words.WordsFault.TheVariants as fault
 
 -- ---- what is asked for
 
--- what a lint asks for: the files, the base, whether all faults are asked for, whether the profile is the wide one,
--- the format's name, and whether no counts are
+-- what a lint asks for: the files, the base, how many violations of a line, the profile, the format's name, and whether
+-- no counts are wanted
 pub record LintRequest : Type 0 where
   pub files : List Text
   pub base : Option Text
-  pub all : Bool
-  pub wide : Bool
+  pub extent : Extent
+  pub profile : Profile
   pub format : Option Text
   pub quiet : Bool
 
--- a command with its texts and flags: of a check the text, the base, whether all faults are asked for and whether the
--- profile is the wide one; of a list the base and the profile; of vectors the file; of an explanation the rule's name
+-- a command with its texts and options: of a check the text, the base, how many violations and the profile; of a list
+-- the base and the profile; of vectors the file; of an explanation the rule's name; or a profile's name that none has
 pub data Request : Type 0 where
-  check : Text → Option Text → Bool → Bool → Request
+  check : Text → Option Text → Extent → Profile → Request
   lint : LintRequest → Request
-  links : Option Text → Bool → Request
+  links : Option Text → Profile → Request
   vectors : Text → Request
   explain : Option Text → Request
+  unknown_profile : Text → Request
 
 -- the base that was given
 abbrev pub base_in : List Row → Option Text
@@ -44,32 +52,72 @@ base_in rows = first_of (codes "base") rows
 abbrev pub has_flag : Text → List Row → Bool
 has_flag id rows = option_map_or (λ text. bytes_eq text (codes "true")) (first_of id rows) false
 
--- the request of a check, from its entries
-abbrev pub check_in : List Row → Option Request
-check_in rows =
-    option_map (λ text. check text (base_in rows) (has_flag (codes "all") rows) (has_flag (codes "wide") rows))
-    (first_of (codes "TEXT") rows)
+-- all violations with `--all`, else the first
+abbrev pub extent_in : List Row → Extent
+extent_in rows = if has_flag (codes "all") rows then All else First
 
--- the request of a lint, from its entries
-abbrev pub lint_in : List Row → Option Request
-lint_in rows = option_map (λ files. lint (record {
+-- ---- the profile
+
+-- the profile that is asked for, or a name that no profile has
+pub data Wanted : Type 0 where
+  known : Profile → Wanted
+  unknown : Text → Wanted
+
+-- the profile with this name, if one has it
+abbrev pub wanted_by_name : Text → Option Profile → Wanted
+wanted_by_name name (Some profile) = known profile
+wanted_by_name name None = unknown name
+
+-- `--wide` stands for `--profile wide`, and only one of the two may be given. With neither the profile is the standard
+-- one.
+abbrev pub wanted_by : Bool → Option Text → Option Wanted
+wanted_by false None = Some (known Standard)
+wanted_by true None = Some (known Wide)
+wanted_by false (Some name) = Some (wanted_by_name name (named_profile name))
+wanted_by true (Some name) = None
+
+-- the profile that the entries ask for
+abbrev pub wanted_in : List Row → Option Wanted
+wanted_in rows = wanted_by (has_flag (codes "wide") rows) (first_of (codes "profile") rows)
+
+-- ---- the request
+
+-- the request of a check, from its entries and by the profile
+abbrev pub check_in : List Row → Profile → Option Request
+check_in rows profile =
+    option_map (λ text. check text (base_in rows) (extent_in rows) profile) (first_of (codes "TEXT") rows)
+
+-- the request of a lint, from its entries and by the profile
+abbrev pub lint_in : List Row → Profile → Option Request
+lint_in rows profile = option_map (λ files. lint (record {
   files = files;
   base = base_in rows;
-  all = has_flag (codes "all") rows;
-  wide = has_flag (codes "wide") rows;
+  extent = extent_in rows;
+  profile = profile;
   format = first_of (codes "format") rows;
   quiet = has_flag (codes "quiet") rows;
 })) (all_of (codes "FILE") rows)
 
+-- the request of a command that judges by a profile
+abbrev pub judged_in : Text → List Row → Profile → Option Request
+judged_in name rows profile =
+    if bytes_eq name (codes "check") then check_in rows profile
+    else (if bytes_eq name (codes "lint") then lint_in rows profile
+    else (if bytes_eq name (codes "links") then Some (links (base_in rows) profile)
+    else None))
+
+-- the request of a command that judges by the profile that is asked for
+abbrev pub profiled_in : Text → List Row → Option Wanted → Option Request
+profiled_in name rows None = None
+profiled_in name rows (Some (known profile)) = judged_in name rows profile
+profiled_in name rows (Some (unknown other)) = Some (unknown_profile other)
+
 -- the request that a command's name and its entries make
-abbrev pub request_in : Text → List Row → Option Request
+unfoldable pub request_in : Text → List Row → Option Request
 request_in name rows =
-    if bytes_eq name (codes "check") then check_in rows
-    else (if bytes_eq name (codes "lint") then lint_in rows
-    else (if bytes_eq name (codes "links") then Some (links (base_in rows) (has_flag (codes "wide") rows))
-    else (if bytes_eq name (codes "vectors") then option_map vectors (first_of (codes "FILE") rows)
+    if bytes_eq name (codes "vectors") then option_map vectors (first_of (codes "FILE") rows)
     else (if bytes_eq name (codes "explain") then Some (explain (first_of (codes "RULE") rows))
-    else None))))
+    else profiled_in name rows (wanted_in rows))
 
 -- the same of the command that `clap`'s definition finds in the words, if it finds one
 abbrev pub request_of : Option (Text × List Row) → Option Request
@@ -86,19 +134,25 @@ abbrev pub request_by : LintJob → LintRequest
 request_by asked = record {
   files = map string_bytes asked.files.items;
   base = text_in asked.base;
-  all = asked.all;
-  wide = asked.wide;
+  extent = asked.extent;
+  profile = asked.profile;
   format = text_in asked.format;
   quiet = asked.quiet;
 }
 
 -- what the job has of the request
 abbrev pub asked_by : Job → Request
-asked_by (job.Check text base all wide) = check (string_bytes text) (text_in base) all wide
+asked_by (job.Check text base extent profile) = check (string_bytes text) (text_in base) extent profile
 asked_by (job.Lint asked) = lint (request_by asked)
-asked_by (job.Links base wide) = links (text_in base) wide
+asked_by (job.Links base profile) = links (text_in base) profile
 asked_by (job.Vectors file) = vectors (string_bytes file)
 asked_by (job.Explain rule) = explain (text_in rule)
+asked_by (job.UnknownProfile name) = unknown_profile (string_bytes name)
+
+-- what is read of the profile that is asked for
+abbrev pub wanted_view : Asked → Wanted
+wanted_view (asked.Known profile) = known profile
+wanted_view (asked.Unknown name) = unknown name.now
 
 -- ---- why there is none
 

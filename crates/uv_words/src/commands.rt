@@ -1,9 +1,9 @@
 //! The commands of the program, with their help.
-ghost use Rattle.std.specs.Prelude.{◌≡◌, IfOk, false};
-ghost use Rattle.clap.specs.Words.{App, Rule, app_of, rule_of, with_rule, with_subcommand};
+ghost use Rattle.std.specs.Prelude.{◌≡◌, IfOk, codes, false};
+ghost use Rattle.clap.specs.Words.{App, Rule, app_of, new_app, rule_of, with_rule, with_subcommand};
 ghost use Rattle.uv_words.specs.Commands.{check_command, explain_command, links_command, lint_command, vectors_command};
-ghost use Rattle.uv_words.specs.Commands.{all_rule, base_rule, file_rule, files_rule, format_rule, name_rule, quiet_rule};
-ghost use Rattle.uv_words.specs.Commands.{text_rule, urlcheck, wide_rule, IsApp};
+ghost use Rattle.uv_words.specs.Commands.{file_rule, files_rule, flag_rule, name_rule, option_rule, quiet_rule, text_rule};
+ghost use Rattle.uv_words.specs.Commands.{urlcheck, IsApp};
 
 use clap::{Arg, ArgAction, Command};
 use std::alloc::{AllocError, Global};
@@ -11,37 +11,66 @@ use std::alloc::{AllocError, Global};
 const STATUSES: &str = "Exit statuses:
   0  the text is valid, each line is ok, each vector passes, or a rule is explained
   1  the text is refused, a line isn't ok, or a vector fails
-  2  the words, the base or the vector file are refused, or a file of lint can't be read
+  2  the arguments, the base or the vector file are refused, or a file of lint can't be read
   3  memory ran out, or a file or a device failed
 
 Example:
   urlcheck check 'http://h/a b'";
 
-const CHECK_EXAMPLES: &str = "Prints `valid` and the parts of the URL, or `refused PLACE RULE`.
+const CHECK_NOTES: &str = "Prints `valid` and the parts of the URL, or `refused PLACE RULE`.
+
+Exit statuses:
+  0  the text is valid
+  1  the text is refused
+  2  the arguments or the base are refused
+  3  memory ran out, or the output failed
 
 Example:
   urlcheck check --base http://h/a/b ../x";
 
-const LINT_EXAMPLES: &str =
+const LINT_NOTES: &str =
     "Prints a line for each refused one, with the file, the line, the column and what is wrong there.
+
+Exit statuses:
+  0  no line is refused
+  1  a line is refused
+  2  the arguments or the base are refused, or a file can't be read; the others are judged
+  3  memory ran out, a file has too many lines, or the output failed
 
 Example:
   urlcheck lint --format caret links.txt";
 
-const LINKS_EXAMPLES: &str = "Prints a line for each line, and at the end how many are ok.
+const LINKS_NOTES: &str = "Prints a line for each line, and at the end how many are ok.
+
+Exit statuses:
+  0  each line is ok
+  1  a line isn't ok
+  2  the arguments or the base are refused, or the second parser reads the base as another URL
+  3  memory ran out, the list is too long, or the input or the output failed
 
 Example:
   urlcheck links --base http://h/ < links.txt";
 
-const VECTORS_EXAMPLES: &str =
+const VECTORS_NOTES: &str =
     "Prints `fail N` for each vector that fails, and at the end how many pass.
+
+Exit statuses:
+  0  each vector passes
+  1  a vector fails
+  2  the arguments or the file are refused
+  3  memory ran out, the file can't be read, or the output failed
 
 Example:
   urlcheck vectors vectors/standard.json";
 
-const EXPLAIN_EXAMPLES: &str =
+const EXPLAIN_NOTES: &str =
     "Prints what the rule asks, its section of the URL Standard, and a text that it refuses.
 Without RULE it prints this of each rule.
+
+Exit statuses:
+  0  the rule is explained, or each rule
+  2  the arguments are refused, or no rule has the name
+  3  memory ran out, or the output failed
 
 Example:
   urlcheck explain host-missing";
@@ -84,14 +113,20 @@ fn and_arg<'a>(
     command?.arg(arg)
 }
 
+// A command without arguments.
+fn bare<'a>(alloc: Global, name: &'a str, about: &'a str, notes: &'a str) -> Command<'a>
+    ensures { IsApp (new_app name.entry.now) result }
+{
+    Command::new(alloc, name).about(about).after_help(notes)
+}
+
 fn check<'a>(alloc: Global) -> Result<Command<'a>, AllocError>
     ensures { IfOk result (IsApp check_command) }
 {
-    let command = Command::new(alloc, "check")
-        .about("Checks one text")
-        .after_help(CHECK_EXAMPLES);
+    let command = bare(alloc, "check", "Checks one text", CHECK_NOTES);
     let command = and_arg(Ok(command), base(alloc));
     let command = and_arg(command, all(alloc));
+    let command = and_arg(command, profile(alloc));
     let command = and_arg(command, wide(alloc));
     and_arg(command, text(alloc))
 }
@@ -99,11 +134,11 @@ fn check<'a>(alloc: Global) -> Result<Command<'a>, AllocError>
 fn lint<'a>(alloc: Global) -> Result<Command<'a>, AllocError>
     ensures { IfOk result (IsApp lint_command) }
 {
-    let command = Command::new(alloc, "lint")
-        .about("Says what is wrong with the lines of files")
-        .after_help(LINT_EXAMPLES);
+    let about = "Says what is wrong with the lines of files";
+    let command = bare(alloc, "lint", about, LINT_NOTES);
     let command = and_arg(Ok(command), base(alloc));
     let command = and_arg(command, all(alloc));
+    let command = and_arg(command, profile(alloc));
     let command = and_arg(command, wide(alloc));
     let command = and_arg(command, format(alloc));
     let command = and_arg(command, quiet(alloc));
@@ -113,79 +148,104 @@ fn lint<'a>(alloc: Global) -> Result<Command<'a>, AllocError>
 fn links<'a>(alloc: Global) -> Result<Command<'a>, AllocError>
     ensures { IfOk result (IsApp links_command) }
 {
-    let command = Command::new(alloc, "links")
-        .about("Checks each line of the standard input")
-        .after_help(LINKS_EXAMPLES);
+    let about = "Checks each line of the standard input";
+    let command = bare(alloc, "links", about, LINKS_NOTES);
     let command = and_arg(Ok(command), base(alloc));
+    let command = and_arg(command, profile(alloc));
     and_arg(command, wide(alloc))
 }
 
 fn vectors<'a>(alloc: Global) -> Result<Command<'a>, AllocError>
     ensures { IfOk result (IsApp vectors_command) }
 {
-    Command::new(alloc, "vectors")
-        .about("Runs the vectors of a file")
-        .after_help(VECTORS_EXAMPLES)
-        .arg(file(alloc))
+    let about = "Runs the vectors of a file";
+    and_arg(
+        Ok(bare(alloc, "vectors", about, VECTORS_NOTES)),
+        file(alloc),
+    )
 }
 
 fn explain<'a>(alloc: Global) -> Result<Command<'a>, AllocError>
     ensures { IfOk result (IsApp explain_command) }
 {
-    Command::new(alloc, "explain")
-        .about("Says what a rule asks")
-        .after_help(EXPLAIN_EXAMPLES)
-        .arg(name(alloc))
+    let about = "Says what a rule asks";
+    and_arg(
+        Ok(bare(alloc, "explain", about, EXPLAIN_NOTES)),
+        name(alloc),
+    )
+}
+
+// An option with a value.
+fn option<'a>(alloc: Global, name: &'a str, value: &'a str, help: &'a str) -> Arg<'a>
+    ensures rule { rule_of result ≡ option_rule name.entry.now }
+    ensures local { result.global ≡ false }
+{
+    Arg::new(alloc, name)
+        .long(name)
+        .value_name(value)
+        .help(help)
+}
+
+// An option without a value.
+fn flag<'a>(alloc: Global, name: &'a str, help: &'a str) -> Arg<'a>
+    ensures rule { rule_of result ≡ flag_rule name.entry.now }
+    ensures local { result.global ≡ false }
+{
+    Arg::new(alloc, name)
+        .long(name)
+        .action(ArgAction::SetTrue)
+        .help(help)
 }
 
 fn base<'a>(alloc: Global) -> Arg<'a>
-    ensures rule { rule_of result ≡ base_rule }
+    ensures rule { rule_of result ≡ option_rule (codes "base") }
     ensures local { result.global ≡ false }
 {
-    Arg::new(alloc, "base")
-        .long("base")
-        .value_name("TEXT")
-        .help("The base, which is judged alone and first")
+    option(
+        alloc,
+        "base",
+        "TEXT",
+        "The base, which is judged alone and first",
+    )
 }
 
 fn all<'a>(alloc: Global) -> Arg<'a>
-    ensures rule { rule_of result ≡ all_rule }
+    ensures rule { rule_of result ≡ flag_rule (codes "all") }
     ensures local { result.global ≡ false }
 {
-    Arg::new(alloc, "all")
-        .long("all")
-        .action(ArgAction::SetTrue)
-        .help("Prints all that is wrong with a text, and not the first alone")
+    let help = "Prints all that is wrong with a text, and not the first alone";
+    flag(alloc, "all", help)
+}
+
+fn profile<'a>(alloc: Global) -> Arg<'a>
+    ensures rule { rule_of result ≡ option_rule (codes "profile") }
+    ensures local { result.global ≡ false }
+{
+    let help = "standard or wide; without it standard";
+    option(alloc, "profile", "PROFILE", help)
 }
 
 fn wide<'a>(alloc: Global) -> Arg<'a>
-    ensures rule { rule_of result ≡ wide_rule }
+    ensures rule { rule_of result ≡ flag_rule (codes "wide") }
     ensures local { result.global ≡ false }
 {
-    Arg::new(alloc, "wide")
-        .long("wide")
-        .action(ArgAction::SetTrue)
-        .help("Judges by the wide profile, which takes http://a_b/ and http://h//a too")
+    let help = "Short for --profile wide, which takes http://a_b/ and http://h//a too";
+    flag(alloc, "wide", help)
 }
 
 fn format<'a>(alloc: Global) -> Arg<'a>
-    ensures rule { rule_of result ≡ format_rule }
+    ensures rule { rule_of result ≡ option_rule (codes "format") }
     ensures local { result.global ≡ false }
 {
-    Arg::new(alloc, "format")
-        .long("format")
-        .value_name("FORMAT")
-        .help("gnu, caret, json, github, sarif or checkstyle; without it gnu")
+    let help = "gnu, caret, json, github, sarif or checkstyle; without it gnu";
+    option(alloc, "format", "FORMAT", help)
 }
 
 fn quiet<'a>(alloc: Global) -> Arg<'a>
     ensures rule { rule_of result ≡ quiet_rule }
     ensures local { result.global ≡ false }
 {
-    Arg::new(alloc, "quiet")
-        .long("quiet")
-        .action(ArgAction::SetTrue)
-        .help("Leaves out the counts on standard error")
+    flag(alloc, "quiet", "Leaves out the counts on standard error").short('q')
 }
 
 fn files<'a>(alloc: Global) -> Arg<'a>

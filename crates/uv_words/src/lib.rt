@@ -1,7 +1,8 @@
-//! The words of the command line.
+//! The arguments of the command line.
 #![tactic(auto)]
 
 mod commands;
+mod profile;
 mod words;
 
 pub use words::{Job, LintJob, WordsFault, read_words};

@@ -1,94 +1,226 @@
-//! Words that are written out, and what they ask for by the program's usage.
+//! Arguments that are written out, and what they ask for by the program's usage.
 
-use crate::words::{Job, WordsFault, read_words};
+use crate::words::{Job, LintJob, WordsFault, read_words};
 use clap::error::ErrorKind;
+use std::process::Abort;
 use std::test::Fail;
+use uv_model::{Extent, Profile};
 
-// Words behind the program's name, and the job that they ask for.
-#[test]
-fn reads_jobs(rt: HostRuntime) -> Result<(), Fail> {
-    let rows: [(&[&str], &str); 17] = [
-        (
-            &["urlcheck", "check", ""],
-            "Ok(Some(Check { text: \"\", base: None, all: false, wide: false }))",
-        ),
-        (
-            &["urlcheck", "check", " a "],
-            "Ok(Some(Check { text: \" a \", base: None, all: false, wide: false }))",
-        ),
-        (
-            &["urlcheck", "check", "--base=", "a"],
-            "Ok(Some(Check { text: \"a\", base: Some(\"\"), all: false, wide: false }))",
-        ),
-        (
-            &["urlcheck", "check", "--base", "b", "http://h/"],
-            "Ok(Some(Check { text: \"http://h/\", base: Some(\"b\"), all: false, wide: false }))",
-        ),
-        (
-            &["urlcheck", "check", "--all", "--wide", "a", "--base", "b"],
-            "Ok(Some(Check { text: \"a\", base: Some(\"b\"), all: true, wide: true }))",
-        ),
-        (
-            &["urlcheck", "check", "--", "-a"],
-            "Ok(Some(Check { text: \"-a\", base: None, all: false, wide: false }))",
-        ),
-        (
-            &["urlcheck", "check", "--", "--wide"],
-            "Ok(Some(Check { text: \"--wide\", base: None, all: false, wide: false }))",
-        ),
-        (
-            &["urlcheck", "lint", "a"],
-            "Ok(Some(Lint(LintJob { files: [\"a\"], base: None, all: false, wide: false, \
-            format: None, quiet: false })))",
-        ),
-        (
-            &[
-                "urlcheck", "lint", "-", "--base=", "b", "--all", "--wide", "--format", "json",
-                "--quiet", "a b",
-            ],
-            "Ok(Some(Lint(LintJob { files: [\"-\", \"b\", \"a b\"], base: Some(\"\"), all: true, wide: true, \
-            format: Some(\"json\"), quiet: true })))",
-        ),
-        (
-            &["urlcheck", "lint", "a", "--", "--all", ""],
-            "Ok(Some(Lint(LintJob { files: [\"a\", \"--all\", \"\"], base: None, all: false, wide: false, \
-            format: None, quiet: false })))",
-        ),
-        (
-            &["urlcheck", "links", "--base", "x:"],
-            "Ok(Some(Links { base: Some(\"x:\"), wide: false }))",
-        ),
-        (
-            &["urlcheck", "links", "--wide"],
-            "Ok(Some(Links { base: None, wide: true }))",
-        ),
-        (
-            &["urlcheck", "vectors", "a b"],
-            "Ok(Some(Vectors { file: \"a b\" }))",
-        ),
-        (&["urlcheck", "explain"], "Ok(Some(Explain { rule: None }))"),
-        (
-            &["urlcheck", "explain", "host-missing"],
-            "Ok(Some(Explain { rule: Some(\"host-missing\") }))",
-        ),
-        (
-            &["urlcheck", "explain", "PERCENT"],
-            "Ok(Some(Explain { rule: Some(\"PERCENT\") }))",
-        ),
-        (
-            &["urlcheck", "explain", ""],
-            "Ok(Some(Explain { rule: Some(\"\") }))",
-        ),
-    ];
-    for (words, want) in rows {
-        let asked = read_words(rt.alloc(), words);
-        let asked = format!(in rt.alloc(); "{asked:?}")?;
-        assert_eq!(rt; asked.as_str(), want);
+// What is asked for: a command, its texts and its options. A base or a format is one text, or none.
+#[derive(Clone, Copy)]
+struct Want<'w> {
+    command: &'w str,
+    texts: &'w [&'w str],
+    base: &'w [&'w str],
+    extent: Extent,
+    profile: Profile,
+    format: &'w [&'w str],
+    quiet: bool,
+}
+
+// A command with these texts, and without options.
+const fn plain<'w>(command: &'w str, texts: &'w [&'w str]) -> Want<'w> {
+    Want {
+        command,
+        texts,
+        base: &[],
+        extent: Extent::First,
+        profile: Profile::Standard,
+        format: &[],
+        quiet: false,
     }
+}
+
+// Whether the texts are these.
+fn are(texts: &[String], want: &[&str]) -> bool {
+    texts.len() == want.len()
+        && texts
+            .iter()
+            .zip(want)
+            .all(|(text, want)| text.as_str() == *want)
+}
+
+// Whether the only text is this one.
+fn is(text: Option<&str>, want: &[&str]) -> bool {
+    match text {
+        Some(text) => want.len() == 1 && want[0] == text,
+        None => want.is_empty(),
+    }
+}
+
+fn is_lint(job: &LintJob, want: &Want<'_>) -> bool {
+    want.command == "lint"
+        && are(job.files.as_slice(), want.texts)
+        && is(job.base.as_deref(), want.base)
+        && job.extent == want.extent
+        && job.profile == want.profile
+        && is(job.format.as_deref(), want.format)
+        && job.quiet == want.quiet
+}
+
+fn is_check(
+    text: &str,
+    base: Option<&str>,
+    extent: Extent,
+    profile: Profile,
+    want: &Want<'_>,
+) -> bool {
+    want.command == "check"
+        && is(Some(text), want.texts)
+        && is(base, want.base)
+        && extent == want.extent
+        && profile == want.profile
+}
+
+fn is_wanted(job: &Job, want: &Want<'_>) -> bool {
+    match job {
+        Job::Check {
+            text,
+            base,
+            extent,
+            profile,
+        } => is_check(text.as_str(), base.as_deref(), *extent, *profile, want),
+        Job::Lint(job) => is_lint(job, want),
+        Job::Links { base, profile } => {
+            want.command == "links" && is(base.as_deref(), want.base) && *profile == want.profile
+        }
+        Job::Vectors { file } => want.command == "vectors" && is(Some(file.as_str()), want.texts),
+        Job::Explain { rule } => want.command == "explain" && is(rule.as_deref(), want.texts),
+        Job::UnknownProfile { name } => {
+            want.command == "unknown" && is(Some(name.as_str()), want.texts)
+        }
+    }
+}
+
+// These arguments behind the program's name ask for this.
+fn asks(rt: &(impl Abort + AllocGlobal), words: &[&str], want: Want<'_>) {
+    let command = want.command;
+    match read_words(rt.alloc(), words) {
+        Ok(Some(job)) => assert!(rt; is_wanted(&job, &want), "at {command}"),
+        _ => panic!(rt; "no job at {command}"),
+    }
+}
+
+#[test]
+fn reads_checks(rt: HostRuntime) -> Result<(), Fail> {
+    asks(&rt, &["urlcheck", "check", ""], plain("check", &[""]));
+    asks(&rt, &["urlcheck", "check", " a "], plain("check", &[" a "]));
+    asks(
+        &rt,
+        &["urlcheck", "check", "--", "-a"],
+        plain("check", &["-a"]),
+    );
+    asks(
+        &rt,
+        &["urlcheck", "check", "--", "--wide"],
+        plain("check", &["--wide"]),
+    );
+    let based = Want {
+        base: &[""],
+        ..plain("check", &["a"])
+    };
+    asks(&rt, &["urlcheck", "check", "--base=", "a"], based);
+    let based = Want {
+        base: &["b"],
+        extent: Extent::All,
+        profile: Profile::Wide,
+        ..plain("check", &["a"])
+    };
+    asks(
+        &rt,
+        &["urlcheck", "check", "--all", "--wide", "a", "--base", "b"],
+        based,
+    );
     Ok(())
 }
 
-// Why the words ask for no job.
+#[test]
+fn reads_lints(rt: HostRuntime) -> Result<(), Fail> {
+    asks(&rt, &["urlcheck", "lint", "a"], plain("lint", &["a"]));
+    asks(
+        &rt,
+        &["urlcheck", "lint", "a", "--", "--all", ""],
+        plain("lint", &["a", "--all", ""]),
+    );
+    let all = Want {
+        base: &[""],
+        extent: Extent::All,
+        profile: Profile::Wide,
+        format: &["json"],
+        quiet: true,
+        ..plain("lint", &["-", "b", "a b"])
+    };
+    asks(
+        &rt,
+        &[
+            "urlcheck", "lint", "-", "--base=", "b", "--all", "--wide", "--format", "json",
+            "--quiet", "a b",
+        ],
+        all,
+    );
+    let quiet = Want {
+        quiet: true,
+        ..plain("lint", &["a"])
+    };
+    asks(&rt, &["urlcheck", "lint", "-q", "a"], quiet);
+    Ok(())
+}
+
+#[test]
+fn reads_other_jobs(rt: HostRuntime) -> Result<(), Fail> {
+    let based = Want {
+        base: &["x:"],
+        ..plain("links", &[])
+    };
+    asks(&rt, &["urlcheck", "links", "--base", "x:"], based);
+    asks(
+        &rt,
+        &["urlcheck", "vectors", "a b"],
+        plain("vectors", &["a b"]),
+    );
+    asks(&rt, &["urlcheck", "explain"], plain("explain", &[]));
+    asks(
+        &rt,
+        &["urlcheck", "explain", "host-missing"],
+        plain("explain", &["host-missing"]),
+    );
+    asks(&rt, &["urlcheck", "explain", ""], plain("explain", &[""]));
+    Ok(())
+}
+
+// A profile by its name, by `--wide`, and by a name that none has.
+#[test]
+fn reads_profiles(rt: HostRuntime) -> Result<(), Fail> {
+    let wide = Want {
+        profile: Profile::Wide,
+        ..plain("links", &[])
+    };
+    asks(&rt, &["urlcheck", "links", "--wide"], wide);
+    asks(&rt, &["urlcheck", "links", "--profile", "wide"], wide);
+    asks(
+        &rt,
+        &["urlcheck", "links", "--profile=standard"],
+        plain("links", &[]),
+    );
+    asks(
+        &rt,
+        &["urlcheck", "check", "--profile", "Wide", "a"],
+        plain("unknown", &["Wide"]),
+    );
+    asks(
+        &rt,
+        &["urlcheck", "lint", "--profile", "standar", "a"],
+        plain("unknown", &["standar"]),
+    );
+    let both = read_words(
+        rt.alloc(),
+        &["urlcheck", "links", "--wide", "--profile", "wide"],
+    );
+    assert!(rt; matches!(&both, Ok(None)));
+    Ok(())
+}
+
+// Why the arguments ask for no job.
 fn kind_of(asked: &Result<Option<Job>, WordsFault>) -> Option<ErrorKind> {
     match asked {
         Err(WordsFault::Words(error)) => Some(error.kind()),
@@ -96,16 +228,17 @@ fn kind_of(asked: &Result<Option<Job>, WordsFault>) -> Option<ErrorKind> {
     }
 }
 
-// Words that ask for no job, and why.
+// Arguments that ask for no job, and why.
 #[test]
 fn refuses_words(rt: HostRuntime) {
-    let rows: [(&[&str], ErrorKind); 15] = [
+    let rows: [(&[&str], ErrorKind); 16] = [
         (&["urlcheck"], ErrorKind::MissingSubcommand),
         (&["urlcheck", "-x"], ErrorKind::UnknownArgument),
         (&["urlcheck", "chek", "a"], ErrorKind::InvalidSubcommand),
         (&["urlcheck", "check"], ErrorKind::MissingRequiredArgument),
         (&["urlcheck", "check", "-a"], ErrorKind::UnknownArgument),
         (&["urlcheck", "check", "--base"], ErrorKind::InvalidValue),
+        (&["urlcheck", "check", "--profile"], ErrorKind::InvalidValue),
         (
             &["urlcheck", "check", "--", "--base", "b", "t"],
             ErrorKind::UnknownArgument,

@@ -1,17 +1,19 @@
-//! What the words of the command line ask for.
-ghost use Rattle.std.specs.Prelude.{◌≡◌, IfOk, IfErr, map, option_map, string_bytes, true};
-ghost use Rattle.clap.specs.Words.{all_of, first_of, found_of, kind_of, rows_of, subcommand_of, takes};
+//! What the arguments of the command line ask for.
+ghost use Rattle.std.specs.Prelude.{◌≡◌, IfOk, IfErr, codes, map, option_map, string_bytes, true};
+ghost use Rattle.clap.specs.Words.{all_of, first_of, found_of, kind_of, rows_of, subcommand_of, subcommand_rows_of, takes};
 ghost use Rattle.uv_words.specs.Commands.{urlcheck};
-ghost use Rattle.uv_words.specs.Words.{asked_by, asks_to_show, check_in, has_flag, lint_in, request_in, request_of};
-ghost use Rattle.uv_words.specs.Words.{IsFaultOf, IsFrom};
+ghost use Rattle.uv_words.specs.Words.{asked_by, asks_to_show, check_in, extent_in, has_flag, judged_in, lint_in, request_in};
+ghost use Rattle.uv_words.specs.Words.{request_of, vectors, wanted_in, wanted_view, IsFaultOf, IsFrom};
 
 use crate::commands::urlcheck;
+use crate::profile::{Asked, asked_for};
 use clap::error::ErrorKind;
 use clap::{ArgMatches, Error};
 use std::alloc::{AllocError, Global};
+use uv_model::{Extent, Profile};
 
 /// What the program is asked to do.
-#[derive(Debug, Drop)]
+#[derive(Drop)]
 pub enum Job {
     /// To check a text.
     Check {
@@ -19,10 +21,10 @@ pub enum Job {
         text: String,
         /// The base's text, if there is a base.
         base: Option<String>,
-        /// Whether all complaints are wanted, and not the least alone.
-        all: bool,
-        /// Whether the wide profile is meant, and not the standard one.
-        wide: bool,
+        /// How many of its violations are wanted.
+        extent: Extent,
+        /// By which profile it is judged, and the base too.
+        profile: Profile,
     },
     /// To say what is wrong with the lines of files.
     Lint(LintJob),
@@ -30,8 +32,8 @@ pub enum Job {
     Links {
         /// The base's text, if there is a base.
         base: Option<String>,
-        /// Whether the wide profile is meant, and not the standard one.
-        wide: bool,
+        /// By which profile the lines are judged, and the base too.
+        profile: Profile,
     },
     /// To run the vectors of a file.
     Vectors {
@@ -43,19 +45,24 @@ pub enum Job {
         /// The rule's name, if one rule is meant.
         rule: Option<String>,
     },
+    /// To judge by a profile that there is none of.
+    UnknownProfile {
+        /// The name that no profile has.
+        name: String,
+    },
 }
 
-/// The files whose lines are judged, by what, and how what is wrong with them is told.
-#[derive(Debug, Drop)]
+/// The files whose lines are judged, by what, and how what is wrong with them is reported.
+#[derive(Drop)]
 pub struct LintJob {
     /// The names of the files. `-` is the standard input.
     pub files: Vec<String>,
     /// The base's text, if there is a base.
     pub base: Option<String>,
-    /// Whether all complaints of a line are wanted, and not the least alone.
-    pub all: bool,
-    /// Whether the wide profile is meant, and not the standard one.
-    pub wide: bool,
+    /// How many of the violations of a line are wanted.
+    pub extent: Extent,
+    /// By which profile the lines are judged, and the base too.
+    pub profile: Profile,
     /// The name of the format, if one is named.
     pub format: Option<String>,
     /// Whether no counts are wanted.
@@ -86,10 +93,11 @@ impl WordsFault {
     }
 }
 
-/// Reads the words of a command line, of which the first is the program's name.
+/// Reads the arguments of a command line, of which the first is the program's name.
 ///
-/// The job has the command, the texts and the flags that the words give. There is none where the words are taken, but
-/// name no command, no TEXT or no FILE. A RULE is any word, and so is a FORMAT.
+/// The job has the command, the texts and the options that the arguments give. There is none where `clap` takes the
+/// arguments, but they name no command, no TEXT or no FILE, or give `--wide` beside `--profile`. A RULE and a FORMAT
+/// may be any text; a PROFILE that is the name of none gives the job that says so.
 pub fn read_words(alloc: Global, words: &[&str]) -> Result<Option<Job>, WordsFault>
     ensures job { IfOk result (λ job. option_map asked_by job
         ≡ request_of (subcommand_of urlcheck (map (λ word. word.now) words.now))) }
@@ -104,10 +112,7 @@ pub fn read_words(alloc: Global, words: &[&str]) -> Result<Option<Job>, WordsFau
         Ok(matches) => matches,
         Err(error) => return Err(fault(error)),
     };
-    let Some((name, entries)) = matches.subcommand() else {
-        return Ok(None);
-    };
-    match job_in(alloc, name, entries) {
+    match job_of(alloc, &matches) {
         Ok(job) => Ok(job),
         Err(_) => Err(WordsFault::Memory),
     }
@@ -123,39 +128,89 @@ fn fault(error: Error) -> WordsFault
     }
 }
 
+// The job that the command of the matches asks for.
+fn job_of(alloc: Global, matches: &ArgMatches<'_>) -> Result<Option<Job>, AllocError>
+    ensures { IfOk result (λ job. option_map asked_by job ≡ request_of (subcommand_rows_of matches.now)) }
+{
+    let Some((name, entries)) = matches.subcommand() else {
+        return Ok(None);
+    };
+    job_in(alloc, name, entries)
+}
+
 // The job that a command's name and its entries ask for.
+#[tactic(auto, unfolding(crate::specs::Words::request_in))]
 fn job_in(alloc: Global, name: &str, entries: &ArgMatches<'_>) -> Result<Option<Job>, AllocError>
     ensures { IfOk result (λ job.
         option_map asked_by job ≡ request_in name.now (rows_of (found_of entries.now))) }
 {
-    if name == "check" {
-        return check_in(alloc, entries);
-    }
-    if name == "lint" {
-        return lint_in(alloc, entries);
-    }
-    if name == "links" {
-        let base = copied(alloc, value(entries, "base"))?;
-        let wide = has(entries, "wide");
-        return Ok(Some(Job::Links { base, wide }));
-    }
     if name == "vectors" {
-        let Some(file) = value(entries, "FILE") else {
-            return Ok(None);
-        };
-        let file = file.to_string(alloc)?;
-        return Ok(Some(Job::Vectors { file }));
+        return vectors_in(alloc, entries);
     }
     if name == "explain" {
         let rule = copied(alloc, value(entries, "RULE"))?;
         return Ok(Some(Job::Explain { rule }));
     }
+    match profile_asked(entries) {
+        Some(Asked::Known(profile)) => judged_in(alloc, name, entries, profile),
+        Some(Asked::Unknown(name)) => Ok(Some(Job::UnknownProfile {
+            name: name.to_string(alloc)?,
+        })),
+        None => Ok(None),
+    }
+}
+
+// The run over vectors that a command's entries ask for.
+fn vectors_in(alloc: Global, entries: &ArgMatches<'_>) -> Result<Option<Job>, AllocError>
+    ensures { IfOk result (λ job. option_map asked_by job
+        ≡ option_map vectors (first_of (codes "FILE") (rows_of (found_of entries.now)))) }
+{
+    match value(entries, "FILE") {
+        Some(file) => Ok(Some(Job::Vectors {
+            file: file.to_string(alloc)?,
+        })),
+        None => Ok(None),
+    }
+}
+
+// The profile that a command's entries ask for.
+fn profile_asked<'a>(entries: &ArgMatches<'a>) -> Option<Asked<'a>>
+    ensures { option_map wanted_view result ≡ wanted_in (rows_of (found_of entries.now)) }
+{
+    asked_for(has(entries, "wide"), value(entries, "profile"))
+}
+
+// The job of a command that judges by a profile.
+fn judged_in(
+    alloc: Global,
+    name: &str,
+    entries: &ArgMatches<'_>,
+    profile: Profile,
+) -> Result<Option<Job>, AllocError>
+    ensures { IfOk result (λ job.
+        option_map asked_by job ≡ judged_in name.now (rows_of (found_of entries.now)) profile) }
+{
+    if name == "check" {
+        return check_in(alloc, entries, profile);
+    }
+    if name == "lint" {
+        return lint_in(alloc, entries, profile);
+    }
+    if name == "links" {
+        let base = copied(alloc, value(entries, "base"))?;
+        return Ok(Some(Job::Links { base, profile }));
+    }
     Ok(None)
 }
 
 // The check that a command's entries ask for.
-fn check_in(alloc: Global, entries: &ArgMatches<'_>) -> Result<Option<Job>, AllocError>
-    ensures { IfOk result (λ job. option_map asked_by job ≡ check_in (rows_of (found_of entries.now))) }
+fn check_in(
+    alloc: Global,
+    entries: &ArgMatches<'_>,
+    profile: Profile,
+) -> Result<Option<Job>, AllocError>
+    ensures { IfOk result (λ job.
+        option_map asked_by job ≡ check_in (rows_of (found_of entries.now)) profile) }
 {
     let Some(text) = value(entries, "TEXT") else {
         return Ok(None);
@@ -163,14 +218,19 @@ fn check_in(alloc: Global, entries: &ArgMatches<'_>) -> Result<Option<Job>, Allo
     Ok(Some(Job::Check {
         text: text.to_string(alloc)?,
         base: copied(alloc, value(entries, "base"))?,
-        all: has(entries, "all"),
-        wide: has(entries, "wide"),
+        extent: extent(entries),
+        profile,
     }))
 }
 
 // The lint that a command's entries ask for.
-fn lint_in(alloc: Global, entries: &ArgMatches<'_>) -> Result<Option<Job>, AllocError>
-    ensures { IfOk result (λ job. option_map asked_by job ≡ lint_in (rows_of (found_of entries.now))) }
+fn lint_in(
+    alloc: Global,
+    entries: &ArgMatches<'_>,
+    profile: Profile,
+) -> Result<Option<Job>, AllocError>
+    ensures { IfOk result (λ job.
+        option_map asked_by job ≡ lint_in (rows_of (found_of entries.now)) profile) }
 {
     let Some(files) = values(entries, "FILE") else {
         return Ok(None);
@@ -178,8 +238,8 @@ fn lint_in(alloc: Global, entries: &ArgMatches<'_>) -> Result<Option<Job>, Alloc
     Ok(Some(Job::Lint(LintJob {
         files: copied_all(alloc, files)?,
         base: copied(alloc, value(entries, "base"))?,
-        all: has(entries, "all"),
-        wide: has(entries, "wide"),
+        extent: extent(entries),
+        profile,
         format: copied(alloc, value(entries, "format"))?,
         quiet: has(entries, "quiet"),
     })))
@@ -226,5 +286,16 @@ fn has(entries: &ArgMatches<'_>, id: &str) -> bool
     match value(entries, id) {
         Some(text) => text == "true",
         None => false,
+    }
+}
+
+// How many violations are asked for.
+fn extent(entries: &ArgMatches<'_>) -> Extent
+    ensures { result ≡ extent_in (rows_of (found_of entries.now)) }
+{
+    if has(entries, "all") {
+        Extent::All
+    } else {
+        Extent::First
     }
 }

@@ -1,10 +1,9 @@
 //! Checks over sinks that play a list of answers: each write fails in turn, behind short ones, in both profiles, of the
-//! least complaint and of all of them.
+//! first violation and of all of them.
 
 use super::*;
 use crate::check::run_faults;
-use uv_lint::Complaints;
-use uv_model::ScriptSink;
+use uv_model::{Extent, ScriptSink};
 
 // A text, its base, the profile, and what is written of it.
 #[derive(Clone, Copy)]
@@ -18,7 +17,7 @@ struct Row<'r> {
 const LONG_OUTPUT: &str =
     "valid\nscheme https\nhost domain example.com\nsegment b\nquery x=%27y%27\nfragment %C3%A9\n";
 
-// What a check writes with the least complaint alone.
+// What a check writes with the first violation alone.
 const LEAST: [Row<'static>; 6] = [
     Row {
         text: "https://EXAMPLE.com:443/a/../b?x='y'#\u{E9}",
@@ -58,7 +57,7 @@ const LEAST: [Row<'static>; 6] = [
     },
 ];
 
-// What a check writes with all complaints.
+// What a check writes with all violations.
 const ALL: [Row<'static>; 6] = [
     Row {
         text: "https://EXAMPLE.com:443/a/../b?x='y'#\u{E9}",
@@ -105,37 +104,40 @@ const MOST_WRITES: usize = 200;
 // output is written.
 fn writes_all(
     rt: &(impl Abort + AllocGlobal),
-    complaints: Complaints,
+    extent: Extent,
     row: &Row<'_>,
     writes: &[Result<usize, DeviceFault>],
 ) -> Result<bool, Fail> {
     let mut out = ScriptSink::new(rt.alloc(), row.output.len(), writes)?;
     let (alloc, text, base, profile) = (rt.alloc(), row.text, row.base, row.profile);
-    let answer = match complaints {
-        Complaints::Least => run_check(alloc, text, base, profile, &mut out),
-        Complaints::All => run_faults(alloc, text, base, profile, &mut out),
+    let answer = match extent {
+        Extent::First => run_check(alloc, text, base, profile, &mut out),
+        Extent::All => run_faults(alloc, text, base, profile, &mut out),
     };
     if answer.is_ok() {
-        assert_eq!(rt; out.bytes(), row.output.as_bytes());
+        holds(rt, out.bytes() == row.output.as_bytes(), row.text);
         return Ok(true);
     }
-    assert_eq!(rt; answer, Err(CliFault::Write));
-    assert_eq!(rt; out.failures(), 1);
-    assert!(rt; row.output.as_bytes().starts_with(out.bytes()));
-    assert!(rt; writes.len() <= out.bytes().len());
+    let is_front = row.output.as_bytes().starts_with(out.bytes());
+    let is_told = answer == Err(CliFault::Write) && out.failures() == 1;
+    holds(
+        rt,
+        is_told && is_front && writes.len() <= out.bytes().len(),
+        row.text,
+    );
     Ok(false)
 }
 
 // Each write behind so many short ones fails in turn, until none does.
 fn fails_each_write(
     rt: &(impl Abort + AllocGlobal),
-    complaints: Complaints,
+    extent: Extent,
     row: &Row<'_>,
     length: usize,
 ) -> Result<(), Fail> {
     let mut writes = Vec::new(rt.alloc());
     for _ in 0..MOST_WRITES {
-        if writes_all(rt, complaints, row, &writes)? {
+        if writes_all(rt, extent, row, &writes)? {
             return Ok(());
         }
         writes.push(Ok(length))?;
@@ -146,12 +148,12 @@ fn fails_each_write(
 // Of each row, each write behind short ones of every length fails in turn.
 fn tells_each(
     rt: &(impl Abort + AllocGlobal),
-    complaints: Complaints,
+    extent: Extent,
     rows: &[Row<'_>],
 ) -> Result<(), Fail> {
     for row in rows {
         for length in 1..8 {
-            fails_each_write(rt, complaints, row, length)?;
+            fails_each_write(rt, extent, row, length)?;
         }
     }
     Ok(())
@@ -159,12 +161,12 @@ fn tells_each(
 
 #[test]
 fn tells_each_failed_write(rt: HostRuntime) -> Result<(), Fail> {
-    tells_each(&rt, Complaints::Least, &LEAST)
+    tells_each(&rt, Extent::First, &LEAST)
 }
 
 #[test]
 fn tells_each_failed_write_of_all_faults(rt: HostRuntime) -> Result<(), Fail> {
-    tells_each(&rt, Complaints::All, &ALL)
+    tells_each(&rt, Extent::All, &ALL)
 }
 
 // A sink that takes nothing, and one whose write fails within the output.
@@ -177,8 +179,11 @@ fn tells_what_a_sink_takes(rt: HostRuntime) -> Result<(), Fail> {
     for (writes, front) in rows {
         let mut out = ScriptSink::new(rt.alloc(), 100, writes)?;
         let answer = run_check(rt.alloc(), "http://h/a b", None, Profile::Wide, &mut out);
-        assert_eq!(rt; answer, Err(CliFault::Write));
-        assert_eq!(rt; out.bytes(), front.as_bytes());
+        holds(
+            &rt,
+            answer == Err(CliFault::Write) && out.bytes() == front.as_bytes(),
+            front,
+        );
     }
     Ok(())
 }
@@ -198,7 +203,7 @@ fn asks_no_sink_for_a_refused_base(rt: HostRuntime) -> Result<(), Fail> {
         place: 7,
         rule: Rule::HostMissing,
     };
-    assert_eq!(rt; answer, Ok(CheckEnd::BaseRefused(refusal)));
-    assert_eq!(rt; out.failures(), 0);
+    assert!(rt; answer == Ok(CheckEnd::BaseRefused(refusal)));
+    assert!(rt; out.failures() == 0);
     Ok(())
 }

@@ -1,10 +1,11 @@
 //! Explanations of rules: their lines, as docs/RULES.md and the README's table have them, and each failed write.
 
+use super::holds;
 use crate::explain::{ExplainEnd, run_explain};
-use crate::fault::CliFault;
 use std::process::Abort;
 use std::test::Fail;
 use uv_model::{DeviceFault, ScriptSink, Sink, ToWriter};
+use uv_vectors::CliFault;
 
 const HOST_MISSING: &str = "rule host-missing
 means a host has to stand here
@@ -59,8 +60,11 @@ fn explains_a_rule(rt: HostRuntime) -> Result<(), Fail> {
         ("line-too-long", LINE_TOO_LONG),
     ] {
         let (end, lines) = written(&rt, Some(name))?;
-        assert_eq!(rt; end, ExplainEnd::Explained);
-        assert_eq!(rt; lines.as_slice(), want.as_bytes());
+        holds(
+            &rt,
+            end == ExplainEnd::Explained && lines.as_slice() == want.as_bytes(),
+            name,
+        );
     }
     Ok(())
 }
@@ -74,22 +78,27 @@ fn explains_each_rule(rt: HostRuntime) -> Result<(), Fail> {
             want.push(b'\n')?;
         }
         let (end, lines) = written(&rt, Some(name))?;
-        assert_eq!(rt; end, ExplainEnd::Explained, "at {name}");
+        holds(&rt, end == ExplainEnd::Explained, name);
         want.extend_from_slice(lines.as_slice())?;
     }
     let (end, lines) = written(&rt, None)?;
-    assert_eq!(rt; end, ExplainEnd::Explained);
-    assert_eq!(rt; lines.as_slice(), want.as_slice());
+    assert!(rt; end == ExplainEnd::Explained && lines.as_slice() == want.as_slice());
     Ok(())
 }
 
 // The names of no rule: nothing is written.
 #[test]
 fn knows_no_other_names(rt: HostRuntime) -> Result<(), Fail> {
-    for name in ["", "host", "Percent", "percent ", "not-utf-8", "no-scheme\n"] {
+    for name in [
+        "",
+        "host",
+        "Percent",
+        "percent ",
+        "not-utf-8",
+        "no-scheme\n",
+    ] {
         let (end, lines) = written(&rt, Some(name))?;
-        assert_eq!(rt; end, ExplainEnd::Unknown, "at {name}");
-        assert!(rt; lines.is_empty(), "at {name}");
+        holds(&rt, end == ExplainEnd::Unknown && lines.is_empty(), name);
     }
     Ok(())
 }
@@ -101,9 +110,8 @@ fn tells_a_failed_write(
 ) -> Result<(), Fail> {
     let mut out = ScriptSink::new(rt.alloc(), HOST_MISSING.len(), writes)?;
     let answer = run_explain(rt.alloc(), Some("host-missing"), &mut out);
-    assert_eq!(rt; answer, Err(CliFault::Write));
-    assert_eq!(rt; out.failures(), 1);
-    assert_eq!(rt; out.bytes().len(), 7 * writes.len());
+    assert!(rt; answer == Err(CliFault::Write) && out.failures() == 1);
+    assert!(rt; out.bytes().len() == 7 * writes.len());
     assert!(rt; HOST_MISSING.as_bytes().starts_with(out.bytes()));
     Ok(())
 }

@@ -1,12 +1,13 @@
 //! What `run_faults` writes of texts written out, by the rules of the URL Standard, section 4.3: each expected fault is
 //! worked out by hand from those rules.
 
+use super::holds;
 use crate::check::{CheckEnd, run_faults};
-use crate::fault::CliFault;
 use std::alloc::Global;
 use std::process::Abort;
 use std::test::Fail;
 use uv_model::{Profile, Refusal, Rule, ToWriter};
+use uv_vectors::CliFault;
 
 // How a check with all faults ends, and what it writes.
 fn written(
@@ -28,8 +29,11 @@ fn answers(
 ) -> Result<(), Fail> {
     for (text, base, wanted, want) in rows {
         let (end, lines) = written(rt.alloc(), text, *base, profile)?;
-        assert_eq!(rt; end, *wanted, "at {text}");
-        assert_eq!(rt; lines.as_slice(), want.as_bytes(), "at {text}");
+        holds(
+            rt,
+            end == *wanted && lines.as_slice() == want.as_bytes(),
+            text,
+        );
     }
     Ok(())
 }
@@ -133,7 +137,6 @@ fn refuses_a_base_with_many_faults(rt: HostRuntime) -> Result<(), Fail> {
         place: 5,
         rule: Rule::TwoSlashes,
     };
-    assert_eq!(rt; end, CheckEnd::BaseRefused(refusal));
-    assert!(rt; lines.is_empty());
+    assert!(rt; end == CheckEnd::BaseRefused(refusal) && lines.is_empty());
     Ok(())
 }

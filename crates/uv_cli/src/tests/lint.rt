@@ -1,5 +1,6 @@
 //! Lints of files: standard input beside files that aren't there, failed reads and writes, and jobs that are refused.
 
+use super::holds;
 use crate::ends::{End, error_line, status};
 use crate::jobs::run_job;
 use crate::linted::Linted;
@@ -8,7 +9,7 @@ use std::fs::Files;
 use std::process::Abort;
 use std::test::Fail;
 use uv_lint::{LintCounts, LintFault};
-use uv_model::{DeviceFault, Refusal, Rule, ScriptSink, ScriptSource, Sink, Source};
+use uv_model::{DeviceFault, Extent, Profile, Refusal, Rule, ScriptSink, ScriptSource};
 use uv_words::{Job, LintJob};
 
 // What is wrong with the second line, as compilers write it.
@@ -28,8 +29,8 @@ fn job(
     Ok(Job::Lint(LintJob {
         files: names,
         base: copied(alloc, base)?,
-        all: false,
-        wide: false,
+        extent: Extent::First,
+        profile: Profile::Standard,
         format: copied(alloc, format)?,
         quiet: false,
     }))
@@ -65,10 +66,9 @@ fn ends(
     };
     let mut out = ScriptSink::new(rt.alloc(), 1000, writes)?;
     let end = run_job(rt, job, &[], &mut input, &mut out);
-    assert_eq!(rt; end, want.0);
-    assert_eq!(rt; status(end), want.1);
-    assert_eq!(rt; error_line(rt.alloc(), end)?.as_str(), want.2);
-    assert_eq!(rt; out.bytes(), want.3.as_bytes());
+    holds(rt, end == want.0 && status(end) == want.1, want.3);
+    holds(rt, error_line(rt.alloc(), end)?.as_str() == want.2, want.2);
+    holds(rt, out.bytes() == want.3.as_bytes(), want.3);
     Ok(())
 }
 
@@ -77,13 +77,28 @@ fn ends(
 fn reports_on_the_input(rt: HostRuntime) -> Result<(), Fail> {
     let text: [Result<&[u8], DeviceFault>; 1] = [Ok(b"urn:a\nx\n")];
     let alone = job(rt.alloc(), &["-"], None, None)?;
-    let want = (linted(2, 1, false, None), 1, "2 lines, 1 refused\n", WRONG);
+    let want = (
+        linted(2, 1, false, None),
+        1,
+        "urlcheck: 2 lines, 1 refused\n",
+        WRONG,
+    );
     ends(&rt, &alone, &text, &[Ok(1000)], want)?;
     let among = job(rt.alloc(), &["no/such/file", "-", "-"], None, Some("gnu"))?;
-    let want = (linted(2, 1, true, None), 2, "2 lines, 1 refused\n", WRONG);
+    let want = (
+        linted(2, 1, true, None),
+        2,
+        "urlcheck: 2 lines, 1 refused\n",
+        WRONG,
+    );
     ends(&rt, &among, &text, &[Ok(1000)], want)?;
     let based = job(rt.alloc(), &["-"], Some("http://h/"), None)?;
-    let want = (linted(2, 0, false, None), 0, "2 lines, 0 refused\n", "");
+    let want = (
+        linted(2, 0, false, None),
+        0,
+        "urlcheck: 2 lines, 0 refused\n",
+        "",
+    );
     ends(&rt, &based, &text, &[], want)
 }
 
@@ -91,7 +106,12 @@ fn reports_on_the_input(rt: HostRuntime) -> Result<(), Fail> {
 #[test]
 fn goes_on_behind_a_failed_read(rt: HostRuntime) -> Result<(), Fail> {
     let job = job(rt.alloc(), &["-"], None, None)?;
-    let want = (linted(2, 1, true, None), 2, "2 lines, 1 refused\n", WRONG);
+    let want = (
+        linted(2, 1, true, None),
+        2,
+        "urlcheck: 2 lines, 1 refused\n",
+        WRONG,
+    );
     ends(
         &rt,
         &job,
@@ -106,7 +126,7 @@ fn goes_on_behind_a_failed_read(rt: HostRuntime) -> Result<(), Fail> {
 fn stops_at_a_failed_write(rt: HostRuntime) -> Result<(), Fail> {
     let job = job(rt.alloc(), &["-", "no/such/file"], None, None)?;
     let end = linted(2, 1, false, Some(LintFault::Write));
-    let want = (end, 3, "2 lines, 1 refused\nwrite\n", "-:2:1");
+    let want = (end, 3, "urlcheck: 2 lines, 1 refused\nwrite\n", "-:2:1");
     ends(
         &rt,
         &job,
@@ -119,10 +139,14 @@ fn stops_at_a_failed_write(rt: HostRuntime) -> Result<(), Fail> {
 // The name of no format, and a base that is refused: nothing is read or written.
 #[test]
 fn refuses_jobs(rt: HostRuntime) -> Result<(), Fail> {
-    let unknown =
-        "error: no format has this name; they are gnu, caret, json, github, sarif and checkstyle\nwords\n";
     let named = job(rt.alloc(), &["-"], None, Some("GNU"))?;
-    ends(&rt, &named, &[], &[], (End::UnknownFormat, 2, unknown, ""))?;
+    ends(
+        &rt,
+        &named,
+        &[],
+        &[],
+        (End::UnknownFormat, 2, "words\n", ""),
+    )?;
     let based = job(rt.alloc(), &["-"], Some("x"), None)?;
     let refusal = Refusal {
         place: 0,

@@ -2,7 +2,7 @@
 ghost use Rattle.std.specs.Prelude.{◌<◌};
 
 use super::*;
-use uv_model::{DeviceFault, ScriptSink, ScriptSource, Sink};
+use uv_model::{DeviceFault, Extent, ScriptSink, ScriptSource, Sink};
 
 const LIST: &[u8] = b"b\r\nhttp://h/\n\n\xff\nurn:a b";
 
@@ -23,7 +23,7 @@ const END: &str = "</file>\n";
 const SETTING: LintSetting<'static> = LintSetting {
     base: None,
     profile: Profile::Standard,
-    complaints: Complaints::Least,
+    extent: Extent::First,
     format: Format::Checkstyle,
 };
 

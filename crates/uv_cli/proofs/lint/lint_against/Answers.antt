@@ -1,6 +1,6 @@
 -- The report on the files, with its beginning and its end.
 use Rattle.std.proofs.Common.{◌∙◌, ap, map, string_bytes}
-use Rattle.uv_cli.proofs.LintLemmas.{begins_with, lints_by}
+use Rattle.uv_cli.proofs.LintLemmas.{begins_with, lints_files}
 use Rattle.uv_cli.proofs.lint.lint_against.Goals as goal
 
 pub returns : goal.returns
@@ -19,13 +19,12 @@ returns g c = record {
       begins_with _ _ c.args.job.now.quiet c.new.result c.write_piece-linted.result _ _ c.new.ensures
       (c.as_str.ensures.value ∙ c.in-Ok.ensures.0) c.write_piece-linted.ensures;
   all =
-      lints_by c.args.job.now (record {
+      lints_files (record {
         base = c.args.base;
-        profile = c.profile_of.result;
-        complaints = c.complaints_of.result;
+        profile = c.args.job.now.profile;
+        extent = c.args.job.now.extent;
         format = c.args.format;
       })
-      _ _ _ _ _ _ _ _ c.profile_of.ensures c.complaints_of.ensures
-      (ap (map string_bytes) c.as_slice.ensures.value) c.lint_each-linted.ensures.all;
+      _ _ _ _ _ _ _ _ (ap (map string_bytes) c.as_slice.ensures.value) c.lint_each-linted.ensures.all;
   ends = rw (← c.in-Ok.ensures.1, ← c.as_str-2.ensures.value) c.write_piece.ensures;
 }

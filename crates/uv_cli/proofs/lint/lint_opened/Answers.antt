@@ -8,6 +8,7 @@ returns-in-Ok g c =
     inl (
       _,
       _,
-      lints_source _ c.args.is_first c.run_lint.result.0 c.run_lint.result.1 _ _ _ _ _ _ _ _
-          c.run_lint.ensures.report c.run_lint.ensures.fault c.run_lint.ensures.failed c.run_lint.ensures.quiet,
+      lints_source _ c.args.is_first c.run_lint-answer.result.0 c.run_lint-answer.result.1 _ _ _ _ _ _ _ _
+          c.run_lint-answer.ensures.report c.run_lint-answer.ensures.fault c.run_lint-answer.ensures.failed
+          c.run_lint-answer.ensures.quiet,
     )

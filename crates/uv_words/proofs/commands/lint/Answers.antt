@@ -1,17 +1,15 @@
--- The command with its six arguments, one after the other.
-use Rattle.std.proofs.Common.{rules, codes}
-use Rattle.clap.specs.Words.{new_app}
-use Rattle.uv_words.specs.Commands.{IsApp}
+-- The command with its seven arguments, one after the other.
 use Rattle.uv_words.proofs.commands.lint.Goals as goal
 
 pub returns : goal.returns
 returns c =
-    let bare : IsApp (new_app (codes "lint")) c.after_help-command.result = (search rules, search rules) in
     c.and_arg.ensures _ _
+    (c.and_arg-command-6.ensures _ _
     (c.and_arg-command-5.ensures _ _
     (c.and_arg-command-4.ensures _ _
     (c.and_arg-command-3.ensures _ _
     (c.and_arg-command-2.ensures _ _
-    (c.and_arg-command.ensures _ _ bare c.base.ensures.rule c.base.ensures.local) c.all.ensures.rule
-    c.all.ensures.local) c.wide.ensures.rule c.wide.ensures.local) c.format.ensures.rule c.format.ensures.local)
-    c.quiet.ensures.rule c.quiet.ensures.local) c.files.ensures.rule c.files.ensures.local
+    (c.and_arg-command.ensures _ _ c.bare-command.ensures c.base.ensures.rule c.base.ensures.local) c.all.ensures.rule
+    c.all.ensures.local) c.profile.ensures.rule c.profile.ensures.local) c.wide.ensures.rule c.wide.ensures.local)
+    c.format.ensures.rule c.format.ensures.local) c.quiet.ensures.rule c.quiet.ensures.local) c.files.ensures.rule
+    c.files.ensures.local

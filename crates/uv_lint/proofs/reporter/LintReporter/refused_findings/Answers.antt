@@ -6,11 +6,11 @@ use Rattle.uv_lint.specs.Findings.{AreTextFindings}
 use Rattle.uv_lint.proofs.FindingLemmas.{least_finding}
 use Rattle.uv_lint.proofs.reporter.LintReporter.refused_findings.Goals as goal
 
-pub returns-in-Least : goal.returns-in-Least
-returns-in-Least c =
+pub returns-in-First : goal.returns-in-First
+returns-in-First c =
     let setting = c.args.self.now.setting in
     let text = chars c.args.text.now in
-    let is = least_finding setting text c.args.refusal (sym c.in-Least.ensures) c.requires in
+    let is = least_finding setting text c.args.refusal (sym c.in-First.ensures) c.requires in
     elim c.alone.result as (λ r. IfOk r (λ found. found.items ≡ Refused c.args.refusal ∷ [])
     → IfOk r (λ found. AreTextFindings setting text found.items)) [
       | Ok found ↦ λ one. subst (λ fs. AreTextFindings setting text fs) (sym one) is

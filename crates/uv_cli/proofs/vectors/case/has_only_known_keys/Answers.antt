@@ -1,7 +1,0 @@
--- The keys are those of the members.
-use Rattle.std.proofs.Common.{◌∙◌}
-use Rattle.uv_cli.proofs.VectorCaseLemmas.{known_keys-members_view}
-use Rattle.uv_cli.proofs.vectors.case.has_only_known_keys.Goals as goal
-
-pub returns : goal.returns
-returns c = c.all_keys_known.ensures ∙ known_keys-members_view c.args.members.now.entries

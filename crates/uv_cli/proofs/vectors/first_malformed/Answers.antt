@@ -1,7 +1,0 @@
--- The values of the array are those of the slice.
-use Rattle.std.proofs.Common.{◌∙◌}
-use Rattle.uv_cli.proofs.VectorCaseLemmas.{position-items_view}
-use Rattle.uv_cli.proofs.vectors.first_malformed.Goals as goal
-
-pub returns-clause-place : goal.returns-clause-place
-returns-clause-place c = c.malformed_at.ensures.place ∙ position-items_view c.args.values.now

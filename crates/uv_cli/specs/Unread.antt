@@ -1,0 +1,35 @@
+-- Why a file isn't read, and what is reported of it.
+use Rattle.std.specs.Prelude.{◌≡◌, ◌≢◌, ℕ, List, [], ◌++◌, codes, Option, Some}
+use Rattle.std.specs.declared.io.ErrorKind.{ErrorKind}
+use Rattle.std.specs.declared.io.ErrorKind.TheVariants.{NotFound, PermissionDenied, NotADirectory, IsADirectory, OutOfMemory}
+use Rattle.uv_report.specs.Escapes.{shown_text}
+use Rattle.uv_cli.specs.declared.unread.FileFault.{FileFault}
+use Rattle.uv_cli.specs.declared.unread.FileFault.TheVariants as file
+use Rattle.uv_cli.specs.declared.unread.Unread.{Unread}
+use Rattle.uv_cli.specs.declared.unread.Unread.TheVariants as unread
+
+-- the reason is right, by the kind of the library's error, if that is known
+abbrev pub IsReason : Option ErrorKind → Unread → Type 0
+IsReason kind unread.Missing = kind ≡ Some NotFound
+IsReason kind unread.Folder = kind ≡ Some IsADirectory
+IsReason kind unread.NoFolder = kind ≡ Some NotADirectory
+IsReason kind unread.NotPermitted = kind ≡ Some PermissionDenied
+IsReason kind unread.Other = Unit {0}
+
+-- a file isn't read since memory ran out, or for another reason
+abbrev pub IsFault : ErrorKind → FileFault → Type 0
+IsFault kind file.Memory = kind ≡ OutOfMemory
+IsFault kind (file.Unread reason) = (kind ≢ OutOfMemory) × IsReason (Some kind) reason
+
+-- what is reported of a reason
+abbrev pub reason_text : Unread → List ℕ
+reason_text unread.Missing = codes ": there is no such file"
+reason_text unread.Folder = codes ": it is a folder"
+reason_text unread.NoFolder = codes ": a part of its path is no folder"
+reason_text unread.NotPermitted = codes ": it may not be read"
+reason_text unread.Other = []
+
+-- the line of a file that wasn't read
+abbrev pub unread_text : List ℕ → Unread → List ℕ
+unread_text file why =
+    codes "urlcheck: " ++ (shown_text file ++ (codes ": can't be read" ++ (reason_text why ++ codes "\n")))

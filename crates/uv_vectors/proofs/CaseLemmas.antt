@@ -1,0 +1,39 @@
+-- Members and items of a JSON value beside the lists that they come from.
+use Rattle.std.proofs.Common.{◌≡◌, ◌∙◌, ◌+◌, List, [], ◌∷◌, Some, None, ap, ap₂, sym, refl, map, nat_lt, cond, not, Bool, String, Global, string_bytes}
+use Rattle.std.proofs.lemmas.List.{length-map}
+use Rattle.std.specs.List.{list_all, position, prefix_len}
+use Rattle.std.specs.Prelude.{◌&&◌}
+use Rattle.serde_json.specs.Data.{Data}
+use Rattle.serde_json.specs.View.{items_of, items_view, members_view, view}
+use Rattle.serde_json.specs.declared.value.Value.{Value}
+use Rattle.uv_vectors.specs.Case.{has_known_keys, is_known, is_malformed, list_of}
+
+-- each key is known where the members have known keys alone
+pub known_keys-members_view : (entries : List (String Global × Value))
+    → list_all (λ key. is_known (string_bytes key)) (map (λ e. e.0) entries) ≡ has_known_keys (members_view entries)
+known_keys-members_view [] = refl
+known_keys-members_view (e ∷ entries) =
+    ap (λ rest. is_known (string_bytes e.0) && rest) (known_keys-members_view entries)
+
+-- the values of an array made from a list are that list
+pub list_of-items_of : (values : List Data) → list_of (items_of values) ≡ values
+list_of-items_of [] = refl
+list_of-items_of (value ∷ values) = ap (λ rest. value ∷ rest) (list_of-items_of values)
+
+-- how many pass from the front on, before and after a mapping
+prefix_len-map : {X Y : Type 0} (p : Y → Bool) (f : X → Y) (xs : List X)
+    → prefix_len (λ x. p (f x)) xs ≡ prefix_len p (map f xs)
+prefix_len-map p f [] = refl
+prefix_len-map p f (x ∷ xs) = ap (λ n. cond (p (f x)) (1 + n) 0) (prefix_len-map p f xs)
+
+-- the first that passes, before and after a mapping
+position-map : {X Y : Type 0} (p : Y → Bool) (f : X → Y) (xs : List X)
+    → position (λ x. p (f x)) xs ≡ position p (map f xs)
+position-map p f xs =
+    ap₂ (λ n len. cond (nat_lt n len) (Some n) None) (prefix_len-map (λ y. not (p y)) f xs) (sym (length-map xs f))
+
+-- the first value that is no case, as the code finds it
+pub position-items_view : (values : List Value)
+    → position (λ value. is_malformed (view value)) values ≡ position is_malformed (list_of (items_view values))
+position-items_view values =
+    position-map is_malformed view values ∙ ap (position is_malformed) (sym (list_of-items_of (map view values)))

@@ -1,0 +1,3 @@
+mod CaseLemmas
+mod PassLemmas
+mod ReportLemmas

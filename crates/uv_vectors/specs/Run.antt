@@ -1,0 +1,93 @@
+-- How a run over the bytes of a vector file ends, and what it writes.
+use Rattle.std.specs.Prelude.{◌≡◌, ◌≤◌, ◌<◌, ℕ, ◌+◌, Bool, true, false, IsUtf8, List, Option, Some, None, length, position, string_bytes, take}
+use Rattle.std.specs.Io.KnownBytes.{Appends}
+use Rattle.serde_json.specs.Data.{Data, Items}
+use Rattle.serde_json.specs.Find.{as_array}
+use Rattle.serde_json.specs.Read.{read}
+use Rattle.uv_vectors.specs.declared.run.VectorEnd.{VectorEnd}
+use Rattle.uv_vectors.specs.declared.run.VectorEnd.TheVariants as ends
+use Rattle.uv_vectors.specs.declared.run.Ending.{Ending}
+use Rattle.uv_vectors.specs.declared.run.Ending.TheVariants as ending
+use Rattle.uv_vectors.specs.Case.{is_malformed, list_of}
+use Rattle.uv_vectors.specs.Report.{IsReportOn}
+
+-- ---- what the bytes are
+
+-- how many bytes a vector file may have
+abbrev pub most_bytes : ℕ
+most_bytes = 16777216
+
+-- the bytes are this JSON value
+pub record IsJson (bytes : List ℕ) (value : Data) : Type 0 where
+  pub utf8 : IsUtf8 bytes
+  pub reads : read bytes ≡ Some value
+
+-- the bytes, no more than are allowed, are a JSON value of which this holds
+abbrev pub HasValue : List ℕ → (Data → Type 0) → Type 0
+HasValue bytes P = (length bytes ≤ most_bytes) × ((value : Data) × IsJson bytes value × P value)
+
+-- the value is an array, of whose values this holds
+abbrev pub HasArray : Data → (List Data → Type 0) → Type 0
+HasArray value P = (items : Items) × (as_array value ≡ Some items) × P (list_of items)
+
+-- ---- how a run ends
+
+-- the first value that is no case has this number, from 1
+abbrev pub IsFirstMalformed : ℕ → List Data → Type 0
+IsFirstMalformed number values = (at : ℕ) × (position is_malformed values ≡ Some at) × (number ≡ at + 1)
+
+-- all values are cases, this is the report on them, and a run that writes it ends so
+pub record IsReport (values : List Data) (end : VectorEnd) (text : List ℕ) : Type 0 where
+  pub cases : position is_malformed values ≡ None
+  pub report : IsReportOn values end text
+
+-- a run that judges no case of the value ends so
+abbrev pub EndsValueUnjudged : Data → VectorEnd → Type 0
+EndsValueUnjudged value ends.NotArray = as_array value ≡ None
+EndsValueUnjudged value (ends.Malformed number) = HasArray value (IsFirstMalformed number)
+EndsValueUnjudged value _ = ⊥
+
+-- A run that judges no case of the bytes ends so: there are too many; else they are no JSON; else no array; else a
+-- value of it is no case.
+abbrev pub EndsUnjudged : List ℕ → VectorEnd → Type 0
+EndsUnjudged bytes ends.TooLarge = most_bytes < length bytes
+EndsUnjudged bytes ends.NotJson = (length bytes ≤ most_bytes) × ((value : Data) → IsJson bytes value → ⊥)
+EndsUnjudged bytes end = HasValue bytes (λ value. EndsValueUnjudged value end)
+
+-- a run over the value ends so
+abbrev pub EndsValue : Data → Ending → Type 0
+EndsValue value (ending.Unjudged end) = EndsValueUnjudged value end
+EndsValue value (ending.Report end text) = HasArray value (λ values. IsReport values end (string_bytes text))
+
+-- this is the report on the bytes, and it ends so
+abbrev pub IsFileReport : List ℕ → VectorEnd → List ℕ → Type 0
+IsFileReport bytes end text = HasValue bytes (λ value. HasArray value (λ values. IsReport values end text))
+
+-- a run over the bytes ends so
+abbrev pub EndsBytes : List ℕ → Ending → Type 0
+EndsBytes bytes (ending.Unjudged end) = EndsUnjudged bytes end
+EndsBytes bytes (ending.Report end text) = IsFileReport bytes end (string_bytes text)
+
+-- ---- what is written
+
+-- cases were judged
+abbrev pub is_judged : VectorEnd → Bool
+is_judged ends.AllPass = true
+is_judged ends.SomeFail = true
+is_judged _ = false
+
+-- the report on the bytes was written, and ends so
+abbrev pub WritesReport : List ℕ → VectorEnd → Option (List ℕ) → Option (List ℕ) → Type 0
+WritesReport bytes end old new = (text : List ℕ) × IsFileReport bytes end text × Appends old new text
+
+-- the run ends so before a case is judged; or the report was written, and ends so
+abbrev pub WritesVectors : List ℕ → VectorEnd → Option (List ℕ) → Option (List ℕ) → Type 0
+WritesVectors bytes ends.AllPass old new = WritesReport bytes ends.AllPass old new
+WritesVectors bytes ends.SomeFail old new = WritesReport bytes ends.SomeFail old new
+WritesVectors bytes end old new = EndsUnjudged bytes end
+
+-- a front of the report was written
+abbrev pub WritesVectorsFront : List ℕ → Option (List ℕ) → Option (List ℕ) → Type 0
+WritesVectorsFront bytes old new =
+    (end : VectorEnd) × (text : List ℕ) × IsFileReport bytes end text
+    × ((count : ℕ) × Appends old new (take count text))

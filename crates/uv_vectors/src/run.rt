@@ -1,0 +1,111 @@
+//! The run over the bytes of a file of vectors.
+ghost use Rattle.std.specs.Prelude.{◌≡◌, ◌+◌, ◌-◌, ◌^◌, ◌<◌, IfOk, IfSome, OnOk, Option, None, false, is_none, length, position, string_bytes};
+ghost use Rattle.serde_json.specs.View.{items_view, view};
+ghost use Rattle.uv_vectors.specs.Case.{is_malformed, list_of};
+ghost use Rattle.uv_vectors.specs.Run.{IsReport, EndsBytes, EndsValue, WritesVectors, WritesVectorsFront, is_judged};
+
+use crate::case::VectorCase;
+use crate::fault::CliFault;
+use crate::report::report_on;
+use serde_json::Value;
+use std::alloc::{AllocError, Global};
+use uv_model::{DeviceFault, Sink, write_whole};
+
+/// The most bytes that a vector file may have.
+pub const MOST_BYTES: usize = 16_777_216;
+
+/// How a run over a vector file ends. Where more than one end fits, it is the first of `TooLarge`, `NotJson`,
+/// `NotArray` and `Malformed`, and of those nothing is written.
+#[derive(Clone, Copy, PartialEq, Eq)]
+pub enum VectorEnd {
+    /// Every case passes, and the report was written.
+    AllPass,
+    /// A case fails, and the report was written.
+    SomeFail,
+    /// The bytes are no JSON text.
+    NotJson,
+    /// The JSON value is no array.
+    NotArray,
+    /// There are more than `MOST_BYTES` bytes.
+    TooLarge,
+    /// The value with this number, from 1, is no case, and it is the first such value.
+    Malformed(usize),
+}
+
+// How a run over a vector file ends, and the report, where cases are judged.
+#[derive(Drop)]
+enum Ending {
+    Unjudged(VectorEnd),
+    Report(VectorEnd, String),
+}
+
+/// Runs the cases of a vector file by the standard profile, and writes the report: `fail N` for each case that fails,
+/// in order and numbered from 1, and `vectors L pass P fail F`.
+///
+/// A case passes where its base, if it has one, is valid alone, and where its input against it has the record's text,
+/// or the refusal, that the case expects. No case is judged before all of them have been read. A fault of memory leaves
+/// the output as it was; a fault of a write leaves a beginning of the report.
+pub fn run_vectors<S: Sink>(alloc: Global, bytes: &[u8], out: &mut S) -> Result<VectorEnd, CliFault>
+    requires { S.failed out.old < 2 ^ 64 - 1 }
+    ensures written { IfOk result (λ end.
+        WritesVectors bytes.now end (S.contents out.old) (S.contents out.new)) }
+    ensures unjudged { IfOk result (λ end. is_judged end ≡ false → out.new ≡ out.old) }
+    ensures quiet { OnOk result (S.failed out.new ≡ S.failed out.old) }
+    ensures memory { result ≡ Err CliFault.Memory → out.new ≡ out.old }
+    ensures front { result ≡ Err CliFault.Write →
+        WritesVectorsFront bytes.now (S.contents out.old) (S.contents out.new) }
+    ensures failed { result ≡ Err CliFault.Write → S.failed out.new ≡ S.failed out.old + 1 }
+{
+    match ending_of_bytes(alloc, bytes)? {
+        Ending::Unjudged(end) => Ok(end),
+        Ending::Report(end, text) => match write_whole(out, text.as_bytes()) {
+            Ok(()) => Ok(end),
+            Err(DeviceFault) => Err(CliFault::Write),
+        },
+    }
+}
+
+// How a run over the bytes ends.
+fn ending_of_bytes(alloc: Global, bytes: &[u8]) -> Result<Ending, AllocError>
+    ensures { IfOk result (EndsBytes bytes.now) }
+{
+    if bytes.len() > MOST_BYTES {
+        return Ok(Ending::Unjudged(VectorEnd::TooLarge));
+    }
+    match Value::from_slice(alloc, bytes) {
+        Ok(value) => ending_of_value(alloc, &value),
+        Err(error) if error.is_memory() => Err(AllocError),
+        Err(_) => Ok(Ending::Unjudged(VectorEnd::NotJson)),
+    }
+}
+
+// How a run over a JSON value ends.
+fn ending_of_value(alloc: Global, value: &Value) -> Result<Ending, AllocError>
+    ensures { IfOk result (EndsValue (view value.now)) }
+{
+    let Some(values) = value.as_array() else {
+        return Ok(Ending::Unjudged(VectorEnd::NotArray));
+    };
+    if let Some(at) = first_malformed(values.as_slice()) {
+        return Ok(Ending::Unjudged(VectorEnd::Malformed(at + 1)));
+    }
+    let (end, text) = report_on(alloc, values.as_slice())?;
+    Ok(Ending::Report(end, text))
+}
+
+// The place of the first value that is no case.
+fn first_malformed(values: &[Value]) -> Option<usize>
+    ensures place { result ≡ position is_malformed (list_of (items_view values.now)) }
+    ensures within { IfSome result (λ at. at < length values.now) }
+{
+    malformed_at(values)
+}
+
+fn malformed_at(values: &[Value]) -> Option<usize>
+    ensures place { result ≡ position (λ value. is_malformed (view value)) values.now }
+    ensures within { IfSome result (λ at. at < length values.now) }
+{
+    values
+        .iter()
+        .position(|value| VectorCase::of(value).is_none())
+}

@@ -1,0 +1,5 @@
+-- The command with its one argument.
+use Rattle.uv_words.proofs.commands.explain.Goals as goal
+
+pub returns : goal.returns
+returns c = c.and_arg.ensures _ _ c.bare.ensures c.name.ensures.rule c.name.ensures.local
