@@ -63,11 +63,11 @@ points.txt:2:11: error: U+0085 may not stand in a URL [code-point]
 points.txt:3:8: error: U+005E CIRCUMFLEX ACCENT may not stand in a host [host-code-point]
 points.txt:4:11: error: U+0078 LATIN SMALL LETTER X is no digit of a port [port-digit]
 points.txt:5:10: error: U+0025 PERCENT SIGN has to be followed by two hex digits [percent]
-' '6 lines, 5 refused\n' lint points.txt
+' 'urlcheck: 6 lines, 5 refused\n' lint points.txt
 printf 'http://h/\xef\xbf\xbf\nurn:\xef\xb7\x90\n' >"$room/points.txt"
 expect 1 'points.txt:1:10: error: U+FFFF \xef\xbf\xbf may not stand in a URL [code-point]
 points.txt:2:5: error: U+FDD0 \xef\xb7\x90 may not stand in a URL [code-point]
-' '2 lines, 2 refused\n' lint points.txt
+' 'urlcheck: 2 lines, 2 refused\n' lint points.txt
 
 # Credentials: the place and the rule are those of a host or a port, and the sentence says what is wrong. An `@` behind
 # the authority's end is none.
@@ -79,7 +79,7 @@ credentials.txt:3:8: error: $sentence [host-code-point]
 credentials.txt:4:8: error: the host that begins here is no valid domain [host-domain]
 credentials.txt:5:8: error: U+005E CIRCUMFLEX ACCENT may not stand in a host [host-code-point]
 credentials.txt:6:11: error: U+0078 LATIN SMALL LETTER X is no digit of a port [port-digit]
-" '6 lines, 6 refused\n' lint credentials.txt
+" 'urlcheck: 6 lines, 6 refused\n' lint credentials.txt
 
 # A line of at most 200 code points is shown whole, of a longer one a window round the place; JSON carries a link of at
 # most 2,000 code points whole.
@@ -103,7 +103,7 @@ with written("txt") as text, written("caret") as caret, written("json") as json:
 PYTHON
 for format in caret json; do
     (cd "$room" && "$program" lint --format $format long.txt) >"$room/out" 2>"$room/err"
-    ends_with 1 $? '7 lines, 7 refused\n' "long lines as $format"
+    ends_with 1 $? 'urlcheck: 7 lines, 7 refused\n' "long lines as $format"
     cmp -s "$room/out" "$room/long.$format" || fail "long lines as $format: it wrote $(cat "$room/out")"
 done
 
@@ -111,7 +111,7 @@ done
 printf 'x\n' | tee "$room/a:b.txt" "$room/a#b" "$room/a?b" "$room/a%41" "$room/ab" >"$room/https:"
 names=(a:b.txt 'a#b' 'a?b' a%41 https: "/$room/ab" "$room/ab" ./ab "//$room/ab")
 (cd "$room" && "$program" lint --format sarif "${names[@]}") >"$room/out" 2>"$room/err"
-ends_with 1 $? '9 lines, 9 refused\n' 'names as paths'
+ends_with 1 $? 'urlcheck: 9 lines, 9 refused\n' 'names as paths'
 uris=$(python3 -c 'import json, sys
 for result in json.load(sys.stdin)["runs"][0]["results"]:
     print(result["locations"][0]["physicalLocation"]["artifactLocation"]["uri"])' <"$room/out")
@@ -195,6 +195,8 @@ rmdir "$room/folder"
 printf 'x\n' >"$room/"$'\xff'
 expect 2 "$other" "urlcheck: argument 4 isn't UTF-8\\nurlcheck: 1 line, 1 refused\\n" lint --all other.txt $'\xff'
 expect 2 '' "urlcheck: argument 2 isn't UTF-8\\nwords\\n" lint --base=$'\xff' $'\xff'
+expect 2 '' "urlcheck: argument 3 isn't UTF-8\\nwords\\n" lint --base $'\xff' other.txt
+expect 2 "$other" "urlcheck: argument 3 isn't UTF-8\\nurlcheck: 1 line, 1 refused\\n" lint -- $'-\xff' other.txt
 rm -f -- "$room/"$'\xff'
 
 # 5,000 files are a run, and each of them is judged.
@@ -275,4 +277,4 @@ ends_with 1 $? 'urlcheck: 1000000 lines, 10000 refused\n' 'lint of a million lin
 grep -qxF "$room/million:1000000:11: error: U+0020 SPACE may not stand in a URL [code-point]" "$room/out" ||
     fail "lint of a million lines: it ends with $(tail -n 1 "$room/out")"
 rm -f "$room/million" "$room"/hostile.* "$room"/none.*
-all_cases 103
+all_cases 105

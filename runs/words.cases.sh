@@ -45,7 +45,7 @@ expect 2 '' "urlcheck: argument 2 isn't UTF-8\nwords\n" check $'\xff'
 expect 2 '' "urlcheck: argument 1 isn't UTF-8\nwords\n" $'\xff'
 expect 2 '' "urlcheck: argument 3 isn't UTF-8\nwords\n" check a $'b\xff' --base $'\xfe'
 expect 2 '' "urlcheck: argument 2 isn't UTF-8\nwords\n" vectors $'\xff'
-refused $'unexpected argument \'-\xef\xbf\xbd[2J\'' check $'-\e[2J' a
+refused $'unexpected argument \'--\xef\xbf\xbd[2J\'' check $'--\e[2J' a
 refused $'unrecognized subcommand \'a\xef\xbf\xbd\'' $'a\a'
 shows "  2  the arguments, the base or the vector file are refused, or a file of lint can't be read" --help
 shows "  2  the arguments, the base or the vector file are refused, or a file of lint can't be read" -h

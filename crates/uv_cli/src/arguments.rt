@@ -48,17 +48,22 @@ fn read_argument<R: Env>(
     Err(AllocError)
 }
 
-// An argument's text, or what stands for it where its bytes aren't UTF-8.
+// An argument's text, or what stands for it where its bytes aren't UTF-8: behind `-` where it begins so, since it may be
+// an option then.
 fn text_of(alloc: Global, number: usize, bytes: &[u8]) -> Result<String, AllocError> {
     match from_utf8(bytes) {
         Ok(text) => text.to_string(alloc),
+        Err(_) if bytes.starts_with(b"-") => {
+            format!(in alloc; "-argument {number} isn't UTF-8\0")
+        }
         Err(_) => format!(in alloc; "argument {number} isn't UTF-8\0"),
     }
 }
 
 /// What is said of an argument that isn't UTF-8, by the text that stands for it.
 pub(crate) fn said_of(text: &str) -> Option<&str> {
-    text.strip_suffix(MARK)
+    let said = text.strip_suffix(MARK)?;
+    Some(said.strip_prefix('-').unwrap_or(said))
 }
 
 /// The text that stands for the first argument that isn't UTF-8, unless each such argument is a file of a lint, which

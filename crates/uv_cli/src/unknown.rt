@@ -99,7 +99,8 @@ fn push_named(text: &mut String, name: &str, near: Option<&str>) -> Result<(), A
     text.push_str(" is named '")?;
     push_shown(text, name)?;
     text.push_str("'")?;
-    push_near(text, near)
+    push_near(text, near)?;
+    Ok(())
 }
 
 // Pushes the nearest name, if one is near, and the line's end.

@@ -49,7 +49,7 @@ fn ends_silently(rt: &(impl Abort + AllocGlobal), rows: &[(&str, VectorEnd)]) ->
 fn passes_the_suite(rt: HostRuntime) -> Result<(), Fail> {
     let (end, written) = ran(rt.alloc(), SUITE.as_bytes())?;
     assert!(rt; end == VectorEnd::AllPass);
-    assert!(rt; written.as_slice() == b"vectors 109 pass 109 fail 0\n");
+    assert!(rt; written.as_slice() == b"vectors 109 pass 109 fail 0\n".as_slice());
     Ok(())
 }
 
