@@ -8,7 +8,8 @@ use Rattle.uv_model.specs.declared.rule.Refusal.{Refusal}
 use Rattle.uv_model.specs.Complaints.Rule.{rule_number}
 use Rattle.urlcheck_c.specs.declared.finding.Finding.{Finding}
 use Rattle.urlcheck_c.specs.declared.finding.Outcome.{Outcome}
-use Rattle.urlcheck_c.specs.declared.finding.Outcome.TheVariants.{Valid, Refused, NoUtf8, BaseRefused, BaseNoUtf8, Memory, NoProfile}
+use Rattle.urlcheck_c.specs.declared.finding.Outcome.TheVariants.{Valid, Refused, NoUtf8, BaseRefused, BaseNoUtf8}
+use Rattle.urlcheck_c.specs.declared.finding.Outcome.TheVariants.{Memory, NoProfile}
 
 -- the number of an outcome
 abbrev pub outcome_number : Outcome → ℕ

@@ -5,7 +5,8 @@ use Rattle.uv_model.specs.declared.profile.Profile.{Profile}
 use Rattle.uv_model.specs.Records.Url.{Url}
 use Rattle.uv_resolve.specs.Base.{IsBase}
 use Rattle.uv_cli.specs.declared.ends.End.{End}
-use Rattle.uv_cli.specs.declared.ends.End.TheVariants.{Valid, Refused, Shown, Words, UnknownRule, UnknownFormat, UnknownProfile, BaseRefused}
+use Rattle.uv_cli.specs.declared.ends.End.TheVariants.{Valid, Refused, Shown, Words, UnknownRule, UnknownFormat}
+use Rattle.uv_cli.specs.declared.ends.End.TheVariants.{UnknownProfile, BaseRefused}
 use Rattle.uv_cli.specs.declared.ends.End.TheVariants.{Fault, Linted, Stopped, Vectors, Unread}
 use Rattle.uv_vectors.specs.declared.fault.CliFault.TheVariants.{Memory, Write}
 use Rattle.uv_cli.specs.Device.{Device}

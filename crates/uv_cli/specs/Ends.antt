@@ -1,5 +1,6 @@
 -- How the program ends: the end of what was given, its exit status, and its line on standard error.
-use Rattle.std.specs.Prelude.{ℕ, Bool, true, false, List, [], ◌++◌, Result, Ok, Err, codes, decimal, if◌then◌else◌, ◌==◌}
+use Rattle.std.specs.Prelude.{ℕ, Bool, true, false, List, [], ◌++◌, Result, Ok, Err, codes, decimal, if◌then◌else◌}
+use Rattle.std.specs.Prelude.{◌==◌}
 use Rattle.uv_model.specs.declared.rule.Refusal.{Refusal}
 use Rattle.uv_model.specs.Complaints.Rule.{rule_name}
 use Rattle.uv_links.specs.declared.counts.Counts.{Counts}
@@ -16,7 +17,8 @@ use Rattle.uv_cli.specs.declared.explain.ExplainEnd.TheVariants as explain
 use Rattle.uv_vectors.specs.declared.fault.CliFault.{CliFault}
 use Rattle.uv_vectors.specs.declared.fault.CliFault.TheVariants as cli
 use Rattle.uv_cli.specs.declared.ends.End.{End}
-use Rattle.uv_cli.specs.declared.ends.End.TheVariants.{Valid, Refused, Shown, Words, UnknownRule, UnknownFormat, UnknownProfile, BaseRefused}
+use Rattle.uv_cli.specs.declared.ends.End.TheVariants.{Valid, Refused, Shown, Words, UnknownRule, UnknownFormat}
+use Rattle.uv_cli.specs.declared.ends.End.TheVariants.{UnknownProfile, BaseRefused}
 use Rattle.uv_cli.specs.declared.ends.End.TheVariants.{Fault, Linted, Stopped, Vectors, Unread}
 use Rattle.uv_vectors.specs.declared.run.VectorEnd.{VectorEnd}
 use Rattle.uv_vectors.specs.declared.run.VectorEnd.TheVariants as vectors

@@ -1,5 +1,6 @@
 -- What a lint of files has come to, its exit status, and its lines on standard error.
-use Rattle.std.specs.Prelude.{ℕ, ◌+◌, ◌-◌, ◌^◌, ◌==◌, Bool, true, false, List, [], ◌++◌, Option, Some, None, Result, Ok, Err, codes, decimal, is_some, min, if◌then◌else◌}
+use Rattle.std.specs.Prelude.{ℕ, ◌+◌, ◌-◌, ◌^◌, ◌==◌, Bool, true, false, List, [], ◌++◌, Option, Some, None, Result}
+use Rattle.std.specs.Prelude.{Ok, Err, codes, decimal, is_some, min, if◌then◌else◌}
 use Rattle.uv_lint.specs.declared.counts.LintCounts.{LintCounts}
 use Rattle.uv_lint.specs.declared.fault.LintFault.{LintFault}
 use Rattle.uv_lint.specs.declared.fault.LintFault.TheVariants.{Memory, Read, Write, TooManyLines, Endless}

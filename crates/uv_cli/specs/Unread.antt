@@ -1,7 +1,8 @@
 -- Why a file isn't read, and what is reported of it.
 use Rattle.std.specs.Prelude.{◌≡◌, ◌≢◌, ℕ, List, [], ◌++◌, codes, Option, Some}
 use Rattle.std.specs.declared.io.ErrorKind.{ErrorKind}
-use Rattle.std.specs.declared.io.ErrorKind.TheVariants.{NotFound, PermissionDenied, NotADirectory, IsADirectory, OutOfMemory}
+use Rattle.std.specs.declared.io.ErrorKind.TheVariants.{NotFound, PermissionDenied, NotADirectory, IsADirectory}
+use Rattle.std.specs.declared.io.ErrorKind.TheVariants.{OutOfMemory}
 use Rattle.uv_report.specs.Escapes.{shown_text}
 use Rattle.uv_cli.specs.declared.unread.FileFault.{FileFault}
 use Rattle.uv_cli.specs.declared.unread.FileFault.TheVariants as file

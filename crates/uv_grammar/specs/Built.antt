@@ -4,7 +4,8 @@ use Rattle.std.specs.List.{slice_split}
 use Rattle.uv_model.specs.declared.host.Host.{Host}
 use Rattle.uv_model.specs.Ascii.{slash}
 use Rattle.uv_model.specs.Cut.{Cut}
-use Rattle.uv_model.specs.Parts.{Form, SchemeAuthority, SchemePath, SchemeOpaque, Authority, PathAbsolute, PathRelative, NoPath, Parts}
+use Rattle.uv_model.specs.Parts.{Form, SchemeAuthority, SchemePath, SchemeOpaque, Authority, PathAbsolute}
+use Rattle.uv_model.specs.Parts.{PathRelative, NoPath, Parts}
 use Rattle.uv_model.specs.Path.{starts_with_slash}
 
 -- the form of a text with a scheme or without one, with an authority or without one

@@ -1,5 +1,6 @@
 -- A report in its frame: from a run over lines to one with what stands around them.
-use Rattle.std.proofs.Common.{◌≡◌, ◌≢◌, ℕ, ◌+◌, ◌<◌, ◌≤◌, Bool, true, false, List, [], ◌∷◌, ◌++◌, Option, Result, Ok, Err, OnOk, IfErr, length, take, refl, sym, ap, ◌∙◌, subst, arith, inl, inr, take_all}
+use Rattle.std.proofs.Common.{◌≡◌, ◌≢◌, ℕ, ◌+◌, ◌<◌, ◌≤◌, Bool, true, false, List, [], ◌∷◌, ◌++◌, Option, Result, Ok}
+use Rattle.std.proofs.Common.{Err, OnOk, IfErr, length, take, refl, sym, ap, ◌∙◌, subst, arith, inl, inr, take_all}
 use Rattle.std.proofs.lemmas.Bool.{cases_lt}
 use Rattle.std.proofs.lemmas.List.{take-append-le}
 use Rattle.std.proofs.Math.Seq.{take-append-add, take-append_seam, take-length}

@@ -1,7 +1,10 @@
 -- Lists of lines, one after the other.
-use Rattle.std.proofs.Common.{◌≡◌, ◌≢◌, ℕ, ◌+◌, ◌-◌, ◌<◌, ◌≤◌, List, [], ◌∷◌, ◌++◌, true, false, cond, length, take, drop, map, refl, sym, ap, ◌∙◌, subst, arith, append_assoc, append-nil, ◌==◌, zero, suc, length-append, slice_index, take_all, Some, None}
+use Rattle.std.proofs.Common.{◌≡◌, ◌≢◌, ℕ, ◌+◌, ◌-◌, ◌<◌, ◌≤◌, List, [], ◌∷◌, ◌++◌, true, false, cond, length, take}
+use Rattle.std.proofs.Common.{drop, map, refl, sym, ap, ◌∙◌, subst, arith, append_assoc, append-nil, ◌==◌, zero, suc}
+use Rattle.std.proofs.Common.{length-append, slice_index, take_all, Some, None}
 use Rattle.std.proofs.lemmas.Grind.{common_steps}
-use Rattle.std.proofs.lemmas.List.{map-append, length-map, length-take, get_or-take, length-drop, drop_more, take-append-drop}
+use Rattle.std.proofs.lemmas.List.{map-append, length-map, length-take, get_or-take, length-drop, drop_more}
+use Rattle.std.proofs.lemmas.List.{take-append-drop}
 use Rattle.std.proofs.Math.Seq.{take-add}
 use Rattle.memchr.specs.Find.{IsFirstByte, is_byte}
 use Rattle.std.proofs.lemmas.Bool.{eqb-true}

@@ -1,5 +1,6 @@
 -- What is written between two pieces and at the end of the list.
-use Rattle.std.proofs.Common.{◌≡◌, ℕ, ◌+◌, ◌<◌, ◌≤◌, Bool, true, false, not, Result, Ok, Err, List, [], ◌++◌, Option, length, take, refl, sym, ap, ◌∙◌, subst, arith, append-nil, inl, inr}
+use Rattle.std.proofs.Common.{◌≡◌, ℕ, ◌+◌, ◌<◌, ◌≤◌, Bool, true, false, not, Result, Ok, Err, List, [], ◌++◌, Option}
+use Rattle.std.proofs.Common.{length, take, refl, sym, ap, ◌∙◌, subst, arith, append-nil, inl, inr}
 use Rattle.std.proofs.lemmas.List.{length-append}
 use Rattle.std.proofs.Math.Seq.{take-append-add, take-length}
 use Rattle.std.proofs.KnownBytes.{Appends-trans, Appends-nil, Consumes-trans}
@@ -11,7 +12,8 @@ use Rattle.uv_lines.specs.Fault.{is_write, may_write}
 use Rattle.uv_lines.specs.Lines.{split, closed_lines, open_lines, lines_of}
 use Rattle.uv_lines.specs.Progress.{Stands, IsReportOfFirst, TakeFault}
 use Rattle.uv_lines.specs.Reported.{Reported, Wrote}
-use Rattle.uv_lines.specs.Run.{At, WaitFault, Waits, WroteFirst, WroteFront, WroteLines, Leaves, PassFault, FinishFault, reads_failed, writes_failed}
+use Rattle.uv_lines.specs.Run.{At, WaitFault, Waits, WroteFirst, WroteFront, WroteLines, Leaves, PassFault}
+use Rattle.uv_lines.specs.Run.{FinishFault, reads_failed, writes_failed}
 use Rattle.uv_lines.proofs.StandsLemmas.{Stands-start, front_count, front_report}
 
 -- before the first piece

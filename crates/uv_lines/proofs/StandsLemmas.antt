@@ -1,12 +1,14 @@
 -- Where a run stands when a line has ended or gone on, and what its faults leave.
-use Rattle.std.proofs.Common.{◌≡◌, ℕ, ◌+◌, ◌<◌, ◌≤◌, List, [], ◌∷◌, ◌++◌, Option, length, take, refl, sym, ap, ◌∙◌, subst, arith, append_assoc, append-nil}
+use Rattle.std.proofs.Common.{◌≡◌, ℕ, ◌+◌, ◌<◌, ◌≤◌, List, [], ◌∷◌, ◌++◌, Option, length, take, refl, sym, ap, ◌∙◌}
+use Rattle.std.proofs.Common.{subst, arith, append_assoc, append-nil}
 use Rattle.std.proofs.lemmas.List.{length-append, length-take}
 use Rattle.std.proofs.Math.Seq.{take-nil, take-append_seam}
 use Rattle.std.specs.Str.Lines.{strip_carriage_return}
 use Rattle.uv_lines.specs.Lines.{line_feed, short_line, split, closed_lines, open_lines, lines_of}
 use Rattle.uv_lines.specs.Progress.{Stands, Adds, IsReportOfFirst}
 use Rattle.uv_lines.specs.Reported.{Reported}
-use Rattle.uv_lines.proofs.LineLemmas.{split-closing, split-growing, closed-closing, closed-growing, closed_front, lines_more, take_more}
+use Rattle.uv_lines.proofs.LineLemmas.{split-closing, split-growing, closed-closing, closed-growing, closed_front}
+use Rattle.uv_lines.proofs.LineLemmas.{lines_more, take_more}
 use Rattle.uv_lines.proofs.ReportedLemmas.{Reported-snoc, kept_short_line, kept_short_line_open}
 
 -- of a line whose front isn't kept nothing has come

@@ -1,5 +1,7 @@
 -- A text that is the text of the URL that it denotes.
-use Rattle.std.proofs.Common.{◌≡◌, ◌≢◌, ℕ, Bool, true, false, not, ◌==◌, ◌<◌, ◌≤◌, List, [], ◌∷◌, ◌++◌, Option, Some, None, codes, refl, sym, ap, ◌∙◌, subst, inl, inr, append_assoc, append-nil, arith, length, slice_index, slice_index_or, suc, ◌+◌, ◌&&◌, drop, drop-cons}
+use Rattle.std.proofs.Common.{◌≡◌, ◌≢◌, ℕ, Bool, true, false, not, ◌==◌, ◌<◌, ◌≤◌, List, [], ◌∷◌, ◌++◌, Option, Some}
+use Rattle.std.proofs.Common.{None, codes, refl, sym, ap, ◌∙◌, subst, inl, inr, append_assoc, append-nil, arith}
+use Rattle.std.proofs.Common.{length, slice_index, slice_index_or, suc, ◌+◌, ◌&&◌, drop, drop-cons}
 use Rattle.std.specs.Prelude.{option_map}
 use Rattle.std.specs.List.{list_all, join_with_byte}
 use Rattle.std.specs.Char.{is_ascii, to_ascii_lowercase}
@@ -19,7 +21,8 @@ use Rattle.uv_model.specs.Ascii.{apostrophe, slash, colon, question_mark, number
 use Rattle.uv_model.specs.Encoding.{encoded}
 use Rattle.uv_model.specs.Parts.{SchemeAuthority, Parts, written, written_scheme, written_authority, written_behind}
 use Rattle.uv_model.specs.Path.{MayBePathSlashed, is_double_dot, is_single_dot, walk, walk_one}
-use Rattle.uv_model.specs.Records.Denote.{authority_path, denote, denoted_scheme, denoted_port, denoted_path, denoted_query}
+use Rattle.uv_model.specs.Records.Denote.{authority_path, denote, denoted_scheme, denoted_port, denoted_path}
+use Rattle.uv_model.specs.Records.Denote.{denoted_query}
 use Rattle.uv_model.specs.Records.Serialize.{serial, serial_host, serial_segments}
 use Rattle.uv_model.specs.Records.Url.{Url}
 use Rattle.uv_model.specs.Scheme.{default_port, lowercase, scheme_class}
@@ -30,7 +33,8 @@ use Rattle.uv_model.proofs.Texts.AsciiLemmas.{IsAscii-from_test}
 use Rattle.uv_model.proofs.Texts.EncodingLemmas.{is_kept, encoded_code_point-kept}
 use Rattle.uv_grammar.proofs.HostLemmas.{some_chars}
 use Rattle.uv_resolve.proofs.RecordLemmas.{fields, denote-fields}
-use Rattle.uv_links.specs.OwnText.{HasOwnFront, HasOwnScheme, IsOwnPath, IsOwnRoot, IsOwnScheme, IsOwnText, has_no_dots, is_dot_mark, is_kept_segment, is_never_encoded}
+use Rattle.uv_links.specs.OwnText.{HasOwnFront, HasOwnScheme, IsOwnPath, IsOwnRoot, IsOwnScheme, IsOwnText}
+use Rattle.uv_links.specs.OwnText.{has_no_dots, is_dot_mark, is_kept_segment, is_never_encoded}
 use Rattle.uv_links.specs.Report.{DenotesText}
 
 -- ---- texts that no part encodes

@@ -1,6 +1,7 @@
 -- From lines that were reported on one after the other to the report, and to what a run has written and its faults
 -- leave.
-use Rattle.std.proofs.Common.{◌≡◌, ℕ, ◌+◌, List, [], ◌∷◌, ◌++◌, Option, Some, None, true, false, nat_le, length, take, refl, sym, ap, ◌∙◌, subst, arith, sum_by, inl, inr, add-zero, zero-add, append-nil}
+use Rattle.std.proofs.Common.{◌≡◌, ℕ, ◌+◌, List, [], ◌∷◌, ◌++◌, Option, Some, None, true, false, nat_le, length, take}
+use Rattle.std.proofs.Common.{refl, sym, ap, ◌∙◌, subst, arith, sum_by, inl, inr, add-zero, zero-add, append-nil}
 use Rattle.std.proofs.lemmas.Grind.{common_steps}
 use Rattle.std.proofs.lemmas.Bool.{cases_lt}
 use Rattle.std.proofs.lemmas.List.Sums.{sum_by-append}
@@ -13,13 +14,16 @@ use Rattle.uv_lines.specs.Reported.{Reported}
 use Rattle.uv_lines.specs.Run as run
 use Rattle.uv_links.specs.declared.counts.Counts.{Counts}
 use Rattle.uv_links.specs.declared.fault.LinkFault.{LinkFault}
-use Rattle.uv_links.specs.declared.fault.LinkFault.TheVariants.{Memory, Read, Write, Overflow, BaseDiffers, TooManyLines, Endless}
+use Rattle.uv_links.specs.declared.fault.LinkFault.TheVariants.{Memory, Read, Write, Overflow, BaseDiffers}
+use Rattle.uv_links.specs.declared.fault.LinkFault.TheVariants.{TooManyLines, Endless}
 use Rattle.uv_links.specs.declared.fault.RoomFault.{RoomFault}
 use Rattle.uv_links.specs.declared.fault.RoomFault.TheVariants as room
 use Rattle.uv_links.specs.Fault.{IsBaseFault}
-use Rattle.uv_links.specs.Report.{ListSetting, Said, TooLong, IsSaid, AreSaid, IsReport, IsReportOfFirst, report_line, report_lines, count_line, counted, tally, ok_of, bad_of, differs_of}
+use Rattle.uv_links.specs.Report.{ListSetting, Said, TooLong, IsSaid, AreSaid, IsReport, IsReportOfFirst, report_line}
+use Rattle.uv_links.specs.Report.{report_lines, count_line, counted, tally, ok_of, bad_of, differs_of}
 use Rattle.uv_links.specs.Reporting.{Reporting, IsSaidOf, Says, none_counted}
-use Rattle.uv_links.specs.Run.{WroteFirst, WroteFront, WroteLines, Reports, Leaves, fault_of_run, reads_failed, writes_failed}
+use Rattle.uv_links.specs.Run.{WroteFirst, WroteFront, WroteLines, Reports, Leaves, fault_of_run, reads_failed}
+use Rattle.uv_links.specs.Run.{writes_failed}
 
 -- ---- what is said of each line
 

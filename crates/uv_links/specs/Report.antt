@@ -1,6 +1,7 @@
 -- The report on a list of links: a line for each line of the list, in order and numbered from 1, and the line of
 -- counts.
-use Rattle.std.specs.Prelude.{◌≡◌, ◌≢◌, ℕ, ◌+◌, ◌<◌, ◌≤◌, List, [], ◌∷◌, ◌++◌, Option, Some, codes, decimal, length, take, sum_by}
+use Rattle.std.specs.Prelude.{◌≡◌, ◌≢◌, ℕ, ◌+◌, ◌<◌, ◌≤◌, List, [], ◌∷◌, ◌++◌, Option, Some, codes, decimal, length}
+use Rattle.std.specs.Prelude.{take, sum_by}
 use Rattle.std.specs.Str.{IsUtf8, chars}
 use Rattle.uv_model.specs.declared.profile.Profile.{Profile}
 use Rattle.uv_model.specs.declared.rule.Refusal.{Refusal}

@@ -2,7 +2,8 @@
 use Rattle.std.specs.Prelude.{◌≡◌, ℕ, List, [], ◌∷◌, ◌++◌, codes}
 use Rattle.uv_model.specs.declared.rule.Rule.TheVariants.{NoScheme, HostDomain}
 use Rattle.uv_lines.specs.Lines.{lines_of}
-use Rattle.uv_links.specs.Report.{ListSetting, Said, Same, Refused, NotUtf8, TooLong, Differs, IsSaid, report_line, report_lines, tally, count_line}
+use Rattle.uv_links.specs.Report.{ListSetting, Said, Same, Refused, NotUtf8, TooLong, Differs, IsSaid, report_line}
+use Rattle.uv_links.specs.Report.{report_lines, tally, count_line}
 
 -- CR and LF
 abbrev pub carriage_return_line_feed : List ℕ

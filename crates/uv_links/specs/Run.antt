@@ -3,7 +3,8 @@ use Rattle.std.specs.Prelude.{◌≡◌, ℕ, ◌-◌, ◌^◌, ◌≤◌, ◌<�
 use Rattle.std.specs.Io.KnownBytes.{Appends, Keeps}
 use Rattle.uv_links.specs.declared.counts.Counts.{Counts}
 use Rattle.uv_links.specs.declared.fault.LinkFault.{LinkFault}
-use Rattle.uv_links.specs.declared.fault.LinkFault.TheVariants.{Memory, Read, Write, Overflow, BaseDiffers, TooManyLines, Endless}
+use Rattle.uv_links.specs.declared.fault.LinkFault.TheVariants.{Memory, Read, Write, Overflow, BaseDiffers}
+use Rattle.uv_links.specs.declared.fault.LinkFault.TheVariants.{TooManyLines, Endless}
 use Rattle.uv_lines.specs.Lines.{closed_lines, lines_of}
 use Rattle.uv_lines.specs.declared.fault.LineFault.{LineFault}
 use Rattle.uv_lines.specs.declared.fault.LineFault.TheVariants as stopped

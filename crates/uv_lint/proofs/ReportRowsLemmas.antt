@@ -4,7 +4,8 @@ use Rattle.std.specs.Fmt.{char_count, digits, padded_integral}
 use Rattle.std.specs.Char.{encode_utf8}
 use Rattle.std.specs.Str.{chars, is_utf8}
 use Rattle.std.specs.Str.Lossy.{utf8_error_len, utf8_lossy, utf8_valid_len}
-use Rattle.uv_report.specs.CodePoint.{ascii_names, capital_names, control_names, digit_names, last_names, mark_names, point_name, point_text, sign_names, small_names}
+use Rattle.uv_report.specs.CodePoint.{ascii_names, capital_names, control_names, digit_names, last_names, mark_names}
+use Rattle.uv_report.specs.CodePoint.{point_name, point_text, sign_names, small_names}
 use Rattle.uv_report.specs.Escapes.{escaped}
 use Rattle.uv_report.specs.Gnu.{gnu_position, gnu_text, gnu_words}
 use Rattle.uv_report.specs.Message.{refusal_message}

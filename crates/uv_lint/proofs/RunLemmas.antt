@@ -1,5 +1,6 @@
 -- From lines that were reported on one after the other to the report on a file, and to what a run over it leaves.
-use Rattle.std.proofs.Common.{◌≡◌, ℕ, ◌+◌, Bool, List, [], ◌∷◌, ◌++◌, Option, Result, Ok, Err, OnOk, IfErr, map, ap, ◌∙◌, subst, arith, sum_by, inl, inr, zero-add}
+use Rattle.std.proofs.Common.{◌≡◌, ℕ, ◌+◌, Bool, List, [], ◌∷◌, ◌++◌, Option, Result, Ok, Err, OnOk, IfErr, map, ap}
+use Rattle.std.proofs.Common.{◌∙◌, subst, arith, sum_by, inl, inr, zero-add}
 use Rattle.std.proofs.lemmas.List.Sums.{sum_by-append}
 use Rattle.std.specs.declared.alloc.AllocError.{AllocError}
 use Rattle.uv_report.specs.declared.finding.Finding.{Finding}
@@ -15,7 +16,8 @@ use Rattle.uv_lines.specs.Run as run
 use Rattle.uv_lint.specs.declared.counts.LintCounts.{LintCounts}
 use Rattle.uv_lint.specs.declared.fault.LintFault.{LintFault}
 use Rattle.uv_lint.specs.Findings.{AreAllFindings, FileSetting}
-use Rattle.uv_lint.specs.Report.{IsReport, counted, judged_line, judged_lines, judged_of, line_text, lines_text, lines_within, none_counted, refused_of, tally}
+use Rattle.uv_lint.specs.Report.{IsReport, counted, judged_line, judged_lines, judged_of, line_text, lines_text}
+use Rattle.uv_lint.specs.Report.{lines_within, none_counted, refused_of, tally}
 use Rattle.uv_lint.specs.Reporting.{Linting, Says, with_line}
 use Rattle.uv_lint.specs.Run.{FailsReads, IsReportWithin, Leaves, answer_of_run, fault_of_run, writes_failed}
 

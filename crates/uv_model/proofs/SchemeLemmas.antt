@@ -8,7 +8,8 @@ use Rattle.std.proofs.lemmas.Bool.Decides.{nat_tests, same_from_decides}
 use Rattle.std.proofs.lemmas.Slice.Eq.{bytes_eq-Decides}
 use Rattle.std.proofs.lemmas.Str.{chars-IsAscii}
 use Rattle.std.proofs.lemmas.Str.Ascii.{IsAscii-nil, IsAscii-cons, lowercase-lowercase}
-use Rattle.uv_model.specs.Scheme.{default_port, is_lowercase_ascii, is_scheme, is_scheme_code_point, lowercase, scheme_class}
+use Rattle.uv_model.specs.Scheme.{default_port, is_lowercase_ascii, is_scheme, is_scheme_code_point, lowercase}
+use Rattle.uv_model.specs.Scheme.{scheme_class}
 use Rattle.uv_model.proofs.Texts.AsciiLemmas.{IsAscii-from_test, chars-from_IsAscii}
 
 -- a code point that is ASCII in lower case is ASCII

@@ -1,5 +1,6 @@
 -- The IPv4 parser (URL Standard, section 3.5), ended at its first validation error: four shortest decimal numbers.
-use Rattle.std.specs.Prelude.{◌≡◌, ◌↔◌, ℕ, zero, suc, ◌+◌, ◌*◌, ◌==◌, List, [], ◌∷◌, Option, Some, None, option_and_then, if◌then◌else◌}
+use Rattle.std.specs.Prelude.{◌≡◌, ◌↔◌, ℕ, zero, suc, ◌+◌, ◌*◌, ◌==◌, List, [], ◌∷◌, Option, Some, None}
+use Rattle.std.specs.Prelude.{option_and_then, if◌then◌else◌}
 use Rattle.uv_model.specs.Hosts.Address.{IsIpv4}
 use Rattle.uv_model.specs.Ascii.{full_stop}
 use Rattle.uv_parser.specs.Ipv6Parser.{read_digits}

@@ -1,5 +1,7 @@
 -- The IPv6 parser (URL Standard, section 3.5): pieces, a piece index and a compress index, and swaps at the end.
-use Rattle.std.specs.Prelude.{◌≡◌, ◌↔◌, ℕ, zero, suc, ◌+◌, ◌-◌, ◌*◌, not, ◌&&◌, ◌||◌, ◌==◌, nat_lt, nat_le, List, [], ◌∷◌, length, drop, replicate, slice_index, slice_set, Option, Some, None, is_some, option_map, option_and_then, if◌then◌else◌}
+use Rattle.std.specs.Prelude.{◌≡◌, ◌↔◌, ℕ, zero, suc, ◌+◌, ◌-◌, ◌*◌, not, ◌&&◌, ◌||◌, ◌==◌, nat_lt, nat_le, List, []}
+use Rattle.std.specs.Prelude.{◌∷◌, length, drop, replicate, slice_index, slice_set, Option, Some, None, is_some}
+use Rattle.std.specs.Prelude.{option_map, option_and_then, if◌then◌else◌}
 use Rattle.std.specs.Char.{digit_value, is_digit}
 use Rattle.uv_model.specs.Ascii.{colon, full_stop}
 use Rattle.uv_model.specs.Hosts.Address.{IsIpv6}

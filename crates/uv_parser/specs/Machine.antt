@@ -1,7 +1,8 @@
 -- The basic URL parser, after the URL Standard, section 4.4, without state override, ended at its first validation
 -- error or failure. Each of its twenty states has one row, which says what one step does with the code point at the
 -- pointer.
-use Rattle.std.specs.Prelude.{ℕ, ◌+◌, ◌-◌, Bool, true, false, not, ◌&&◌, ◌||◌, ◌==◌, nat_lt, List, [], ◌∷◌, ◌++◌, length, codes, Option, Some, None, if◌then◌else◌}
+use Rattle.std.specs.Prelude.{ℕ, ◌+◌, ◌-◌, Bool, true, false, not, ◌&&◌, ◌||◌, ◌==◌, nat_lt, List, [], ◌∷◌, ◌++◌}
+use Rattle.std.specs.Prelude.{length, codes, Option, Some, None, if◌then◌else◌}
 use Rattle.std.specs.Str.{bytes_eq}
 use Rattle.std.specs.Char.{is_ascii_alphabetic, is_ascii_digit, to_ascii_lowercase}
 use Rattle.std.specs.Str.Parse.{digits_value}
@@ -11,7 +12,8 @@ use Rattle.uv_model.specs.declared.host.Host.{Host}
 use Rattle.uv_model.specs.declared.host.Host.TheVariants as host
 use Rattle.uv_model.specs.declared.path.UrlPath.{UrlPath}
 use Rattle.uv_model.specs.declared.path.UrlPath.TheVariants.{Opaque, Segments}
-use Rattle.uv_model.specs.Ascii.{slash, colon, question_mark, number_sign, at_sign, left_bracket, right_bracket, backslash}
+use Rattle.uv_model.specs.Ascii.{slash, colon, question_mark, number_sign, at_sign, left_bracket, right_bracket}
+use Rattle.uv_model.specs.Ascii.{backslash}
 use Rattle.uv_model.specs.Encoding.{encoded_code_point, encoded}
 use Rattle.uv_parser.specs.HostParser.{parse_host}
 use Rattle.uv_model.specs.Path.{is_drive_letter, is_normalized_drive_letter, is_single_dot, is_double_dot, shorten}

@@ -1,6 +1,7 @@
 -- The code points that the URL parser (URL Standard, section 4.4) removes before its first step, each with a validation
 -- error: C0 controls and spaces at the text's borders, and tabs and newlines everywhere.
-use Rattle.std.specs.Prelude.{ℕ, ◌+◌, Bool, true, false, ◌||◌, ◌==◌, nat_le, List, [], ◌∷◌, Option, Some, None, if◌then◌else◌}
+use Rattle.std.specs.Prelude.{ℕ, ◌+◌, Bool, true, false, ◌||◌, ◌==◌, nat_le, List, [], ◌∷◌, Option, Some, None}
+use Rattle.std.specs.Prelude.{if◌then◌else◌}
 
 -- a tab, LF or CR
 abbrev pub is_tab_or_newline : ℕ → Bool

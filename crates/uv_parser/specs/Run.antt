@@ -1,7 +1,8 @@
 -- Runs of the machine, after the URL Standard, section 4.4: the test before the first step, one step, and many.
 use Rattle.std.specs.Prelude.{ℕ, zero, suc, ◌+◌, ◌*◌, List, [], ◌∷◌, length, drop, Option, Some, None}
 use Rattle.uv_model.specs.Records.Url.{Url}
-use Rattle.uv_parser.specs.Machine.{State, SchemeStartState, Variables, Turn, onward, again, from_place, stop, turn, empty_variables}
+use Rattle.uv_parser.specs.Machine.{State, SchemeStartState, Variables, Turn, onward, again, from_place, stop, turn}
+use Rattle.uv_parser.specs.Machine.{empty_variables}
 use Rattle.uv_parser.specs.Removed.{first_removed}
 
 -- a state, the pointer's place, and the variables

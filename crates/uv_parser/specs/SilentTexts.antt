@@ -15,7 +15,8 @@ use Rattle.uv_parser.specs.Removed.{first_removed}
 use Rattle.uv_model.specs.Records.Url.{Url}
 use Rattle.uv_model.specs.Scheme.{default_port, scheme_class}
 use Rattle.uv_model.specs.Setting.{setting_of}
-use Rattle.uv_model.specs.Valid.{FitsBase, FitsForm, FitsScheme, HasNoAuthority, IsOpaqueHostText, MayBePortText, MayBeUnits, port_given, scheme_in, without_localhost}
+use Rattle.uv_model.specs.Valid.{FitsBase, FitsForm, FitsScheme, HasNoAuthority, IsOpaqueHostText, MayBePortText}
+use Rattle.uv_model.specs.Valid.{MayBeUnits, port_given, scheme_in, without_localhost}
 
 -- ---- what follows `//`
 

@@ -4,7 +4,8 @@ use Rattle.std.specs.Fmt.{char_count, digits, padded_integral}
 use Rattle.std.specs.Char.{encode_utf8}
 use Rattle.std.specs.Str.{chars}
 use Rattle.percent_encoding.specs.Percent.{percent_encode_byte}
-use Rattle.uv_report.specs.CodePoint.{ascii_names, capital_names, control_names, digit_names, last_names, mark_names, point_name, point_text, sign_names, small_names}
+use Rattle.uv_report.specs.CodePoint.{ascii_names, capital_names, control_names, digit_names, last_names, mark_names}
+use Rattle.uv_report.specs.CodePoint.{point_name, point_text, sign_names, small_names}
 use Rattle.uv_report.specs.Message.{refusal_message}
 use Rattle.uv_report.specs.Rows.{MessageRows, PointRows, UriRows, WindowRows}
 use Rattle.uv_report.specs.Uri.{uri_part, uri_path}

@@ -1,5 +1,6 @@
 -- The set of bytes that the code hands to the library is that of the bytes that a path can't hold as they are.
-use Rattle.std.proofs.Common.{◌≡◌, ℕ, ◌<◌, ◌≤◌, Bool, true, false, not, ◌==◌, ◌||◌, List, [], ◌∷◌, ◌++◌, flat_map, refl, sym, ap, ◌∙◌, inl, inr, arith, rules, lt-ltb, le-ltb, ne_eqb}
+use Rattle.std.proofs.Common.{◌≡◌, ℕ, ◌<◌, ◌≤◌, Bool, true, false, not, ◌==◌, ◌||◌, List, [], ◌∷◌, ◌++◌, flat_map}
+use Rattle.std.proofs.Common.{refl, sym, ap, ◌∙◌, inl, inr, arith, rules, lt-ltb, le-ltb, ne_eqb}
 use Rattle.std.specs.Prelude.{if◌then◌else◌, ◌≢◌, Option, Some, None, MatchOption, option_map}
 use Rattle.std.specs.Borrow.{Bor}
 use Rattle.std.proofs.lemmas.Bool.{agree_below_at, cases_lt, cases_Bool, cases_eq}

@@ -1,7 +1,9 @@
 -- What each rule of valid URL strings asks (URL Standard, sections 3.4 and 4.3), where it stands, and an example.
 use Rattle.std.specs.Prelude.{ℕ, List, codes, Option, Some, None}
 use Rattle.uv_model.specs.declared.rule.Rule.{Rule}
-use Rattle.uv_model.specs.declared.rule.Rule.TheVariants.{NoScheme, OpaqueBase, TwoSlashes, HostMissing, HostDomain, HostNumber, HostIpv6, HostCodePoint, PortDigit, PortRange, FirstSegmentEmpty, DriveAfterHost, CodePoint, Percent}
+use Rattle.uv_model.specs.declared.rule.Rule.TheVariants.{NoScheme, OpaqueBase, TwoSlashes, HostMissing, HostDomain}
+use Rattle.uv_model.specs.declared.rule.Rule.TheVariants.{HostNumber, HostIpv6, HostCodePoint, PortDigit, PortRange}
+use Rattle.uv_model.specs.declared.rule.Rule.TheVariants.{FirstSegmentEmpty, DriveAfterHost, CodePoint, Percent}
 
 -- what the rule asks of a text
 abbrev pub rule_asks : Rule → List ℕ

@@ -1,10 +1,12 @@
 -- What is told of a line: a sentence that names the code point at the place, where the rule is about one, or that says
 -- that a URL string has no credentials.
-use Rattle.std.specs.Prelude.{ℕ, Bool, true, false, ◌&&◌, ◌||◌, ◌==◌, List, ◌++◌, codes, drop, find, if◌then◌else◌, Option, Some, None, slice_get}
+use Rattle.std.specs.Prelude.{ℕ, Bool, true, false, ◌&&◌, ◌||◌, ◌==◌, List, ◌++◌, codes, drop, find, if◌then◌else◌}
+use Rattle.std.specs.Prelude.{Option, Some, None, slice_get}
 use Rattle.std.specs.Str.{chars}
 use Rattle.uv_model.specs.declared.rule.Refusal.{Refusal}
 use Rattle.uv_model.specs.declared.rule.Rule.{Rule}
-use Rattle.uv_model.specs.declared.rule.Rule.TheVariants.{HostMissing, HostDomain, HostNumber, HostIpv6, HostCodePoint, PortDigit, PortRange, CodePoint, Percent}
+use Rattle.uv_model.specs.declared.rule.Rule.TheVariants.{HostMissing, HostDomain, HostNumber, HostIpv6}
+use Rattle.uv_model.specs.declared.rule.Rule.TheVariants.{HostCodePoint, PortDigit, PortRange, CodePoint, Percent}
 use Rattle.uv_model.specs.Complaints.Rule.{rule_sentence}
 use Rattle.uv_report.specs.CodePoint.{point_text}
 use Rattle.uv_report.specs.Finding.{finding_sentence}

@@ -1,13 +1,15 @@
 -- A diagnostic as a result of SARIF 2.1.0 (sections 3.27 to 3.30), and the document round the results.
 use Rattle.std.specs.Prelude.{ℕ, Bool, true, false, List, [], ◌++◌, codes, flat_map}
-use Rattle.serde_json.specs.Data.{Data, boolean, number, unsigned, string, array, no_items, item, object, member, no_members}
+use Rattle.serde_json.specs.Data.{Data, boolean, number, unsigned, string, array, no_items, item, object, member}
+use Rattle.serde_json.specs.Data.{no_members}
 use Rattle.serde_json.specs.Written.{compact_text}
 use Rattle.uv_model.specs.declared.rule.Rule.{Rule}
 use Rattle.uv_model.specs.Complaints.Rule.{rules_in_order}
 use Rattle.uv_report.specs.declared.diagnostic.Diagnostic.{Diagnostic}
 use Rattle.uv_report.specs.declared.finding.Finding.{Finding}
 use Rattle.uv_report.specs.declared.finding.Finding.TheVariants.{Refused, NotUtf8, TooLong}
-use Rattle.uv_report.specs.Finding.{finding_column, finding_help, finding_index, finding_name, finding_place, finding_sentence, finding_uri}
+use Rattle.uv_report.specs.Finding.{finding_column, finding_help, finding_index, finding_name, finding_place}
+use Rattle.uv_report.specs.Finding.{finding_sentence, finding_uri}
 use Rattle.uv_report.specs.Message as told
 use Rattle.uv_report.specs.Uri.{uri_path}
 use Rattle.uv_report.specs.Window.{carried, is_cut}

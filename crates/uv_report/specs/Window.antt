@@ -1,5 +1,6 @@
 -- What is shown of a line: all of it, or of a long one a window around a place.
-use Rattle.std.specs.Prelude.{ℕ, ◌-◌, Bool, true, false, List, [], ◌∷◌, ◌++◌, drop, encode_utf8, flat_map, if◌then◌else◌, length, min, nat_lt, take}
+use Rattle.std.specs.Prelude.{ℕ, ◌-◌, Bool, true, false, List, [], ◌∷◌, ◌++◌, drop, encode_utf8, flat_map}
+use Rattle.std.specs.Prelude.{if◌then◌else◌, length, min, nat_lt, take}
 use Rattle.std.specs.Str.{chars}
 
 -- a line has more code points than so many

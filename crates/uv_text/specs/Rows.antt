@@ -1,5 +1,6 @@
 -- Classes of ASCII bytes by the two halves of a byte, as sixteen rows of eight bits.
-use Rattle.std.specs.Prelude.{◌≡◌, ℕ, ◌<◌, ◌+◌, ◌/◌, ◌%◌, Bool, not, List, [], ◌∷◌, ◌==◌, length, if◌then◌else◌, slice_index, bit_and, bit_or}
+use Rattle.std.specs.Prelude.{◌≡◌, ℕ, ◌<◌, ◌+◌, ◌/◌, ◌%◌, Bool, not, List, [], ◌∷◌, ◌==◌, length, if◌then◌else◌}
+use Rattle.std.specs.Prelude.{slice_index, bit_and, bit_or}
 use Rattle.uv_text.specs.Class.{in_class}
 
 -- the row of a byte's low half

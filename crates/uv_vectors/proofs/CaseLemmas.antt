@@ -1,5 +1,6 @@
 -- Members and items of a JSON value beside the lists that they come from.
-use Rattle.std.proofs.Common.{◌≡◌, ◌∙◌, ◌+◌, List, [], ◌∷◌, Some, None, ap, ap₂, sym, refl, map, nat_lt, cond, not, Bool, String, Global, string_bytes}
+use Rattle.std.proofs.Common.{◌≡◌, ◌∙◌, ◌+◌, List, [], ◌∷◌, Some, None, ap, ap₂, sym, refl, map, nat_lt, cond, not}
+use Rattle.std.proofs.Common.{Bool, String, Global, string_bytes}
 use Rattle.std.proofs.lemmas.List.{length-map}
 use Rattle.std.specs.List.{list_all, position, prefix_len}
 use Rattle.std.specs.Prelude.{◌&&◌}

@@ -1,5 +1,6 @@
 -- A text denotes one URL or has one refusal, so that an answer says whether a case passes.
-use Rattle.std.proofs.Common.{◌≡◌, ◌∙◌, ℕ, ◌≤◌, ◌-◌, Bool, false, List, Option, Some, None, ap, chars, get_or, option_copied, refl, sym, subst, le_antisymm}
+use Rattle.std.proofs.Common.{◌≡◌, ◌∙◌, ℕ, ◌≤◌, ◌-◌, Bool, false, List, Option, Some, None, ap, chars, get_or}
+use Rattle.std.proofs.Common.{option_copied, refl, sym, subst, le_antisymm}
 use Rattle.std.specs.Borrow.{Bor}
 use Rattle.std.specs.Prelude.{Decides}
 use Rattle.std.proofs.lemmas.Bool.{false≢true}
@@ -7,7 +8,9 @@ use Rattle.uv_model.specs.declared.profile.Profile.{Profile}
 use Rattle.uv_model.specs.declared.profile.Profile.TheVariants.{Standard}
 use Rattle.uv_model.specs.declared.rule.Refusal.{Refusal}
 use Rattle.uv_model.specs.declared.rule.Rule.{Rule}
-use Rattle.uv_model.specs.declared.rule.Rule.TheVariants.{NoScheme, OpaqueBase, TwoSlashes, HostMissing, HostDomain, HostNumber, HostIpv6, HostCodePoint, PortDigit, PortRange, FirstSegmentEmpty, DriveAfterHost, CodePoint, Percent}
+use Rattle.uv_model.specs.declared.rule.Rule.TheVariants.{NoScheme, OpaqueBase, TwoSlashes, HostMissing, HostDomain}
+use Rattle.uv_model.specs.declared.rule.Rule.TheVariants.{HostNumber, HostIpv6, HostCodePoint, PortDigit, PortRange}
+use Rattle.uv_model.specs.declared.rule.Rule.TheVariants.{FirstSegmentEmpty, DriveAfterHost, CodePoint, Percent}
 use Rattle.uv_model.specs.Complaints.Refusal.{IsLeastRefusal}
 use Rattle.uv_model.specs.Complaints.Rule.{rule_number, rules_in_order}
 use Rattle.uv_model.specs.Records.Denote.{denote}

@@ -1,5 +1,6 @@
 -- The lines of the cases that fail, one value after the other.
-use Rattle.std.proofs.Common.{◌≡◌, ◌∙◌, ℕ, ◌+◌, ◌-◌, ◌<◌, ◌≤◌, Bool, true, false, List, [], ◌∷◌, ◌++◌, ap, ap₂, refl, sym, subst, map, length, take, get_or, append_assoc, append-nil, arith, cond}
+use Rattle.std.proofs.Common.{◌≡◌, ◌∙◌, ℕ, ◌+◌, ◌-◌, ◌<◌, ◌≤◌, Bool, true, false, List, [], ◌∷◌, ◌++◌, ap, ap₂, refl}
+use Rattle.std.proofs.Common.{sym, subst, map, length, take, get_or, append_assoc, append-nil, arith, cond}
 use Rattle.std.specs.List.{AllZip}
 use Rattle.std.proofs.lemmas.List.{length-map, length-take-le, map-append, take_all, take_more}
 use Rattle.std.proofs.lemmas.List.Sums.{sum_by-cons, sum_by_push}
@@ -11,7 +12,8 @@ use Rattle.uv_vectors.specs.declared.run.VectorEnd.{VectorEnd}
 use Rattle.uv_vectors.specs.Case.{list_of}
 use Rattle.uv_vectors.specs.Passes.{Judges}
 use Rattle.uv_vectors.proofs.CaseLemmas.{list_of-items_of}
-use Rattle.uv_vectors.specs.Report.{HasFailures, IsReportOn, case_line, case_lines, end_by, failed, fails, passed, vector_counts}
+use Rattle.uv_vectors.specs.Report.{HasFailures, IsReportOn, case_line, case_lines, end_by, failed, fails, passed}
+use Rattle.uv_vectors.specs.Report.{vector_counts}
 
 -- what holds of two lists place by place, and of one more of each
 all_zip_push : {A B : Type 0} (R : A → B → Type 0) (xs : List A) (ys : List B) (x : A) (y : B) → AllZip R xs ys → R x y

@@ -1,5 +1,6 @@
 -- The report on the cases of a file: a line for each case that fails, in order, and the line of counts.
-use Rattle.std.specs.Prelude.{◌≡◌, ℕ, ◌+◌, zero, suc, Bool, true, false, List, [], ◌∷◌, ◌++◌, codes, count_by, decimal, length, sum_by}
+use Rattle.std.specs.Prelude.{◌≡◌, ℕ, ◌+◌, zero, suc, Bool, true, false, List, [], ◌∷◌, ◌++◌, codes, count_by}
+use Rattle.std.specs.Prelude.{decimal, length, sum_by}
 use Rattle.std.specs.List.{AllZip}
 use Rattle.serde_json.specs.Data.{Data}
 use Rattle.uv_vectors.specs.declared.run.VectorEnd.{VectorEnd}

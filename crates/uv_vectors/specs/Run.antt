@@ -1,5 +1,6 @@
 -- How a run over the bytes of a vector file ends, and what it writes.
-use Rattle.std.specs.Prelude.{◌≡◌, ◌≤◌, ◌<◌, ℕ, ◌+◌, Bool, true, false, IsUtf8, List, Option, Some, None, length, position, string_bytes, take}
+use Rattle.std.specs.Prelude.{◌≡◌, ◌≤◌, ◌<◌, ℕ, ◌+◌, Bool, true, false, IsUtf8, List, Option, Some, None, length}
+use Rattle.std.specs.Prelude.{position, string_bytes, take}
 use Rattle.std.specs.Io.KnownBytes.{Appends}
 use Rattle.serde_json.specs.Data.{Data, Items}
 use Rattle.serde_json.specs.Find.{as_array}

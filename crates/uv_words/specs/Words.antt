@@ -1,5 +1,6 @@
 -- What the arguments of the command line ask for, by `clap`'s definition of the words that a command takes.
-use Rattle.std.specs.Prelude.{◌≡◌, ◌≢◌, Bool, List, Option, Some, None, true, false, String, codes, map, option_and_then, option_map, string_bytes, if◌then◌else◌}
+use Rattle.std.specs.Prelude.{◌≡◌, ◌≢◌, Bool, List, Option, Some, None, true, false, String, codes, map}
+use Rattle.std.specs.Prelude.{option_and_then, option_map, string_bytes, if◌then◌else◌}
 use Rattle.std.specs.Option.{option_map_or}
 use Rattle.std.specs.Str.{bytes_eq}
 use Rattle.std.specs.declared.alloc.Global.{Global}

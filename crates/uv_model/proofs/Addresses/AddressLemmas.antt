@@ -1,5 +1,6 @@
 -- The texts of addresses and the grammar of addresses of the standard library are one.
-use Rattle.std.proofs.Common.{◌≡◌, ℕ, ◌+◌, ◌*◌, ◌<◌, Bool, true, false, List, [], ◌∷◌, ◌++◌, length, codes, decimal, lit<, refl, sym, ap, ◌∙◌, inl, inr, arith, append_assoc, append-nil}
+use Rattle.std.proofs.Common.{◌≡◌, ℕ, ◌+◌, ◌*◌, ◌<◌, Bool, true, false, List, [], ◌∷◌, ◌++◌, length, codes, decimal}
+use Rattle.std.proofs.Common.{lit<, refl, sym, ap, ◌∙◌, inl, inr, arith, append_assoc, append-nil}
 use Rattle.std.specs.List.{list_all}
 use Rattle.std.specs.Char.{is_ascii, is_ascii_hexdigit, digit_value}
 use Rattle.std.specs.Str.{IsAscii}
@@ -14,7 +15,8 @@ use Rattle.std.proofs.lemmas.Str.Ascii.{IsAscii-nil, IsAscii-cons}
 use Rattle.uv_model.proofs.Texts.AsciiLemmas.{IsAscii-from_test}
 use Rattle.std.proofs.lemmas.Bool.Decides.{nat_tests}
 use Rattle.uv_model.specs.Ascii.{colon}
-use Rattle.uv_model.specs.Hosts.Address.{IsFourNumbers, IsGroup, IsGroupList, IsSide, IsCompressed, IsIpv4, IsIpv6, AreLibraryTexts}
+use Rattle.uv_model.specs.Hosts.Address.{IsFourNumbers, IsGroup, IsGroupList, IsSide, IsCompressed, IsIpv4, IsIpv6}
+use Rattle.uv_model.specs.Hosts.Address.{AreLibraryTexts}
 
 -- ---- IPv4
 

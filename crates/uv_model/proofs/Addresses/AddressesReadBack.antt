@@ -10,7 +10,8 @@ use Rattle.uv_model.specs.Hosts.Address.{IsAddress, IsIpv4, IsBracketedIpv6}
 use Rattle.uv_model.specs.Laws.Addresses.{DenotesAddress, AddressesAreReadBack}
 use Rattle.uv_model.specs.Records.Serialize.{serial_ipv4, serial_host}
 use Rattle.uv_model.proofs.Addresses.AddressLemmas.{ipv6_from_colon_hex}
-use Rattle.uv_model.proofs.Addresses.AddressUniqueness.{ipv4_unique, bracketed_unique, ipv4_no_bracket, bracketed_bracket}
+use Rattle.uv_model.proofs.Addresses.AddressUniqueness.{ipv4_unique, bracketed_unique, ipv4_no_bracket}
+use Rattle.uv_model.proofs.Addresses.AddressUniqueness.{bracketed_bracket}
 
 -- the library's text of an address with these bits is the serialized value
 pub serial_ipv4_is : (address : Ipv4Addr) (value : ℕ) → IsIpv4OfBits address value

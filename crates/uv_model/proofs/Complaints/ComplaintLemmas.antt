@@ -1,5 +1,6 @@
 -- The complaints of a text in the order in which its parts are judged: the first fault of a part is the least of all.
-use Rattle.std.proofs.Common.{◌≡◌, ◌≢◌, ℕ, zero, suc, ◌+◌, ◌<◌, ◌≤◌, ◌⊎◌, Bool, true, false, ◌==◌, List, [], ◌∷◌, Option, Some, None, length, drop, refl, ap, sym, ◌∙◌, inl, inr, arith, subst}
+use Rattle.std.proofs.Common.{◌≡◌, ◌≢◌, ℕ, zero, suc, ◌+◌, ◌<◌, ◌≤◌, ◌⊎◌, Bool, true, false, ◌==◌, List, [], ◌∷◌}
+use Rattle.std.proofs.Common.{Option, Some, None, length, drop, refl, ap, sym, ◌∙◌, inl, inr, arith, subst}
 use Rattle.std.specs.Prelude.{if◌then◌else◌}
 use Rattle.std.proofs.lemmas.Bool.{false≢true, true≢false, and_parts, eqb-true}
 use Rattle.std.proofs.lemmas.List.{length-append, length-drop}
@@ -8,7 +9,9 @@ use Rattle.uv_model.specs.declared.profile.Profile.TheVariants.{Standard, Wide}
 use Rattle.uv_model.specs.declared.scheme.Class.{Class}
 use Rattle.uv_model.specs.declared.scheme.Class.TheVariants.{Special, File, Other}
 use Rattle.uv_model.specs.declared.rule.Rule.{Rule}
-use Rattle.uv_model.specs.declared.rule.Rule.TheVariants.{NoScheme, OpaqueBase, TwoSlashes, HostMissing, HostDomain, HostNumber, HostIpv6, HostCodePoint, PortDigit, PortRange, FirstSegmentEmpty, DriveAfterHost, CodePoint, Percent}
+use Rattle.uv_model.specs.declared.rule.Rule.TheVariants.{NoScheme, OpaqueBase, TwoSlashes, HostMissing, HostDomain}
+use Rattle.uv_model.specs.declared.rule.Rule.TheVariants.{HostNumber, HostIpv6, HostCodePoint, PortDigit, PortRange}
+use Rattle.uv_model.specs.declared.rule.Rule.TheVariants.{FirstSegmentEmpty, DriveAfterHost, CodePoint, Percent}
 use Rattle.uv_model.specs.declared.rule.Refusal.{Refusal}
 use Rattle.uv_model.specs.Complaints.Refusal.{IsLeast, StandsWithin}
 use Rattle.uv_model.specs.Complaints.Rule.{rule_number}
@@ -19,8 +22,12 @@ use Rattle.uv_model.specs.Complaints.UnitComplaint.{UnitComplaint}
 use Rattle.uv_model.specs.Complaints.OpaqueHostComplaint.{OpaqueHostComplaint}
 use Rattle.uv_model.specs.Units.{is_url_code_point}
 use Rattle.uv_model.specs.Setting.{Setting}
-use Rattle.uv_model.specs.Cut.{Cut, scheme_end, path_place, query_place, fragment_place, starts_with_two_slashes, written_start, written_middle}
-use Rattle.uv_model.specs.Complaints.Complaint.{Behind, StartComplaint, HostTextComplaint, HostContentComplaint, HostComplaint, PortComplaint, PathStartComplaint, HasEmptyFirst, HostPartComplaint, PortPartComplaint, MayBeUnitComplaint, slashes_place}
+use Rattle.uv_model.specs.Cut.{Cut, scheme_end, path_place, query_place, fragment_place, starts_with_two_slashes}
+use Rattle.uv_model.specs.Cut.{written_start, written_middle}
+use Rattle.uv_model.specs.Complaints.Complaint.{Behind, StartComplaint, HostTextComplaint, HostContentComplaint}
+use Rattle.uv_model.specs.Complaints.Complaint.{HostComplaint, PortComplaint, PathStartComplaint, HasEmptyFirst}
+use Rattle.uv_model.specs.Complaints.Complaint.{HostPartComplaint, PortPartComplaint, MayBeUnitComplaint}
+use Rattle.uv_model.specs.Complaints.Complaint.{slashes_place}
 use Rattle.uv_model.proofs.Complaints.LeastLemmas.{Ends, Begins}
 
 -- ---- places within a text

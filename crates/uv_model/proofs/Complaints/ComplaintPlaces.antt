@@ -6,12 +6,15 @@ use Rattle.uv_model.specs.declared.profile.Profile.{Profile}
 use Rattle.uv_model.specs.declared.rule.Rule.{Rule}
 use Rattle.uv_model.specs.Ascii.{number_sign, question_mark, slash}
 use Rattle.uv_model.specs.Complaints.Complaint.{Complaint, ComplaintOf, MayBeUnitComplaint, slashes_place}
-use Rattle.uv_model.specs.Cut.{Cut, cut_of, fragment_place, path_place, query_place, written_cut, written_front, written_start}
+use Rattle.uv_model.specs.Cut.{Cut, cut_of, fragment_place, path_place, query_place, written_cut, written_front}
+use Rattle.uv_model.specs.Cut.{written_start}
 use Rattle.uv_model.specs.Parts.{written_behind}
 use Rattle.uv_model.specs.Path.{starts_with_slash}
 use Rattle.uv_model.specs.Setting.{Setting, setting_of}
 use Rattle.uv_model.specs.Records.Url.{Url}
-use Rattle.uv_model.proofs.Complaints.ComplaintLemmas.{held_ends, host_before_path, host_end, host_part_ends, path_start_ends, port_part_ends, query_behind_path, second_slash, start_ends, unit_complaint_bounds}
+use Rattle.uv_model.proofs.Complaints.ComplaintLemmas.{held_ends, host_before_path, host_end, host_part_ends}
+use Rattle.uv_model.proofs.Complaints.ComplaintLemmas.{path_start_ends, port_part_ends, query_behind_path}
+use Rattle.uv_model.proofs.Complaints.ComplaintLemmas.{second_slash, start_ends, unit_complaint_bounds}
 use Rattle.uv_model.proofs.Cuts.CutLemmas.{computed_is_cut}
 use Rattle.uv_model.proofs.Complaints.LeastLemmas.{Ends}
 use Rattle.uv_model.proofs.Complaints.RefusedLemmas.{one_at_most, second_slash_within}

@@ -1,5 +1,6 @@
 -- A valid text has no complaint.
-use Rattle.std.proofs.Common.{◌≡◌, ◌≢◌, ℕ, true, false, List, [], ◌∷◌, Option, Some, None, refl, sym, ap, ◌∙◌, inl, inr, subst}
+use Rattle.std.proofs.Common.{◌≡◌, ◌≢◌, ℕ, true, false, List, [], ◌∷◌, Option, Some, None, refl, sym, ap, ◌∙◌, inl}
+use Rattle.std.proofs.Common.{inr, subst}
 use Rattle.std.specs.Prelude.{IsSome}
 use Rattle.std.proofs.lemmas.Bool.{false≢true}
 use Rattle.uv_model.specs.declared.profile.Profile.{Profile}
@@ -7,17 +8,24 @@ use Rattle.uv_model.specs.declared.profile.Profile.TheVariants.{Standard, Wide}
 use Rattle.uv_model.specs.declared.scheme.Class.{Class}
 use Rattle.uv_model.specs.declared.scheme.Class.TheVariants.{Special, File, Other}
 use Rattle.uv_model.specs.declared.rule.Rule.{Rule}
-use Rattle.uv_model.specs.declared.rule.Rule.TheVariants.{NoScheme, OpaqueBase, TwoSlashes, HostMissing, FirstSegmentEmpty, DriveAfterHost}
+use Rattle.uv_model.specs.declared.rule.Rule.TheVariants.{NoScheme, OpaqueBase, TwoSlashes, HostMissing}
+use Rattle.uv_model.specs.declared.rule.Rule.TheVariants.{FirstSegmentEmpty, DriveAfterHost}
 use Rattle.uv_model.specs.Ascii.{slash}
-use Rattle.uv_model.specs.Path.{IsPathAbsolute, IsPathRelative, IsPathSlashed, starts_with_slash, starts_with_drive_segment}
+use Rattle.uv_model.specs.Path.{IsPathAbsolute, IsPathRelative, IsPathSlashed, starts_with_slash}
+use Rattle.uv_model.specs.Path.{starts_with_drive_segment}
 use Rattle.uv_model.specs.Units.{IsUnits, is_url_code_point}
 use Rattle.uv_model.specs.Records.Url.{Url}
-use Rattle.uv_model.specs.Parts.{Form, SchemeAuthority, SchemePath, SchemeOpaque, Authority, PathAbsolute, PathRelative, NoPath, Parts, has_scheme, written}
+use Rattle.uv_model.specs.Parts.{Form, SchemeAuthority, SchemePath, SchemeOpaque, Authority, PathAbsolute}
+use Rattle.uv_model.specs.Parts.{PathRelative, NoPath, Parts, has_scheme, written}
 use Rattle.uv_model.specs.Setting.{Setting, setting_of}
-use Rattle.uv_model.specs.Valid.{Valid, MayBePathBehind, MayBePortText, MayBeUnits, FitsAuthority, FitsHostText, FitsForm, FitsScheme, FitsBase, FitsDrive, HasNoAuthority}
+use Rattle.uv_model.specs.Valid.{Valid, MayBePathBehind, MayBePortText, MayBeUnits, FitsAuthority, FitsHostText}
+use Rattle.uv_model.specs.Valid.{FitsForm, FitsScheme, FitsBase, FitsDrive, HasNoAuthority}
 use Rattle.uv_model.specs.Cut.{Cut, texts_of, class_in, starts_with_two_slashes, query_place, fragment_place}
 use Rattle.uv_model.specs.Complaints.OpaqueHostComplaint.{OpaqueHostComplaint}
-use Rattle.uv_model.specs.Complaints.Complaint.{StartComplaint, HostTextComplaint, HostComplaint, PathStartComplaint, HasEmptyFirst, HostPartComplaint, PortPartComplaint, MayBeUnitComplaint, HasHost, ComplaintOf, Complaint, starts_with_number_sign, HasOpaquePath}
+use Rattle.uv_model.specs.Complaints.Complaint.{StartComplaint, HostTextComplaint, HostComplaint, PathStartComplaint}
+use Rattle.uv_model.specs.Complaints.Complaint.{HasEmptyFirst, HostPartComplaint, PortPartComplaint}
+use Rattle.uv_model.specs.Complaints.Complaint.{MayBeUnitComplaint, HasHost, ComplaintOf, Complaint}
+use Rattle.uv_model.specs.Complaints.Complaint.{starts_with_number_sign, HasOpaquePath}
 use Rattle.uv_model.specs.Laws.Cuts.{TextsWithAComplaintHaveNoParts}
 use Rattle.uv_model.proofs.Texts.UnitsLemmas.{IsUnits-nil, IsUnits-unit}
 use Rattle.uv_model.proofs.Complaints.UnitComplaintLemmas.{no_complaint-units}
@@ -26,7 +34,9 @@ use Rattle.uv_model.proofs.Paths.SlashedPaths.{slashed_absolute, slashed_behind}
 use Rattle.uv_model.proofs.Cuts.ValidCutLemmas.{absolute_without_two_slashes, without_slash_without_two, valid_texts}
 use Rattle.uv_model.proofs.Complaints.ComplaintLemmas.{cut_with}
 use Rattle.uv_model.proofs.Complaints.RefusedLemmas.{none_of_host, none_of_port}
-use Rattle.uv_model.proofs.Complaints.FaultlessHosts.{host_not_empty, host_text_faultless, file_host_is_host, empty_host_faultless, opaque_host_faultless, empty_opaque_faultless, port_faultless}
+use Rattle.uv_model.proofs.Complaints.FaultlessHosts.{host_not_empty, host_text_faultless, file_host_is_host}
+use Rattle.uv_model.proofs.Complaints.FaultlessHosts.{empty_host_faultless, opaque_host_faultless}
+use Rattle.uv_model.proofs.Complaints.FaultlessHosts.{empty_opaque_faultless, port_faultless}
 use Rattle.uv_model.proofs.Hosts.HostUniqueness.{opaque_not_empty}
 
 -- ---- the host, by the class

@@ -1,5 +1,6 @@
 -- A valid host or port has no complaint.
-use Rattle.std.proofs.Common.{◌≡◌, ◌≢◌, ℕ, true, false, not, ◌==◌, List, [], ◌∷◌, Option, Some, None, codes, length, drop, refl, sym, ap, ◌∙◌, inl, inr, arith, subst, zero, suc}
+use Rattle.std.proofs.Common.{◌≡◌, ◌≢◌, ℕ, true, false, not, ◌==◌, List, [], ◌∷◌, Option, Some, None, codes, length}
+use Rattle.std.proofs.Common.{drop, refl, sym, ap, ◌∙◌, inl, inr, arith, subst, zero, suc}
 use Rattle.std.specs.List.{list_all}
 use Rattle.std.specs.Char.{is_ascii_digit}
 use Rattle.std.proofs.lemmas.Bool.{false≢true, true≢false, cases_Bool, eqb-true, and_parts, not-true}
@@ -12,7 +13,8 @@ use Rattle.uv_model.specs.declared.profile.Profile.TheVariants.{Standard, Wide}
 use Rattle.uv_model.specs.declared.host.Host.{Host}
 use Rattle.uv_model.specs.declared.host.Host.TheVariants.{Domain, V4, V6, Opaque, Empty}
 use Rattle.uv_model.specs.declared.rule.Rule.{Rule}
-use Rattle.uv_model.specs.declared.rule.Rule.TheVariants.{HostDomain, HostNumber, HostIpv6, HostCodePoint, PortDigit, PortRange, CodePoint, Percent}
+use Rattle.uv_model.specs.declared.rule.Rule.TheVariants.{HostDomain, HostNumber, HostIpv6, HostCodePoint, PortDigit}
+use Rattle.uv_model.specs.declared.rule.Rule.TheVariants.{PortRange, CodePoint, Percent}
 use Rattle.uv_model.specs.Hosts.Address.{IsIpv4, IsBracketedIpv6}
 use Rattle.uv_model.specs.Hosts.Domain.{IsForm, has_permitted, is_permitted, has_lengths, parser_form}
 use Rattle.uv_model.specs.Ascii.{left_bracket}

@@ -1,5 +1,6 @@
 -- The least complaint of a text: the first fault in the order in which the parts are judged.
-use Rattle.std.proofs.Common.{◌≡◌, ℕ, ◌+◌, ◌<◌, ◌≤◌, ◌⊎◌, Bool, true, false, List, [], ◌∷◌, Option, Some, None, length, inl, inr, arith, subst}
+use Rattle.std.proofs.Common.{◌≡◌, ℕ, ◌+◌, ◌<◌, ◌≤◌, ◌⊎◌, Bool, true, false, List, [], ◌∷◌, Option, Some, None}
+use Rattle.std.proofs.Common.{length, inl, inr, arith, subst}
 use Rattle.std.specs.Prelude.{if◌then◌else◌}
 use Rattle.uv_model.specs.declared.profile.Profile.{Profile}
 use Rattle.uv_model.specs.declared.rule.Rule.{Rule}
@@ -10,12 +11,21 @@ use Rattle.uv_model.specs.Path.{starts_with_slash}
 use Rattle.uv_model.specs.Complaints.UnitComplaint.{UnitComplaint}
 use Rattle.uv_model.specs.Setting.{Setting, setting_of}
 use Rattle.uv_model.specs.Records.Url.{Url}
-use Rattle.uv_model.specs.Cut.{Cut, IsCut, host_place, port_place, path_place, query_place, fragment_place, starts_with_two_slashes}
-use Rattle.uv_model.specs.Complaints.Complaint.{Behind, StartComplaint, HostComplaint, PortComplaint, PathStartComplaint, HostPartComplaint, PortPartComplaint, MayBeUnitComplaint, JudgedComplaint, ContentComplaint, IsStarted, ComplaintOf, Complaint, slashes_place, fault_behind}
+use Rattle.uv_model.specs.Cut.{Cut, IsCut, host_place, port_place, path_place, query_place, fragment_place}
+use Rattle.uv_model.specs.Cut.{starts_with_two_slashes}
+use Rattle.uv_model.specs.Complaints.Complaint.{Behind, StartComplaint, HostComplaint, PortComplaint}
+use Rattle.uv_model.specs.Complaints.Complaint.{PathStartComplaint, HostPartComplaint, PortPartComplaint}
+use Rattle.uv_model.specs.Complaints.Complaint.{MayBeUnitComplaint, JudgedComplaint, ContentComplaint, IsStarted}
+use Rattle.uv_model.specs.Complaints.Complaint.{ComplaintOf, Complaint, slashes_place, fault_behind}
 use Rattle.uv_model.proofs.Cuts.CutLemmas.{cut_is_computed}
-use Rattle.uv_model.proofs.Complaints.LeastLemmas.{Either, Begins, Precedes, precedes, least_first, least_second, begins_either, begins_earlier, least_behind}
+use Rattle.uv_model.proofs.Complaints.LeastLemmas.{Either, Begins, Precedes, precedes, least_first, least_second}
+use Rattle.uv_model.proofs.Complaints.LeastLemmas.{begins_either, begins_earlier, least_behind}
 use Rattle.uv_model.proofs.Complaints.RefusalLemmas.{IsLeast-like}
-use Rattle.uv_model.proofs.Complaints.ComplaintLemmas.{cut_with, second_slash, host_end, host_before_path, query_behind_path, fragment_behind_query, host_part_ends, port_part_ends, port_part_begins, path_start_ends, path_start_begins, held_ends, path_held_begins, path_held_after_slash, may_be_begins, query_ends, start_ends}
+use Rattle.uv_model.proofs.Complaints.ComplaintLemmas.{cut_with, second_slash, host_end, host_before_path}
+use Rattle.uv_model.proofs.Complaints.ComplaintLemmas.{query_behind_path, fragment_behind_query, host_part_ends}
+use Rattle.uv_model.proofs.Complaints.ComplaintLemmas.{port_part_ends, port_part_begins, path_start_ends}
+use Rattle.uv_model.proofs.Complaints.ComplaintLemmas.{path_start_begins, held_ends, path_held_begins}
+use Rattle.uv_model.proofs.Complaints.ComplaintLemmas.{path_held_after_slash, may_be_begins, query_ends, start_ends}
 
 -- ---- the parts, each with all that follow it
 

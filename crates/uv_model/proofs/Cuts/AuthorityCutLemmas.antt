@@ -1,5 +1,6 @@
 -- The authority of a text: it is written with its host, its port and the path in one way.
-use Rattle.std.proofs.Common.{◌≡◌, ◌≢◌, ℕ, Bool, true, false, not, ◌==◌, List, [], ◌∷◌, ◌++◌, Option, Some, None, refl, sym, ap, subst, ◌∙◌, inl, inr, length, drop, append-nil}
+use Rattle.std.proofs.Common.{◌≡◌, ◌≢◌, ℕ, Bool, true, false, not, ◌==◌, List, [], ◌∷◌, ◌++◌, Option, Some, None}
+use Rattle.std.proofs.Common.{refl, sym, ap, subst, ◌∙◌, inl, inr, length, drop, append-nil}
 use Rattle.std.specs.Prelude.{IsSome}
 use Rattle.std.specs.List.{after_first}
 use Rattle.std.proofs.lemmas.Bool.{false≢true, cases_Bool, and_parts, not-true, not-false, eqb-true, eq-eqb}
@@ -9,7 +10,9 @@ use Rattle.uv_model.specs.declared.scheme.Class.TheVariants.{Special, File, Othe
 use Rattle.uv_model.specs.Ascii.{slash, colon}
 use Rattle.uv_model.specs.Parts.{written_authority, written_behind}
 use Rattle.uv_model.specs.Path.{is_without, starts_with_slash}
-use Rattle.uv_model.specs.Cut.{IsHostCut, IsAuthorityCut, EndsAtPort, text_before, host_before, port_behind, host_cut, port_cut, host_text_cut, port_text_cut, path_text_cut, authority_in, is_within, is_within_at_end, is_port_mark, starts_with_two_slashes}
+use Rattle.uv_model.specs.Cut.{IsHostCut, IsAuthorityCut, EndsAtPort, text_before, host_before, port_behind, host_cut}
+use Rattle.uv_model.specs.Cut.{port_cut, host_text_cut, port_text_cut, path_text_cut, authority_in, is_within}
+use Rattle.uv_model.specs.Cut.{is_within_at_end, is_port_mark, starts_with_two_slashes}
 use Rattle.uv_model.proofs.Texts.MarkLemmas.{is_without-before, text_before-none, text_before-mark, at_first_mark}
 
 -- ---- the host and the port of an authority

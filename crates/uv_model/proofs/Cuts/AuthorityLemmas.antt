@@ -1,5 +1,6 @@
 -- Authorities: the host, the port and the path that stand behind `//` in a valid text make a well-formed record.
-use Rattle.std.proofs.Common.{◌≡◌, ℕ, true, false, List, [], ◌∷◌, Option, Some, None, refl, sym, ap, subst, ◌∙◌, inl, inr, arith}
+use Rattle.std.proofs.Common.{◌≡◌, ℕ, true, false, List, [], ◌∷◌, Option, Some, None, refl, sym, ap, subst, ◌∙◌, inl}
+use Rattle.std.proofs.Common.{inr, arith}
 use Rattle.std.specs.Str.Parse.{digits_value}
 use Rattle.std.proofs.lemmas.Bool.{cases_Bool}
 use Rattle.uv_model.specs.declared.profile.Profile.{Profile}
@@ -14,7 +15,8 @@ use Rattle.uv_model.specs.Parts.{Parts}
 use Rattle.uv_model.specs.Path.{MayBePathSlashed, AreSegments, JoinsTo, walk}
 use Rattle.uv_model.specs.Scheme.{default_port, scheme_class}
 use Rattle.uv_model.specs.Setting.{Setting}
-use Rattle.uv_model.specs.Valid.{FitsAuthority, IsFileHostText, IsHostText, IsOpaqueHostText, MayBePortText, is_default_port, port_given}
+use Rattle.uv_model.specs.Valid.{FitsAuthority, IsFileHostText, IsHostText, IsOpaqueHostText, MayBePortText}
+use Rattle.uv_model.specs.Valid.{is_default_port, port_given}
 use Rattle.uv_model.specs.Records.WellFormed.{AreUrlSegments, IsOtherHost, IsUrlHost, IsUrlPath, IsUrlPort, takes_port}
 use Rattle.uv_model.proofs.Addresses.AddressSizes.{bracketed_small, ipv4_small}
 use Rattle.uv_model.proofs.Paths.SlashedPaths.{slashed_behind, slashed_or_none}

@@ -4,11 +4,14 @@ use Rattle.uv_model.specs.Ascii.{question_mark, number_sign}
 use Rattle.uv_model.specs.Parts.{written_scheme, written_behind}
 use Rattle.uv_model.specs.Path.{is_without}
 use Rattle.uv_model.specs.Records.Url.{Url}
-use Rattle.uv_model.specs.Cut.{Cut, IsCut, IsSchemeCut, IsAuthorityCut, class_in, cut_of, start_cut, scheme_cut, behind_scheme, text_before, text_behind, written_middle, written_start, written_front}
+use Rattle.uv_model.specs.Cut.{Cut, IsCut, IsSchemeCut, IsAuthorityCut, class_in, cut_of, start_cut, scheme_cut}
+use Rattle.uv_model.specs.Cut.{behind_scheme, text_before, text_behind, written_middle, written_start, written_front}
 use Rattle.uv_model.proofs.Texts.MarkLemmas.{is_without-before, before_written, behind_written, written_mark}
 use Rattle.uv_model.specs.Laws.Cuts.{EveryTextHasOneCut}
-use Rattle.uv_model.proofs.Cuts.SchemeCutLemmas.{scheme_cut-written, behind_scheme-written, written_scheme_cut, scheme_cut-is}
-use Rattle.uv_model.proofs.Cuts.AuthorityCutLemmas.{host_text_cut-written, port_text_cut-written, path_text_cut-written, written_middle_cut, authority_cut-is}
+use Rattle.uv_model.proofs.Cuts.SchemeCutLemmas.{scheme_cut-written, behind_scheme-written, written_scheme_cut}
+use Rattle.uv_model.proofs.Cuts.SchemeCutLemmas.{scheme_cut-is}
+use Rattle.uv_model.proofs.Cuts.AuthorityCutLemmas.{host_text_cut-written, port_text_cut-written}
+use Rattle.uv_model.proofs.Cuts.AuthorityCutLemmas.{path_text_cut-written, written_middle_cut, authority_cut-is}
 
 -- a start is cut into the texts with which it is written
 start_cut-written : (base : Option Url) (cut : Cut) → IsSchemeCut cut.scheme (written_middle cut)

@@ -1,5 +1,6 @@
 -- The texts of valid hosts and ports: which code points they hold, and that a host ends where the cut ends it.
-use Rattle.std.proofs.Common.{◌≡◌, ◌≢◌, ℕ, ◌<◌, Bool, true, false, not, ◌||◌, ◌==◌, List, [], ◌∷◌, ◌++◌, Option, decimal, refl, sym, ap, ◌∙◌, inl, inr, arith}
+use Rattle.std.proofs.Common.{◌≡◌, ◌≢◌, ℕ, ◌<◌, Bool, true, false, not, ◌||◌, ◌==◌, List, [], ◌∷◌, ◌++◌, Option}
+use Rattle.std.proofs.Common.{decimal, refl, sym, ap, ◌∙◌, inl, inr, arith}
 use Rattle.std.specs.List.{list_all}
 use Rattle.std.specs.Char.{is_ascii_digit, is_ascii_hexdigit, digit_value}
 use Rattle.std.specs.Str.Parse.{AllDigits}
@@ -7,7 +8,8 @@ use Rattle.std.proofs.lemmas.Bool.{false≢true, cases_Bool, and_parts, and_from
 use Rattle.std.proofs.lemmas.Bool.Decides.{nat_tests}
 use Rattle.std.proofs.lemmas.Fmt.{decimal_is_IsNumeral}
 use Rattle.std.proofs.lemmas.List.Folds.{list_all-append}
-use Rattle.uv_model.specs.Ascii.{slash, colon, full_stop, question_mark, number_sign, percent_sign, left_bracket, right_bracket}
+use Rattle.uv_model.specs.Ascii.{slash, colon, full_stop, question_mark, number_sign, percent_sign, left_bracket}
+use Rattle.uv_model.specs.Ascii.{right_bracket}
 use Rattle.uv_model.specs.Hosts.Address.{IsFourNumbers, IsIpv4, IsGroupList, IsSide, IsIpv6, IsBracketedIpv6}
 use Rattle.uv_model.specs.declared.profile.Profile.{Profile}
 use Rattle.uv_model.specs.declared.profile.Profile.TheVariants.{Standard, Wide}

@@ -1,5 +1,6 @@
 -- A text with a scheme is judged without looking at the base.
-use Rattle.std.proofs.Common.{◌≡◌, ℕ, true, false, ◌==◌, List, [], ◌∷◌, ◌++◌, Option, Some, None, refl, sym, ap, ◌∙◌, inl, inr, subst, append_assoc}
+use Rattle.std.proofs.Common.{◌≡◌, ℕ, true, false, ◌==◌, List, [], ◌∷◌, ◌++◌, Option, Some, None, refl, sym, ap, ◌∙◌}
+use Rattle.std.proofs.Common.{inl, inr, subst, append_assoc}
 use Rattle.std.specs.Prelude.{IsSome}
 use Rattle.std.specs.Char.{is_ascii_alphabetic}
 use Rattle.std.proofs.lemmas.Bool.{false≢true}
@@ -7,17 +8,22 @@ use Rattle.uv_model.specs.declared.profile.Profile.{Profile}
 use Rattle.uv_model.specs.declared.scheme.Class.{Class}
 use Rattle.uv_model.specs.declared.scheme.Class.TheVariants.{Special, File, Other}
 use Rattle.uv_model.specs.declared.rule.Rule.{Rule}
-use Rattle.uv_model.specs.declared.rule.Rule.TheVariants.{NoScheme, OpaqueBase, TwoSlashes, FirstSegmentEmpty, DriveAfterHost}
+use Rattle.uv_model.specs.declared.rule.Rule.TheVariants.{NoScheme, OpaqueBase, TwoSlashes, FirstSegmentEmpty}
+use Rattle.uv_model.specs.declared.rule.Rule.TheVariants.{DriveAfterHost}
 use Rattle.uv_model.specs.Ascii.{colon, question_mark, number_sign}
 use Rattle.uv_model.specs.Scheme.{is_scheme_code_point, scheme_class}
 use Rattle.uv_model.specs.Path.{is_without}
 use Rattle.uv_model.specs.Records.Url.{Url}
-use Rattle.uv_model.specs.Parts.{Form, SchemeAuthority, SchemePath, SchemeOpaque, Authority, PathAbsolute, PathRelative, NoPath, Parts, has_scheme}
+use Rattle.uv_model.specs.Parts.{Form, SchemeAuthority, SchemePath, SchemeOpaque, Authority, PathAbsolute}
+use Rattle.uv_model.specs.Parts.{PathRelative, NoPath, Parts, has_scheme}
 use Rattle.uv_model.specs.Setting.{Setting, scheme_or, setting_of}
-use Rattle.uv_model.specs.Valid.{Valid, FitsAuthority, FitsHostText, FitsForm, FitsScheme, FitsBase, scheme_in, starts_with_scheme}
-use Rattle.uv_model.specs.Cut.{Cut, cut_of, class_in, scheme_cut, behind_scheme, text_before, text_behind, host_text_cut, port_text_cut, path_text_cut}
+use Rattle.uv_model.specs.Valid.{Valid, FitsAuthority, FitsHostText, FitsForm, FitsScheme, FitsBase, scheme_in}
+use Rattle.uv_model.specs.Valid.{starts_with_scheme}
+use Rattle.uv_model.specs.Cut.{Cut, cut_of, class_in, scheme_cut, behind_scheme, text_before, text_behind}
+use Rattle.uv_model.specs.Cut.{host_text_cut, port_text_cut, path_text_cut}
 use Rattle.uv_model.specs.Laws.Cuts.{TextsWithASchemeIgnoreTheBase}
-use Rattle.uv_model.specs.Complaints.Complaint.{StartComplaint, PathStartComplaint, HostPartComplaint, JudgedComplaint, HasHost, ComplaintOf, Complaint}
+use Rattle.uv_model.specs.Complaints.Complaint.{StartComplaint, PathStartComplaint, HostPartComplaint}
+use Rattle.uv_model.specs.Complaints.Complaint.{JudgedComplaint, HasHost, ComplaintOf, Complaint}
 use Rattle.uv_model.proofs.Texts.MarkLemmas.{is_without-cons, text_before-other}
 use Rattle.uv_model.proofs.Cuts.SchemeCutLemmas.{splits_at_scheme, starts_with_written_scheme}
 use Rattle.uv_model.proofs.Cuts.ValidCutLemmas.{scheme_without, valid_texts}

@@ -1,5 +1,6 @@
 -- The cut of a valid text has its parts.
-use Rattle.std.proofs.Common.{◌≡◌, ◌≢◌, ℕ, Bool, true, false, ◌==◌, List, [], ◌∷◌, ◌++◌, Option, Some, None, codes, refl, sym, ap, ◌∙◌, inl, inr, append_assoc}
+use Rattle.std.proofs.Common.{◌≡◌, ◌≢◌, ℕ, Bool, true, false, ◌==◌, List, [], ◌∷◌, ◌++◌, Option, Some, None, codes}
+use Rattle.std.proofs.Common.{refl, sym, ap, ◌∙◌, inl, inr, append_assoc}
 use Rattle.std.specs.List.{list_all}
 use Rattle.std.specs.Char.{is_ascii_digit, is_ascii_alphabetic}
 use Rattle.std.proofs.lemmas.Bool.{false≢true, true≢false, and_from, and_parts}
@@ -9,17 +10,25 @@ use Rattle.uv_model.specs.declared.scheme.Class.TheVariants.{Special, File, Othe
 use Rattle.uv_model.specs.declared.host.Host.{Host}
 use Rattle.uv_model.specs.declared.host.Host.TheVariants.{Domain, V4, V6, Opaque, Empty}
 use Rattle.uv_model.specs.Ascii.{slash, colon, question_mark, number_sign}
-use Rattle.uv_model.specs.Path.{MayBePathSlashed, IsPathAbsolute, IsPathRelative, IsPathSlashed, JoinsTo, is_without, starts_with_slash}
+use Rattle.uv_model.specs.Path.{MayBePathSlashed, IsPathAbsolute, IsPathRelative, IsPathSlashed, JoinsTo, is_without}
+use Rattle.uv_model.specs.Path.{starts_with_slash}
 use Rattle.uv_model.specs.Scheme.{is_scheme, is_scheme_code_point}
 use Rattle.uv_model.specs.Records.Url.{Url}
-use Rattle.uv_model.specs.Parts.{Form, SchemeAuthority, SchemePath, SchemeOpaque, Authority, PathAbsolute, PathRelative, NoPath, Parts, has_scheme, written, written_scheme, written_authority, written_behind}
+use Rattle.uv_model.specs.Parts.{Form, SchemeAuthority, SchemePath, SchemeOpaque, Authority, PathAbsolute}
+use Rattle.uv_model.specs.Parts.{PathRelative, NoPath, Parts, has_scheme, written, written_scheme, written_authority}
+use Rattle.uv_model.specs.Parts.{written_behind}
 use Rattle.uv_model.specs.Setting.{Setting, setting_of}
-use Rattle.uv_model.specs.Valid.{Valid, IsHostText, IsFileHostText, IsOpaqueHostText, MayBePortText, MayBeUnits, FitsAuthority, FitsHostText, HasNoAuthority, FitsForm, FitsScheme, starts_with_scheme}
-use Rattle.uv_model.specs.Cut.{IsSchemeCut, IsAuthorityCut, IsHostCut, texts_of, cut_of, starts_with_two_slashes, written_middle, written_start, written_cut, IsCut, class_in}
+use Rattle.uv_model.specs.Valid.{Valid, IsHostText, IsFileHostText, IsOpaqueHostText, MayBePortText, MayBeUnits}
+use Rattle.uv_model.specs.Valid.{FitsAuthority, FitsHostText, HasNoAuthority, FitsForm, FitsScheme}
+use Rattle.uv_model.specs.Valid.{starts_with_scheme}
+use Rattle.uv_model.specs.Cut.{IsSchemeCut, IsAuthorityCut, IsHostCut, texts_of, cut_of, starts_with_two_slashes}
+use Rattle.uv_model.specs.Cut.{written_middle, written_start, written_cut, IsCut, class_in}
 use Rattle.uv_model.specs.Laws.Cuts.{ValidTextsAreCutIntoTheirParts}
 use Rattle.uv_model.proofs.Texts.MarkLemmas.{is_without-append, is_without-more}
 use Rattle.uv_model.proofs.Paths.PathLemmas.{IsUnits-join, no_question_mark-join}
-use Rattle.uv_model.proofs.Cuts.HostCutLemmas.{is_without-passes, units_without_number_sign, IsHostWord, word_of_form, word_of_opaque, word_of_nothing, word_of_ipv4, word_of_ipv6, digits_without}
+use Rattle.uv_model.proofs.Cuts.HostCutLemmas.{is_without-passes, units_without_number_sign, IsHostWord, word_of_form}
+use Rattle.uv_model.proofs.Cuts.HostCutLemmas.{word_of_opaque, word_of_nothing, word_of_ipv4, word_of_ipv6}
+use Rattle.uv_model.proofs.Cuts.HostCutLemmas.{digits_without}
 use Rattle.uv_model.proofs.Cuts.CutLemmas.{cut_is_computed}
 use Rattle.uv_model.proofs.Paths.SlashedPaths.{slashed_behind, slashed_or_none}
 

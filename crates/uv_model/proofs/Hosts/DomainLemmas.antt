@@ -1,5 +1,7 @@
 -- Valid domains: what a form is, that it is one, and which texts have none.
-use Rattle.std.proofs.Common.{◌≡◌, ◌≢◌, ℕ, suc, ◌<◌, ◌-◌, true, false, not, ◌&&◌, nat_le, List, [], ◌∷◌, length, encode_utf8_all, IsAscii, Option, Some, None, IsSome, refl, sym, ap, ◌∙◌, inl, inr, arith}
+use Rattle.std.proofs.Common.{◌≡◌, ◌≢◌, ℕ, suc, ◌<◌, ◌-◌, true, false, not, ◌&&◌, nat_le, List, [], ◌∷◌, length}
+use Rattle.std.proofs.Common.{encode_utf8_all, IsAscii, Option, Some, None, IsSome, refl, sym, ap, ◌∙◌, inl, inr}
+use Rattle.std.proofs.Common.{arith}
 use Rattle.std.specs.Char.{is_ascii}
 use Rattle.std.specs.Int.{is_in_range}
 use Rattle.std.specs.List.{slice_index, list_all}
@@ -16,11 +18,14 @@ use Rattle.idna.specs.declared.options.Hyphens.TheVariants.{Check}
 use Rattle.idna.specs.Labels.{is_full_stop, labels_of}
 use Rattle.idna.specs.Uts46.{process_utf8, to_ascii, to_unicode, domain_to_ascii, has_dns_lengths, verify_dns_length}
 use Rattle.idna.specs.Validity.{has_ace_prefix}
-use Rattle.idna.proofs.Uts46Lemmas.{IsOutputByte, All-to_ascii, to_ascii-invalid, to_unicode-to_ascii, domain_to_ascii-ascii}
+use Rattle.idna.proofs.Uts46Lemmas.{IsOutputByte, All-to_ascii, to_ascii-invalid, to_unicode-to_ascii}
+use Rattle.idna.proofs.Uts46Lemmas.{domain_to_ascii-ascii}
 use Rattle.idna.proofs.ValidityLemmas.{denies-EMPTY, denies-STD3}
 use Rattle.uv_model.specs.declared.profile.Profile.{Profile}
 use Rattle.uv_model.specs.declared.profile.Profile.TheVariants.{Standard, Wide}
-use Rattle.uv_model.specs.Hosts.Domain.{without_root, is_permitted, has_permitted, is_form_code_point, has_lengths, strict_form, is_plain_ascii, parser_form, ends_in_number, IsForm, IsDomain, IsNumberText, HasNoForm, StandardDomainsAreWide}
+use Rattle.uv_model.specs.Hosts.Domain.{without_root, is_permitted, has_permitted, is_form_code_point, has_lengths}
+use Rattle.uv_model.specs.Hosts.Domain.{strict_form, is_plain_ascii, parser_form, ends_in_number, IsForm, IsDomain}
+use Rattle.uv_model.specs.Hosts.Domain.{IsNumberText, HasNoForm, StandardDomainsAreWide}
 use Rattle.uv_model.specs.Scheme.{lowercase}
 use Rattle.uv_model.proofs.Texts.AsciiLemmas.{IsAscii-from_test}
 

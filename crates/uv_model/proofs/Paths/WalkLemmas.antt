@@ -5,7 +5,8 @@ use Rattle.std.proofs.lemmas.Bool.{cases_Bool}
 use Rattle.uv_model.specs.declared.scheme.Class.{Class}
 use Rattle.uv_model.specs.declared.scheme.Class.TheVariants.{Special, File, Other}
 use Rattle.uv_model.specs.Encoding.{encoded}
-use Rattle.uv_model.specs.Path.{AreSegments, IsSegment, is_double_dot, is_lone_drive, is_single_dot, shorten, walk, walk_one, without_last}
+use Rattle.uv_model.specs.Path.{AreSegments, IsSegment, is_double_dot, is_lone_drive, is_single_dot, shorten, walk}
+use Rattle.uv_model.specs.Path.{walk_one, without_last}
 use Rattle.uv_model.specs.Records.WellFormed.{AreUrlSegments}
 use Rattle.uv_model.proofs.Records.WellFormedLemmas.{IsUrlSegment-encoded, IsUrlSegment-nil}
 

@@ -1,5 +1,6 @@
 -- What a valid text denotes is well formed, form by form.
-use Rattle.std.proofs.Common.{◌≡◌, ℕ, true, false, not, ◌&&◌, List, [], ◌∷◌, Option, Some, None, refl, sym, subst, inl, inr}
+use Rattle.std.proofs.Common.{◌≡◌, ℕ, true, false, not, ◌&&◌, List, [], ◌∷◌, Option, Some, None, refl, sym, subst}
+use Rattle.std.proofs.Common.{inl, inr}
 use Rattle.std.specs.Prelude.{option_map}
 use Rattle.std.proofs.lemmas.Bool.{cases_Bool, false≢true}
 use Rattle.uv_model.specs.declared.profile.Profile.{Profile}
@@ -9,19 +10,23 @@ use Rattle.uv_model.specs.declared.scheme.Class.TheVariants.{Special, File, Othe
 use Rattle.uv_model.specs.declared.host.Host.{Host}
 use Rattle.uv_model.specs.declared.path.UrlPath.{UrlPath}
 use Rattle.uv_model.specs.declared.path.UrlPath.TheVariants.{Opaque, Segments}
-use Rattle.uv_model.specs.Records.Denote.{authority_host, authority_path, denote, denoted_host, denoted_path, denoted_port, denoted_query, denoted_scheme, kept_drive, listed_segments}
+use Rattle.uv_model.specs.Records.Denote.{authority_host, authority_path, denote, denoted_host, denoted_path}
+use Rattle.uv_model.specs.Records.Denote.{denoted_port, denoted_query, denoted_scheme, kept_drive, listed_segments}
 use Rattle.uv_model.specs.Encoding.{encoded}
-use Rattle.uv_model.specs.Parts.{Form, Parts, SchemeAuthority, SchemePath, SchemeOpaque, Authority, PathAbsolute, PathRelative, NoPath, has_scheme}
+use Rattle.uv_model.specs.Parts.{Form, Parts, SchemeAuthority, SchemePath, SchemeOpaque, Authority, PathAbsolute}
+use Rattle.uv_model.specs.Parts.{PathRelative, NoPath, has_scheme}
 use Rattle.uv_model.specs.Scheme.{default_port, is_scheme, lowercase, scheme_class}
 use Rattle.uv_model.specs.Setting.{setting_of}
 use Rattle.uv_model.specs.Records.Url.{Url}
 use Rattle.uv_model.specs.Valid.{FitsBase, FitsForm, FitsScheme, HasAuthority, MayBeUnits, Valid, scheme_in}
-use Rattle.uv_model.specs.Records.WellFormed.{AreUrlSegments, IsUrlHost, IsUrlPath, IsUrlPort, IsUrlQuery, IsUrlScheme, MayBeWellFormed, WellFormed}
+use Rattle.uv_model.specs.Records.WellFormed.{AreUrlSegments, IsUrlHost, IsUrlPath, IsUrlPort, IsUrlQuery}
+use Rattle.uv_model.specs.Records.WellFormed.{IsUrlScheme, MayBeWellFormed, WellFormed}
 use Rattle.uv_model.specs.Laws.Wholes.{DenotedRecordsAreWellFormed}
 use Rattle.uv_model.specs.Path.{IsPathAbsolute, IsPathRelative, is_drive_letter, is_normalized_drive_letter, shorten}
 use Rattle.uv_model.proofs.Cuts.AuthorityLemmas.{IsAuthority, IsAuthority-fits, IsUrlPath-authority, IsUrlPath-joined}
 use Rattle.uv_model.proofs.Paths.WalkLemmas.{AreUrlSegments-shorten}
-use Rattle.uv_model.proofs.SchemeLemmas.{default_port-lowercase, is_scheme-lowercase, no_uppercase-lowercase, scheme_class-lowercase}
+use Rattle.uv_model.proofs.SchemeLemmas.{default_port-lowercase, is_scheme-lowercase, no_uppercase-lowercase}
+use Rattle.uv_model.proofs.SchemeLemmas.{scheme_class-lowercase}
 use Rattle.uv_model.proofs.Hosts.StandardTexts.{standard_texts_are_wide}
 use Rattle.uv_model.proofs.Records.WellFormedLemmas.{IsUrlFragment-encoded, IsUrlOpaquePath-encoded, IsUrlQuery-encoded}
 

@@ -1,5 +1,6 @@
 -- Well-formed records: what the encoded parts of a valid text are.
-use Rattle.std.proofs.Common.{◌≡◌, ℕ, ◌<◌, Bool, true, false, not, List, [], ◌∷◌, Option, Some, None, refl, ap, ◌∙◌, ◌==◌}
+use Rattle.std.proofs.Common.{◌≡◌, ℕ, ◌<◌, Bool, true, false, not, List, [], ◌∷◌, Option, Some, None, refl, ap, ◌∙◌}
+use Rattle.std.proofs.Common.{◌==◌}
 use Rattle.std.specs.Prelude.{if◌then◌else◌, option_map}
 use Rattle.std.specs.Fmt.{digit_glyph}
 use Rattle.std.proofs.lemmas.Bool.{agree_below_at, false≢true}
@@ -12,14 +13,17 @@ use Rattle.uv_model.specs.Encoding.{encoded}
 use Rattle.uv_model.specs.Path.{IsSegment, is_double_dot, is_single_dot, is_without}
 use Rattle.uv_model.specs.Units.{IsUnits}
 use Rattle.uv_model.specs.Valid.{IsOpaquePath, MayBeUnits}
-use Rattle.uv_model.specs.Records.WellFormed.{IsAsciiUnits, IsUrlDomain, IsUrlFragment, IsUrlOpaqueHost, IsUrlOpaquePath, IsUrlQuery, IsUrlSegment}
+use Rattle.uv_model.specs.Records.WellFormed.{IsAsciiUnits, IsUrlDomain, IsUrlFragment, IsUrlOpaqueHost}
+use Rattle.uv_model.specs.Records.WellFormed.{IsUrlOpaquePath, IsUrlQuery, IsUrlSegment}
 use Rattle.uv_model.specs.declared.profile.Profile.{Profile}
 use Rattle.uv_model.specs.Hosts.Domain.{IsDomain, is_form_code_point, has_lengths}
 use Rattle.uv_model.specs.Hosts.OpaqueHost.{IsOpaqueHost, is_forbidden_host}
 use Rattle.uv_model.proofs.Paths.DotSegmentLemmas.{is_double_dot-encoded, is_single_dot-encoded}
 use Rattle.uv_model.proofs.Texts.UnitsLemmas.{IsUnits-nil}
 use Rattle.std.specs.List.{list_all}
-use Rattle.uv_model.proofs.Texts.EncodingLemmas.{IsUnits-encoded, encoded-some, is_ascii-encoded, no_apostrophe-encoded, passes-encoded_whole, starts_with_slash-encoded}
+use Rattle.uv_model.proofs.Texts.EncodingLemmas.{IsUnits-encoded, encoded-some, is_ascii-encoded}
+use Rattle.uv_model.proofs.Texts.EncodingLemmas.{no_apostrophe-encoded, passes-encoded_whole}
+use Rattle.uv_model.proofs.Texts.EncodingLemmas.{starts_with_slash-encoded}
 use Rattle.uv_model.proofs.Paths.PathLemmas.{IsUnits-join, no_question_mark-join}
 
 -- units encoded are ASCII units

@@ -1,5 +1,6 @@
 -- Texts of ASCII code points, whose bytes are their code points, and the bytes of the others.
-use Rattle.std.proofs.Common.{◌≡◌, ℕ, ◌≤◌, true, false, ◌==◌, length, List, [], ◌∷◌, ◌∙◌, refl, sym, inl, inr, arith, le-ltb, lt-ltb}
+use Rattle.std.proofs.Common.{◌≡◌, ℕ, ◌≤◌, true, false, ◌==◌, length, List, [], ◌∷◌, ◌∙◌, refl, sym, inl, inr, arith}
+use Rattle.std.proofs.Common.{le-ltb, lt-ltb}
 use Rattle.std.specs.List.{list_all}
 use Rattle.std.specs.Char.{encode_utf8, is_ascii}
 use Rattle.std.specs.Str.{IsAscii, IsUtf8, chars}

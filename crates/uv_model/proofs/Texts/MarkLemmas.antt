@@ -1,5 +1,6 @@
 -- Texts cut at a mark: what stands before the first one and what follows it.
-use Rattle.std.proofs.Common.{◌≡◌, ℕ, ◌+◌, suc, true, false, not, ◌==◌, List, [], ◌∷◌, ◌++◌, Option, Some, None, refl, sym, ap, ◌∙◌, inl, inr, arith, append-nil}
+use Rattle.std.proofs.Common.{◌≡◌, ℕ, ◌+◌, suc, true, false, not, ◌==◌, List, [], ◌∷◌, ◌++◌, Option, Some, None, refl}
+use Rattle.std.proofs.Common.{sym, ap, ◌∙◌, inl, inr, arith, append-nil}
 use Rattle.std.specs.Prelude.{if◌then◌else◌}
 use Rattle.std.specs.List.{after_first, position_or_len}
 use Rattle.std.proofs.lemmas.Bool.{false≢true, cases_Bool, and_parts, and_from, and_right, eqb-true, eq-eqb}

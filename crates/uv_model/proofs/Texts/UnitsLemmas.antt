@@ -1,5 +1,6 @@
 -- URL units: a concatenation of units is a text without a fault, and what each of its code points is.
-use Rattle.std.proofs.Common.{chars, encode_utf8_all, le-ltb, ◌≡◌, ◌≢◌, ℕ, ◌≤◌, true, false, ◌&&◌, ◌==◌, List, [], ◌∷◌, ◌++◌, refl, sym, ap, ◌∙◌, inl, inr, arith, lt-ltb}
+use Rattle.std.proofs.Common.{chars, encode_utf8_all, le-ltb, ◌≡◌, ◌≢◌, ℕ, ◌≤◌, true, false, ◌&&◌, ◌==◌, List, []}
+use Rattle.std.proofs.Common.{◌∷◌, ◌++◌, refl, sym, ap, ◌∙◌, inl, inr, arith, lt-ltb}
 use Rattle.std.specs.List.{concat, list_all}
 use Rattle.std.specs.Char.{encode_utf8, is_ascii_hexdigit}
 use Rattle.std.specs.Str.{IsUtf8}

@@ -1,5 +1,6 @@
 -- Devices that play a list of answers: how they answer a call, and what is left of their list.
-use Rattle.std.specs.Prelude.{◌≡◌, ℕ, Bool, false, List, [], ◌∷◌, ◌++◌, ◌==◌, drop, length, min, Result, Ok, Err, IsErr, Option, Some, None}
+use Rattle.std.specs.Prelude.{◌≡◌, ℕ, Bool, false, List, [], ◌∷◌, ◌++◌, ◌==◌, drop, length, min, Result, Ok, Err}
+use Rattle.std.specs.Prelude.{IsErr, Option, Some, None}
 use Rattle.std.specs.Borrow.{Bor}
 
 -- A source that plays answers: a piece of bytes each, or none for a failure.

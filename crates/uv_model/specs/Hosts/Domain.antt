@@ -1,6 +1,8 @@
 -- Valid domains and the number rule of their last label, after the URL Standard, sections 3.3 to 3.5, and UTS #46,
 -- section 4. A text is a list of code points; the words of UTS #46 are over its UTF-8 bytes.
-use Rattle.std.specs.Prelude.{◌≡◌, ℕ, ◌-◌, Bool, true, false, not, ◌&&◌, ◌||◌, ◌==◌, nat_eq, nat_lt, List, length, take, drop, slice_index, codes, encode_utf8_all, All, Option, Some, IsSome, if◌then◌else◌}
+use Rattle.std.specs.Prelude.{◌≡◌, ℕ, ◌-◌, Bool, true, false, not, ◌&&◌, ◌||◌, ◌==◌, nat_eq, nat_lt, List, length}
+use Rattle.std.specs.Prelude.{take, drop, slice_index, codes, encode_utf8_all, All, Option, Some, IsSome}
+use Rattle.std.specs.Prelude.{if◌then◌else◌}
 use Rattle.std.specs.Int.{is_in_range}
 use Rattle.std.specs.List.{list_all, starts_with, after_last}
 use Rattle.std.specs.Char.{is_ascii, is_ascii_alphanumeric, is_ascii_digit, is_ascii_lowercase, is_ascii_hexdigit}

@@ -4,7 +4,9 @@ use Rattle.uv_model.specs.declared.host.Host.TheVariants.{Empty}
 use Rattle.uv_model.specs.declared.host.Host.TheVariants as host
 use Rattle.uv_model.specs.declared.path.UrlPath.TheVariants.{Opaque, Segments}
 use Rattle.uv_model.specs.declared.profile.Profile.TheVariants.{Standard}
-use Rattle.uv_model.specs.declared.rule.Rule.TheVariants.{NoScheme, OpaqueBase, TwoSlashes, HostMissing, HostCodePoint, PortDigit, PortRange, FirstSegmentEmpty, DriveAfterHost, CodePoint, Percent}
+use Rattle.uv_model.specs.declared.rule.Rule.TheVariants.{NoScheme, OpaqueBase, TwoSlashes, HostMissing}
+use Rattle.uv_model.specs.declared.rule.Rule.TheVariants.{HostCodePoint, PortDigit, PortRange, FirstSegmentEmpty}
+use Rattle.uv_model.specs.declared.rule.Rule.TheVariants.{DriveAfterHost, CodePoint, Percent}
 use Rattle.uv_model.specs.Complaints.Complaint.{Complaint}
 use Rattle.uv_model.specs.Cut.{Cut, cut_of}
 use Rattle.uv_model.specs.Records.Url.{Url}

@@ -16,7 +16,8 @@ use Rattle.uv_model.specs.Scheme.{scheme_class}
 use Rattle.uv_model.specs.Records.Serialize.{serial}
 use Rattle.uv_model.specs.Records.Url.{Url}
 use Rattle.uv_model.specs.Valid.{Valid}
-use Rattle.uv_model.specs.Records.WellFormed.{IsUrlFragment, IsUrlOpaqueHost, IsUrlPath, IsUrlPort, IsUrlQuery, IsUrlScheme, MayBeWellFormed, WellFormed}
+use Rattle.uv_model.specs.Records.WellFormed.{IsUrlFragment, IsUrlOpaqueHost, IsUrlPath, IsUrlPort, IsUrlQuery}
+use Rattle.uv_model.specs.Records.WellFormed.{IsUrlScheme, MayBeWellFormed, WellFormed}
 
 -- The host is an address of the right size, a domain of which the host parser makes that domain, or of another kind.
 -- A domain whose label begins with `xn--` before what is no Punycode isn't such a host: ToASCII fails on it.

@@ -6,10 +6,13 @@ use Rattle.uv_model.specs.declared.host.Host.{Host}
 use Rattle.uv_model.specs.declared.scheme.Class.{Class}
 use Rattle.uv_model.specs.declared.scheme.Class.TheVariants.{Special, File, Other}
 use Rattle.uv_model.specs.Records.Denote.{denote}
-use Rattle.uv_model.specs.Parts.{Form, SchemeAuthority, SchemePath, SchemeOpaque, Authority, PathAbsolute, PathRelative, NoPath, Parts, written}
+use Rattle.uv_model.specs.Parts.{Form, SchemeAuthority, SchemePath, SchemeOpaque, Authority, PathAbsolute}
+use Rattle.uv_model.specs.Parts.{PathRelative, NoPath, Parts, written}
 use Rattle.uv_model.specs.Path.{shorten, walk}
-use Rattle.uv_parser.specs.Rows.{Answer, Agree, answer_of, is_done, listed, opaque, with_query, with_fragment, domain, ipv4, ipv6, opaque_host, empty_host}
-use Rattle.uv_parser.specs.Rows.References.{http_base, port_base, drive_base, file_host_base, urn_base, other_base, other_host_base}
+use Rattle.uv_parser.specs.Rows.{Answer, Agree, answer_of, is_done, listed, opaque, with_query, with_fragment, domain}
+use Rattle.uv_parser.specs.Rows.{ipv4, ipv6, opaque_host, empty_host}
+use Rattle.uv_parser.specs.Rows.References.{http_base, port_base, drive_base, file_host_base, urn_base, other_base}
+use Rattle.uv_parser.specs.Rows.References.{other_host_base}
 use Rattle.uv_parser.specs.Run.{run, step_bound}
 use Rattle.uv_model.specs.Records.Serialize.{serial}
 use Rattle.uv_model.specs.Records.Url.{Url}

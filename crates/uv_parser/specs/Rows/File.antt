@@ -1,6 +1,7 @@
 -- Runs on texts with the scheme file (URL Standard, sections 4.2 to 4.4), without a base.
 use Rattle.std.specs.Prelude.{List, [], ◌∷◌, None}
-use Rattle.uv_parser.specs.Rows.{Row, AllHold, done, stops, listed, with_query, with_fragment, domain, ipv4, ipv6, empty_host}
+use Rattle.uv_parser.specs.Rows.{Row, AllHold, done, stops, listed, with_query, with_fragment, domain, ipv4, ipv6}
+use Rattle.uv_parser.specs.Rows.{empty_host}
 
 -- the host of a file URL, where `localhost` is the empty one, and a drive letter is none
 abbrev pub host_rows : List Row

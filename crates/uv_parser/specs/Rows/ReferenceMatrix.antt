@@ -7,8 +7,10 @@ use Rattle.uv_model.specs.declared.profile.Profile.TheVariants.{Standard}
 use Rattle.uv_model.specs.declared.rule.Rule.{Rule}
 use Rattle.uv_model.specs.declared.rule.Rule.TheVariants.{OpaqueBase, DriveAfterHost}
 use Rattle.uv_model.specs.Complaints.Complaint.{Complaint}
-use Rattle.uv_parser.specs.Rows.{Row, AllHold, done, stops, against, listed, opaque, with_query, with_fragment, domain, opaque_host, empty_host}
-use Rattle.uv_parser.specs.Rows.References.{http_base, root_base, drive_base, file_host_base, other_host_base, urn_base, opaque_base}
+use Rattle.uv_parser.specs.Rows.{Row, AllHold, done, stops, against, listed, opaque, with_query, with_fragment}
+use Rattle.uv_parser.specs.Rows.{domain, opaque_host, empty_host}
+use Rattle.uv_parser.specs.Rows.References.{http_base, root_base, drive_base, file_host_base, other_host_base}
+use Rattle.uv_parser.specs.Rows.References.{urn_base, opaque_base}
 use Rattle.uv_model.specs.Records.Url.{Url}
 
 -- ---- URLs of three schemes, without port, query and fragment

@@ -1,6 +1,7 @@
 -- Runs against a base (URL Standard, section 4.4): texts without a scheme, and texts with the base's own.
 use Rattle.std.specs.Prelude.{List, [], ◌∷◌, Some, None}
-use Rattle.uv_parser.specs.Rows.{Row, AllHold, done, stops, in_steps, against, listed, opaque, with_query, with_fragment, domain, opaque_host, empty_host}
+use Rattle.uv_parser.specs.Rows.{Row, AllHold, done, stops, in_steps, against, listed, opaque, with_query}
+use Rattle.uv_parser.specs.Rows.{with_fragment, domain, opaque_host, empty_host}
 use Rattle.uv_model.specs.Records.Url.{Url}
 
 -- `http://h/a/b?q`

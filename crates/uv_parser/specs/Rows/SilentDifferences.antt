@@ -5,8 +5,10 @@ use Rattle.uv_model.specs.declared.profile.Profile.TheVariants.{Standard}
 use Rattle.uv_parser.specs.SilentTexts.{Silent}
 use Rattle.uv_model.specs.Parts.{Parts}
 use Rattle.uv_parser.specs.Rows.{Row}
-use Rattle.uv_parser.specs.Rows.SilentRefusals.{file_rows, host_rows, domain_rows, number_rows, segment_rows, drive_rows}
-use Rattle.uv_parser.specs.Laws.Differences.{HasDriveBehindHost, HasEmptyAuthority, HasEmptyFirstSegment, HasForeignHost}
+use Rattle.uv_parser.specs.Rows.SilentRefusals.{file_rows, host_rows, domain_rows, number_rows, segment_rows}
+use Rattle.uv_parser.specs.Rows.SilentRefusals.{drive_rows}
+use Rattle.uv_parser.specs.Laws.Differences.{HasDriveBehindHost, HasEmptyAuthority, HasEmptyFirstSegment}
+use Rattle.uv_parser.specs.Laws.Differences.{HasForeignHost}
 use Rattle.uv_model.specs.Records.Url.{Url}
 use Rattle.uv_model.specs.Valid.{Valid}
 

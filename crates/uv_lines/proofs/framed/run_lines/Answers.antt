@@ -4,7 +4,8 @@ use Rattle.std.proofs.KnownBytes.{Consumes-nil}
 use Rattle.std.specs.Io.KnownBytes.{Consumes, IsAtEnd}
 use Rattle.uv_lines.specs.Reported.{Reported}
 use Rattle.uv_lines.specs.Framed.{Framed}
-use Rattle.uv_lines.proofs.FramedLemmas.{Fails, begin_cut, ended, ended_err, ended_ok, fails, fails_err, fails_ok, may_go_on, ran, stops}
+use Rattle.uv_lines.proofs.FramedLemmas.{Fails, begin_cut, ended, ended_err, ended_ok, fails, fails_err, fails_ok}
+use Rattle.uv_lines.proofs.FramedLemmas.{may_go_on, ran, stops}
 use Rattle.uv_lines.proofs.framed.run_lines.Goals as goal
 
 pub write_whole-requires : goal.write_whole-requires

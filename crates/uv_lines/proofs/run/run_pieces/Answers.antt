@@ -1,10 +1,12 @@
 -- Each piece of a list, its end, and each fault.
-use Rattle.std.proofs.Common.{◌≡◌, ◌+◌, ◌<◌, ◌++◌, ◌∙◌, ℕ, List, [], Option, Ok, Err, IfErr, OnOk, length, take, arith, refl, sym, ap, add-zero, length-append}
+use Rattle.std.proofs.Common.{◌≡◌, ◌+◌, ◌<◌, ◌++◌, ◌∙◌, ℕ, List, [], Option, Ok, Err, IfErr, OnOk, length, take}
+use Rattle.std.proofs.Common.{arith, refl, sym, ap, add-zero, length-append}
 use Rattle.std.proofs.KnownBytes.{Consumes-nil, Consumes-kept, Consumes-trans}
 use Rattle.std.specs.Io.KnownBytes.{Consumes, IsAtEnd}
 use Rattle.uv_lines.specs.Reported.{Reported}
 use Rattle.uv_lines.specs.Run.{At, FinishFault, Leaves, PassFault, WroteAll, reads_failed, writes_failed}
-use Rattle.uv_lines.proofs.PassLemmas.{At-start, at_first, read_end, pass_to_run, finish_to_run, passing_reads, finishing_reads}
+use Rattle.uv_lines.proofs.PassLemmas.{At-start, at_first, read_end, pass_to_run, finish_to_run, passing_reads}
+use Rattle.uv_lines.proofs.PassLemmas.{finishing_reads}
 use Rattle.uv_lines.proofs.run.run_pieces.Goals as goal
 
 pub loop-turn-init : goal.loop-turn-init

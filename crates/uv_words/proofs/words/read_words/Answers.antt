@@ -2,7 +2,8 @@
 -- of memory.
 use Rattle.std.proofs.Common.{ap, refl, ◌≡◌, ◌∙◌, true, map, List, inl, inr}
 use Rattle.std.proofs.Common.{subst, sym}
-use Rattle.clap.specs.Words.{Text, HasKind, IsAmong, fault_of, is_simple, is_simple_and_free, kind_of, subcommand_of, takes}
+use Rattle.clap.specs.Words.{Text, HasKind, IsAmong, fault_of, is_simple, is_simple_and_free, kind_of, subcommand_of}
+use Rattle.clap.specs.Words.{takes}
 use Rattle.clap.specs.declared.error.Error.{Error}
 use Rattle.clap.proofs.OnLiterals.{clap_on_literals}
 use Rattle.uv_words.specs.declared.words.WordsFault.{WordsFault}

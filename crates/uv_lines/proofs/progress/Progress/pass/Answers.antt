@@ -1,8 +1,10 @@
 -- What was gathered of a piece, written.
-use Rattle.std.proofs.Common.{◌≡◌, ◌+◌, ◌++◌, ◌∙◌, ℕ, List, Option, true, false, Ok, Err, IfErr, OnOk, sym, ap, subst, add-zero}
+use Rattle.std.proofs.Common.{◌≡◌, ◌+◌, ◌++◌, ◌∙◌, ℕ, List, Option, true, false, Ok, Err, IfErr, OnOk, sym, ap, subst}
+use Rattle.std.proofs.Common.{add-zero}
 use Rattle.uv_lines.specs.Fault.{is_write, may_write}
 use Rattle.uv_lines.specs.Run.{WaitFault, Waits}
-use Rattle.uv_lines.proofs.PassLemmas.{Taken, Waits-written, no_write, pass-left, quiet_writes, taken_cut, taken_waits, write-left}
+use Rattle.uv_lines.proofs.PassLemmas.{Taken, Waits-written, no_write, pass-left, quiet_writes, taken_cut}
+use Rattle.uv_lines.proofs.PassLemmas.{taken_waits, write-left}
 use Rattle.uv_lines.proofs.progress.Progress.pass.Goals as goal
 
 pub returns-then-not-may_write-clause-fault : goal.returns-then-not-may_write-clause-fault
