@@ -1,8 +1,10 @@
-"""A server of some folders and a headless Chromium, for the runs of the page."""
+"""A server of some folders, a headless Chromium, and the page in it, for the runs of the page."""
 
 import functools
 import http.server
 import threading
+import time
+import urllib.parse
 
 from selenium import webdriver
 from selenium.webdriver.chrome.options import Options
@@ -67,3 +69,67 @@ def shown_as(browser, width, height, scheme="light"):
     browser.execute_cdp_cmd("Emulation.setDeviceMetricsOverride", size)
     colours = {"features": [{"name": "prefers-color-scheme", "value": scheme}]}
     browser.execute_cdp_cmd("Emulation.setEmulatedMedia", colours)
+
+
+class Page:
+    """The page, and what is seen of it."""
+
+    def __init__(self, browser, address):
+        self.browser = browser
+        self.address = address
+
+    def open(self, **state):
+        self.browser.get("about:blank")
+        self.browser.get(self.address + ("#" + urllib.parse.urlencode(state) if state else ""))
+        self.wait(lambda: self.run("return performance.getEntriesByName('urlcheck-first-answer').length"))
+
+    def wait(self, done, seconds=30):
+        end = time.time() + seconds
+        while not done():
+            if time.time() > end:
+                raise AssertionError("the page doesn't come to an end: " + self.text("main")[:300])
+            time.sleep(0.02)
+
+    def run(self, script, *words):
+        return self.browser.execute_script(script, *words)
+
+    def text(self, selector):
+        return self.run("return document.querySelector(arguments[0])?.innerText ?? ''", selector)
+
+    def verdict(self, within="#text-output"):
+        """The word of the verdict, and what follows it."""
+        return self.run(
+            "const line = document.querySelector(arguments[0] + ' .verdict');"
+            "return line && [line.querySelector('strong')?.textContent ?? line.textContent,"
+            " line.querySelector('.rest')?.textContent ?? '']",
+            within,
+        )
+
+    def fill(self, name, text):
+        """Sets a field at once, as a paste does."""
+        self.run(
+            "const field = document.getElementById(arguments[0]); field.value = arguments[1];"
+            "field.dispatchEvent(new Event('input', { bubbles: true }))",
+            name,
+            text,
+        )
+
+    def drop(self, name, data):
+        """Drops a file with this name, whose bytes the server has at this path."""
+        self.browser.execute_async_script(
+            "const done = arguments[2]; fetch(arguments[1]).then(answer => answer.blob()).then(blob => {"
+            "const files = new DataTransfer(); files.items.add(new File([blob], arguments[0]));"
+            "const drop = { bubbles: true, cancelable: true, dataTransfer: files };"
+            "document.body.dispatchEvent(new DragEvent('drop', drop)); done() })",
+            name,
+            data,
+        )
+
+    def report_ended(self):
+        return bool(self.verdict("#report")) and not self.run("return !!document.querySelector('#report progress')")
+
+
+def holds(what, *more):
+    """Stops the test where something doesn't hold."""
+    if not what:
+        raise AssertionError(" ".join(str(it) for it in more) or "it doesn't hold")

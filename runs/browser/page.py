@@ -16,9 +16,8 @@ import subprocess
 import sys
 import tempfile
 import time
-import urllib.parse
 
-from driver import served, shown_as, started
+from driver import Page, holds, served, shown_as, started
 from selenium.webdriver.common.by import By
 from selenium.webdriver.common.keys import Keys
 
@@ -29,70 +28,6 @@ LONGEST_PAUSE = 500
 FIRST_ANSWER = 300
 # What would run where a text were read as markup.
 MARKUP = '"><img src=x onerror="window.hacked=1"><script>window.hacked=1</script>\u202e\u2066\u05d0'
-
-
-class Page:
-    """The page, and what is seen of it."""
-
-    def __init__(self, browser, address):
-        self.browser = browser
-        self.address = address
-
-    def open(self, **state):
-        self.browser.get("about:blank")
-        self.browser.get(self.address + ("#" + urllib.parse.urlencode(state) if state else ""))
-        self.wait(lambda: self.run("return performance.getEntriesByName('urlcheck-first-answer').length"))
-
-    def wait(self, done, seconds=30):
-        end = time.time() + seconds
-        while not done():
-            if time.time() > end:
-                raise AssertionError("the page doesn't come to an end: " + self.text("main")[:300])
-            time.sleep(0.02)
-
-    def run(self, script, *words):
-        return self.browser.execute_script(script, *words)
-
-    def text(self, selector):
-        return self.run("return document.querySelector(arguments[0])?.innerText ?? ''", selector)
-
-    def verdict(self, within="#text-output"):
-        """The word of the verdict, and what follows it."""
-        return self.run(
-            "const line = document.querySelector(arguments[0] + ' .verdict');"
-            "return line && [line.querySelector('strong')?.textContent ?? line.textContent,"
-            " line.querySelector('.rest')?.textContent ?? '']",
-            within,
-        )
-
-    def fill(self, name, text):
-        """Sets a field at once, as a paste does."""
-        self.run(
-            "const field = document.getElementById(arguments[0]); field.value = arguments[1];"
-            "field.dispatchEvent(new Event('input', { bubbles: true }))",
-            name,
-            text,
-        )
-
-    def drop(self, name, data):
-        """Drops a file with this name, whose bytes the server has at this path."""
-        self.browser.execute_async_script(
-            "const done = arguments[2]; fetch(arguments[1]).then(answer => answer.blob()).then(blob => {"
-            "const files = new DataTransfer(); files.items.add(new File([blob], arguments[0]));"
-            "const drop = { bubbles: true, cancelable: true, dataTransfer: files };"
-            "document.body.dispatchEvent(new DragEvent('drop', drop)); done() })",
-            name,
-            data,
-        )
-
-    def report_ended(self):
-        return bool(self.verdict("#report")) and not self.run("return !!document.querySelector('#report progress')")
-
-
-def holds(what, *more):
-    """Stops the test where something doesn't hold."""
-    if not what:
-        raise AssertionError(" ".join(str(it) for it in more) or "it doesn't hold")
 
 
 def first_answer(page, room):
@@ -362,27 +297,6 @@ def the_address(page, room):
     return address.partition("#")[2]
 
 
-CONTRAST = """
-const light = c => { const part = c.map(v => (v /= 255) <= 0.04045 ? v / 12.92 : ((v + 0.055) / 1.055) ** 2.4);
-  return 0.2126 * part[0] + 0.7152 * part[1] + 0.0722 * part[2] }
-const canvas = document.createElement('canvas').getContext('2d', { willReadFrequently: true })
-const over = (colour, below) => { canvas.fillStyle = `rgb(${below})`; canvas.fillRect(0, 0, 1, 1)
-  canvas.fillStyle = colour; canvas.fillRect(0, 0, 1, 1); return [...canvas.getImageData(0, 0, 1, 1).data].slice(0, 3) }
-const white = [255, 255, 255]
-const ground = it => over(getComputedStyle(it).backgroundColor, it.parentElement ? ground(it.parentElement) : white)
-const found = []
-for (const it of document.body.querySelectorAll('*')) {
-  if (![...it.childNodes].some(node => node.nodeType === 3 && node.data.trim())) continue
-  if (!it.getClientRects().length || it.localName === 'option' || it.localName === 'noscript') continue
-  const below = ground(it)
-  const [one, other] = [light(over(getComputedStyle(it).color, below)), light(below)].sort((a, b) => b - a)
-  const ratio = (one + 0.05) / (other + 0.05)
-  if (ratio < 4.5) found.push(`${it.localName}.${it.className} ${ratio.toFixed(2)} ${it.textContent.slice(0, 30)}`)
-}
-return found
-"""
-
-
 def looks(page, room):
     """No text with little contrast, and nothing wider than the window, in three widths and both colours."""
     with open(os.path.join(room.path, "few.txt"), "w", encoding="utf-8") as out:
@@ -404,7 +318,8 @@ def looks(page, room):
 def check_look(page, width, scheme):
     wide = page.run("return document.documentElement.scrollWidth")
     holds(wide <= width, "at {} the page is {} wide".format(width, wide))
-    poor = page.run(CONTRAST)
+    with open(os.path.join(HERE, "contrast.js"), encoding="utf-8") as script:
+        poor = page.run(script.read())
     holds(not poor, width, scheme, poor[:5])
 
 
