@@ -15,7 +15,11 @@
 END {
     print "# Completions of urlcheck for bash, made by make-manual."
     print "_urlcheck() {"
-    print "    local word=${COMP_WORDS[COMP_CWORD]} previous=${COMP_WORDS[COMP_CWORD - 1]} command= words= is_value= i"
+    print "    local word=${COMP_WORDS[COMP_CWORD]} previous=${COMP_WORDS[COMP_CWORD - 1]} command= words= is_value= option= i"
+    print "    # A value behind `=` is a word of its own, or with COMP_WORDBREAKS changed a part of the option."
+    print "    if [[ $word == = ]]; then word="
+    print "    elif [[ $previous == = ]]; then previous=${COMP_WORDS[COMP_CWORD - 2]}"
+    print "    elif [[ $word == --*=* ]]; then previous=${word%%=*} option=$previous= word=${word#*=}; fi"
     print "    for ((i = 1; i < COMP_CWORD; i++)); do"
     print "        if [[ ${COMP_WORDS[i]} != -* ]]; then command=${COMP_WORDS[i]}; break; fi"
     print "    done"
@@ -31,7 +35,7 @@ END {
     }
     print "            esac ;;"
     print "    esac"
-    print "    mapfile -t COMPREPLY < <(compgen -W \"$words\" -- \"$word\")"
+    print "    mapfile -t COMPREPLY < <(compgen -P \"$option\" -W \"$words\" -- \"$word\")"
     for (i = 1; i <= count; i++) if (order[i] in takes_files) files = files (files == "" ? "" : " | ") order[i]
     print "    case $is_value$command in"
     printf "        %s)\n", files

@@ -1,4 +1,4 @@
-# The manual page, from the help of the program and then of each of its commands. Variable: version.
+# The manual page, from the help of the program and then of each of its commands. Variables: version, day.
 
 # a text as roff reads it
 function roff(text) {
@@ -6,6 +6,19 @@ function roff(text) {
     gsub(/-/, "\\-", text)
     sub(/^[.']/, "\\\\\\&&", text)
     return text
+}
+
+# a text as roff reads it, in lines of at most 78 columns
+function lines_of(text,    words, count, i, line, all) {
+    count = split(text, words, " ")
+    for (i = 1; i <= count; i++) {
+        if (line != "" && length(roff(line " " words[i])) > 78) {
+            all = all roff(line) "\n"
+            line = ""
+        }
+        line = line (line == "" ? "" : " ") words[i]
+    }
+    return all roff(line)
 }
 
 # Prints lines of the page. What the program's help says behind its options comes behind the commands.
@@ -22,10 +35,10 @@ function say_entry(text,    item, meaning) {
         item = substr(text, 1, RSTART - 1)
         meaning = substr(text, RSTART + RLENGTH)
     }
-    say(".TP\n.B " roff(item) (meaning == "" ? "" : "\n" roff(meaning)))
+    say(".TP\n.B " roff(item) (meaning == "" ? "" : "\n" lines_of(meaning)))
 }
 
-BEGIN { printf ".TH URLCHECK 1 \"\" \"%s\" \"User Commands\"\n", version }
+BEGIN { printf ".TH URLCHECK 1 \"%s\" \"%s\" \"User Commands\"\n", day, version }
 
 FNR == 1 {
     if (NR != 1 && is_program) print ".SH COMMANDS"
@@ -39,7 +52,7 @@ FNR == 1 {
 
 /^Usage: / {
     if (is_program) say(".SH SYNOPSIS\n.B " roff(substr($0, 8)))
-    else say(".SS \"" roff(substr($0, 8)) "\"\n" roff(about) ".")
+    else say(".SS \"" roff(substr($0, 8)) "\"\n" lines_of(about "."))
     next
 }
 
@@ -59,14 +72,14 @@ section == "Commands" { next }
 /^ / {
     if (section == "Example") {
         sub(/^ +/, "")
-        say(".PP\n.RS 4\n.nf\n" roff($0) "\n.fi\n.RE")
+        say((is_program ? "" : ".PP\n") ".RS 4\n.nf\n" roff($0) "\n.fi\n.RE")
     } else say_entry($0)
     is_paragraph = 0
     next
 }
 
 {
-    say((is_paragraph ? ".PP\n" : "") roff($0))
+    say((is_paragraph ? ".PP\n" : "") lines_of($0))
     is_paragraph = 0
 }
 

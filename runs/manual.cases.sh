@@ -34,6 +34,9 @@ reads() {
     [ ! -s "$room/err" ] || fail "$*: $(cat "$room/err")"
 }
 reads groff -ww -man -Tutf8 "$top/man/urlcheck.1"
+reads mandoc -T lint -W style "$top/man/urlcheck.1"
+reads mandoc -T lint -W style "$top/man/urlcheck-documents.1"
+reads groff -ww -man -Tutf8 "$top/man/urlcheck-documents.1"
 reads bash -n "$top/completions/urlcheck.bash"
 reads zsh -n "$top/completions/_urlcheck"
 reads fish -n "$top/completions/urlcheck.fish"
@@ -57,6 +60,9 @@ completes 'port-digit port-range percent' explain p
 completes 'made' vectors ma
 completes 'explain' help ex
 completes 'sarif' lint --format sa
+completes 'sarif' lint --format = sa
+completes 'gnu caret json github sarif checkstyle' lint --format =
+completes '--format=sarif' lint --format=sa
 completes '' lint --base ma
 completes '--quiet' lint --q
-all_cases 21
+all_cases 27

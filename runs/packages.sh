@@ -59,7 +59,9 @@ echo x >"$room/links"
 told=$(python3 -c 'import json, sys; print(json.load(sys.stdin)["runs"][0]["tool"]["driver"]["version"])' \
     <"$room/report")
 [ "$told" = "$version" ] || fail "SARIF says that the version is $told"
-grep -qF "urlcheck $version" man/urlcheck.1 || fail "man/urlcheck.1 has another version than VERSION"
+for page in urlcheck.1 urlcheck-documents.1; do
+    grep -qF "urlcheck $version" man/$page || fail "man/$page has another version than VERSION"
+done
 grep -qF "rev: v$version " docs/USES.md || fail "docs/USES.md names another tag than VERSION"
 grep -qE "^## $version - [0-9]{4}-[0-9]{2}-[0-9]{2}$" CHANGELOG.md ||
     fail "CHANGELOG.md has no '## $version - ' with its day"
