@@ -1,6 +1,10 @@
 # Completions of urlcheck for bash, made by make-manual.
 _urlcheck() {
-    local word=${COMP_WORDS[COMP_CWORD]} previous=${COMP_WORDS[COMP_CWORD - 1]} command= words= is_value= i
+    local word=${COMP_WORDS[COMP_CWORD]} previous=${COMP_WORDS[COMP_CWORD - 1]} command= words= is_value= option= i
+    # A value behind `=` is a word of its own, or with COMP_WORDBREAKS changed a part of the option.
+    if [[ $word == = ]]; then word=
+    elif [[ $previous == = ]]; then previous=${COMP_WORDS[COMP_CWORD - 2]}
+    elif [[ $word == --*=* ]]; then previous=${word%%=*} option=$previous= word=${word#*=}; fi
     for ((i = 1; i < COMP_CWORD; i++)); do
         if [[ ${COMP_WORDS[i]} != -* ]]; then command=${COMP_WORDS[i]}; break; fi
     done
@@ -23,7 +27,7 @@ _urlcheck() {
                 help) words='check lint links vectors explain help' ;;
             esac ;;
     esac
-    mapfile -t COMPREPLY < <(compgen -W "$words" -- "$word")
+    mapfile -t COMPREPLY < <(compgen -P "$option" -W "$words" -- "$word")
     case $is_value$command in
         lint | vectors)
             compopt -o filenames
