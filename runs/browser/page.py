@@ -148,12 +148,14 @@ def large_texts(page, room):
 
 
 def lint(room, path, *words):
-    """What `urlcheck lint` writes of a file, and its last line."""
+    """What `urlcheck lint` writes of a file, and its counts."""
     name = os.path.basename(path)
     ended = subprocess.run(
         [room.program, "lint", *words, name], cwd=os.path.dirname(path), capture_output=True, check=False
     )
-    return ended.stdout.decode(), ended.stderr.decode().strip()
+    told, prefix = ended.stderr.decode().strip(), "urlcheck: "
+    holds(told.startswith(prefix), told)
+    return ended.stdout.decode(), told[len(prefix) :]
 
 
 def kept(page, format):
