@@ -28,7 +28,7 @@ version=$(cat VERSION)
 library=${LIBRARY:-$room/library}
 [ -n "${LIBRARY:-}" ] || quietly ./build-library "$library"
 root=$room/root
-prefix=/opt/urlcheck
+prefix=/any/prefix
 at=$root$prefix
 export DESTDIR=$root PROGRAM=$program LIBRARY=$library
 quietly ./install $prefix

@@ -200,8 +200,8 @@ fi
 # Documents: each kind, a wrong link in each, a document that is cut, one without links, a link over two lines.
 in_folder documents
 recipe 'A sitemap or a feed' bash >recipe.sh
-# document STATUS TEXT [LINE..] : the recipe over a document of this text ends so, and says this
-document() {
+# feed STATUS TEXT [LINE..] : the recipe over a document of this text ends so, and says this
+feed() {
     local wanted=$1
     printf '%b' "$2" >feed.xml
     ends "$wanted" "the document $2" bash recipe.sh
@@ -210,21 +210,21 @@ document() {
 rss='<rss version="2.0"><channel><link>https://a.example/</link><item><link>'
 atom='<feed xmlns="http://www.w3.org/2005/Atom"><link rel="self" href="/feed.xml"/><entry><link href="'
 map='<urlset xmlns="http://www.sitemaps.org/schemas/sitemap/0.9"><url><loc>\n  '
-document 0 "$rss/b</link></item></channel></rss>" '1 ok https://a.example/' '2 ok https://example.com/b' \
+feed 0 "$rss/b</link></item></channel></rss>" '1 ok https://a.example/' '2 ok https://example.com/b' \
     'links 2 ok 2 bad 0 differs 0'
-document 1 "$rss/b c</link></item></channel></rss>" '1 ok https://a.example/' '2 bad 2 code-point' \
+feed 1 "$rss/b c</link></item></channel></rss>" '1 ok https://a.example/' '2 bad 2 code-point' \
     'links 2 ok 1 bad 1 differs 0'
-document 1 "$rss/b\\nhttp://c/</link></item></channel></rss>"
-document 0 "$rss\\u00a0/b</link></item></channel></rss>" '1 ok https://a.example/' '2 ok https://example.com/%C2%A0/b' \
+feed 1 "$rss/b\\nhttp://c/</link></item></channel></rss>"
+feed 0 "$rss\\u00a0/b</link></item></channel></rss>" '1 ok https://a.example/' '2 ok https://example.com/%C2%A0/b' \
     'links 2 ok 2 bad 0 differs 0'
-document 0 "$atom./b\"/></entry></feed>" '1 ok https://example.com/feed.xml' '2 ok https://example.com/b' \
+feed 0 "$atom./b\"/></entry></feed>" '1 ok https://example.com/feed.xml' '2 ok https://example.com/b' \
     'links 2 ok 2 bad 0 differs 0'
-document 1 "$atom./b|\"/></entry></feed>"
-document 0 "${map}https://example.com/a\\n</loc></url></urlset>" '1 ok https://example.com/a' 'links 1 ok 1 bad 0 differs 0'
-document 1 "${map}https://example.com/[]\\n</loc></url></urlset>"
-document any "${map}https://example.com/a</loc></url>"
-document any 'no document'
-document any '<rss version="2.0"><channel><title>none</title></channel></rss>'
+feed 1 "$atom./b|\"/></entry></feed>"
+feed 0 "${map}https://example.com/a\\n</loc></url></urlset>" '1 ok https://example.com/a' 'links 1 ok 1 bad 0 differs 0'
+feed 1 "${map}https://example.com/[]\\n</loc></url></urlset>"
+feed any "${map}https://example.com/a</loc></url>"
+feed any 'no document'
+feed any '<rss version="2.0"><channel><title>none</title></channel></rss>'
 sed_line=$(sed -n "s/.*GNU \`\(sed [^\`]*\)\`.*/\1/p" "$page")
 [ -n "$sed_line" ] || { echo 'FAILED: docs/USES.md has no line for the byte order mark'; failed=1; }
 printf '\357\273\277https://example.com/\n' >marked
