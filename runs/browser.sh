@@ -4,16 +4,9 @@
 # copies are found. What isn't installed is left out, and a line says so. A folder that ./build-page has made may be
 # given second; else one is made. Words of the environment: QUICK leaves out the browser and the spoiled copies, GLUE
 # compiles and tries copies with a spoiled glue too, and PICTURE is a file for the picture of the page.
-set -euo pipefail
-program=$(realpath "$1")
-top=$(dirname "$(dirname "$(realpath "$0")")")
+. "$(dirname "$(realpath "$0")")/start.sh"
 here=$top/runs/browser
-room=$(mktemp -d)
-trap 'rm -rf "$room"' EXIT
-
-for tool in node python3 wasm-opt; do
-    command -v "$tool" >/dev/null || { echo "browser: left out, since $tool isn't installed"; exit 0; }
-done
+needs browser node python3 wasm-opt
 [ "$(node -p 'process.versions.node.split(".")[0] >= 18')" = true ] ||
     { echo "browser: left out, since node is older than 18"; exit 0; }
 folder=${2:-$room/page}

@@ -2,16 +2,9 @@
 # Runs the library for C over every file of vectors, from C, C++ and Python, and compares with the program given as the
 # first argument; then four threads, each allocation refused in turn, and a text of 100 MB. What isn't installed is left
 # out, and a line says so.
-set -euo pipefail
-program=$(realpath "$1")
-top=$(dirname "$(dirname "$(realpath "$0")")")
-room=$(mktemp -d)
-trap 'rm -rf "$room"' EXIT
+. "$(dirname "$(realpath "$0")")/start.sh"
 cd "$top/runs/library"
-
-for tool in gcc objcopy python3; do
-    command -v "$tool" >/dev/null || { echo "library: left out, since $tool isn't installed"; exit 0; }
-done
+needs library gcc objcopy python3
 "$top/build-library" "$room/installed" >"$room/built" 2>&1 || { cat "$room/built"; exit 1; }
 include=$room/installed/include
 archive=$room/installed/lib/liburlcheck.a

@@ -4,15 +4,9 @@
 # exports, that the header is taken by each standard of C and C++, that an old processor runs the library, and that
 # nothing is left once it is removed. What isn't installed on the machine is left out, and a line says so. LIBRARY may
 # name a folder that ./build-library wrote.
-set -euo pipefail
-program=$(realpath "$1")
-top=$(dirname "$(dirname "$(realpath "$0")")")
-room=$(mktemp -d)
-trap 'rm -rf "$room"' EXIT
+. "$(dirname "$(realpath "$0")")/start.sh"
 cd "$top"
-for tool in cc gcc objcopy pkg-config python3; do
-    command -v "$tool" >/dev/null || { echo "packages: left out, since $tool isn't installed"; exit 0; }
-done
+needs packages cc gcc objcopy pkg-config python3
 
 fail() {
     echo "FAILED: $*"
