@@ -3,5 +3,6 @@ pub mod PathLemmas
 pub mod SlashedPaths
 pub mod PathPieces
 pub mod JoinedSegments
+pub mod OpaquePaths
 pub mod DotSegmentLemmas
 pub mod WalkLemmas

@@ -1,6 +1,10 @@
 -- The code points that the URL Standard gives a meaning to, by name.
 use Rattle.std.specs.Prelude.{ℕ}
 
+-- the space
+abbrev pub space : ℕ
+space = 0x20
+
 -- `#`
 abbrev pub number_sign : ℕ
 number_sign = 0x23

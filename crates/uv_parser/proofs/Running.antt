@@ -2,3 +2,4 @@
 pub mod Steps
 pub mod RunsStopped
 pub mod Unremoved
+pub mod KeptSpaces

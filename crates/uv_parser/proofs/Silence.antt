@@ -1,4 +1,5 @@
 -- The claims on valid texts with a scheme, composed from the laws of the loops.
+pub mod SpacedPaths
 pub mod SilentOpaque
 pub mod SilentPath
 pub mod SilentAuthority

@@ -12,8 +12,8 @@ use Rattle.uv_model.specs.declared.host.Host.{Host}
 use Rattle.uv_model.specs.declared.host.Host.TheVariants as host
 use Rattle.uv_model.specs.declared.path.UrlPath.{UrlPath}
 use Rattle.uv_model.specs.declared.path.UrlPath.TheVariants.{Opaque, Segments}
-use Rattle.uv_model.specs.Ascii.{slash, colon, question_mark, number_sign, at_sign, left_bracket, right_bracket}
-use Rattle.uv_model.specs.Ascii.{backslash}
+use Rattle.uv_model.specs.Ascii.{space, slash, colon, question_mark, number_sign, at_sign, left_bracket}
+use Rattle.uv_model.specs.Ascii.{right_bracket, backslash}
 use Rattle.uv_model.specs.Encoding.{encoded_code_point, encoded}
 use Rattle.uv_parser.specs.HostParser.{parse_host}
 use Rattle.uv_model.specs.Path.{is_drive_letter, is_normalized_drive_letter, is_single_dot, is_double_dot, shorten}
@@ -422,17 +422,32 @@ abbrev pub more_opaque : List ℕ → UrlPath → UrlPath
 more_opaque text (Opaque path) = Opaque (path ++ text)
 more_opaque text (Segments list) = Segments list
 
+-- this text at the end of the opaque path
+abbrev pub with_opaque_text : List ℕ → Variables → Variables
+with_opaque_text text v = with_path (more_opaque text v.url.path) v
+
 -- a code point, encoded, at the end of the opaque path
 abbrev pub with_opaque : ℕ → Variables → Variables
-with_opaque c v = with_path (more_opaque (encoded_code_point false c) v.url.path) v
+with_opaque c v = with_opaque_text (encoded_code_point false c) v
 
--- `?` and `#` begin query and fragment, and the end is done. Any other code point, encoded, goes to the path.
+-- the rest begins with `?` or `#`
+abbrev pub begins_tail : List ℕ → Bool
+begins_tail rest = begins question_mark rest || begins number_sign rest
+
+-- what goes to an opaque path for a space before the rest
+abbrev pub opaque_space : List ℕ → List ℕ
+opaque_space rest = if begins_tail rest then codes "%20" else space ∷ []
+
+-- `?` and `#` begin query and fragment, and the end is done. A space goes to the path, as `%20` where `?` or `#` follows
+-- it. Any other code point, encoded, goes to the path.
 abbrev pub opaque_path_at : Variables → List ℕ → AtPointer → Turn
 opaque_path_at v rest query_mark = to_query v
 opaque_path_at v rest fragment_mark = to_fragment v
 opaque_path_at v rest end = onward OpaquePathState v
 opaque_path_at v rest slash_mark = onward OpaquePathState (with_opaque slash v)
-opaque_path_at v rest (another c) = unless_fault c (after_first rest) (onward OpaquePathState (with_opaque c v))
+opaque_path_at v rest (another c) =
+    if c == space then onward OpaquePathState (with_opaque_text (opaque_space (after_first rest)) v)
+    else unless_fault c (after_first rest) (onward OpaquePathState (with_opaque c v))
 
 -- The buffer, encoded, is the query; for a special URL `'` is encoded too.
 abbrev pub query_ended : Variables → Variables

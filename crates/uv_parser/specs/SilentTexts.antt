@@ -1,20 +1,22 @@
 -- The texts on which the URL parser (URL Standard, section 4.4) is silent, as a grammar: the standard's of section 4.3,
--- with the parser's own conditions on a host, a path behind an authority and the authority of a file URL.
-use Rattle.std.specs.Prelude.{◌≡◌, ℕ, ◌⊎◌, false, true, List, [], Option, Some, None}
+-- with the parser's own conditions on a host, a path behind an authority, the authority of a file URL and an opaque
+-- path.
+use Rattle.std.specs.Prelude.{◌≡◌, ℕ, ◌⊎◌, Bool, false, true, ◌&&◌, ◌||◌, ◌==◌, List, [], ◌∷◌, Option, Some, None}
 use Rattle.uv_model.specs.declared.profile.Profile.TheVariants.{Standard}
 use Rattle.uv_model.specs.declared.scheme.Class.{Class}
 use Rattle.uv_model.specs.declared.scheme.Class.TheVariants.{Special, File, Other}
 use Rattle.uv_model.specs.declared.host.Host.{Host}
 use Rattle.uv_model.specs.declared.host.Host.TheVariants.{Empty}
-use Rattle.uv_model.specs.Ascii.{at_sign, backslash}
+use Rattle.uv_model.specs.Ascii.{at_sign, backslash, question_mark, space}
 use Rattle.uv_model.specs.Cut.{IsCut, texts_of}
 use Rattle.uv_parser.specs.HostParser.{parse_host}
-use Rattle.uv_model.specs.Parts.{Form, SchemeAuthority, Authority, PathAbsolute, Parts, has_scheme}
-use Rattle.uv_model.specs.Path.{MayBePathSlashed, IsPathAbsolute, is_drive_letter, is_without}
+use Rattle.uv_model.specs.Parts.{Form, SchemeAuthority, SchemeOpaque, Authority, PathAbsolute, Parts, has_scheme}
+use Rattle.uv_model.specs.Path.{MayBePathSlashed, IsPathAbsolute, is_drive_letter, is_without, starts_with_slash}
 use Rattle.uv_parser.specs.Removed.{first_removed}
 use Rattle.uv_model.specs.Records.Url.{Url}
 use Rattle.uv_model.specs.Scheme.{default_port, scheme_class}
 use Rattle.uv_model.specs.Setting.{setting_of}
+use Rattle.uv_model.specs.Units.{is_unit_at}
 use Rattle.uv_model.specs.Valid.{FitsBase, FitsForm, FitsScheme, HasNoAuthority, IsOpaqueHostText, MayBePortText}
 use Rattle.uv_model.specs.Valid.{MayBeUnits, port_given, scheme_in, without_localhost}
 
@@ -77,13 +79,29 @@ abbrev pub TakesAuthority : Option Url → Parts → Type 0
 TakesAuthority base parts =
     TakesHostText base parts parts.host_text × MayBePathSlashed parts.segments parts.path_text
 
+-- ---- an opaque path
+
+-- from code point to code point a space or no fault of units
+abbrev pub is_spaced : List ℕ → Bool
+is_spaced [] = true
+is_spaced (c ∷ rest) = ((c == space) || is_unit_at c rest) && is_spaced rest
+
+-- URL units and spaces without `?` that don't begin with `/`
+pub record IsSpacedPath (text : List ℕ) : Type 0 where
+  pub units : is_spaced text ≡ true
+  pub no_question_mark : is_without question_mark text ≡ true
+  pub start : starts_with_slash text ≡ false
+
 -- ---- the forms
 
--- The host, the port and the path by the form: without an authority as in a valid URL string, but for drive letters.
--- The profiles differ behind an authority alone, so either says the same here.
+-- The host, the port and the path by the form: without an authority as in a valid URL string, but for drive letters and
+-- the spaces of an opaque path. The profiles differ behind an authority alone, so either says the same here.
 abbrev pub TakesForm : Option Url → Form → Parts → Type 0
 TakesForm base SchemeAuthority parts = TakesAuthority base parts
 TakesForm base Authority parts = TakesAuthority base parts
+TakesForm base SchemeOpaque parts =
+    HasNoAuthority parts × (scheme_class (scheme_in base parts) ≡ Other) × IsSpacedPath parts.path_text
+    × (parts.segments ≡ [])
 TakesForm base PathAbsolute parts = HasNoAuthority parts × IsPathAbsolute parts.segments parts.path_text
 TakesForm base form parts = FitsForm (setting_of Standard base parts.scheme) form parts
 

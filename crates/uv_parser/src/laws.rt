@@ -1,6 +1,6 @@
 //! Laws over the URL parser, each as the clause of a function that does nothing.
 ghost use Rattle.uv_parser.specs.HostParser.{DomainsAreParsed, EmptyHostIsParsed, Ipv4HostsAreParsed, Ipv6HostsAreParsed, OpaqueHostsAreParsed, OtherHostsAreTaken};
-ghost use Rattle.uv_parser.specs.Ipv4Parser.{Ipv4ParserTakesIpv4Texts, Ipv4TextsAreParsed};
+ghost use Rattle.uv_parser.specs.Ipv4Parser.{Ipv4ParserTakesNumbers, Ipv4TextsAreParsed};
 ghost use Rattle.uv_parser.specs.Ipv6Parser.{Ipv6ParserTakesIpv6Texts, Ipv6TextsAreParsed};
 ghost use Rattle.uv_parser.specs.Laws.OtherHosts.{SilentOtherHostsAreValid};
 ghost use Rattle.uv_parser.specs.Rows.AddressParsers.{AddressParserRows};
@@ -20,7 +20,9 @@ ghost use Rattle.uv_parser.specs.Rows.Special.{SpecialRows};
 ghost use Rattle.uv_parser.specs.Laws.DecidedTexts.{TextsAreDecided};
 
 /// The run of the parser machine on a text is done, with the URL that the parts denote, exactly where the parser's
-/// grammar takes the text with parts, and else it stops; within the bound on its steps.
+/// grammar takes the text with parts, and else it stops; within the bound on its steps. ToASCII is the definition of the
+/// crate `idna`, which gives nothing above limits of its own: 1,000 code points of a label beyond ASCII, and 2,000 bytes
+/// of a label's Punycode. There the machine stops, where the standard's parser may be silent.
 pub fn texts_are_decided()
     ensures { TextsAreDecided }
 {}
@@ -30,10 +32,10 @@ pub fn ipv4_texts_are_parsed()
     ensures { Ipv4TextsAreParsed }
 {}
 
-/// The IPv4 parser takes the IPv4 texts alone: where it gives a value, the text is an IPv4 text of this value (URL
-/// Standard, section 3.5).
-pub fn ipv4_parser_takes_ipv4_texts()
-    ensures { Ipv4ParserTakesIpv4Texts }
+/// The IPv4 parser takes one to four shortest decimal numbers of at most 255 alone, and gives exactly their value, of
+/// which the last number is the lowest byte and those before it are the highest ones (URL Standard, section 3.5).
+pub fn ipv4_parser_takes_numbers()
+    ensures { Ipv4ParserTakesNumbers }
 {}
 
 /// On every IPv6 text the IPv6 parser gives exactly the text's eight pieces (URL Standard, section 3.5).

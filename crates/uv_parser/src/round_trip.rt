@@ -4,8 +4,9 @@ ghost use Rattle.uv_parser.specs.Laws.RoundTrip.{DenotedUrlsAreReadBack, ParsedU
 
 /// Of the serialized text of every readable URL the parser, without a base, makes exactly that URL, within the bound on
 /// its steps and without a validation error (URL Standard, sections 4.4 and 4.5). A URL is readable where it is well
-/// formed but for the code points of its domain, the host parser makes of that domain itself, and its port, its IPv4
-/// address and the pieces of its IPv6 address have 16, 32 and 16 bits.
+/// formed but for the code points of its domain and for spaces in an opaque path, of which none is the last code point,
+/// the host parser makes of that domain itself, and its port, its IPv4 address and the pieces of its IPv6 address have
+/// 16, 32 and 16 bits.
 pub fn readable_urls_are_read_back()
     ensures { ReadableUrlsAreReadBack }
 {}

@@ -23,8 +23,9 @@ pub fn parts_of_a_silent_text_are_unique()
 {}
 
 /// Every text on which the parser is silent is valid with the same parts, or it has a difference with a name: a foreign
-/// host, an empty first segment behind an authority, a drive letter behind a host, or an empty authority of a file URL
-/// with no path; and with a difference it has no valid parts (URL Standard, sections 4.3 and 4.4).
+/// host, which an address of fewer than four numbers is too, an empty first segment behind an authority, a drive letter
+/// behind a host, an empty authority of a file URL with no path, or a space in an opaque path; and with a difference it
+/// has no valid parts (URL Standard, sections 4.3 and 4.4).
 pub fn silent_texts_are_valid_or_differ()
     ensures { SilentTextsAreValidOrDiffer }
 {}

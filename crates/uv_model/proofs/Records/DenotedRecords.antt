@@ -11,7 +11,8 @@ use Rattle.uv_model.specs.declared.host.Host.{Host}
 use Rattle.uv_model.specs.declared.path.UrlPath.{UrlPath}
 use Rattle.uv_model.specs.declared.path.UrlPath.TheVariants.{Opaque, Segments}
 use Rattle.uv_model.specs.Records.Denote.{authority_host, authority_path, denote, denoted_host, denoted_path}
-use Rattle.uv_model.specs.Records.Denote.{denoted_port, denoted_query, denoted_scheme, kept_drive, listed_segments}
+use Rattle.uv_model.specs.Records.Denote.{denoted_port, denoted_query, denoted_scheme, has_tail, kept_drive}
+use Rattle.uv_model.specs.Records.Denote.{listed_segments}
 use Rattle.uv_model.specs.Encoding.{encoded}
 use Rattle.uv_model.specs.Parts.{Form, Parts, SchemeAuthority, SchemePath, SchemeOpaque, Authority, PathAbsolute}
 use Rattle.uv_model.specs.Parts.{PathRelative, NoPath, has_scheme}
@@ -24,6 +25,7 @@ use Rattle.uv_model.specs.Records.WellFormed.{IsUrlScheme, MayBeWellFormed, Well
 use Rattle.uv_model.specs.Laws.Wholes.{DenotedRecordsAreWellFormed}
 use Rattle.uv_model.specs.Path.{IsPathAbsolute, IsPathRelative, is_drive_letter, is_normalized_drive_letter, shorten}
 use Rattle.uv_model.proofs.Cuts.AuthorityLemmas.{IsAuthority, IsAuthority-fits, IsUrlPath-authority, IsUrlPath-joined}
+use Rattle.uv_model.proofs.Paths.OpaquePaths.{end_escaped-opaque}
 use Rattle.uv_model.proofs.Paths.WalkLemmas.{AreUrlSegments-shorten}
 use Rattle.uv_model.proofs.SchemeLemmas.{default_port-lowercase, is_scheme-lowercase, no_uppercase-lowercase}
 use Rattle.uv_model.proofs.SchemeLemmas.{scheme_class-lowercase}
@@ -107,7 +109,12 @@ AreDenoted-opaque profile base parts scheme fits query =
       scheme = IsUrlScheme-own base parts.scheme scheme;
       host = rw fits.1 tt;
       port = tt;
-      path = (fits.1, refl, IsUrlOpaquePath-encoded parts.path_text fits.2);
+      path = (
+        fits.1,
+        refl,
+        rw (end_escaped-opaque (has_tail parts) parts.path_text fits.2)
+            (IsUrlOpaquePath-encoded parts.path_text fits.2),
+      );
       query = IsUrlQuery-own base (scheme_class (scheme_in base parts)) SchemeOpaque parts.query query (λ e. absurd cc);
     }
 

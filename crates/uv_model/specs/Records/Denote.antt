@@ -1,12 +1,13 @@
--- The URL that the parts of a valid text denote, after the URL Standard, section 4.4, row by row of the forms.
-use Rattle.std.specs.Prelude.{ℕ, Bool, true, false, not, ◌&&◌, List, [], ◌∷◌, Option, Some, None, option_map}
-use Rattle.std.specs.Prelude.{if◌then◌else◌}
+-- The URL that the parts of a text denote, after the URL Standard, section 4.4, row by row of the forms.
+use Rattle.std.specs.Prelude.{ℕ, Bool, true, false, not, ◌&&◌, ◌||◌, ◌==◌, List, [], ◌∷◌, codes, Option, Some, None}
+use Rattle.std.specs.Prelude.{is_some, option_map, if◌then◌else◌}
 use Rattle.uv_model.specs.declared.scheme.Class.{Class}
 use Rattle.uv_model.specs.declared.scheme.Class.TheVariants.{File, Other}
 use Rattle.uv_model.specs.declared.host.Host.{Host}
 use Rattle.uv_model.specs.declared.host.Host.TheVariants as host
 use Rattle.uv_model.specs.declared.path.UrlPath.{UrlPath}
 use Rattle.uv_model.specs.declared.path.UrlPath.TheVariants.{Opaque, Segments}
+use Rattle.uv_model.specs.Ascii.{space}
 use Rattle.uv_model.specs.Encoding.{encoded}
 use Rattle.uv_model.specs.Path.{is_drive_letter, is_normalized_drive_letter, shorten, walk}
 use Rattle.uv_model.specs.Scheme.{lowercase, scheme_class}
@@ -66,11 +67,21 @@ kept_drive File (drive ∷ others) (first ∷ rest) =
     if is_normalized_drive_letter drive && not (is_drive_letter first) then drive ∷ [] else []
 kept_drive _ _ _ = []
 
+-- a query or a fragment stands behind the path
+abbrev pub has_tail : Parts → Bool
+has_tail parts = is_some parts.query || is_some parts.fragment
+
+-- an opaque path, in which a space at the end is `%20` where `?` or `#` follows it (section 4.4, opaque path state)
+abbrev pub end_escaped : Bool → List ℕ → List ℕ
+end_escaped followed [] = []
+end_escaped followed (c ∷ []) = if (c == space) && followed then codes "%20" else c ∷ []
+end_escaped followed (c ∷ next ∷ rest) = c ∷ end_escaped followed (next ∷ rest)
+
 -- the path by the form
 abbrev pub denoted_path : Option Url → Class → Form → Parts → UrlPath
 denoted_path base class SchemeAuthority parts = Segments (authority_path class parts.segments)
 denoted_path base class SchemePath parts = Segments (walk class [] parts.segments)
-denoted_path base class SchemeOpaque parts = Opaque (encoded false parts.path_text)
+denoted_path base class SchemeOpaque parts = Opaque (encoded false (end_escaped (has_tail parts) parts.path_text))
 denoted_path base class Authority parts = Segments (authority_path class parts.segments)
 denoted_path base class PathAbsolute parts =
     Segments (walk class (kept_drive class (listed_segments (base_path base)) parts.segments) parts.segments)

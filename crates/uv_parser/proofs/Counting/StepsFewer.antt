@@ -6,7 +6,7 @@ use Rattle.std.proofs.lemmas.Bool.{cases_Bool}
 use Rattle.std.proofs.lemmas.List.{length-drop}
 use Rattle.uv_model.specs.declared.scheme.Class.{Class}
 use Rattle.uv_model.specs.declared.scheme.Class.TheVariants.{Special, File, Other}
-use Rattle.uv_model.specs.Ascii.{slash, colon, question_mark, number_sign}
+use Rattle.uv_model.specs.Ascii.{space, slash, colon, question_mark, number_sign}
 use Rattle.uv_parser.specs.Machine.{State, SchemeStartState, SchemeState, NoSchemeState}
 use Rattle.uv_parser.specs.Machine.{SpecialRelativeOrAuthorityState, PathOrAuthorityState, RelativeState}
 use Rattle.uv_parser.specs.Machine.{RelativeSlashState, SpecialAuthoritySlashesState}
@@ -17,9 +17,11 @@ use Rattle.uv_parser.specs.Machine.{from_place, stop, turn, AtPointer, end, file
 use Rattle.uv_parser.specs.Machine.{path_or_authority_row, two_slashes_row, slash_mark, query_mark, fragment_mark}
 use Rattle.uv_parser.specs.Machine.{another, at_pointer, begins, begins_two_slashes, after_scheme, authority_at}
 use Rattle.uv_parser.specs.Machine.{emptied, file_at, file_host_at, file_slash_row, host_ended, host_at, no_scheme_row}
+use Rattle.uv_parser.specs.Machine.{after_first, opaque_space, with_opaque, with_opaque_text}
 use Rattle.uv_parser.specs.Machine.{opaque_path_at, path_at, path_start_at, port_at, put, query_at, relative_at}
 use Rattle.uv_parser.specs.Machine.{relative_row, relative_slash_row, scheme_row, scheme_start_row, with_scheme}
 use Rattle.uv_model.specs.Scheme.{is_scheme_code_point, scheme_class}
+use Rattle.uv_model.specs.Units.{is_unit_at}
 use Rattle.uv_model.specs.Records.Url.{Url}
 use Rattle.uv_parser.proofs.Counting.StepCosts.{Fewer, either, goes, later, later_at_start, later_without_scheme, moves}
 use Rattle.uv_parser.proofs.Counting.StepCosts.{parsed, put_length, rest_length, slash_is_some, stays, stops}
@@ -43,7 +45,12 @@ module _ (text : List ℕ) where
   opaque_path_fewer v rest query_mark = moves text rest _ _ (λ others e. omega (arith, e))
   opaque_path_fewer v rest fragment_mark = moves text rest _ _ (λ others e. omega (arith, e))
   opaque_path_fewer v rest end = moves text rest _ _ (λ others e. omega (arith, e))
-  opaque_path_fewer v rest (another c) = either text _ (moves text rest _ _ (λ others e. omega (arith, e))) (stops text)
+  opaque_path_fewer v rest (another c) =
+      either text (c == space)
+      (moves text rest OpaquePathState (with_opaque_text (opaque_space (after_first rest)) v)
+      (λ others e. omega (arith, e)))
+      (either text (is_unit_at c (after_first rest))
+      (moves text rest OpaquePathState (with_opaque c v) (λ others e. omega (arith, e))) (stops text))
 
   -- the query state
   query_fewer : (v : Variables) (rest : List ℕ) (s : AtPointer) → Fewer text rest (length rest) (query_at v rest s)

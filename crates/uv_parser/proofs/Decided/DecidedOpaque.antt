@@ -6,19 +6,19 @@ use Rattle.uv_model.specs.declared.path.UrlPath.TheVariants.{Opaque}
 use Rattle.uv_model.specs.Ascii.{colon}
 use Rattle.uv_model.specs.Cut.{IsCut}
 use Rattle.uv_model.specs.Encoding.{encoded}
-use Rattle.uv_parser.specs.Machine.{Variables, OpaquePathState, SchemeState, with_more, with_path, empty_variables}
+use Rattle.uv_parser.specs.Machine.{Variables, OpaquePathState, SchemeState, begins_tail, with_more, with_path}
+use Rattle.uv_parser.specs.Machine.{empty_variables}
+use Rattle.uv_model.specs.Records.Denote.{end_escaped}
 use Rattle.uv_model.specs.Parts.{Parts, SchemeOpaque}
-use Rattle.uv_parser.specs.SilentTexts.{Silent}
+use Rattle.uv_parser.specs.SilentTexts.{Silent, is_spaced}
 use Rattle.uv_model.specs.Path.{starts_with_slash}
 use Rattle.uv_parser.specs.Removed.{first_removed}
 use Rattle.uv_model.specs.Scheme.{lowercase, scheme_class}
-use Rattle.uv_model.specs.Units.{is_faultless}
 use Rattle.uv_model.specs.Records.Url.{Url}
 use Rattle.uv_model.specs.Valid.{FitsBase, MayBeUnits}
 use Rattle.uv_model.proofs.Complaints.ComplaintLemmas.{cut_with}
 use Rattle.uv_parser.proofs.Decided.CutTexts.{HasMarks, marks, scheme_text}
 use Rattle.uv_parser.proofs.Loops.Looping.{opaque_path_law}
-use Rattle.uv_model.proofs.Paths.PathPieces.{path_relative, pieces}
 use Rattle.uv_parser.proofs.Running.RunsStopped.{RunStops, place_cases, removed_stops, scheme_stops}
 use Rattle.uv_parser.proofs.Loops.SchemeStretch.{scheme_variables, colon_row}
 use Rattle.uv_parser.proofs.Running.Steps.{Stops, ends_step, ends_after}
@@ -45,42 +45,45 @@ opaque_parts scheme port_text path query fragment = record {
 abbrev path_begun : List ℕ → Variables
 path_begun scheme = with_path (Opaque []) (scheme_variables scheme)
 
-abbrev path_variables : List ℕ → List ℕ → Variables
-path_variables scheme path = with_path (Opaque (encoded false path)) (scheme_variables scheme)
+abbrev path_variables : List ℕ → List ℕ → List ℕ → Variables
+path_variables scheme path rest =
+    with_path (Opaque (encoded false (end_escaped (begins_tail rest) path))) (scheme_variables scheme)
 
 module _ (base : Option Url) (scheme path : List ℕ) (query fragment : Option (List ℕ))
     (other : scheme_class scheme ≡ Other) (start : starts_with_slash path ≡ false)
     (have : HasMarks [] path query) where
-  opaque_passes : PassesToTail base OpaquePathState (path_variables scheme path)
+  abbrev behind_path : Variables
+  behind_path = path_variables scheme path (tail query fragment)
+
+  opaque_passes : PassesToTail base OpaquePathState behind_path
   opaque_passes =
       record {
-        query_variables = path_variables scheme path;
-        fragment_variables = path_variables scheme path;
+        query_variables = behind_path;
+        fragment_variables = behind_path;
         at_query = λ p rest. refl;
         at_fragment = λ p rest. refl;
       }
 
   -- from the opaque path on
-  path_decided : (is_faultless path ≡ true) × MayBeUnits query × MayBeUnits fragment
+  path_decided : (is_spaced path ≡ true) × MayBeUnits query × MayBeUnits fragment
       ⊎ Stops base OpaquePathState (path_begun scheme) (path ++ tail query fragment)
   path_decided =
-      elim (cases_Bool (is_faultless path)) [
-        | inl units ↦ elim (tail_decided base OpaquePathState (path_variables scheme path) query fragment opaque_passes
-            have.query) [
-              | inl both ↦ inl (units, both.0, both.1)
-              | inr stops ↦ inr
-                  (ends_after base
-                  (opaque_path_law base path (tail query fragment) [] (scheme_variables scheme) units
-                  have.path_question_mark)
-                  stops)
-            ]
+      elim (cases_Bool (is_spaced path)) [
+        | inl units ↦ elim (tail_decided base OpaquePathState behind_path query fragment opaque_passes have.query) [
+          | inl both ↦ inl (units, both.0, both.1)
+          | inr stops ↦ inr
+              (ends_after base
+              (opaque_path_law base path (tail query fragment) [] (scheme_variables scheme) units
+              have.path_question_mark)
+              stops)
+        ]
         | inr fault ↦ inr
             (opaque_path_stops base path (tail query fragment) (path_begun scheme) fault have.path_question_mark
             have.path_number_sign (no_hex_tail query fragment))
       ]
 
   -- from the scheme's `:` on
-  pub opaque_decided : (is_faultless path ≡ true) × MayBeUnits query × MayBeUnits fragment
+  pub opaque_decided : (is_spaced path ≡ true) × MayBeUnits query × MayBeUnits fragment
       ⊎ Stops base SchemeState (with_more (lowercase scheme) empty_variables) (colon ∷ (path ++ tail query fragment))
   opaque_decided =
       let no_slash = no_slash_before_tail path query fragment start in
@@ -110,7 +113,7 @@ opaque_silent_or_stops base text scheme port_text path query fragment is other s
           form = (
             record { host_text = refl; host = refl; port_text = is.authority.0; port = refl },
             other,
-            (pieces path, path_relative path units have.path_question_mark start),
+            record { units = units; no_question_mark = have.path_question_mark; start = start },
             refl,
           );
           query = query_units;

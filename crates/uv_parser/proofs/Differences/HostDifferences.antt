@@ -1,30 +1,31 @@
 -- A host text that the host parser takes is a valid one, or it has a difference with a name.
-use Rattle.std.proofs.Common.{◌≡◌, ◌≢◌, ℕ, ◌/◌, ◌%◌, ◌^◌, true, false, ◌==◌, ◌⊎◌, List, [], ◌∷◌, length, Option, Some}
-use Rattle.std.proofs.Common.{None, encode_utf8_all, sym, ap, subst, ◌∙◌, inl, inr, arith}
+use Rattle.std.proofs.Common.{◌≡◌, ◌≢◌, ℕ, ◌/◌, ◌%◌, true, false, ◌==◌, ◌⊎◌, List, [], ◌∷◌, length, Option, Some}
+use Rattle.std.proofs.Common.{None, codes, decimal, encode_utf8_all, refl, sym, ap, subst, ◌∙◌, ◌++◌, append_assoc, inl, inr}
+use Rattle.std.proofs.Common.{arith, lit<}
 use Rattle.std.specs.Prelude.{option_map, option_and_then}
 use Rattle.std.specs.List.{list_any}
 use Rattle.std.specs.Str.{bytes_eq, is_utf8}
-use Rattle.std.proofs.lemmas.Bool.{cases_Bool, cases_lt, eqb-true, false≢true}
+use Rattle.std.proofs.lemmas.Bool.{cases_Bool, eqb-true, false≢true}
 use Rattle.std.proofs.lemmas.Option.{none-some, same_Some, option_and_then_some}
 use Rattle.std.proofs.lemmas.Slice.Eq.{bytes_eq-Decides}
 use Rattle.uv_model.specs.declared.profile.Profile.TheVariants.{Standard}
 use Rattle.uv_model.specs.declared.host.Host.{Host}
 use Rattle.uv_model.specs.declared.host.Host.TheVariants as host
-use Rattle.uv_model.specs.Hosts.Address.{IsIpv4, IsBracketedIpv6}
+use Rattle.uv_model.specs.Hosts.Address.{IsFourNumbers, IsIpv4, IsBracketedIpv6, address_of}
 use Rattle.uv_model.specs.Ascii.{left_bracket}
 use Rattle.uv_model.specs.Hosts.Domain.{ends_in_number, has_lengths, has_permitted, parser_form, strict_form, IsDomain}
 use Rattle.uv_parser.specs.HostParser.{host_of_form, is_forbidden_domain, parse_bracketed, parse_domain, parse_host}
 use Rattle.uv_parser.specs.HostParser.{percent_decoded}
-use Rattle.uv_parser.specs.Ipv4Parser.{parse_ipv4}
+use Rattle.uv_parser.specs.Ipv4Parser.{AreNumbers, parse_ipv4, read_numbers}
 use Rattle.uv_model.specs.Records.Serialize.{serial_ipv4}
-use Rattle.uv_parser.specs.Laws.Differences.{HostDiffers}
+use Rattle.uv_parser.specs.Laws.Differences.{HasFewerNumbers, HostDiffers}
 use Rattle.uv_model.specs.Valid.{IsHostText}
 use Rattle.uv_model.proofs.Hosts.DomainLemmas.{IsForm-from, parser_form-is}
 use Rattle.uv_parser.proofs.HostParsing.HostParserLemmas.{ipv4_hosts_are_parsed, no_percent-encoded}
 use Rattle.uv_parser.proofs.HostParsing.HostParserLemmas.{no_percent-permitted, percent_decode-plain}
 use Rattle.uv_parser.proofs.HostParsing.HostParserLemmas.{percent_decoded-plain}
-use Rattle.uv_model.proofs.Addresses.AddressesReadBack.{ipv4_written}
-use Rattle.uv_model.proofs.Addresses.AddressSizes.{ipv4_small}
+use Rattle.uv_parser.proofs.HostParsing.Ipv4ParserLemmas.{four_numbers, numbers_read}
+use Rattle.uv_parser.proofs.HostParsing.Ipv4Taken.{numbers_taken}
 use Rattle.uv_parser.proofs.HostParsing.OtherHostsTaken.{bracketed_taken}
 
 -- ---- addresses
@@ -46,22 +47,25 @@ ipv4_text_is text value (a, b, c, d, is, e) =
     let fourth : value % 256 ≡ d = omega (arith, e, fit.0, fit.1, fit.2, fit.3) in
     rw (first, second, third, fourth) is.spelled
 
--- the text of which the parser makes an IPv4 address is one, or it is mapped to one
+-- numbers are four, which are an IPv4 text, or fewer
+four_or_fewer : (numbers text : List ℕ) → AreNumbers numbers text
+    → ((address : ℕ) × IsIpv4 text address) ⊎ HasFewerNumbers text
+four_or_fewer [] text are = inr ([], are, lit< tt)
+four_or_fewer (a ∷ []) text are = inr (a ∷ [], are, lit< tt)
+four_or_fewer (a ∷ b ∷ []) text are = inr (a ∷ b ∷ [], are, lit< tt)
+four_or_fewer (a ∷ b ∷ c ∷ []) text are = inr (a ∷ b ∷ c ∷ [], are, lit< tt)
+four_or_fewer (a ∷ b ∷ c ∷ d ∷ []) text are =
+    let (first, (second, (third, (fourth, none)))) = are.fit in
+    let spelled : text ≡ decimal a ++ codes "." ++ decimal b ++ codes "." ++ decimal c ++ codes "." ++ decimal d
+    = are.spelled ∙ sym (simp append_assoc) in
+    let is : IsFourNumbers a b c d text = record { fit = (first, second, third, fourth); spelled = spelled } in
+    inl (address_of a b c d, (a, b, c, d, is, refl))
+four_or_fewer (a ∷ b ∷ c ∷ d ∷ e ∷ rest) text are = absurd (let few = are.few in omega (arith, few))
+
+-- the text of which the parser makes an IPv4 address is one, or it is mapped to one, or has fewer numbers
 ipv4_or_differs : (text : List ℕ) (value : ℕ) → parse_host true text ≡ Some (host.V4 value)
     → IsIpv4 text value ⊎ HostDiffers text (host.V4 value)
-ipv4_or_differs text value parsed =
-    elim (cases_lt value (2 ^ 32)) [
-      | inl small ↦
-          elim (cases_Bool (bytes_eq text (serial_ipv4 value))) [
-            | inl same ↦
-                let e : text ≡ serial_ipv4 value = (bytes_eq-Decides text (serial_ipv4 value)).0 same in
-                inl (rw e (ipv4_written value small))
-            | inr other ↦ inr (λ address is.
-                false≢true (sym other ∙ (bytes_eq-Decides text (serial_ipv4 value)).1
-                (ipv4_text_is text value (valued address is))))
-          ]
-      | inr large ↦ inr (λ address is. absurd (omega (arith, large, ipv4_small text value (valued address is))))
-    ]
+ipv4_or_differs text value parsed = by_numbers (read_numbers text) refl
   where
     valued : (address : ℕ) → IsIpv4 text address → IsIpv4 text value
     valued address is =
@@ -71,6 +75,15 @@ ipv4_or_differs text value parsed =
       where
         one_value : host.V4 address ≡ host.V4 value → address ≡ value
         one_value e = cc
+
+    by_numbers : (o : Option (List ℕ)) → read_numbers text ≡ o → IsIpv4 text value ⊎ HostDiffers text (host.V4 value)
+    by_numbers None none =
+        inr (inl (λ address is. none-some is.0 (sym none ∙ numbers_read is.0 text is.1)))
+    by_numbers (Some numbers) read =
+        elim (four_or_fewer numbers text (numbers_taken text numbers read)) [
+          | inl (address, is) ↦ inl (valued address is)
+          | inr fewer ↦ inr (inr fewer)
+        ]
 
 -- ---- domains
 
@@ -176,7 +189,16 @@ pub host_not_differs : (text : List ℕ) (value : Host) → IsHostText Standard 
 host_not_differs text (host.Domain form) is (inl foreign) = false≢true (sym foreign ∙ is.0.permitted)
 host_not_differs text (host.Domain form) is (inr (inl refused)) = refused is.0.fits.ascii
 host_not_differs text (host.Domain form) is (inr (inr wrong)) = false≢true (sym wrong ∙ is.0.lengths)
-host_not_differs text (host.V4 value) is mapped = mapped value is
+host_not_differs text (host.V4 value) is (inl mapped) =
+    let (a, b, c, d, are, valued) = four_numbers text value is in
+    mapped value (a ∷ b ∷ c ∷ d ∷ [], are, valued)
+host_not_differs text (host.V4 value) is (inr (numbers, fewer, few)) =
+    let (a, b, c, d, are, valued) = four_numbers text value is in
+    let same : a ∷ b ∷ c ∷ d ∷ [] ≡ numbers
+    = same_Some (a ∷ b ∷ c ∷ d ∷ []) numbers
+    (sym (numbers_read (a ∷ b ∷ c ∷ d ∷ []) text are) ∙ numbers_read numbers text fewer) in
+    let count : 4 ≡ length numbers = ap length same in
+    absurd (omega (arith, count, few))
 host_not_differs text (host.V6 pieces) is none = none
 host_not_differs text (host.Opaque other) is none = none
 host_not_differs text host.Empty is none = none

@@ -29,8 +29,9 @@ use Rattle.uv_model.proofs.Complaints.ComplaintsExcludeParts.{faultless_form}
 use Rattle.uv_parser.proofs.Differences.HostDifferences.{host_not_differs, host_or_differs}
 use Rattle.uv_parser.proofs.HostParsing.HostsParsed.{host_taken, parsed_not_empty}
 use Rattle.uv_parser.proofs.Silence.SilentParts.{silent_parts_are_unique}
+use Rattle.uv_parser.proofs.Silence.SpacedPaths.{opaque_or_spaced}
 use Rattle.uv_model.proofs.Cuts.ValidCutLemmas.{written_as_cut}
-use Rattle.uv_parser.proofs.Silence.ValidSilent.{valid_is_silent}
+use Rattle.uv_parser.proofs.Silence.ValidSilent.{valid_is_silent, valid_path_has_no_space}
 
 -- ---- from the parser's grammar to the standard's
 
@@ -116,7 +117,8 @@ authority_or_differs base File host_text parts class given takes path = by_host 
   where
     by_path : MayBePathBehind Standard parts.segments parts.path_text → host_text ≡ [] → parts.host ≡ Some host.Empty
         → FitsAuthority File (setting_of Standard base parts.scheme) host_text parts ⊎ Differs base parts
-    by_path (inl (nothing, none)) empty valued = inr (inr (inr (inr (class, given ∙ ap Some empty, nothing))))
+    by_path (inl (nothing, none)) empty valued =
+        inr (inr (inr (inr (inl (class, given ∙ ap Some empty, nothing)))))
     by_path (inr absolute) empty valued = inl (takes.no_port_text, takes.no_port, inr (empty, valued, absolute))
 
     by_host : ((value : Host) × IsTakenFileHost host_text value × (parts.host ≡ Some value))
@@ -189,7 +191,11 @@ form_or_differs base SchemeAuthority parts named takes =
 form_or_differs base Authority parts named takes =
     host_text_or_differs base parts parts.host_text refl takes.0 takes.1
 form_or_differs base SchemePath parts named takes = inl takes
-form_or_differs base SchemeOpaque parts named takes = inl takes
+form_or_differs base SchemeOpaque parts named (none, other, path, empty) =
+    elim (opaque_or_spaced parts.path_text path) [
+      | inl opaque ↦ inl (none, other, opaque, empty)
+      | inr spaced ↦ inr (inr (inr (inr (inr spaced))))
+    ]
 form_or_differs base PathAbsolute parts named (none, path) =
     elim (drive_or_differs base parts named none.host_text) [
       | inl fits ↦ inl (none, path, fits)
@@ -287,7 +293,9 @@ valid_not_differs base text parts valid (inr (inr (inl (class, has, drive)))) =
       drive,
       refl,
     )
-valid_not_differs base text parts valid (inr (inr (inr empty))) = no_empty_authority base text parts valid empty
+valid_not_differs base text parts valid (inr (inr (inr (inl empty)))) = no_empty_authority base text parts valid empty
+valid_not_differs base text parts valid (inr (inr (inr (inr spaced)))) =
+    false≢true (sym spaced ∙ valid_path_has_no_space Standard base text parts valid)
 
 -- ---- the law
 

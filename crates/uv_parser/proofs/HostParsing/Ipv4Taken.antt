@@ -1,72 +1,81 @@
--- What the IPv4 parser takes is an IPv4 text of the value that it gives.
-use Rattle.std.proofs.Common.{◌≡◌, ℕ, suc, ◌+◌, ◌*◌, ◌<◌, ◌==◌, List, [], ◌∷◌, ◌++◌, Some, None, decimal, refl, sym, ap}
-use Rattle.std.proofs.Common.{◌∙◌, eqb-true}
+-- What the IPv4 parser takes is a text of one to four numbers of the value that it gives.
+use Rattle.std.proofs.Common.{◌≡◌, ℕ, zero, suc, ◌≤◌, ◌==◌, List, [], ◌∷◌, ◌++◌, length, Option, Some, None, decimal}
+use Rattle.std.proofs.Common.{refl, sym, ap, subst, ◌∙◌, eqb-true, arith}
+use Rattle.std.specs.Prelude.{option_map}
 use Rattle.std.proofs.lemmas.Option.{none-some, same_Some, option_and_then_some}
-use Rattle.uv_model.specs.Hosts.Address.{IsFourNumbers, IsIpv4}
 use Rattle.uv_model.specs.Ascii.{full_stop}
-use Rattle.uv_parser.specs.Ipv4Parser.{Ipv4ParserTakesIpv4Texts, parse_ipv4, read_rest}
+use Rattle.uv_parser.specs.Ipv4Parser.{AreBytes, AreNumbers, Ipv4ParserTakesNumbers, IsNumbersText, numbers_value}
+use Rattle.uv_parser.specs.Ipv4Parser.{parse_ipv4, read_behind, read_numbers}
 use Rattle.uv_parser.specs.Ipv6Parser.{read_digits}
-use Rattle.uv_parser.proofs.HostParsing.Ipv4ParserLemmas.{ipv4_parsed}
-use Rattle.uv_parser.proofs.HostParsing.Ipv6ReadersTaken.{fails_where_false, four_spelled, number_taken}
+use Rattle.uv_parser.proofs.HostParsing.Ipv4ParserLemmas.{behind_text, numbers_joined, numbers_parsed}
+use Rattle.uv_parser.proofs.HostParsing.Ipv6ReadersTaken.{fails_where_false, number_taken}
 
--- a number behind a full stop, and how the parser goes on behind it
-record TakesRest (left value : ℕ) (text : List ℕ) (given : ℕ) : Type 0 where
-  number : ℕ
-  rest : List ℕ
-  split : text ≡ full_stop ∷ (decimal number ++ rest)
-  small : number < 256
-  further : read_rest left (value * 256 + number) rest ≡ Some given
+-- a function of a value that may be absent
+pub mapped : {A B : Type 0} → (f : A → B) (o : Option A) (y : B) → option_map f o ≡ Some y
+    → (x : A) × (o ≡ Some x) × (f x ≡ y)
+mapped f None y e = absurd (none-some y e)
+mapped f (Some x) y e = (x, refl, same_Some (f x) y e)
 
--- a number is read where some are left
-rest_taken : (left value : ℕ) (text : List ℕ) (given : ℕ) → read_rest (suc left) value text ≡ Some given
-    → TakesRest left value text given
-unfolding read_rest
-rest_taken left value [] given e = absurd (none-some given e)
-rest_taken left value (c ∷ text) given e =
-    let dot = fails_where_false (c == full_stop) e in
-    option_and_then_some _ (read_digits None text) given dot.1
-    (λ (n, rest) number further.
-    let is = number_taken text n rest number in
-    record {
-      number = n;
-      rest = rest;
-      split = ap (λ mark. mark ∷ text) (eqb-true c full_stop dot.0) ∙ ap (λ cs. full_stop ∷ cs) is.0;
-      small = is.1;
-      further = further;
-    })
+-- numbers behind the first, at most so many
+record TakesBehind (left : ℕ) (text numbers : List ℕ) : Type 0 where
+  few : length numbers ≤ left
+  fit : AreBytes numbers
+  spelled : text ≡ behind_text numbers
 
 -- behind the last number the text is at its end
-end_taken : (value : ℕ) (text : List ℕ) (given : ℕ) → read_rest 0 value text ≡ Some given
-    → (text ≡ []) × (given ≡ value)
-unfolding read_rest
-end_taken value [] given e = (refl, sym (same_Some _ _ e))
-end_taken value (c ∷ text) given e = absurd (none-some given e)
+none_behind : (left : ℕ) (numbers : List ℕ) → [] ≡ numbers → TakesBehind left [] numbers
+none_behind left numbers same =
+    subst (λ (ns : List ℕ). TakesBehind left [] ns) same (record { few = omega arith; fit = tt; spelled = refl })
 
--- behind the first number
-three_taken : (a : ℕ) (text rest : List ℕ) (given : ℕ) → text ≡ decimal a ++ rest → a < 256
-    → read_rest 3 a rest ≡ Some given → IsIpv4 text given
-three_taken a text rest given split small e =
-    let two = rest_taken 2 a rest given e in
-    let three = rest_taken 1 (a * 256 + two.number) two.rest given two.further in
-    let four = rest_taken 0 ((a * 256 + two.number) * 256 + three.number) three.rest given three.further in
-    let last = end_taken _ four.rest given four.further in
-    let numbers : IsFourNumbers a two.number three.number four.number text
-    = record {
-      fit = (small, two.small, three.small, four.small);
-      spelled = four_spelled a two.number three.number four.number text rest two.rest three.rest four.rest split
-          two.split three.split four.split last.0;
-    } in
-    (a, two.number, three.number, four.number, numbers, last.1)
-
--- where the parser gives a value the text is an IPv4 text of it
-value_taken : (text : List ℕ) (value : ℕ) → parse_ipv4 text ≡ Some value → IsIpv4 text value
-unfolding parse_ipv4
-value_taken text value e =
-    option_and_then_some _ (read_digits None text) value e
+-- what is read behind the first number
+behind_taken : (left : ℕ) (text numbers : List ℕ) → read_behind left text ≡ Some numbers
+    → TakesBehind left text numbers
+unfolding read_behind
+behind_taken zero [] numbers e = none_behind zero numbers (same_Some [] numbers e)
+behind_taken (suc left) [] numbers e = none_behind (suc left) numbers (same_Some [] numbers e)
+behind_taken zero (c ∷ text) numbers e = absurd (none-some numbers e)
+behind_taken (suc left) (c ∷ text) numbers e =
+    let dot = fails_where_false (c == full_stop) e in
+    option_and_then_some _ (read_digits None text) numbers dot.1
     (λ (n, rest) number further.
     let is = number_taken text n rest number in
-    three_taken n text rest value is.0 is.1 further)
+    let (others, read, same) = mapped (λ (ns : List ℕ). n ∷ ns) (read_behind left rest) numbers further in
+    let later = behind_taken left rest others read in
+    let few : length (n ∷ others) ≤ suc left = let fewer = later.few in omega (arith, fewer) in
+    subst (λ (ns : List ℕ). TakesBehind (suc left) (c ∷ text) ns) same
+    (record {
+      few = few;
+      fit = (is.1, later.fit);
+      spelled = ap (λ mark. mark ∷ text) (eqb-true c full_stop dot.0)
+          ∙ ap (λ cs. full_stop ∷ cs) (is.0 ∙ ap (λ cs. decimal n ++ cs) later.spelled);
+    }))
 
--- the parser gives a value on the IPv4 texts alone, and exactly theirs
-pub ipv4_texts_alone : Ipv4ParserTakesIpv4Texts
-ipv4_texts_alone text value = (value_taken text value, ipv4_parsed text value)
+-- the numbers that are read are the text's
+pub numbers_taken : (text numbers : List ℕ) → read_numbers text ≡ Some numbers → AreNumbers numbers text
+unfolding read_numbers
+numbers_taken text numbers e =
+    option_and_then_some _ (read_digits None text) numbers e
+    (λ (n, rest) number further.
+    let is = number_taken text n rest number in
+    let (others, read, same) = mapped (λ (ns : List ℕ). n ∷ ns) (read_behind 3 rest) numbers further in
+    let later = behind_taken 3 rest others read in
+    let few : length (n ∷ others) ≤ 4 = let fewer = later.few in omega (arith, fewer) in
+    let some : 1 ≤ length (n ∷ others) = omega arith in
+    subst (λ (ns : List ℕ). AreNumbers ns text) same
+    (record {
+      some = some;
+      few = few;
+      fit = (is.1, later.fit);
+      spelled = is.0 ∙ (ap (λ cs. decimal n ++ cs) later.spelled ∙ sym (numbers_joined n others));
+    }))
+
+-- where the parser gives a value the text is one to four numbers of it
+value_taken : (text : List ℕ) (value : ℕ) → parse_ipv4 text ≡ Some value → IsNumbersText text value
+unfolding parse_ipv4
+value_taken text value e =
+    let (numbers, read, same) = mapped numbers_value (read_numbers text) value e in
+    (numbers, numbers_taken text numbers read, sym same)
+
+-- the parser gives a value on one to four numbers alone, and exactly theirs
+pub ipv4_takes_numbers : Ipv4ParserTakesNumbers
+ipv4_takes_numbers text value = (value_taken text value, numbers_parsed text value)

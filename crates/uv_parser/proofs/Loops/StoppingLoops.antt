@@ -4,14 +4,15 @@ use Rattle.std.proofs.Common.{◌≡◌, ℕ, Bool, true, false, not, ◌==◌, 
 use Rattle.std.proofs.Common.{append-nil, eqb-true}
 use Rattle.std.specs.Char.{is_ascii_hexdigit}
 use Rattle.std.proofs.lemmas.Bool.{true≢false, cases_Bool, not-true}
-use Rattle.uv_model.specs.Ascii.{slash, question_mark, number_sign}
+use Rattle.uv_model.specs.Ascii.{slash, space, question_mark, number_sign}
 use Rattle.uv_model.specs.Path.{is_without}
 use Rattle.uv_model.specs.Units.{is_url_code_point, is_unit_at, is_faultless}
 use Rattle.uv_model.specs.Records.Url.{Url}
 use Rattle.uv_model.specs.Encoding.{encoded_code_point}
 use Rattle.uv_parser.specs.Machine.{Variables, turn, onward, stop, PathState, OpaquePathState, QueryState}
 use Rattle.uv_parser.specs.Machine.{FragmentState, with_fragment, more_fragment}
-use Rattle.uv_parser.proofs.Loops.Looping.{opaque_row_on, query_row_on}
+use Rattle.uv_parser.specs.SilentTexts.{is_spaced}
+use Rattle.uv_parser.proofs.Loops.Looping.{opaque_row_on, opaque_row_space, query_row_on}
 use Rattle.uv_parser.proofs.Loops.PathLoops.{path_row_on}
 use Rattle.uv_parser.proofs.Running.Steps.{Stops, stops_here, ends_step}
 use Rattle.uv_model.proofs.Texts.UnitsLemmas.{is_unit_at-mark}
@@ -94,13 +95,13 @@ module _ (base : Option Url) where
   -- ---- the opaque path
 
   opaque_row_fault : (c : ℕ) (rest : List ℕ) (v : Variables) (p : ℕ) → (c == number_sign) ≡ false
-      → is_unit_at c rest ≡ false
+      → (c == space) ≡ false → is_unit_at c rest ≡ false
       → turn base OpaquePathState p v (c ∷ rest) ≡ stop
-  opaque_row_fault c rest v p mark fault =
-      simp (fault_no_slash c rest fault, fault_no_question_mark c rest fault, mark, fault) refl
+  opaque_row_fault c rest v p mark other fault =
+      simp (fault_no_slash c rest fault, fault_no_question_mark c rest fault, mark, other, fault) refl
 
-  -- an opaque path with a fault stops
-  pub opaque_path_stops : (cs rest : List ℕ) (v : Variables) → is_faultless cs ≡ false
+  -- an opaque path with a fault that is no space stops
+  pub opaque_path_stops : (cs rest : List ℕ) (v : Variables) → is_spaced cs ≡ false
       → is_without question_mark cs ≡ true → is_without number_sign cs ≡ true
       → no_hex_first rest ≡ true → Stops base OpaquePathState v (cs ++ rest)
   opaque_path_stops [] rest v fault no_question no_number first = absurd (true≢false fault)
@@ -108,11 +109,16 @@ module _ (base : Option Url) where
       let question = is_without-cons question_mark c cs no_question in
       let number = is_without-cons number_sign c cs no_number in
       let same = unit_before c cs rest first in
-      elim (cases_Bool (is_unit_at c cs)) [
-        | inl unit ↦
-            ends_step base (λ p. opaque_row_on base c (cs ++ rest) v p question.0 (same ∙ unit))
-            (opaque_path_stops cs rest _ (rw unit at fault) question.1 number.1 first)
-        | inr bad ↦ stops_here base (λ p. opaque_row_fault c (cs ++ rest) v p number.0 (same ∙ bad))
+      elim (cases_Bool (c == space)) [
+        | inl is ↦
+            ends_step base (λ p. opaque_row_space base c (cs ++ rest) v p is)
+            (opaque_path_stops cs rest _ (rw is at fault) question.1 number.1 first)
+        | inr other ↦ elim (cases_Bool (is_unit_at c cs)) [
+          | inl unit ↦
+              ends_step base (λ p. opaque_row_on base c (cs ++ rest) v p question.0 (same ∙ unit))
+              (opaque_path_stops cs rest _ (rw (other, unit) at fault) question.1 number.1 first)
+          | inr bad ↦ stops_here base (λ p. opaque_row_fault c (cs ++ rest) v p number.0 other (same ∙ bad))
+        ]
       ]
 
   -- ---- the path

@@ -1,6 +1,6 @@
 -- How a run of the parser machine ends behind a path: at the end of the text, or through a query, a fragment, or both.
 use Rattle.std.proofs.Common.{◌≡◌, ℕ, false, List, [], ◌∷◌, ◌++◌, Option, Some, None, refl, append-nil}
-use Rattle.std.specs.Prelude.{option_map}
+use Rattle.std.specs.Prelude.{◌||◌, is_some, option_map}
 use Rattle.uv_model.specs.Ascii.{slash, question_mark, number_sign}
 use Rattle.uv_model.specs.Encoding.{encoded}
 use Rattle.uv_model.specs.Parts.{written_behind}
@@ -10,6 +10,7 @@ use Rattle.uv_model.specs.Records.Url.{Url}
 use Rattle.uv_model.specs.Valid.{MayBeUnits}
 use Rattle.uv_parser.specs.Machine.{State, Variables, turn, onward, to_query, to_fragment, QueryState, FragmentState}
 use Rattle.uv_parser.specs.Machine.{emptied, with_query, with_fragment, with_more, query_ended, is_special, begins}
+use Rattle.uv_parser.specs.Machine.{begins_tail}
 use Rattle.uv_parser.proofs.Running.Steps.{Ends, ends_onward, ends_step, ends_after}
 use Rattle.uv_model.proofs.Texts.UnitsLemmas.{is_faultless-units}
 use Rattle.uv_parser.proofs.Loops.Looping.{query_law, fragment_law}
@@ -70,6 +71,13 @@ module _ (base : Option Url) where
   tail_ends s v v₁ (Some query) fragment turns query_units fragment_units =
       ends_step base (λ p. turns.at_query p (query ++ written_behind number_sign fragment))
       (query_ends query fragment v₁ query_units fragment_units)
+
+-- `?` or `#` begins a tail where there is a query or a fragment
+pub tail_begins : (query fragment : Option (List ℕ))
+    → begins_tail (tail query fragment) ≡ (is_some query || is_some fragment)
+tail_begins (Some query) fragment = refl
+tail_begins None (Some fragment) = refl
+tail_begins None None = refl
 
 -- a tail doesn't begin with `/`, and so neither does a path that doesn't, with a tail behind it
 pub no_slash_before_tail : (path : List ℕ) (query fragment : Option (List ℕ)) → starts_with_slash path ≡ false

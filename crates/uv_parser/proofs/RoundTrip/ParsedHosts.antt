@@ -1,7 +1,7 @@
 -- What the host parser makes of a text it makes again of that host's own text.
 use Rattle.std.proofs.Common.{◌≡◌, ◌≢◌, ℕ, true, false, not, ◌==◌, List, [], ◌∷◌, All, length, encode_utf8_all, IsAscii}
-use Rattle.std.proofs.Common.{Option, Some, None, refl, sym, ap, subst, ◌∙◌, inl, inr, ne_eqb}
-use Rattle.std.specs.Prelude.{option_and_then, option_map}
+use Rattle.std.proofs.Common.{Option, Some, refl, sym, ap, subst, ◌∙◌, inl, inr, ne_eqb}
+use Rattle.std.specs.Prelude.{option_and_then}
 use Rattle.std.specs.List.{list_all, list_any}
 use Rattle.std.specs.Str.{is_utf8}
 use Rattle.std.proofs.lemmas.Bool.{cases_Bool, false≢true, true≢false, and_parts}
@@ -27,8 +27,9 @@ use Rattle.uv_model.specs.Records.WellFormed.{takes_port}
 use Rattle.uv_model.proofs.Hosts.DomainLemmas.{parser_form-is}
 use Rattle.uv_parser.proofs.HostParsing.HostParserLemmas.{percent_decoded-plain}
 use Rattle.uv_model.proofs.Records.WellFormedLemmas.{IsUrlOpaqueHost-encoded}
-use Rattle.uv_model.proofs.Addresses.AddressSizes.{ipv4_small, ipv6_small}
-use Rattle.uv_parser.proofs.HostParsing.Ipv4Taken.{ipv4_texts_alone}
+use Rattle.uv_model.proofs.Addresses.AddressSizes.{ipv6_small}
+use Rattle.uv_parser.proofs.HostParsing.Ipv4ParserLemmas.{numbers_small}
+use Rattle.uv_parser.proofs.HostParsing.Ipv4Taken.{ipv4_takes_numbers, mapped}
 use Rattle.uv_parser.proofs.HostParsing.OtherHostsTaken.{bracketed_taken}
 
 -- ---- values that may be absent
@@ -37,12 +38,6 @@ use Rattle.uv_parser.proofs.HostParsing.OtherHostsTaken.{bracketed_taken}
 bound : {A B : Type 0} → (f : A → Option B) (o : Option A) (y : B) → option_and_then f o ≡ Some y
     → (x : A) × (o ≡ Some x) × (f x ≡ Some y)
 bound f o y e = option_and_then_some f o y e (λ x is further. (x, is, further))
-
--- a function of a value
-mapped : {A B : Type 0} → (f : A → B) (o : Option A) (y : B) → option_map f o ≡ Some y
-    → (x : A) × (o ≡ Some x) × (f x ≡ y)
-mapped f None y e = absurd (none-some y e)
-mapped f (Some x) y e = (x, refl, same_Some (f x) y e)
 
 -- ---- domains
 
@@ -106,8 +101,9 @@ form_read text form value given e =
         | inr allowed ↦ elim (cases_Bool (ends_in_number form)) [
           | inl number ↦
               let (address, parsed, same) = mapped host.V4 (parse_ipv4 form) value (rw (some, allowed, number) at e) in
+              let (numbers, are, valued) = (ipv4_takes_numbers form address).0 parsed in
               subst (λ v. IsReadableHost Special (Some v)) same
-              (ipv4_small form address ((ipv4_texts_alone form address).0 parsed))
+              (rw valued (numbers_small numbers are.fit are.few))
           | inr name ↦
               let same : host.Domain form ≡ value
               = same_Some (host.Domain form) value (rw (some, allowed, name) at e) in

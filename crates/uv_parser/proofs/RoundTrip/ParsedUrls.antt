@@ -1,31 +1,33 @@
 -- The URL with which a run of the parser is done is readable: the parser makes of its serialized text that URL again.
-use Rattle.std.proofs.Common.{◌≡◌, ℕ, true, false, List, [], ◌∷◌, codes, Option, Some, None, refl, sym, ap, subst, ◌∙◌}
-use Rattle.std.proofs.Common.{inl, inr}
-use Rattle.std.specs.Prelude.{option_map}
+use Rattle.std.proofs.Common.{◌≡◌, ℕ, true, false, ◌||◌, List, [], ◌∷◌, ◌++◌, codes, Option, Some, None, refl, sym, ap}
+use Rattle.std.proofs.Common.{subst, ◌∙◌, append-nil, inl, inr}
+use Rattle.std.specs.Prelude.{is_some, option_map}
 use Rattle.std.specs.Str.{bytes_eq}
-use Rattle.std.proofs.lemmas.Bool.{cases_Bool, false≢true}
+use Rattle.std.proofs.lemmas.Bool.{cases_Bool, false≢true, true≢false}
 use Rattle.uv_model.specs.declared.profile.Profile.TheVariants.{Standard, Wide}
 use Rattle.uv_model.specs.declared.scheme.Class.{Class}
 use Rattle.uv_model.specs.declared.scheme.Class.TheVariants.{Special, File, Other}
 use Rattle.uv_model.specs.declared.host.Host.{Host}
 use Rattle.uv_model.specs.declared.host.Host.TheVariants as host
 use Rattle.uv_model.specs.declared.path.UrlPath.{UrlPath}
-use Rattle.uv_model.specs.declared.path.UrlPath.TheVariants.{Segments}
+use Rattle.uv_model.specs.declared.path.UrlPath.TheVariants.{Opaque, Segments}
+use Rattle.uv_model.specs.Ascii.{colon}
 use Rattle.uv_model.specs.Records.Denote.{authority_host, authority_path, denote, denoted_query, denoted_scheme}
+use Rattle.uv_model.specs.Records.Denote.{end_escaped, has_tail}
 use Rattle.uv_model.specs.Encoding.{encoded}
 use Rattle.uv_parser.specs.HostParser.{IsTakenOtherHost}
 use Rattle.uv_model.specs.Parts.{Form, Parts, SchemeAuthority, SchemePath, SchemeOpaque, Authority, PathAbsolute}
 use Rattle.uv_model.specs.Parts.{PathRelative, NoPath, has_scheme}
-use Rattle.uv_parser.specs.SilentTexts.{Silent, Takes, TakesAuthority, TakesHostText}
+use Rattle.uv_parser.specs.SilentTexts.{Silent, Takes, TakesAuthority, TakesForm, TakesHostText}
 use Rattle.uv_model.specs.Path.{IsPathAbsolute}
 use Rattle.uv_parser.specs.Laws.RoundTrip.{IsReadable, IsReadableFileHost, IsReadableHost, IsReadableSpecialHost}
-use Rattle.uv_parser.specs.Laws.RoundTrip.{MayBeStable, ParsedUrlsAreReadBack}
+use Rattle.uv_parser.specs.Laws.RoundTrip.{IsReadablePath, MayBeStable, ParsedUrlsAreReadBack, ends_with_space}
 use Rattle.uv_parser.specs.Run.{Done, run, step_bound}
 use Rattle.uv_model.specs.Setting.{setting_of}
 use Rattle.uv_model.specs.Scheme.{default_port, scheme_class}
 use Rattle.uv_model.specs.Records.Url.{Url}
-use Rattle.uv_model.specs.Valid.{FitsBase, FitsForm, FitsScheme, MayBePortText, MayBeUnits, port_given, scheme_in}
-use Rattle.uv_model.specs.Valid.{without_localhost}
+use Rattle.uv_model.specs.Valid.{FitsBase, FitsForm, FitsScheme, HasNoAuthority, MayBePortText, MayBeUnits}
+use Rattle.uv_model.specs.Valid.{port_given, scheme_in, without_localhost}
 use Rattle.uv_model.specs.Records.WellFormed.{IsUrlPath, IsUrlPort, IsUrlQuery, IsUrlScheme, MayBeWellFormed}
 use Rattle.uv_model.specs.Records.WellFormed.{takes_port}
 use Rattle.uv_model.proofs.Cuts.AuthorityLemmas.{IsUrlPath-authority, IsUrlPort-given, AreSegments-maybe}
@@ -40,6 +42,12 @@ use Rattle.uv_parser.proofs.HostParsing.OtherHosts.{silent_other_hosts_are_valid
 use Rattle.uv_parser.proofs.HostParsing.OtherHostsTaken.{other_hosts_are_taken}
 use Rattle.uv_parser.proofs.RoundTrip.ParsedHosts.{other_readable, other_takes_port, special_readable}
 use Rattle.uv_parser.proofs.RoundTrip.RoundTripLemmas.{denoted_is_stable, readable_url, readable_urls_are_read_back}
+use Rattle.uv_parser.proofs.RoundTrip.SpacedOpaquePaths.{readable_opaque_path}
+use Rattle.uv_parser.proofs.Running.KeptSpaces.{ends_behind, kept_text_ends}
+use Rattle.uv_parser.proofs.Loops.SchemeStretch.{scheme_there}
+use Rattle.uv_parser.proofs.Loops.Tails.{tail}
+use Rattle.uv_parser.proofs.Silence.SilentSchemes.{written_without_authority}
+use Rattle.uv_model.proofs.Cuts.ValidCutLemmas.{written_as_cut}
 use Rattle.uv_model.proofs.Records.WellFormedLemmas.{IsUrlFragment-encoded}
 
 -- ---- the host and the port of an authority
@@ -210,6 +218,56 @@ own_scheme : (base : Option Url) (text : List ℕ) (form : Form) (parts : Parts)
 own_scheme base text form parts silent e =
     subst (λ (f : Form). FitsScheme (has_scheme f) parts.scheme) e silent.scheme
 
+-- an opaque path with nothing behind it ends with no space
+path_ends : (base : Option Url) (text : List ℕ) (parts : Parts) → Silent base text parts → HasNoAuthority parts
+    → FitsScheme true parts.scheme → has_tail parts ≡ false → ends_with_space parts.path_text ≡ false
+path_ends base text parts silent none scheme alone =
+    let (name, named, is) = scheme_there parts.scheme scheme in
+    let whole : text ≡ name ++ (colon ∷ (parts.path_text ++ tail parts.query parts.fragment))
+    = silent.cut.whole ∙ (sym (written_as_cut parts) ∙ written_without_authority parts name named none.host_text) in
+    let bare : tail parts.query parts.fragment ≡ [] = no_tail parts.query parts.fragment alone in
+    let end : ends_with_space (name ++ (colon ∷ (parts.path_text ++ tail parts.query parts.fragment))) ≡ false
+    = ap ends_with_space (sym whole) ∙ kept_text_ends text silent.kept in
+    behind_colon parts.path_text
+    (sym (ends_behind name colon parts.path_text)
+    ∙ (ap (λ xs. ends_with_space (name ++ (colon ∷ xs)))
+    (sym (ap (λ xs. parts.path_text ++ xs) bare ∙ append-nil parts.path_text)) ∙ end))
+  where
+    no_tail : (query fragment : Option (List ℕ)) → (is_some query || is_some fragment) ≡ false
+        → tail query fragment ≡ []
+    no_tail None None alone = refl
+    no_tail None (Some text) alone = absurd (true≢false alone)
+    no_tail (Some text) fragment alone = absurd (true≢false alone)
+
+    behind_colon : (path : List ℕ) → ends_with_space (colon ∷ path) ≡ false → ends_with_space path ≡ false
+    behind_colon [] end = refl
+    behind_colon (c ∷ rest) end = end
+
+-- what a text with an opaque path denotes
+opaque_readable : (base : Option Url) (text : List ℕ) (parts : Parts) → Silent base text parts
+    → FitsScheme true parts.scheme → TakesForm base SchemeOpaque parts → IsReadable (denote_as base SchemeOpaque parts)
+opaque_readable base text parts silent scheme (none, other, path, empty) =
+    let class : Class = scheme_class (scheme_in base parts) in
+    let name : List ℕ = denoted_scheme base parts.scheme in
+    let same : class ≡ scheme_class name = class-denoted base parts parts.scheme refl in
+    let denoted : UrlPath = Opaque (encoded false (end_escaped (has_tail parts) parts.path_text)) in
+    let is_path : IsReadablePath Other None denoted
+    = (
+      refl,
+      refl,
+      readable_opaque_path (has_tail parts) parts.path_text path (path_ends base text parts silent none scheme),
+    ) in
+    record {
+      scheme = IsUrlScheme-own base parts.scheme scheme;
+      host = subst (λ (k : Class). IsReadableHost k None) (sym other ∙ same) tt;
+      port = tt;
+      path = subst (λ (k : Class). IsReadablePath k None denoted) (sym other ∙ same) is_path;
+      query =
+          subst (λ (k : Class). IsUrlQuery k (denoted_query base class SchemeOpaque parts.query)) same
+          (IsUrlQuery-own base class SchemeOpaque parts.query silent.query (λ e none. absurd cc));
+      fragment = IsUrlFragment-encoded parts.fragment silent.fragment;
+    }
+
 -- what silent parts denote is readable
 silent_readable : (base : Option Url) (text : List ℕ) (form : Form) (parts : Parts) → MayBeWellFormed Wide base
     → MayBeStable base → Silent base text parts → parts.form ≡ form → IsReadable (denote base parts)
@@ -230,7 +288,9 @@ silent_readable base text PathAbsolute parts well stable silent e =
 silent_readable base text SchemePath parts well stable silent e =
     by_valid base text SchemePath parts well stable silent e (takes_form base text parts SchemePath silent e)
 silent_readable base text SchemeOpaque parts well stable silent e =
-    by_valid base text SchemeOpaque parts well stable silent e (takes_form base text parts SchemeOpaque silent e)
+    subst (λ (f : Form). IsReadable (denote_as base f parts)) (sym e)
+    (opaque_readable base text parts silent (own_scheme base text SchemeOpaque parts silent e)
+    (takes_form base text parts SchemeOpaque silent e))
 silent_readable base text PathRelative parts well stable silent e =
     by_valid base text PathRelative parts well stable silent e (takes_form base text parts PathRelative silent e)
 silent_readable base text NoPath parts well stable silent e =

@@ -16,18 +16,23 @@ use Rattle.uv_model.specs.Parts.{Form, Parts, SchemeAuthority, SchemePath, Schem
 use Rattle.uv_model.specs.Parts.{PathRelative, NoPath, written}
 use Rattle.uv_parser.specs.Laws.RoundTrip.{DenotedUrlsAreReadBack, IsReadBack, IsReadable, IsReadableHost, IsStable}
 use Rattle.uv_parser.specs.Laws.RoundTrip.{MayBePortNumber, MayBeStable, MayBeStableHost, ReadableUrlsAreReadBack}
-use Rattle.uv_parser.specs.Laws.RoundTrip.{StableUrlsAreReadBack}
+use Rattle.uv_parser.specs.Laws.RoundTrip.{IsReadableOpaquePath, IsReadablePath, StableUrlsAreReadBack}
 use Rattle.uv_parser.specs.Run.{Done, run, step_bound}
 use Rattle.uv_model.specs.Scheme.{scheme_class}
 use Rattle.uv_model.specs.Records.Url.{Url}
 use Rattle.uv_model.specs.Valid.{FitsAuthority, FitsForm, FitsHostText, Valid}
-use Rattle.uv_model.specs.Records.WellFormed.{IsUrlHost, IsUrlPort, WellFormed, may_be_empty}
+use Rattle.uv_model.specs.Records.WellFormed.{IsUrlHost, IsUrlOpaquePath, IsUrlPath, IsUrlPort, WellFormed}
+use Rattle.uv_model.specs.Records.WellFormed.{may_be_empty}
 use Rattle.uv_parser.proofs.Done.DecidedBases.{texts_are_decided, takes_none}
 use Rattle.uv_model.proofs.Records.DenotedRecords.{denoted_records_are_well_formed}
 use Rattle.uv_parser.proofs.RoundTrip.SerializedAuthorities.{authority_read}
 use Rattle.uv_parser.proofs.RoundTrip.SerializedPaths.{IsSilentOn, opaque_read, path_read, url_of}
 use Rattle.uv_parser.proofs.RoundTrip.StableHosts.{authority_host_stable, file_host_stable, host_stable}
 use Rattle.uv_parser.proofs.RoundTrip.StableHosts.{opaque_host_stable, port_small}
+use Rattle.uv_parser.proofs.Running.KeptSpaces.{ends_unremoved}
+use Rattle.uv_parser.proofs.Running.Unremoved.{unremoved_faultless}
+use Rattle.uv_parser.proofs.Silence.SpacedPaths.{spaced_units}
+use Rattle.uv_model.proofs.Texts.UnitsLemmas.{is_faultless-units}
 
 -- ---- each well-formed stable URL
 
@@ -106,13 +111,33 @@ readable_host Other (Some (host.V6 pieces)) is stable = stable
 readable_host Other (Some (host.Opaque text)) is stable = is
 readable_host Other (Some host.Empty) is stable = tt
 
+-- the opaque path of a well-formed URL is readable
+readable_opaque : (text : List ℕ) → IsUrlOpaquePath text → IsReadableOpaquePath text
+readable_opaque text is =
+    let units = is_faultless-units text is.units.units in
+    record {
+      spaced = record {
+        units = spaced_units text units;
+        no_question_mark = is.no_question_mark;
+        start = is.start;
+      };
+      ascii = is.units.ascii;
+      end = ends_unremoved text (unremoved_faultless text units);
+    }
+
+-- and so is any path of one
+readable_path : (class : Class) (value : Option Host) (path : UrlPath) → IsUrlPath class value path
+    → IsReadablePath class value path
+readable_path class value (Segments list) is = is
+readable_path class value (Opaque text) (other, none, is) = (other, none, readable_opaque text is)
+
 -- a well-formed URL whose host and port are stable is readable
 pub readable_url : (url : Url) → WellFormed Wide url → IsStable url → IsReadable url
 readable_url url well stable = record {
   scheme = well.scheme;
   host = readable_host (scheme_class url.scheme) url.host well.host stable.host;
   port = well.port;
-  path = well.path;
+  path = readable_path (scheme_class url.scheme) url.host url.path well.path;
   query = well.query;
   fragment = well.fragment;
 }

@@ -1,40 +1,46 @@
 -- The serialized text of a well-formed URL without a host: the parser is silent on it, and its parts denote the URL.
-use Rattle.std.proofs.Common.{◌≡◌, ℕ, true, false, not, ◌&&◌, ◌==◌, List, [], ◌∷◌, ◌++◌, codes, Option, Some, None}
-use Rattle.std.proofs.Common.{refl, sym, ap, ◌∙◌, append_assoc}
+use Rattle.std.proofs.Common.{◌≡◌, ℕ, true, false, not, ◌&&◌, ◌||◌, ◌==◌, List, [], ◌∷◌, ◌++◌, codes, Option, Some, None}
+use Rattle.std.proofs.Common.{refl, sym, ap, ◌∙◌, append_assoc, eqb-true, inl, inr}
+use Rattle.std.specs.Prelude.{is_some}
 use Rattle.std.specs.List.{list_all, join_with_byte}
 use Rattle.std.specs.Char.{is_ascii, is_ascii_uppercase}
-use Rattle.std.proofs.lemmas.Bool.{and_parts, and_from}
+use Rattle.std.proofs.lemmas.Bool.{and_parts, and_from, cases_Bool, true≢false}
 use Rattle.uv_model.specs.declared.profile.Profile.TheVariants.{Wide}
 use Rattle.uv_model.specs.declared.scheme.Class.{Class}
 use Rattle.uv_model.specs.declared.scheme.Class.TheVariants.{Other}
 use Rattle.uv_model.specs.declared.host.Host.{Host}
 use Rattle.uv_model.specs.declared.path.UrlPath.{UrlPath}
 use Rattle.uv_model.specs.declared.path.UrlPath.TheVariants.{Opaque, Segments}
-use Rattle.uv_model.specs.Ascii.{slash, colon}
+use Rattle.uv_model.specs.Ascii.{slash, space, colon, number_sign}
+use Rattle.uv_model.specs.Encoding.{encoded}
 use Rattle.uv_model.specs.Records.Denote.{denote, denoted_query}
 use Rattle.uv_model.specs.Parts.{Form, Parts, SchemePath, SchemeOpaque, written}
-use Rattle.uv_parser.specs.SilentTexts.{Silent, TakesForm}
-use Rattle.uv_model.specs.Path.{AreSegments, IsPathAbsolute, IsSegment, is_double_dot, is_single_dot, starts_with_slash}
-use Rattle.uv_model.specs.Path.{walk}
+use Rattle.uv_parser.specs.SilentTexts.{Silent, TakesForm, is_spaced}
+use Rattle.uv_model.specs.Path.{AreSegments, IsPathAbsolute, IsSegment, is_double_dot, is_single_dot, is_without}
+use Rattle.uv_model.specs.Path.{starts_with_slash, walk}
 use Rattle.uv_model.specs.Scheme.{is_scheme, lowercase, scheme_class}
 use Rattle.uv_model.specs.Records.Serialize.{serial, serial_authority, serial_path, serial_segments}
 use Rattle.uv_model.specs.Units.{is_faultless, is_unit_at, is_url_code_point}
 use Rattle.uv_model.specs.Records.Url.{Url}
 use Rattle.uv_model.specs.Valid.{HasNoAuthority, Valid}
-use Rattle.uv_model.specs.Records.WellFormed.{AreUrlSegments, IsUrlFragment, IsUrlOpaquePath, IsUrlQuery, IsUrlScheme}
+use Rattle.uv_model.specs.Records.WellFormed.{AreUrlSegments, IsUrlFragment, IsUrlQuery, IsUrlScheme}
+use Rattle.uv_parser.specs.Laws.RoundTrip.{IsReadableOpaquePath}
+use Rattle.uv_parser.specs.Removed.{first_removed}
 use Rattle.uv_parser.proofs.Decided.DecidedOpaque.{opaque_parts}
 use Rattle.uv_model.proofs.Paths.JoinedSegments.{faultless_path}
-use Rattle.uv_model.proofs.Texts.MarkLemmas.{is_without-cons}
+use Rattle.uv_model.proofs.Texts.MarkLemmas.{is_without-cons, is_without-more}
+use Rattle.uv_model.proofs.Texts.UnitsAhead.{unit_not_number_sign}
 use Rattle.uv_model.proofs.Paths.PathLemmas.{slash_is_url}
-use Rattle.uv_model.proofs.Paths.PathPieces.{path_relative, pieces}
 use Rattle.uv_model.proofs.SchemeLemmas.{is_ascii-scheme, lowercase-name}
 use Rattle.uv_parser.proofs.RoundTrip.SerializedTexts.{AreSegments-url, encoded-ascii, encoded-fragment, encoded-query}
 use Rattle.uv_parser.proofs.RoundTrip.SerializedTexts.{fragment_units, query_units, serial_segments-joined, walk-kept}
 use Rattle.uv_parser.proofs.Silence.SilentSchemes.{kept_text, written_without_authority}
 use Rattle.uv_parser.proofs.Loops.Tails.{tail}
-use Rattle.uv_model.proofs.Texts.UnitsLemmas.{is_faultless-units, is_unit_at-url}
+use Rattle.uv_model.proofs.Texts.UnitsLemmas.{is_unit_at-url}
+use Rattle.uv_parser.proofs.RoundTrip.SpacedOpaquePaths.{escaped_kept}
+use Rattle.uv_parser.proofs.Running.KeptSpaces.{spaced_text_is_kept}
 use Rattle.uv_parser.proofs.Running.Unremoved.{unremoved_faultless}
-use Rattle.uv_model.proofs.Cuts.ValidCutLemmas.{valid_is_cut}
+use Rattle.uv_model.proofs.Cuts.ValidCutLemmas.{MiddleFits, cut_of_parts, valid_is_cut, without_slash_without_two}
 
 -- the URL of these fields
 abbrev pub url_of : List ℕ → Option Host → Option ℕ → UrlPath → Option (List ℕ) → Option (List ℕ) → Url
@@ -106,11 +112,25 @@ no_authority a b c d = record { host_text = a; host = b; port_text = c; port = d
 
 -- ---- an opaque path
 
+-- units and spaces hold no `#`
+spaced_without_number_sign : (text : List ℕ) → is_spaced text ≡ true → is_without number_sign text ≡ true
+spaced_without_number_sign [] spaced = refl
+spaced_without_number_sign (c ∷ rest) spaced =
+    let parts = and_parts ((c == space) || is_unit_at c rest) (is_spaced rest) spaced in
+    is_without-more number_sign c rest (no_number_sign c rest parts.0) (spaced_without_number_sign rest parts.1)
+  where
+    no_number_sign : (c : ℕ) (rest : List ℕ) → ((c == space) || is_unit_at c rest) ≡ true → (c == number_sign) ≡ false
+    no_number_sign c rest is =
+        elim (cases_Bool (c == space)) [
+          | inl same ↦ rw (eqb-true c space same) refl
+          | inr not_space ↦ unit_not_number_sign c rest (rw not_space at is)
+        ]
+
 module _ (scheme : List ℕ) (query fragment : Option (List ℕ)) (is : IsUrlScheme scheme)
     (other : scheme_class scheme ≡ Other) (query_is : IsUrlQuery (scheme_class scheme) query)
     (fragment_is : IsUrlFragment fragment) where
   -- the parts of a URL with an opaque path denote it
-  opaque_denoted : (text : List ℕ) → IsUrlOpaquePath text
+  opaque_denoted : (text : List ℕ) → IsReadableOpaquePath text
       → denote None (opaque_parts scheme None text query fragment)
       ≡ url_of scheme None None (Opaque text) query fragment
   unfolding denote
@@ -118,40 +138,48 @@ module _ (scheme : List ℕ) (query fragment : Option (List ℕ)) (is : IsUrlSch
     scheme = lowercase-scheme scheme is i;
     host = None;
     port = None;
-    path = Opaque (encoded-ascii text path.units.ascii i);
+    path = Opaque ((ap (encoded false) (escaped_kept (is_some query || is_some fragment) text path.end)
+        ∙ encoded-ascii text path.ascii) i);
     query = denoted_query-own (scheme_class scheme) SchemeOpaque query refl query_is i;
     fragment = encoded-fragment fragment fragment_is i;
   }
 
-  -- they are the parts of a valid text
-  opaque_valid : (text : List ℕ) → IsUrlOpaquePath text
-      → Valid Wide None (written (opaque_parts scheme None text query fragment))
+  -- the parser is silent on the text that is written of them
+  opaque_silent : (text : List ℕ) → IsReadableOpaquePath text
+      → Silent None (written (opaque_parts scheme None text query fragment))
       (opaque_parts scheme None text query fragment)
-  opaque_valid text path = record {
-    whole = refl;
-    scheme = is.spelled;
-    against = refl;
-    form = (
-      no_authority refl refl refl refl,
-      other,
-      (pieces text, path_relative text (is_faultless-units text path.units.units) path.no_question_mark path.start),
-      refl,
-    );
-    query = query_units (scheme_class scheme) query query_is;
-    fragment = fragment_units fragment fragment_is;
-  }
+  opaque_silent text path =
+      let parts = opaque_parts scheme None text query fragment in
+      let query_fits = query_units (scheme_class scheme) query query_is in
+      let fragment_fits = fragment_units fragment fragment_is in
+      let middle : MiddleFits (scheme_class scheme) None None text
+      = record {
+        no_question_mark = path.spaced.no_question_mark;
+        no_number_sign = spaced_without_number_sign text path.spaced.units;
+        authority = (refl, without_slash_without_two text path.spaced.start);
+      } in
+      record {
+        cut = cut_of_parts None (written parts) parts true refl is.spelled (λ none. absurd (true≢false none)) middle
+            query_fits;
+        kept =
+            ap first_removed (written_without_authority parts scheme refl refl)
+            ∙ spaced_text_is_kept scheme text query fragment is.spelled path.spaced.units path.end query_fits
+            fragment_fits;
+        scheme = is.spelled;
+        against = refl;
+        form = (no_authority refl refl refl refl, other, path.spaced, refl);
+        query = query_fits;
+        fragment = fragment_fits;
+      }
 
-  -- the parser is silent on the text of a URL with an opaque path
-  pub opaque_read : (text : List ℕ) → IsUrlOpaquePath text
+  -- so it is on the text of a URL with an opaque path
+  pub opaque_read : (text : List ℕ) → IsReadableOpaquePath text
       → IsSilentOn (url_of scheme None None (Opaque text) query fragment)
   opaque_read text path =
       let parts = opaque_parts scheme None text query fragment in
-      let valid = opaque_valid text path in
       record {
         parts = parts;
-        silent =
-            silent_alone scheme parts refl is.spelled refl (is_faultless-units text path.units.units) valid
-            valid.form;
+        silent = opaque_silent text path;
         written = written_without_authority parts scheme refl refl
             ∙ sym (text_alone scheme text (Opaque text) query fragment refl);
         denoted = opaque_denoted text path;

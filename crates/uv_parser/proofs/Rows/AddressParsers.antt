@@ -1,18 +1,25 @@
 -- The rows of the IPv4 and IPv6 parsers, by computation.
 use Rattle.std.proofs.Common.{refl}
-use Rattle.uv_parser.specs.Ipv4Parser.{read_rest, parse_ipv4}
+use Rattle.uv_parser.specs.Ipv4Parser.{read_behind, read_numbers, parse_ipv4}
 use Rattle.uv_parser.specs.Ipv6Parser.{read_hex, read_digits, read_dotted, main_loop, move, parse_ipv6}
 use Rattle.uv_parser.specs.Rows.AddressParsers.{Ipv4Rows, Ipv6Rows, Ipv6Failures, AddressParserRows}
 
 -- IPv4 texts, and texts that stop the parser
 ipv4_rows : Ipv4Rows
-unfolding read_digits read_rest parse_ipv4
+unfolding read_digits read_behind read_numbers parse_ipv4
 ipv4_rows = record {
   zeros = refl;
   largest = refl;
   private = refl;
   empty = refl;
   three_numbers = refl;
+  two_numbers = refl;
+  one_number = refl;
+  five_numbers = refl;
+  empty_part = refl;
+  octal = refl;
+  hexadecimal = refl;
+  last_256 = refl;
   leading_zero = refl;
   root_dot = refl;
   octet_256 = refl;

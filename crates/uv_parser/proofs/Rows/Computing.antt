@@ -8,7 +8,7 @@ use Rattle.uv_model.specs.Records.Denote.{denote}
 use Rattle.uv_model.specs.Hosts.Domain.{ends_in_number, parser_form}
 use Rattle.uv_model.specs.Encoding.{encoded}
 use Rattle.uv_parser.specs.HostParser.{parse_domain, parse_host}
-use Rattle.uv_parser.specs.Ipv4Parser.{parse_ipv4, read_rest}
+use Rattle.uv_parser.specs.Ipv4Parser.{parse_ipv4, read_behind, read_numbers}
 use Rattle.uv_parser.specs.Ipv6Parser.{main_loop, move, parse_ipv6, read_digits, read_dotted, read_hex}
 use Rattle.uv_model.specs.Parts.{written}
 use Rattle.uv_model.specs.Path.{is_double_dot, is_single_dot, walk}
@@ -21,7 +21,7 @@ use Rattle.uv_model.specs.Units.{is_unit_at, is_url_code_point}
 -- `unfolding parser` lets `refl` compute `run`, `serial` and `denote`
 unfoldable pub parser : Unit {0}
 unfolding idna chars is_utf8 digits hex hex_groups_text percent_decode percent_encode_byte denote ends_in_number
-    parser_form encoded parse_domain parse_host parse_ipv4 read_rest main_loop move parse_ipv6 read_digits read_dotted
-    read_hex is_double_dot is_single_dot walk first_removed run run_from step default_port scheme_class serial
+    parser_form encoded parse_domain parse_host parse_ipv4 read_behind read_numbers main_loop move parse_ipv6 read_digits
+    read_dotted read_hex is_double_dot is_single_dot walk first_removed run run_from step default_port scheme_class serial
     serial_host is_unit_at is_url_code_point written
 parser = tt

@@ -8,14 +8,14 @@ use Rattle.uv_model.specs.Hosts.Domain.{ends_in_number, parser_form}
 use Rattle.uv_model.specs.Encoding.{encoded}
 use Rattle.uv_parser.specs.HostParser.{parse_domain, parse_host}
 use Rattle.uv_parser.specs.Rows.HostParser.{SpecialHostRows, SpecialHostFailures, OpaqueHostRows, HostParserRows}
-use Rattle.uv_parser.specs.Ipv4Parser.{read_rest, parse_ipv4}
+use Rattle.uv_parser.specs.Ipv4Parser.{read_behind, read_numbers, parse_ipv4}
 use Rattle.uv_parser.specs.Ipv6Parser.{read_hex, read_digits, read_dotted, main_loop, move, parse_ipv6}
 use Rattle.uv_model.specs.Units.{is_unit_at, is_url_code_point}
 
 -- hosts of special URLs
 special_host_rows : SpecialHostRows
 unfolding parse_host parse_domain chars percent_decode is_utf8 encode_utf8 parser_form ends_in_number idna
-    read_rest parse_ipv4 read_hex read_digits read_dotted main_loop move parse_ipv6
+    read_behind read_numbers parse_ipv4 read_hex read_digits read_dotted main_loop move parse_ipv6
 special_host_rows = record {
   upper_case = refl;
   root = refl;
@@ -25,20 +25,21 @@ special_host_rows = record {
   sharp_s = refl;
   address = refl;
   mapped_address = refl;
+  three_numbers = refl;
   bracketed = refl;
 }
 
 -- texts on which the host parser of a special URL ends
 special_host_failures : SpecialHostFailures
 unfolding parse_host parse_domain chars percent_decode is_utf8 encode_utf8 parser_form ends_in_number idna
-    read_rest parse_ipv4 read_hex read_digits read_dotted main_loop move parse_ipv6
+    read_behind read_numbers parse_ipv4 read_hex read_digits read_dotted main_loop move parse_ipv6
 special_host_failures = record {
   nothing_written = refl;
   nothing_left = refl;
   no_utf8 = refl;
   forbidden = refl;
   escaped_percent = refl;
-  three_numbers = refl;
+  large_number = refl;
   last_number = refl;
   hexadecimal = refl;
   octal = refl;

@@ -1,9 +1,8 @@
 -- The rows of specs/Rows/Profiles hold: each text by its parts, and what computes by computation.
-use Rattle.std.proofs.Common.{◌≡◌, ◌≢◌, ℕ, true, false, List, [], ◌∷◌, Some, None, codes, refl, sym, subst, ◌∙◌, inl}
-use Rattle.std.proofs.Common.{inr}
+use Rattle.std.proofs.Common.{◌≡◌, ◌≢◌, ℕ, Bool, true, false, List, [], ◌∷◌, Option, Some, None, codes, refl, sym, ap}
+use Rattle.std.proofs.Common.{subst, ◌∙◌, inl, inr}
 use Rattle.std.specs.List.{list_all}
 use Rattle.std.proofs.lemmas.Bool.{false≢true}
-use Rattle.std.proofs.lemmas.Option.{none-some}
 use Rattle.std.proofs.lemmas.List.Sums.{AllPass-from_list_all}
 use Rattle.uv_model.specs.declared.host.Host.TheVariants as host
 use Rattle.uv_model.specs.declared.profile.Profile.{Profile}
@@ -14,7 +13,7 @@ use Rattle.uv_model.specs.Complaints.Complaint.{Complaint, ComplaintOf, HostText
 use Rattle.uv_model.specs.Cut.{Cut, cut_of}
 use Rattle.uv_model.specs.Hosts.Domain.{IsDomain, IsNumberText, HasNoForm, has_lengths, has_permitted}
 use Rattle.uv_model.specs.Hosts.Domain.{is_form_code_point, parser_form, ends_in_number}
-use Rattle.uv_parser.specs.Ipv4Parser.{parse_ipv4}
+use Rattle.uv_parser.specs.Ipv4Parser.{read_numbers}
 use Rattle.uv_model.specs.Hosts.OpaqueHost.{starts_with_bracket}
 use Rattle.uv_model.specs.Parts.{written}
 use Rattle.uv_model.specs.Path.{IsPathSlashed, IsSegment, is_without}
@@ -27,7 +26,7 @@ use Rattle.uv_model.specs.Valid.{Valid}
 use Rattle.uv_parser.proofs.Rows.Computing.{parser}
 use Rattle.uv_model.proofs.Cuts.CutRowsLemmas.{started, judged_row}
 use Rattle.uv_model.proofs.Hosts.DomainLemmas.{no_parsed_lengths, not_permitted, not_strict}
-use Rattle.uv_parser.proofs.HostParsing.Ipv4ParserLemmas.{ipv4_parsed}
+use Rattle.uv_parser.proofs.HostParsing.Ipv4ParserLemmas.{four_numbers, numbers_read}
 use Rattle.uv_model.proofs.Texts.UnitsLemmas.{IsUnits-faultless}
 
 -- ---- valid texts
@@ -226,13 +225,20 @@ http_cut host_text = record {
   fragment = None;
 }
 
--- a text that the IPv4 parser refuses should be a domain, where it isn't empty and doesn't begin with `[`
-pub should_be_domain : (text : List ℕ) → text ≢ [] → starts_with_bracket text ≡ false → parse_ipv4 text ≡ None
-    → ShouldBeDomain text
+-- four numbers are read
+abbrev pub are_four : Option (List ℕ) → Bool
+are_four (Some (a ∷ b ∷ c ∷ d ∷ [])) = true
+are_four _ = false
+
+-- a text that isn't four numbers should be a domain, where it isn't empty and doesn't begin with `[`
+pub should_be_domain : (text : List ℕ) → text ≢ [] → starts_with_bracket text ≡ false
+    → are_four (read_numbers text) ≡ false → ShouldBeDomain text
 should_be_domain text some no_bracket refused = record {
   some = some;
   no_bracket = no_bracket;
-  no_ipv4 = λ value is. none-some value (sym refused ∙ ipv4_parsed text value is);
+  no_ipv4 = λ value is.
+      let (a, b, c, d, are, valued) = four_numbers text value is in
+      false≢true (sym refused ∙ ap are_four (numbers_read (a ∷ b ∷ c ∷ d ∷ []) text are));
 }
 
 -- `http://`, a host without a form, and `/`

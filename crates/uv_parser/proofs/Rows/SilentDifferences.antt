@@ -18,16 +18,17 @@ use Rattle.uv_model.specs.Hosts.Domain.{has_lengths, has_permitted, strict_form}
 use Rattle.uv_parser.specs.HostParser.{parse_host}
 use Rattle.uv_parser.specs.SilentTexts.{Silent}
 use Rattle.uv_model.specs.Parts.{Parts}
-use Rattle.uv_model.specs.Path.{starts_with_drive_segment}
+use Rattle.uv_model.specs.Ascii.{space}
+use Rattle.uv_model.specs.Path.{is_without, starts_with_drive_segment}
 use Rattle.uv_parser.specs.Rows.{Answer, Row, AllHold, answer_of, computed, goes_on, has_stopped, is_done}
 use Rattle.uv_parser.specs.Rows.SilentDifferences.{AllDiffer, DiffersSilently, SilentDifferenceRows}
 use Rattle.uv_parser.specs.Rows.SilentRefusals.{file_rows, host_rows, domain_rows, number_rows, segment_rows}
-use Rattle.uv_parser.specs.Rows.SilentRefusals.{drive_rows}
+use Rattle.uv_parser.specs.Rows.SilentRefusals.{drive_rows, fewer_rows, space_rows}
 use Rattle.uv_parser.specs.Run.{Stopped, run, step_bound}
 use Rattle.uv_model.specs.Records.Serialize.{serial_ipv4}
 use Rattle.uv_model.specs.Valid.{IsHostText}
 use Rattle.uv_parser.specs.Laws.Differences.{Differs, HasDriveBehindHost, HasEmptyAuthority, HasEmptyFirstSegment}
-use Rattle.uv_parser.specs.Laws.Differences.{HasForeignHost}
+use Rattle.uv_parser.specs.Laws.Differences.{HasForeignHost, HasSpaceInPath}
 use Rattle.uv_model.specs.Records.Url.{Url}
 use Rattle.idna.specs.Uts46.{to_ascii}
 use Rattle.uv_parser.proofs.Rows.Computing.{parser}
@@ -141,7 +142,7 @@ finds_empty_authority = record {
         empty_text_is parts.host_text second.0,
         same_Some parts.path_text [] (empty_text_is (Some parts.path_text) second.1),
       );
-  named = λ base parts differs. inr (inr (inr differs));
+  named = λ base parts differs. inr (inr (inr (inl differs)));
 }
 
 -- an empty first segment
@@ -153,6 +154,17 @@ unfolding tests_first_segment
 finds_first_segment = record {
   found = λ base parts is. and_parts (is_some parts.host_text) (starts_with_two_slashes parts.path_text) is;
   named = λ base parts differs. inr (inl differs);
+}
+
+-- a space in the path
+tests_space : Option Url → Cut → Bool
+tests_space base cut = not (is_without space cut.path_text)
+
+finds_space : Finds (λ base. HasSpaceInPath) tests_space
+unfolding tests_space
+finds_space = record {
+  found = λ base parts is. not-true (is_without space parts.path_text) is;
+  named = λ base parts differs. inr (inr (inr (inr differs)));
 }
 
 -- a host that keeps a drive letter out of the path
@@ -287,7 +299,7 @@ finds_host = record {
 -- one name to unfold where a table is computed
 tables : Unit {0}
 unfolding parser cut_of has_permitted to_ascii is_found is_answered tests_empty_authority tests_first_segment
-    tests_drive tests_host is_file_class is_empty_text has_host is_plain_class lacks_form is_foreign is_foreign_parsed
+    tests_drive tests_host tests_space is_file_class is_empty_text has_host is_plain_class lacks_form is_foreign is_foreign_parsed
     is_foreign_text
 tables = tt
 
@@ -322,6 +334,16 @@ unfolding tables
 drive_rows_differ =
     all_differ HasDriveBehindHost tests_drive finds_drive drive_rows silent_refusal_rows_hold.5 refl
 
+fewer_rows_differ : AllDiffer HasForeignHost fewer_rows
+unfolding tables
+fewer_rows_differ =
+    all_differ HasForeignHost tests_host finds_host fewer_rows silent_refusal_rows_hold.6 refl
+
+space_rows_differ : AllDiffer (λ base. HasSpaceInPath) space_rows
+unfolding tables
+space_rows_differ =
+    all_differ (λ base. HasSpaceInPath) tests_space finds_space space_rows silent_refusal_rows_hold.7 refl
+
 -- each table
 pub silent_difference_rows_hold : SilentDifferenceRows
 silent_difference_rows_hold = record {
@@ -331,4 +353,6 @@ silent_difference_rows_hold = record {
   mapped_address = number_rows_differ;
   empty_first_segment = segment_rows_differ;
   drive_behind_host = drive_rows_differ;
+  fewer_numbers = fewer_rows_differ;
+  space_in_path = space_rows_differ;
 }

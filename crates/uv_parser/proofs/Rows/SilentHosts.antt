@@ -9,18 +9,19 @@ use Rattle.idna.proofs.Computing.{idna}
 use Rattle.uv_model.specs.declared.host.Host.TheVariants.{Domain}
 use Rattle.uv_model.specs.Hosts.Domain.{ends_in_number, parser_form}
 use Rattle.uv_parser.specs.HostParser.{parse_domain, parse_host}
-use Rattle.uv_parser.specs.Ipv4Parser.{read_rest, parse_ipv4}
+use Rattle.uv_parser.specs.Ipv4Parser.{read_behind, read_numbers, parse_ipv4}
 use Rattle.uv_parser.specs.Ipv6Parser.{read_digits}
 use Rattle.uv_parser.specs.Rows.SilentHosts.{SpecialHosts, FileHosts, SilentHostRows}
 
 special_hosts : SpecialHosts
 unfolding parse_host parse_domain chars percent_decode is_utf8 encode_utf8 parser_form ends_in_number idna
-    read_rest parse_ipv4 read_digits
+    read_behind read_numbers parse_ipv4 read_digits
 special_hosts = record {
   plain = record { no_at_sign = refl; no_backslash = refl; parsed = refl };
   underscore = record { no_at_sign = refl; no_backslash = refl; parsed = refl };
   escaped = record { no_at_sign = refl; no_backslash = refl; parsed = refl };
   address = record { no_at_sign = refl; no_backslash = refl; parsed = refl };
+  fewer_numbers = record { no_at_sign = refl; no_backslash = refl; parsed = refl };
   user = λ value taken. false≢true taken.no_at_sign;
   no_user = λ value taken. false≢true taken.no_at_sign;
   backslash = λ value taken. false≢true taken.no_backslash;
@@ -29,7 +30,7 @@ special_hosts = record {
 
 file_hosts : FileHosts
 unfolding parse_host parse_domain chars percent_decode is_utf8 encode_utf8 parser_form ends_in_number idna
-    read_rest parse_ipv4
+    read_behind read_numbers parse_ipv4
 file_hosts = record {
   plain = record {
     no_drive = refl;

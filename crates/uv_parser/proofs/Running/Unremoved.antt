@@ -21,7 +21,7 @@ abbrev pub is_unremoved : ℕ → Bool
 is_unremoved c = nat_lt 0x20 c
 
 -- wherever it stands, such a code point stays
-is_removed-above : (at_border : Bool) (c : ℕ) → is_unremoved c ≡ true → is_removed at_border c ≡ false
+pub is_removed-above : (at_border : Bool) (c : ℕ) → is_unremoved c ≡ true → is_removed at_border c ≡ false
 is_removed-above true c above = grind (arith, nat_tests)
 is_removed-above false c above = grind (arith, nat_tests)
 
@@ -46,7 +46,7 @@ unremoved_url : (c : ℕ) → is_url_code_point c ≡ true → is_unremoved c �
 unfolding is_url_code_point
 unremoved_url c url = grind (arith, nat_tests)
 
-unremoved_unit_at : (c : ℕ) (rest : List ℕ) → is_unit_at c rest ≡ true → is_unremoved c ≡ true
+pub unremoved_unit_at : (c : ℕ) (rest : List ℕ) → is_unit_at c rest ≡ true → is_unremoved c ≡ true
 unfolding is_unit_at
 unremoved_unit_at c rest ok =
     elim (cases_Bool (c == percent_sign)) [

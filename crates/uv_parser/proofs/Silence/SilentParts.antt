@@ -145,7 +145,7 @@ form_found base SchemePath parts named (none, other, path) =
     let shown = alone_form parts.scheme parts.host_text parts.path_text named none.host_text in
     let start : starts_with_slash parts.path_text ≡ true = rw path.slashed refl in
     sym (shown ∙ rw start refl)
-form_found base SchemeOpaque parts named (none, other, (segments, path), empty) =
+form_found base SchemeOpaque parts named (none, other, path, empty) =
     let shown = alone_form parts.scheme parts.host_text parts.path_text named none.host_text in
     sym (shown ∙ rw path.start refl)
 form_found base PathAbsolute parts named (none, path) = rw (named, none.host_text, path.slashed) refl

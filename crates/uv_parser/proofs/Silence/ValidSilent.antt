@@ -8,12 +8,12 @@ use Rattle.std.proofs.lemmas.Bool.Decides.{nat_tests}
 use Rattle.uv_model.specs.declared.profile.Profile.{Profile}
 use Rattle.uv_model.specs.declared.scheme.Class.{Class}
 use Rattle.uv_model.specs.declared.scheme.Class.TheVariants.{Special, File, Other}
-use Rattle.uv_model.specs.Ascii.{colon}
+use Rattle.uv_model.specs.Ascii.{colon, space}
 use Rattle.uv_model.specs.Cut.{class_in}
 use Rattle.uv_parser.specs.SilentTexts.{Takes, TakesForm, TakesHostText}
 use Rattle.uv_model.specs.Parts.{Form, SchemeAuthority, SchemePath, SchemeOpaque, Authority, PathAbsolute, PathRelative}
 use Rattle.uv_model.specs.Parts.{NoPath, Parts, has_scheme, written, written_scheme, written_authority}
-use Rattle.uv_model.specs.Path.{IsPathAbsolute, IsPathRelative, MayBePathSlashed}
+use Rattle.uv_model.specs.Path.{IsPathAbsolute, IsPathRelative, MayBePathSlashed, is_without}
 use Rattle.uv_parser.specs.Removed.{first_removed}
 use Rattle.uv_parser.specs.Laws.Silence.{RunsSilently}
 use Rattle.uv_parser.specs.Laws.ValidTexts.{ValidTextsAreSilent, ValidTextsRunSilently}
@@ -26,12 +26,14 @@ use Rattle.uv_parser.proofs.Done.DecidedTexts.{scheme_done}
 use Rattle.uv_parser.proofs.Loops.FileHosts.{file_parsed, file_text}
 use Rattle.uv_parser.proofs.HostParsing.HostsParsed.{host_taken, opaque_kept}
 use Rattle.uv_model.proofs.Paths.JoinedSegments.{faultless_joined, faultless_path}
+use Rattle.uv_parser.proofs.Silence.SpacedPaths.{spaced_path}
 use Rattle.uv_model.proofs.Paths.SlashedPaths.{slashed_behind, slashed_or_none}
 use Rattle.uv_parser.proofs.Loops.SchemeStretch.{scheme_there}
 use Rattle.uv_parser.proofs.Loops.Tails.{tail}
 use Rattle.uv_parser.proofs.Running.Unremoved.{is_unremoved, first_removed-none, unremoved_append, unremoved_faultless}
 use Rattle.uv_parser.proofs.Running.Unremoved.{unremoved_scheme, unremoved_tail}
 use Rattle.uv_model.proofs.Cuts.ValidCutLemmas.{valid_is_cut}
+use Rattle.uv_model.proofs.Texts.MarkLemmas.{is_without-more}
 
 -- ---- authorities
 
@@ -229,7 +231,7 @@ taken_by_form profile base SchemePath parts (none, other, path) = record {
   path = unremoved_absolute parts.segments parts.path_text path;
 }
 taken_by_form profile base SchemeOpaque parts (none, other, (segments, path), empty) = record {
-  takes = (none, other, (segments, path), empty);
+  takes = (none, other, spaced_path segments parts.path_text path, empty);
   authority = no_authority parts none;
   path = unremoved_relative segments parts.path_text path;
 }
@@ -265,6 +267,21 @@ valid_is_kept profile base text parts valid =
     let whole = unremoved_append (written_scheme parts.scheme) (authority ++ (parts.path_text ++ behind))
     (unremoved_written_scheme (has_scheme parts.form) parts.scheme valid.scheme) middle in
     rw valid.whole (first_removed-none (written parts) whole)
+
+-- and so its path has no space
+pub valid_path_has_no_space : (profile : Profile) (base : Option Url) (text : List ℕ) (parts : Parts)
+    → Valid profile base text parts → is_without space parts.path_text ≡ true
+valid_path_has_no_space profile base text parts valid =
+    above parts.path_text (taken_by_form profile base parts.form parts valid.form).path
+  where
+    other : (c : ℕ) → is_unremoved c ≡ true → (c == space) ≡ false
+    other c is = grind (arith, nat_tests)
+
+    above : (path : List ℕ) → list_all is_unremoved path ≡ true → is_without space path ≡ true
+    above [] is = refl
+    above (c ∷ rest) is =
+        let both = and_parts (is_unremoved c) (list_all is_unremoved rest) is in
+        is_without-more space c rest (other c both.0) (above rest both.1)
 
 -- the parser's grammar takes each valid text
 pub valid_is_silent : ValidTextsAreSilent

@@ -1,18 +1,19 @@
 -- Where the texts on which the URL parser (URL Standard, section 4.4) is silent are no valid URL strings (sections 3.4
 -- and 4.3): the differences, each by its name, and the law that there are no others.
-use Rattle.std.specs.Prelude.{◌≡◌, ◌≢◌, ℕ, ◌⊎◌, true, false, List, [], Option, Some, IsSome}
+use Rattle.std.specs.Prelude.{◌≡◌, ◌≢◌, ℕ, ◌<◌, ◌⊎◌, true, false, List, [], length, Option, Some, IsSome}
 use Rattle.uv_model.specs.declared.profile.Profile.TheVariants.{Standard}
 use Rattle.uv_model.specs.declared.host.Host.{Host}
 use Rattle.uv_model.specs.declared.host.Host.TheVariants.{Domain, V4}
 use Rattle.uv_model.specs.declared.scheme.Class.TheVariants.{File, Other}
-use Rattle.uv_model.specs.Hosts.Address.{IsIpv4}
+use Rattle.uv_model.specs.Ascii.{space}
 use Rattle.uv_model.specs.Complaints.Complaint.{HasHost}
 use Rattle.uv_model.specs.Cut.{class_in, starts_with_two_slashes}
 use Rattle.uv_model.specs.Hosts.Domain.{has_lengths, has_permitted, strict_form}
 use Rattle.uv_parser.specs.HostParser.{parse_host}
+use Rattle.uv_parser.specs.Ipv4Parser.{AreNumbers, IsNumbersText}
 use Rattle.uv_parser.specs.SilentTexts.{Silent}
 use Rattle.uv_model.specs.Parts.{Parts}
-use Rattle.uv_model.specs.Path.{starts_with_drive_segment}
+use Rattle.uv_model.specs.Path.{is_without, starts_with_drive_segment}
 use Rattle.uv_model.specs.Records.Url.{Url}
 use Rattle.uv_model.specs.Valid.{Valid}
 
@@ -32,14 +33,18 @@ LacksStrictForm text form = strict_form text ≢ Some form
 abbrev pub HasWrongLengths : List ℕ → Type 0
 HasWrongLengths form = has_lengths form ≡ false
 
--- the text, of which an address is made, is no IPv4 text itself: it is mapped to one (section 3.5)
+-- the text, of which an IPv4 address is made, isn't one to four numbers itself: it is mapped to such (section 3.5)
 abbrev pub IsMappedToIpv4 : List ℕ → Type 0
-IsMappedToIpv4 text = (value : ℕ) → ¬ (IsIpv4 text value)
+IsMappedToIpv4 text = (value : ℕ) → ¬ (IsNumbersText text value)
+
+-- the text is fewer than the four numbers of a valid IPv4 text, as `1.2.3` (section 3.4)
+abbrev pub HasFewerNumbers : List ℕ → Type 0
+HasFewerNumbers text = (numbers : List ℕ) × AreNumbers numbers text × (length numbers < 4)
 
 -- what a text with this host can have that a valid host text hasn't; an IPv6 text in brackets has nothing
 abbrev pub HostDiffers : List ℕ → Host → Type 0
 HostDiffers text (Domain form) = HasForeignDomainCodePoint text ⊎ (LacksStrictForm text form ⊎ HasWrongLengths form)
-HostDiffers text (V4 value) = IsMappedToIpv4 text
+HostDiffers text (V4 value) = IsMappedToIpv4 text ⊎ HasFewerNumbers text
 HostDiffers text _ = ⊥
 
 -- The host parser takes the host text of a special URL or of a file URL, which is no valid host text.
@@ -58,8 +63,7 @@ abbrev pub HasEmptyFirstSegment : Parts → Type 0
 HasEmptyFirstSegment parts = IsSome parts.host_text × (starts_with_two_slashes parts.path_text ≡ true)
 
 -- a file URL's path begins with a drive letter behind a host: the text's, or without a scheme and an authority the
--- base's
--- (section 4.3, path-absolute-non-Windows-file-URL string)
+-- base's (section 4.3, path-absolute-non-Windows-file-URL string)
 abbrev pub HasDriveBehindHost : Option Url → Parts → Type 0
 HasDriveBehindHost base parts =
     (class_in base parts.scheme ≡ File) × HasHost base parts.scheme parts.host_text
@@ -71,13 +75,18 @@ abbrev pub HasEmptyAuthority : Option Url → Parts → Type 0
 HasEmptyAuthority base parts =
     (class_in base parts.scheme ≡ File) × (parts.host_text ≡ Some []) × (parts.path_text ≡ [])
 
+-- the path has a space, which in an opaque path alone the parser doesn't report (sections 4.3 and 4.4)
+abbrev pub HasSpaceInPath : Parts → Type 0
+HasSpaceInPath parts = is_without space parts.path_text ≡ false
+
 -- ---- the law
 
 -- a difference of the two grammars
 abbrev pub Differs : Option Url → Parts → Type 0
 Differs base parts =
     HasForeignHost base parts
-    ⊎ (HasEmptyFirstSegment parts ⊎ (HasDriveBehindHost base parts ⊎ HasEmptyAuthority base parts))
+    ⊎ (HasEmptyFirstSegment parts
+    ⊎ (HasDriveBehindHost base parts ⊎ (HasEmptyAuthority base parts ⊎ HasSpaceInPath parts)))
 
 -- A text on which the parser is silent is valid with the same parts, or it has a difference, and then it has no valid
 -- parts.

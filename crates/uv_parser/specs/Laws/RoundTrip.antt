@@ -1,12 +1,15 @@
 -- The round trip: the URL parser (URL Standard, section 4.4) makes of the text that the URL serializer (section 4.5)
 -- writes of a URL that same URL.
-use Rattle.std.specs.Prelude.{◌≡◌, ◌≢◌, ℕ, ◌<◌, ◌^◌, true, List, codes, Option, Some, None}
+use Rattle.std.specs.Prelude.{◌≡◌, ◌≢◌, ℕ, ◌<◌, ◌^◌, ◌==◌, Bool, true, false, List, [], ◌∷◌, codes, Option, Some, None}
 use Rattle.uv_model.specs.declared.profile.Profile.{Profile}
 use Rattle.uv_model.specs.declared.profile.Profile.TheVariants.{Wide}
 use Rattle.uv_model.specs.declared.scheme.Class.{Class}
 use Rattle.uv_model.specs.declared.scheme.Class.TheVariants.{Special, File, Other}
 use Rattle.uv_model.specs.declared.host.Host.{Host}
 use Rattle.uv_model.specs.declared.host.Host.TheVariants.{Domain, V4, V6, Opaque, Empty}
+use Rattle.uv_model.specs.declared.path.UrlPath.{UrlPath}
+use Rattle.uv_model.specs.declared.path.UrlPath.TheVariants as path
+use Rattle.uv_model.specs.Ascii.{space}
 use Rattle.uv_model.specs.Records.Denote.{denote}
 use Rattle.uv_parser.specs.HostParser.{parse_host}
 use Rattle.uv_model.specs.Hosts.Address.{IsAddress}
@@ -16,8 +19,9 @@ use Rattle.uv_model.specs.Scheme.{scheme_class}
 use Rattle.uv_model.specs.Records.Serialize.{serial}
 use Rattle.uv_model.specs.Records.Url.{Url}
 use Rattle.uv_model.specs.Valid.{Valid}
+use Rattle.uv_parser.specs.SilentTexts.{IsSpacedPath}
 use Rattle.uv_model.specs.Records.WellFormed.{IsUrlFragment, IsUrlOpaqueHost, IsUrlPath, IsUrlPort, IsUrlQuery}
-use Rattle.uv_model.specs.Records.WellFormed.{IsUrlScheme, MayBeWellFormed, WellFormed}
+use Rattle.uv_model.specs.Records.WellFormed.{IsUrlScheme, MayBeWellFormed, WellFormed, is_ascii_text}
 
 -- The host is an address of the right size, a domain of which the host parser makes that domain, or of another kind.
 -- A domain whose label begins with `xn--` before what is no Punycode isn't such a host: ToASCII fails on it.
@@ -59,6 +63,24 @@ IsReadableHost Special host = IsReadableSpecialHost host
 IsReadableHost File host = IsReadableFileHost host
 IsReadableHost Other host = IsReadableOtherHost host
 
+-- the text ends with a space
+abbrev pub ends_with_space : List ℕ → Bool
+ends_with_space [] = false
+ends_with_space (c ∷ []) = c == space
+ends_with_space (c ∷ next ∷ rest) = ends_with_space (next ∷ rest)
+
+-- An opaque path: ASCII, with spaces too, of which none is the last code point. At the end of a URL's text the parser
+-- would remove it.
+pub record IsReadableOpaquePath (text : List ℕ) : Type 0 where
+  pub spaced : IsSpacedPath text
+  pub ascii : is_ascii_text text ≡ true
+  pub end : ends_with_space text ≡ false
+
+-- a path that is well formed but for the spaces of an opaque one
+abbrev pub IsReadablePath : Class → Option Host → UrlPath → Type 0
+IsReadablePath class host (path.Opaque text) = (class ≡ Other) × (host ≡ None) × IsReadableOpaquePath text
+IsReadablePath class host (path.Segments list) = IsUrlPath class host (path.Segments list)
+
 -- no host, or such a host
 abbrev pub MayBeStableHost : Option Host → Type 0
 MayBeStableHost None = Unit {0}
@@ -79,13 +101,13 @@ abbrev pub MayBeStable : Option Url → Type 0
 MayBeStable None = Unit {0}
 MayBeStable (Some url) = IsStable url
 
--- The URL is well formed but for the code points of its domain, which are those that the host parser takes, and its
--- host and its port are stable.
+-- The URL is well formed but for the code points of its domain, which are those that the host parser takes, and the
+-- spaces of an opaque path, and its host and its port are stable.
 pub record IsReadable (url : Url) : Type 0 where
   pub scheme : IsUrlScheme url.scheme
   pub host : IsReadableHost (scheme_class url.scheme) url.host
   pub port : IsUrlPort url.scheme url.host url.port
-  pub path : IsUrlPath (scheme_class url.scheme) url.host url.path
+  pub path : IsReadablePath (scheme_class url.scheme) url.host url.path
   pub query : IsUrlQuery (scheme_class url.scheme) url.query
   pub fragment : IsUrlFragment url.fragment
 

@@ -3,13 +3,20 @@ use Rattle.std.specs.Prelude.{◌≡◌, [], ◌∷◌, codes, Some, None}
 use Rattle.uv_parser.specs.Ipv4Parser.{parse_ipv4}
 use Rattle.uv_parser.specs.Ipv6Parser.{parse_ipv6}
 
--- four numbers with their value, and texts that stop the IPv4 parser
+-- one to four numbers with their value, and texts that stop the IPv4 parser
 pub record Ipv4Rows : Type 0 where
   pub zeros : parse_ipv4 (codes "0.0.0.0") ≡ Some 0
   pub largest : parse_ipv4 (codes "255.255.255.255") ≡ Some 4294967295
   pub private : parse_ipv4 (codes "192.168.0.1") ≡ Some 3232235521
   pub empty : parse_ipv4 [] ≡ None
-  pub three_numbers : parse_ipv4 (codes "1.2.3") ≡ None
+  pub three_numbers : parse_ipv4 (codes "1.2.3") ≡ Some 0x01020003
+  pub two_numbers : parse_ipv4 (codes "1.2") ≡ Some 0x01000002
+  pub one_number : parse_ipv4 (codes "1") ≡ Some 1
+  pub five_numbers : parse_ipv4 (codes "1.2.3.4.5") ≡ None
+  pub empty_part : parse_ipv4 (codes "1..2") ≡ None
+  pub octal : parse_ipv4 (codes "01") ≡ None
+  pub hexadecimal : parse_ipv4 (codes "0x1") ≡ None
+  pub last_256 : parse_ipv4 (codes "1.256") ≡ None
   pub leading_zero : parse_ipv4 (codes "01.2.3.4") ≡ None
   pub root_dot : parse_ipv4 (codes "1.2.3.4.") ≡ None
   pub octet_256 : parse_ipv4 (codes "256.0.0.1") ≡ None

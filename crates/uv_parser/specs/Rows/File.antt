@@ -25,7 +25,8 @@ host_rows =
     ∷ stops "file://a^b/" 10
     ∷ stops "file://u@h/" 10
     ∷ stops "file://h:80/x" 11
-    ∷ stops "file://1.2.3/" 12
+    ∷ done "file://1.2.3/" (listed "file" (ipv4 0x01020003) None ("" ∷ [])) "file://1.2.0.3/"
+    ∷ stops "file://256/" 10
     ∷ stops "file://[::1/" 11
     ∷ []
 

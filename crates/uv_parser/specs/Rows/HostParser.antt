@@ -13,6 +13,7 @@ pub record SpecialHostRows : Type 0 where
   pub sharp_s : parse_host true (codes "fa" ++ 0xDF ∷ codes ".example") ≡ Some (Domain (codes "xn--fa-hia.example"))
   pub address : parse_host true (codes "1.2.3.4") ≡ Some (V4 0x01020304)
   pub mapped_address : parse_host true (0xFF11 ∷ codes ".2.3.4") ≡ Some (V4 0x01020304)
+  pub three_numbers : parse_host true (codes "1.2.3") ≡ Some (V4 0x01020003)
   pub bracketed : parse_host true (codes "[0:0::1]") ≡ Some (V6 (0 ∷ 0 ∷ 0 ∷ 0 ∷ 0 ∷ 0 ∷ 0 ∷ 1 ∷ []))
 
 -- texts on which the host parser of a special URL ends
@@ -22,7 +23,7 @@ pub record SpecialHostFailures : Type 0 where
   pub no_utf8 : parse_host true (codes "%FF") ≡ None
   pub forbidden : parse_host true (codes "example^example") ≡ None
   pub escaped_percent : parse_host true (codes "a%25b") ≡ None
-  pub three_numbers : parse_host true (codes "1.2.3") ≡ None
+  pub large_number : parse_host true (codes "1.2.256") ≡ None
   pub last_number : parse_host true (codes "example.255") ≡ None
   pub hexadecimal : parse_host true (codes "0x") ≡ None
   pub octal : parse_host true (codes "09") ≡ None

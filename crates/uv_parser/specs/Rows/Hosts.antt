@@ -13,6 +13,7 @@ domain_rows =
     ∷ done "http://aaaaaaaaaaaaaaaaaaaaaaaaaaaaaaaaaaaaaaaaaaaaaaaaaaaaaaaaaaaaaaa/"
     (listed "http" (domain "aaaaaaaaaaaaaaaaaaaaaaaaaaaaaaaaaaaaaaaaaaaaaaaaaaaaaaaaaaaaaaa") None ("" ∷ []))
     "http://aaaaaaaaaaaaaaaaaaaaaaaaaaaaaaaaaaaaaaaaaaaaaaaaaaaaaaaaaaaaaaa/"
+    ∷ done "http://a%2Db/" (listed "http" (domain "a-b") None ("" ∷ [])) "http://a-b/"
     ∷ done "http://1.a/" (listed "http" (domain "1.a") None ("" ∷ [])) "http://1.a/"
     ∷ done "http://a.0xG/" (listed "http" (domain "a.0xg") None ("" ∷ [])) "http://a.0xg/"
     ∷ stops "http://\u{ad}/" 8
@@ -27,13 +28,24 @@ domain_rows =
     ∷ stops "http://%FF/" 10
     ∷ []
 
--- a form that ends in a number is four shortest decimal numbers
+-- a form that ends in a number is one to four shortest decimal numbers of at most 255
 abbrev pub ipv4_rows : List Row
 ipv4_rows =
     done "http://192.168.0.1/" (listed "http" (ipv4 3232235521) None ("" ∷ [])) "http://192.168.0.1/"
     ∷ done "http://0.0.0.0/" (listed "http" (ipv4 0) None ("" ∷ [])) "http://0.0.0.0/"
     ∷ done "http://255.255.255.255" (listed "http" (ipv4 4294967295) None ("" ∷ [])) "http://255.255.255.255/"
-    ∷ stops "http://1.2.3/" 12
+    ∷ done "http://1.2.3/" (listed "http" (ipv4 0x01020003) None ("" ∷ [])) "http://1.2.0.3/"
+    ∷ done "http://1.2/" (listed "http" (ipv4 0x01000002) None ("" ∷ [])) "http://1.0.0.2/"
+    ∷ done "http://1" (listed "http" (ipv4 1) None ("" ∷ [])) "http://0.0.0.1/"
+    ∷ done "http://0/" (listed "http" (ipv4 0) None ("" ∷ [])) "http://0.0.0.0/"
+    ∷ done "http://255.255/" (listed "http" (ipv4 0xFF0000FF) None ("" ∷ [])) "http://255.0.0.255/"
+    ∷ done "http://%31.2.3/" (listed "http" (ipv4 0x01020003) None ("" ∷ [])) "http://1.2.0.3/"
+    ∷ stops "http://256/" 10
+    ∷ stops "http://1.256/" 12
+    ∷ stops "http://1./" 9
+    ∷ stops "http://1..2/" 11
+    ∷ stops "http://01/" 9
+    ∷ stops "http://0x1/" 10
     ∷ stops "http://256.0.0.1/" 16
     ∷ stops "http://01.2.3.4/" 15
     ∷ stops "http://1.2.3.4./" 15
@@ -41,7 +53,6 @@ ipv4_rows =
     ∷ stops "http://a..1/" 11
     ∷ stops "http://a.0X1f/" 13
     ∷ stops "http://0x/" 9
-    ∷ stops "http://1" 8
     ∷ []
 
 -- the pieces of an IPv6 address, and how they are written

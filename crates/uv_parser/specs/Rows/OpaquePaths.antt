@@ -16,10 +16,31 @@ opaque_rows =
     ∷ done "blob:https://h/x" (opaque "blob" "https://h/x") "blob:https://h/x"
     ∷ done "UrN+a-1.B:X" (opaque "urn+a-1.b" "X") "urn+a-1.b:X"
     ∷ done "a:?b?/c#d?/é" (with_query "b?/c" (with_fragment "d?/%C3%A9" (opaque "a" ""))) "a:?b?/c#d?/%C3%A9"
-    ∷ stops "urn:a b" 5
     ∷ stops "urn:a?b c" 7
     ∷ stops "urn:a#b\u{7f}" 7
     ∷ stops "urn:a#b#c" 7
+    ∷ []
+
+-- A space is taken, as `%20` where `?` or `#` follows it. Elsewhere it is a fault, and at the text's end it is removed.
+abbrev pub space_rows : List Row
+space_rows =
+    done "urn:a b" (opaque "urn" "a b") "urn:a b"
+    ∷ done "urn: a" (opaque "urn" " a") "urn: a"
+    ∷ done "urn: /x" (opaque "urn" " /x") "urn: /x"
+    ∷ done "javascript:alert(1, 2)" (opaque "javascript" "alert(1, 2)") "javascript:alert(1, 2)"
+    ∷ done "urn:a ?q" (with_query "q" (opaque "urn" "a%20")) "urn:a%20?q"
+    ∷ done "urn:a  #f" (with_fragment "f" (opaque "urn" "a %20")) "urn:a %20#f"
+    ∷ done "urn: ?#" (with_query "" (with_fragment "" (opaque "urn" "%20"))) "urn:%20?#"
+    ∷ done "urn:a b ?q" (with_query "q" (opaque "urn" "a b%20")) "urn:a b%20?q"
+    ∷ done "urn:a b%20?q" (with_query "q" (opaque "urn" "a b%20")) "urn:a b%20?q"
+    ∷ stops "urn:a " 5
+    ∷ stops "urn: " 4
+    ∷ stops "urn:a ?q " 8
+    ∷ stops "urn:a b\"" 7
+    ∷ stops "urn:%4 1" 4
+    ∷ stops "urn:a?b " 7
+    ∷ stops "urn:/a b" 6
+    ∷ stops "urn://h/a b" 9
     ∷ []
 
 -- URL code points, and those that are none
@@ -66,9 +87,8 @@ removed_rows =
     ∷ unfinished "urn:\u{1}a" 0
     ∷ stops "urn:\u{1}a" 4
     ∷ unfinished "urn: a" 0
-    ∷ stops "urn: a" 4
     ∷ []
 
 -- what the parser does on these texts
 abbrev pub OpaquePathRows : Type 0
-OpaquePathRows = AllHold opaque_rows × AllHold unit_rows × AllHold removed_rows
+OpaquePathRows = AllHold opaque_rows × AllHold space_rows × AllHold unit_rows × AllHold removed_rows

@@ -15,6 +15,7 @@ pub record SpecialHosts : Type 0 where
   pub underscore : IsTakenHost (codes "a_b") (Domain (codes "a_b"))
   pub escaped : IsTakenHost (codes "a%62") (Domain (codes "ab"))
   pub address : IsTakenHost (codes "1.2.3.4") (V4 0x01020304)
+  pub fewer_numbers : IsTakenHost (codes "1.2.3") (V4 0x01020003)
   pub user : NoHost (IsTakenHost (codes "u@h"))
   pub no_user : NoHost (IsTakenHost (codes "@h"))
   pub backslash : NoHost (IsTakenHost (codes "a\\b"))

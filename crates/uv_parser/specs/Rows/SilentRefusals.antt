@@ -1,7 +1,8 @@
 -- Texts on which the URL parser (URL Standard, section 4.4) reports nothing, although the standard profile, which is
 -- narrower than the parser, refuses them. Each row is a run that is done.
 use Rattle.std.specs.Prelude.{List, [], ◌∷◌, None}
-use Rattle.uv_parser.specs.Rows.{Row, AllHold, done, against, listed, with_query, domain, ipv4, opaque_host, empty_host}
+use Rattle.uv_parser.specs.Rows.{Row, AllHold, done, against, listed, opaque, with_query, with_fragment, domain, ipv4}
+use Rattle.uv_parser.specs.Rows.{opaque_host, empty_host}
 use Rattle.uv_parser.specs.Rows.References.{drive_base, file_host_base, root_base}
 
 -- an empty authority of a file URL with no `/` behind it
@@ -17,6 +18,7 @@ abbrev pub host_rows : List Row
 host_rows =
     done "http://x_y/" (listed "http" (domain "x_y") None ("" ∷ [])) "http://x_y/"
     ∷ done "http://a_b/" (listed "http" (domain "a_b") None ("" ∷ [])) "http://a_b/"
+    ∷ done "http://a%2Db/" (listed "http" (domain "a-b") None ("" ∷ [])) "http://a-b/"
     ∷ done "http://a%62/" (listed "http" (domain "ab") None ("" ∷ [])) "http://ab/"
     ∷ done "http://a+b/" (listed "http" (domain "a+b") None ("" ∷ [])) "http://a+b/"
     ∷ done "http://a＋b/" (listed "http" (domain "a+b") None ("" ∷ [])) "http://a+b/"
@@ -40,6 +42,15 @@ abbrev pub number_rows : List Row
 number_rows =
     done "http://１.2.3.4/" (listed "http" (ipv4 16909060) None ("" ∷ [])) "http://1.2.3.4/"
     ∷ done "http://%31.2.3.4/" (listed "http" (ipv4 16909060) None ("" ∷ [])) "http://1.2.3.4/"
+    ∷ done "http://%31.2.3/" (listed "http" (ipv4 0x01020003) None ("" ∷ [])) "http://1.2.0.3/"
+    ∷ []
+
+-- an address of fewer than four numbers
+abbrev pub fewer_rows : List Row
+fewer_rows =
+    done "http://1.2.3/" (listed "http" (ipv4 0x01020003) None ("" ∷ [])) "http://1.2.0.3/"
+    ∷ done "http://1/" (listed "http" (ipv4 1) None ("" ∷ [])) "http://0.0.0.1/"
+    ∷ done "file://127.1/x" (listed "file" (ipv4 0x7F000001) None ("x" ∷ [])) "file://127.0.0.1/x"
     ∷ []
 
 -- an empty first segment behind an authority
@@ -63,6 +74,15 @@ drive_rows =
     ∷ against file_host_base (done "/C:/x" (listed "file" (domain "h") None ("C:" ∷ "x" ∷ [])) "file://h/C:/x")
     ∷ []
 
+-- a space in an opaque path
+abbrev pub space_rows : List Row
+space_rows =
+    done "urn:a b" (opaque "urn" "a b") "urn:a b"
+    ∷ done "javascript:alert(1, 2)" (opaque "javascript" "alert(1, 2)") "javascript:alert(1, 2)"
+    ∷ done "urn:a ?q" (with_query "q" (opaque "urn" "a%20")) "urn:a%20?q"
+    ∷ done "urn:a  #f" (with_fragment "f" (opaque "urn" "a %20")) "urn:a %20#f"
+    ∷ []
+
 -- the parser is silent on these texts
 abbrev pub SilentRefusalRows : Type 0
 SilentRefusalRows =
@@ -72,3 +92,5 @@ SilentRefusalRows =
     × AllHold number_rows
     × AllHold segment_rows
     × AllHold drive_rows
+    × AllHold fewer_rows
+    × AllHold space_rows
