@@ -1,0 +1,5 @@
+pub mod EscapeLemmas
+pub mod KindLemmas
+pub mod PreparedLemmas
+pub mod RepairLemmas
+pub mod SecondLemmas

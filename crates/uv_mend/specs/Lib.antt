@@ -1,0 +1,12 @@
+-- The definitions, in the order in which to read them.
+pub mod CodePoints
+pub mod Fronts
+pub mod Escapes
+pub mod Prepared
+pub mod Slashes
+pub mod Second
+pub mod Hosts
+pub mod Edits
+pub mod Repairs
+pub mod Kinds
+pub mod Mending

@@ -1,0 +1,59 @@
+-- The slashes of a text of class Special or File, as the URL parser reads them (URL Standard, section 4.4, the special
+-- authority states and the file states): `\` is `/` before the query, and behind a special scheme come any number.
+use Rattle.std.specs.Prelude.{ℕ, Bool, true, false, not, ◌&&◌, ◌||◌, ◌==◌, List, [], ◌∷◌, ◌++◌, codes, Option}
+use Rattle.std.specs.Prelude.{if◌then◌else◌}
+use Rattle.uv_model.specs.declared.scheme.Class.{Class}
+use Rattle.uv_model.specs.declared.scheme.Class.TheVariants.{Special, File, Other}
+use Rattle.uv_model.specs.Ascii.{slash, backslash}
+use Rattle.uv_model.specs.Records.Url.{Url}
+use Rattle.uv_model.specs.Valid.{starts_with_scheme}
+use Rattle.uv_mend.specs.declared.fronts.Stop.TheVariants.{Start}
+use Rattle.uv_mend.specs.Fronts.{behind_scheme, class_against, scheme_front, stops}
+
+-- `/` or `\`
+abbrev pub is_slash_mark : ℕ → Bool
+is_slash_mark c = (c == slash) || (c == backslash)
+
+-- the text begins with two of them
+abbrev pub starts_with_two_marks : List ℕ → Bool
+starts_with_two_marks (c ∷ d ∷ rest) = is_slash_mark c && is_slash_mark d
+starts_with_two_marks _ = false
+
+-- the text behind those at its start
+abbrev pub behind_marks : List ℕ → List ℕ
+behind_marks [] = []
+behind_marks (c ∷ rest) = if is_slash_mark c then behind_marks rest else c ∷ rest
+
+-- a code point before the query and the fragment, by the class
+unfoldable pub as_slash : Class → ℕ → ℕ
+as_slash Other c = c
+as_slash _ c = if c == backslash then slash else c
+
+-- each of them; the query and the fragment stay
+abbrev pub with_slashes : Class → List ℕ → List ℕ
+with_slashes class [] = []
+with_slashes class (c ∷ rest) = if stops Start c then c ∷ rest else as_slash class c ∷ with_slashes class rest
+
+-- The slashes at the start of what follows a scheme, or of a text without one, are written anew: in class Special
+-- behind a scheme, and where there are two or more; in class File where there are fewer than two behind a scheme.
+unfoldable pub renews_slashes : Class → Bool → List ℕ → Bool
+renews_slashes Special has_scheme text = has_scheme || starts_with_two_marks text
+renews_slashes File has_scheme text = has_scheme && not (starts_with_two_marks text)
+renews_slashes Other has_scheme text = false
+
+-- what is written there: `//`, and for class File an empty authority's `//` and the path's `/`
+abbrev pub new_slashes : Class → List ℕ
+new_slashes Special = codes "//"
+new_slashes File = codes "///"
+new_slashes Other = []
+
+-- what follows a scheme, or a text without one, with its slashes as they are read
+unfoldable pub slashed_behind : Class → Bool → List ℕ → List ℕ
+slashed_behind class has_scheme text =
+    if renews_slashes class has_scheme text then new_slashes class ++ with_slashes class (behind_marks text)
+    else with_slashes class text
+
+-- the text with its slashes as they are read
+abbrev pub slashed : Option Url → List ℕ → List ℕ
+slashed base text =
+    scheme_front text ++ slashed_behind (class_against base text) (starts_with_scheme text) (behind_scheme text)

@@ -1,0 +1,45 @@
+//! What is answered of a text that is to be mended.
+ghost use Rattle.std.specs.Prelude.{◌≡◌};
+ghost use Rattle.uv_mend.specs.Kinds.{kind_name};
+
+use uv_model::Refusal;
+
+/// How a mended text stands to the refused one.
+#[derive(Clone, Copy, Debug, PartialEq, Eq)]
+pub enum MendKind {
+    /// A browser reads both as the same URL: the crate `url` gives one text for both, against the base.
+    Same,
+    /// Not so, but the mended text is the refused one with some of its code points percent-encoded, and nothing else.
+    Escaped,
+    /// Neither. The author has to look whether the mended text is what was meant.
+    Changed,
+}
+
+impl MendKind {
+    /// The kind's name, as it is printed.
+    pub fn name(self) -> &'static str
+        ensures { result.now ≡ kind_name self }
+    {
+        match self {
+            MendKind::Same => "same",
+            MendKind::Escaped => "escaped",
+            MendKind::Changed => "changed",
+        }
+    }
+}
+
+/// What to write in place of a text.
+#[derive(Debug, Drop)]
+pub enum Mending {
+    /// The text itself: it is a valid URL string.
+    Valid,
+    /// A valid URL string that the local edits make of the refused text.
+    Mended {
+        /// The mended text.
+        text: String,
+        /// How it stands to the refused one.
+        kind: MendKind,
+    },
+    /// The local edits make no valid URL string of the text, which is refused by this.
+    Refused(Refusal),
+}

@@ -1,0 +1,72 @@
+//! The edits of a text: what the URL parser passes over, and those by the rule that a text then still violates.
+ghost use Rattle.std.specs.Prelude.{◌≡◌, ◌≤◌, IfOk, chars, length, option_copied, option_map};
+ghost use Rattle.uv_mend.specs.Edits as spec;
+
+use crate::code_points::{code_points, push_all};
+use crate::escaped::escaped;
+use crate::hosts::rehosted;
+use crate::prepared::prepared;
+use crate::slashes::slashed;
+use std::alloc::{AllocError, Global};
+use uv_model::{Record, Refusal, Rule};
+
+/// The code points of a text without what the parser takes off, with its slashes as they are read, and with escapes.
+/// The error is out of memory.
+#[tactic(auto, unfolding(crate::specs::Edits::cleaned))]
+pub(crate) fn cleaned(
+    alloc: Global,
+    text: &str,
+    base: Option<&Record>,
+) -> Result<Vec<char>, AllocError>
+    ensures { IfOk result (λ out. out.items ≡ spec.cleaned (option_copied base.entry) (chars text.now)) }
+{
+    let list = code_points(alloc, text)?;
+    let list = prepared(alloc, &list)?;
+    let list = slashed(alloc, &list, base)?;
+    escaped(alloc, &list)
+}
+
+/// The edit of a text that is refused so, or `None` where its rule has none. The error is out of memory.
+#[tactic(auto, unfolding(crate::specs::Edits::edit_of))]
+pub(crate) fn edit_of(
+    alloc: Global,
+    text: &[char],
+    base: Option<&Record>,
+    refusal: Refusal,
+) -> Result<Option<Vec<char>>, AllocError>
+    requires { refusal.place ≤ length text.now }
+    ensures { IfOk result (λ out. option_map (λ list. list.items) out
+        ≡ spec.edit_of (option_copied base.entry) text.now refusal) }
+{
+    match refusal.rule {
+        Rule::HostDomain | Rule::HostNumber | Rule::HostIpv6 | Rule::HostCodePoint => {
+            rehosted(alloc, text, base)
+        }
+        Rule::FirstSegmentEmpty => {
+            Ok(Some(dotted(alloc, text, refusal.place.saturating_sub(1))?))
+        }
+        Rule::DriveAfterHost => Ok(Some(dotted(alloc, text, refusal.place)?)),
+        Rule::NoScheme
+        | Rule::OpaqueBase
+        | Rule::TwoSlashes
+        | Rule::HostMissing
+        | Rule::PortDigit
+        | Rule::PortRange
+        | Rule::CodePoint
+        | Rule::Percent => Ok(None),
+    }
+}
+
+// The text with `/.` before the code point at the place.
+#[tactic(auto, unfolding(crate::specs::Edits::dotted))]
+fn dotted(alloc: Global, text: &[char], place: usize) -> Result<Vec<char>, AllocError>
+    requires { place ≤ length text.now }
+    ensures { IfOk result (λ out. out.items ≡ spec.dotted place text.now) }
+{
+    let (before, behind) = text.split_at(place);
+    let mut out = Vec::new(alloc);
+    push_all(&mut out, before)?;
+    push_all(&mut out, &['/', '.'])?;
+    push_all(&mut out, behind)?;
+    Ok(out)
+}

@@ -1,0 +1,95 @@
+//! Code points that are no URL units, written as the escapes of their UTF-8.
+ghost use Rattle.std.specs.Prelude.{◌≡◌, ◌++◌, OnOk, false, flat_map};
+ghost use Rattle.percent_encoding.specs.Percent as percent;
+ghost use Rattle.uv_model.specs.Units as units;
+ghost use Rattle.uv_mend.specs.Escapes.{as_unit, as_units, escape};
+
+use crate::code_points::{first_of, push_one, push_text};
+use percent_encoding::percent_encode_byte;
+use std::alloc::AllocError;
+use uv_model::is_url_code_point;
+
+/// Appends a path, a query and a fragment, with each code point that is no unit as its escapes. The error is out of
+/// memory.
+pub(crate) fn push_units(out: &mut Vec<char>, text: &[char]) -> Result<(), AllocError>
+    ensures { OnOk result (out.new.items ≡ out.old.items ++ as_units false text.now) }
+{
+    let mut in_fragment = false;
+    let mut rest = text;
+    while let Some((c, behind)) = first_of(rest) {
+        push_unit(out, in_fragment, c, behind)?;
+        in_fragment = in_fragment || c == '#';
+        rest = behind;
+    }
+    Ok(())
+}
+
+// Appends one code point, which stays where it is a unit with what follows it, or the `#` before the fragment.
+#[tactic(auto, unfolding(crate::specs::Escapes::as_unit))]
+fn push_unit(
+    out: &mut Vec<char>,
+    in_fragment: bool,
+    c: char,
+    behind: &[char],
+) -> Result<(), AllocError>
+    ensures { OnOk result (out.new.items ≡ out.old.items ++ as_unit in_fragment c behind.now) }
+{
+    if !in_fragment && c == '#' {
+        return push_one(out, c);
+    }
+    if is_unit_at(c, behind) {
+        return push_one(out, c);
+    }
+    push_escape(out, c)
+}
+
+// Whether a code point is a URL code point, or the `%` of an escape.
+#[tactic(auto, unfolding(uv_model::specs::Units::is_unit_at))]
+fn is_unit_at(c: char, behind: &[char]) -> bool
+    ensures { result ≡ units.is_unit_at c behind.now }
+{
+    if c == '%' {
+        starts_with_two_hex(behind)
+    } else {
+        is_url_code_point(c)
+    }
+}
+
+// Whether a text begins with two hex digits.
+fn starts_with_two_hex(text: &[char]) -> bool
+    ensures { result ≡ units.starts_with_two_hex text.now }
+{
+    match first_of(text) {
+        Some((high, rest)) => match first_of(rest) {
+            Some((low, _)) => high.is_ascii_hexdigit() && low.is_ascii_hexdigit(),
+            None => false,
+        },
+        None => false,
+    }
+}
+
+// Appends the escapes of a code point's UTF-8.
+#[tactic(auto, unfolding(crate::specs::Escapes::escape))]
+fn push_escape(out: &mut Vec<char>, c: char) -> Result<(), AllocError>
+    ensures { OnOk result (out.new.items ≡ out.old.items ++ escape c) }
+{
+    let mut buffer = [0u8; 4];
+    push_bytes(out, c.encode_utf8(&mut buffer).as_bytes())
+}
+
+// Appends the escape of each byte.
+fn push_bytes(out: &mut Vec<char>, bytes: &[u8]) -> Result<(), AllocError>
+    ensures { OnOk result (out.new.items ≡ out.old.items ++ flat_map percent.percent_encode_byte bytes.now) }
+{
+    for &byte in bytes {
+        push_byte(out, byte)?;
+    }
+    Ok(())
+}
+
+// Appends the escape of a byte.
+fn push_byte(out: &mut Vec<char>, byte: u8) -> Result<(), AllocError>
+    ensures { OnOk result (out.new.items ≡ out.old.items ++ percent.percent_encode_byte byte) }
+{
+    push_text(out, percent_encode_byte(byte))
+}

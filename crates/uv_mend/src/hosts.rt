@@ -1,0 +1,103 @@
+//! The host of a text, written as the crate `url` writes it.
+ghost use Rattle.std.specs.Prelude.{◌≡◌, ◌++◌, IfOk, OnOk, chars, false, option_copied, option_map};
+ghost use Rattle.uv_model.specs.Cut.{is_port_mark, is_within};
+ghost use Rattle.uv_mend.specs.Hosts as spec;
+
+use crate::code_points::{first_of, push_all, push_one, push_text, text_of};
+use crate::fronts::{Stop, behind_two, class_against, push_scheme};
+use crate::second::reading;
+use std::alloc::{AllocError, Global};
+use url::Url;
+use uv_model::{Class, Record};
+
+/// The text with the host of what the second parser reads; none where it reads none, no host, or a user name or a
+/// password. The error is out of memory.
+pub(crate) fn rehosted(
+    alloc: Global,
+    text: &[char],
+    base: Option<&Record>,
+) -> Result<Option<Vec<char>>, AllocError>
+    ensures { IfOk result (λ out. option_map (λ list. list.items) out
+        ≡ spec.rehosted (option_copied base.entry) text.now) }
+{
+    let written = text_of(alloc, text)?;
+    let Some(url) = reading(alloc, base, written.as_str())? else {
+        return Ok(None);
+    };
+    let Some(host) = plain_host(&url) else {
+        return Ok(None);
+    };
+    let class = class_against(alloc, text, base)?;
+    Ok(Some(with_host(alloc, class, text, host)?))
+}
+
+// The host of a URL that has one, and no user name and no password.
+#[tactic(auto, unfolding(crate::specs::Hosts::plain_host))]
+fn plain_host(url: &Url) -> Option<&str>
+    ensures { option_map chars (option_copied result) ≡ spec.plain_host url.now }
+{
+    if !url.username().is_empty() {
+        return None;
+    }
+    match url.password() {
+        Some(_) => None,
+        None => url.host_str(),
+    }
+}
+
+// The text with a host in place of its own.
+#[tactic(auto, unfolding(crate::specs::Hosts::with_host))]
+fn with_host(
+    alloc: Global,
+    class: Class,
+    text: &[char],
+    host: &str,
+) -> Result<Vec<char>, AllocError>
+    ensures { IfOk result (λ out. out.items ≡ spec.with_host class text.now (chars host.now)) }
+{
+    let mut out = Vec::new(alloc);
+    let behind = push_scheme(&mut out, text)?;
+    push_one(&mut out, '/')?;
+    push_one(&mut out, '/')?;
+    push_text(&mut out, host)?;
+    push_all(&mut out, behind_host(class, behind_two(behind)))?;
+    Ok(out)
+}
+
+// What stands behind the host with which a text begins.
+fn behind_host(class: Class, text: &[char]) -> &[char]
+    ensures { result.now ≡ spec.behind_host class false text.now }
+{
+    let mut within = false;
+    let mut rest = text;
+    while let Some((c, behind)) = first_of(rest) {
+        if ends_host(class, within, c) {
+            return rest;
+        }
+        within = is_within(within, c);
+        rest = behind;
+    }
+    rest
+}
+
+// Whether a code point ends a host.
+#[tactic(auto, unfolding(crate::specs::Hosts::ends_host))]
+fn ends_host(class: Class, within: bool, c: char) -> bool
+    ensures { result ≡ spec.ends_host class within c }
+{
+    match class {
+        Class::File => Stop::Authority.is_at(c),
+        Class::Special | Class::Other => Stop::Authority.is_at(c) || (c == ':' && !within),
+    }
+}
+
+// Whether what follows a code point is within brackets.
+fn is_within(within: bool, c: char) -> bool
+    ensures { result ≡ is_within within c }
+{
+    match c {
+        '[' => true,
+        ']' => false,
+        _ => within,
+    }
+}

@@ -1,0 +1,65 @@
+//! How a mended text stands to the refused one.
+ghost use Rattle.std.specs.Prelude.{◌≡◌, ◌↔◌, IfOk, IsTrue, chars, option_copied};
+ghost use Rattle.uv_mend.specs.Escapes.{escaped};
+ghost use Rattle.uv_mend.specs.Kinds.{IsKind};
+ghost use Rattle.uv_mend.specs.Second.{ReadsSame};
+
+use crate::answer::MendKind;
+use crate::code_points::{code_points, text_of};
+use crate::escaped::escaped;
+use crate::second::{reading, serial};
+use std::alloc::{AllocError, Global};
+use url::Url;
+use uv_model::Record;
+
+/// The kind of a mended text. The error is out of memory.
+pub(crate) fn kind_of(
+    alloc: Global,
+    text: &str,
+    mended: &str,
+    base: Option<&Record>,
+) -> Result<MendKind, AllocError>
+    ensures { IfOk result (IsKind (option_copied base.entry) text.now mended.now) }
+{
+    if reads_same(alloc, text, mended, base)? {
+        Ok(MendKind::Same)
+    } else if is_escaped(alloc, text, mended)? {
+        Ok(MendKind::Escaped)
+    } else {
+        Ok(MendKind::Changed)
+    }
+}
+
+// Whether the second parser reads both texts as one URL.
+fn reads_same(
+    alloc: Global,
+    text: &str,
+    mended: &str,
+    base: Option<&Record>,
+) -> Result<bool, AllocError>
+    ensures { IfOk result (λ same. IsTrue same ↔ ReadsSame (option_copied base.entry) text.now mended.now) }
+{
+    let first = reading(alloc, base, text)?;
+    let second = reading(alloc, base, mended)?;
+    match (first, second) {
+        (Some(first), Some(second)) => Ok(is_same(serial(&first), serial(&second))),
+        _ => Ok(false),
+    }
+}
+
+// Whether the mended text is the other with what is no unit written as escapes.
+fn is_escaped(alloc: Global, text: &str, mended: &str) -> Result<bool, AllocError>
+    ensures { IfOk result (λ is. IsTrue is ↔ (chars mended.now ≡ escaped (chars text.now))) }
+{
+    let list = code_points(alloc, text)?;
+    let list = escaped(alloc, &list)?;
+    let written = text_of(alloc, &list)?;
+    Ok(is_same(written.as_str(), mended))
+}
+
+// Whether two texts have the same bytes.
+fn is_same(text: &str, other: &str) -> bool
+    ensures { IsTrue result ↔ (text.now ≡ other.now) }
+{
+    text == other
+}

@@ -1,0 +1,23 @@
+//! What to write in place of a text that is no valid URL string: local edits, each by the rule that the text violates.
+#![tactic(auto)]
+
+mod answer;
+mod code_points;
+mod edits;
+mod escaped;
+mod escapes;
+mod fronts;
+mod hosts;
+mod kinds;
+pub mod laws;
+mod mender;
+mod prepared;
+mod repairs;
+mod second;
+mod slashes;
+
+pub use answer::{MendKind, Mending};
+pub use mender::mend;
+
+#[cfg(test)]
+mod tests;

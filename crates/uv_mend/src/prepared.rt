@@ -1,0 +1,69 @@
+//! What the URL parser takes off its input before all else.
+ghost use Rattle.std.specs.Prelude.{◌≡◌, ◌++◌, IfOk};
+ghost use Rattle.uv_mend.specs.Prepared as spec;
+
+use crate::code_points::{first_of, last_of, push_one};
+use std::alloc::{AllocError, Global};
+
+/// The text without C0 controls and spaces at both ends, and without tabs, LF and CR. The error is out of memory.
+pub(crate) fn prepared(alloc: Global, text: &[char]) -> Result<Vec<char>, AllocError>
+    ensures { IfOk result (λ out. out.items ≡ spec.prepared text.now) }
+{
+    on_one_line(alloc, before_controls(behind_controls(text)))
+}
+
+// The text without C0 controls and spaces at its start.
+fn behind_controls(text: &[char]) -> &[char]
+    ensures { result.now ≡ spec.behind_controls text.now }
+{
+    let mut rest = text;
+    while let Some((c, behind)) = first_of(rest) {
+        if !is_control_or_space(c) {
+            return rest;
+        }
+        rest = behind;
+    }
+    rest
+}
+
+// The text without C0 controls and spaces at its end.
+fn before_controls(text: &[char]) -> &[char]
+    ensures { result.now ≡ spec.before_controls text.now }
+{
+    let mut rest = text;
+    while let Some((before, c)) = last_of(rest) {
+        if is_control_or_space(c) {
+            rest = before;
+        } else {
+            return rest;
+        }
+    }
+    rest
+}
+
+// The text without tabs, LF and CR.
+fn on_one_line(alloc: Global, text: &[char]) -> Result<Vec<char>, AllocError>
+    ensures { IfOk result (λ out. out.items ≡ spec.on_one_line text.now) }
+{
+    let mut out = Vec::new(alloc);
+    let mut rest = text;
+    while let Some((c, behind)) = first_of(rest) {
+        if !is_tab_or_newline(c) {
+            push_one(&mut out, c)?;
+        }
+        rest = behind;
+    }
+    Ok(out)
+}
+
+fn is_control_or_space(c: char) -> bool
+    ensures { result ≡ spec.is_control_or_space c }
+{
+    c <= ' '
+}
+
+fn is_tab_or_newline(c: char) -> bool
+    ensures { result ≡ spec.is_tab_or_newline c }
+{
+    c == '\t' || c == '\n' || c == '\r'
+}
