@@ -1,12 +1,13 @@
 //! Judges the lines of standard input, as often as is asked: the driver of the benches. Its words are a mode and a
-//! number of rounds. `read` cuts the input into lines and does no more, `check` judges each line in each round, and
-//! both say how many lines there are and how many were valid; `verdicts` writes `1` or `0` for each line.
+//! number of rounds. `read` cuts the input into lines and does no more, `check` judges each line in each round, `valid`
+//! asks for no more than whether it is valid, and all three say how many lines there are and how many were valid;
+//! `verdicts` writes `1` or `0` for each line.
 #![tactic(auto)]
 
 use std::alloc::{AllocError, Global};
 use std::io::{self, Error, ErrorKind, Read};
 use std::{env, str};
-use uv_grammar::{Verdict, check};
+use uv_grammar::{Verdict, check, is_valid};
 use uv_model::Profile;
 
 fn main(rt: HostRuntime) -> io::Result<()> {
@@ -33,6 +34,11 @@ fn main(rt: HostRuntime) -> io::Result<()> {
             valid = count_valid(rt.alloc(), &texts)?;
         }
     }
+    if mode == "valid" {
+        for _ in 0..rounds {
+            valid = count_known_valid(rt.alloc(), &texts)?;
+        }
+    }
     let lines = texts.len();
     println!(rt; "{lines} lines, {valid} valid")
 }
@@ -55,6 +61,17 @@ fn count_valid(alloc: Global, texts: &[&str]) -> Result<usize, AllocError> {
     let mut valid = 0usize;
     for text in texts {
         if let Verdict::Yes(_) = check(alloc, text, None, Profile::Standard)? {
+            valid = valid.saturating_add(1);
+        }
+    }
+    Ok(valid)
+}
+
+// The same by the verdict alone.
+fn count_known_valid(alloc: Global, texts: &[&str]) -> Result<usize, AllocError> {
+    let mut valid = 0usize;
+    for text in texts {
+        if is_valid(alloc, text, None, Profile::Standard)? {
             valid = valid.saturating_add(1);
         }
     }

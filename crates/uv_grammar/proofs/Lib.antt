@@ -1,6 +1,7 @@
 pub mod AuthorityLemmas
 pub mod BuiltLemmas
 pub mod HostLemmas
+pub mod KindLemmas
 pub mod PartFaultLemmas
 pub mod PartLemmas
 pub mod PieceLemmas

@@ -35,7 +35,8 @@ use Rattle.uv_model.proofs.Complaints.UnitComplaintLemmas.{no_complaint-faultles
 use Rattle.uv_grammar.specs.Built.{built}
 use Rattle.uv_grammar.specs.PartComplaints.{BehindAuthority}
 use Rattle.uv_grammar.specs.PartValues.{FitsHostPart, FitsPortPart}
-use Rattle.uv_grammar.specs.PlainLinks.{IsNameCut, IsPartCut, IsPathCut, IsPortCut, IsSpecialCut, MayBeUnits}
+use Rattle.uv_grammar.specs.PlainLinks.{IsNameCut, IsPartCut, IsPathCut, IsPlainLink, IsPortCut}
+use Rattle.uv_grammar.specs.PlainLinks.{IsSpecialCut, MayBeUnits}
 use Rattle.uv_grammar.specs.Verdict.{IsAccepted}
 use Rattle.uv_grammar.proofs.VerdictLemmas.{accepted}
 use Rattle.uv_model.proofs.Complaints.ComplaintsExcludeParts.{one_slash_start}
@@ -104,21 +105,6 @@ ends_at_port name port_text each =
           absurd (false≢true (sym (has_mark colon front rest) ∙ (ap (is_without colon) (sym same) ∙ none)));
       ends = λ some. no_brackets name each;
     }
-
--- the texts of a plain link
-pub record IsPlainLink (text scheme name form : List ℕ) (port_text : Option (List ℕ)) (port : Option ℕ) (path : List ℕ)
-    (query fragment : Option (List ℕ)) : Type 0 where
-  pub behind : List ℕ
-  pub rest : List ℕ
-  pub after : List ℕ
-  pub tail : List ℕ
-  pub end : List ℕ
-  pub special : IsSpecialCut text scheme behind
-  pub named : IsNameCut behind name form rest
-  pub port_cut : IsPortCut (default_port scheme) rest port_text port after
-  pub path_cut : IsPathCut after path tail
-  pub query_cut : IsPartCut question_mark tail query end
-  pub fragment_cut : IsPartCut number_sign end fragment []
 
 own_form : (name form : List ℕ) → IsDomain Standard name form → chars form ≡ name → name ≡ form
 own_form name form is same = sym same ∙ chars-IsAscii form (IsAscii-form Standard name form is.0)

@@ -1,3 +1,4 @@
+pub mod Bases
 pub mod Built
 pub mod Faults
 pub mod Form

@@ -6,11 +6,12 @@ use Rattle.uv_model.specs.declared.rule.Rule.{Rule}
 use Rattle.uv_model.specs.declared.scheme.Class.{Class}
 use Rattle.uv_model.specs.declared.scheme.Class.TheVariants.{Other}
 use Rattle.uv_model.specs.Complaints.Complaint.{StartComplaint}
-use Rattle.uv_model.specs.Cut.{Cut}
+use Rattle.uv_model.specs.Cut.{Cut, cut_of}
 use Rattle.uv_model.specs.Hosts.Address.{IsIpv4}
 use Rattle.uv_model.specs.Hosts.Domain.{has_permitted}
 use Rattle.uv_model.specs.Hosts.OpaqueHost.{starts_with_bracket}
-use Rattle.uv_model.specs.Setting.{Setting}
+use Rattle.uv_model.specs.Records.Url.{Url}
+use Rattle.uv_model.specs.Setting.{Setting, setting_of}
 use Rattle.uv_host.specs.Domains.{is_plain_name}
 
 -- the text begins with `[`, is an IPv4 text, has a code point that no domain of the profile holds, or is a plain name
@@ -33,3 +34,8 @@ abbrev pub TakesNoMemory : Setting → List ℕ → Cut → Type 0
 TakesNoMemory setting text cut =
     ((place : ℕ) × (rule : Rule) × StartComplaint setting text cut place rule)
     ⊎ HostPartTakesNoMemory setting cut.host_text
+
+-- the text is judged against the base without memory
+abbrev pub TakesNoMemoryAgainst : Profile → Option Url → List ℕ → Type 0
+TakesNoMemoryAgainst profile base text =
+    TakesNoMemory (setting_of profile base (cut_of base text).scheme) text (cut_of base text)

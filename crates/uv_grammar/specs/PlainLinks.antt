@@ -11,9 +11,11 @@ use Rattle.uv_model.specs.Cut.{starts_with_two_slashes}
 use Rattle.uv_model.specs.Hosts.Domain.{IsDomain}
 use Rattle.uv_model.specs.Parts.{written_behind}
 use Rattle.uv_model.specs.Path.{is_without, starts_with_slash}
-use Rattle.uv_model.specs.Scheme.{is_scheme, scheme_class}
+use Rattle.uv_model.specs.Scheme.{default_port, is_scheme, scheme_class}
 use Rattle.uv_model.specs.Units.{is_faultless}
 use Rattle.uv_model.specs.Valid.{MayBePortText, port_given}
+use Rattle.uv_grammar.specs.declared.plain_links.PlainCut.{PlainCut}
+use Rattle.uv_grammar.specs.Slices.{chars_of, chars_of_option}
 
 -- the front of so many bytes is ASCII
 abbrev pub HasAsciiFront : List ℕ → ℕ → Type 0
@@ -74,3 +76,24 @@ MayBeUnits (Some text) = AreUnits true text
 pub record IsPartCut (mark : ℕ) (text : List ℕ) (part : Option (List ℕ)) (rest : List ℕ) : Type 0 where
   pub joined : text ≡ written_behind mark part ++ rest
   pub units : MayBeUnits part
+
+-- the texts of a plain link
+pub record IsPlainLink (text scheme name form : List ℕ) (port_text : Option (List ℕ)) (port : Option ℕ) (path : List ℕ)
+    (query fragment : Option (List ℕ)) : Type 0 where
+  pub behind : List ℕ
+  pub rest : List ℕ
+  pub after : List ℕ
+  pub tail : List ℕ
+  pub end : List ℕ
+  pub special : IsSpecialCut text scheme behind
+  pub named : IsNameCut behind name form rest
+  pub port_cut : IsPortCut (default_port scheme) rest port_text port after
+  pub path_cut : IsPathCut after path tail
+  pub query_cut : IsPartCut question_mark tail query end
+  pub fragment_cut : IsPartCut number_sign end fragment []
+
+-- the text is a plain link of these texts and this port
+abbrev pub IsPlainCut : List ℕ → PlainCut → Type 0
+IsPlainCut text cut =
+    IsPlainLink text (chars_of cut.scheme) (chars_of cut.name) cut.name.now (chars_of_option cut.port_text) cut.port
+    (chars_of cut.path_text) (chars_of_option cut.query) (chars_of_option cut.fragment)

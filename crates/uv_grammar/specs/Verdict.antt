@@ -1,5 +1,5 @@
 -- The verdict on a text against a base, after the URL Standard, section 4.3.
-use Rattle.std.specs.Prelude.{◌≡◌, ℕ, ◌≤◌, List, length, Option, Some, None}
+use Rattle.std.specs.Prelude.{◌≡◌, ℕ, ◌≤◌, Bool, true, false, List, length, Option, Some, None}
 use Rattle.uv_grammar.specs.declared.checker.Verdict.{Verdict}
 use Rattle.uv_grammar.specs.declared.checker.Verdict.TheVariants.{Yes, No}
 use Rattle.uv_grammar.specs.Built.{built}
@@ -33,6 +33,11 @@ pub record IsRefused (profile : Profile) (base : Option Url) (text : List ℕ) (
 abbrev pub IsVerdict : Profile → Option Url → List ℕ → Verdict → Type 0
 IsVerdict profile base text (Yes parts) = IsAccepted profile base text parts
 IsVerdict profile base text (No refusal) = IsRefused profile base text refusal
+
+-- whether the text is valid with any parts
+abbrev pub IsValidity : Profile → Option Url → List ℕ → Bool → Type 0
+IsValidity profile base text true = (parts : Parts) × Valid profile base text parts
+IsValidity profile base text false = (parts : Parts) → ¬ (Valid profile base text parts)
 
 -- ---- parts of a cut text
 

@@ -1,13 +1,16 @@
 //! All the faults of a text at once, by the judges of its parts.
-ghost use Rattle.std.specs.Prelude.{◌≡◌, ◌++◌, IfOk, OnOk, option_copied};
+ghost use Rattle.std.specs.Prelude.{◌≡◌, ◌++◌, IfOk, OnOk, Some, option_copied};
 ghost use Rattle.std.specs.Str.{chars};
 ghost use Rattle.uv_model.specs.Complaints.AllComplaints.{AreFaults};
 ghost use Rattle.uv_model.specs.Complaints.Complaint.{ContentComplaint, HostPartComplaint, JudgedComplaint, PortPartComplaint};
+ghost use Rattle.uv_model.specs.Records.Url.{Url};
+ghost use Rattle.uv_grammar.specs.Bases.{IsOfKind, as_base};
 ghost use Rattle.uv_grammar.specs.Faults.{AddsComplaints, FirstComplaint, fault_list};
 ghost use Rattle.uv_grammar.specs.HostValues.{is_scanned};
 ghost use Rattle.uv_grammar.specs.PartComplaints.{IsCountable, OfFragment, OfQuery};
 
 use crate::authority::{judge_host_part, judge_port_part};
+use crate::bases::{Base, BaseKind};
 use crate::cut::{Cut, cut_text};
 use crate::marks::beginnings::{are_digits, has_bracket};
 use crate::places::{fragment_place, host_place, path_place, port_place, query_place};
@@ -28,6 +31,31 @@ pub fn faults(
     profile: Profile,
 ) -> Result<Vec<Refusal>, AllocError>
     ensures { IfOk result (λ found. AreFaults profile (option_copied base.entry) (chars text.now) found.items) }
+{
+    faults_against(alloc, text, Base::whole(base), profile)
+}
+
+/// The same against every base of a kind.
+pub fn faults_of_kind(
+    alloc: Global,
+    text: &str,
+    base: BaseKind,
+    profile: Profile,
+) -> Result<Vec<Refusal>, AllocError>
+    ensures { (url : Url) → IsOfKind url base
+        → IfOk result (λ found. AreFaults profile (Some url) (chars text.now) found.items) }
+{
+    faults_against(alloc, text, Some(Base::Kind(base)), profile)
+}
+
+// All that is wrong with a text.
+fn faults_against(
+    alloc: Global,
+    text: &str,
+    base: Option<Base<'_>>,
+    profile: Profile,
+) -> Result<Vec<Refusal>, AllocError>
+    ensures { IfOk result (λ found. AreFaults profile (as_base base.entry) (chars text.now) found.items) }
 {
     let (cut, setting) = cut_text(text, base, profile);
     let mut found = Vec::new(alloc);

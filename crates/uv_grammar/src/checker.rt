@@ -1,12 +1,13 @@
 //! The checker of valid URL strings.
-ghost use Rattle.std.specs.Prelude.{IfOk, IsOk, option_copied};
+ghost use Rattle.std.specs.Prelude.{IfOk, IsOk, Some, option_copied};
 ghost use Rattle.std.specs.Str.{chars};
-ghost use Rattle.uv_model.specs.Cut.{cut_of};
-ghost use Rattle.uv_model.specs.Setting.{setting_of};
-ghost use Rattle.uv_grammar.specs.NoMemory.{TakesNoMemory};
+ghost use Rattle.uv_model.specs.Records.Url.{Url};
+ghost use Rattle.uv_grammar.specs.Bases.{IsOfKind, as_base};
+ghost use Rattle.uv_grammar.specs.NoMemory.{TakesNoMemoryAgainst};
 ghost use Rattle.uv_grammar.specs.Verdict.{IsVerdict};
 
 use crate::authority::{judge_host_part, judge_port_part};
+use crate::bases::{Base, BaseKind};
 use crate::built::build;
 use crate::cut::cut_text;
 use crate::judged::Judged;
@@ -35,25 +36,40 @@ pub fn check<'t>(
     profile: Profile,
 ) -> Result<Verdict<'t>, AllocError>
     ensures answer { IfOk result (IsVerdict profile (option_copied base.entry) (chars text.now)) }
-    ensures memory { let cut = cut_of (option_copied base.entry) (chars text.now) in
-        TakesNoMemory (setting_of profile (option_copied base.entry) cut.scheme) (chars text.now) cut → IsOk result }
+    ensures memory { TakesNoMemoryAgainst profile (option_copied base.entry) (chars text.now) → IsOk result }
 {
     match plain_link(text) {
         Some(parts) => Ok(Verdict::Yes(parts)),
-        None => check_by_parts(alloc, text, base, profile),
+        None => check_by_parts(alloc, text, Base::whole(base), profile),
     }
 }
 
-// The same of any text, part by part in the order of their places.
-fn check_by_parts<'t>(
+/// The same against every base of a kind.
+pub fn check_of_kind<'t>(
     alloc: Global,
     text: &'t str,
-    base: Option<&Record>,
+    base: BaseKind,
     profile: Profile,
 ) -> Result<Verdict<'t>, AllocError>
-    ensures answer { IfOk result (IsVerdict profile (option_copied base.entry) (chars text.now)) }
-    ensures memory { let cut = cut_of (option_copied base.entry) (chars text.now) in
-        TakesNoMemory (setting_of profile (option_copied base.entry) cut.scheme) (chars text.now) cut → IsOk result }
+    ensures answer { (url : Url) → IsOfKind url base → IfOk result (IsVerdict profile (Some url) (chars text.now)) }
+    ensures memory { (url : Url) → IsOfKind url base → TakesNoMemoryAgainst profile (Some url) (chars text.now)
+        → IsOk result }
+{
+    match plain_link(text) {
+        Some(parts) => Ok(Verdict::Yes(parts)),
+        None => check_by_parts(alloc, text, Some(Base::Kind(base)), profile),
+    }
+}
+
+/// The verdict on any text, part by part in the order of their places.
+pub(crate) fn check_by_parts<'t>(
+    alloc: Global,
+    text: &'t str,
+    base: Option<Base<'_>>,
+    profile: Profile,
+) -> Result<Verdict<'t>, AllocError>
+    ensures answer { IfOk result (IsVerdict profile (as_base base.entry) (chars text.now)) }
+    ensures memory { TakesNoMemoryAgainst profile (as_base base.entry) (chars text.now) → IsOk result }
 {
     let (cut, setting) = cut_text(text, base, profile);
     if let Some(refusal) = start_fault(text, &cut, &setting) {

@@ -1,17 +1,19 @@
 //! The cut of a text into the texts of its parts, none of them judged.
-ghost use Rattle.std.specs.Prelude.{◌≡◌, MatchOption, false, option_copied};
+ghost use Rattle.std.specs.Prelude.{◌≡◌, MatchOption, false};
 ghost use Rattle.std.specs.Str.{chars};
 ghost use Rattle.uv_model.specs.Cut.{IsCut, host_before, is_within, port_behind, starts_with_two_slashes};
 ghost use Rattle.uv_model.specs.Setting.{setting_of};
+ghost use Rattle.uv_grammar.specs.Bases.{as_base};
 ghost use Rattle.uv_grammar.specs.Slices.{chars_of, chars_of_option};
 ghost use Rattle.uv_grammar.specs.TextSplits.{IsPortMark, SplitsAuthority, SplitsHost, SplitsMiddle, SplitsScheme};
 
+use crate::bases::Base;
 use crate::marks::beginnings::is_scheme_text;
 use crate::marks::search::first_mark;
 use crate::marks::{behind_slash, split_at_mark, split_at_slash};
 use crate::setting::Setting;
 use std::marker::Model;
-use uv_model::{Class, Profile, Record};
+use uv_model::{Class, Profile};
 
 /// The texts of the parts of a text.
 #[derive(Drop)]
@@ -45,11 +47,11 @@ impl<'t> Model for Cut<'t> {
 #[inline(never)]
 pub(crate) fn cut_text<'t, 'b>(
     text: &'t str,
-    base: Option<&'b Record>,
+    base: Option<Base<'b>>,
     profile: Profile,
 ) -> (Cut<'t>, Setting<'b>)
-    ensures cut { IsCut (option_copied base.entry) (chars text.now) result.0 }
-    ensures setting { result.1 ≡ setting_of profile (option_copied base.entry) result.0.scheme }
+    ensures cut { IsCut (as_base base.entry) (chars text.now) result.0 }
+    ensures setting { result.1 ≡ setting_of profile (as_base base.entry) result.0.scheme }
 {
     let (front, fragment) = split_at_mark(text, '#');
     let (start, query) = split_at_mark(front, '?');

@@ -3,6 +3,7 @@
 
 mod all_faults;
 mod authority;
+mod bases;
 mod built;
 mod checker;
 mod cut;
@@ -20,9 +21,12 @@ mod scan;
 mod setting;
 mod start_rules;
 mod unit_faults;
+mod validity;
 
-pub use all_faults::faults;
-pub use checker::{Verdict, check};
+pub use all_faults::{faults, faults_of_kind};
+pub use bases::{BaseKind, BaseScheme};
+pub use checker::{Verdict, check, check_of_kind};
 pub use form::Form;
 pub use parts::{Parts, Segments};
 pub use parts_host::{AsciiText, HostRef};
+pub use validity::{is_valid, is_valid_of_kind};

@@ -1,6 +1,6 @@
 //! The links that people write, judged at one pass: a special scheme, a plain domain, a port or none, and a path, a
 //! query and a fragment of URL units. All others are judged by their parts.
-ghost use Rattle.std.specs.Prelude.{◌≡◌, ◌≢◌, ◌++◌, ◌∷◌, ◌<◌, [], false, true, Option, IfSome, IsTrue, drop, length};
+ghost use Rattle.std.specs.Prelude.{◌≡◌, ◌≢◌, ◌++◌, ◌∷◌, ◌<◌, [], ℕ, List, false, true, Option, IfSome, IsTrue, drop, length};
 ghost use Rattle.std.specs.Char.{is_ascii_digit};
 ghost use Rattle.std.specs.List.{prefix_len};
 ghost use Rattle.std.specs.Str.{chars};
@@ -10,9 +10,9 @@ ghost use Rattle.uv_model.specs.Cut.{starts_with_two_slashes};
 ghost use Rattle.uv_model.specs.Path.{starts_with_slash};
 ghost use Rattle.uv_model.specs.Records.Url.{Url};
 ghost use Rattle.uv_model.specs.Scheme.{default_port};
-ghost use Rattle.uv_grammar.specs.PlainLinks.{HasAsciiFront, IsFrontCut, IsNameCut, IsPartCut, IsPathCut, IsPortCut, IsSpecialCut, IsSpecialFront};
+ghost use Rattle.uv_grammar.specs.PlainLinks.{HasAsciiFront, IsFrontCut, IsNameCut, IsPartCut, IsPathCut, IsPlainCut, IsPortCut, IsSpecialCut, IsSpecialFront};
 ghost use Rattle.uv_grammar.specs.Slices.{chars_of, chars_of_option};
-ghost use Rattle.uv_grammar.specs.Verdict.{IsAccepted};
+ghost use Rattle.uv_grammar.specs.Verdict.{IsAccepted, IsValidity};
 
 use crate::authority::without_default;
 use crate::cut::{Cut, split_scheme};
@@ -27,12 +27,69 @@ use uv_host::{is_plain_domain, name_front};
 use uv_model::{Class, class_of, default_port};
 use uv_text::{Tail, UnitClass, split_tail};
 
+// The texts of the parts of a plain link, and its port.
+#[derive(Clone, Copy)]
+struct PlainCut<'t> {
+    scheme: &'t str,
+    name: &'t str,
+    port_text: Option<&'t str>,
+    port: Option<u16>,
+    path_text: &'t str,
+    query: Option<&'t str>,
+    fragment: Option<&'t str>,
+}
+
 /// The parts of a link that is plain: a special scheme, `://`, a domain that is its own ASCII form, a port or none, and
 /// a path, a query and a fragment of URL units. By each profile and against any base it is valid with these parts.
 /// Where there are none, that says nothing.
+#[inline(always)]
 pub(crate) fn plain_link<'t>(text: &'t str) -> Option<Parts<'t>>
     ensures { IfSome result (λ parts. (profile : Profile) (base : Option Url)
         → IsAccepted profile base (chars text.now) parts) }
+{
+    match plain_cut(text) {
+        Some(cut) => Some(parts_of(&cut)),
+        None => None,
+    }
+}
+
+/// Whether a link is plain, and so by each profile and against any base valid. Where the answer is no, that says nothing.
+#[inline(always)]
+pub(crate) fn is_plain_link(text: &str) -> bool
+    ensures { IsTrue result → (profile : Profile) (base : Option Url) → IsValidity profile base (chars text.now) true }
+{
+    match plain_cut(text) {
+        Some(_) => true,
+        None => false,
+    }
+}
+
+// The parts of a plain link.
+#[inline(always)]
+fn parts_of<'t>(cut: &PlainCut<'t>) -> Parts<'t>
+    requires { (text : List ℕ) × IsPlainCut text cut.now }
+    ensures { (text : List ℕ) → IsPlainCut text cut.now → (profile : Profile) (base : Option Url)
+        → IsAccepted profile base text result }
+{
+    Parts {
+        form: Form::SchemeAuthority,
+        cut: Cut {
+            scheme: Some(cut.scheme),
+            host_text: Some(cut.name),
+            port_text: cut.port_text,
+            path_text: cut.path_text,
+            query: cut.query,
+            fragment: cut.fragment,
+        },
+        host: Some(PartsHost::Plain(AsciiText::of(cut.name))),
+        port: cut.port,
+    }
+}
+
+// The texts of a plain link.
+#[inline(always)]
+fn plain_cut<'t>(text: &'t str) -> Option<PlainCut<'t>>
+    ensures { IfSome result (IsPlainCut (chars text.now)) }
 {
     let Some((scheme, behind)) = split_special(text) else {
         return None;
@@ -51,19 +108,14 @@ pub(crate) fn plain_link<'t>(text: &'t str) -> Option<Parts<'t>>
     if !rest.as_str().is_empty() {
         return None;
     }
-    let cut = Cut {
-        scheme: Some(scheme),
-        host_text: Some(name),
+    Some(PlainCut {
+        scheme,
+        name,
         port_text,
+        port,
         path_text,
         query,
         fragment,
-    };
-    Some(Parts {
-        form: Form::SchemeAuthority,
-        cut,
-        host: Some(PartsHost::Plain(AsciiText::of(name))),
-        port,
     })
 }
 

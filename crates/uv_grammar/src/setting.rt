@@ -1,32 +1,34 @@
 //! What a text is read against.
-ghost use Rattle.std.specs.Prelude.{◌≡◌, option_copied};
+ghost use Rattle.std.specs.Prelude.{◌≡◌};
 ghost use Rattle.std.specs.Str.{chars};
 ghost use Rattle.uv_model.specs.Scheme.{default_port, scheme_class};
 ghost use Rattle.uv_model.specs.Setting.{scheme_or, setting_of};
+ghost use Rattle.uv_grammar.specs.Bases.{as_base};
 ghost use Rattle.uv_grammar.specs.Slices.{chars_of_option};
 
+use crate::bases::Base;
 use std::marker::Model;
-use uv_model::{Class, Profile, Record, default_port, is_name};
+use uv_model::{Class, Profile, default_port, is_name};
 
 /// The profile, the base, and the class and the default port of the text's scheme, or else of the base's. A text's
 /// setting is made once and handed down.
 #[derive(Drop)]
 pub(crate) struct Setting<'b> {
     pub(crate) profile: Profile,
-    pub(crate) base: Option<&'b Record>,
+    pub(crate) base: Option<Base<'b>>,
     pub(crate) class: Class,
     pub(crate) default_port: Option<u16>,
 }
 
 impl<'b> Model for Setting<'b> {
-    ghost use Rattle.std.specs.Prelude.{option_copied};
+    ghost use Rattle.uv_grammar.specs.Bases.{as_base};
     ghost use Rattle.uv_model.specs.Setting.{Setting};
 
     ghost Value = { Setting };
 
     ghost view = { λ s. record {
       profile = s.profile;
-      base = option_copied s.base;
+      base = as_base s.base;
       class = s.class;
       default_port = s.default_port;
     } };
@@ -34,12 +36,8 @@ impl<'b> Model for Setting<'b> {
 
 impl<'b> Setting<'b> {
     /// The setting of a text with this scheme, or without one.
-    pub(crate) fn of(
-        base: Option<&'b Record>,
-        scheme: Option<&str>,
-        profile: Profile,
-    ) -> Setting<'b>
-        ensures { result ≡ setting_of profile (option_copied base.entry) (chars_of_option scheme.entry) }
+    pub(crate) fn of(base: Option<Base<'b>>, scheme: Option<&str>, profile: Profile) -> Setting<'b>
+        ensures { result ≡ setting_of profile (as_base base.entry) (chars_of_option scheme.entry) }
     {
         let scheme = scheme_against(base, scheme);
         let default_port = default_port(scheme);
@@ -53,8 +51,8 @@ impl<'b> Setting<'b> {
 }
 
 // The scheme, or else the base's, or else nothing.
-fn scheme_against<'s>(base: Option<&'s Record>, scheme: Option<&'s str>) -> &'s str
-    ensures { chars result.now ≡ scheme_or (option_copied base.entry) (chars_of_option scheme.entry) }
+fn scheme_against<'s>(base: Option<Base<'s>>, scheme: Option<&'s str>) -> &'s str
+    ensures { chars result.now ≡ scheme_or (as_base base.entry) (chars_of_option scheme.entry) }
 {
     match (scheme, base) {
         (Some(scheme), _) => scheme,

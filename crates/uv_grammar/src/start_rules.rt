@@ -1,16 +1,18 @@
 //! The rules of the start of a text and of the start of a path.
-ghost use Rattle.std.specs.Prelude.{◌≡◌, ◌≢◌, ◌↔◌, IsTrue, None, [], option_copied};
+ghost use Rattle.std.specs.Prelude.{◌≡◌, ◌≢◌, ◌↔◌, IsTrue, None, []};
 ghost use Rattle.std.specs.Str.{chars};
 ghost use Rattle.uv_model.specs.Complaints.Complaint.{HasEmptyFirst, HasHost, PathStartComplaint, StartComplaint};
 ghost use Rattle.uv_model.specs.Complaints.Refusal.{IsLeast};
+ghost use Rattle.uv_grammar.specs.Bases.{as_base};
 ghost use Rattle.uv_grammar.specs.PartComplaints.{IsCountable, OfPathStart};
 ghost use Rattle.uv_grammar.specs.StartRules.{base_fault};
 
+use crate::bases::Base;
 use crate::cut::Cut;
 use crate::marks::beginnings::{has_drive, has_number_sign, has_two_slashes};
 use crate::places::{path_place, refusal_behind, slashes_place};
 use crate::setting::Setting;
-use uv_model::{Class, Host, Profile, Record, Refusal, Rule};
+use uv_model::{Class, Profile, Refusal, Rule};
 
 /// The least refusal under which no host, port and start of a path is judged: a text without a scheme against no base
 /// or an opaque one, and a special scheme without `//`.
@@ -40,15 +42,15 @@ fn lacks_slashes(cut: &Cut, setting: &Setting) -> bool
 }
 
 // The refusal of a text without a scheme.
-fn base_fault(text: &str, base: Option<&Record>) -> Option<Refusal>
-    ensures { result ≡ base_fault (option_copied base.entry) (chars text.now) }
+fn base_fault(text: &str, base: Option<Base<'_>>) -> Option<Refusal>
+    ensures { result ≡ base_fault (as_base base.entry) (chars text.now) }
 {
     match base {
         None => Some(Refusal {
             place: 0,
             rule: Rule::NoScheme,
         }),
-        Some(record) if record.is_opaque() && !has_number_sign(text) => Some(Refusal {
+        Some(base) if base.has_opaque_path() && !has_number_sign(text) => Some(Refusal {
             place: 0,
             rule: Rule::OpaqueBase,
         }),
@@ -109,12 +111,12 @@ fn keeps_drive_out(cut: &Cut, setting: &Setting) -> bool
 }
 
 // There is a host in the text, or without a scheme and an authority in the base.
-fn has_host(cut: &Cut, base: Option<&Record>) -> bool
-    ensures { IsTrue result ↔ HasHost (option_copied base.entry) cut.now.scheme cut.now.host_text }
+fn has_host(cut: &Cut, base: Option<Base<'_>>) -> bool
+    ensures { IsTrue result ↔ HasHost (as_base base.entry) cut.now.scheme cut.now.host_text }
 {
     match (cut.host_text, cut.scheme, base) {
         (Some(host_text), _, _) => holds_any(host_text),
-        (None, None, Some(record)) => !is_empty_host(record.host()),
+        (None, None, Some(base)) => !base.has_empty_host(),
         (None, _, _) => false,
     }
 }
@@ -124,14 +126,4 @@ fn holds_any(text: &str) -> bool
     ensures { IsTrue result ↔ (chars text.now ≢ []) }
 {
     !text.is_empty()
-}
-
-// The host is the empty one.
-fn is_empty_host(host: Option<&Host>) -> bool
-    ensures { IsTrue result ↔ (option_copied host.entry ≡ Some Host.Empty) }
-{
-    match host {
-        Some(Host::Empty) => true,
-        _ => false,
-    }
 }

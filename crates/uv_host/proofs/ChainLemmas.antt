@@ -238,7 +238,8 @@ root_shorter name = elim (cases_Bool (is_full_stop (slice_index name (length nam
   | inr other ↦ rw other (le_refl (length name))
 ]
 
-rooted_lengths : (name : List ℕ) → is_rooted_chain name ≡ true → length name ≤ 63 → has_lengths name ≡ true
+-- a name of at most 63 code points has the lengths of a domain
+pub rooted_lengths : (name : List ℕ) → is_rooted_chain name ≡ true → length name ≤ 63 → has_lengths name ≡ true
 rooted_lengths name h few =
     let root = without_root name in
     let shorter = root_shorter name in
@@ -250,11 +251,11 @@ rooted_lengths name h few =
     (from_first (length (without_root name)) (labels_of (without_root name)) (chain_labels false
     (without_root name) h)))
 
--- a name of at most 63 code points is its own form
-pub rooted_is_form : (profile : Profile) (name : List ℕ) → IsUtf8 name → is_rooted_chain name ≡ true → length name ≤ 63
+-- a name of such lengths is its own form
+pub rooted_is_form : (profile : Profile) (name : List ℕ) → IsUtf8 name → is_rooted_chain name ≡ true
+    → has_lengths name ≡ true
     → IsForm profile (chars name) name
-rooted_is_form profile name utf8 h few = plain_is_form profile name utf8 (rooted_plain name h)
-    (rooted_lengths name h few)
+rooted_is_form profile name utf8 h lengths = plain_is_form profile name utf8 (rooted_plain name h) lengths
 
 -- and it holds a form's code points alone
 pub rooted_form : (name : List ℕ) → is_rooted_chain name ≡ true → list_all (is_form_code_point Standard) name ≡ true

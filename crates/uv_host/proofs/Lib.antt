@@ -1,5 +1,6 @@
 pub mod BracketLemmas
 pub mod ChainLemmas
+pub mod LowerLemmas
 pub mod NameBitsLemmas
 pub mod NameFrontLemmas
 pub mod OpaqueHostLemmas

@@ -82,7 +82,8 @@ plain_label : (label : List ℕ) → passes_hyphens Check label ≡ true → pas
 unfolding passes_hyphens
 plain_label label h = not_from_false _ (has_ace_prefix-passes Check label h)
 
-plain_parsed : (name : List ℕ) → IsPlain STD3 Check name → IsPlain EMPTY Allow name
+-- so ToASCII at those leaves such a name as it is too
+pub plain_parsed : (name : List ℕ) → IsPlain STD3 Check name → IsPlain EMPTY Allow name
 plain_parsed name p = record {
   valid =
       All-weaker (λ b. (b < 128) × (is_valid_char STD3 b ≡ true)) (λ b. (b < 128) × (is_valid_char EMPTY b ≡ true))

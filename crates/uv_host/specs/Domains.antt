@@ -1,18 +1,21 @@
 -- The answers on domains, after the URL Standard, sections 3.3 to 3.5, and UTS #46, section 4.
-use Rattle.std.specs.Prelude.{ℕ, Bool, ◌&&◌, ◌||◌, ◌==◌, List, string_bytes}
+use Rattle.std.specs.Prelude.{◌≡◌, ℕ, Bool, true, false, ◌&&◌, ◌||◌, ◌==◌, List, string_bytes}
 use Rattle.std.specs.Char.{is_ascii_digit, is_ascii_lowercase}
 use Rattle.std.specs.List.{list_all}
-use Rattle.idna.specs.declared.options.Hyphens.TheVariants.{Check}
+use Rattle.std.specs.Str.{IsAscii}
+use Rattle.idna.specs.declared.deny_list.TheConstants.AsciiDenyList.{STD3}
+use Rattle.idna.specs.declared.options.Hyphens.TheVariants.{Allow, Check}
+use Rattle.idna.specs.Display.{IsPlain}
 use Rattle.idna.specs.Labels.{labels_of}
 use Rattle.idna.specs.Validity.{passes_hyphens}
 use Rattle.uv_model.specs.Ascii.{full_stop}
 use Rattle.uv_model.specs.declared.profile.Profile.{Profile}
-use Rattle.uv_model.specs.declared.profile.Profile.TheVariants.{Standard}
+use Rattle.uv_model.specs.declared.profile.Profile.TheVariants.{Standard, Wide}
 use Rattle.uv_host.specs.declared.domains.DomainAnswer.{DomainAnswer}
 use Rattle.uv_host.specs.declared.domains.DomainAnswer.TheVariants.{Ascii, Number, Not}
 use Rattle.uv_host.specs.declared.domains.PlainAnswer.{PlainAnswer}
 use Rattle.uv_host.specs.declared.domains.PlainAnswer.TheVariants as plain
-use Rattle.uv_model.specs.Hosts.Domain.{HasNoForm, IsDomain, IsNumberText, is_form_code_point}
+use Rattle.uv_model.specs.Hosts.Domain.{HasNoForm, IsDomain, IsForm, IsNumberText, has_lengths, is_form_code_point}
 
 -- the answer on a text by the profile: the form of a valid domain, a number, or neither
 abbrev pub IsAnswer : Profile → List ℕ → DomainAnswer → Type 0
@@ -34,3 +37,16 @@ abbrev pub IsPlainAnswer : Profile → List ℕ → List ℕ → PlainAnswer →
 IsPlainAnswer profile text bytes plain.Domain = IsDomain profile text bytes
 IsPlainAnswer profile text bytes plain.Number = IsNumberText profile text
 IsPlainAnswer profile text bytes plain.Not = HasNoForm profile text
+
+-- the form is that of the text where its lengths are right, and else the text has none
+pub record HasFormByLengths (profile : Profile) (text form : List ℕ) : Type 0 where
+  pub ascii : IsAscii form
+  pub fits : has_lengths form ≡ true → IsForm profile text form
+  pub wrong : has_lengths form ≡ false → HasNoForm profile text
+
+-- ToASCII leaves the name as it is: at its strict settings by the standard profile, and at those of the URL parser, of
+-- code points of a form, by the wide one
+abbrev pub IsOwnForm : Profile → List ℕ → Type 0
+IsOwnForm Standard name = IsPlain STD3 Check name
+IsOwnForm Wide name =
+    (list_all (is_form_code_point Wide) name ≡ true) × (list_all (passes_hyphens Allow) (labels_of name) ≡ true)

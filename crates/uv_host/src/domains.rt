@@ -1,13 +1,13 @@
 //! Domains of special URLs (URL Standard, sections 3.3 to 3.5; UTS #46, section 4).
 ghost use Rattle.std.specs.Cow.{cow_str_bytes};
-ghost use Rattle.std.specs.Prelude.{chars, encode_utf8_all, false, IfOk, IfSome, IsSome, IsTrue, MatchOption, option_map, slice_index, true, ◌↔◌, ◌≡◌, ◌==◌};
+ghost use Rattle.std.specs.Prelude.{chars, encode_utf8_all, false, IfOk, IfSome, IsSome, IsTrue, List, MatchOption, option_map, slice_index, string_bytes, true, ◌↔◌, ◌≡◌, ◌==◌, ℕ};
 ghost use Rattle.std.specs.Str.{IsAscii};
 ghost use Rattle.idna.specs.Uts46.{to_ascii};
 ghost use Rattle.std.specs.List.{list_all};
 ghost use Rattle.idna.specs.Display.{IsPlain};
 ghost use Rattle.idna.specs.Labels.{labels_of};
 ghost use Rattle.idna.specs.Validity.{passes_hyphens};
-ghost use Rattle.uv_host.specs.Domains.{IsAnswer, IsPlainAnswer, is_plain_name, is_simple};
+ghost use Rattle.uv_host.specs.Domains.{HasFormByLengths, IsAnswer, IsOwnForm, IsPlainAnswer, is_plain_name, is_simple};
 ghost use Rattle.uv_model.specs.Hosts.Domain as spec;
 ghost use Rattle.uv_model.specs.declared.profile.Profile.{Profile};
 
@@ -43,6 +43,17 @@ pub fn domain(alloc: Global, text: &str, profile: Profile) -> Result<DomainAnswe
     if !has_permitted(text, profile) {
         return Ok(DomainAnswer::Not);
     }
+    match lower_form(alloc, text, profile)? {
+        Some(form) => Ok(judge_form(form)),
+        None => mapped_domain(alloc, text, profile),
+    }
+}
+
+/// The answer on a permitted text by ToASCII.
+fn mapped_domain(alloc: Global, text: &str, profile: Profile) -> Result<DomainAnswer, AllocError>
+    requires { spec.has_permitted profile (chars text.now) ≡ true }
+    ensures { IfOk result (IsAnswer profile (chars text.now)) }
+{
     let Some(form) = form_of(alloc, text, profile)? else {
         return Ok(DomainAnswer::Not);
     };
@@ -50,6 +61,63 @@ pub fn domain(alloc: Global, text: &str, profile: Profile) -> Result<DomainAnswe
         Ok(DomainAnswer::Number)
     } else {
         Ok(DomainAnswer::Ascii(form.into_owned(alloc)?))
+    }
+}
+
+/// The lower case of a permitted text, where that is its form but for the lengths: the text is ASCII, and ToASCII leaves
+/// its lower case as it is. Where there is none, that says nothing.
+fn lower_form(alloc: Global, text: &str, profile: Profile) -> Result<Option<String>, AllocError>
+    requires { spec.has_permitted profile (chars text.now) ≡ true }
+    ensures { IfOk result (λ answer. IfSome answer
+        (λ form. HasFormByLengths profile (chars text.now) (string_bytes form))) }
+{
+    if !text.is_ascii() {
+        return Ok(None);
+    }
+    let form = text.to_ascii_lowercase(alloc)?;
+    if is_own_form(form.as_str().as_bytes(), profile) {
+        Ok(Some(form))
+    } else {
+        Ok(None)
+    }
+}
+
+/// Whether ToASCII with the settings of the profile leaves a name as it is. Where the answer is no, that says nothing.
+fn is_own_form(name: &[u8], profile: Profile) -> bool
+    ensures { IsTrue result → IsOwnForm profile name.now }
+{
+    match profile {
+        Profile::Standard => is_plain(name),
+        Profile::Wide => is_form(name, Profile::Wide) && is_without_punycode(name),
+    }
+}
+
+/// Whether no label begins with `xn--`.
+fn is_without_punycode(name: &[u8]) -> bool
+    ensures { result ≡ list_all (passes_hyphens Hyphens.Allow) (labels_of name.now) }
+{
+    name.split(|b| *b == b'.').all(|label| has_no_prefix(label))
+}
+
+#[tactic(auto, unfolding(idna::specs::Validity::passes_hyphens, idna::specs::Validity::has_ace_prefix))]
+fn has_no_prefix(label: &[u8]) -> bool
+    ensures { result ≡ passes_hyphens Hyphens.Allow label.now }
+{
+    !label.starts_with(b"xn--")
+}
+
+/// The answer on every text whose form this is but for its lengths.
+fn judge_form(form: String) -> DomainAnswer
+    requires { IsAscii (string_bytes form) }
+    ensures { (profile : Profile) (text : List ℕ) → HasFormByLengths profile text (string_bytes form)
+        → IsAnswer profile text result }
+{
+    if !has_lengths(form.as_str()) {
+        DomainAnswer::Not
+    } else if is_number(form.as_str()) {
+        DomainAnswer::Number
+    } else {
+        DomainAnswer::Ascii(form)
     }
 }
 
@@ -248,7 +316,7 @@ fn ascii_form<'a>(
 }
 
 /// Whether each label of a form has 1 to 63 code points and the whole 1 to 253, a full stop at its end not counted.
-fn has_lengths(form: &str) -> bool
+pub(crate) fn has_lengths(form: &str) -> bool
     ensures { result ≡ spec.has_lengths form.now }
 {
     verify_dns_length(form, true)

@@ -4,7 +4,7 @@ ghost use Rattle.uv_host.specs.PlainNames.{IsJoined, IsChainFront, is_rooted_cha
 ghost use Rattle.uv_model.specs.declared.profile.Profile.{Profile};
 ghost use Rattle.uv_model.specs.Hosts.Domain as spec;
 
-use crate::domains::is_number;
+use crate::domains::{has_lengths, is_number};
 use uv_text::Tail;
 
 // The lower-case letters and the digits, by the low half of a byte: a bit for each high half.
@@ -65,7 +65,7 @@ pub fn is_plain_domain(name: &str) -> bool
     requires { is_rooted_chain name.now ≡ true }
     ensures { (profile : Profile) → IsTrue result → spec.IsDomain profile (chars name.now) name.now }
 {
-    if !is_short(name) {
+    if !is_fitting(name) {
         return false;
     }
     if ends_in_word(name.as_bytes()) {
@@ -93,11 +93,13 @@ fn is_word_letter(b: u8) -> bool
     b > b'f' && b <= b'z' && b != b'x'
 }
 
-// Whether a name has no more bytes than one label may have.
-fn is_short(name: &str) -> bool
-    ensures { IsTrue result → length name.now ≤ 63 }
+// Whether such a name has the lengths of a domain, as it has where it has no more bytes than one label may have.
+#[inline(always)]
+fn is_fitting(name: &str) -> bool
+    requires { is_rooted_chain name.now ≡ true }
+    ensures { result ≡ spec.has_lengths name.now }
 {
-    name.len() <= 63
+    name.len() <= 63 || has_lengths(name)
 }
 
 #[cfg(test)]

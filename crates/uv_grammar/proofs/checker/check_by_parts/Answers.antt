@@ -1,8 +1,9 @@
 -- The verdict on a cut text is the verdict on the text.
 use Rattle.std.proofs.Common.{arith}
-use Rattle.std.specs.Prelude.{option_copied, option_map}
+use Rattle.std.specs.Prelude.{option_map}
 use Rattle.std.specs.Str.{chars}
 use Rattle.std.proofs.lemmas.Bool.{false≢true}
+use Rattle.uv_grammar.specs.Bases.{as_base}
 use Rattle.uv_grammar.specs.PartsHost.{as_host}
 use Rattle.uv_grammar.proofs.VerdictLemmas.{accepted, countable, host_without_memory, refused_behind, refused_host}
 use Rattle.uv_grammar.proofs.VerdictLemmas.{refused_port, refused_start}
@@ -14,7 +15,7 @@ start_fault-requires c =
 
 pub returns-in-Some-clause-answer : goal.returns-in-Some-clause-answer
 returns-in-Some-clause-answer c =
-    refused_start c.args.profile (option_copied c.args.base) (chars c.args.text.now) c.cut_text-cut.result.0
+    refused_start c.args.profile (as_base c.args.base) (chars c.args.text.now) c.cut_text-cut.result.0
     c.cut_text-cut.result.1 c.in-Some.refusal c.cut_text-cut.ensures.cut c.cut_text-cut.ensures.setting
     c.in-Some.ensures
 
@@ -24,7 +25,7 @@ judge_host_part-requires c =
 
 pub returns-in-Refused-clause-answer : goal.returns-in-Refused-clause-answer
 returns-in-Refused-clause-answer c =
-    refused_host c.args.profile (option_copied c.args.base) (chars c.args.text.now) c.cut_text-cut.result.0
+    refused_host c.args.profile (as_base c.args.base) (chars c.args.text.now) c.cut_text-cut.result.0
     c.cut_text-cut.result.1 c.in-Refused.refusal c.cut_text-cut.ensures.cut c.cut_text-cut.ensures.setting
     c.in_default.ensures (rw c.in-Refused.is at c.in_ok-host.ensures.answer)
 
@@ -34,7 +35,7 @@ judge_port_part-requires c =
 
 pub returns-in-Refused-judge_port_part-clause-answer : goal.returns-in-Refused-judge_port_part-clause-answer
 returns-in-Refused-judge_port_part-clause-answer c =
-    refused_port c.args.profile (option_copied c.args.base) (chars c.args.text.now) c.cut_text-cut.result.0
+    refused_port c.args.profile (as_base c.args.base) (chars c.args.text.now) c.cut_text-cut.result.0
     c.cut_text-cut.result.1 c.in-Refused-judge_port_part.refusal c.cut_text-cut.ensures.cut
     c.cut_text-cut.ensures.setting c.in_default.ensures (rw c.in-Valid.is at c.in_ok-host.ensures.answer).1
     c.in-Refused-judge_port_part.ensures
@@ -45,14 +46,14 @@ fault_behind_authority-requires c =
 
 pub returns-in-Some-fault_behind_authority-clause-answer : goal.returns-in-Some-fault_behind_authority-clause-answer
 returns-in-Some-fault_behind_authority-clause-answer c =
-    refused_behind c.args.profile (option_copied c.args.base) (chars c.args.text.now) c.cut_text-cut.result.0
+    refused_behind c.args.profile (as_base c.args.base) (chars c.args.text.now) c.cut_text-cut.result.0
     c.cut_text-cut.result.1 c.in-Some-fault_behind_authority.refusal c.cut_text-cut.ensures.cut
     c.cut_text-cut.ensures.setting c.in_default.ensures (rw c.in-Valid.is at c.in_ok-host.ensures.answer).1
     c.in-Valid-judge_port_part.ensures.1 c.in-Some-fault_behind_authority.ensures
 
 pub returns-clause-answer : goal.returns-clause-answer
 returns-clause-answer c =
-    accepted c.args.profile (option_copied c.args.base) (chars c.args.text.now) c.cut_text-cut.result.0
+    accepted c.args.profile (as_base c.args.base) (chars c.args.text.now) c.cut_text-cut.result.0
     c.cut_text-cut.result.1 c.cut_text-cut.ensures.cut c.cut_text-cut.ensures.setting c.in_default.ensures
     c.build.result (record {
       host = option_map as_host c.in-Valid.host;
@@ -66,5 +67,5 @@ returns-clause-answer c =
 pub returns-in_err-host-clause-memory : goal.returns-in_err-host-clause-memory
 returns-in_err-host-clause-memory c = λ h.
     absurd (false≢true (c.in_err-host.ensures.memory
-    (host_without_memory c.args.profile (option_copied c.args.base) (chars c.args.text.now) c.cut_text-cut.result.0
+    (host_without_memory c.args.profile (as_base c.args.base) (chars c.args.text.now) c.cut_text-cut.result.0
     c.cut_text-cut.result.1 c.cut_text-cut.ensures.cut c.cut_text-cut.ensures.setting c.in_default.ensures h)))

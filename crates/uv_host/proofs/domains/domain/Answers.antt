@@ -1,18 +1,10 @@
--- A form is ASCII.
-use Rattle.std.proofs.Common.{chars, sym, ◌∙◌}
+-- A plain name holds permitted code points, and a lower case that is a form is ASCII.
+use Rattle.std.proofs.Common.{sym, ◌∙◌}
 use Rattle.std.proofs.lemmas.Bool.{false≢true}
-use Rattle.std.specs.Cow.{cow_str_bytes}
-use Rattle.uv_model.specs.Hosts.Domain.{IsForm}
-use Rattle.uv_model.proofs.Hosts.DomainLemmas.{IsAscii-form}
+use Rattle.std.specs.String.{string_bytes}
+use Rattle.uv_host.specs.Domains.{HasFormByLengths}
 use Rattle.uv_host.proofs.PlainLemmas.{permitted_plain}
 use Rattle.uv_host.proofs.domains.domain.Goals as goal
-
-pub is_number-requires : goal.is_number-requires
-is_number-requires c =
-    let text = chars c.args.text.now in
-    let form = cow_str_bytes c.in-Some.form in
-    let is : IsForm c.args.profile text form = rw c.in-Some.is at c.in_ok-form.ensures in
-    rw c.as_str.ensures.value (IsAscii-form c.args.profile text form is)
 
 pub returns-then-is_plain-clause-refused : goal.returns-then-is_plain-clause-refused
 returns-then-is_plain-clause-refused c =
