@@ -1,4 +1,5 @@
 mod CheckLemmas
 mod LintLemmas
 mod ListLemmas
+mod MendLemmas
 mod ReportLemmas

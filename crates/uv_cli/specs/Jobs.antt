@@ -25,6 +25,7 @@ use Rattle.uv_cli.specs.Check.{HasWritten, HasWrittenFront, RunsAgainst}
 use Rattle.uv_cli.specs.Device.{Device}
 use Rattle.uv_cli.specs.Explain.{HasExplained, HasExplainedFront}
 use Rattle.uv_cli.specs.Lint.{HasLinted}
+use Rattle.uv_cli.specs.Mend.{HasMended}
 
 -- ---- a check
 
@@ -129,6 +130,8 @@ HasDone (job.Lint asked) bytes end input rest old new =
     AtLent asked.base (λ base. AtLent asked.format (λ format. HasLinted asked base format end input rest old new))
 HasDone (job.Links base profile) bytes end input rest old new =
     AtLent base (λ lent. HasListed profile lent end input rest old new)
+HasDone (job.Mend text base profile) bytes end input rest old new =
+    AtLent base (λ lent. HasMended profile lent (string_bytes text) end old new) × (rest ≡ input)
 HasDone (job.Vectors file) bytes end input rest old new = HasRunVectors bytes end old new × (rest ≡ input)
 HasDone (job.Explain rule) bytes end input rest old new =
     AtLent rule (λ lent. HasRunExplain lent end old new) × (rest ≡ input)

@@ -6,5 +6,6 @@ pub mod Explain
 pub mod Jobs
 pub mod Lint
 pub mod Linted
+pub mod Mend
 pub mod Messages
 pub mod Unread

@@ -2,12 +2,14 @@
 ghost use Rattle.std.specs.Prelude.{◌≡◌, ◌-◌, ◌^◌, ◌<◌, chars};
 ghost use Rattle.uv_cli.specs.Check.{RunsAgainst};
 ghost use Rattle.uv_cli.specs.Jobs.{HasChecked, HasDone, HasRunExplain, HasRunVectors};
+ghost use Rattle.uv_cli.specs.Mend.{HasMended};
 
 use crate::check::{run_check, run_faults};
 use crate::ends::{End, end_of_check, end_of_explanation, end_of_vectors};
 use crate::explain::run_explain;
 use crate::links::list_links;
 use crate::lint::lint_files;
+use crate::mend::run_mend;
 use std::alloc::Global;
 use std::fs::Files;
 use uv_model::{Extent, Profile, Sink, Source};
@@ -15,8 +17,8 @@ use uv_vectors::run_vectors;
 use uv_words::Job;
 
 /// Does what a job asks for: it checks the job's text, against the job's base and by the profile that the job names, or
-/// says what is wrong with the lines of the job's files, or reports on the lines of the input, or runs the cases of a
-/// vector file, or explains the job's rule, or each rule.
+/// says what to write in its place, or says what is wrong with the lines of the job's files, or reports on the lines of
+/// the input, or runs the cases of a vector file, or explains the job's rule, or each rule.
 ///
 /// The file has the bytes of the job's file, and only a run of vectors looks at it. A lint opens its files itself. The
 /// input is read only by a list, and by a lint for a file that is named `-`, and the output isn't flushed.
@@ -59,10 +61,31 @@ pub fn run_job<R: Files + Eprint + AllocGlobal, I: Source, S: Sink>(
             out,
         ),
         Job::Links { base, profile } => list_links(alloc, base.as_deref(), *profile, input, out),
+        Job::Mend {
+            text,
+            base,
+            profile,
+        } => mend_text(alloc, text.as_str(), base.as_deref(), *profile, out),
         Job::Vectors { .. } => vectors_run(alloc, file, out),
         Job::Explain { rule } => explained(alloc, rule.as_deref(), out),
         Job::UnknownProfile { .. } => End::UnknownProfile,
     }
+}
+
+// Says what to write in place of a text, alone or against a base.
+fn mend_text<S: Sink>(
+    alloc: Global,
+    text: &str,
+    base: Option<&str>,
+    profile: Profile,
+    out: &mut S,
+) -> End
+    requires { S.failed out.old < 2 ^ 64 - 1 }
+    ensures { HasMended profile base.entry text.now result
+        (record { bytes = S.contents out.old; failed = S.failed out.old })
+        (record { bytes = S.contents out.new; failed = S.failed out.new }) }
+{
+    end_of_check(run_mend(alloc, text, base, profile, out))
 }
 
 // Explains the rule with a name, or each rule.

@@ -9,6 +9,7 @@ mod jobs;
 mod links;
 mod lint;
 mod linted;
+mod mend;
 mod messages;
 pub mod program;
 mod report;
@@ -21,6 +22,7 @@ pub use ends::{End, error_line, status};
 pub use explain::{ExplainEnd, run_explain};
 pub use jobs::run_job;
 pub use linted::Linted;
+pub use mend::run_mend;
 pub use uv_vectors::{CliFault, VectorEnd, run_vectors};
 pub use uv_words::{Job, LintJob, WordsFault, read_words};
 

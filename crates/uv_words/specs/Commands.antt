@@ -56,6 +56,12 @@ links_command =
     with_rule (with_rule (with_rule (new_app (codes "links"))
     (option_rule (codes "base"))) (option_rule (codes "profile"))) (flag_rule (codes "wide"))
 
+-- `mend [--base TEXT] [--profile PROFILE] [--wide] TEXT`
+abbrev pub mend_command : App
+mend_command =
+    with_rule (with_rule (with_rule (with_rule (new_app (codes "mend"))
+    (option_rule (codes "base"))) (option_rule (codes "profile"))) (flag_rule (codes "wide"))) text_rule
+
 -- `vectors FILE`
 abbrev pub vectors_command : App
 vectors_command = with_rule (new_app (codes "vectors")) file_rule
@@ -68,11 +74,11 @@ explain_command = with_rule (new_app (codes "explain")) name_rule
 abbrev pub with_required : App → App
 with_required = on_top (λ s. record s { subcommand_required = true; has_version = true })
 
--- the program's five commands
+-- the program's six commands
 abbrev pub urlcheck : App
-urlcheck = with_subcommand (with_subcommand (with_subcommand (with_subcommand (with_subcommand
+urlcheck = with_subcommand (with_subcommand (with_subcommand (with_subcommand (with_subcommand (with_subcommand
     (with_required (new_app (codes "urlcheck"))) check_command.top) lint_command.top) links_command.top)
-    vectors_command.top) explain_command.top
+    mend_command.top) vectors_command.top) explain_command.top
 
 -- the command is read as the App, and no argument of it is global
 abbrev pub IsApp : App → Command → Type 0

@@ -36,11 +36,13 @@ pub record LintRequest : Type 0 where
   pub quiet : Bool
 
 -- a command with its texts and options: of a check the text, the base, how many violations and the profile; of a list
--- the base and the profile; of vectors the file; of an explanation the rule's name; or a profile's name that none has
+-- the base and the profile; of a mending the text, the base and the profile; of vectors the file; of an explanation the
+-- rule's name; or a profile's name that none has
 pub data Request : Type 0 where
   check : Text → Option Text → Extent → Profile → Request
   lint : LintRequest → Request
   links : Option Text → Profile → Request
+  mend : Text → Option Text → Profile → Request
   vectors : Text → Request
   explain : Option Text → Request
   unknown_profile : Text → Request
@@ -88,6 +90,10 @@ abbrev pub check_in : List Row → Profile → Option Request
 check_in rows profile =
     option_map (λ text. check text (base_in rows) (extent_in rows) profile) (first_of (codes "TEXT") rows)
 
+-- the request of a mending, from its entries and by the profile
+abbrev pub mend_in : List Row → Profile → Option Request
+mend_in rows profile = option_map (λ text. mend text (base_in rows) profile) (first_of (codes "TEXT") rows)
+
 -- the request of a lint, from its entries and by the profile
 abbrev pub lint_in : List Row → Profile → Option Request
 lint_in rows profile = option_map (λ files. lint (record {
@@ -105,7 +111,8 @@ judged_in name rows profile =
     if bytes_eq name (codes "check") then check_in rows profile
     else (if bytes_eq name (codes "lint") then lint_in rows profile
     else (if bytes_eq name (codes "links") then Some (links (base_in rows) profile)
-    else None))
+    else (if bytes_eq name (codes "mend") then mend_in rows profile
+    else None)))
 
 -- the request of a command that judges by the profile that is asked for
 abbrev pub profiled_in : Text → List Row → Option Wanted → Option Request
@@ -146,6 +153,7 @@ abbrev pub asked_by : Job → Request
 asked_by (job.Check text base extent profile) = check (string_bytes text) (text_in base) extent profile
 asked_by (job.Lint asked) = lint (request_by asked)
 asked_by (job.Links base profile) = links (text_in base) profile
+asked_by (job.Mend text base profile) = mend (string_bytes text) (text_in base) profile
 asked_by (job.Vectors file) = vectors (string_bytes file)
 asked_by (job.Explain rule) = explain (text_in rule)
 asked_by (job.UnknownProfile name) = unknown_profile (string_bytes name)

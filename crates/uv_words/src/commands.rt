@@ -1,7 +1,7 @@
 //! The commands of the program, with their help.
 ghost use Rattle.std.specs.Prelude.{◌≡◌, IfOk, codes, false};
 ghost use Rattle.clap.specs.Words.{App, Rule, app_of, new_app, rule_of, with_rule, with_subcommand};
-ghost use Rattle.uv_words.specs.Commands.{check_command, explain_command, links_command, lint_command, vectors_command};
+ghost use Rattle.uv_words.specs.Commands.{check_command, explain_command, links_command, lint_command, mend_command, vectors_command};
 ghost use Rattle.uv_words.specs.Commands.{file_rule, files_rule, flag_rule, name_rule, option_rule, quiet_rule, text_rule};
 ghost use Rattle.uv_words.specs.Commands.{urlcheck, IsApp};
 
@@ -51,6 +51,19 @@ Exit statuses:
 Example:
   urlcheck links --base http://h/ < links.txt";
 
+const MEND_NOTES: &str = "Prints `mended KIND` and the mended text, `valid`, or `none` and `refused PLACE RULE`.
+KIND is `same` where a browser reads both texts as one URL, `escaped` where code points
+are percent-encoded and all else is kept, and else `changed`.
+
+Exit statuses:
+  0  the text is valid, or a mended text is
+  1  no edit makes the text valid
+  2  the arguments or the base are refused
+  3  memory ran out, or the output failed
+
+Example:
+  urlcheck mend 'http://h/a b'";
+
 const VECTORS_NOTES: &str =
     "Prints `fail N` for each vector that fails, and at the end how many pass.
 
@@ -87,6 +100,7 @@ pub(crate) fn urlcheck<'a>(alloc: Global) -> Result<Command<'a>, AllocError>
     let program = and_command(Ok(program), check(alloc));
     let program = and_command(program, lint(alloc));
     let program = and_command(program, links(alloc));
+    let program = and_command(program, mend(alloc));
     let program = and_command(program, vectors(alloc));
     and_command(program, explain(alloc))
 }
@@ -153,6 +167,17 @@ fn links<'a>(alloc: Global) -> Result<Command<'a>, AllocError>
     let command = and_arg(Ok(command), base(alloc));
     let command = and_arg(command, profile(alloc));
     and_arg(command, wide(alloc))
+}
+
+fn mend<'a>(alloc: Global) -> Result<Command<'a>, AllocError>
+    ensures { IfOk result (IsApp mend_command) }
+{
+    let about = "Says what to write in place of a refused text";
+    let command = bare(alloc, "mend", about, MEND_NOTES);
+    let command = and_arg(Ok(command), base(alloc));
+    let command = and_arg(command, profile(alloc));
+    let command = and_arg(command, wide(alloc));
+    and_arg(command, text(alloc))
 }
 
 fn vectors<'a>(alloc: Global) -> Result<Command<'a>, AllocError>

@@ -72,6 +72,13 @@ fn is_check(
         && profile == want.profile
 }
 
+fn is_mending(text: &str, base: Option<&str>, profile: Profile, want: &Want<'_>) -> bool {
+    want.command == "mend"
+        && is(Some(text), want.texts)
+        && is(base, want.base)
+        && profile == want.profile
+}
+
 fn is_wanted(job: &Job, want: &Want<'_>) -> bool {
     match job {
         Job::Check {
@@ -84,6 +91,11 @@ fn is_wanted(job: &Job, want: &Want<'_>) -> bool {
         Job::Links { base, profile } => {
             want.command == "links" && is(base.as_deref(), want.base) && *profile == want.profile
         }
+        Job::Mend {
+            text,
+            base,
+            profile,
+        } => is_mending(text.as_str(), base.as_deref(), *profile, want),
         Job::Vectors { file } => want.command == "vectors" && is(Some(file.as_str()), want.texts),
         Job::Explain { rule } => want.command == "explain" && is(rule.as_deref(), want.texts),
         Job::UnknownProfile { name } => {
@@ -132,6 +144,21 @@ fn reads_checks(rt: HostRuntime) -> Result<(), Fail> {
         based,
     );
     Ok(())
+}
+
+#[test]
+fn reads_mendings(rt: HostRuntime) {
+    asks(&rt, &["urlcheck", "mend", "a b"], plain("mend", &["a b"]));
+    let wide = Want {
+        base: &["b"],
+        profile: Profile::Wide,
+        ..plain("mend", &["a"])
+    };
+    asks(
+        &rt,
+        &["urlcheck", "mend", "--base", "b", "--wide", "a"],
+        wide,
+    );
 }
 
 #[test]

@@ -2,8 +2,8 @@
 ghost use Rattle.std.specs.Prelude.{◌≡◌, IfOk, IfErr, codes, map, option_map, string_bytes, true};
 ghost use Rattle.clap.specs.Words.{all_of, first_of, found_of, kind_of, rows_of, subcommand_of, subcommand_rows_of, takes};
 ghost use Rattle.uv_words.specs.Commands.{urlcheck};
-ghost use Rattle.uv_words.specs.Words.{asked_by, asks_to_show, check_in, extent_in, has_flag, judged_in, lint_in, request_in};
-ghost use Rattle.uv_words.specs.Words.{request_of, vectors, wanted_in, wanted_view, IsFaultOf, IsFrom};
+ghost use Rattle.uv_words.specs.Words.{asked_by, asks_to_show, check_in, extent_in, has_flag, judged_in, lint_in, mend_in};
+ghost use Rattle.uv_words.specs.Words.{request_in, request_of, vectors, wanted_in, wanted_view, IsFaultOf, IsFrom};
 
 use crate::commands::urlcheck;
 use crate::profile::{Asked, asked_for};
@@ -33,6 +33,15 @@ pub enum Job {
         /// The base's text, if there is a base.
         base: Option<String>,
         /// By which profile the lines are judged, and the base too.
+        profile: Profile,
+    },
+    /// To say what to write in place of a text.
+    Mend {
+        /// The text.
+        text: String,
+        /// The base's text, if there is a base.
+        base: Option<String>,
+        /// By which profile it is judged, and the base too.
         profile: Profile,
     },
     /// To run the vectors of a file.
@@ -200,6 +209,9 @@ fn judged_in(
         let base = copied(alloc, value(entries, "base"))?;
         return Ok(Some(Job::Links { base, profile }));
     }
+    if name == "mend" {
+        return mend_in(alloc, entries, profile);
+    }
     Ok(None)
 }
 
@@ -219,6 +231,25 @@ fn check_in(
         text: text.to_string(alloc)?,
         base: copied(alloc, value(entries, "base"))?,
         extent: extent(entries),
+        profile,
+    }))
+}
+
+// The mending that a command's entries ask for.
+fn mend_in(
+    alloc: Global,
+    entries: &ArgMatches<'_>,
+    profile: Profile,
+) -> Result<Option<Job>, AllocError>
+    ensures { IfOk result (λ job.
+        option_map asked_by job ≡ mend_in (rows_of (found_of entries.now)) profile) }
+{
+    let Some(text) = value(entries, "TEXT") else {
+        return Ok(None);
+    };
+    Ok(Some(Job::Mend {
+        text: text.to_string(alloc)?,
+        base: copied(alloc, value(entries, "base"))?,
         profile,
     }))
 }
