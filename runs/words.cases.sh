@@ -40,6 +40,8 @@ refused "'urn:b'" check -- urn:a urn:b
 refused "'b'" check -- --base b t
 refused "'chek'" chek urn:a
 refused "'x'" links x
+refused '<TEXT>' mend
+refused "'b'" mend a b
 refused '<FILE>' vectors
 expect 2 '' "urlcheck: argument 2 isn't UTF-8\nwords\n" check $'\xff'
 expect 2 '' "urlcheck: argument 1 isn't UTF-8\nwords\n" $'\xff'
@@ -53,6 +55,7 @@ shows "  urlcheck check 'http://h/a b'" help
 shows '  urlcheck check --base http://h/a/b ../x' check --help
 shows '  urlcheck links --base http://h/ < links.txt' help links
 shows '  urlcheck lint --format caret links.txt' lint --help
+shows "  urlcheck mend 'http://h/a b'" mend --help
 shows '  urlcheck vectors vectors/standard.json' help vectors
 shows "urlcheck $(cat "$(dirname "$here")/VERSION")" --version
 
@@ -136,4 +139,4 @@ expect 2 '' 'base refused 7 host-domain\n' check --base http://a_b/ x
 expect 0 'valid\nscheme http\nhost domain a_b\nsegment x\n' '' check --wide --base http://a_b/ x
 expect 1 'refused 7 host-domain\nrefused 11 code-point\n' '' check --all 'http://a_b/ '
 expect 1 'refused 11 code-point\n' '' check --all --wide 'http://a_b/ '
-all_cases 97
+all_cases 100

@@ -244,14 +244,14 @@ fn mend_in(
     ensures { IfOk result (λ job.
         option_map asked_by job ≡ mend_in (rows_of (found_of entries.now)) profile) }
 {
-    let Some(text) = value(entries, "TEXT") else {
-        return Ok(None);
-    };
-    Ok(Some(Job::Mend {
-        text: text.to_string(alloc)?,
-        base: copied(alloc, value(entries, "base"))?,
-        profile,
-    }))
+    match value(entries, "TEXT") {
+        Some(text) => Ok(Some(Job::Mend {
+            text: text.to_string(alloc)?,
+            base: copied(alloc, value(entries, "base"))?,
+            profile,
+        })),
+        None => Ok(None),
+    }
 }
 
 // The lint that a command's entries ask for.
