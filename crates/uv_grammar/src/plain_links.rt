@@ -48,7 +48,19 @@ pub(crate) fn plain_link<'t>(text: &'t str) -> Option<Parts<'t>>
         → IsAccepted profile base (chars text.now) parts) }
 {
     match plain_cut(text) {
-        Some(cut) => Some(parts_of(&cut)),
+        Some(cut) => Some(Parts {
+            form: Form::SchemeAuthority,
+            cut: Cut {
+                scheme: Some(cut.scheme),
+                host_text: Some(cut.name),
+                port_text: cut.port_text,
+                path_text: cut.path_text,
+                query: cut.query,
+                fragment: cut.fragment,
+            },
+            host: Some(PartsHost::Plain(AsciiText::of(cut.name))),
+            port: cut.port,
+        }),
         None => None,
     }
 }
@@ -61,28 +73,6 @@ pub(crate) fn is_plain_link(text: &str) -> bool
     match plain_cut(text) {
         Some(_) => true,
         None => false,
-    }
-}
-
-// The parts of a plain link.
-#[inline(always)]
-fn parts_of<'t>(cut: &PlainCut<'t>) -> Parts<'t>
-    requires { (text : List ℕ) × IsPlainCut text cut.now }
-    ensures { (text : List ℕ) → IsPlainCut text cut.now → (profile : Profile) (base : Option Url)
-        → IsAccepted profile base text result }
-{
-    Parts {
-        form: Form::SchemeAuthority,
-        cut: Cut {
-            scheme: Some(cut.scheme),
-            host_text: Some(cut.name),
-            port_text: cut.port_text,
-            path_text: cut.path_text,
-            query: cut.query,
-            fragment: cut.fragment,
-        },
-        host: Some(PartsHost::Plain(AsciiText::of(cut.name))),
-        port: cut.port,
     }
 }
 
@@ -171,6 +161,7 @@ fn behind_two_slashes<'t>(text: &'t str) -> Option<&'t str>
 }
 
 // How many bytes a special scheme has at the front.
+#[inline(always)]
 fn special_end(bytes: &[u8]) -> Option<usize>
     ensures { IfSome result (IsSpecialFront bytes.now) }
 {

@@ -71,7 +71,7 @@ fn lower_form(alloc: Global, text: &str, profile: Profile) -> Result<Option<Stri
     ensures { IfOk result (λ answer. IfSome answer
         (λ form. HasFormByLengths profile (chars text.now) (string_bytes form))) }
 {
-    if !text.is_ascii() {
+    if !text.is_ascii() || is_mapped_in_vain(text, profile) {
         return Ok(None);
     }
     let form = text.to_ascii_lowercase(alloc)?;
@@ -79,6 +79,15 @@ fn lower_form(alloc: Global, text: &str, profile: Profile) -> Result<Option<Stri
         Ok(Some(form))
     } else {
         Ok(None)
+    }
+}
+
+/// Whether a text that is no plain name is its own lower case, which by the standard profile is then no form either. No
+/// verdict rests on the answer, and only the time of one does.
+fn is_mapped_in_vain(text: &str, profile: Profile) -> bool {
+    match profile {
+        Profile::Standard => !text.as_bytes().iter().any(|b| b.is_ascii_uppercase()),
+        Profile::Wide => false,
     }
 }
 

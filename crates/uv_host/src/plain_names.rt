@@ -61,6 +61,7 @@ fn chain_run(text: &Tail<'_>, place: usize, signed: bool) -> (usize, bool)
 
 /// Whether such a name, with the root's full stop or without one, is in each profile a valid domain (URL Standard,
 /// section 3.3), which is its own ASCII form. Where the answer is no, that says nothing.
+#[inline(always)]
 pub fn is_plain_domain(name: &str) -> bool
     requires { is_rooted_chain name.now ≡ true }
     ensures { (profile : Profile) → IsTrue result → spec.IsDomain profile (chars name.now) name.now }
