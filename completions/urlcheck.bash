@@ -16,15 +16,18 @@ _urlcheck() {
         lint:--format) words='gnu caret json github sarif checkstyle' is_value=yes ;;
         links:--base) words='' is_value=yes ;;
         links:--profile) words='standard wide' is_value=yes ;;
+        mend:--base) words='' is_value=yes ;;
+        mend:--profile) words='standard wide' is_value=yes ;;
         *)
             case $command in
-                '') words='check lint links vectors explain help --help --version' ;;
+                '') words='check lint links mend vectors explain help --help --version' ;;
                 check) words='--base --all --profile --wide --help' ;;
                 lint) words='--base --all --profile --wide --format --quiet --help' ;;
                 links) words='--base --profile --wide --help' ;;
+                mend) words='--base --profile --wide --help' ;;
                 vectors) words='--help' ;;
                 explain) words='no-scheme opaque-base two-slashes host-missing host-domain host-number host-ipv6 host-code-point port-digit port-range first-segment-empty drive-after-host code-point percent --help' ;;
-                help) words='check lint links vectors explain help' ;;
+                help) words='check lint links mend vectors explain help' ;;
             esac ;;
     esac
     mapfile -t COMPREPLY < <(compgen -P "$option" -W "$words" -- "$word")

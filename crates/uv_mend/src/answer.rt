@@ -7,7 +7,7 @@ use uv_model::Refusal;
 /// How a mended text stands to the refused one.
 #[derive(Clone, Copy, Debug, PartialEq, Eq)]
 pub enum MendKind {
-    /// A browser reads both as the same URL: the crate `url` gives one text for both, against the base.
+    /// A second parser, the crate `url`, reads both as the same URL, against the base.
     Same,
     /// Not so, but the mended text is the refused one with some of its code points percent-encoded, and nothing else.
     Escaped,

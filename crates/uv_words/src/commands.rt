@@ -51,9 +51,10 @@ Exit statuses:
 Example:
   urlcheck links --base http://h/ < links.txt";
 
-const MEND_NOTES: &str = "Prints `mended KIND` and the mended text, `valid`, or `none` and `refused PLACE RULE`.
-KIND is `same` where a browser reads both texts as one URL, `escaped` where code points
-are percent-encoded and all else is kept, and else `changed`.
+const MEND_NOTES: &str =
+    "Prints `mended KIND` and the mended text, `valid`, or `none` and `refused PLACE RULE`.
+KIND is `same` where a second parser reads both texts as one URL, `escaped`
+where code points are percent-encoded and no more, else `changed`.
 
 Exit statuses:
   0  the text is valid, or a mended text is
