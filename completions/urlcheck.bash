@@ -20,7 +20,7 @@ _urlcheck() {
             case $command in
                 '') words='check lint links vectors explain help --help --version' ;;
                 check) words='--base --all --profile --wide --help' ;;
-                lint) words='--base --all --profile --wide --format --quiet --help' ;;
+                lint) words='--base --all --profile --wide --format --located --quiet --help' ;;
                 links) words='--base --profile --wide --help' ;;
                 vectors) words='--help' ;;
                 explain) words='no-scheme opaque-base two-slashes host-missing host-domain host-number host-ipv6 host-code-point port-digit port-range first-segment-empty drive-after-host code-point percent --help' ;;
