@@ -22,7 +22,7 @@ _urlcheck() {
             case $command in
                 '') words='check lint links mend vectors explain help --help --version' ;;
                 check) words='--base --all --profile --wide --help' ;;
-                lint) words='--base --all --profile --wide --format --quiet --help' ;;
+                lint) words='--base --all --profile --wide --format --located --quiet --help' ;;
                 links) words='--base --profile --wide --help' ;;
                 mend) words='--base --profile --wide --help' ;;
                 vectors) words='--help' ;;

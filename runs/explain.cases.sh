@@ -76,10 +76,13 @@ sed -n '/^rule percent$/,$p' "$room/explained" | cmp -s - "$room/out" || fail "e
 expect 0 "rule not-utf8\nmeans this line isn't UTF-8\nasks A line is a text in UTF-8.\n" '' explain not-utf8
 expect 0 'rule line-too-long\nmeans this line has more than 65536 bytes\nasks A line has at most 65536 bytes.\n' '' \
     explain line-too-long
+located="A located line is FILE:LINE:COLUMN:LINK. FILE isn't empty; LINE and COLUMN are from 1 to 4294967295."
+expect 0 "rule not-located\nmeans this line isn't FILE:LINE:COLUMN:LINK\nasks $located\n" '' explain not-located
 rules='urlcheck: the rules:'
 for name in $("$program" explain | awk '$1 == "rule" { print $2 }'); do rules+=" $name"; done
-rules+=' not-utf8 line-too-long'
-for pair in 'PERCENT percent' 'percent_ percent' 'host-mising host-missing' 'codepoint code-point' 'not-utf-8 not-utf8'; do
+rules+=' not-utf8 line-too-long not-located'
+for pair in 'PERCENT percent' 'percent_ percent' 'host-mising host-missing' 'codepoint code-point' 'not-utf-8 not-utf8' \
+    'not-locatd not-located'; do
     word=${pair% *}
     expect 2 '' "urlcheck: no rule is named '${word/_/ }'; the nearest is ${pair#* }\\n$rules\\nwords\\n" explain "${word/_/ }"
 done
@@ -92,4 +95,4 @@ for words in 'explain' 'explain percent'; do
     "$program" $words >/dev/full 2>"$room/err"
     ends_with 3 $? 'write\n' "$words to a full device"
 done
-all_cases 47
+all_cases 49

@@ -268,6 +268,53 @@ for spoiled in 'gnu s/:1: error/:2: error/' 'caret s/^ \( *\)^$/\1^/' 'json s/"c
     mv "$room/whole" "$room/hostile.$format"
 done
 
+# Lines that say where their links stand: FILE is all before the first run of two numbers, which are from 1 to 2^32 - 1; an
+# empty link is judged, an empty line isn't. What isn't of the form is told by the list's own name and line.
+scheme='error: there is no scheme and no base [no-scheme]'
+form="error: this line isn't FILE:LINE:COLUMN:LINK [not-located]"
+of_input 1 "page.html:12:44: error: U+0020 SPACE may not stand in a URL [code-point]\n" 'urlcheck: 2 lines, 1 refused\n' \
+    'page.html:12:34:http://h/a b\n\npage.html:13:1:urn:a\n' --located -
+of_input 1 "a:b.html:3:4: $scheme\na:1:2: $scheme\na:7:8: $scheme\n" 'urlcheck: 4 lines, 3 refused\n' \
+    'C:\\x.html:3:4:http://h/\na:b.html:3:4:x\na:1:2:3:4:x\na:007:08:x\n' --located -
+of_input 1 "a:1:2: $scheme\n-:2:1: $form\n-:3:1: $form\n-:4:1: $form\n-:5:1: $form\n-:6:1: $form\n" \
+    'urlcheck: 6 lines, 6 refused\n' 'a:1:2:\na:1:http://h/\na:1:0:x\na:0:1:x\na:1:4294967296:x\n:1:2:x\n' --located -
+of_input 1 "a:4294967295:4294967295: $scheme\n-:2:1: $form\n" 'urlcheck: 2 lines, 2 refused\n' \
+    'a:4294967295:4294967295:x\na:4294967296:1:x\n' --located -
+of_input 0 '' 'urlcheck: 2 lines, 0 refused\n' '\xef\xbb\xbfa:1:2:\na:1:2:x\n' --located --base http://h/ -
+of_input 1 "-:1:1: $scheme\n" 'urlcheck: 1 line, 1 refused\n' '1:2:3:4:x' -
+printf 'a:1:2:b\n' >"$room/located"
+expect 1 "a:1:2: $scheme\nother.txt:1:1: $form\n" 'urlcheck: 2 lines, 2 refused\n' lint --located located other.txt
+"$program" lint --located </dev/null >"$room/out" 2>"$room/err"
+ended=$?
+count=$((count + 1))
+[ $ended = 2 ] || fail "lint --located without a file: status $ended"
+
+# Hostile names and links with their places, in each format, and read by readers that aren't ours.
+python3 "$here/located_readers.py" "$room" make
+for format in json caret; do
+    (cd "$room" && "$program" lint --all --quiet --format $format alone.txt) >"$room/alone.$format" 2>"$room/err"
+    ends_with 1 $? '' "links alone as $format"
+done
+for format in gnu caret json github sarif checkstyle; do
+    (cd "$room" && "$program" lint --all --quiet --located --format $format located.txt) >"$room/located.$format" 2>"$room/err"
+    ends_with 1 $? '' "located links as $format"
+done
+count=$((count + 1))
+located_readers=(python3 "$here/located_readers.py" "$room" read)
+"${located_readers[@]}" >"$room/out" 2>&1 || fail "readers of located links: $(cat "$room/out")"
+for spoiled in 'gnu s/:12:34: error/:12:35: error/' 'caret s/^ \( *\)^$/\1^/' 'json s/"column":34,/"column":35,/' \
+    'github s/col=34,/col=35,/' 'sarif s/"startColumn":34,/"startColumn":35,/' 'checkstyle s/column="34"/column="35"/'; do
+    format=${spoiled%% *}
+    mv "$room/located.$format" "$room/whole"
+    LC_ALL=C sed "${spoiled#* }" "$room/whole" >"$room/located.$format"
+    count=$((count + 1))
+    if "${located_readers[@]}" >"$room/out" 2>&1 || ! grep -q "^$format: " "$room/out"; then
+        fail "readers of located links: spoiled $format: $(cat "$room/out")"
+    fi
+    mv "$room/whole" "$room/located.$format"
+done
+rm -f "$room"/located* "$room"/alone.*
+
 # Memory is flat: a million lines, of which each hundredth is wrong, in an address space of 10 MB.
 awk 'BEGIN { for (n = 1; n <= 1000000; n++) print (n % 100 ? "https://example.com/" n "/a?b" : "http://h/a b") }' \
     >"$room/million"
@@ -277,4 +324,4 @@ ends_with 1 $? 'urlcheck: 1000000 lines, 10000 refused\n' 'lint of a million lin
 grep -qxF "$room/million:1000000:11: error: U+0020 SPACE may not stand in a URL [code-point]" "$room/out" ||
     fail "lint of a million lines: it ends with $(tail -n 1 "$room/out")"
 rm -f "$room/million" "$room"/hostile.* "$room"/none.*
-all_cases 105
+all_cases 128

@@ -132,7 +132,7 @@ def sarif(text):
     driver = run["tool"]["driver"]
     want(driver["name"] == "urlcheck" and run["columnKind"] == "unicodeCodePoints", "sarif: the driver")
     ids = [rule["id"] for rule in driver["rules"]]
-    want(len(ids) == 16 == len(set(ids)), f"sarif: the rules {ids}")
+    want(len(ids) == 17 == len(set(ids)), f"sarif: the rules {ids}")
     for rule in driver["rules"]:
         want(rule["shortDescription"]["text"] and rule["help"] == rule["fullDescription"], "sarif: a rule")
         want(re.match("https://url\\.spec\\.whatwg\\.org/#[a-z0-9-]+$", rule["helpUri"]), "sarif: a rule's address")

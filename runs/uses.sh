@@ -68,6 +68,31 @@ done < <(awk -v fence='^```[a-z]' '/^## / { section = substr($0, 4); delete seen
 
 right='https://example.com/' wrong='http://h/a b'
 
+# Links that stand in text files and in documents, told where they stand.
+if has rg; then
+    in_folder text
+    recipe 'Links in text files' sh >../text.sh
+    printf 'a\nsee <http://x_y/>, https://example.com/\n' >a.txt
+    ends 1 'links in text files' bash -o pipefail ../text.sh
+    says 'links in text files' \
+        './a.txt:2:13: error: the host that begins here is no valid domain [host-domain]' 'urlcheck: 2 lines, 1 refused'
+    printf 'see https://example.com/\n' >a.txt
+    ends 0 'right links in text files' bash -o pipefail ../text.sh
+    cd "$room" || exit 1
+fi
+if [ -n "${URLCHECK_LIBRARY:-}" ]; then
+    in_folder pages
+    mkdir docs
+    recipe 'Links in documents' sh >../pages.sh
+    printf '<a href="http://x_y/">a</a>\n<a href="b">b</a>\n' >docs/a.html
+    PYTHONPATH=$top/python ends 1 'links in documents' bash -o pipefail ../pages.sh
+    grep -qx 'docs/a.html:1:17: error: the host that begins here is no valid domain \[host-domain\]' "$room/out" ||
+        { echo "FAILED: links in documents: it wrote: $(cat "$room/out")"; failed=1; }
+    cd "$room" || exit 1
+else
+    echo 'uses: the recipe for documents is left out, since URLCHECK_LIBRARY names no library for C'
+fi
+
 # hard_names COMMAND.. : the command in a folder of lists: none, right ones, and wrong ones with names that are hard
 hard_names() {
     local what=$1 name

@@ -1,7 +1,8 @@
 """The links of documents, where they stand: of HTML, XML and Markdown.
 
 ``python3 -m urlcheck.documents FILE..`` (or ``urlcheck-documents FILE..``) prints a line ``FILE:LINE:COLUMN:LINK`` for
-each link, as ``rg --vimgrep -o`` does; with ``--check`` it judges them, and reports each that is refused.
+each link, as ``rg --vimgrep -o`` does; with ``--check`` it judges them, and reports each that is refused. The lines are
+those that ``urlcheck lint --located -`` reads, which judges them too and has more formats.
 """
 
 import argparse
@@ -253,7 +254,8 @@ def _write(line: str) -> None:
 def _parser() -> argparse.ArgumentParser:
     parser = argparse.ArgumentParser(
         prog="urlcheck-documents",
-        description="Prints the links of documents as lines FILE:LINE:COLUMN:LINK; with --check, judges them.",
+        description="Prints the links of documents as lines FILE:LINE:COLUMN:LINK, which 'urlcheck lint --located -' "
+        "reads; with --check, judges them.",
         epilog="A reference is judged against the base that its document names, else against --base, else against "
         + SOMEWHERE
         + ", since a verdict depends on the scheme and the path of the base alone. "

@@ -13,6 +13,8 @@ use Rattle.uv_lines.specs.declared.limits.LineLimits.{LineLimits}
 use Rattle.uv_lint.specs.declared.counts.LintCounts.{LintCounts}
 use Rattle.uv_lint.specs.declared.fault.LintFault.{LintFault}
 use Rattle.uv_lint.specs.declared.fault.LintFault.TheVariants.{Memory, Read, Write}
+use Rattle.uv_lint.specs.declared.setting.LineForm.{LineForm}
+use Rattle.uv_lint.specs.declared.setting.LineForm.TheVariants.{Plain, Located}
 use Rattle.uv_lint.specs.Findings.{FileSetting}
 use Rattle.uv_lint.specs.Report.{none_counted}
 use Rattle.uv_lint.specs.Run.{FailsReads, Leaves, Reports, writes_failed}
@@ -32,6 +34,11 @@ abbrev pub format_of : Option (Bor (List ℕ)) → Option Format
 format_of None = Some Gnu
 format_of (Some name) = named_format name.now
 
+-- what a line is: where each is to say where its link stands, it is that, else a text
+abbrev pub form_of : Bool → LineForm
+form_of true = Located
+form_of false = Plain
+
 -- the setting of a file of the job, by its name
 abbrev pub setting_of : LintJob → Option Url → Format → List ℕ → FileSetting
 setting_of asked base format file = record {
@@ -40,6 +47,7 @@ setting_of asked base format file = record {
   profile = asked.profile;
   extent = asked.extent;
   format = format;
+  form = form_of asked.located;
 }
 
 -- ---- one file

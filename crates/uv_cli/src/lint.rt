@@ -4,7 +4,7 @@ ghost use Rattle.std.specs.Str.{bytes_eq};
 ghost use Rattle.uv_lint.specs.Findings.{file_setting};
 ghost use Rattle.uv_report.specs.Report.{begin_text, end_text};
 ghost use Rattle.uv_cli.specs.Lint.{HasLinted, HasLintedAgainst, LintsAll, LintsNamed, LintsNext, LintsNothing};
-ghost use Rattle.uv_cli.specs.Lint.{LintsOpened, IsUnopened, WritesPiece, format_of};
+ghost use Rattle.uv_cli.specs.Lint.{LintsOpened, IsUnopened, WritesPiece, form_of, format_of};
 ghost use Rattle.uv_cli.specs.Linted.{is_stopped, is_writable};
 
 use crate::arguments::said_of;
@@ -17,7 +17,7 @@ use std::alloc::{AllocError, Global};
 use std::fs;
 use std::fs::Files;
 use std::io::ErrorKind;
-use uv_lint::{LintCounts, LintFault, LintSetting, run_lint};
+use uv_lint::{LineForm, LintCounts, LintFault, LintSetting, run_lint};
 use uv_model::{DeviceFault, FromReader, Record, Sink, Source, write_whole};
 use uv_report::{Format, push_begin, push_end};
 use uv_resolve::{ResolveFault, resolve_base};
@@ -72,6 +72,17 @@ fn format_of(name: Option<&str>) -> Option<Format>
     }
 }
 
+// What a line is, by whether each says where its link stands.
+fn form_of(is_located: bool) -> LineForm
+    ensures { result ≡ form_of is_located }
+{
+    if is_located {
+        LineForm::Located
+    } else {
+        LineForm::Plain
+    }
+}
+
 // Reports on the lines of the files against a record as base.
 fn lint_against<R: Files + Eprint + AllocGlobal, I: Source, S: Sink>(
     rt: &R,
@@ -94,6 +105,7 @@ fn lint_against<R: Files + Eprint + AllocGlobal, I: Source, S: Sink>(
         profile: job.profile,
         extent: job.extent,
         format,
+        form: form_of(job.located),
     };
     let Ok((begin, end)) = begin_and_end(rt.alloc(), format) else {
         return End::Fault(CliFault::Memory);

@@ -50,6 +50,7 @@ fn rule_names(alloc: Global) -> Result<Vec<&'static str>, AllocError> {
     }
     names.push(Finding::NotUtf8.name())?;
     names.push(Finding::TooLong.name())?;
+    names.push(Finding::NotLocated.name())?;
     Ok(names)
 }
 

@@ -1,4 +1,7 @@
 pub mod DiagnosticLemmas
 pub mod FindingLemmas
+pub mod ReporterLemmas
 pub mod RunLemmas
+pub mod LocatedLemmas
 pub mod ReportRowsLemmas
+pub mod LocatedRowsLemmas

@@ -4,7 +4,6 @@ use Rattle.std.proofs.Common.{◌∙◌, subst, arith, sum_by, inl, inr, zero-ad
 use Rattle.std.proofs.lemmas.List.Sums.{sum_by-append}
 use Rattle.std.specs.declared.alloc.AllocError.{AllocError}
 use Rattle.uv_report.specs.declared.finding.Finding.{Finding}
-use Rattle.uv_report.specs.Report.{file_begin_text, file_end_text}
 use Rattle.uv_lines.specs.declared.fault.LineFault.{LineFault}
 use Rattle.uv_lines.specs.declared.fault.LineFault.TheVariants as stopped
 use Rattle.uv_lines.specs.declared.limits.LineLimits.{LineLimits}
@@ -17,7 +16,7 @@ use Rattle.uv_lint.specs.declared.counts.LintCounts.{LintCounts}
 use Rattle.uv_lint.specs.declared.fault.LintFault.{LintFault}
 use Rattle.uv_lint.specs.Findings.{AreAllFindings, FileSetting}
 use Rattle.uv_lint.specs.Report.{IsReport, counted, judged_line, judged_lines, judged_of, line_text, lines_text}
-use Rattle.uv_lint.specs.Report.{lines_within, none_counted, refused_of, tally}
+use Rattle.uv_lint.specs.Report.{lines_within, list_begin_text, list_end_text, none_counted, refused_of, tally}
 use Rattle.uv_lint.specs.Reporting.{Linting, Says, with_line}
 use Rattle.uv_lint.specs.Run.{FailsReads, IsReportWithin, Leaves, answer_of_run, fault_of_run, writes_failed}
 
@@ -88,10 +87,10 @@ fresh setting is_first = record { setting = setting; is_first = is_first; lines 
 
 -- what stands before the diagnostics, and behind them
 abbrev begin_of : FileSetting → List ℕ
-begin_of setting = file_begin_text setting.format setting.file
+begin_of setting = list_begin_text setting.form setting.format setting.file
 
 abbrev end_of : FileSetting → List ℕ
-end_of setting = file_end_text setting.format
+end_of setting = list_end_text setting.form setting.format
 
 -- a report in the frame of a file is one on the file
 pub is_report : (s : FileSetting) (n : ℕ) (is_first : Bool) (begin end : List ℕ) (p q : Linting)

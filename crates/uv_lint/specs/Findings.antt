@@ -1,5 +1,5 @@
 -- What is found with a line of a file.
-use Rattle.std.specs.Prelude.{◌≡◌, ℕ, List, [], ◌∷◌, ◌⊎◌, Option, Some, None, map, option_copied}
+use Rattle.std.specs.Prelude.{◌≡◌, ℕ, List, [], ◌∷◌, ◌⊎◌, Option, Some, None, map, option_and_then, option_copied}
 use Rattle.std.specs.Str.{IsUtf8, chars}
 use Rattle.uv_model.specs.declared.extent.Extent.{Extent}
 use Rattle.uv_model.specs.declared.extent.Extent.TheVariants.{First, All}
@@ -11,17 +11,21 @@ use Rattle.uv_model.specs.Records.Url.{Url}
 use Rattle.uv_model.specs.Valid.{Valid}
 use Rattle.uv_grammar.specs.Verdict.{IsRefused}
 use Rattle.uv_report.specs.declared.finding.Finding.{Finding}
-use Rattle.uv_report.specs.declared.finding.Finding.TheVariants.{Refused, NotUtf8, TooLong}
+use Rattle.uv_report.specs.declared.finding.Finding.TheVariants.{Refused, NotUtf8, TooLong, NotLocated}
 use Rattle.uv_report.specs.declared.format.Format.{Format}
+use Rattle.uv_lint.specs.declared.setting.LineForm.{LineForm}
+use Rattle.uv_lint.specs.declared.setting.LineForm.TheVariants.{Plain, Located}
 use Rattle.uv_lint.specs.declared.setting.LintSetting.{LintSetting}
+use Rattle.uv_lint.specs.Located.{LocatedLink, located}
 
--- a file's name, what its lines are judged by, and how what is found is written
+-- a file's name, what its lines are judged by, how what is found is written, and what a line is
 pub record FileSetting : Type 0 where
   pub file : List ℕ
   pub base : Option Url
   pub profile : Profile
   pub extent : Extent
   pub format : Format
+  pub form : LineForm
 
 -- the setting of a file with this name
 abbrev pub file_setting : List ℕ → LintSetting → FileSetting
@@ -31,6 +35,7 @@ file_setting file setting = record {
   profile = setting.profile;
   extent = setting.extent;
   format = setting.format;
+  form = setting.form;
 }
 
 -- there is no refusal and the text is valid, or the text is refused by the first of them
@@ -55,14 +60,37 @@ pub record AreTextFindings (setting : FileSetting) (text : List ℕ) (findings :
   pub reported : AreReported setting.extent setting.profile setting.base text refusals
   pub are : findings ≡ map Refused refusals
 
--- What is found with a line; none stands for one that has more bytes than a line may have. It is found that such a line
--- is too long; nothing with an empty line; that a line isn't UTF-8; else what is found with its text.
+-- what is found with bytes: that they aren't UTF-8, else what is found with their text
+abbrev pub AreBytesFindings : FileSetting → List ℕ → List Finding → Type 0
+AreBytesFindings setting bytes findings =
+    (IsUtf8 bytes × AreTextFindings setting (chars bytes) findings) ⊎ (¬ (IsUtf8 bytes) × (findings ≡ NotUtf8 ∷ []))
+
+-- what is found with a line that is to say where its link stands and doesn't: that, or that it isn't UTF-8
+abbrev pub AreStrayFindings : List ℕ → List Finding → Type 0
+AreStrayFindings line findings =
+    (IsUtf8 line × (findings ≡ NotLocated ∷ [])) ⊎ (¬ (IsUtf8 line) × (findings ≡ NotUtf8 ∷ []))
+
+-- what is found with a line that isn't empty and has no link, by what a line is
+abbrev pub AreWholeFindings : LineForm → FileSetting → List ℕ → List Finding → Type 0
+AreWholeFindings Plain setting line findings = AreBytesFindings setting line findings
+AreWholeFindings Located setting line findings = AreStrayFindings line findings
+
+-- the link of a line that says where it stands, where lines are to say it
+abbrev pub link_of : LineForm → Option (List ℕ) → Option LocatedLink
+link_of Plain line = None
+link_of Located line = option_and_then located line
+
+-- What is found with a line, and with its link where it has one; none stands for a line that has more bytes than a line
+-- may have. It is found that such a line is too long, and nothing with an empty line. An empty link is judged.
+abbrev pub AreFindingsBy : FileSetting → Option LocatedLink → Option (List ℕ) → List Finding → Type 0
+AreFindingsBy setting (Some link) line findings = AreBytesFindings setting link.link findings
+AreFindingsBy setting None None findings = findings ≡ TooLong ∷ []
+AreFindingsBy setting None (Some []) findings = findings ≡ []
+AreFindingsBy setting None (Some (x ∷ xs)) findings = AreWholeFindings setting.form setting (x ∷ xs) findings
+
+-- the same by what a line of the file is
 abbrev pub AreFindings : FileSetting → Option (List ℕ) → List Finding → Type 0
-AreFindings setting None findings = findings ≡ TooLong ∷ []
-AreFindings setting (Some []) findings = findings ≡ []
-AreFindings setting (Some (x ∷ xs)) findings =
-    (IsUtf8 (x ∷ xs) × AreTextFindings setting (chars (x ∷ xs)) findings)
-    ⊎ (¬ (IsUtf8 (x ∷ xs)) × (findings ≡ NotUtf8 ∷ []))
+AreFindings setting line findings = AreFindingsBy setting (link_of setting.form line) line findings
 
 -- what is found with each of the lines
 abbrev pub AreAllFindings : FileSetting → List (Option (List ℕ)) → List (List Finding) → Type 0

@@ -1,5 +1,9 @@
+pub mod Located
+pub mod LocatedViews
 pub mod Findings
 pub mod Report
+pub mod Told
 pub mod Reporting
 pub mod Run
 pub mod ReportRows
+pub mod LocatedRows

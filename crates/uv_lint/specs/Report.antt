@@ -5,12 +5,16 @@ use Rattle.std.specs.Prelude.{if◌then◌else◌, map, option_map, sum_by, take
 use Rattle.std.specs.Borrow.{Bor}
 use Rattle.std.specs.Str.{bytes_eq}
 use Rattle.std.specs.Str.Lossy.{utf8_lossy}
+use Rattle.uv_report.specs.declared.diagnostic.Diagnostic.{Diagnostic}
 use Rattle.uv_report.specs.declared.finding.Finding.{Finding}
 use Rattle.uv_report.specs.declared.format.Format.{Format}
 use Rattle.uv_report.specs.Report.{diagnostic_text, file_begin_text, file_end_text}
 use Rattle.uv_lines.specs.Lines.{short_line}
 use Rattle.uv_lint.specs.declared.counts.LintCounts.{LintCounts}
-use Rattle.uv_lint.specs.Findings.{AreAllFindings, FileSetting}
+use Rattle.uv_lint.specs.declared.setting.LineForm.{LineForm}
+use Rattle.uv_lint.specs.declared.setting.LineForm.TheVariants.{Plain, Located}
+use Rattle.uv_lint.specs.Findings.{AreAllFindings, FileSetting, link_of}
+use Rattle.uv_lint.specs.Located.{LocatedLink}
 
 -- ---- the diagnostics
 
@@ -18,13 +22,44 @@ use Rattle.uv_lint.specs.Findings.{AreAllFindings, FileSetting}
 abbrev pub lent : List ℕ → Bor (List ℕ)
 lent text = record { ref_ptr = (0, 0); now = text }
 
+-- What stands before the diagnostics of a file and behind them. Where lines say where their links stand, each diagnostic
+-- is about a file of its own, and these stand round each diagnostic.
+abbrev pub list_begin_text : LineForm → Format → List ℕ → List ℕ
+list_begin_text Plain format file = file_begin_text format file
+list_begin_text Located format file = []
+
+abbrev pub list_end_text : LineForm → Format → List ℕ
+list_end_text Plain format = file_end_text format
+list_end_text Located format = []
+
+-- the text of a diagnostic about a file, with these round it or without
+abbrev pub framed_text : LineForm → Format → List ℕ → List ℕ → List ℕ
+framed_text Plain format file text = text
+framed_text Located format file text = file_begin_text format file ++ (text ++ file_end_text format)
+
+-- a text and where it stands: the file, the number of the line, the column of its beginning, and what is shown of it
+pub record ToldText : Type 0 where
+  pub file : List ℕ
+  pub line : ℕ
+  pub start : ℕ
+  pub text : List ℕ
+
+-- a diagnostic on it
+abbrev pub diagnostic_on : ToldText → Finding → Diagnostic
+diagnostic_on told finding = record {
+  file = lent told.file;
+  line = told.line;
+  start = told.start;
+  finding = finding;
+  text = lent told.text;
+}
+
 -- a diagnostic for each finding; the first of them is the first one of the report, or isn't
-abbrev pub diagnostics_text : Format → List ℕ → ℕ → List ℕ → Bool → List Finding → List ℕ
-diagnostics_text format file number text is_first [] = []
-diagnostics_text format file number text is_first (finding ∷ rest) =
-    diagnostic_text format is_first
-    (record { file = lent file; line = number; finding = finding; text = lent text })
-    ++ diagnostics_text format file number text false rest
+abbrev pub diagnostics_text : LineForm → Format → ToldText → Bool → List Finding → List ℕ
+diagnostics_text form format told is_first [] = []
+diagnostics_text form format told is_first (finding ∷ rest) =
+    framed_text form format told.file (diagnostic_text format is_first (diagnostic_on told finding))
+    ++ diagnostics_text form format told false rest
 
 -- What is shown of a line: its text, where U+FFFD stands for what isn't UTF-8; and nothing of one that has more bytes
 -- than a line may have, for which none stands.
@@ -32,10 +67,17 @@ abbrev pub shown : Option (List ℕ) → List ℕ
 shown None = []
 shown (Some line) = utf8_lossy line
 
+-- what the diagnostics on a line tell: its link, where the line says that it stands, else the line with this number
+abbrev pub told_by : List ℕ → ℕ → Option (List ℕ) → Option LocatedLink → ToldText
+told_by file number line (Some link) =
+    record { file = link.file; line = link.line; start = link.column; text = shown (Some link.link) }
+told_by file number line None = record { file = file; line = number; start = 1; text = shown line }
+
 -- the diagnostics on a line with this number
 abbrev pub line_text : FileSetting → ℕ → Option (List ℕ) → Bool → List Finding → List ℕ
 line_text setting number line is_first findings =
-    diagnostics_text setting.format setting.file number (shown line) is_first findings
+    diagnostics_text setting.form setting.format (told_by setting.file number line (link_of setting.form line))
+    is_first findings
 
 -- no diagnostic was written yet, nor for these findings
 abbrev pub is_still_first : Bool → List Finding → Bool
@@ -109,6 +151,7 @@ pub record IsReport (setting : FileSetting) (line_bytes : ℕ) (is_first : Bool)
   pub findings : List (List Finding)
   pub found : AreAllFindings setting (lines_within line_bytes lines) findings
   pub whole : text
-      ≡ file_begin_text setting.format setting.file
-      ++ (lines_text setting 1 is_first (lines_within line_bytes lines) findings ++ file_end_text setting.format)
+      ≡ list_begin_text setting.form setting.format setting.file
+      ++ (lines_text setting 1 is_first (lines_within line_bytes lines) findings
+      ++ list_end_text setting.form setting.format)
   pub counts_are : counts ≡ tally (lines_within line_bytes lines) findings

@@ -7,12 +7,13 @@ use Rattle.uv_report.specs.declared.finding.Finding.TheVariants.{Refused, NotUtf
 use Rattle.uv_report.specs.declared.format.Format.TheVariants.{Gnu}
 use Rattle.uv_lines.specs.Lines.{lines_of}
 use Rattle.uv_model.specs.declared.extent.Extent.TheVariants.{All}
+use Rattle.uv_lint.specs.declared.setting.LineForm.TheVariants.{Plain}
 use Rattle.uv_lint.specs.Findings.{FileSetting}
 use Rattle.uv_lint.specs.Report.{byte_order_mark, is_still_first, lines_text, lines_within, shown, tally}
 
 -- the setting of the file
 abbrev pub list_setting : FileSetting
-list_setting = record { file = codes "list"; base = None; profile = Standard; extent = All; format = Gnu }
+list_setting = record { file = codes "list"; base = None; profile = Standard; extent = All; format = Gnu; form = Plain }
 
 -- a list of six lines: one with a fault, an empty one, a valid one, one with two faults and a CR before its LF, one
 -- that isn't UTF-8, and one of more than twelve bytes

@@ -1,11 +1,13 @@
 //! What is found with a line.
-ghost use Rattle.std.specs.Prelude.{◌≡◌, [], ◌∷◌, IfOk, map, option_copied};
+ghost use Rattle.std.specs.Prelude.{◌≡◌, [], ◌∷◌, IfOk, None, map, option_copied};
 ghost use Rattle.std.specs.Str.{chars};
 ghost use Rattle.uv_grammar.specs.Verdict.{IsRefused};
-ghost use Rattle.uv_lint.specs.Findings.{AreFindings, AreTextFindings};
+ghost use Rattle.uv_lint.specs.Findings.{AreBytesFindings, AreFindings, AreFindingsBy, AreStrayFindings, AreTextFindings, AreWholeFindings};
 ghost use Rattle.uv_report.specs.declared.finding.Finding.TheVariants.{Refused};
 
+use crate::located::link_of;
 use crate::reporter::LintReporter;
+use crate::setting::LineForm;
 use std::alloc::{AllocError, Global};
 use std::str::from_utf8;
 use uv_grammar::{Verdict, check, faults};
@@ -13,8 +15,8 @@ use uv_model::{Extent, Refusal};
 use uv_report::Finding;
 
 impl<'a> LintReporter<'a> {
-    /// What is found with a line: nothing with an empty or a valid one. None stands for a line that is too long. No
-    /// memory is asked for a valid line but where a domain's form is made.
+    /// What is found with a line, or with its link: nothing with an empty line or a valid text. None stands for a line
+    /// that is too long. No memory is asked for a valid line but where a domain's form is made.
     pub(crate) fn findings(
         &self,
         alloc: Global,
@@ -22,13 +24,45 @@ impl<'a> LintReporter<'a> {
     ) -> Result<Vec<Finding>, AllocError>
         ensures { IfOk result (λ found. AreFindings self.now.setting (option_copied line.entry) found.items) }
     {
+        match link_of(self.form(), line) {
+            Some(link) => self.bytes_findings(alloc, link.link),
+            None => self.line_findings(alloc, line),
+        }
+    }
+
+    // What is found with a line that has no link.
+    fn line_findings(
+        &self,
+        alloc: Global,
+        line: Option<&[u8]>,
+    ) -> Result<Vec<Finding>, AllocError>
+        ensures { IfOk result (λ found. AreFindingsBy self.now.setting None (option_copied line.entry) found.items) }
+    {
         let Some(line) = line else {
             return alone(alloc, Finding::TooLong);
         };
         if line.is_empty() {
             return Ok(Vec::new(alloc));
         }
-        match from_utf8(line) {
+        self.whole_findings(alloc, line)
+    }
+
+    // What is found with a line that isn't empty and has no link.
+    fn whole_findings(&self, alloc: Global, line: &[u8]) -> Result<Vec<Finding>, AllocError>
+        ensures { IfOk result (λ found.
+            AreWholeFindings self.now.setting.form self.now.setting line.now found.items) }
+    {
+        match self.form() {
+            LineForm::Plain => self.bytes_findings(alloc, line),
+            LineForm::Located => stray_findings(alloc, line),
+        }
+    }
+
+    // What is found with bytes.
+    fn bytes_findings(&self, alloc: Global, bytes: &[u8]) -> Result<Vec<Finding>, AllocError>
+        ensures { IfOk result (λ found. AreBytesFindings self.now.setting bytes.now found.items) }
+    {
+        match from_utf8(bytes) {
             Ok(text) => self.text_findings(alloc, text),
             Err(_) => alone(alloc, Finding::NotUtf8),
         }
@@ -61,6 +95,16 @@ impl<'a> LintReporter<'a> {
                 each_refused(alloc, refusals.as_slice())
             }
         }
+    }
+}
+
+// What is found with a line that is to say where its link stands, and doesn't.
+fn stray_findings(alloc: Global, line: &[u8]) -> Result<Vec<Finding>, AllocError>
+    ensures { IfOk result (λ found. AreStrayFindings line.now found.items) }
+{
+    match from_utf8(line) {
+        Ok(_) => alone(alloc, Finding::NotLocated),
+        Err(_) => alone(alloc, Finding::NotUtf8),
     }
 }
 

@@ -5,6 +5,7 @@ mod counts;
 mod fault;
 mod findings;
 pub mod laws;
+mod located;
 mod reporter;
 mod run;
 mod setting;
@@ -13,7 +14,7 @@ mod told_line;
 pub use counts::LintCounts;
 pub use fault::LintFault;
 pub use run::run_lint;
-pub use setting::LintSetting;
+pub use setting::{LineForm, LintSetting};
 
 #[cfg(test)]
 mod tests;

@@ -6,8 +6,9 @@ ghost use Rattle.uv_lint.specs.Report as spec;
 ghost use Rattle.uv_lint.specs.Reporting.{with_line};
 
 use crate::counts::LintCounts;
-use crate::setting::LintSetting;
-use crate::told_line::{ToldLine, shown_text};
+use crate::located::link_of;
+use crate::setting::{LineForm, LintSetting};
+use crate::told_line::{Place, ToldLine, shown_text};
 use std::alloc::{AllocError, Global};
 use std::marker::Model;
 use uv_lines::Reporter;
@@ -101,6 +102,13 @@ impl<'a> LintReporter<'a> {
         self.setting.extent
     }
 
+    /// What a line is.
+    pub(crate) fn form(&self) -> LineForm
+        ensures { result ≡ self.now.setting.form }
+    {
+        self.setting.form
+    }
+
     // Appends the diagnostics on the next line.
     fn tell(
         &mut self,
@@ -115,20 +123,17 @@ impl<'a> LintReporter<'a> {
         ensures none { OnErr result (text.new.items ≡ text.old.items) }
         ensures same { self.new ≡ self.old }
     {
-        let shown = shown_text(alloc, line)?;
+        let link = link_of(self.setting.form, line);
+        let place = Place::of(self.file, self.lines + 1, line, link);
+        let shown = shown_text(alloc, place.bytes)?;
         let told_line = ToldLine {
-            file: self.file,
-            number: self.lines + 1,
+            file: place.file,
+            line: place.line,
+            start: place.start,
             text: shown.as_str(),
         };
         self.told.clear();
-        told_line.push(
-            alloc,
-            &mut self.told,
-            self.setting.format,
-            self.is_first,
-            findings,
-        )?;
+        told_line.push(alloc, &mut self.told, self.setting, self.is_first, findings)?;
         text.extend_from_slice(self.told.as_bytes())
     }
 

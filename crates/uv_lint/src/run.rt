@@ -1,18 +1,18 @@
 //! A run over a file.
 ghost use Rattle.std.specs.Prelude.{◌≡◌, ℕ, ◌+◌, ◌-◌, ◌^◌, ◌<◌, ◌≤◌, List, IfErr, IfOk, OnOk, string_bytes};
 ghost use Rattle.std.specs.Io.KnownBytes.{Consumes, IsAtEnd};
-ghost use Rattle.uv_report.specs.Report.{file_begin_text, file_end_text};
 ghost use Rattle.uv_lint.specs.Findings.{file_setting};
+ghost use Rattle.uv_lint.specs.Report.{list_begin_text, list_end_text};
 ghost use Rattle.uv_lint.specs.Run.{FailsReads, Leaves, Reports, line_limits, writes_failed};
 
 use crate::counts::LintCounts;
 use crate::fault::{LintFault, answer_of_run};
 use crate::reporter::LintReporter;
-use crate::setting::LintSetting;
+use crate::setting::{LineForm, LintSetting};
 use std::alloc::{AllocError, Global};
 use uv_lines::{Frame, LineLimits, run_lines};
 use uv_model::{Sink, Source};
-use uv_report::{Format, push_file_begin, push_file_end};
+use uv_report::{push_file_begin, push_file_end};
 
 // How many bytes a line may have, and how many lines may come.
 const LINE_LIMITS: LineLimits = LineLimits {
@@ -23,6 +23,10 @@ const LINE_LIMITS: LineLimits = LineLimits {
 /// Reports on one file: judges each of its lines and writes what stands before the file's diagnostics, a diagnostic for
 /// each finding, and what stands behind them. It is told the name by which diagnostics tell the file, and whether no
 /// diagnostic of the report was written yet.
+///
+/// A located line is `FILE:LINE:COLUMN:LINK`, where FILE is all before the first `:digits:digits:`. Its link is judged,
+/// also an empty one, and told by that file and line and from that column on. What isn't of this form is told by the name
+/// and number of the list's line. What stands round a file's diagnostics then stands round each diagnostic.
 ///
 /// A line ends with LF, and one CR before that is no part of it; a last part without LF is a line where it isn't empty.
 /// A byte order mark at the file's start is no part of the first line, though it is among the bytes that this may have.
@@ -86,10 +90,10 @@ pub(crate) fn run_within<R: Source, W: Sink>(
         × (W.failed writer.new ≡ W.failed writer.old)) }
 {
     let reporter = LintReporter::new(alloc, file, is_first, setting);
-    let Ok(begin) = file_begin(alloc, setting.format, file) else {
+    let Ok(begin) = list_begin(alloc, setting, file) else {
         return (reporter.counts(), Err(LintFault::Memory));
     };
-    let Ok(end) = file_end(alloc, setting.format) else {
+    let Ok(end) = list_end(alloc, setting) else {
         return (reporter.counts(), Err(LintFault::Memory));
     };
     let frame = Frame {
@@ -100,20 +104,29 @@ pub(crate) fn run_within<R: Source, W: Sink>(
     (reporter.counts(), answer_of_run(answer))
 }
 
-// What stands before the diagnostics of a file.
-fn file_begin(alloc: Global, format: Format, file: &str) -> Result<String, AllocError>
-    ensures { IfOk result (λ begin. string_bytes begin ≡ file_begin_text format file.now) }
+// What stands before the diagnostics of a file: nothing where each of them is about a file of its own.
+fn list_begin(
+    alloc: Global,
+    setting: LintSetting<'_>,
+    file: &str,
+) -> Result<String, AllocError>
+    ensures { IfOk result (λ begin. string_bytes begin
+        ≡ list_begin_text setting.entry.form setting.entry.format file.now) }
 {
     let mut begin = String::new(alloc);
-    push_file_begin(alloc, &mut begin, format, file)?;
+    if setting.form == LineForm::Plain {
+        push_file_begin(alloc, &mut begin, setting.format, file)?;
+    }
     Ok(begin)
 }
 
 // What stands behind them.
-fn file_end(alloc: Global, format: Format) -> Result<String, AllocError>
-    ensures { IfOk result (λ end. string_bytes end ≡ file_end_text format) }
+fn list_end(alloc: Global, setting: LintSetting<'_>) -> Result<String, AllocError>
+    ensures { IfOk result (λ end. string_bytes end ≡ list_end_text setting.entry.form setting.entry.format) }
 {
     let mut end = String::new(alloc);
-    push_file_end(&mut end, format)?;
+    if setting.form == LineForm::Plain {
+        push_file_end(&mut end, setting.format)?;
+    }
     Ok(end)
 }

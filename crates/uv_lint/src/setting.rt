@@ -14,4 +14,15 @@ pub struct LintSetting<'b> {
     pub extent: Extent,
     /// How they are written.
     pub format: Format,
+    /// What a line is.
+    pub form: LineForm,
+}
+
+/// What a line of a file is.
+#[derive(Clone, Copy, Debug, PartialEq, Eq)]
+pub enum LineForm {
+    /// A text, which is reported on by the file's name and the line's number.
+    Plain,
+    /// `FILE:LINE:COLUMN:LINK`: the link is reported on as the text that begins there.
+    Located,
 }

@@ -21,6 +21,7 @@ const PLAIN: LintSetting<'static> = LintSetting {
     profile: Profile::Standard,
     extent: Extent::First,
     format: Format::Gnu,
+    form: LineForm::Plain,
 };
 
 // What a run over these bytes answers and writes, where no diagnostic was written before.
@@ -200,8 +201,41 @@ fn sarif_result(alloc: Global, line: u64, column: u64, link: &str) -> Result<Str
         {{\"startColumn\":{column},\"startLine\":{line}}}}}}}],\"message\":\
         {{\"text\":\"U+0020 SPACE may not stand in a URL\"}},\
         \"properties\":{{\"cut\":false,\"text\":\"{link}\"}},\
-        \"ruleId\":\"code-point\",\"ruleIndex\":14}}\n"
+        \"ruleId\":\"code-point\",\"ruleIndex\":15}}\n"
     )?)
+}
+
+// Links that say where they stand, and lines that don't: the first run of two numbers ends the file's name.
+#[test]
+fn tells_located_links_where_they_stand(rt: HostRuntime) {
+    let located = LintSetting {
+        form: LineForm::Located,
+        ..PLAIN
+    };
+    let list = b"a.html:3:10:http://h/a b\n\nC:\\x.html:3:4:http://h/\nC:\\y.html:3:4:b\na:1:2:3:4:x\n\
+        a:1:2:\na:1:0:x\na:1:4294967296:x\na:007:08:x\n:1:2:x\nhttp://h/\na:1:2:\xff\n\xff:1:2:x\n";
+    let report = "a.html:3:20: error: U+0020 SPACE may not stand in a URL [code-point]\n\
+        C:\\y.html:3:4: error: there is no scheme and no base [no-scheme]\n\
+        a:1:2: error: there is no scheme and no base [no-scheme]\n\
+        a:1:2: error: there is no scheme and no base [no-scheme]\n\
+        list:7:1: error: this line isn't FILE:LINE:COLUMN:LINK [not-located]\n\
+        list:8:1: error: this line isn't FILE:LINE:COLUMN:LINK [not-located]\n\
+        a:7:8: error: there is no scheme and no base [no-scheme]\n\
+        list:10:1: error: this line isn't FILE:LINE:COLUMN:LINK [not-located]\n\
+        list:11:1: error: this line isn't FILE:LINE:COLUMN:LINK [not-located]\n\
+        a:1:2: error: this line isn't UTF-8 [not-utf8]\n\
+        list:13:1: error: this line isn't UTF-8 [not-utf8]\n";
+    reports(&rt, list, located, report, (12, 11));
+    let checkstyle = LintSetting {
+        format: Format::Checkstyle,
+        ..located
+    };
+    let elements = "<file name=\"a\">\n<error line=\"1\" column=\"2\" severity=\"error\" \
+        message=\"there is no scheme and no base\" source=\"urlcheck.no-scheme\"/>\n</file>\n\
+        <file name=\"list\">\n<error line=\"3\" column=\"1\" severity=\"error\" \
+        message=\"this line isn't FILE:LINE:COLUMN:LINK\" source=\"urlcheck.not-located\"/>\n</file>\n";
+    reports(&rt, b"a:1:2:b\nb:1:2:urn:a\nurn:a\n", checkstyle, elements, (3, 2));
+    reports(&rt, b"", checkstyle, "", (0, 0));
 }
 
 // In SARIF a comma stands before each result but the first one of the whole report.

@@ -4,7 +4,8 @@ use Rattle.uv_report.specs.declared.diagnostic.Diagnostic.{Diagnostic}
 use Rattle.uv_report.specs.declared.escapes.Escapes.TheVariants.{Attribute}
 use Rattle.uv_report.specs.declared.finding.Finding.{Finding}
 use Rattle.uv_report.specs.Escapes.{escaped}
-use Rattle.uv_report.specs.Finding.{finding_column, finding_name}
+use Rattle.uv_report.specs.Column.{column}
+use Rattle.uv_report.specs.Finding.{finding_name}
 use Rattle.uv_report.specs.Message.{message}
 
 -- what a document begins with
@@ -27,7 +28,7 @@ file_end = codes "</file>\n"
 unfoldable pub error_place : Diagnostic → List ℕ
 error_place diagnostic =
     codes "<error line=\"" ++ (decimal diagnostic.line ++ (codes "\" column=\""
-    ++ (decimal (finding_column diagnostic.finding) ++ codes "\" severity=\"error\" message=\"")))
+    ++ (decimal (column diagnostic) ++ codes "\" severity=\"error\" message=\"")))
 
 -- its message and what it comes from
 unfoldable pub error_text : List ℕ → Finding → List ℕ

@@ -4,14 +4,15 @@ use Rattle.uv_report.specs.declared.diagnostic.Diagnostic.{Diagnostic}
 use Rattle.uv_report.specs.declared.escapes.Escapes.TheVariants.{Shown}
 use Rattle.uv_report.specs.declared.finding.Finding.{Finding}
 use Rattle.uv_report.specs.Escapes.{escaped}
-use Rattle.uv_report.specs.Finding.{finding_column, finding_name}
+use Rattle.uv_report.specs.Column.{column}
+use Rattle.uv_report.specs.Finding.{finding_name}
 use Rattle.uv_report.specs.Message.{message}
 
 -- `FILE:LINE:COLUMN`
 unfoldable pub gnu_position : Diagnostic → List ℕ
 gnu_position diagnostic =
     escaped Shown diagnostic.file.now ++ (codes ":" ++ (decimal diagnostic.line ++ (codes ":"
-    ++ decimal (finding_column diagnostic.finding))))
+    ++ decimal (column diagnostic))))
 
 -- `: error: SENTENCE [RULE]` and a line feed
 unfoldable pub gnu_words : List ℕ → Finding → List ℕ

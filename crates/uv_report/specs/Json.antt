@@ -3,14 +3,15 @@ use Rattle.std.specs.Prelude.{ℕ, List, ◌++◌, codes}
 use Rattle.serde_json.specs.Data.{Data, boolean, number, unsigned, string, object, member, no_members}
 use Rattle.serde_json.specs.Written.{compact_text}
 use Rattle.uv_report.specs.declared.diagnostic.Diagnostic.{Diagnostic}
-use Rattle.uv_report.specs.Finding.{finding_column, finding_name, finding_place}
+use Rattle.uv_report.specs.Column.{column}
+use Rattle.uv_report.specs.Finding.{finding_name, finding_place}
 use Rattle.uv_report.specs.Message.{message}
 use Rattle.uv_report.specs.Window.{carried, is_cut}
 
 -- the object of a diagnostic, its members by their names' order; a text is escaped by JSON alone
 abbrev pub json_value : Diagnostic → Data
 json_value diagnostic =
-    object (member (codes "column") (number (unsigned (finding_column diagnostic.finding)))
+    object (member (codes "column") (number (unsigned (column diagnostic)))
     (member (codes "cut") (boolean (is_cut diagnostic.text.now))
     (member (codes "file") (string diagnostic.file.now)
     (member (codes "line") (number (unsigned diagnostic.line))

@@ -1,6 +1,7 @@
 -- The definitions, in the order in which to read them.
 pub mod Explanation
 pub mod Finding
+pub mod Column
 pub mod Escapes
 pub mod CodePoint
 pub mod Message

@@ -11,7 +11,7 @@ use Rattle.uv_model.specs.Complaints.Rule.{rule_sentence}
 use Rattle.uv_report.specs.CodePoint.{point_text}
 use Rattle.uv_report.specs.Finding.{finding_sentence}
 use Rattle.uv_report.specs.declared.finding.Finding.{Finding}
-use Rattle.uv_report.specs.declared.finding.Finding.TheVariants.{Refused, NotUtf8, TooLong}
+use Rattle.uv_report.specs.declared.finding.Finding.TheVariants.{Refused, NotUtf8, TooLong, NotLocated}
 
 -- ---- a code point that violates a rule
 
@@ -75,3 +75,4 @@ abbrev pub message : List ℕ → Finding → List ℕ
 message line (Refused refusal) = refusal_message line refusal
 message line NotUtf8 = finding_sentence NotUtf8
 message line TooLong = finding_sentence TooLong
+message line NotLocated = finding_sentence NotLocated

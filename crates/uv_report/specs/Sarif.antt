@@ -7,8 +7,9 @@ use Rattle.uv_model.specs.declared.rule.Rule.{Rule}
 use Rattle.uv_model.specs.Complaints.Rule.{rules_in_order}
 use Rattle.uv_report.specs.declared.diagnostic.Diagnostic.{Diagnostic}
 use Rattle.uv_report.specs.declared.finding.Finding.{Finding}
-use Rattle.uv_report.specs.declared.finding.Finding.TheVariants.{Refused, NotUtf8, TooLong}
-use Rattle.uv_report.specs.Finding.{finding_column, finding_help, finding_index, finding_name, finding_place}
+use Rattle.uv_report.specs.declared.finding.Finding.TheVariants.{Refused, NotUtf8, TooLong, NotLocated}
+use Rattle.uv_report.specs.Column.{column}
+use Rattle.uv_report.specs.Finding.{finding_help, finding_index, finding_name, finding_place}
 use Rattle.uv_report.specs.Finding.{finding_sentence, finding_uri}
 use Rattle.uv_report.specs.Message as told
 use Rattle.uv_report.specs.Uri.{uri_path}
@@ -40,7 +41,8 @@ next_rule rule = codes "," ++ rule_text (Refused (record { place = 0; rule = rul
 -- all of them, in the order of their indices
 unfoldable pub all_rules : List ℕ
 all_rules =
-    rule_text NotUtf8 ++ (codes "," ++ (rule_text TooLong ++ flat_map next_rule rules_in_order))
+    rule_text NotUtf8 ++ (codes "," ++ (rule_text TooLong ++ (codes "," ++ (rule_text NotLocated
+    ++ flat_map next_rule rules_in_order))))
 
 -- ---- the document
 
@@ -69,7 +71,7 @@ artifact_value file = object (member (codes "uri") (string (uri_path file)) no_m
 -- the line and the column
 abbrev pub region_value : Diagnostic → Data
 region_value diagnostic =
-    object (member (codes "startColumn") (number (unsigned (finding_column diagnostic.finding)))
+    object (member (codes "startColumn") (number (unsigned (column diagnostic)))
     (member (codes "startLine") (number (unsigned diagnostic.line)) no_members))
 
 -- these two

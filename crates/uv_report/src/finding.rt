@@ -1,6 +1,6 @@
 //! What is wrong with a line.
 ghost use Rattle.std.specs.Prelude.{◌≡◌};
-ghost use Rattle.uv_report.specs.Finding.{finding_column, finding_help, finding_index, finding_name, finding_place, finding_sentence, finding_uri, named_finding};
+ghost use Rattle.uv_report.specs.Finding.{finding_help, finding_index, finding_name, finding_place, finding_sentence, finding_uri, named_finding};
 
 use crate::explanation::{explain, section_uri};
 use uv_model::Refusal;
@@ -14,10 +14,12 @@ pub enum Finding {
     NotUtf8,
     /// The line has more than 65,536 bytes.
     TooLong,
+    /// The line doesn't say where its link stands, as `FILE:LINE:COLUMN:LINK` does.
+    NotLocated,
 }
 
 impl Finding {
-    /// The name of the violated rule, else `not-utf8` or `line-too-long`.
+    /// The name of the violated rule, else `not-utf8`, `line-too-long` or `not-located`.
     pub fn name(self) -> &'static str
         ensures { result.now ≡ finding_name self }
     {
@@ -25,6 +27,7 @@ impl Finding {
             Finding::Refused(refusal) => refusal.rule.name(),
             Finding::NotUtf8 => "not-utf8",
             Finding::TooLong => "line-too-long",
+            Finding::NotLocated => "not-located",
         }
     }
 
@@ -35,6 +38,7 @@ impl Finding {
         match name {
             "not-utf8" => Some(Finding::NotUtf8),
             "line-too-long" => Some(Finding::TooLong),
+            "not-located" => Some(Finding::NotLocated),
             _ => None,
         }
     }
@@ -47,6 +51,7 @@ impl Finding {
             Finding::Refused(refusal) => refusal.rule.sentence(),
             Finding::NotUtf8 => "this line isn't UTF-8",
             Finding::TooLong => "this line has more than 65536 bytes",
+            Finding::NotLocated => "this line isn't FILE:LINE:COLUMN:LINK",
         }
     }
 
@@ -58,6 +63,9 @@ impl Finding {
             Finding::Refused(refusal) => explain(refusal.rule).asks,
             Finding::NotUtf8 => "A line is a text in UTF-8.",
             Finding::TooLong => "A line has at most 65536 bytes.",
+            Finding::NotLocated => {
+                "A located line is FILE:LINE:COLUMN:LINK. FILE isn't empty; LINE and COLUMN are from 1 to 4294967295."
+            }
         }
     }
 
@@ -67,20 +75,21 @@ impl Finding {
     {
         match self {
             Finding::Refused(refusal) => section_uri(refusal.rule),
-            Finding::NotUtf8 | Finding::TooLong => {
+            Finding::NotUtf8 | Finding::TooLong | Finding::NotLocated => {
                 "https://url.spec.whatwg.org/#valid-url-string"
             }
         }
     }
 
-    /// Where its rule stands among all that can be wrong, from 0: the two that are no refusal come first.
+    /// Where its rule stands among all that can be wrong, from 0: the three that are no refusal come first.
     pub(crate) fn index(self) -> u64
         ensures { result ≡ finding_index self }
     {
         match self {
-            Finding::Refused(refusal) => u64::from(refusal.rule.number()) + 1,
+            Finding::Refused(refusal) => u64::from(refusal.rule.number()) + 2,
             Finding::NotUtf8 => 0,
             Finding::TooLong => 1,
+            Finding::NotLocated => 2,
         }
     }
 
@@ -91,14 +100,7 @@ impl Finding {
     {
         match self {
             Finding::Refused(refusal) => refusal.place,
-            Finding::NotUtf8 | Finding::TooLong => 0,
+            Finding::NotUtf8 | Finding::TooLong | Finding::NotLocated => 0,
         }
-    }
-
-    /// The column of that place: columns count from 1.
-    pub fn column(self) -> usize
-        ensures { result ≡ finding_column self }
-    {
-        self.place().saturating_add(1)
     }
 }

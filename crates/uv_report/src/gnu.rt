@@ -32,7 +32,7 @@ fn push_position(text: &mut String, diagnostic: &Diagnostic<'_>) -> Result<(), A
     text.push_str(":")?;
     push_number(text, diagnostic.line)?;
     text.push_str(":")?;
-    push_number(text, diagnostic.finding.column() as u64)?;
+    push_number(text, diagnostic.column())?;
     Ok(())
 }
 

@@ -31,7 +31,7 @@ fn object(alloc: Global, diagnostic: &Diagnostic<'_>) -> Result<Value, AllocErro
     let message = message(alloc, diagnostic.text, diagnostic.finding)?;
     let text = carried(alloc, diagnostic.text, diagnostic.finding.place())?;
     json!(in alloc; {
-        "column": diagnostic.finding.column() as u64,
+        "column": diagnostic.column(),
         "cut": is_cut(diagnostic.text),
         "file": diagnostic.file,
         "line": diagnostic.line,

@@ -20,7 +20,9 @@ pub(crate) fn message(alloc: Global, line: &str, finding: Finding) -> Result<Str
 {
     match finding {
         Finding::Refused(refusal) => refusal_message(alloc, line, refusal),
-        Finding::NotUtf8 | Finding::TooLong => String::from_str(alloc, finding.sentence()),
+        Finding::NotUtf8 | Finding::TooLong | Finding::NotLocated => {
+            String::from_str(alloc, finding.sentence())
+        }
     }
 }
 

@@ -27,7 +27,7 @@ pub(crate) fn push_sarif_begin(alloc: Global, text: &mut String) -> Result<(), A
     Ok(())
 }
 
-// Pushes the rules, behind the two findings that are no refusal.
+// Pushes the rules, behind the three findings that are no refusal.
 #[tactic(auto, unfolding(crate::specs::Sarif::all_rules))]
 fn push_rules(alloc: Global, text: &mut String) -> Result<(), AllocError>
     ensures { OnOk result (string_bytes text.new ≡ string_bytes text.old ++ spec.all_rules) }
@@ -35,6 +35,8 @@ fn push_rules(alloc: Global, text: &mut String) -> Result<(), AllocError>
     push_rule(alloc, text, Finding::NotUtf8)?;
     text.push_str(",")?;
     push_rule(alloc, text, Finding::TooLong)?;
+    text.push_str(",")?;
+    push_rule(alloc, text, Finding::NotLocated)?;
     push_uri_rules(alloc, text, Rule::in_order().as_slice())?;
     Ok(())
 }
@@ -149,7 +151,7 @@ fn region_object(alloc: Global, diagnostic: &Diagnostic<'_>) -> Result<Value, Al
     ensures { IfOk result (λ value. view value ≡ spec.region_value diagnostic.now) }
 {
     json!(in alloc; {
-        "startColumn": diagnostic.finding.column() as u64,
+        "startColumn": diagnostic.column(),
         "startLine": diagnostic.line
     })
 }

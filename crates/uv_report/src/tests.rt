@@ -14,6 +14,7 @@ fn refused<'a>(file: &'a str, rule: Rule, place: usize, text: &'a str) -> Diagno
     Diagnostic {
         file,
         line: 3,
+        start: 1,
         finding: Finding::Refused(Refusal { place, rule }),
         text,
     }
@@ -44,6 +45,7 @@ fn writes_a_line_as_compilers_do(rt: HostRuntime) -> Result<(), Fail> {
     let unread = Diagnostic {
         file: "-",
         line: 1,
+        start: 1,
         finding: Finding::NotUtf8,
         text: "\u{FFFD}",
     };
@@ -51,6 +53,28 @@ fn writes_a_line_as_compilers_do(rt: HostRuntime) -> Result<(), Fail> {
         report(rt.alloc(), Format::Gnu, &unread)?.as_str(),
         "-:1:1: error: this line isn't UTF-8 [not-utf8]\n"
     );
+    Ok(())
+}
+
+// A text from the 40th column of its line on: the column is told in the line, and the caret stands below the text.
+#[test]
+fn counts_columns_from_where_the_text_begins(rt: HostRuntime) -> Result<(), Fail> {
+    let found = Diagnostic {
+        start: 40,
+        ..refused("page.html", Rule::CodePoint, 10, "http://h/a b")
+    };
+    for (format, column) in [
+        (Format::Gnu, "page.html:3:50: error: "),
+        (Format::Caret, "page.html:3:50: error: "),
+        (Format::Json, "{\"column\":50,"),
+        (Format::Github, "::error file=page.html,line=3,col=50,"),
+        (Format::Checkstyle, "<error line=\"3\" column=\"50\" "),
+        (Format::Sarif, "\"region\":{\"startColumn\":50,\"startLine\":3}"),
+    ] {
+        assert!(rt; report(rt.alloc(), format, &found)?.as_str().contains(column), "{column}");
+    }
+    let caret = report(rt.alloc(), Format::Caret, &found)?;
+    assert!(rt; caret.as_str().ends_with("\nhttp://h/a b\n          ^\n"));
     Ok(())
 }
 
@@ -142,8 +166,9 @@ fn writes_a_document_of_sarif(rt: HostRuntime) -> Result<(), Fail> {
         ("/runs/0/tool/driver/name", "urlcheck"),
         ("/runs/0/tool/driver/rules/0/id", "not-utf8"),
         ("/runs/0/tool/driver/rules/1/id", "line-too-long"),
-        ("/runs/0/tool/driver/rules/6/id", "host-domain"),
-        ("/runs/0/tool/driver/rules/15/id", "percent"),
+        ("/runs/0/tool/driver/rules/2/id", "not-located"),
+        ("/runs/0/tool/driver/rules/7/id", "host-domain"),
+        ("/runs/0/tool/driver/rules/16/id", "percent"),
         ("/runs/0/results/1/ruleId", "host-domain"),
         ("/runs/0/results/1/level", "error"),
         (
@@ -152,11 +177,11 @@ fn writes_a_document_of_sarif(rt: HostRuntime) -> Result<(), Fail> {
         ),
         ("/runs/0/results/1/properties/text", "http://a_b/"),
         (
-            "/runs/0/tool/driver/rules/6/helpUri",
+            "/runs/0/tool/driver/rules/7/helpUri",
             "https://url.spec.whatwg.org/#valid-domain-string",
         ),
         (
-            "/runs/0/tool/driver/rules/9/fullDescription/text",
+            "/runs/0/tool/driver/rules/10/fullDescription/text",
             "Under a scheme that isn't special a host has URL units, but no forbidden host code points.",
         ),
         (
@@ -167,7 +192,7 @@ fn writes_a_document_of_sarif(rt: HostRuntime) -> Result<(), Fail> {
         assert_eq!(rt; text_at(&document, pointer), Some(wanted), "at {pointer}");
     }
     for (pointer, wanted) in [
-        ("/runs/0/results/0/ruleIndex", 6),
+        ("/runs/0/results/0/ruleIndex", 7),
         (
             "/runs/0/results/0/locations/0/physicalLocation/region/startLine",
             3,

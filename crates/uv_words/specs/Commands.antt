@@ -42,13 +42,13 @@ check_command =
     (flag_rule (codes "wide")))
     text_rule
 
--- `lint [--base TEXT] [--all] [--profile PROFILE] [--wide] [--format FORMAT] [--quiet] FILE..`
+-- `lint [--base TEXT] [--all] [--profile PROFILE] [--wide] [--format FORMAT] [--located] [--quiet] FILE..`
 abbrev pub lint_command : App
 lint_command =
-    with_rule (with_rule (with_rule (with_rule (with_rule (with_rule (with_rule (new_app (codes "lint"))
+    with_rule (with_rule (with_rule (with_rule (with_rule (with_rule (with_rule (with_rule (new_app (codes "lint"))
     (option_rule (codes "base"))) (flag_rule (codes "all"))) (option_rule (codes "profile")))
     (flag_rule (codes "wide")))
-    (option_rule (codes "format"))) quiet_rule) files_rule
+    (option_rule (codes "format"))) (flag_rule (codes "located"))) quiet_rule) files_rule
 
 -- `links [--base TEXT] [--profile PROFILE] [--wide]`
 abbrev pub links_command : App

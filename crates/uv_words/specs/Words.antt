@@ -25,14 +25,15 @@ use Rattle.uv_words.specs.declared.words.WordsFault.TheVariants as fault
 
 -- ---- what is asked for
 
--- what a lint asks for: the files, the base, how many violations of a line, the profile, the format's name, and whether
--- no counts are wanted
+-- what a lint asks for: the files, the base, how many violations of a line, the profile, the format's name, whether
+-- each line says where its link stands, and whether no counts are wanted
 pub record LintRequest : Type 0 where
   pub files : List Text
   pub base : Option Text
   pub extent : Extent
   pub profile : Profile
   pub format : Option Text
+  pub located : Bool
   pub quiet : Bool
 
 -- a command with its texts and options: of a check the text, the base, how many violations and the profile; of a list
@@ -102,6 +103,7 @@ lint_in rows profile = option_map (λ files. lint (record {
   extent = extent_in rows;
   profile = profile;
   format = first_of (codes "format") rows;
+  located = has_flag (codes "located") rows;
   quiet = has_flag (codes "quiet") rows;
 })) (all_of (codes "FILE") rows)
 
@@ -145,6 +147,7 @@ request_by asked = record {
   extent = asked.extent;
   profile = asked.profile;
   format = text_in asked.format;
+  located = asked.located;
   quiet = asked.quiet;
 }
 

@@ -156,6 +156,7 @@ fn lint<'a>(alloc: Global) -> Result<Command<'a>, AllocError>
     let command = and_arg(command, profile(alloc));
     let command = and_arg(command, wide(alloc));
     let command = and_arg(command, format(alloc));
+    let command = and_arg(command, located(alloc));
     let command = and_arg(command, quiet(alloc));
     and_arg(command, files(alloc))
 }
@@ -265,6 +266,14 @@ fn format<'a>(alloc: Global) -> Arg<'a>
 {
     let help = "gnu, caret, json, github, sarif or checkstyle; without it gnu";
     option(alloc, "format", "FORMAT", help)
+}
+
+fn located<'a>(alloc: Global) -> Arg<'a>
+    ensures rule { rule_of result ≡ flag_rule (codes "located") }
+    ensures local { result.global ≡ false }
+{
+    let help = "Reads lines FILE:LINE:COLUMN:LINK, and reports on each LINK where it stands";
+    flag(alloc, "located", help)
 }
 
 fn quiet<'a>(alloc: Global) -> Arg<'a>

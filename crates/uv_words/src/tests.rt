@@ -15,6 +15,7 @@ struct Want<'w> {
     extent: Extent,
     profile: Profile,
     format: &'w [&'w str],
+    located: bool,
     quiet: bool,
 }
 
@@ -27,6 +28,7 @@ const fn plain<'w>(command: &'w str, texts: &'w [&'w str]) -> Want<'w> {
         extent: Extent::First,
         profile: Profile::Standard,
         format: &[],
+        located: false,
         quiet: false,
     }
 }
@@ -55,6 +57,7 @@ fn is_lint(job: &LintJob, want: &Want<'_>) -> bool {
         && job.extent == want.extent
         && job.profile == want.profile
         && is(job.format.as_deref(), want.format)
+        && job.located == want.located
         && job.quiet == want.quiet
 }
 
@@ -190,6 +193,11 @@ fn reads_lints(rt: HostRuntime) -> Result<(), Fail> {
         ..plain("lint", &["a"])
     };
     asks(&rt, &["urlcheck", "lint", "-q", "a"], quiet);
+    let located = Want {
+        located: true,
+        ..plain("lint", &["-"])
+    };
+    asks(&rt, &["urlcheck", "lint", "--located", "-"], located);
     Ok(())
 }
 

@@ -74,6 +74,8 @@ pub struct LintJob {
     pub profile: Profile,
     /// The name of the format, if one is named.
     pub format: Option<String>,
+    /// Whether each line says where its link stands.
+    pub located: bool,
     /// Whether no counts are wanted.
     pub quiet: bool,
 }
@@ -272,6 +274,7 @@ fn lint_in(
         extent: extent(entries),
         profile,
         format: copied(alloc, value(entries, "format"))?,
+        located: has(entries, "located"),
         quiet: has(entries, "quiet"),
     })))
 }

@@ -41,6 +41,11 @@ means this line has more than 65536 bytes
 asks A line has at most 65536 bytes.
 ";
 
+const NOT_LOCATED: &str = "rule not-located
+means this line isn't FILE:LINE:COLUMN:LINK
+asks A located line is FILE:LINE:COLUMN:LINK. FILE isn't empty; LINE and COLUMN are from 1 to 4294967295.
+";
+
 // What is written where this name is asked for, or none.
 fn written(
     rt: &(impl Abort + AllocGlobal),
@@ -58,6 +63,7 @@ fn explains_a_rule(rt: HostRuntime) -> Result<(), Fail> {
         ("opaque-base", OPAQUE_BASE),
         ("not-utf8", NOT_UTF8),
         ("line-too-long", LINE_TOO_LONG),
+        ("not-located", NOT_LOCATED),
     ] {
         let (end, lines) = written(&rt, Some(name))?;
         holds(

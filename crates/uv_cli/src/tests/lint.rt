@@ -32,6 +32,7 @@ fn job(
         extent: Extent::First,
         profile: Profile::Standard,
         format: copied(alloc, format)?,
+        located: false,
         quiet: false,
     }))
 }

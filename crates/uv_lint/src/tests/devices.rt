@@ -25,6 +25,7 @@ const SETTING: LintSetting<'static> = LintSetting {
     profile: Profile::Standard,
     extent: Extent::First,
     format: Format::Checkstyle,
+    form: LineForm::Plain,
 };
 
 // The report on so many of the first lines, and how many of them are judged and refused.

@@ -1,5 +1,6 @@
 -- The report on the files, with its beginning and its end.
 use Rattle.std.proofs.Common.{◌∙◌, ap, map, string_bytes}
+use Rattle.uv_cli.specs.Lint.{form_of}
 use Rattle.uv_cli.proofs.LintLemmas.{begins_with, lints_files}
 use Rattle.uv_cli.proofs.lint.lint_against.Goals as goal
 
@@ -24,7 +25,9 @@ returns g c = record {
         profile = c.args.job.now.profile;
         extent = c.args.job.now.extent;
         format = c.args.format;
+        form = form_of c.args.job.now.located;
       })
-      _ _ _ _ _ _ _ _ (ap (map string_bytes) c.as_slice.ensures.value) c.lint_each-linted.ensures.all;
+      _ _ _ _ _ _ _ _ (ap (map string_bytes) c.as_slice.ensures.value)
+      (rw c.form_of.ensures at c.lint_each-linted.ensures.all);
   ends = rw (← c.in-Ok.ensures.1, ← c.as_str-2.ensures.value) c.write_piece.ensures;
 }

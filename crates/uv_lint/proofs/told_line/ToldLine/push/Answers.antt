@@ -6,6 +6,7 @@ use Rattle.uv_model.specs.declared.rule.Rule.TheVariants.{NoScheme}
 use Rattle.uv_report.specs.declared.finding.Finding.{Finding}
 use Rattle.uv_report.specs.declared.finding.Finding.TheVariants.{Refused}
 use Rattle.uv_lint.specs.Report.{diagnostics_text}
+use Rattle.uv_lint.specs.Told.{told_view}
 use Rattle.uv_lint.proofs.DiagnosticLemmas.{push_one}
 use Rattle.uv_lint.proofs.told_line.ToldLine.push.Goals as goal
 
@@ -16,10 +17,12 @@ loop-finding-preserved c =
     let i = c.loop-finding.finding-index in
     let none : Finding = Refused (record { place = 0; rule = NoScheme }) in
     let told = string_bytes c.loop-finding.told in
-    push_one c.args.format line.file line.text line.number c.loop-finding.is_first (get_or findings i none)
-    (drop (i + 1) findings) told (string_bytes c.push_diagnostic.new.text) c.in_ok-push_diagnostic.ensures.ok
-    ∙ ap (λ left. told ++ diagnostics_text c.args.format line.file.now line.number line.text.now c.loop-finding.is_first
-    left) (sym (drop_more findings i none c.loop-finding-test.true))
+    let setting = c.args.setting in
+    push_one setting.form setting.format line.file line.text line.line line.start c.loop-finding.is_first
+    (get_or findings i none) (drop (i + 1) findings) told (string_bytes c.push_framed.new.told)
+    c.in_ok-push_framed.ensures
+    ∙ ap (λ left. told ++ diagnostics_text setting.form setting.format (told_view line) c.loop-finding.is_first left)
+    (sym (drop_more findings i none c.loop-finding-test.true))
     ∙ c.loop-finding.invariant
 
 pub returns : goal.returns

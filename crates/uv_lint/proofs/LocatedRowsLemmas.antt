@@ -1,0 +1,46 @@
+-- The rows of located lines, by computation.
+use Rattle.std.proofs.Common.{refl}
+use Rattle.std.specs.Fmt.{char_count, digits, padded_integral}
+use Rattle.std.specs.Char.{encode_utf8}
+use Rattle.std.specs.Str.{chars, is_utf8}
+use Rattle.std.specs.Str.Lossy.{utf8_error_len, utf8_lossy, utf8_valid_len}
+use Rattle.uv_report.specs.Checkstyle.{checkstyle_text, error_place, error_text, file_begin}
+use Rattle.uv_report.specs.CodePoint.{ascii_names, capital_names, control_names, digit_names, last_names, mark_names}
+use Rattle.uv_report.specs.CodePoint.{point_name, point_text, sign_names, small_names}
+use Rattle.uv_report.specs.Escapes.{escaped}
+use Rattle.uv_report.specs.Gnu.{gnu_position, gnu_text, gnu_words}
+use Rattle.uv_report.specs.Message.{refusal_message}
+use Rattle.uv_lint.specs.Located.{run_of}
+use Rattle.uv_lint.specs.LocatedRows.{LocatedReportRows, LocatedRows}
+
+-- which lines are of the form
+pub located_rows : LocatedRows
+unfolding run_of is_utf8 chars encode_utf8
+located_rows = record {
+  page = refl;
+  colon = refl;
+  drive = refl;
+  first = refl;
+  broken = refl;
+  port = refl;
+  zeros = refl;
+  empty_link = refl;
+  most = refl;
+  no_line = refl;
+  no_column = refl;
+  no_link = refl;
+  no_file = refl;
+  line_0 = refl;
+  column_0 = refl;
+  line_above = refl;
+  column_above = refl;
+  sign = refl;
+  no_utf8 = refl;
+}
+
+-- the diagnostics on a list
+pub located_report_rows : LocatedReportRows
+unfolding run_of gnu_position gnu_text gnu_words refusal_message point_text point_name ascii_names control_names
+    sign_names digit_names capital_names mark_names small_names last_names escaped digits padded_integral char_count chars
+    is_utf8 utf8_lossy utf8_valid_len utf8_error_len encode_utf8 checkstyle_text error_place error_text file_begin
+located_report_rows = record { gnu = refl; checkstyle = refl }

@@ -1,0 +1,26 @@
+-- What is said of a line where something is found with it, and where nothing is.
+use Rattle.std.proofs.Common.{◌≡◌, ◌∙◌, ◌++◌, [], option_copied, refl, sym, ap, append-nil}
+use Rattle.std.specs.Prelude.{◌==◌}
+use Rattle.uv_lint.proofs.ReporterLemmas.{adds_line, none_found}
+use Rattle.uv_lint.proofs.reporter.LintReporterReporter.report.Goals as goal
+use Rattle.uv_lint.proofs.reporter.LintReporterReporter.report.Goals.{then-not-is_empty+in_ok-tell, else-not-is_empty}
+
+pub returns-clause-added : goal.returns-clause-added
+returns-clause-added c =
+    let before = c.args.self.now in
+    let lines = sym (ap (λ r. r.lines) c.self.view_is) in
+    let judged = option_copied c.judged_line-line.result in
+    elim c.if-not-is_empty.branch [
+      | then-not-is_empty+in_ok-tell w ↦
+          adds_line before c.if-not-is_empty.self c.count.new.self _ _ judged _ _ _ _ _ lines c.judged_line-line.ensures
+          c.in_ok-findings.ensures w.as_slice.ensures.value
+          (ap (λ t. t.items) w.text-is ∙ w.in_ok-tell.ensures.text) (w.self-is ∙ w.in_ok-tell.ensures.same)
+          c.as_slice-2.ensures.value c.count.ensures
+      | else-not-is_empty w ↦
+          adds_line before c.if-not-is_empty.self c.count.new.self _ _ judged _ _ _ _ _ lines c.judged_line-line.ensures
+          c.in_ok-findings.ensures
+          (none_found c.in_ok-findings.findings.items (ap (λ n. n == 0) (sym c.in_ok-findings.findings.ok.0)
+          ∙ sym c.is_empty.ensures ∙ w.if-not-is_empty.false))
+          (ap (λ t. t.items) w.text-is ∙ sym (append-nil c.args.text.now.items)) w.self-is
+          c.as_slice-2.ensures.value c.count.ensures
+    ]

@@ -1,0 +1,148 @@
+"""Located lines, made and read: what `urlcheck lint --located` wrote in each format is found by readers of its own formats,
+at the column of a link and so many more as its place in a list of links alone.
+
+    located_readers.py DIR make: writes DIR/located.txt and DIR/alone.txt, the same links without their places.
+    located_readers.py DIR read: in DIR stand located.FORMAT, alone.json and alone.caret.
+"""
+
+import json
+import re
+import sys
+from urllib.parse import unquote
+from xml.etree import ElementTree
+
+directory, step = sys.argv[1:]
+HIDDEN = re.compile("[\0-\x08\n-\x1f\x7f-\x9f\u061c\u200e\u200f\u2028-\u202e\u2066-\u2069]")
+# The form, by another reader than the program's: the shortest name before a run of two numbers.
+FORM = re.compile(r"(.*?):([0-9]+):([0-9]+):(.*)", re.DOTALL)
+
+NAMES = ["plain.html", "a,b:c%d.txt", "<&\"'>.txt", "\x1b[2J\u202e.txt", "C:\\x.html", "two words", "b\u00fccher", "//host/x",
+         "https://h/p", "a:1:b", "x\ry", "::", "1:2", "-"]
+LINKS = ["http://h/", "", "http://h/a b", "\x1b[2Jhttp://h/", "http://h/]]>", "::error file=a,line=1::x", "3:4:x",
+         'http://h/"><b>&amp;\'', "http://h/a\rb c", "http://h/\u202eabc", "http://h/\u4e2d\u6587e\u0301\uff21 \U0001f600<", "%0A%25",
+         "http://h/100%", "http://h:81:82:/", "http://h/" + "a" * 3000 + " b", "urn:\x00\x7f\x85", "http://u@h/"]
+PLACES = [("1", "1"), ("12", "34"), ("007", "010"), ("4294967295", "4294967295")]
+OTHERS = ["http://h/", "a.html:3:x", "a.html:3:4", ":1:2:x", ":1:2:3:4:x", "a:0:1:x", "a:1:0:x", "a:1:00:x", "a:4294967296:1:x",
+          "a:1:4294967296:x", "a:1:99999999999999999999999:x", "a:0:1:2:3:x", "a:+1:2:x", "a: 1:2:x", "a:1:2.0:x",
+          "a:\u0661:2:x", "x"]
+
+
+def lines():
+    """Each line, and whether it says where a link stands."""
+    for number, name in enumerate(NAMES):
+        for index, link in enumerate(LINKS):
+            line, column = PLACES[(number + index) % len(PLACES)]
+            yield f"{name}:{line}:{column}:{link}", True
+    for line in OTHERS:
+        yield line, False
+
+
+def make():
+    with open(f"{directory}/located.txt", "wb") as located, open(f"{directory}/alone.txt", "wb") as alone:
+        for line, is_located in lines():
+            located.write(line.encode() + b"\n")
+            # Alone, an empty link would be an empty line, which isn't judged.
+            alone.write((FORM.match(line)[4] if is_located else "").encode() + b"\n")
+        located.write(b"a:1:2:\xff\n\xff:1:2:x\n" + b"y" * 65537 + b"\n")
+
+
+def read(kind):
+    return open(f"{directory}/{kind}", "rb").read().decode()
+
+
+def shown(text):
+    return HIDDEN.sub("\ufffd", text)
+
+
+def xml_shown(text):
+    return re.sub("[\0-\x08\x0b\x0c\x0e-\x1f\ufffe\uffff]", "\ufffd", text)
+
+
+def wanted():
+    """What is to be found: file, line, column, rule and sentence."""
+    found = {}
+    for entry in read("alone.json").split("\n")[:-1]:
+        one = json.loads(entry)
+        found.setdefault(one["line"], []).append((one["column"] - 1, one["rule"], one["message"]))
+    count = 0
+    for count, (line, is_located) in enumerate(lines(), 1):
+        if not is_located:
+            yield "located.txt", count, 1, "not-located", "this line isn't FILE:LINE:COLUMN:LINK"
+            continue
+        name, number, column, link = FORM.match(line).groups()
+        places = found.get(count, []) if link else [(0, "no-scheme", "there is no scheme and no base")]
+        for place, rule, sentence in places:
+            yield name, int(number), int(column) + place, rule, sentence
+    yield "a", 1, 2, "not-utf8", "this line isn't UTF-8"
+    yield "located.txt", count + 2, 1, "not-utf8", "this line isn't UTF-8"
+    yield "located.txt", count + 3, 1, "line-too-long", "this line has more than 65536 bytes"
+
+
+def gnu(text):
+    form = re.compile(r"^(.+?):([0-9]+):([0-9]+): error: (.+) \[([a-z0-9-]+)\]$")
+    assert not HIDDEN.search(text.replace("\n", "")), "a control"
+    for line in text.split("\n")[:-1]:
+        m = form.match(line)
+        yield m[1], int(m[2]), int(m[3]), m[5], m[4]
+
+
+def of_json(text):
+    for line in text.split("\n")[:-1]:
+        one = json.loads(line)
+        yield one["file"], one["line"], one["column"], one["rule"], one["message"]
+
+
+def github(text):
+    command = re.compile(r"^::error file=([^,:]*),line=([0-9]+),col=([0-9]+),title=([^,:]*)::(.*)$")
+    message = lambda part: part.replace("%0D", "\r").replace("%0A", "\n").replace("%25", "%")
+    value = lambda part: message(part.replace("%3A", ":").replace("%2C", ","))
+    for line in text.split("\n")[:-1]:
+        m = command.match(line)
+        yield value(m[1]), int(m[2]), int(m[3]), value(m[4]), message(m[5])
+
+
+def sarif(text):
+    for result in json.loads(text)["runs"][0]["results"]:
+        place = result["locations"][0]["physicalLocation"]
+        region = place["region"]
+        name = unquote(place["artifactLocation"]["uri"], errors="strict")
+        yield name, region["startLine"], region["startColumn"], result["ruleId"], result["message"]["text"]
+
+
+def checkstyle(text):
+    for file in ElementTree.fromstring(text):
+        assert len(file) == 1, "an element of a file has one diagnostic"
+        for error in file:
+            yield (file.get("name"), int(error.get("line")), int(error.get("column")),
+                   error.get("source")[len("urlcheck."):], error.get("message"))
+
+
+def read_all():
+    want = list(wanted())
+    assert len(want) > 300, len(want)
+    terminal = [(shown(one[0]),) + one[1:] for one in want]
+    xml = [(xml_shown(one[0]),) + one[1:4] + (xml_shown(one[4]),) for one in want]
+    failed = []
+    for kind, reader, expected in [("gnu", gnu, terminal), ("json", of_json, want), ("github", github, want),
+                                   ("sarif", sarif, want), ("checkstyle", checkstyle, xml)]:
+        try:
+            found = list(reader(read(f"located.{kind}")))
+        except Exception as error:
+            failed.append(f"{kind}: {error!r}")
+            continue
+        if found != expected:
+            other = [pair for pair in zip(found, expected) if pair[0] != pair[1]][:2]
+            failed.append(f"{kind}: {len(found)} diagnostics of {len(expected)}: {other}")
+    # The lines of a caret: the link alone, with the caret below its place, as in the list of links alone.
+    rows = read("located.caret").split("\n")[:-1]
+    if rows[0::3] != read("located.gnu").split("\n")[:-1]:
+        failed.append("caret: other diagnostics")
+    alone = read("alone.caret").split("\n")[:-1]
+    links = [(line, caret) for line, caret, one in zip(rows[1::3], rows[2::3], want) if one[0] != "located.txt" and line]
+    if links[:-1] != list(zip(alone[1::3], alone[2::3])):
+        failed.append("caret: other links")
+    print("\n".join(failed))
+    return 1 if failed else 0
+
+
+sys.exit(make() if step == "make" else read_all())
