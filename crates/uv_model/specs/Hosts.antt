@@ -2,3 +2,4 @@
 pub mod Address
 pub mod Domain
 pub mod OpaqueHost
+pub mod ParserHost

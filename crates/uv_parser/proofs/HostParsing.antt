@@ -12,3 +12,4 @@ pub mod HostParserLemmas
 pub mod HostsParsed
 pub mod OtherHostsTaken
 pub mod OtherHosts
+pub mod SpecialHosts

@@ -1,5 +1,5 @@
 -- The host parser, after the URL Standard, section 3.5, ended at its first validation error.
-use Rattle.std.specs.Prelude.{◌≡◌, ◌↔◌, ◌⊎◌, ℕ, ◌-◌, Bool, true, false, ◌&&◌, ◌||◌, ◌==◌, nat_le, List, [], ◌∷◌}
+use Rattle.std.specs.Prelude.{◌≡◌, ◌↔◌, ◌⊎◌, ℕ, ◌-◌, Bool, true, false, ◌&&◌, ◌==◌, List, [], ◌∷◌}
 use Rattle.std.specs.Prelude.{length, take, slice_index, chars, encode_utf8_all, Option, Some, None, option_map}
 use Rattle.std.specs.Prelude.{option_and_then, if◌then◌else◌}
 use Rattle.std.specs.List.{list_any}
@@ -8,18 +8,15 @@ use Rattle.percent_encoding.specs.Percent.{percent_decode}
 use Rattle.uv_model.specs.declared.profile.Profile.{Profile}
 use Rattle.uv_model.specs.declared.host.Host.{Host}
 use Rattle.uv_model.specs.declared.host.Host.TheVariants.{Domain, V4, V6, Opaque, Empty}
-use Rattle.uv_model.specs.Ascii.{percent_sign, left_bracket, right_bracket}
+use Rattle.uv_model.specs.Ascii.{left_bracket, right_bracket}
 use Rattle.uv_model.specs.Units.{is_unit_at}
 use Rattle.uv_model.specs.Encoding.{encoded}
 use Rattle.uv_model.specs.Hosts.OpaqueHost.{is_forbidden_host, IsOpaqueHost}
 use Rattle.uv_model.specs.Hosts.Address.{IsIpv4, IsBracketedIpv6}
 use Rattle.uv_model.specs.Hosts.Domain.{ends_in_number, parser_form, IsDomain}
+use Rattle.uv_model.specs.Hosts.ParserHost.{IsParserHost, is_forbidden_domain}
 use Rattle.uv_parser.specs.Ipv4Parser.{parse_ipv4}
 use Rattle.uv_parser.specs.Ipv6Parser.{parse_ipv6}
-
--- a forbidden domain code point: a forbidden host code point, a C0 control, `%` or U+007F
-abbrev pub is_forbidden_domain : ℕ → Bool
-is_forbidden_domain c = is_forbidden_host c || (nat_le c 0x1F || ((c == percent_sign) || (c == 0x7F)))
 
 -- no code point of the text is a fault of units or a forbidden host code point
 abbrev pub is_faultless_host : List ℕ → Bool
@@ -97,3 +94,8 @@ IsTakenOtherHost text value =
 abbrev pub OtherHostsAreTaken : Type 0
 OtherHostsAreTaken =
     (text : List ℕ) (value : Host) → (parse_host false text ≡ Some value) ↔ IsTakenOtherHost text value
+
+-- for a special URL the host parser takes the hosts of the parser's grammar alone
+abbrev pub SpecialHostsAreTaken : Type 0
+SpecialHostsAreTaken =
+    (text : List ℕ) (value : Host) → (parse_host true text ≡ Some value) ↔ IsParserHost text value

@@ -438,8 +438,8 @@ begins_tail rest = begins question_mark rest || begins number_sign rest
 abbrev pub opaque_space : List ℕ → List ℕ
 opaque_space rest = if begins_tail rest then codes "%20" else space ∷ []
 
--- `?` and `#` begin query and fragment, and the end is done. A space goes to the path, as `%20` where `?` or `#` follows
--- it. Any other code point, encoded, goes to the path.
+-- `?` and `#` begin query and fragment, and the end is done. A space goes to the path, as `%20` where `?` or `#`
+-- follows it. Any other code point, encoded, goes to the path.
 abbrev pub opaque_path_at : Variables → List ℕ → AtPointer → Turn
 opaque_path_at v rest query_mark = to_query v
 opaque_path_at v rest fragment_mark = to_fragment v

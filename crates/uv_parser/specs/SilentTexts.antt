@@ -9,7 +9,7 @@ use Rattle.uv_model.specs.declared.host.Host.{Host}
 use Rattle.uv_model.specs.declared.host.Host.TheVariants.{Empty}
 use Rattle.uv_model.specs.Ascii.{at_sign, backslash, question_mark, space}
 use Rattle.uv_model.specs.Cut.{IsCut, texts_of}
-use Rattle.uv_parser.specs.HostParser.{parse_host}
+use Rattle.uv_model.specs.Hosts.ParserHost.{IsParserHost}
 use Rattle.uv_model.specs.Parts.{Form, SchemeAuthority, SchemeOpaque, Authority, PathAbsolute, Parts, has_scheme}
 use Rattle.uv_model.specs.Path.{MayBePathSlashed, IsPathAbsolute, is_drive_letter, is_without, starts_with_slash}
 use Rattle.uv_parser.specs.Removed.{first_removed}
@@ -22,18 +22,19 @@ use Rattle.uv_model.specs.Valid.{MayBeUnits, port_given, scheme_in, without_loca
 
 -- ---- what follows `//`
 
--- the host of a special URL: no `@` and no `\`, at which the parser stops before it, and what the host parser takes
+-- the host of a special URL: a host of the parser's grammar with no `@` and no `\`, at which the parser stops before it
 pub record IsTakenHost (text : List ℕ) (value : Host) : Type 0 where
   pub no_at_sign : is_without at_sign text ≡ true
   pub no_backslash : is_without backslash text ≡ true
-  pub parsed : parse_host true text ≡ Some value
+  pub taken : IsParserHost text value
 
--- the host of a file URL: no drive letter, no `\`, and what the host parser takes, where `localhost` is the empty host
+-- the host of a file URL: a host of the parser's grammar that is no drive letter and has no `\`, where `localhost` is the
+-- empty host
 pub record IsTakenFileHost (text : List ℕ) (value : Host) : Type 0 where
   pub no_drive : is_drive_letter text ≡ false
   pub no_backslash : is_without backslash text ≡ true
   pub host : Host
-  pub parsed : parse_host true text ≡ Some host
+  pub taken : IsParserHost text host
   pub valued : value ≡ without_localhost host
 
 -- a special URL

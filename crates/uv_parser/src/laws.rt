@@ -1,5 +1,5 @@
 //! Laws over the URL parser, each as the clause of a function that does nothing.
-ghost use Rattle.uv_parser.specs.HostParser.{DomainsAreParsed, EmptyHostIsParsed, Ipv4HostsAreParsed, Ipv6HostsAreParsed, OpaqueHostsAreParsed, OtherHostsAreTaken};
+ghost use Rattle.uv_parser.specs.HostParser.{DomainsAreParsed, EmptyHostIsParsed, Ipv4HostsAreParsed, Ipv6HostsAreParsed, OpaqueHostsAreParsed, OtherHostsAreTaken, SpecialHostsAreTaken};
 ghost use Rattle.uv_parser.specs.Ipv4Parser.{Ipv4ParserTakesNumbers, Ipv4TextsAreParsed};
 ghost use Rattle.uv_parser.specs.Ipv6Parser.{Ipv6ParserTakesIpv6Texts, Ipv6TextsAreParsed};
 ghost use Rattle.uv_parser.specs.Laws.OtherHosts.{SilentOtherHostsAreValid};
@@ -20,9 +20,9 @@ ghost use Rattle.uv_parser.specs.Rows.Special.{SpecialRows};
 ghost use Rattle.uv_parser.specs.Laws.DecidedTexts.{TextsAreDecided};
 
 /// The run of the parser machine on a text is done, with the URL that the parts denote, exactly where the parser's
-/// grammar takes the text with parts, and else it stops; within the bound on its steps. ToASCII is the definition of the
-/// crate `idna`, which gives nothing above limits of its own: 1,000 code points of a label beyond ASCII, and 2,000 bytes
-/// of a label's Punycode. There the machine stops, where the standard's parser may be silent.
+/// grammar takes the text with parts, and else it stops; within the bound on its steps. ToASCII is the definition of
+/// the crate `idna`, which gives nothing above limits of its own: 1,000 code points of a label beyond ASCII, and 2,000
+/// bytes of a label's Punycode. There the machine stops, where the standard's parser may be silent.
 pub fn texts_are_decided()
     ensures { TextsAreDecided }
 {}
@@ -81,6 +81,13 @@ pub fn opaque_hosts_are_parsed()
 /// For a URL that isn't special the host parser makes of the empty text the empty host (URL Standard, section 3.5).
 pub fn empty_host_is_parsed()
     ensures { EmptyHostIsParsed }
+{}
+
+/// For a special URL the host parser takes the hosts of the parser's grammar alone, each with its value: an IPv6 text in
+/// brackets, or a text that percent-decoded has a form at the parser's settings of ToASCII, which is a domain or one to
+/// four numbers (URL Standard, section 3.5).
+pub fn special_hosts_are_taken()
+    ensures { SpecialHostsAreTaken }
 {}
 
 /// For a URL that isn't special the host parser takes nothing but the empty text, an IPv6 text in brackets and an

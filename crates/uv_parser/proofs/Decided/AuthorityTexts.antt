@@ -31,6 +31,7 @@ use Rattle.uv_model.proofs.Paths.PathPieces.{joins_pieces, pieces}
 use Rattle.uv_parser.proofs.Running.RunsStopped.{RunStops}
 use Rattle.uv_parser.proofs.Running.Steps.{Stops, ends_again, stops_here}
 use Rattle.uv_parser.proofs.Loops.Tails.{tail}
+use Rattle.uv_parser.proofs.HostParsing.SpecialHosts.{host_from_parser}
 
 -- What is to be shown of a text: it is silent with parts, or stops.
 abbrev pub SilentOrStops : Option Url → List ℕ → Type 0
@@ -120,7 +121,7 @@ module _ (base : Option Url) (text : List ℕ) (form : Form) (given : Option (Li
         host = record {
           no_at_sign = letters_no_at_sign true host_text letters;
           no_backslash = letters_no_backslash host_text letters;
-          parsed = taken.parsed;
+          taken = host_from_parser host_text taken.value taken.parsed;
         };
         valued = refl;
         port_text = taken.port_text;

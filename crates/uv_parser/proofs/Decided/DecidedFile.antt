@@ -18,6 +18,7 @@ use Rattle.uv_parser.proofs.Decided.DecidedAuthority.{IsUnended, host_cases, une
 use Rattle.uv_parser.proofs.Loops.FileHosts.{file_host_law, file_host_row}
 use Rattle.uv_parser.proofs.HostParsing.HostsParsed.{has_some}
 use Rattle.uv_parser.proofs.Running.Steps.{Stops, ends_again, ends_after, stops_here, ends_step}
+use Rattle.uv_parser.proofs.HostParsing.SpecialHosts.{host_from_parser}
 
 -- ---- rows
 
@@ -55,7 +56,7 @@ taken_host_fits : (text : List ℕ) (value : Host) → is_drive_letter text ≡ 
 taken_host_fits text value no_drive none parsed =
     inl (
       without_localhost value,
-      record { no_drive = no_drive; no_backslash = none; host = value; parsed = parsed; valued = refl },
+      record { no_drive = no_drive; no_backslash = none; host = value; taken = host_from_parser text value parsed; valued = refl },
     )
 
 module _ (base : Option Url) where

@@ -1,7 +1,7 @@
 -- A host text that the host parser takes is a valid one, or it has a difference with a name.
 use Rattle.std.proofs.Common.{◌≡◌, ◌≢◌, ℕ, ◌/◌, ◌%◌, true, false, ◌==◌, ◌⊎◌, List, [], ◌∷◌, length, Option, Some}
-use Rattle.std.proofs.Common.{None, codes, decimal, encode_utf8_all, refl, sym, ap, subst, ◌∙◌, ◌++◌, append_assoc, inl, inr}
-use Rattle.std.proofs.Common.{arith, lit<}
+use Rattle.std.proofs.Common.{None, codes, decimal, encode_utf8_all, refl, sym, ap, subst, ◌∙◌, ◌++◌, append_assoc, inl}
+use Rattle.std.proofs.Common.{inr, arith, lit<}
 use Rattle.std.specs.Prelude.{option_map, option_and_then}
 use Rattle.std.specs.List.{list_any}
 use Rattle.std.specs.Str.{bytes_eq, is_utf8}
@@ -14,9 +14,10 @@ use Rattle.uv_model.specs.declared.host.Host.TheVariants as host
 use Rattle.uv_model.specs.Hosts.Address.{IsFourNumbers, IsIpv4, IsBracketedIpv6, address_of}
 use Rattle.uv_model.specs.Ascii.{left_bracket}
 use Rattle.uv_model.specs.Hosts.Domain.{ends_in_number, has_lengths, has_permitted, parser_form, strict_form, IsDomain}
-use Rattle.uv_parser.specs.HostParser.{host_of_form, is_forbidden_domain, parse_bracketed, parse_domain, parse_host}
+use Rattle.uv_parser.specs.HostParser.{host_of_form, parse_bracketed, parse_domain, parse_host}
 use Rattle.uv_parser.specs.HostParser.{percent_decoded}
-use Rattle.uv_parser.specs.Ipv4Parser.{AreNumbers, parse_ipv4, read_numbers}
+use Rattle.uv_model.specs.Hosts.ParserHost.{AreNumbers, is_forbidden_domain}
+use Rattle.uv_parser.specs.Ipv4Parser.{parse_ipv4, read_numbers}
 use Rattle.uv_model.specs.Records.Serialize.{serial_ipv4}
 use Rattle.uv_parser.specs.Laws.Differences.{HasFewerNumbers, HostDiffers}
 use Rattle.uv_model.specs.Valid.{IsHostText}

@@ -32,6 +32,7 @@ use Rattle.uv_parser.proofs.Silence.SilentParts.{silent_parts_are_unique}
 use Rattle.uv_parser.proofs.Silence.SpacedPaths.{opaque_or_spaced}
 use Rattle.uv_model.proofs.Cuts.ValidCutLemmas.{written_as_cut}
 use Rattle.uv_parser.proofs.Silence.ValidSilent.{valid_is_silent, valid_path_has_no_space}
+use Rattle.uv_parser.proofs.HostParsing.SpecialHosts.{parsed_host}
 
 -- ---- from the parser's grammar to the standard's
 
@@ -61,13 +62,13 @@ file_or_differs : (base : Option Url) (host_text : List ℕ) (parts : Parts) (va
     → parts.host ≡ Some value
     → FitsAuthority File (setting_of Standard base parts.scheme) host_text parts ⊎ Differs base parts
 file_or_differs base host_text parts value class given takes path is valued =
-    elim (host_or_differs host_text is.host is.parsed) [
+    elim (host_or_differs host_text is.host (parsed_host host_text is.host is.taken)) [
       | inr differs ↦ inr (inl (record {
         class = λ other. absurd (file_not_other (class_in base parts.scheme) class other);
         text = host_text;
         given = given;
         host = is.host;
-        parsed = is.parsed;
+        taken = is.taken;
         differs = differs;
       }))
       | inl valid ↦
@@ -75,7 +76,7 @@ file_or_differs base host_text parts value class given takes path is valued =
           is.host valid) in
           elim (cases_Bool (starts_with_drive_segment parts.path_text)) [
             | inl drive ↦
-                let some = parsed_not_empty host_text is.host is.parsed in
+                let some = parsed_not_empty host_text is.host (parsed_host host_text is.host is.taken) in
                 let has : HasHost base parts.scheme parts.host_text = rw given some in
                 inr (inr (inr (inl (class, has, drive))))
             | inr bare ↦
@@ -92,7 +93,7 @@ authority_or_differs : (base : Option Url) (class : Class) (host_text : List ℕ
     → Takes class (scheme_in base parts) host_text parts → MayBePathBehind Standard parts.segments parts.path_text
     → FitsAuthority class (setting_of Standard base parts.scheme) host_text parts ⊎ Differs base parts
 authority_or_differs base Special host_text parts class given takes path =
-    elim (host_or_differs host_text takes.value takes.host.parsed) [
+    elim (host_or_differs host_text takes.value (parsed_host host_text takes.value takes.host.taken)) [
       | inl is ↦ inl (record {
         value = takes.value;
         host = is;
@@ -106,7 +107,7 @@ authority_or_differs base Special host_text parts class given takes path =
         text = host_text;
         given = given;
         host = takes.value;
-        parsed = takes.host.parsed;
+        taken = takes.host.taken;
         differs = differs;
       }))
     ]
@@ -260,11 +261,13 @@ no_foreign_host base text parts valid foreign =
     (fits_given base parts.form parts foreign.text valid.form foreign.given)) [
       | inl (value, is) ↦
           let taken = host_taken Standard foreign.text value is in
-          let same : value ≡ foreign.host = same_Some value foreign.host (sym taken.host.parsed ∙ foreign.parsed) in
+          let first = parsed_host foreign.text value taken.host.taken in
+          let second = parsed_host foreign.text foreign.host foreign.taken in
+          let same : value ≡ foreign.host = same_Some value foreign.host (sym first ∙ second) in
           host_not_differs foreign.text foreign.host (subst (λ (v : Host). IsHostText Standard foreign.text v) same is)
           foreign.differs
       | inr nothing ↦
-          parsed_not_empty foreign.text foreign.host foreign.parsed nothing
+          parsed_not_empty foreign.text foreign.host (parsed_host foreign.text foreign.host foreign.taken) nothing
     ]
 
 -- nor an empty authority of class File with nothing behind it

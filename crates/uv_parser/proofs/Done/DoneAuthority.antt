@@ -39,6 +39,7 @@ use Rattle.uv_parser.proofs.Silence.SilentAuthority.{HasParsed, authority_runs, 
 use Rattle.uv_parser.proofs.Silence.SilentAuthority.{other_starts, special_some, special_starts, valued_some}
 use Rattle.uv_parser.proofs.Silence.SilentFile.{HasFileHost, empty_host_ends, file_host_ends, file_runs}
 use Rattle.uv_model.proofs.Cuts.ValidCutLemmas.{written_as_cut}
+use Rattle.uv_parser.proofs.HostParsing.SpecialHosts.{parsed_host}
 
 -- ---- what the cut says of a host text
 
@@ -148,14 +149,15 @@ taken_parsed parts scheme host_text port base is ends fits takes =
     let special = is_special_scheme scheme is.of_class in
     let letters = letters_from (is_special (lowercase scheme)) host_text is.no_slash is.no_question_mark
     is.no_number_sign takes.host.no_at_sign (λ same. takes.host.no_backslash) in
-    let some = parsed_some host_text takes.value takes.host.parsed in
+    let host_parsed = parsed_host host_text takes.value takes.host.taken in
+    let some = parsed_some host_text takes.value host_parsed in
     record {
       read = record {
         letters = letters;
         read = reads_from (is_special (lowercase scheme)) false host_text port
             (ends_from_start host_text port ends) letters;
       };
-      parsed = rw special takes.host.parsed;
+      parsed = rw special host_parsed;
       stands = and_left _ _ some;
       some = closed_before host_text port ends some;
       port = fits;
@@ -283,7 +285,7 @@ taken_is_read base parts scheme host_text value is host = record {
     no_number_sign = is.no_number_sign;
     no_backslash = host.no_backslash;
   };
-  parsed = host.parsed;
+  parsed = parsed_host host_text host.host host.taken;
   made = sym host.valued;
   drive = host.no_drive;
 }

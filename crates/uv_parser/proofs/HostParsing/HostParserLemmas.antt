@@ -29,7 +29,8 @@ use Rattle.uv_model.specs.Ascii.{percent_sign, full_stop, left_bracket, right_br
 use Rattle.uv_model.specs.Hosts.Domain.{is_permitted, has_permitted, is_form_code_point, has_lengths, parser_form}
 use Rattle.uv_model.specs.Hosts.Domain.{IsDomain}
 use Rattle.uv_model.specs.Encoding.{encoded}
-use Rattle.uv_parser.specs.HostParser.{is_forbidden_domain, is_faultless_host, percent_decoded, parse_domain}
+use Rattle.uv_parser.specs.HostParser.{is_faultless_host, percent_decoded, parse_domain}
+use Rattle.uv_model.specs.Hosts.ParserHost.{is_forbidden_domain}
 use Rattle.uv_parser.specs.HostParser.{parse_host, DomainsAreParsed, Ipv4HostsAreParsed, Ipv6HostsAreParsed}
 use Rattle.uv_parser.specs.HostParser.{OpaqueHostsAreParsed, EmptyHostIsParsed}
 use Rattle.uv_model.specs.Hosts.OpaqueHost.{is_forbidden_host}

@@ -19,6 +19,7 @@ use Rattle.uv_parser.proofs.HostParsing.HostParserLemmas.{ipv6_hosts_are_parsed}
 use Rattle.uv_parser.proofs.Loops.HostTextsRead.{IsReadWhole, read_domain, read_ipv4, read_ipv6, read_opaque}
 use Rattle.uv_model.proofs.Texts.MarkLemmas.{is_without-more}
 use Rattle.uv_parser.proofs.Running.Unremoved.{is_unremoved}
+use Rattle.uv_parser.proofs.HostParsing.SpecialHosts.{host_from_parser}
 
 -- a text with a first code point isn't empty
 pub has_some : (text : List ℕ) (c : ℕ) (rest : List ℕ) → text ≡ c ∷ rest → (length text == 0) ≡ false
@@ -52,7 +53,7 @@ taken_from text value read parsed = record {
   host = record {
     no_at_sign = read_without_at text read.letters;
     no_backslash = (file_text text read.letters).no_backslash;
-    parsed = parsed;
+    taken = host_from_parser text value parsed;
   };
   above = read.above;
 }

@@ -3,8 +3,8 @@ use Rattle.std.proofs.Common.{◌≡◌, ℕ, zero, suc, ◌^◌, ◌<◌, ◌�
 use Rattle.std.proofs.Common.{decimal, map, refl, sym, ap, ◌∙◌, lit≤, lit<, append_assoc, append-nil, arith}
 use Rattle.std.specs.List.{join_with_byte}
 use Rattle.uv_model.specs.Hosts.Address.{IsIpv4}
-use Rattle.uv_parser.specs.Ipv4Parser.{AreBytes, AreNumbers, IsNumbersText, numbers_value, parse_ipv4, read_behind}
-use Rattle.uv_parser.specs.Ipv4Parser.{read_numbers}
+use Rattle.uv_model.specs.Hosts.ParserHost.{AreBytes, AreNumbers, IsNumbersText, numbers_value}
+use Rattle.uv_parser.specs.Ipv4Parser.{parse_ipv4, read_behind, read_numbers}
 use Rattle.uv_parser.proofs.HostParsing.Ipv6ReadersLemmas.{NoDigit, read_number}
 use Rattle.uv_model.specs.Ascii.{full_stop}
 

@@ -1,7 +1,7 @@
 -- Laws of the parser machine's loops over a scheme, an opaque path, a query and a fragment: it is led behind what the
 -- state reads, whatever the variables are before it and whatever text follows it.
-use Rattle.std.proofs.Common.{◌≡◌, ℕ, Bool, true, false, ◌&&◌, ◌||◌, ◌==◌, List, [], ◌∷◌, ◌++◌, codes, Option, Some, refl}
-use Rattle.std.proofs.Common.{ap, ◌∙◌, append_assoc, append-nil, eqb-true, inl, inr}
+use Rattle.std.proofs.Common.{◌≡◌, ℕ, Bool, true, false, ◌&&◌, ◌||◌, ◌==◌, List, [], ◌∷◌, ◌++◌, codes, Option, Some}
+use Rattle.std.proofs.Common.{refl, ap, ◌∙◌, append_assoc, append-nil, eqb-true, inl, inr}
 use Rattle.std.specs.Prelude.{if◌then◌else◌}
 use Rattle.std.specs.List.{list_all}
 use Rattle.std.specs.Char.{to_ascii_lowercase}

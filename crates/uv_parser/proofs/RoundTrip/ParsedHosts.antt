@@ -19,7 +19,8 @@ use Rattle.uv_model.specs.declared.scheme.Class.TheVariants.{Special, Other}
 use Rattle.uv_model.specs.Ascii.{left_bracket, percent_sign}
 use Rattle.uv_model.specs.Hosts.Address.{IsAddress}
 use Rattle.uv_model.specs.Hosts.Domain.{ends_in_number, parser_form}
-use Rattle.uv_parser.specs.HostParser.{IsTakenOtherHost, host_of_form, is_forbidden_domain, parse_bracketed}
+use Rattle.uv_model.specs.Hosts.ParserHost.{is_forbidden_domain}
+use Rattle.uv_parser.specs.HostParser.{IsTakenOtherHost, host_of_form, parse_bracketed}
 use Rattle.uv_parser.specs.HostParser.{parse_domain, parse_host, percent_decoded}
 use Rattle.uv_parser.specs.Ipv4Parser.{parse_ipv4}
 use Rattle.uv_parser.specs.Laws.RoundTrip.{IsReadableHost}

@@ -49,6 +49,7 @@ use Rattle.uv_parser.proofs.Loops.Tails.{tail}
 use Rattle.uv_parser.proofs.Silence.SilentSchemes.{written_without_authority}
 use Rattle.uv_model.proofs.Cuts.ValidCutLemmas.{written_as_cut}
 use Rattle.uv_model.proofs.Records.WellFormedLemmas.{IsUrlFragment-encoded}
+use Rattle.uv_parser.proofs.HostParsing.SpecialHosts.{parsed_host}
 
 -- ---- the host and the port of an authority
 
@@ -94,7 +95,7 @@ other_port scheme (c ∷ rest) value port_text class taken alone valid =
 parsed_authority : (class : Class) (scheme host_text : List ℕ) (parts : Parts) → scheme_class scheme ≡ class
     → parts.host_text ≡ Some host_text → Takes class scheme host_text parts → IsParsedAuthority class scheme parts
 parsed_authority Special scheme host_text parts class text is =
-    let readable = special_readable host_text is.value is.host.parsed in
+    let readable = special_readable host_text is.value (parsed_host host_text is.value is.host.taken) in
     record {
       value = is.value;
       valued = rw is.valued refl;
@@ -109,7 +110,10 @@ parsed_authority File scheme host_text parts class text is =
       | inl (value, taken, valued) ↦ record {
         value = value;
         valued = rw valued refl;
-        host = rw taken.valued (file_readable taken.host (special_readable host_text taken.host taken.parsed));
+        host =
+            rw taken.valued
+            (file_readable taken.host
+            (special_readable host_text taken.host (parsed_host host_text taken.host taken.taken)));
         port = rw is.no_port tt;
       }
       | inr (nothing, valued) ↦ record {

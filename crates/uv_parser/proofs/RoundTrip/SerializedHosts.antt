@@ -16,7 +16,8 @@ use Rattle.uv_model.specs.declared.scheme.Class.TheVariants.{Special, File, Othe
 use Rattle.uv_model.specs.Hosts.Address.{IsAddress, IsBracketedIpv6, IsIpv4}
 use Rattle.uv_model.specs.Ascii.{at_sign, backslash, colon, vertical_bar}
 use Rattle.uv_model.specs.Hosts.OpaqueHost.{is_forbidden_host}
-use Rattle.uv_parser.specs.HostParser.{is_forbidden_domain, parse_host}
+use Rattle.uv_parser.specs.HostParser.{parse_host}
+use Rattle.uv_model.specs.Hosts.ParserHost.{is_forbidden_domain}
 use Rattle.uv_parser.specs.SilentTexts.{IsTakenFileHost, IsTakenHost}
 use Rattle.uv_model.specs.Path.{is_drive_letter, is_without}
 use Rattle.uv_parser.specs.Laws.RoundTrip.{IsReadableFileHost, IsReadableHost, IsReadableOtherHost}
@@ -34,6 +35,7 @@ use Rattle.uv_parser.proofs.Loops.HostTextsRead.{read_plain}
 use Rattle.uv_parser.proofs.RoundTrip.ParsedHosts.{domain_allowed}
 use Rattle.uv_parser.proofs.RoundTrip.SerializedTexts.{encoded-ascii}
 use Rattle.uv_parser.proofs.Running.Unremoved.{is_unremoved}
+use Rattle.uv_parser.proofs.HostParsing.SpecialHosts.{host_from_parser}
 
 -- the text of a host ends where the cut ends it, and the machine's states read the whole of it
 pub record IsHostRead (text : List ℕ) : Type 0 where
@@ -167,7 +169,7 @@ special_taken value is =
     record {
       no_at_sign = host_without at_sign (serial_host value) refl read;
       no_backslash = host_without backslash (serial_host value) refl read;
-      parsed = special_parsed value is;
+      taken = host_from_parser (serial_host value) value (special_parsed value is);
     }
 
 -- the host of a file URL but the empty one is what its text is taken as, and the empty one has no text
@@ -179,7 +181,7 @@ file_taken (host.Domain form) is =
       no_drive = no_drive_allowed form (domain_allowed form form is.0);
       no_backslash = host_without backslash form refl (domain_read form is.0);
       host = host.Domain form;
-      parsed = is.0;
+      taken = host_from_parser form (host.Domain form) is.0;
       valued =
           rw
           (false_from_ne_true (bytes_eq form (codes "localhost"))
@@ -191,7 +193,9 @@ file_taken (host.V4 value) is =
       no_drive = parsed.drive;
       no_backslash = host_without backslash (serial_ipv4 value) refl (ipv4_read value is);
       host = host.V4 value;
-      parsed = ipv4_hosts_are_parsed _ value (ipv4_text value is);
+      taken =
+          host_from_parser (serial_ipv4 value) (host.V4 value)
+          (ipv4_hosts_are_parsed _ value (ipv4_text value is));
       valued = refl;
     })
 file_taken (host.V6 pieces) is =
@@ -200,7 +204,9 @@ file_taken (host.V6 pieces) is =
       no_drive = parsed.drive;
       no_backslash = host_without backslash (serial_ipv6 pieces) refl (ipv6_read pieces is);
       host = host.V6 pieces;
-      parsed = ipv6_hosts_are_parsed true _ pieces (ipv6_text pieces is);
+      taken =
+          host_from_parser (serial_ipv6 pieces) (host.V6 pieces)
+          (ipv6_hosts_are_parsed true _ pieces (ipv6_text pieces is));
       valued = refl;
     })
 file_taken (host.Opaque text) is = absurd is

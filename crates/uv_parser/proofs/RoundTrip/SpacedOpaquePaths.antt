@@ -11,8 +11,8 @@ use Rattle.uv_model.specs.Path.{is_without, starts_with_slash}
 use Rattle.uv_model.specs.Records.Denote.{end_escaped}
 use Rattle.uv_model.specs.Units.{is_faultless, is_unit_at, is_url_code_point, starts_with_two_hex}
 use Rattle.uv_model.proofs.Records.WellFormedLemmas.{no_question_mark-encoded}
-use Rattle.uv_model.proofs.Texts.EncodingLemmas.{IsUnits-encoded, encoded-some, encoded_code_point-kept, is_ascii-encoded}
-use Rattle.uv_model.proofs.Texts.EncodingLemmas.{starts_with_slash-encoded}
+use Rattle.uv_model.proofs.Texts.EncodingLemmas.{IsUnits-encoded, encoded-some, encoded_code_point-kept}
+use Rattle.uv_model.proofs.Texts.EncodingLemmas.{is_ascii-encoded, starts_with_slash-encoded}
 use Rattle.uv_model.proofs.Texts.MarkLemmas.{is_without-append, is_without-parts}
 use Rattle.uv_model.proofs.Texts.UnitsAhead.{is_unit_at-ahead}
 use Rattle.uv_model.proofs.Texts.UnitsLemmas.{IsUnits-faultless, is_faultless-units, is_unit_at-mark}
@@ -75,7 +75,8 @@ unfolding is_unit_at is_url_code_point
 spaced_escaped followed text is =
     elim (escaped_cases followed text) [
       | inl same ↦ rw same is
-      | inr (xs, spelled, escaped) ↦ rw escaped (spaced_append xs (codes "%20") (spaced_before xs (rw spelled at is)) refl)
+      | inr (xs, spelled, escaped) ↦
+          rw escaped (spaced_append xs (codes "%20") (spaced_before xs (rw spelled at is)) refl)
     ]
 
 -- and no `?` comes

@@ -21,7 +21,7 @@ use Rattle.uv_model.specs.Units.{is_unit_at, is_url_code_point}
 -- `unfolding parser` lets `refl` compute `run`, `serial` and `denote`
 unfoldable pub parser : Unit {0}
 unfolding idna chars is_utf8 digits hex hex_groups_text percent_decode percent_encode_byte denote ends_in_number
-    parser_form encoded parse_domain parse_host parse_ipv4 read_behind read_numbers main_loop move parse_ipv6 read_digits
-    read_dotted read_hex is_double_dot is_single_dot walk first_removed run run_from step default_port scheme_class serial
-    serial_host is_unit_at is_url_code_point written
+    parser_form encoded parse_domain parse_host parse_ipv4 read_behind read_numbers main_loop move parse_ipv6
+    read_digits read_dotted read_hex is_double_dot is_single_dot walk first_removed run run_from step default_port
+    scheme_class serial serial_host is_unit_at is_url_code_point written
 parser = tt

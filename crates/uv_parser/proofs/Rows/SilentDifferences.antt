@@ -38,6 +38,7 @@ use Rattle.uv_parser.proofs.Rows.SilentRefusals.{silent_refusal_rows_hold}
 use Rattle.uv_parser.proofs.Running.RunsStopped.{RunStops}
 use Rattle.uv_parser.proofs.Decided.SilentOrStopped.{silent_or_stops}
 use Rattle.uv_parser.proofs.Differences.SilentDifferences.{silent_valid_or_differs}
+use Rattle.uv_parser.proofs.HostParsing.SpecialHosts.{host_from_parser}
 
 -- ---- from a run that is done to the parts
 
@@ -276,7 +277,7 @@ foreign_host base parts text (Some value) class given e test =
     elim (host_or_differs text value e) [
       | inl is ↦ absurd (not_foreign text value is test)
       | inr differs ↦
-          record { class = class; text = text; given = given; host = value; parsed = e; differs = differs }
+          record { class = class; text = text; given = given; host = value; taken = host_from_parser text value e; differs = differs }
     ]
 
 finds_host : Finds HasForeignHost tests_host
@@ -299,8 +300,8 @@ finds_host = record {
 -- one name to unfold where a table is computed
 tables : Unit {0}
 unfolding parser cut_of has_permitted to_ascii is_found is_answered tests_empty_authority tests_first_segment
-    tests_drive tests_host tests_space is_file_class is_empty_text has_host is_plain_class lacks_form is_foreign is_foreign_parsed
-    is_foreign_text
+    tests_drive tests_host tests_space is_file_class is_empty_text has_host is_plain_class lacks_form is_foreign
+    is_foreign_parsed is_foreign_text
 tables = tt
 
 file_rows_differ : AllDiffer HasEmptyAuthority file_rows

@@ -31,7 +31,8 @@ module _ (base : Option Url) where
   -- behind the path the tail ends the run
   opaque_tail : (followed : Bool) (scheme path : List ℕ)
       → TurnsToTail base OpaquePathState (path_variables followed scheme path) (path_variables followed scheme path)
-  opaque_tail followed scheme path = record { at_end = λ p. refl; at_query = λ p rest. refl; at_fragment = λ p rest. refl }
+  opaque_tail followed scheme path =
+      record { at_end = λ p. refl; at_query = λ p rest. refl; at_fragment = λ p rest. refl }
 
   -- from the scheme's `:` to the end
   opaque_ends : (scheme path : List ℕ) (query fragment : Option (List ℕ))

@@ -21,6 +21,7 @@ use Rattle.uv_parser.proofs.HostParsing.HostsParsed.{parsed_not_empty}
 use Rattle.uv_parser.proofs.HostParsing.OtherHosts.{silent_other_hosts_are_valid}
 use Rattle.uv_model.proofs.Cuts.UniqueParts.{absolute_segments, alone_form, authority_form, form_of, no_port}
 use Rattle.uv_model.proofs.Cuts.UniqueParts.{relative_form, relative_segments, same_parts, segments_of, may_be_segments}
+use Rattle.uv_parser.proofs.HostParsing.SpecialHosts.{parsed_host}
 
 -- ---- the host
 
@@ -46,12 +47,13 @@ one_taken_host class None host other is is' = is ∙ sym is'
 one_taken_host Special (Some text) host other (a, is, e) (b, is', e') =
     e ∙ (ap Some (same_host (parse_host true text) a b is is') ∙ sym e')
 one_taken_host File (Some text) host other (inl (a, is, e)) (inl (b, is', e')) =
-    let same = same_host (parse_host true text) is.host is'.host is.parsed is'.parsed in
+    let same = same_host (parse_host true text) is.host is'.host (parsed_host text is.host is.taken)
+    (parsed_host text is'.host is'.taken) in
     e ∙ (ap Some (is.valued ∙ (ap without_localhost same ∙ sym is'.valued)) ∙ sym e')
 one_taken_host File (Some text) host other (inl (a, is, e)) (inr (nothing, e')) =
-    absurd (parsed_not_empty text is.host is.parsed nothing)
+    absurd (parsed_not_empty text is.host (parsed_host text is.host is.taken) nothing)
 one_taken_host File (Some text) host other (inr (nothing, e)) (inl (b, is', e')) =
-    absurd (parsed_not_empty text is'.host is'.parsed nothing)
+    absurd (parsed_not_empty text is'.host (parsed_host text is'.host is'.taken) nothing)
 one_taken_host File (Some text) host other (inr (nothing, e)) (inr (nothing', e')) = e ∙ sym e'
 one_taken_host Other (Some text) host other is is' =
     let (a, without, parsed, e) = (silent_other_hosts_are_valid text host).1 is in
@@ -71,7 +73,7 @@ record AreTaken (class : Class) (scheme : List ℕ) (form : Form) (host_text : O
 taken_by_class : (class : Class) (scheme host_text : List ℕ) (parts : Parts) → Takes class scheme host_text parts
     → MayBePathSlashed parts.segments parts.path_text → AreTaken class scheme Authority (Some host_text) parts
 taken_by_class Special scheme host_text parts is path = record {
-  host = (is.value, is.host.parsed, is.valued);
+  host = (is.value, parsed_host host_text is.value is.host.taken, is.valued);
   port = is.port;
   segments = may_be_segments parts.segments parts.path_text path;
 }

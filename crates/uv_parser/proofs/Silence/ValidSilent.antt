@@ -34,6 +34,7 @@ use Rattle.uv_parser.proofs.Running.Unremoved.{is_unremoved, first_removed-none,
 use Rattle.uv_parser.proofs.Running.Unremoved.{unremoved_scheme, unremoved_tail}
 use Rattle.uv_model.proofs.Cuts.ValidCutLemmas.{valid_is_cut}
 use Rattle.uv_model.proofs.Texts.MarkLemmas.{is_without-more}
+use Rattle.uv_parser.proofs.HostParsing.SpecialHosts.{host_from_parser}
 
 -- ---- authorities
 
@@ -79,7 +80,7 @@ taken_file profile base scheme host_text parts (no_text, none, inl (value, is, v
             no_drive = parsed.drive;
             no_backslash = (file_text host_text parsed.read.letters).no_backslash;
             host = parsed.parsed_value;
-            parsed = parsed.parsed;
+            taken = host_from_parser host_text parsed.parsed_value parsed.parsed;
             valued = sym parsed.made;
           },
           valued,

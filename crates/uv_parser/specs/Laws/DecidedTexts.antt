@@ -1,7 +1,7 @@
 -- The law of the texts on which the URL parser (URL Standard, section 4.4) is silent: its grammar takes exactly the
 -- texts on which a run of the machine is done. The machine stops at a domain above the limits of `idna`'s ToASCII (a
--- label beyond ASCII of 1,000 code points, Punycode of 2,000 bytes); on each other text on which the standard's parser is
--- silent it is done.
+-- label beyond ASCII of 1,000 code points, Punycode of 2,000 bytes); on each other text on which the standard's parser
+-- is silent it is done.
 use Rattle.std.specs.Prelude.{◌≡◌, ℕ, ◌⊎◌, List, Option}
 use Rattle.uv_model.specs.declared.profile.Profile.TheVariants.{Wide}
 use Rattle.uv_model.specs.Parts.{Parts}

@@ -9,8 +9,7 @@ use Rattle.uv_model.specs.Ascii.{space}
 use Rattle.uv_model.specs.Complaints.Complaint.{HasHost}
 use Rattle.uv_model.specs.Cut.{class_in, starts_with_two_slashes}
 use Rattle.uv_model.specs.Hosts.Domain.{has_lengths, has_permitted, strict_form}
-use Rattle.uv_parser.specs.HostParser.{parse_host}
-use Rattle.uv_parser.specs.Ipv4Parser.{AreNumbers, IsNumbersText}
+use Rattle.uv_model.specs.Hosts.ParserHost.{AreNumbers, IsNumbersText, IsParserHost}
 use Rattle.uv_parser.specs.SilentTexts.{Silent}
 use Rattle.uv_model.specs.Parts.{Parts}
 use Rattle.uv_model.specs.Path.{is_without, starts_with_drive_segment}
@@ -47,13 +46,13 @@ HostDiffers text (Domain form) = HasForeignDomainCodePoint text ⊎ (LacksStrict
 HostDiffers text (V4 value) = IsMappedToIpv4 text ⊎ HasFewerNumbers text
 HostDiffers text _ = ⊥
 
--- The host parser takes the host text of a special URL or of a file URL, which is no valid host text.
+-- The parser's grammar takes the host text of a special URL or of a file URL, which is no valid host text.
 pub record HasForeignHost (base : Option Url) (parts : Parts) : Type 0 where
   pub class : class_in base parts.scheme ≢ Other
   pub text : List ℕ
   pub given : parts.host_text ≡ Some text
   pub host : Host
-  pub parsed : parse_host true text ≡ Some host
+  pub taken : IsParserHost text host
   pub differs : HostDiffers text host
 
 -- ---- the path
