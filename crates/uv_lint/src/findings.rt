@@ -31,11 +31,7 @@ impl<'a> LintReporter<'a> {
     }
 
     // What is found with a line that has no link.
-    fn line_findings(
-        &self,
-        alloc: Global,
-        line: Option<&[u8]>,
-    ) -> Result<Vec<Finding>, AllocError>
+    fn line_findings(&self, alloc: Global, line: Option<&[u8]>) -> Result<Vec<Finding>, AllocError>
         ensures { IfOk result (λ found. AreFindingsBy self.now.setting None (option_copied line.entry) found.items) }
     {
         let Some(line) = line else {

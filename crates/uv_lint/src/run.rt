@@ -105,11 +105,7 @@ pub(crate) fn run_within<R: Source, W: Sink>(
 }
 
 // What stands before the diagnostics of a file: nothing where each of them is about a file of its own.
-fn list_begin(
-    alloc: Global,
-    setting: LintSetting<'_>,
-    file: &str,
-) -> Result<String, AllocError>
+fn list_begin(alloc: Global, setting: LintSetting<'_>, file: &str) -> Result<String, AllocError>
     ensures { IfOk result (λ begin. string_bytes begin
         ≡ list_begin_text setting.entry.form setting.entry.format file.now) }
 {
