@@ -28,8 +28,8 @@ pub record IsTakenHost (text : List ℕ) (value : Host) : Type 0 where
   pub no_backslash : is_without backslash text ≡ true
   pub taken : IsParserHost text value
 
--- the host of a file URL: a host of the parser's grammar that is no drive letter and has no `\`, where `localhost` is the
--- empty host
+-- the host of a file URL: a host of the parser's grammar that is no drive letter and has no `\`, where `localhost` is
+-- the empty host
 pub record IsTakenFileHost (text : List ℕ) (value : Host) : Type 0 where
   pub no_drive : is_drive_letter text ≡ false
   pub no_backslash : is_without backslash text ≡ true

@@ -83,9 +83,9 @@ pub fn empty_host_is_parsed()
     ensures { EmptyHostIsParsed }
 {}
 
-/// For a special URL the host parser takes the hosts of the parser's grammar alone, each with its value: an IPv6 text in
-/// brackets, or a text that percent-decoded has a form at the parser's settings of ToASCII, which is a domain or one to
-/// four numbers (URL Standard, section 3.5).
+/// For a special URL the host parser takes the hosts of the parser's grammar alone, each with its value: an IPv6 text
+/// in brackets, or a text that percent-decoded has a form at the parser's settings of ToASCII, which is a domain or one
+/// to four numbers (URL Standard, section 3.5).
 pub fn special_hosts_are_taken()
     ensures { SpecialHostsAreTaken }
 {}

@@ -56,7 +56,13 @@ taken_host_fits : (text : List ℕ) (value : Host) → is_drive_letter text ≡ 
 taken_host_fits text value no_drive none parsed =
     inl (
       without_localhost value,
-      record { no_drive = no_drive; no_backslash = none; host = value; taken = host_from_parser text value parsed; valued = refl },
+      record {
+        no_drive = no_drive;
+        no_backslash = none;
+        host = value;
+        taken = host_from_parser text value parsed;
+        valued = refl;
+      },
     )
 
 module _ (base : Option Url) where

@@ -277,7 +277,14 @@ foreign_host base parts text (Some value) class given e test =
     elim (host_or_differs text value e) [
       | inl is ↦ absurd (not_foreign text value is test)
       | inr differs ↦
-          record { class = class; text = text; given = given; host = value; taken = host_from_parser text value e; differs = differs }
+          record {
+            class = class;
+            text = text;
+            given = given;
+            host = value;
+            taken = host_from_parser text value e;
+            differs = differs;
+          }
     ]
 
 finds_host : Finds HasForeignHost tests_host
