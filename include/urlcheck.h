@@ -9,7 +9,8 @@
  * - malloc, realloc and free are the C library's, or behave so, and the call isn't made from a signal handler.
  *
  * There is no setup, no state and nothing to free: each call gives back all memory that it took, answers by value and
- * keeps no pointer. Any number of threads may call at once.
+ * keeps no pointer. A base that many texts are judged against is prepared once, as a value that holds no pointer
+ * either. Any number of threads may call at once.
  *
  * A place counts from 0, in code points or in bytes, as is said. A profile is a number: see urlcheck_profile.
  * C89 and later, C++98 and later, where the compiler has <stdint.h>.
@@ -48,7 +49,8 @@ enum urlcheck_outcome {
     URLCHECK_BASE_REFUSED = 3, /* the base, judged alone, violates a rule; nothing is said of the text */
     URLCHECK_BASE_NO_UTF8 = 4, /* the base is no UTF-8; nothing is said of the text */
     URLCHECK_MEMORY = 5,       /* malloc gave no memory; nothing is said of the text */
-    URLCHECK_NO_PROFILE = 6    /* no profile has the number that was given */
+    URLCHECK_NO_PROFILE = 6,   /* no profile has the number that was given */
+    URLCHECK_NO_BASE = 7       /* the base that was given is none that urlcheck_prepare made */
 };
 
 /* The rules that a text can violate. A refusal names the rule of the least number at the least place. */
@@ -120,12 +122,44 @@ typedef struct urlcheck_fault_count {
     size_t count;
 } urlcheck_fault_count;
 
+/*
+ * A base, judged alone: what a verdict asks of it. It is a value, made by urlcheck_prepare alone: it may be copied,
+ * held as long as you like and used by many threads, the bytes that it was made of aren't needed any more, and there is
+ * nothing to free. One of zeros is no base: calls that are given it answer URLCHECK_NO_BASE.
+ */
+typedef struct urlcheck_base {
+    urlcheck_finding found; /* URLCHECK_VALID, or why no text is judged against the base */
+    uint32_t profile;       /* by which the base was judged, and by which texts are judged against it */
+    uint32_t scheme;        /* 1 ftp, 2 http or ws, 3 https or wss, 4 file, 5 another, 0 where the base isn't valid */
+    uint32_t opaque_path;   /* 1 where the path is opaque, else 0 */
+    uint32_t empty_host;    /* 1 where the host is the empty one, else 0 */
+} urlcheck_base;
+
 /* Whether the text is a valid URL string alone. The verdict is never about a base. */
 urlcheck_answer urlcheck_check(const uint8_t *text, size_t length, uint32_t profile);
 
 /* Whether the text is a valid URL string against a base, which is judged alone by the same profile. */
 urlcheck_answer urlcheck_check_against(const uint8_t *text, size_t length, const uint8_t *base, size_t base_length,
                                        uint32_t profile);
+
+/*
+ * Judges a base alone by a profile, for the calls that are given it. Where it isn't valid, `found` says why, and those
+ * calls say the same.
+ */
+urlcheck_base urlcheck_prepare(const uint8_t *base, size_t length, uint32_t profile);
+
+/* The same answer as that of urlcheck_check_against on the base's bytes and profile, without judging the base again. */
+urlcheck_answer urlcheck_check_with(const uint8_t *text, size_t length, const urlcheck_base *base);
+
+/*
+ * Whether the text is known to be a valid URL string alone, without its parts and what is wrong with it: the fastest
+ * call. True says that it is valid. False says that it isn't, that malloc gave no memory for a domain that needs some,
+ * or that no profile has the number; urlcheck_check tells these apart.
+ */
+urlcheck_bool urlcheck_is_valid(const uint8_t *text, size_t length, uint32_t profile);
+
+/* The same against a base, by its profile. */
+urlcheck_bool urlcheck_is_valid_with(const uint8_t *text, size_t length, const urlcheck_base *base);
 
 /*
  * Writes the text of the URL record that the text denotes (sections 4.4 and 4.5) to the front of `out`, without a NUL,
@@ -149,6 +183,10 @@ urlcheck_fault_count urlcheck_faults(const uint8_t *text, size_t length, uint32_
 /* The same against a base, which is judged alone by the same profile. */
 urlcheck_fault_count urlcheck_faults_against(const uint8_t *text, size_t length, const uint8_t *base,
                                              size_t base_length, uint32_t profile, urlcheck_fault *out, size_t room);
+
+/* The same answer as that of urlcheck_faults_against, without judging the base again. */
+urlcheck_fault_count urlcheck_faults_with(const uint8_t *text, size_t length, const urlcheck_base *base,
+                                          urlcheck_fault *out, size_t room);
 
 /*
  * Writes the rule's name, as `host-domain`, in ASCII and without a NUL to the front of `out` where `room` bytes hold
@@ -178,6 +216,9 @@ uint32_t urlcheck_version(void);
 URLCHECK_HOLDS(sizeof(urlcheck_finding) == 24 && offsetof(urlcheck_finding, verdict) == 0);
 URLCHECK_HOLDS(offsetof(urlcheck_finding, rule) == 4 && offsetof(urlcheck_finding, place) == 8);
 URLCHECK_HOLDS(offsetof(urlcheck_finding, byte_place) == 16);
+URLCHECK_HOLDS(sizeof(urlcheck_base) == 40 && offsetof(urlcheck_base, found) == 0);
+URLCHECK_HOLDS(offsetof(urlcheck_base, profile) == 24 && offsetof(urlcheck_base, scheme) == 28);
+URLCHECK_HOLDS(offsetof(urlcheck_base, opaque_path) == 32 && offsetof(urlcheck_base, empty_host) == 36);
 URLCHECK_HOLDS(sizeof(urlcheck_span) == 24 && offsetof(urlcheck_span, start) == 0);
 URLCHECK_HOLDS(offsetof(urlcheck_span, length) == 8 && offsetof(urlcheck_span, present) == 16);
 URLCHECK_HOLDS(sizeof(urlcheck_bool) == 1);

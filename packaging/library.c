@@ -11,6 +11,12 @@
 #define DECLARE(build)                                                                                                 \
     urlcheck_answer urlcheck_check_##build(const uint8_t *, size_t, uint32_t);                                         \
     urlcheck_answer urlcheck_check_against_##build(const uint8_t *, size_t, const uint8_t *, size_t, uint32_t);        \
+    urlcheck_base urlcheck_prepare_##build(const uint8_t *, size_t, uint32_t);                                         \
+    urlcheck_answer urlcheck_check_with_##build(const uint8_t *, size_t, const urlcheck_base *);                       \
+    urlcheck_bool urlcheck_is_valid_##build(const uint8_t *, size_t, uint32_t);                                        \
+    urlcheck_bool urlcheck_is_valid_with_##build(const uint8_t *, size_t, const urlcheck_base *);                      \
+    urlcheck_fault_count urlcheck_faults_with_##build(const uint8_t *, size_t, const urlcheck_base *,                  \
+                                                      urlcheck_fault *, size_t);                                       \
     urlcheck_resolved urlcheck_resolve_##build(const uint8_t *, size_t, uint32_t, uint8_t *, size_t);                  \
     urlcheck_resolved urlcheck_resolve_against_##build(const uint8_t *, size_t, const uint8_t *, size_t, uint32_t,     \
                                                        uint8_t *, size_t);                                             \
@@ -45,9 +51,11 @@ static int is_newer(void) {
 /* What is pointed to in the place of null: of length 0, so it is neither read nor written. */
 static uint8_t no_bytes[1];
 static urlcheck_fault no_faults[1];
+static const urlcheck_base no_base;
 
 static const uint8_t *read_from(const uint8_t *bytes) { return bytes ? bytes : no_bytes; }
 static uint8_t *written_to(uint8_t *bytes) { return bytes ? bytes : no_bytes; }
+static const urlcheck_base *held_in(const urlcheck_base *base) { return base ? base : &no_base; }
 static urlcheck_fault *listed_in(urlcheck_fault *faults) { return faults ? faults : no_faults; }
 
 EXPORT urlcheck_answer urlcheck_check(const uint8_t *text, size_t length, uint32_t profile) {
@@ -57,6 +65,22 @@ EXPORT urlcheck_answer urlcheck_check(const uint8_t *text, size_t length, uint32
 EXPORT urlcheck_answer urlcheck_check_against(const uint8_t *text, size_t length, const uint8_t *base,
                                               size_t base_length, uint32_t profile) {
     return CALL(urlcheck_check_against, read_from(text), length, read_from(base), base_length, profile);
+}
+
+EXPORT urlcheck_base urlcheck_prepare(const uint8_t *base, size_t length, uint32_t profile) {
+    return CALL(urlcheck_prepare, read_from(base), length, profile);
+}
+
+EXPORT urlcheck_answer urlcheck_check_with(const uint8_t *text, size_t length, const urlcheck_base *base) {
+    return CALL(urlcheck_check_with, read_from(text), length, held_in(base));
+}
+
+EXPORT urlcheck_bool urlcheck_is_valid(const uint8_t *text, size_t length, uint32_t profile) {
+    return CALL(urlcheck_is_valid, read_from(text), length, profile);
+}
+
+EXPORT urlcheck_bool urlcheck_is_valid_with(const uint8_t *text, size_t length, const urlcheck_base *base) {
+    return CALL(urlcheck_is_valid_with, read_from(text), length, held_in(base));
 }
 
 EXPORT urlcheck_resolved urlcheck_resolve(const uint8_t *text, size_t length, uint32_t profile, uint8_t *out,
@@ -80,6 +104,11 @@ EXPORT urlcheck_fault_count urlcheck_faults_against(const uint8_t *text, size_t 
                                                     size_t room) {
     return CALL(urlcheck_faults_against, read_from(text), length, read_from(base), base_length, profile,
                 listed_in(out), room);
+}
+
+EXPORT urlcheck_fault_count urlcheck_faults_with(const uint8_t *text, size_t length, const urlcheck_base *base,
+                                                 urlcheck_fault *out, size_t room) {
+    return CALL(urlcheck_faults_with, read_from(text), length, held_in(base), listed_in(out), room);
 }
 
 EXPORT size_t urlcheck_rule_name(uint32_t rule, uint8_t *out, size_t room) {

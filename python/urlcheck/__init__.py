@@ -21,6 +21,7 @@ from . import _library
 from ._library import LIBRARY
 
 __all__ = [
+    "Base",
     "BaseRefused",
     "Fault",
     "Profile",
@@ -31,6 +32,7 @@ __all__ = [
     "check",
     "check_each",
     "faults",
+    "is_valid",
     "resolve",
     "sentence",
     "version",
@@ -94,7 +96,32 @@ class BaseRefused(ValueError):
         return "the base is refused: {} at {}".format(self.rule, self.place)
 
 
-def check(text: str, base: Optional[str] = None, profile: Profile = Profile.STANDARD) -> Union[Valid, Refused]:
+class Base:
+    """A base that is judged once, for many texts: the functions take it in the place of the base's text.
+
+    A text is judged against it by its profile, and another one beside it raises ``ValueError``. Raises ``BaseRefused``
+    where the base isn't valid alone, and else what ``check`` raises of a text.
+    """
+
+    __slots__ = ("text", "profile", "_data", "_held")
+
+    def __init__(self, text: str, profile: Profile = Profile.STANDARD) -> None:
+        self._data, _, self.profile = _given(text, None, profile)
+        self.text = text
+        self._held = LIBRARY.urlcheck_prepare(self._data, len(self._data), self.profile)
+        _stop_unless_judged(self._held.found)
+
+    def __reduce__(self) -> Tuple[Any, Tuple[str, Profile]]:
+        return Base, (self.text, self.profile)
+
+    def __repr__(self) -> str:
+        return "Base({!r}, {})".format(self.text, self.profile)
+
+
+AnyBase = Union[str, Base, None]
+
+
+def check(text: str, base: AnyBase = None, profile: Profile = Profile.STANDARD) -> Union[Valid, Refused]:
     """Whether the text is a valid URL string, alone or against the base.
 
     Raises ``BaseRefused`` where the base isn't valid alone, ``UnicodeEncodeError`` where a text holds a surrogate,
@@ -104,6 +131,8 @@ def check(text: str, base: Optional[str] = None, profile: Profile = Profile.STAN
     data, below, number = _given(text, base, profile)
     if below is None:
         answer = LIBRARY.urlcheck_check(data, len(data), number)
+    elif isinstance(below, Base):
+        answer = LIBRARY.urlcheck_check_with(data, len(data), below._held)
     else:
         answer = LIBRARY.urlcheck_check_against(data, len(data), below, len(below), number)
     _stop_unless_judged(answer.found)
@@ -114,19 +143,35 @@ def check(text: str, base: Optional[str] = None, profile: Profile = Profile.STAN
     return Valid(scheme, host, port, path or "", query, fragment)
 
 
+def is_valid(text: str, base: AnyBase = None, profile: Profile = Profile.STANDARD) -> bool:
+    """Whether the text is a valid URL string, alone or against the base, without its parts: the fastest call.
+
+    Raises what ``check`` raises.
+    """
+    data, below, number = _given(text, base, profile)
+    if below is None:
+        valid = LIBRARY.urlcheck_is_valid(data, len(data), number)
+    elif isinstance(below, Base):
+        valid = LIBRARY.urlcheck_is_valid_with(data, len(data), below._held)
+    else:
+        valid = False
+    # The library says no also where there is no memory, which the check tells apart.
+    return bool(valid) or bool(check(text, base, profile))
+
+
 def check_each(
-    texts: Iterable[str], base: Optional[str] = None, profile: Profile = Profile.STANDARD
+    texts: Iterable[str], base: AnyBase = None, profile: Profile = Profile.STANDARD
 ) -> Iterator[Union[Valid, Refused]]:
-    """The answers of ``check`` for these texts, one after the other, as they are asked for.
+    """The answers of ``check`` for these texts, one after the other, as they are asked for. A base is judged once.
 
     Raises what ``check`` raises; a base that is refused and a profile that isn't one at the first answer.
     """
     if isinstance(texts, (str, bytes)):
         raise TypeError("texts are wanted, not one {}".format(type(texts).__name__))
-    return (check(text, base, profile) for text in texts)
+    return _answers(texts, base, profile)
 
 
-def faults(text: str, base: Optional[str] = None, profile: Profile = Profile.STANDARD) -> List[Fault]:
+def faults(text: str, base: AnyBase = None, profile: Profile = Profile.STANDARD) -> List[Fault]:
     """All that is wrong with the text, by place and at one place by the rule's number; none where it is valid.
 
     Raises what ``check`` raises.
@@ -141,7 +186,7 @@ def faults(text: str, base: Optional[str] = None, profile: Profile = Profile.STA
         room = answer.count
 
 
-def resolve(text: str, base: Optional[str] = None, profile: Profile = Profile.STANDARD) -> Union[str, Refused]:
+def resolve(text: str, base: AnyBase = None, profile: Profile = Profile.STANDARD) -> Union[str, Refused]:
     """The text of the URL record that the text denotes, alone or against the base, or its refusal.
 
     Raises what ``check`` raises.
@@ -169,11 +214,19 @@ def version() -> str:
     return "{}.{}.{}".format(number // 10000, number // 100 % 100, number % 100)
 
 
-def _given(text: str, base: Optional[str], profile: Profile) -> Tuple[bytes, Optional[bytes], Profile]:
-    """The bytes of a text and of a base, and the profile, each seen to be one."""
+def _answers(texts: Iterable[str], base: AnyBase, profile: Profile) -> Iterator[Union[Valid, Refused]]:
+    """The answers on the texts, against a base that is judged at the first of them."""
+    for text in texts:
+        if isinstance(base, str):
+            base = Base(base, profile)
+        yield check(text, base, profile)
+
+
+def _given(text: str, base: AnyBase, profile: Profile) -> Tuple[bytes, Union[bytes, Base, None], Profile]:
+    """The bytes of a text and of a base, and the profile, each seen to be one. A base that is held stays as it is."""
     if not isinstance(text, str):
         raise TypeError("a text is a str, not {}".format(type(text).__name__))
-    if base is not None and not isinstance(base, str):
+    if base is not None and not isinstance(base, (str, Base)):
         raise TypeError("a base is a str or None, not {}".format(type(base).__name__))
     if isinstance(profile, bool) or not isinstance(profile, int):
         raise TypeError("a profile is a urlcheck.Profile, not {}".format(type(profile).__name__))
@@ -182,14 +235,22 @@ def _given(text: str, base: Optional[str], profile: Profile) -> Tuple[bytes, Opt
     except ValueError:
         names = ", ".join("{} ({})".format(it.name, it.value) for it in Profile)
         raise ValueError("no profile has the number {}: there are {}".format(profile, names)) from None
+    if isinstance(base, Base):
+        if judged_by not in (Profile.STANDARD, base.profile):
+            raise ValueError("the base is judged by another profile: {}".format(base.profile.name))
+        return text.encode(), base, base.profile
     return text.encode(), None if base is None else base.encode(), judged_by
 
 
-def _called(name: str, text: str, base: Optional[str], profile: Profile, out: Any, room: int) -> Any:
+def _called(name: str, text: str, base: AnyBase, profile: Profile, out: Any, room: int) -> Any:
     """The answer of a function that writes into ``out``, alone or against the base."""
     data, below, number = _given(text, base, profile)
     if below is None:
         return getattr(LIBRARY, name)(data, len(data), number, out, room)
+    if isinstance(below, Base):
+        if name == "urlcheck_faults":
+            return LIBRARY.urlcheck_faults_with(data, len(data), below._held, out, room)
+        below = below._data
     return getattr(LIBRARY, name + "_against")(data, len(data), below, len(below), number, out, room)
 
 

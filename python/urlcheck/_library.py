@@ -52,6 +52,12 @@ class FaultCount(ctypes.Structure):
     _fields_ = [("found", Finding), ("count", SIZE)]
 
 
+class Base(ctypes.Structure):
+    """A base that is judged once: what was found of it, and what a verdict asks of it."""
+
+    _fields_ = [("found", Finding)] + [(name, NUMBER) for name in ("profile", "scheme", "opaque_path", "empty_host")]
+
+
 NAME = "liburlcheck.so.0"
 """The library's name, of which Python makes no module."""
 
@@ -70,9 +76,15 @@ def _load() -> ctypes.CDLL:
     text = [ctypes.c_char_p, SIZE]
     faults = [NUMBER, ctypes.POINTER(Fault), SIZE]
     out = [ctypes.c_char_p, SIZE]
+    held = [ctypes.POINTER(Base)]
     for name, result, words in (
         ("urlcheck_check", Answer, text + [NUMBER]),
         ("urlcheck_check_against", Answer, text + text + [NUMBER]),
+        ("urlcheck_prepare", Base, text + [NUMBER]),
+        ("urlcheck_check_with", Answer, text + held),
+        ("urlcheck_is_valid", ctypes.c_bool, text + [NUMBER]),
+        ("urlcheck_is_valid_with", ctypes.c_bool, text + held),
+        ("urlcheck_faults_with", FaultCount, text + held + faults[1:]),
         ("urlcheck_resolve", Resolved, text + [NUMBER] + out),
         ("urlcheck_resolve_against", Resolved, text + text + [NUMBER] + out),
         ("urlcheck_faults", FaultCount, text + faults),

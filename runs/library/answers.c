@@ -116,6 +116,55 @@ static urlcheck_answer check(const text *given, const text *base, uint32_t profi
     return urlcheck_check_against(given->bytes, given->length, base->bytes, base->length, profile);
 }
 
+static int is_same_span(urlcheck_span one, urlcheck_span other) {
+    return one.present == other.present && one.start == other.start && one.length == other.length;
+}
+
+static int is_same_answer(urlcheck_answer one, urlcheck_answer other) {
+    return is_same(one.found, other.found) && is_same_span(one.parts.scheme, other.parts.scheme)
+           && is_same_span(one.parts.host, other.parts.host) && is_same_span(one.parts.port, other.parts.port)
+           && is_same_span(one.parts.path, other.parts.path) && is_same_span(one.parts.query, other.parts.query)
+           && is_same_span(one.parts.fragment, other.parts.fragment);
+}
+
+/* Against a base that is held the same is said as against its bytes, and the verdict alone is that of the check. */
+static void compare_held(const text *given, const text *base, uint32_t profile, urlcheck_answer answer) {
+    int valid = answer.found.verdict == URLCHECK_VALID;
+    if (base->length == NONE) {
+        if (urlcheck_is_valid(given->bytes, given->length, profile) != valid) fail("is_valid and check differ");
+        return;
+    }
+    urlcheck_base made = urlcheck_prepare(base->bytes, base->length, profile), held = made;
+    memset(&made, 0xff, sizeof made);
+    if (!is_same_answer(urlcheck_check_with(given->bytes, given->length, &held), answer)) fail("check_with differs");
+    if (urlcheck_is_valid_with(given->bytes, given->length, &held) != valid) fail("is_valid_with differs");
+    size_t count = faults(given, base, profile, NULL, 0).count;
+    urlcheck_fault *one = calloc(2 * (count ? count : 1), sizeof *one), *other = one ? one + count : NULL;
+    if (!one) fail("memory");
+    faults(given, base, profile, one, count);
+    urlcheck_fault_count with = urlcheck_faults_with(given->bytes, given->length, &held, other, count);
+    if (with.count != count || !is_same(with.found, answer.found)) fail("faults_with differs");
+    for (size_t at = 0; at < count; at++) {
+        if (one[at].rule != other[at].rule || one[at].place != other[at].place) fail("a fault of faults_with differs");
+        if (one[at].byte_place != other[at].byte_place) fail("a place of faults_with differs");
+    }
+    free(one);
+}
+
+/* What is no base that was prepared is none for each call. */
+static void refuse_stray_bases(void) {
+    static const urlcheck_base zeros;
+    const uint8_t bytes[] = "http://h/";
+    urlcheck_base held = urlcheck_prepare(bytes, 9, URLCHECK_STANDARD);
+    if (urlcheck_check_with(bytes, 9, &held).found.verdict != URLCHECK_VALID) fail("a base that is held");
+    held.profile = 2;
+    if (urlcheck_check_with(bytes, 9, &held).found.verdict != URLCHECK_NO_BASE) fail("a base of no profile");
+    if (urlcheck_check_with(bytes, 9, &zeros).found.verdict != URLCHECK_NO_BASE) fail("a base of zeros");
+    if (urlcheck_check_with(bytes, 9, NULL).found.verdict != URLCHECK_NO_BASE) fail("a null base");
+    if (urlcheck_faults_with(bytes, 9, NULL, NULL, 0).found.verdict != URLCHECK_NO_BASE) fail("a null base");
+    if (urlcheck_is_valid_with(bytes, 9, NULL)) fail("a null base");
+}
+
 static void answer(const text *given, const text *base, uint32_t profile) {
     urlcheck_answer answer = check(given, base, profile);
     urlcheck_finding found = answer.found;
@@ -132,6 +181,7 @@ static void answer(const text *given, const text *base, uint32_t profile) {
         print_part(given, answer.parts.query);
         print_part(given, answer.parts.fragment);
     }
+    compare_held(given, base, profile, answer);
     print_record(given, base, profile, found);
     print_faults(given, base, profile, found);
     putchar('\n');
@@ -156,6 +206,7 @@ int main(int count, char **words) {
     int is_place = count == 3 && strcmp(words[2], "places") == 0;
     if (count != 2 + is_place) fail("usage: answers CASES [places]");
     if (urlcheck_rule_name(URLCHECK_PERCENT, NULL, 0) != 7) fail("a null buffer changes the length of a name");
+    refuse_stray_bases();
     FILE *file = fopen(words[1], "rb");
     if (!file) fail("the cases can't be opened");
     text given, base;

@@ -19,8 +19,13 @@ def at(text, refused):
 def line(text, base, profile):
     try:
         found = urlcheck.check(text, base, profile)
+        held = None if base is None else urlcheck.Base(base, profile)
     except urlcheck.BaseRefused as refused:
         return "3 " + at(base, refused)
+    assert urlcheck.check(text, held, profile) == found
+    assert urlcheck.is_valid(text, held, profile) == urlcheck.is_valid(text, base, profile) == bool(found)
+    assert urlcheck.faults(text, held, profile) == urlcheck.faults(text, base, profile)
+    assert urlcheck.resolve(text, held, profile) == urlcheck.resolve(text, base, profile)
     faults = urlcheck.faults(text, base, profile)
     resolved = urlcheck.resolve(text, base, profile)
     if not found:

@@ -35,6 +35,22 @@ class Errors(unittest.TestCase):
                 with self.subTest(words), self.assertRaisesRegex(error, said):
                     function(*words)
 
+    def test_a_base_is_held(self):
+        base = urlcheck.Base("http://h_/a", urlcheck.Profile.WIDE)
+        self.assertEqual(urlcheck.check("../x", base).path, "../x")
+        self.assertEqual(urlcheck.resolve("../x", base), "http://h_/x")
+        self.assertFalse(urlcheck.is_valid("a b", base))
+        for other in (pickle.loads(pickle.dumps(base)), copy.copy(base), copy.deepcopy(base)):
+            self.assertEqual((other.text, other.profile), (base.text, base.profile))
+            self.assertTrue(urlcheck.is_valid("//x_/y", other, urlcheck.Profile.WIDE))
+        with self.assertRaises(urlcheck.BaseRefused) as refused:
+            urlcheck.Base("http://h_/a")
+        self.assertEqual((refused.exception.rule, refused.exception.place), ("host-domain", 7))
+        narrow = urlcheck.Base("http://h/")
+        for function in (urlcheck.check, urlcheck.faults, urlcheck.resolve, urlcheck.is_valid):
+            with self.assertRaisesRegex(ValueError, "another profile: STANDARD"):
+                function("x", narrow, urlcheck.Profile.WIDE)
+
     def test_several_texts(self):
         answers = list(urlcheck.check_each(["../x", "http://h:x/", ""], "http://h/a"))
         self.assertEqual([bool(it) for it in answers], [True, False, True])

@@ -1,3 +1,4 @@
+mod BaseLemmas
 mod PlaceLemmas
 mod RecordLemmas
 mod SeenLemmas

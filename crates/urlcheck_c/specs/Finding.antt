@@ -9,7 +9,7 @@ use Rattle.uv_model.specs.Complaints.Rule.{rule_number}
 use Rattle.urlcheck_c.specs.declared.finding.Finding.{Finding}
 use Rattle.urlcheck_c.specs.declared.finding.Outcome.{Outcome}
 use Rattle.urlcheck_c.specs.declared.finding.Outcome.TheVariants.{Valid, Refused, NoUtf8, BaseRefused, BaseNoUtf8}
-use Rattle.urlcheck_c.specs.declared.finding.Outcome.TheVariants.{Memory, NoProfile}
+use Rattle.urlcheck_c.specs.declared.finding.Outcome.TheVariants.{Memory, NoProfile, NoBase}
 
 -- the number of an outcome
 abbrev pub outcome_number : Outcome → ℕ
@@ -20,6 +20,7 @@ outcome_number BaseRefused = 3
 outcome_number BaseNoUtf8 = 4
 outcome_number Memory = 5
 outcome_number NoProfile = 6
+outcome_number NoBase = 7
 
 -- the profile with a number
 abbrev pub profile_of : ℕ → Option Profile

@@ -1,4 +1,5 @@
 pub mod Answer
+pub mod Base
 pub mod Buffer
 pub mod Faults
 pub mod Finding
@@ -7,3 +8,4 @@ pub mod Names
 pub mod Request
 pub mod Resolved
 pub mod Span
+pub mod Validity

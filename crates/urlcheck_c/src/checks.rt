@@ -1,13 +1,17 @@
 //! The check of a text: whether it is valid, and where its parts stand.
-ghost use Rattle.std.specs.Prelude.{◌≡◌, None, Some, option_copied};
+ghost use Rattle.std.specs.Prelude.{◌≡◌, ℕ, List, None, Some, option_copied};
+ghost use Rattle.uv_grammar.specs.Bases.{IsOfKind};
+ghost use Rattle.uv_model.specs.Records.Url.{Url};
 ghost use Rattle.urlcheck_c.specs.Answer.{IsAnswer, IsJudged};
+ghost use Rattle.urlcheck_c.specs.Base.{IsPreparedBase};
 ghost use Rattle.urlcheck_c.specs.Span.{no_spans};
 
+use crate::bases::{Base, HeldRequest, prepared_with};
 use crate::finding::{Finding, Outcome};
 use crate::request::{Request, prepared};
 use crate::spans::{Spans, placed};
 use std::alloc::{AllocError, Global};
-use uv_grammar::{Verdict, check};
+use uv_grammar::{Verdict, check, check_of_kind};
 
 /// What a text is, and where its parts stand.
 #[repr(C)]
@@ -40,6 +44,19 @@ pub extern "C" fn urlcheck_check_against(
     answered(alloc, text, Some(base), profile)
 }
 
+/// The same against a base that `urlcheck_prepare` gave, by the base's profile: what `urlcheck_check_against` says of
+/// the text and of the bytes from which the base was prepared.
+#[unsafe(no_mangle)]
+pub extern "C" fn urlcheck_check_with(alloc: Global, text: &[u8], base: &Base) -> Answer
+    ensures { (number : ℕ) (bytes : List ℕ) → IsPreparedBase number bytes base.now
+        → IsAnswer number (Some bytes) text.now result }
+{
+    match prepared_with(text, base) {
+        Ok(request) => judged_with(alloc, &request),
+        Err(found) => unjudged(found),
+    }
+}
+
 // The answer on bytes, alone or against those of a base.
 fn answered(alloc: Global, text: &[u8], base: Option<&[u8]>, profile: u32) -> Answer
     ensures { IsAnswer profile (option_copied base.entry) text.now result }
@@ -61,6 +78,22 @@ fn judged(alloc: Global, request: &Request<'_>) -> Answer
             parts: placed(text, &parts),
         },
         Ok(Verdict::No(refusal)) => unjudged(Finding::refused(Outcome::Refused, text, refusal)),
+        Err(AllocError) => unjudged(Finding::plain(Outcome::Memory)),
+    }
+}
+
+// The answer on a text that is judged against a base that is held.
+fn judged_with(alloc: Global, request: &HeldRequest<'_>) -> Answer
+    ensures { (url : Url) → IsOfKind url request.now.base
+        → IsJudged request.now.profile (Some url) request.now.text.now result }
+{
+    let text = request.text;
+    match check_of_kind(alloc, text, request.base, request.profile) {
+        Ok(Verdict::Yes(parts)) => Answer {
+            found: Finding::plain(Outcome::Valid),
+            parts: placed(text, &parts),
+        },
+        Ok(Verdict::No(fault)) => unjudged(Finding::refused(Outcome::Refused, text, fault)),
         Err(AllocError) => unjudged(Finding::plain(Outcome::Memory)),
     }
 }

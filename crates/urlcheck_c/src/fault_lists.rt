@@ -1,12 +1,16 @@
 //! All that is wrong with a text, in the caller's buffer.
-ghost use Rattle.std.specs.Prelude.{◌≡◌, None, Some, option_copied};
+ghost use Rattle.std.specs.Prelude.{◌≡◌, ℕ, List, None, Some, option_copied};
+ghost use Rattle.uv_grammar.specs.Bases.{IsOfKind};
+ghost use Rattle.uv_model.specs.Records.Url.{Url};
+ghost use Rattle.urlcheck_c.specs.Base.{IsPreparedBase};
 ghost use Rattle.urlcheck_c.specs.Faults.{IsFaultsAnswer, IsFaultsJudged, first_finding};
 
+use crate::bases::{Base, HeldRequest, prepared_with};
 use crate::buffers::store;
 use crate::finding::{Finding, Outcome};
 use crate::request::{Request, prepared};
 use std::alloc::{AllocError, Global};
-use uv_grammar::faults;
+use uv_grammar::{faults, faults_of_kind};
 use uv_model::Refusal;
 
 /// A rule that a text violates at a place.
@@ -59,6 +63,23 @@ pub extern "C" fn urlcheck_faults_against(
     answered(alloc, text, Some(base), profile, out)
 }
 
+/// The same against a base that `urlcheck_prepare` gave, by the base's profile.
+#[unsafe(no_mangle)]
+pub extern "C" fn urlcheck_faults_with(
+    alloc: Global,
+    text: &[u8],
+    base: &Base,
+    out: &mut [Fault],
+) -> FaultCount
+    ensures { (number : ℕ) (bytes : List ℕ) → IsPreparedBase number bytes base.now
+        → IsFaultsAnswer number (Some bytes) text.now out.old out.new result }
+{
+    match prepared_with(text, base) {
+        Ok(request) => judged_with(alloc, &request, out),
+        Err(found) => FaultCount { found, count: 0 },
+    }
+}
+
 // The faults of bytes, alone or against those of a base.
 fn answered(
     alloc: Global,
@@ -86,6 +107,27 @@ fn judged(alloc: Global, request: &Request<'_>, out: &mut [Fault]) -> FaultCount
             FaultCount {
                 found: first_found(text, found.as_slice()),
                 count: found.len(),
+            }
+        }
+        Err(AllocError) => FaultCount {
+            found: Finding::plain(Outcome::Memory),
+            count: 0,
+        },
+    }
+}
+
+// The faults of a text that is judged against a base that is held.
+fn judged_with(alloc: Global, request: &HeldRequest<'_>, out: &mut [Fault]) -> FaultCount
+    ensures { (url : Url) → IsOfKind url request.now.base
+        → IsFaultsJudged request.now.profile (Some url) request.now.text.now out.old out.new result }
+{
+    let text = request.text;
+    match faults_of_kind(alloc, text, request.base, request.profile) {
+        Ok(all) => {
+            store(text, all.as_slice(), out);
+            FaultCount {
+                found: first_found(text, all.as_slice()),
+                count: all.len(),
             }
         }
         Err(AllocError) => FaultCount {

@@ -14,7 +14,7 @@ use uv_text::count_code_points;
 #[derive(Clone, Copy)]
 pub struct Finding {
     /// The number of the outcome: 0 valid, 1 refused, 2 no UTF-8, 3 the base is refused alone, 4 the base is no UTF-8,
-    /// 5 want of memory, 6 no profile has the number.
+    /// 5 want of memory, 6 no profile has the number, 7 no base was prepared.
     pub verdict: u32,
     /// The number of the violated rule, from 1 to 14, where the text or the base is refused, else 0.
     pub rule: u32,
@@ -41,6 +41,8 @@ pub(crate) enum Outcome {
     Memory,
     /// No profile has the number.
     NoProfile,
+    /// What was given as a base is none that was prepared.
+    NoBase,
 }
 
 impl Outcome {
@@ -56,6 +58,7 @@ impl Outcome {
             Outcome::BaseNoUtf8 => 4,
             Outcome::Memory => 5,
             Outcome::NoProfile => 6,
+            Outcome::NoBase => 7,
         }
     }
 }

@@ -1,6 +1,7 @@
 //! The layout of what C gets: the sizes that include/urlcheck.h asserts too. In each size there is no room for a field at
 //! another place than there.
 
+use crate::bases::Base;
 use crate::checks::Answer;
 use crate::fault_lists::{Fault, FaultCount};
 use crate::finding::Finding;
@@ -8,6 +9,8 @@ use crate::records::Resolved;
 use crate::spans::{Span, Spans};
 
 const _: () = prove!(size_of::<Finding>() == 24);
+
+const _: () = prove!(size_of::<Base>() == 40);
 
 const _: () = prove!(size_of::<Span>() == 24);
 

@@ -3,6 +3,7 @@
 //! Each export takes any bytes and any number as profile, keeps nothing and may be called from any thread.
 #![tactic(auto)]
 
+mod bases;
 mod buffers;
 mod checks;
 mod fault_lists;
@@ -14,7 +15,9 @@ mod places;
 mod records;
 mod request;
 mod spans;
+mod validity;
 
+pub use bases::Base;
 pub use checks::Answer;
 pub use fault_lists::{Fault, FaultCount};
 pub use finding::Finding;

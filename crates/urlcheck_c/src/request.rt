@@ -47,8 +47,8 @@ pub(crate) fn prepared<'t>(
     }
 }
 
-// The profile with this number: 0 is the standard profile, 1 the wide one.
-fn profile_of(number: u32) -> Option<Profile>
+/// The profile with this number: 0 is the standard profile, 1 the wide one.
+pub(crate) fn profile_of(number: u32) -> Option<Profile>
     ensures { result ≡ profile_of number }
 {
     match number {
@@ -58,8 +58,8 @@ fn profile_of(number: u32) -> Option<Profile>
     }
 }
 
-// The bytes as a text.
-fn text_of(bytes: &[u8], fault: Outcome) -> Result<&str, Finding>
+/// The bytes as a text.
+pub(crate) fn text_of(bytes: &[u8], fault: Outcome) -> Result<&str, Finding>
     ensures { IsTextRead fault bytes.now result }
 {
     match from_utf8(bytes) {
@@ -68,8 +68,8 @@ fn text_of(bytes: &[u8], fault: Outcome) -> Result<&str, Finding>
     }
 }
 
-// What the bytes of a base denote alone.
-fn base_of(alloc: Global, base: &[u8], profile: Profile) -> Result<Record, Finding>
+/// What the bytes of a base denote alone.
+pub(crate) fn base_of(alloc: Global, base: &[u8], profile: Profile) -> Result<Record, Finding>
     ensures { IsBaseRead profile base.now result }
 {
     let base = text_of(base, Outcome::BaseNoUtf8)?;

@@ -1,11 +1,13 @@
 //! Each export on texts that are written out. The expected places are counted by hand.
 
-use crate::checks::{urlcheck_check, urlcheck_check_against};
+use crate::bases::{Base, urlcheck_prepare};
+use crate::checks::{urlcheck_check, urlcheck_check_against, urlcheck_check_with};
 use crate::fault_lists::{Fault, urlcheck_faults, urlcheck_faults_against};
 use crate::finding::Finding;
 use crate::names::{urlcheck_rule_name, urlcheck_rule_sentence};
 use crate::records::{urlcheck_resolve, urlcheck_resolve_against};
 use crate::spans::Span;
+use crate::validity::{urlcheck_is_valid, urlcheck_is_valid_with};
 use std::process::Abort;
 
 // What was found is this verdict and rule, at this place in code points and in bytes.
@@ -97,6 +99,70 @@ fn judges_the_base_alone(rt: HostRuntime) {
         urlcheck_check_against(rt.alloc(), b"x", b"urn:a", 0).found,
         (1, 2, 0, 0),
     );
+}
+
+// Against a base that is held a text has this verdict and rule, at this place in code points and in bytes.
+fn finds_with(
+    rt: &(impl Abort + AllocGlobal),
+    base: &Base,
+    text: &[u8],
+    wanted: (u32, u32, usize, usize),
+) {
+    finds(
+        rt,
+        urlcheck_check_with(rt.alloc(), text, base).found,
+        wanted,
+    );
+    assert_eq!(rt;
+        urlcheck_is_valid_with(rt.alloc(), text, base),
+        wanted.0 == 0
+    );
+}
+
+#[test]
+fn judges_against_a_base_that_is_held(rt: HostRuntime) {
+    let wide = urlcheck_prepare(rt.alloc(), b"ws://h/a", 1);
+    assert_eq!(rt;
+        (wide.profile, wide.scheme, wide.opaque_path, wide.empty_host),
+        (1, 2, 0, 0)
+    );
+    finds_with(&rt, &wide, b"//x_:80/b", (0, 0, 0, 0));
+    finds_with(&rt, &wide, b"a\xff", (2, 0, 1, 1));
+    let opaque = urlcheck_prepare(rt.alloc(), b"urn:a", 0);
+    finds_with(&rt, &opaque, b"x", (1, 2, 0, 0));
+    finds_with(&rt, &opaque, b"#x", (0, 0, 0, 0));
+    let hosted = urlcheck_prepare(rt.alloc(), b"file://h/a", 0);
+    finds_with(&rt, &hosted, b"/C:/x", (1, 12, 0, 0));
+    let local = urlcheck_prepare(rt.alloc(), b"file:///a", 0);
+    finds_with(&rt, &local, b"/C:/x", (0, 0, 0, 0));
+}
+
+#[test]
+fn says_what_is_wrong_with_a_base_that_is_held(rt: HostRuntime) {
+    let refused = urlcheck_prepare(rt.alloc(), "http://h/\u{e9} b".as_bytes(), 0);
+    finds_with(&rt, &refused, b"x", (3, 13, 10, 11));
+    finds_with(&rt, &refused, b"a\xff", (2, 0, 1, 1));
+    let broken = urlcheck_prepare(rt.alloc(), b"h\xff", 0);
+    finds_with(&rt, &broken, b"x", (4, 0, 1, 1));
+    let unknown = urlcheck_prepare(rt.alloc(), b"http://h/", 2);
+    finds_with(&rt, &unknown, b"a\xff", (6, 0, 0, 0));
+    let stray = Base {
+        found: urlcheck_check(rt.alloc(), b"http://h/", 0).found,
+        profile: 0,
+        scheme: 0,
+        opaque_path: 0,
+        empty_host: 0,
+    };
+    finds_with(&rt, &stray, b"x", (7, 0, 0, 0));
+}
+
+#[test]
+fn says_no_more_than_yes_or_no(rt: HostRuntime) {
+    assert!(rt; urlcheck_is_valid(rt.alloc(), b"http://h/", 0));
+    assert!(rt; !urlcheck_is_valid(rt.alloc(), b"http://x_y/", 0));
+    assert!(rt; urlcheck_is_valid(rt.alloc(), b"http://x_y/", 1));
+    assert!(rt; !urlcheck_is_valid(rt.alloc(), b"http://h/", 2));
+    assert!(rt; !urlcheck_is_valid(rt.alloc(), b"http://h/\xff", 0));
 }
 
 #[test]

@@ -3,9 +3,11 @@
 
 use super::*;
 use crate::form::Form;
+use crate::validity::{is_valid, is_valid_of_kind};
 use std::process::Abort;
 use uv_model::Host;
 
+mod lengths;
 mod memory;
 mod plain_links;
 mod profiles;
@@ -156,7 +158,27 @@ fn is_line(
     line: &str,
 ) -> Result<bool, AllocError> {
     let found = profile_line(alloc, text, base, profile)?;
-    Ok(found.as_str() == line)
+    let held = match base {
+        Some(base) => kind_line(alloc, text, BaseKind::of(base), profile)?,
+        None => profile_line(alloc, text, None, profile)?,
+    };
+    let valid = is_valid(alloc, text, base, profile)? != line.starts_with("no ");
+    Ok(found.as_str() == line && held.as_str() == line && valid)
+}
+
+/// A verdict against a base of a kind as one line, and none where the verdict alone is another.
+fn kind_line(
+    alloc: Global,
+    text: &str,
+    base: BaseKind,
+    profile: Profile,
+) -> Result<String, AllocError> {
+    let valid = is_valid_of_kind(alloc, text, base, profile)?;
+    match check_of_kind(alloc, text, base, profile)? {
+        Verdict::Yes(parts) if valid => parts_line(alloc, &parts),
+        Verdict::No(refusal) if !valid => refusal_line(alloc, refusal),
+        _ => Ok(String::new(alloc)),
+    }
 }
 
 /// The verdict of a profile on each text of the table, alone or against a base, is its line.

@@ -1,0 +1,13 @@
+-- The numbers of a base that is held say its profile and its kind.
+use Rattle.std.proofs.Common.{◌≡◌, ℕ, arith, sym, ◌∙◌}
+use Rattle.urlcheck_c.proofs.BaseLemmas.{read_base}
+use Rattle.urlcheck_c.proofs.bases.prepared_with.Goals as goal
+
+pub returns-in-Some-kind : goal.returns-in-Some-kind
+returns-in-Some-kind c = λ number bytes is.
+    let held = c.args.base.now in
+    let valid : held.found.verdict ≡ 0 = omega (arith, c.number-2.ensures) in (
+      c.in_ok-text.ensures.0,
+      read_base number bytes c.args.text.now held c.in-Some.profile c.in-Some-kind.kind is valid
+          (sym c.profile_of.ensures ∙ c.in-Some.is) (sym c.kind.ensures ∙ c.in-Some-kind.is) c.in_ok-text.ensures.1,
+    )

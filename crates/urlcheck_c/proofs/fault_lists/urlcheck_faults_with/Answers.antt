@@ -1,0 +1,22 @@
+-- What is listed against a base that is held is listed against the bytes from which it was prepared.
+use Rattle.std.proofs.Common.{ℕ, List, Some, inl, inr, refl, subst}
+use Rattle.urlcheck_c.specs.Faults.{IsFaultsJudged}
+use Rattle.urlcheck_c.proofs.fault_lists.urlcheck_faults_with.Goals as goal
+
+pub returns-in-Ok : goal.returns-in-Ok
+returns-in-Ok c = λ number bytes is.
+    let read = c.in-Ok.ensures number bytes is in
+    inr (
+      c.in-Ok.request.profile,
+      Some read.1.0,
+      read.1.1,
+      subst
+          (λ (text : List ℕ).
+          IsFaultsJudged c.in-Ok.request.profile (Some read.1.0) text c.args.out.now c.judged_with.new.out
+          c.judged_with.result)
+          read.0 (c.judged_with.ensures read.1.0 read.1.2),
+    )
+
+pub returns-in-Err : goal.returns-in-Err
+returns-in-Err c = λ number bytes is.
+    inl (record { count = refl; same = refl }, c.in-Err.ensures number bytes is)

@@ -1,0 +1,18 @@
+-- The verdict against a base that is held is that against the bytes from which it was prepared.
+use Rattle.std.proofs.Common.{ℕ, List, Some, inl, inr, refl, subst}
+use Rattle.urlcheck_c.specs.Validity.{IsKnownValid}
+use Rattle.urlcheck_c.proofs.validity.urlcheck_is_valid_with.Goals as goal
+
+pub returns-in-Ok : goal.returns-in-Ok
+returns-in-Ok c = λ number bytes is.
+    let read = c.in-Ok.ensures number bytes is in
+    inr (
+      c.in-Ok.request.profile,
+      Some read.1.0,
+      read.1.1,
+      subst (λ (text : List ℕ). IsKnownValid c.in-Ok.request.profile (Some read.1.0) text c.is_known_valid_with.result)
+          read.0 (c.is_known_valid_with.ensures read.1.0 read.1.2),
+    )
+
+pub returns-in-Err : goal.returns-in-Err
+returns-in-Err c = λ number bytes is. inl (refl, c.in-Err.field-0, c.in-Err.ensures number bytes is)

@@ -1,0 +1,100 @@
+-- A base that is judged once and held between calls.
+use Rattle.std.specs.Prelude.{◌≡◌, ℕ, ◌⊎◌, Bool, true, false, not, ◌==◌, List, Option, Some, None, Result, Ok, Err}
+use Rattle.std.specs.Prelude.{if◌then◌else◌, option_map}
+use Rattle.std.specs.Str.{chars}
+use Rattle.uv_model.specs.declared.profile.Profile.{Profile}
+use Rattle.uv_model.specs.Parts.{Parts}
+use Rattle.uv_model.specs.Records.Url.{Url}
+use Rattle.uv_model.specs.Valid.{Valid}
+use Rattle.uv_grammar.specs.declared.bases.BaseKind.{BaseKind}
+use Rattle.uv_grammar.specs.declared.bases.BaseScheme.{BaseScheme}
+use Rattle.uv_grammar.specs.declared.bases.BaseScheme.TheVariants.{Ftp, Http, Https, File, Other}
+use Rattle.uv_grammar.specs.Bases.{IsOfKind}
+use Rattle.urlcheck_c.specs.declared.bases.Base.{Base}
+use Rattle.urlcheck_c.specs.declared.bases.HeldRequest.{HeldRequest}
+use Rattle.urlcheck_c.specs.declared.finding.Finding.{Finding}
+use Rattle.urlcheck_c.specs.declared.finding.Outcome.TheVariants.{NoProfile, Valid as valid_outcome}
+use Rattle.urlcheck_c.specs.Answer.{IsJudgedInPlace}
+use Rattle.urlcheck_c.specs.Finding.{plain_finding, profile_of}
+use Rattle.urlcheck_c.specs.Request.{IsBase, IsNoBase, IsRequest, IsUnjudged}
+
+-- ---- a base as numbers
+
+-- the number of a scheme
+abbrev pub scheme_number : BaseScheme → ℕ
+scheme_number Ftp = 1
+scheme_number Http = 2
+scheme_number Https = 3
+scheme_number File = 4
+scheme_number Other = 5
+
+-- the scheme with a number
+abbrev pub scheme_with : ℕ → Option BaseScheme
+scheme_with number =
+    if number == 1 then Some Ftp
+    else (if number == 2 then Some Http
+    else (if number == 3 then Some Https
+    else (if number == 4 then Some File else (if number == 5 then Some Other else None))))
+
+-- 1 for yes and 0 for no
+abbrev pub flag_number : Bool → ℕ
+flag_number true = 1
+flag_number false = 0
+
+-- a base of the kind, which is valid by the profile with this number
+abbrev pub held_base : ℕ → BaseKind → Base
+held_base number kind = record {
+  found = plain_finding valid_outcome;
+  profile = number;
+  scheme = scheme_number kind.scheme;
+  opaque_path = flag_number kind.has_opaque_path;
+  empty_host = flag_number kind.has_empty_host;
+}
+
+-- the kind with a scheme, and what else the numbers of a base say
+abbrev pub kind_with : Base → BaseScheme → BaseKind
+kind_with base scheme = record {
+  scheme = scheme;
+  has_opaque_path = not (base.opaque_path == 0);
+  has_empty_host = not (base.empty_host == 0);
+}
+
+-- the kind that the numbers of a base say, where they say one
+abbrev pub kind_in : Base → Option BaseKind
+kind_in base = option_map (kind_with base) (scheme_with base.scheme)
+
+-- ---- what was read of a base
+
+-- nothing is read from the bytes: no profile has the number, or they are no base by it
+abbrev pub IsUnread : ℕ → List ℕ → Finding → Type 0
+IsUnread number bytes finding =
+    ((profile_of number ≡ None) × (finding ≡ plain_finding NoProfile))
+    ⊎ ((profile : Profile) × (profile_of number ≡ Some profile) × IsNoBase profile bytes finding)
+
+-- the bytes denote a URL of this kind alone
+pub record IsBaseOfKind (number : ℕ) (bytes : List ℕ) (kind : BaseKind) : Type 0 where
+  pub profile : Profile
+  pub url : Url
+  pub profile_is : profile_of number ≡ Some profile
+  pub base_is : IsBase profile (Some bytes) (Some url)
+  pub kind_is : IsOfKind url kind
+
+-- the kind of what the bytes denote alone, or why they denote nothing
+abbrev pub IsKindRead : ℕ → List ℕ → Result BaseKind Finding → Type 0
+IsKindRead number bytes (Ok kind) = IsBaseOfKind number bytes kind
+IsKindRead number bytes (Err finding) = IsUnread number bytes finding
+
+-- what was read of the bytes: the kind of what they denote, or why they denote nothing
+abbrev pub IsPreparedBase : ℕ → List ℕ → Base → Type 0
+IsPreparedBase number bytes base =
+    IsUnread number bytes base.found
+    ⊎ ((kind : BaseKind) × IsBaseOfKind number bytes kind × (base ≡ held_base number kind))
+
+-- ---- what is judged against it
+
+-- what is to be judged against a base of these bytes, or why nothing is
+abbrev pub IsPreparedWith : ℕ → List ℕ → List ℕ → Result HeldRequest Finding → Type 0
+IsPreparedWith number base bytes (Ok request) =
+    (request.text.now ≡ bytes)
+    × ((url : Url) × IsRequest number (Some base) bytes request.profile (Some url) × IsOfKind url request.base)
+IsPreparedWith number base bytes (Err finding) = IsUnjudged number (Some base) bytes finding

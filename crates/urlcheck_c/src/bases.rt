@@ -1,0 +1,154 @@
+//! A base that is judged once and held between calls.
+ghost use Rattle.std.specs.Prelude.{◌≡◌, ◌==◌, ℕ, List, not};
+ghost use Rattle.urlcheck_c.specs.Base.{IsKindRead, IsPreparedBase, IsPreparedWith, flag_number, held_base, kind_in, scheme_number, scheme_with};
+
+use crate::finding::{Finding, Outcome};
+use crate::request::{base_of, profile_of, text_of};
+use std::alloc::Global;
+use uv_grammar::{BaseKind, BaseScheme};
+use uv_model::Profile;
+
+/// A base, judged alone: what a verdict on a text asks of it. It is made by `urlcheck_prepare` alone.
+#[repr(C)]
+#[derive(Clone, Copy)]
+pub struct Base {
+    /// What was found of the base: valid, or why no text is judged against it.
+    pub found: Finding,
+    /// The number of the profile by which the base was judged, and by which texts are judged against it.
+    pub profile: u32,
+    /// The scheme by its class and its default port: 1 `ftp`, 2 `http` or `ws`, 3 `https` or `wss`, 4 `file`,
+    /// 5 another, and 0 where the base isn't valid.
+    pub scheme: u32,
+    /// 1 where the path is opaque, else 0.
+    pub opaque_path: u32,
+    /// 1 where the host is the empty one, else 0.
+    pub empty_host: u32,
+}
+
+/// Judges the bytes of a base alone by the profile with this number, for calls that are given the base after that.
+#[unsafe(no_mangle)]
+pub extern "C" fn urlcheck_prepare(alloc: Global, base: &[u8], profile: u32) -> Base
+    ensures { IsPreparedBase profile base.now result }
+{
+    match kind_of(alloc, base, profile) {
+        Ok(kind) => Base::held(profile, kind),
+        Err(found) => Base::refused(profile, found),
+    }
+}
+
+// The kind of a base.
+fn kind_of(alloc: Global, base: &[u8], profile: u32) -> Result<BaseKind, Finding>
+    ensures { IsKindRead profile base.now result }
+{
+    let Some(profile) = profile_of(profile) else {
+        return Err(Finding::plain(Outcome::NoProfile));
+    };
+    let record = base_of(alloc, base, profile)?;
+    Ok(BaseKind::of(&record))
+}
+
+impl Base {
+    // A valid base.
+    fn held(profile: u32, kind: BaseKind) -> Base
+        ensures { result ≡ held_base profile kind }
+    {
+        Base {
+            found: Finding::plain(Outcome::Valid),
+            profile,
+            scheme: scheme_number(kind.scheme),
+            opaque_path: u32::from(kind.has_opaque_path),
+            empty_host: u32::from(kind.has_empty_host),
+        }
+    }
+
+    // A base that isn't valid, or isn't judged.
+    fn refused(profile: u32, found: Finding) -> Base
+        ensures { result.found ≡ found }
+    {
+        Base {
+            found,
+            profile,
+            scheme: 0,
+            opaque_path: 0,
+            empty_host: 0,
+        }
+    }
+
+    // The kind of a valid base.
+    fn kind(&self) -> Option<BaseKind>
+        ensures { result ≡ kind_in self.now }
+    {
+        match scheme_with(self.scheme) {
+            Some(scheme) => Some(BaseKind {
+                scheme,
+                has_opaque_path: self.opaque_path != 0,
+                has_empty_host: self.empty_host != 0,
+            }),
+            None => None,
+        }
+    }
+}
+
+// The number of a scheme.
+fn scheme_number(scheme: BaseScheme) -> u32
+    ensures { result ≡ scheme_number scheme }
+{
+    match scheme {
+        BaseScheme::Ftp => 1,
+        BaseScheme::Http => 2,
+        BaseScheme::Https => 3,
+        BaseScheme::File => 4,
+        BaseScheme::Other => 5,
+    }
+}
+
+// The scheme with this number.
+fn scheme_with(number: u32) -> Option<BaseScheme>
+    ensures { result ≡ scheme_with number }
+{
+    match number {
+        1 => Some(BaseScheme::Ftp),
+        2 => Some(BaseScheme::Http),
+        3 => Some(BaseScheme::Https),
+        4 => Some(BaseScheme::File),
+        5 => Some(BaseScheme::Other),
+        _ => None,
+    }
+}
+
+/// What is to be judged against a base that is held.
+#[derive(Drop)]
+pub(crate) struct HeldRequest<'t> {
+    /// The text.
+    pub(crate) text: &'t str,
+    /// The kind of the base.
+    pub(crate) base: BaseKind,
+    /// The profile by which both are judged.
+    pub(crate) profile: Profile,
+}
+
+/// What is to be judged of the bytes of a text against a base that is held, or why nothing is. The order is that of a
+/// base that is judged with the text: a profile, the text, and then the base.
+pub(crate) fn prepared_with<'t>(text: &'t [u8], base: &Base) -> Result<HeldRequest<'t>, Finding>
+    ensures { (number : ℕ) (bytes : List ℕ) → IsPreparedBase number bytes base.now
+        → IsPreparedWith number bytes text.now result }
+{
+    if base.found.verdict == Outcome::NoProfile.number() {
+        return Err(base.found);
+    }
+    let text = text_of(text, Outcome::NoUtf8)?;
+    if base.found.verdict != Outcome::Valid.number() {
+        return Err(base.found);
+    }
+    let Some(profile) = profile_of(base.profile) else {
+        return Err(Finding::plain(Outcome::NoBase));
+    };
+    match base.kind() {
+        Some(kind) => Ok(HeldRequest {
+            text,
+            base: kind,
+            profile,
+        }),
+        None => Err(Finding::plain(Outcome::NoBase)),
+    }
+}
