@@ -15,7 +15,7 @@ done
 room=$(mktemp -d)
 trap 'rm -rf "$room"' EXIT
 
-# wrong FRONT BYTE : a line of 65,536 bytes, of the front and the byte again and again
+# wrong PREFIX BYTE : a line of 65,536 bytes, of the prefix and the byte again and again
 wrong() { { printf '%s' "$1"; head -c $((65536 - ${#1})) /dev/zero | tr '\0' "$2"; echo; } >"$room/line"; }
 
 # rests PID : waits until a process has waited for input three times in turn, as it does once the line is reported

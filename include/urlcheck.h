@@ -76,7 +76,7 @@ typedef struct urlcheck_finding {
     uint32_t verdict;  /* one of urlcheck_outcome */
     uint32_t rule;     /* where the text or the base is refused one of urlcheck_rule, else 0 */
     size_t place;      /* in code points: the first wrong place of a refusal; of bytes that are no UTF-8 the end of
-                          their longest front that is; else 0 */
+                          their longest prefix that is; else 0 */
     size_t byte_place; /* the same place in bytes */
 } urlcheck_finding;
 
@@ -162,7 +162,7 @@ urlcheck_bool urlcheck_is_valid(const uint8_t *text, size_t length, uint32_t pro
 urlcheck_bool urlcheck_is_valid_with(const uint8_t *text, size_t length, const urlcheck_base *base);
 
 /*
- * Writes the text of the URL record that the text denotes (sections 4.4 and 4.5) to the front of `out`, without a NUL,
+ * Writes the text of the URL record that the text denotes (sections 4.4 and 4.5) to the start of `out`, without a NUL,
  * where `room` bytes hold it, and gives its length. Where they don't, `out` stays as it is and the length is still
  * given, so a second call with so much room writes it. Where the verdict isn't URLCHECK_VALID, `out` stays as it is.
  */
@@ -173,7 +173,7 @@ urlcheck_resolved urlcheck_resolve_against(const uint8_t *text, size_t length, c
                                            size_t base_length, uint32_t profile, uint8_t *out, size_t room);
 
 /*
- * Writes all that is wrong with the text to the front of `out`, by place and at one place by the rule's number: as many
+ * Writes all that is wrong with the text to the start of `out`, by place and at one place by the rule's number: as many
  * faults as `room` elements hold. The count is of all of them, and may be larger than `room`; it is 0 exactly where the
  * verdict isn't URLCHECK_REFUSED. Elements behind the last one written stay as they are.
  */
@@ -189,7 +189,7 @@ urlcheck_fault_count urlcheck_faults_with(const uint8_t *text, size_t length, co
                                           urlcheck_fault *out, size_t room);
 
 /*
- * Writes the rule's name, as `host-domain`, in ASCII and without a NUL to the front of `out` where `room` bytes hold
+ * Writes the rule's name, as `host-domain`, in ASCII and without a NUL to the start of `out` where `room` bytes hold
  * it, and gives its length: 19 at most, and 0 where no rule has the number. Else `out` stays as it is.
  */
 size_t urlcheck_rule_name(uint32_t rule, uint8_t *out, size_t room);

@@ -1,6 +1,6 @@
 #!/usr/bin/env bash
 # Runs the checker for JavaScript, and the page, over every file of vectors, and compares with the program given as the
-# first argument; then what callers see, types, want of memory, and the page in a browser; and it sees that spoiled
+# first argument; then what callers see, types, out of memory, and the page in a browser; and it sees that spoiled
 # copies are found. What isn't installed is left out, and a line says so. A folder that ./build-page has made may be
 # given second; else one is made. Words of the environment: QUICK leaves out the browser and the spoiled copies, GLUE
 # compiles and tries copies with a spoiled glue too, and PICTURE is a file for the picture of the page.

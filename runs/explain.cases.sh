@@ -31,7 +31,7 @@ holds_together() {
 count=$((count + 1))
 holds_together "$room/explained" "$top/docs/RULES.md" || fail 'explain and docs/RULES.md differ'
 
-# A table that says something else is told apart: another section, another sentence, a row less, two rows in another order.
+# A table that says something else is found: another section, another sentence, a row less, two rows in another order.
 differs() {
     count=$((count + 1))
     if cmp -s "$top/docs/RULES.md" "$2"; then fail "$1: the table stayed as it was"; fi

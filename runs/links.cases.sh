@@ -1,4 +1,4 @@
-# Lists of links: from a pipe, from a file, against a base, with a line that isn't UTF-8, and devices that fail.
+# Lists of links: from a pipe, from a file, against a base, with a line that isn't UTF-8, and streams that fail.
 
 # reports STATUS STDOUT STDERR WORD.. : a run of `links` on the bytes of $room/list ends so
 reports() {
@@ -46,7 +46,7 @@ wait $asked
 ends_with 0 $? '' 'a live pipe'
 if [ "$answer" != 'links 3 ok 3 bad 0 differs 0' ]; then fail "a live pipe: it ended with $answer"; fi
 
-# Devices that fail.
+# Streams that fail.
 printf 'urn:a\n' >"$room/list"
 "$program" links <"$room/list" >/dev/full 2>"$room/err"
 ends_with 3 $? 'write\n' 'links to a full device'

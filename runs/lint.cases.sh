@@ -1,4 +1,4 @@
-# Diagnostics of files: what is written, what is told on standard error, and the statuses; each format read by a reader
+# Diagnostics of files: what is written, what is reported on standard error, and the statuses; each format read by a reader
 # that isn't ours.
 
 printf 'http://h/a b\n\nhttp://ok/\r\nhttp://x_y/\n\xff\nnope' >"$room/links.txt"
@@ -150,7 +150,7 @@ of_input 1 '-:2:1: error: there is no scheme and no base [no-scheme]\n' 'urlchec
 "$program" lint - <&- >"$room/out" 2>"$room/err"
 ends_with 2 $? "urlcheck: -: can't be read\\nurlcheck: 0 lines, 0 refused\\n" 'lint of a standard input that is closed'
 
-# Files that can't be opened or read are told by their names, and the others go on: one that isn't there, a folder, a
+# Files that can't be opened or read are reported by their names, and the others go on: one that isn't there, a folder, a
 # path through a file, one whose first read fails, and one that may not be read.
 expect 2 "$other" "urlcheck: missing: can't be read: there is no such file\\nurlcheck: 1 line, 1 refused\\n" \
     lint missing other.txt
@@ -191,7 +191,7 @@ expect 2 '' "urlcheck: ${name_255}n: can't be read\\n" lint -q "${name_255}n"
 for name in "${names[@]}"; do rm -f -- "$room/$name"; done
 rmdir "$room/folder"
 
-# A name that isn't UTF-8 is told by its number, and the other files are judged.
+# A name that isn't UTF-8 is reported by its number, and the other files are judged.
 printf 'x\n' >"$room/"$'\xff'
 expect 2 "$other" "urlcheck: argument 4 isn't UTF-8\\nurlcheck: 1 line, 1 refused\\n" lint --all other.txt $'\xff'
 expect 2 '' "urlcheck: argument 2 isn't UTF-8\\nwords\\n" lint --base=$'\xff' $'\xff'
@@ -269,7 +269,7 @@ for spoiled in 'gnu s/:1: error/:2: error/' 'caret s/^ \( *\)^$/\1^/' 'json s/"c
 done
 
 # Lines that say where their links stand: FILE is all before the first run of two numbers, which are from 1 to 2^32 - 1; an
-# empty link is judged, an empty line isn't. What isn't of the form is told by the list's own name and line.
+# empty link is judged, an empty line isn't. What isn't of the form is reported by the list's own name and line.
 scheme='error: there is no scheme and no base [no-scheme]'
 form="error: this line isn't FILE:LINE:COLUMN:LINK [not-located]"
 of_input 1 "page.html:12:44: error: U+0020 SPACE may not stand in a URL [code-point]\n" 'urlcheck: 2 lines, 1 refused\n' \

@@ -56,7 +56,7 @@ awk -v long="${long:0:65000}" 'BEGIN {
 walks lint --quiet -
 walks lint --quiet --all --format caret --base "http://h/$long" -
 
-# A vector file is read into memory whole: want of memory for its bytes, and for its cases, is told as such.
+# A vector file is read into memory whole: out of memory for its bytes, and for its cases, is reported as such.
 {
     printf '['
     awk 'BEGIN { for (n = 1; n <= 3000; n++) printf "%s{\"input\":\"http://h/%d\",\"text\":\"http://h/%d\"}", (n > 1 ? "," : ""), n, n }'
@@ -66,14 +66,14 @@ walks vectors "$room/vectors.json"
 
 # While there is memory, none is wanted: each kind of host and many segments, in a line and in the base.
 many=$(awk 'BEGIN { for (n = 0; n < 20000; n++) printf "/a" }')
-for front in http://h http://xn--bcher-kva.example http://192.168.0.1 'http://[1:2::8]' file://h file:// foo://h foo:// \
+for prefix in http://h http://xn--bcher-kva.example http://192.168.0.1 'http://[1:2::8]' file://h file:// foo://h foo:// \
     'foo://[1:2::8]' foo:; do
-    printf 'x\n%s/y\n%s%s/z\n' "$front" "$front" "$many" >"$room/list"
-    "$program" links --base "$front$many/b" <"$room/list" >"$room/out" 2>"$room/err"
-    ends_with 0 $? '' "links of and against $front"
+    printf 'x\n%s/y\n%s%s/z\n' "$prefix" "$prefix" "$many" >"$room/list"
+    "$program" links --base "$prefix$many/b" <"$room/list" >"$room/out" 2>"$room/err"
+    ends_with 0 $? '' "links of and against $prefix"
     printf '1 ok %s%s/x\n2 ok %s/y\n3 ok %s%s/z\nlinks 3 ok 3 bad 0 differs 0\n' \
-        "$front" "$many" "$front" "$front" "$many" | cmp -s - "$room/out" ||
-        fail "links of and against $front: it wrote $(head -c 100 "$room/out")"
+        "$prefix" "$many" "$prefix" "$prefix" "$many" | cmp -s - "$room/out" ||
+        fail "links of and against $prefix: it wrote $(head -c 100 "$room/out")"
 done
 
 # 64 MiB of random bytes, in an address space that a list which memory grew with wouldn't fit into. Python counts the

@@ -1,6 +1,6 @@
 #!/usr/bin/env bash
 # Installs the program given as the first argument, and the library, into a folder: what is installed there, that the
-# programs of docs/LIBRARY.md build and run by it, that each file tells the one version, what the shared library
+# programs of docs/LIBRARY.md build and run by it, that each file names the one version, what the shared library
 # exports, that the header is taken by each standard of C and C++, that an old processor runs the library, and that
 # nothing is left once it is removed. What isn't installed on the machine is left out, and a line says so. LIBRARY may
 # name a folder that ./build-library wrote.

@@ -45,7 +45,7 @@ spoiled 'a link to nowhere' 'a link to docs/COMMAND.md' texts README.md 's/(docs
 spoiled 'an anchor to nowhere' 'no heading makes' texts docs/COMMANDS.md 's/(#vectors)/(#vector)/'
 spoiled 'a path to nowhere' 'librarian' texts docs/TRUST.md 's/`runs\/library.sh`/`runs\/librarian.sh`/'
 spoiled 'a name of no function' 'no `fault_list`' texts docs/PROVED.md 's/^| `faults` |/| `fault_list` |/'
-spoiled 'a clause that is none' 'no clause `told`' texts docs/PROVED.md 's/^| `run_links` | `report`/| `run_links` | `told`/'
+spoiled 'a clause that is none' 'no clause `reported`' texts docs/PROVED.md 's/^| `run_links` | `report`/| `run_links` | `reported`/'
 spoiled 'a name of nothing' 'the name of nothing' texts docs/ARCHITECTURE.md \
     's/`plain_links::plain_link`/`plain_links::plain_''blink`/'
 spoiled 'a call with other arguments' 'isn.t in `uv_resolve`' texts docs/LIBRARY.md \

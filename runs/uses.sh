@@ -68,7 +68,7 @@ done < <(awk -v fence='^```[a-z]' '/^## / { section = substr($0, 4); delete seen
 
 right='https://example.com/' wrong='http://h/a b'
 
-# Links that stand in text files and in documents, told where they stand.
+# Links that stand in text files and in documents, reported where they stand.
 if has rg; then
     in_folder text
     recipe 'Links in text files' sh >../text.sh

@@ -1,4 +1,4 @@
-// What callers of urlcheck.js see: refusals by their types, want of memory and the call behind it, memory that doesn't
+// What callers of urlcheck.js see: refusals by their types, out of memory and the call behind it, memory that doesn't
 // grow with the number of calls, instances beside each other, a thread of its own, and each way to give the module.
 // Usage: node calls.mjs FOLDER
 import assert from 'node:assert/strict'
@@ -153,7 +153,7 @@ const tests = {
     }
   },
 
-  async 'want of memory, and the next call works'() {
+  async 'out of memory, and the next call works'() {
     const { urlcheck, memory } = await withMemory(limited(bytes, 4))
     const form = 'http://xn--bcher-kva.example/'
     const isShort = () => assert.equal(urlcheck.resolve('http://b\u00fccher.example/').text, form)

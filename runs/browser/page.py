@@ -144,7 +144,7 @@ def large_texts(page, room):
         holds(limited.verdict()[0] == "Not judged" and "out of memory" in limited.verdict()[1], limited.verdict())
         limited.fill("text", "http://h/\u00e9")
         holds(limited.verdict()[0] == "Valid", limited.verdict())
-    return "3,000,000 units, and want of memory"
+    return "3,000,000 units, and out of memory"
 
 
 def lint(room, path, *words):

@@ -68,7 +68,7 @@ script 'a lone surrogate let through' calls memory.js 's/ && text.length <= SHOR
 script 'a room that is too small' calls memory.js 's/^const SMALL_ROOM = 3 \* SHORT$/const SMALL_ROOM = SHORT/'
 script 'a memory that is seen as it was' calls memory.js \
     's/if (this.answer.length !== 0) return$/if (this.textRoom > 1) return/'
-script 'large rooms kept after want of memory' calls memory.js 's/^    if (this.textRoom > SMALL_ROOM || .*$//'
+script 'large rooms kept after out of memory' calls memory.js 's/^    if (this.textRoom > SMALL_ROOM || .*$//'
 script 'a profile of any name' calls urlcheck.js 's/^  throw new TypeError("the profile.*$/  return 0/'
 
 # The heap alone: with this edit of it its test fails.

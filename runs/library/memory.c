@@ -81,7 +81,7 @@ static void refuse_each(int kind) {
             printf("library: call %d, %ld allocations refused in turn\n", kind, nth);
             return;
         }
-        expect(verdict == URLCHECK_MEMORY, "want of memory wasn't told");
+        expect(verdict == URLCHECK_MEMORY, "out of memory wasn't reported");
         expect(memcmp(out, blank, sizeof out) == 0, "the buffer was written to");
     }
     expect(0, "no end of allocations");

@@ -71,7 +71,7 @@ void check_against(uint32_t length, uint32_t base_length, uint32_t profile) {
     proved_check_against(&answer.checked, heap_text(), length, heap_base(), base_length, profile);
 }
 
-/* Empties the heap and takes so many bytes of it for `out`; where there are none, the answer is want of memory. */
+/* Empties the heap and takes so many bytes of it for `out`; where there are none, the answer is out of memory. */
 static bool takes_out(uint64_t bytes) {
     heap_empty();
     out = heap_take(bytes, ALIGNMENT);

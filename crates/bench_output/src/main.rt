@@ -1,5 +1,5 @@
-//! Writes what the commands say of standard input, which is one text: the driver of bench/growth.sh. Its words are a
-//! mode and a base, if any. `faults` writes what `urlcheck check --all` writes, `check` what `urlcheck check` writes,
+//! Writes what the commands say of standard input, which is one text: the driver of bench/growth.sh. Its arguments are
+//! a mode and a base, if any. `faults` writes what `urlcheck check --all` writes, `check` what `urlcheck check` writes,
 //! and `read` reads the text and does no more.
 #![tactic(auto)]
 

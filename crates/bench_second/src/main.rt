@@ -31,7 +31,7 @@ fn main(rt: HostRuntime) -> io::Result<()> {
 // Whether the second parser takes a line, without the LF at its end.
 fn is_url(alloc: Global, line: &[u8]) -> bool {
     let line = match line.split_last() {
-        Some((b'\n', front)) => front,
+        Some((b'\n', prefix)) => prefix,
         _ => line,
     };
     match str::from_utf8(line) {

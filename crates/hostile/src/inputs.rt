@@ -1,4 +1,4 @@
-//! The texts of the tests, each alone or with its base: every front of each is judged, and each with one of its code
+//! The texts of the tests, each alone or with its base: every prefix of each is judged, and each with one of its code
 //! points replaced by a mark.
 
 use crate::variants::judge_all;

@@ -1,6 +1,6 @@
 //! Hostile texts, which the checker, the maker of records and the reports on lists of links judge alike: what no
-//! contract says is that none of them wants memory while there is some, and that each ends soon. Its tests judge them,
-//! by one function that says when two answers are alike.
+//! contract says is that none of them runs out of memory while there is some, and that each ends soon. Its tests judge
+//! them, by one function that says when two answers are alike.
 #![tactic(auto)]
 
 mod alike;

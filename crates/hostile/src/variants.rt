@@ -1,4 +1,4 @@
-//! Every front of every input, and every input with one of its code points replaced by a mark.
+//! Every prefix of every input, and every input with one of its code points replaced by a mark.
 
 use crate::judged::{base_record, judged, listed};
 use std::alloc::{AllocError, Global};
@@ -30,17 +30,17 @@ fn judge(rt: &(impl Abort + AllocGlobal), so_far: &mut Judged<'_>, text: &str) -
     Ok(())
 }
 
-// Judges each front of a text, the empty one and the text itself too.
-fn judge_fronts(
+// Judges each prefix of a text, the empty one and the text itself too.
+fn judge_prefixes(
     rt: &(impl Abort + AllocGlobal),
     so_far: &mut Judged<'_>,
     text: &str,
 ) -> Result<(), Fail> {
-    let mut front = String::new(rt.alloc());
+    let mut prefix = String::new(rt.alloc());
     judge(rt, so_far, "")?;
     for c in text.chars() {
-        front.push(c)?;
-        judge(rt, so_far, front.as_str())?;
+        prefix.push(c)?;
+        judge(rt, so_far, prefix.as_str())?;
     }
     Ok(())
 }
@@ -97,7 +97,7 @@ fn judge_variants(
         count: 0,
         refused: 0,
     };
-    judge_fronts(rt, &mut so_far, text)?;
+    judge_prefixes(rt, &mut so_far, text)?;
     judge_replaced(rt, &mut so_far, text)?;
     let wanted = (so_far.count, so_far.refused);
     listed(rt, so_far.lines.as_str(), base.as_ref(), profile, wanted)

@@ -11,7 +11,7 @@ use Rattle.uv_grammar.specs.declared.bases.BaseScheme.TheVariants.{Ftp, Http, Ht
 use Rattle.uv_grammar.specs.Bases.{IsOfKind}
 use Rattle.urlcheck_c.specs.declared.bases.Base.{Base}
 use Rattle.urlcheck_c.specs.declared.finding.Finding.{Finding}
-use Rattle.urlcheck_c.specs.declared.finding.Outcome.TheVariants.{NoUtf8}
+use Rattle.urlcheck_c.specs.declared.finding.CallOutcome.TheVariants.{NoUtf8}
 use Rattle.urlcheck_c.specs.Base.{IsPreparedBase, flag_number, held_base, kind_in, scheme_number, scheme_with}
 use Rattle.urlcheck_c.specs.Finding.{profile_of}
 use Rattle.urlcheck_c.specs.Request.{IsBase, IsNoBase, IsNoText, IsRequest, IsUnjudged}

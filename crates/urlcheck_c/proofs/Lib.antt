@@ -4,4 +4,4 @@ mod RecordLemmas
 mod SeenLemmas
 mod SpanLemmas
 mod StoreLemmas
-mod ToldLemmas
+mod ReportedLemmas

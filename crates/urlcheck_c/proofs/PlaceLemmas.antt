@@ -10,9 +10,9 @@ pub bytes_at_place : (bytes left : List ℕ) (place : ℕ) → IsUtf8 bytes → 
     → chars left ≡ drop place (chars bytes) → length bytes ≡ byte_place bytes place + length left
 unfolding byte_place
 bytes_at_place bytes left place utf8 left_utf8 behind =
-    let front = take place (chars bytes) in
-    let joined : encode_utf8_all front ++ left ≡ bytes
-    = ap (λ t. encode_utf8_all front ++ t) (sym (encodes-chars left left_utf8) ∙ ap encode_utf8_all behind)
-    ∙ sym (encodes-append front (drop place (chars bytes)))
+    let prefix = take place (chars bytes) in
+    let joined : encode_utf8_all prefix ++ left ≡ bytes
+    = ap (λ t. encode_utf8_all prefix ++ t) (sym (encodes-chars left left_utf8) ∙ ap encode_utf8_all behind)
+    ∙ sym (encodes-append prefix (drop place (chars bytes)))
     ∙ ap encode_utf8_all (take-append-drop place (chars bytes)) ∙ encodes-chars bytes utf8 in
-    sym (ap length joined) ∙ length-append (encode_utf8_all front) left
+    sym (ap length joined) ∙ length-append (encode_utf8_all prefix) left

@@ -12,6 +12,6 @@ use Rattle.urlcheck_c.specs.Resolved.{IsRecordAnswer, IsRecordWritten}
 pub written_is_answer : (profile : Profile) (given base : Option Url) (bytes old new : List ℕ) (url : Url)
     (answer : Resolved) → given ≡ base → Denotes profile given (chars bytes) url → IsRecordWritten url old new answer
     → IsRecordAnswer profile base bytes old new answer
-written_is_answer profile given base bytes old new url answer same denotes (inl front) =
-    inl (url, subst (λ (b : Option Url). Denotes profile b (chars bytes) url) same denotes, front)
+written_is_answer profile given base bytes old new url answer same denotes (inl prefix) =
+    inl (url, subst (λ (b : Option Url). Denotes profile b (chars bytes) url) same denotes, prefix)
 written_is_answer profile given base bytes old new url answer same denotes (inr wanting) = inr (inr wanting)

@@ -76,16 +76,16 @@ fragment_bytes (Some fragment) = ascii_first 35 fragment (lit< tt)
 
 -- ---- where a part stands
 
-range_seam : (front part back : List ℕ)
-    → slice_range (front ++ (part ++ back)) (length front) (length front + length part) ≡ part
-range_seam front part back =
-    let count : length front + length part - length front ≡ length part = omega arith in
-    rw (count, drop-append_seam front (part ++ back)) (take-append_seam part back)
+range_seam : (prefix part back : List ℕ)
+    → slice_range (prefix ++ (part ++ back)) (length prefix) (length prefix + length part) ≡ part
+range_seam prefix part back =
+    let count : length prefix + length part - length prefix ≡ length part = omega arith in
+    rw (count, drop-append_seam prefix (part ++ back)) (take-append_seam part back)
 
 -- it ends within the text
-end_within : (front mark part back : List ℕ)
-    → length front + length mark + length part ≤ length (front ++ ((mark ++ part) ++ back))
-end_within front mark part back = simp (length-append) (omega arith)
+end_within : (prefix mark part back : List ℕ)
+    → length prefix + length mark + length part ≤ length (prefix ++ ((mark ++ part) ++ back))
+end_within prefix mark part back = simp (length-append) (omega arith)
 
 -- so does a scheme
 scheme_within : (part mark back : List ℕ) → 0 + length part ≤ length ((part ++ mark) ++ back)
@@ -101,17 +101,17 @@ scheme_span (Some scheme) back = (
       (range_seam [] (encode_utf8_all scheme) ((58 ∷ []) ++ back)),
 )
 
-piece_span : (front mark : List ℕ) (part : Option (List ℕ)) (back : List ℕ)
-    → IsSpan (front ++ (piece mark part ++ back)) (length front) (length mark) part
-    (span_of (length front) (length mark) part)
-piece_span front mark None back = refl
-piece_span front mark (Some part) back =
-    let same : front ++ ((mark ++ encode_utf8_all part) ++ back) ≡ (front ++ mark) ++ (encode_utf8_all part ++ back)
-    = ap (λ t. front ++ t) (append_assoc mark (encode_utf8_all part) back)
-    ∙ sym (append_assoc front mark (encode_utf8_all part ++ back)) in (
+piece_span : (prefix mark : List ℕ) (part : Option (List ℕ)) (back : List ℕ)
+    → IsSpan (prefix ++ (piece mark part ++ back)) (length prefix) (length mark) part
+    (span_of (length prefix) (length mark) part)
+piece_span prefix mark None back = refl
+piece_span prefix mark (Some part) back =
+    let same : prefix ++ ((mark ++ encode_utf8_all part) ++ back) ≡ (prefix ++ mark) ++ (encode_utf8_all part ++ back)
+    = ap (λ t. prefix ++ t) (append_assoc mark (encode_utf8_all part) back)
+    ∙ sym (append_assoc prefix mark (encode_utf8_all part ++ back)) in (
       refl,
-      end_within front mark (encode_utf8_all part) back,
-      rw (same, sym (length-append front mark)) (range_seam (front ++ mark) (encode_utf8_all part) back),
+      end_within prefix mark (encode_utf8_all part) back,
+      rw (same, sym (length-append prefix mark)) (range_seam (prefix ++ mark) (encode_utf8_all part) back),
     )
 
 scheme_extent : (scheme : Option (List ℕ)) → length (scheme_piece scheme) ≡ extent 1 scheme
@@ -169,10 +169,10 @@ whole_length p =
     simp (length-append) (omega (arith, s, h, o, a, q, f))
 
 -- the span of a piece, where the text is regrouped
-regrouped : (bytes front mark : List ℕ) (part : Option (List ℕ)) (back : List ℕ) (at : ℕ)
-    → bytes ≡ front ++ (piece mark part ++ back) → length front ≡ at
+regrouped : (bytes prefix mark : List ℕ) (part : Option (List ℕ)) (back : List ℕ) (at : ℕ)
+    → bytes ≡ prefix ++ (piece mark part ++ back) → length prefix ≡ at
     → IsSpan bytes at (length mark) part (span_of at (length mark) part)
-regrouped bytes front mark part back at same here = rw (same, ← here) (piece_span front mark part back)
+regrouped bytes prefix mark part back at same here = rw (same, ← here) (piece_span prefix mark part back)
 
 -- the spans of the parts in that text
 pub laid_spans : (p : Parts) → AreSpans (laid_out p) p (spans_of p)

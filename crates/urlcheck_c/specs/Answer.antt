@@ -2,15 +2,13 @@
 use Rattle.std.specs.Prelude.{◌≡◌, ℕ, ◌⊎◌, List, Option}
 use Rattle.std.specs.Str.{chars}
 use Rattle.uv_model.specs.declared.profile.Profile.{Profile}
-use Rattle.uv_model.specs.Cut.{cut_of}
 use Rattle.uv_model.specs.Parts.{Parts}
 use Rattle.uv_model.specs.Records.Url.{Url}
-use Rattle.uv_model.specs.Setting.{setting_of}
-use Rattle.uv_grammar.specs.NoMemory.{TakesNoMemory}
+use Rattle.uv_grammar.specs.NoMemory.{TakesNoMemoryAgainst}
 use Rattle.uv_grammar.specs.Verdict.{IsAccepted}
 use Rattle.urlcheck_c.specs.declared.checks.Answer.{Answer}
 use Rattle.urlcheck_c.specs.declared.finding.Finding.{Finding}
-use Rattle.urlcheck_c.specs.declared.finding.Outcome.TheVariants.{Valid, Refused}
+use Rattle.urlcheck_c.specs.declared.finding.CallOutcome.TheVariants.{Valid, Refused}
 use Rattle.urlcheck_c.specs.Finding.{plain_finding}
 use Rattle.urlcheck_c.specs.Request.{IsMemory, IsRefusedText, IsRequest, IsUnjudged}
 use Rattle.urlcheck_c.specs.Span.{AreSpans, no_spans}
@@ -22,21 +20,16 @@ pub record IsValidAnswer (profile : Profile) (base : Option Url) (bytes : List �
   pub spans : AreSpans bytes parts answer.parts
   pub found : answer.found ≡ plain_finding Valid
 
--- the text is judged against the base without memory
-abbrev pub IsJudgedInPlace : Profile → Option Url → List ℕ → Type 0
-IsJudgedInPlace profile base text =
-    TakesNoMemory (setting_of profile base (cut_of base text).scheme) text (cut_of base text)
-
 -- memory ran out, of a text that isn't judged without it
-abbrev pub IsMemoryWanted : Profile → Option Url → List ℕ → Finding → Type 0
-IsMemoryWanted profile base bytes finding = IsMemory finding × ¬ (IsJudgedInPlace profile base (chars bytes))
+abbrev pub IsOutOfMemory : Profile → Option Url → List ℕ → Finding → Type 0
+IsOutOfMemory profile base bytes finding = IsMemory finding × ¬ (TakesNoMemoryAgainst profile base (chars bytes))
 
 -- the text is valid; or it has no spans, and it is refused, or memory ran out
 abbrev pub IsJudged : Profile → Option Url → List ℕ → Answer → Type 0
 IsJudged profile base bytes answer =
     IsValidAnswer profile base bytes answer
     ⊎ ((answer.parts ≡ no_spans)
-    × (IsRefusedText Refused profile base bytes answer.found ⊎ IsMemoryWanted profile base bytes answer.found))
+    × (IsRefusedText Refused profile base bytes answer.found ⊎ IsOutOfMemory profile base bytes answer.found))
 
 -- the text isn't judged, and has no spans; or it is judged against the base, if one is given
 abbrev pub IsAnswer : ℕ → Option (List ℕ) → List ℕ → Answer → Type 0

@@ -3,13 +3,13 @@ use Rattle.std.specs.Prelude.{◌≡◌, ℕ, ◌⊎◌, List, [], ◌∷◌, �
 use Rattle.std.specs.Str.{chars}
 use Rattle.uv_model.specs.declared.profile.Profile.{Profile}
 use Rattle.uv_model.specs.declared.rule.Refusal.{Refusal}
-use Rattle.uv_model.specs.Complaints.AllComplaints.{AreFaults}
-use Rattle.uv_model.specs.Complaints.Rule.{rule_number}
+use Rattle.uv_model.specs.Violations.AllViolations.{AreFaults}
+use Rattle.uv_model.specs.Violations.Rule.{rule_number}
 use Rattle.uv_model.specs.Records.Url.{Url}
 use Rattle.urlcheck_c.specs.declared.fault_lists.Fault.{Fault}
 use Rattle.urlcheck_c.specs.declared.fault_lists.FaultCount.{FaultCount}
 use Rattle.urlcheck_c.specs.declared.finding.Finding.{Finding}
-use Rattle.urlcheck_c.specs.declared.finding.Outcome.TheVariants.{Valid, Refused, Memory}
+use Rattle.urlcheck_c.specs.declared.finding.CallOutcome.TheVariants.{Valid, Refused, Memory}
 use Rattle.urlcheck_c.specs.Finding.{byte_place, plain_finding, refused_finding}
 use Rattle.urlcheck_c.specs.Request.{IsRequest, IsUnjudged}
 
@@ -21,7 +21,7 @@ fault_of bytes refusal = record {
   byte_place = byte_place bytes refusal.place;
 }
 
--- as many faults as the buffer holds in its front, and behind them what was there
+-- as many faults as the buffer holds in its prefix, and behind them what was there
 abbrev pub stored : List ℕ → List Refusal → List Fault → List Fault
 stored bytes refusals old =
     take (length old) (map (fault_of bytes) refusals) ++ drop (length refusals) old

@@ -5,14 +5,14 @@ use Rattle.std.specs.Str.Lossy.{utf8_valid_len}
 use Rattle.uv_model.specs.declared.profile.Profile.{Profile}
 use Rattle.uv_model.specs.declared.profile.Profile.TheVariants as profiles
 use Rattle.uv_model.specs.declared.rule.Refusal.{Refusal}
-use Rattle.uv_model.specs.Complaints.Rule.{rule_number}
+use Rattle.uv_model.specs.Violations.Rule.{rule_number}
 use Rattle.urlcheck_c.specs.declared.finding.Finding.{Finding}
-use Rattle.urlcheck_c.specs.declared.finding.Outcome.{Outcome}
-use Rattle.urlcheck_c.specs.declared.finding.Outcome.TheVariants.{Valid, Refused, NoUtf8, BaseRefused, BaseNoUtf8}
-use Rattle.urlcheck_c.specs.declared.finding.Outcome.TheVariants.{Memory, NoProfile, NoBase}
+use Rattle.urlcheck_c.specs.declared.finding.CallOutcome.{CallOutcome}
+use Rattle.urlcheck_c.specs.declared.finding.CallOutcome.TheVariants.{Valid, Refused, NoUtf8, BaseRefused, BaseNoUtf8}
+use Rattle.urlcheck_c.specs.declared.finding.CallOutcome.TheVariants.{Memory, NoProfile, NoBase}
 
 -- the number of an outcome
-abbrev pub outcome_number : Outcome → ℕ
+abbrev pub outcome_number : CallOutcome → ℕ
 outcome_number Valid = 0
 outcome_number Refused = 1
 outcome_number NoUtf8 = 2
@@ -32,11 +32,11 @@ unfoldable pub byte_place : List ℕ → ℕ → ℕ
 byte_place bytes place = length (encode_utf8_all (take place (chars bytes)))
 
 -- an outcome without a rule and a place
-abbrev pub plain_finding : Outcome → Finding
+abbrev pub plain_finding : CallOutcome → Finding
 plain_finding outcome = record { verdict = outcome_number outcome; rule = 0; place = 0; byte_place = 0 }
 
 -- a text that is refused, with its rule and its place
-abbrev pub refused_finding : Outcome → List ℕ → Refusal → Finding
+abbrev pub refused_finding : CallOutcome → List ℕ → Refusal → Finding
 refused_finding outcome bytes refusal = record {
   verdict = outcome_number outcome;
   rule = rule_number refusal.rule;
@@ -44,8 +44,8 @@ refused_finding outcome bytes refusal = record {
   byte_place = byte_place bytes refusal.place;
 }
 
--- bytes that are no UTF-8, with the end of their longest front that is
-abbrev pub no_utf8_finding : Outcome → List ℕ → Finding
+-- bytes that are no UTF-8, with the end of their longest prefix that is
+abbrev pub no_utf8_finding : CallOutcome → List ℕ → Finding
 no_utf8_finding outcome bytes = record {
   verdict = outcome_number outcome;
   rule = 0;

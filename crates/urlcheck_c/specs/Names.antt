@@ -1,7 +1,7 @@
 -- The names and the sentences of the rules by their numbers.
 use Rattle.std.specs.Prelude.{ℕ, ◌==◌, List, [], Option, Some, None, find}
 use Rattle.uv_model.specs.declared.rule.Rule.{Rule}
-use Rattle.uv_model.specs.Complaints.Rule.{rule_name, rule_number, rule_sentence, rules_in_order}
+use Rattle.uv_model.specs.Violations.Rule.{rule_name, rule_number, rule_sentence, rules_in_order}
 
 -- the rule with a number, where there is one
 abbrev pub rule_with_number : ℕ → Option Rule

@@ -8,18 +8,19 @@ use Rattle.uv_model.specs.Records.Url.{Url}
 use Rattle.uv_grammar.specs.Verdict.{IsRefused}
 use Rattle.uv_resolve.specs.Resolve.{Denotes}
 use Rattle.urlcheck_c.specs.declared.finding.Finding.{Finding}
-use Rattle.urlcheck_c.specs.declared.finding.Outcome.{Outcome}
-use Rattle.urlcheck_c.specs.declared.finding.Outcome.TheVariants.{NoUtf8, BaseRefused, BaseNoUtf8, Memory, NoProfile}
+use Rattle.urlcheck_c.specs.declared.finding.CallOutcome.{CallOutcome}
+use Rattle.urlcheck_c.specs.declared.finding.CallOutcome.TheVariants.{NoUtf8, BaseRefused, BaseNoUtf8, Memory}
+use Rattle.urlcheck_c.specs.declared.finding.CallOutcome.TheVariants.{NoProfile}
 use Rattle.urlcheck_c.specs.declared.request.Request.{Request}
 use Rattle.urlcheck_c.specs.Finding.{no_utf8_finding, plain_finding, profile_of, refused_finding}
 
 -- the bytes are no UTF-8, and the finding says so with this outcome
-pub record IsNoText (outcome : Outcome) (bytes : List ℕ) (finding : Finding) : Type 0 where
+pub record IsNoText (outcome : CallOutcome) (bytes : List ℕ) (finding : Finding) : Type 0 where
   pub none : ¬ (IsUtf8 bytes)
   pub said : finding ≡ no_utf8_finding outcome bytes
 
 -- the bytes are refused against the base, and the finding says so with this outcome
-pub record IsRefusedText (outcome : Outcome) (profile : Profile) (base : Option Url) (bytes : List ℕ)
+pub record IsRefusedText (outcome : CallOutcome) (profile : Profile) (base : Option Url) (bytes : List ℕ)
     (finding : Finding) : Type 0 where
   pub refusal : Refusal
   pub utf8 : IsUtf8 bytes
@@ -31,7 +32,7 @@ abbrev pub IsMemory : Finding → Type 0
 IsMemory finding = finding ≡ plain_finding Memory
 
 -- the bytes of a text, or why they are none
-abbrev pub IsTextRead : Outcome → List ℕ → Result (Bor (List ℕ)) Finding → Type 0
+abbrev pub IsTextRead : CallOutcome → List ℕ → Result (Bor (List ℕ)) Finding → Type 0
 IsTextRead outcome bytes (Ok text) = (text.now ≡ bytes) × IsUtf8 bytes
 IsTextRead outcome bytes (Err finding) = IsNoText outcome bytes finding
 

@@ -1,8 +1,9 @@
 //! A base that is judged once and held between calls.
 ghost use Rattle.std.specs.Prelude.{◌≡◌, ◌==◌, ℕ, List, not};
-ghost use Rattle.urlcheck_c.specs.Base.{IsKindRead, IsPreparedBase, IsPreparedWith, flag_number, held_base, kind_in, scheme_number, scheme_with};
+ghost use Rattle.urlcheck_c.specs.Base.{IsKindRead, IsPreparedBase, IsPreparedWith, flag_number, held_base, kind_in};
+ghost use Rattle.urlcheck_c.specs.Base.{scheme_number, scheme_with};
 
-use crate::finding::{Finding, Outcome};
+use crate::finding::{CallOutcome, Finding};
 use crate::request::{base_of, profile_of, text_of};
 use std::alloc::Global;
 use uv_grammar::{BaseKind, BaseScheme};
@@ -41,7 +42,7 @@ fn kind_of(alloc: Global, base: &[u8], profile: u32) -> Result<BaseKind, Finding
     ensures { IsKindRead profile base.now result }
 {
     let Some(profile) = profile_of(profile) else {
-        return Err(Finding::plain(Outcome::NoProfile));
+        return Err(Finding::plain(CallOutcome::NoProfile));
     };
     let record = base_of(alloc, base, profile)?;
     Ok(BaseKind::of(&record))
@@ -53,7 +54,7 @@ impl Base {
         ensures { result ≡ held_base profile kind }
     {
         Base {
-            found: Finding::plain(Outcome::Valid),
+            found: Finding::plain(CallOutcome::Valid),
             profile,
             scheme: scheme_number(kind.scheme),
             opaque_path: u32::from(kind.has_opaque_path),
@@ -133,15 +134,15 @@ pub(crate) fn prepared_with<'t>(text: &'t [u8], base: &Base) -> Result<HeldReque
     ensures { (number : ℕ) (bytes : List ℕ) → IsPreparedBase number bytes base.now
         → IsPreparedWith number bytes text.now result }
 {
-    if base.found.verdict == Outcome::NoProfile.number() {
+    if base.found.verdict == CallOutcome::NoProfile.number() {
         return Err(base.found);
     }
-    let text = text_of(text, Outcome::NoUtf8)?;
-    if base.found.verdict != Outcome::Valid.number() {
+    let text = text_of(text, CallOutcome::NoUtf8)?;
+    if base.found.verdict != CallOutcome::Valid.number() {
         return Err(base.found);
     }
     let Some(profile) = profile_of(base.profile) else {
-        return Err(Finding::plain(Outcome::NoBase));
+        return Err(Finding::plain(CallOutcome::NoBase));
     };
     match base.kind() {
         Some(kind) => Ok(HeldRequest {
@@ -149,6 +150,6 @@ pub(crate) fn prepared_with<'t>(text: &'t [u8], base: &Base) -> Result<HeldReque
             base: kind,
             profile,
         }),
-        None => Err(Finding::plain(Outcome::NoBase)),
+        None => Err(Finding::plain(CallOutcome::NoBase)),
     }
 }

@@ -7,9 +7,9 @@ use crate::fault_lists::Fault;
 use crate::places::{behind_passed, bytes_before};
 use uv_model::Refusal;
 
-/// Writes the bytes to the front of `out` where they fit, and gives their length. Where `out` is shorter it stays as it
+/// Writes the bytes to the start of `out` where they fit, and gives their length. Where `out` is shorter it stays as it
 /// is.
-pub(crate) fn write_front(bytes: &[u8], out: &mut [u8]) -> usize
+pub(crate) fn write_prefix(bytes: &[u8], out: &mut [u8]) -> usize
     ensures { IsWritten bytes.now out.old out.new result }
 {
     if bytes.len() <= out.len() {
@@ -18,7 +18,7 @@ pub(crate) fn write_front(bytes: &[u8], out: &mut [u8]) -> usize
     bytes.len()
 }
 
-/// Writes as many faults of a text as the buffer holds to its front.
+/// Writes as many faults of a text as the buffer holds to its prefix.
 pub(crate) fn store(text: &str, found: &[Refusal], out: &mut [Fault])
     ensures { out.new ≡ stored text.now found.now out.old }
 {
@@ -30,7 +30,7 @@ pub(crate) fn store(text: &str, found: &[Refusal], out: &mut [Fault])
     }
 }
 
-// Writes the faults to the front of a buffer that holds them.
+// Writes the faults to the start of a buffer that holds them.
 fn store_all(text: &str, found: &[Refusal], out: &mut [Fault])
     requires { length found.now ≤ length out.old }
     ensures { out.new ≡ map (fault_of text.now) found.now ++ drop (length found.now) out.old }

@@ -7,7 +7,7 @@ ghost use Rattle.urlcheck_c.specs.Base.{IsPreparedBase};
 ghost use Rattle.urlcheck_c.specs.Span.{no_spans};
 
 use crate::bases::{Base, HeldRequest, prepared_with};
-use crate::finding::{Finding, Outcome};
+use crate::finding::{CallOutcome, Finding};
 use crate::request::{Request, prepared};
 use crate::spans::{Spans, placed};
 use std::alloc::{AllocError, Global};
@@ -74,11 +74,11 @@ fn judged(alloc: Global, request: &Request<'_>) -> Answer
     let text = request.text;
     match check(alloc, text, request.base.as_ref(), request.profile) {
         Ok(Verdict::Yes(parts)) => Answer {
-            found: Finding::plain(Outcome::Valid),
+            found: Finding::plain(CallOutcome::Valid),
             parts: placed(text, &parts),
         },
-        Ok(Verdict::No(refusal)) => unjudged(Finding::refused(Outcome::Refused, text, refusal)),
-        Err(AllocError) => unjudged(Finding::plain(Outcome::Memory)),
+        Ok(Verdict::No(refusal)) => unjudged(Finding::refused(CallOutcome::Refused, text, refusal)),
+        Err(AllocError) => unjudged(Finding::plain(CallOutcome::Memory)),
     }
 }
 
@@ -90,11 +90,11 @@ fn judged_with(alloc: Global, request: &HeldRequest<'_>) -> Answer
     let text = request.text;
     match check_of_kind(alloc, text, request.base, request.profile) {
         Ok(Verdict::Yes(parts)) => Answer {
-            found: Finding::plain(Outcome::Valid),
+            found: Finding::plain(CallOutcome::Valid),
             parts: placed(text, &parts),
         },
-        Ok(Verdict::No(fault)) => unjudged(Finding::refused(Outcome::Refused, text, fault)),
-        Err(AllocError) => unjudged(Finding::plain(Outcome::Memory)),
+        Ok(Verdict::No(fault)) => unjudged(Finding::refused(CallOutcome::Refused, text, fault)),
+        Err(AllocError) => unjudged(Finding::plain(CallOutcome::Memory)),
     }
 }
 

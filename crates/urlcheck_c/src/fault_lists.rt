@@ -7,7 +7,7 @@ ghost use Rattle.urlcheck_c.specs.Faults.{IsFaultsAnswer, IsFaultsJudged, first_
 
 use crate::bases::{Base, HeldRequest, prepared_with};
 use crate::buffers::store;
-use crate::finding::{Finding, Outcome};
+use crate::finding::{CallOutcome, Finding};
 use crate::request::{Request, prepared};
 use std::alloc::{AllocError, Global};
 use uv_grammar::{faults, faults_of_kind};
@@ -35,7 +35,7 @@ pub struct FaultCount {
     pub count: usize,
 }
 
-/// Writes the faults of the bytes alone to the front of `out`, by place and at one place by the rule's number, as many
+/// Writes the faults of the bytes alone to the start of `out`, by place and at one place by the rule's number, as many
 /// as it holds, and gives their count. Behind them `out` stays as it is.
 #[unsafe(no_mangle)]
 pub extern "C" fn urlcheck_faults(
@@ -110,7 +110,7 @@ fn judged(alloc: Global, request: &Request<'_>, out: &mut [Fault]) -> FaultCount
             }
         }
         Err(AllocError) => FaultCount {
-            found: Finding::plain(Outcome::Memory),
+            found: Finding::plain(CallOutcome::Memory),
             count: 0,
         },
     }
@@ -131,7 +131,7 @@ fn judged_with(alloc: Global, request: &HeldRequest<'_>, out: &mut [Fault]) -> F
             }
         }
         Err(AllocError) => FaultCount {
-            found: Finding::plain(Outcome::Memory),
+            found: Finding::plain(CallOutcome::Memory),
             count: 0,
         },
     }
@@ -142,7 +142,7 @@ fn first_found(text: &str, found: &[Refusal]) -> Finding
     ensures { result ≡ first_finding text.now found.now }
 {
     match found.first() {
-        Some(refusal) => Finding::refused(Outcome::Refused, text, *refusal),
-        None => Finding::plain(Outcome::Valid),
+        Some(refusal) => Finding::refused(CallOutcome::Refused, text, *refusal),
+        None => Finding::plain(CallOutcome::Valid),
     }
 }

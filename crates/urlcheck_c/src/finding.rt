@@ -14,7 +14,7 @@ use uv_text::count_code_points;
 #[derive(Clone, Copy)]
 pub struct Finding {
     /// The number of the outcome: 0 valid, 1 refused, 2 no UTF-8, 3 the base is refused alone, 4 the base is no UTF-8,
-    /// 5 want of memory, 6 no profile has the number, 7 no base was prepared.
+    /// 5 out of memory, 6 no profile has the number, 7 no base was prepared.
     pub verdict: u32,
     /// The number of the violated rule, from 1 to 14, where the text or the base is refused, else 0.
     pub rule: u32,
@@ -26,7 +26,7 @@ pub struct Finding {
 
 /// The outcomes of a call.
 #[derive(Clone, Copy)]
-pub(crate) enum Outcome {
+pub(crate) enum CallOutcome {
     /// The text is a valid URL string.
     Valid,
     /// The text violates a rule.
@@ -37,7 +37,7 @@ pub(crate) enum Outcome {
     BaseRefused,
     /// The base is no UTF-8.
     BaseNoUtf8,
-    /// A growth was refused.
+    /// An allocation failed.
     Memory,
     /// No profile has the number.
     NoProfile,
@@ -45,27 +45,27 @@ pub(crate) enum Outcome {
     NoBase,
 }
 
-impl Outcome {
+impl CallOutcome {
     /// The number that C sees.
     pub(crate) fn number(self) -> u32
         ensures { result ≡ outcome_number self }
     {
         match self {
-            Outcome::Valid => 0,
-            Outcome::Refused => 1,
-            Outcome::NoUtf8 => 2,
-            Outcome::BaseRefused => 3,
-            Outcome::BaseNoUtf8 => 4,
-            Outcome::Memory => 5,
-            Outcome::NoProfile => 6,
-            Outcome::NoBase => 7,
+            CallOutcome::Valid => 0,
+            CallOutcome::Refused => 1,
+            CallOutcome::NoUtf8 => 2,
+            CallOutcome::BaseRefused => 3,
+            CallOutcome::BaseNoUtf8 => 4,
+            CallOutcome::Memory => 5,
+            CallOutcome::NoProfile => 6,
+            CallOutcome::NoBase => 7,
         }
     }
 }
 
 impl Finding {
     /// An outcome without a rule and a place.
-    pub(crate) fn plain(outcome: Outcome) -> Finding
+    pub(crate) fn plain(outcome: CallOutcome) -> Finding
         ensures { result ≡ plain_finding outcome }
     {
         Finding {
@@ -77,7 +77,7 @@ impl Finding {
     }
 
     /// A text that is refused.
-    pub(crate) fn refused(outcome: Outcome, text: &str, refusal: Refusal) -> Finding
+    pub(crate) fn refused(outcome: CallOutcome, text: &str, refusal: Refusal) -> Finding
         ensures { result ≡ refused_finding outcome text.now refusal }
     {
         Finding {
@@ -88,17 +88,17 @@ impl Finding {
         }
     }
 
-    /// Bytes whose longest front that is UTF-8 has this length.
-    pub(crate) fn no_utf8(outcome: Outcome, bytes: &[u8], front: usize) -> Finding
-        requires front { IsValidUpTo bytes.now front }
-        requires longest { front ≡ utf8_valid_len bytes.now }
+    /// Bytes whose longest prefix that is UTF-8 has this length.
+    pub(crate) fn no_utf8(outcome: CallOutcome, bytes: &[u8], prefix: usize) -> Finding
+        requires prefix { IsValidUpTo bytes.now prefix }
+        requires longest { prefix ≡ utf8_valid_len bytes.now }
         ensures { result ≡ no_utf8_finding outcome bytes.now }
     {
         Finding {
             verdict: outcome.number(),
             rule: 0,
-            place: count_valid(&bytes[..front]),
-            byte_place: front,
+            place: count_valid(&bytes[..prefix]),
+            byte_place: prefix,
         }
     }
 }

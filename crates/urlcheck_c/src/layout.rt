@@ -1,5 +1,5 @@
-//! The layout of what C gets: the sizes that include/urlcheck.h asserts too. In each size there is no room for a field at
-//! another place than there.
+//! The layout of what C gets: the sizes that include/urlcheck.h asserts too. In each size there is no room for a field
+//! at another place than there.
 
 use crate::bases::Base;
 use crate::checks::Answer;

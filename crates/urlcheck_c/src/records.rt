@@ -2,8 +2,8 @@
 ghost use Rattle.std.specs.Prelude.{◌≡◌, None, Some, option_copied};
 ghost use Rattle.urlcheck_c.specs.Resolved.{IsRecordAnswer, IsRecordWritten, IsResolvedAnswer, no_memory};
 
-use crate::buffers::write_front;
-use crate::finding::{Finding, Outcome};
+use crate::buffers::write_prefix;
+use crate::finding::{CallOutcome, Finding};
 use crate::request::{Request, prepared};
 use std::alloc::{AllocError, Global};
 use uv_model::Record;
@@ -19,7 +19,7 @@ pub struct Resolved {
     pub length: usize,
 }
 
-/// Writes the text of the record that the bytes denote alone (URL Standard, sections 4.4 and 4.5) to the front of
+/// Writes the text of the record that the bytes denote alone (URL Standard, sections 4.4 and 4.5) to the start of
 /// `out`, where it fits. Else, and where the bytes denote none, `out` stays as it is.
 #[unsafe(no_mangle)]
 pub extern "C" fn urlcheck_resolve(
@@ -71,7 +71,7 @@ fn request_resolved(alloc: Global, request: &Request<'_>, out: &mut [u8]) -> Res
     match resolve(alloc, text, request.base.as_ref(), request.profile) {
         Ok(url) => written(alloc, &url, out),
         Err(ResolveFault::Refused(refusal)) => Resolved {
-            found: Finding::refused(Outcome::Refused, text, refusal),
+            found: Finding::refused(CallOutcome::Refused, text, refusal),
             length: 0,
         },
         Err(ResolveFault::Memory(_)) => memory(),
@@ -84,19 +84,19 @@ fn written(alloc: Global, url: &Record, out: &mut [u8]) -> Resolved
 {
     match url.text(alloc) {
         Ok(text) => Resolved {
-            found: Finding::plain(Outcome::Valid),
-            length: write_front(text.as_bytes(), out),
+            found: Finding::plain(CallOutcome::Valid),
+            length: write_prefix(text.as_bytes(), out),
         },
         Err(AllocError) => memory(),
     }
 }
 
-// Want of memory.
+// Out of memory.
 fn memory() -> Resolved
     ensures { result ≡ no_memory }
 {
     Resolved {
-        found: Finding::plain(Outcome::Memory),
+        found: Finding::plain(CallOutcome::Memory),
         length: 0,
     }
 }

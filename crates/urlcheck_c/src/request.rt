@@ -3,7 +3,7 @@ ghost use Rattle.std.specs.Prelude.{◌≡◌, option_copied};
 ghost use Rattle.urlcheck_c.specs.Finding.{profile_of};
 ghost use Rattle.urlcheck_c.specs.Request.{IsBaseRead, IsPrepared, IsTextRead};
 
-use crate::finding::{Finding, Outcome};
+use crate::finding::{CallOutcome, Finding};
 use simdutf8::compat::from_utf8;
 use std::alloc::Global;
 use uv_model::{Profile, Record};
@@ -30,9 +30,9 @@ pub(crate) fn prepared<'t>(
     ensures { IsPrepared profile (option_copied base.entry) text.now result }
 {
     let Some(profile) = profile_of(profile) else {
-        return Err(Finding::plain(Outcome::NoProfile));
+        return Err(Finding::plain(CallOutcome::NoProfile));
     };
-    let text = text_of(text, Outcome::NoUtf8)?;
+    let text = text_of(text, CallOutcome::NoUtf8)?;
     match base {
         Some(base) => Ok(Request {
             text,
@@ -59,7 +59,7 @@ pub(crate) fn profile_of(number: u32) -> Option<Profile>
 }
 
 /// The bytes as a text.
-pub(crate) fn text_of(bytes: &[u8], fault: Outcome) -> Result<&str, Finding>
+pub(crate) fn text_of(bytes: &[u8], fault: CallOutcome) -> Result<&str, Finding>
     ensures { IsTextRead fault bytes.now result }
 {
     match from_utf8(bytes) {
@@ -72,12 +72,12 @@ pub(crate) fn text_of(bytes: &[u8], fault: Outcome) -> Result<&str, Finding>
 pub(crate) fn base_of(alloc: Global, base: &[u8], profile: Profile) -> Result<Record, Finding>
     ensures { IsBaseRead profile base.now result }
 {
-    let base = text_of(base, Outcome::BaseNoUtf8)?;
+    let base = text_of(base, CallOutcome::BaseNoUtf8)?;
     match resolve(alloc, base, None, profile) {
         Ok(record) => Ok(record),
         Err(ResolveFault::Refused(refusal)) => {
-            Err(Finding::refused(Outcome::BaseRefused, base, refusal))
+            Err(Finding::refused(CallOutcome::BaseRefused, base, refusal))
         }
-        Err(ResolveFault::Memory(_)) => Err(Finding::plain(Outcome::Memory)),
+        Err(ResolveFault::Memory(_)) => Err(Finding::plain(CallOutcome::Memory)),
     }
 }

@@ -9,7 +9,7 @@ use Rattle.uv_lint.specs.declared.counts.LintCounts.{LintCounts}
 use Rattle.uv_lint.specs.declared.fault.LintFault.{LintFault}
 use Rattle.uv_lint.specs.declared.fault.LintFault.TheVariants.{Memory, Read, Write, TooManyLines, Endless}
 use Rattle.uv_lint.specs.declared.setting.LintSetting.{LintSetting}
-use Rattle.uv_lint.specs.Findings.{FileSetting, file_setting}
+use Rattle.uv_lint.specs.LineViolations.{FileSetting, file_setting}
 use Rattle.uv_lint.specs.Run.{FailsReads, Leaves, Reports, writes_failed}
 use Rattle.uv_report.specs.declared.format.Format.{Format}
 use Rattle.uv_model.specs.Records.Url.{Url}
@@ -19,7 +19,7 @@ use Rattle.uv_cli.specs.declared.ends.End.{End}
 use Rattle.uv_cli.specs.declared.ends.End.TheVariants as end
 use Rattle.uv_vectors.specs.declared.fault.CliFault.TheVariants as cli
 use Rattle.uv_cli.specs.declared.linted.Linted.{Linted}
-use Rattle.uv_cli.specs.Device.{Device}
+use Rattle.uv_cli.specs.Stream.{Stream}
 use Rattle.uv_cli.specs.Lint.{FailsAsAnswered, HasLinted, HasLintedAgainst, LintsAll, LintsNamed, LintsNext}
 use Rattle.uv_cli.specs.Lint.{LintsSource, WritesPiece, format_of, most}
 use Rattle.uv_cli.specs.Linted.{is_stopped, is_writable, no_file, with_file}
@@ -42,7 +42,7 @@ lints_source setting is_first counts (Err e) start rest old new a b c d report (
 
 -- one file behind others
 pub all_more : (setting : List ℕ → FileSetting) (files : List (List ℕ)) (file : List ℕ) (before middle after : Linted)
-    (input between rest old part new : Device)
+    (input between rest old part new : Stream)
     → LintsAll setting files before middle input between old part
     → LintsNext (is_stopped middle) (setting file) middle after between rest part new
     → LintsAll setting (files ++ file ∷ []) before after input rest old new
@@ -72,7 +72,7 @@ files_all files at end = ap (map string_bytes) (take_all at files end)
 
 -- a source that was linted: where no write has failed, none was counted
 source_quiet : (before : Linted) (counts : LintCounts) (answer : Result (Unit {0}) LintFault)
-    (input rest old new : Device)
+    (input rest old new : Stream)
     → FailsAsAnswered answer input rest old new → is_writable (with_file before counts answer).stopped ≡ true
     → new.failed ≡ old.failed
 source_quiet before counts (Ok u) input rest old new failed writable = failed.1
@@ -84,7 +84,7 @@ source_quiet before counts (Err Endless) input rest old new failed writable = le
 
 -- the same of a file by its name
 named_quiet : (is_input : Bool) (setting : FileSetting) (is_first : Bool) (before : Linted) (counts : LintCounts)
-    (answer : Result (Unit {0}) LintFault) (input rest old new : Device)
+    (answer : Result (Unit {0}) LintFault) (input rest old new : Stream)
     → LintsNamed is_input setting is_first counts answer input rest old new
     → is_writable (with_file before counts answer).stopped ≡ true → new.failed ≡ old.failed
 named_quiet true setting is_first before counts answer input rest old new named writable = elim named [
@@ -102,7 +102,7 @@ writable_unstopped None h = refl
 writable_unstopped (Some fault) h = grind (arith, h)
 
 -- the next file: where no write has failed, none was counted, and none had failed before
-quiet_by : (stopped : Bool) (setting : FileSetting) (before after : Linted) (input rest old new : Device)
+quiet_by : (stopped : Bool) (setting : FileSetting) (before after : Linted) (input rest old new : Stream)
     → is_stopped before ≡ stopped → LintsNext stopped setting before after input rest old new
     → is_writable after.stopped ≡ true → (new.failed ≡ old.failed) × (is_writable before.stopped ≡ true)
 quiet_by true setting before after input rest old new is next writable = (
@@ -115,7 +115,7 @@ quiet_by false setting before after input rest old new is next writable = (
   writable_unstopped before.stopped is,
 )
 
-pub next_quiet : (setting : FileSetting) (before after : Linted) (input rest old new : Device)
+pub next_quiet : (setting : FileSetting) (before after : Linted) (input rest old new : Stream)
     → LintsNext (is_stopped before) setting before after input rest old new
     → is_writable after.stopped ≡ true → (new.failed ≡ old.failed) × (is_writable before.stopped ≡ true)
 next_quiet setting before after input rest old new next writable =
@@ -124,7 +124,7 @@ next_quiet setting before after input rest old new next writable =
 -- ---- the whole report
 
 -- the piece that a report begins with
-pub begins_with : (piece text : List ℕ) (is_quiet : Bool) (none first : Linted) (old begun : Device)
+pub begins_with : (piece text : List ℕ) (is_quiet : Bool) (none first : Linted) (old begun : Stream)
     → none ≡ no_file is_quiet → piece ≡ text
     → WritesPiece (is_writable none.stopped) piece none first old begun
     → WritesPiece true text (no_file is_quiet) first old begun
@@ -134,7 +134,7 @@ begins_with piece text is_quiet none first old begun is same wrote =
 
 -- the same files were linted
 pub lints_files : (setting : LintSetting) (files names : List (List ℕ)) (before after : Linted)
-    (input rest old new : Device)
+    (input rest old new : Stream)
     → files ≡ names → LintsAll (λ file. file_setting file setting) files before after input rest old new
     → LintsAll (λ file. file_setting file setting) names before after input rest old new
 lints_files setting files names before after input rest old new same all =
@@ -142,7 +142,7 @@ lints_files setting files names before after input rest old new same all =
 
 -- what was done against the URL of the base's text
 pub linted_against : (asked : LintJob) (base name : Option (Bor (List ℕ))) (url : Option Url) (format : Format)
-    (end : End) (input rest old new : Device)
+    (end : End) (input rest old new : Stream)
     → IsBase asked.profile base url → format_of name ≡ Some format
     → HasLintedAgainst asked url format end input rest old new → HasLinted asked base name end input rest old new
 linted_against asked base name url format (end.Linted linted) input rest old new is named done =

@@ -9,12 +9,12 @@ use Rattle.uv_cli.specs.declared.ends.End.TheVariants.{Valid, Refused, Shown, Wo
 use Rattle.uv_cli.specs.declared.ends.End.TheVariants.{UnknownProfile, BaseRefused}
 use Rattle.uv_cli.specs.declared.ends.End.TheVariants.{Fault, Linted, Stopped, Vectors, Unread}
 use Rattle.uv_vectors.specs.declared.fault.CliFault.TheVariants.{Memory, Write}
-use Rattle.uv_cli.specs.Device.{Device}
+use Rattle.uv_cli.specs.Stream.{Stream}
 use Rattle.uv_cli.specs.Jobs.{HasListed, HasListedAgainst}
 
 -- the same against the base's text
 pub listed_against : (profile : Profile) (base : Option (Bor (List ℕ))) (url : Option Url) (end : End)
-    (input rest old new : Device)
+    (input rest old new : Stream)
     → IsBase profile base url → HasListedAgainst profile url end input rest old new
     → HasListed profile base end input rest old new
 listed_against profile base url Valid input rest old new is listed = (url, is, listed)

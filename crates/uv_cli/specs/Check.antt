@@ -7,7 +7,7 @@ use Rattle.uv_model.specs.declared.extent.Extent.{Extent}
 use Rattle.uv_model.specs.declared.extent.Extent.TheVariants.{First, All}
 use Rattle.uv_model.specs.declared.profile.Profile.{Profile}
 use Rattle.uv_model.specs.declared.rule.Refusal.{Refusal}
-use Rattle.uv_model.specs.Complaints.AllComplaints.{AreFaults}
+use Rattle.uv_model.specs.Violations.AllViolations.{AreFaults}
 use Rattle.uv_model.specs.Records.Denote.{denote}
 use Rattle.uv_model.specs.Parts.{Parts}
 use Rattle.uv_parser.specs.Laws.Silence.{RunsSilently}
@@ -45,8 +45,8 @@ pub record WritesWhole (extent : Extent) (profile : Profile) (base : Option Url)
   pub says : Says extent profile base text end whole
   pub wrote : Appends old new whole
 
--- a front of what is said of the text was written
-pub record WritesFront (extent : Extent) (profile : Profile) (base : Option Url) (text : List ℕ)
+-- a prefix of what is said of the text was written
+pub record WritesPrefix (extent : Extent) (profile : Profile) (base : Option Url) (text : List ℕ)
     (old new : Option (List ℕ)) : Type 0 where
   pub end : CheckEnd
   pub whole : List ℕ
@@ -61,11 +61,11 @@ HasWritten extent profile base text (check.BaseRefused refusal) old new = IsBase
 HasWritten extent profile base text end old new =
     (url : Option Url) × IsBase profile base url × WritesWhole extent profile url text end old new
 
--- a front of what is said of the text against the base's text was written
-abbrev pub HasWrittenFront
+-- a prefix of what is said of the text against the base's text was written
+abbrev pub HasWrittenPrefix
     : Extent → Profile → Option (Bor (List ℕ)) → List ℕ → Option (List ℕ) → Option (List ℕ) → Type 0
-HasWrittenFront extent profile base text old new =
-    (url : Option Url) × IsBase profile base url × WritesFront extent profile url text old new
+HasWrittenPrefix extent profile base text old new =
+    (url : Option Url) × IsBase profile base url × WritesPrefix extent profile url text old new
 
 -- the parser runs to the record of the text where it is valid, alone or against the URL that the base's text denotes,
 -- and to the record of the base's text where that is valid alone

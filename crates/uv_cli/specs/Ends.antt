@@ -2,7 +2,7 @@
 use Rattle.std.specs.Prelude.{ℕ, Bool, true, false, List, [], ◌++◌, Result, Ok, Err, codes, decimal, if◌then◌else◌}
 use Rattle.std.specs.Prelude.{◌==◌}
 use Rattle.uv_model.specs.declared.rule.Refusal.{Refusal}
-use Rattle.uv_model.specs.Complaints.Rule.{rule_name}
+use Rattle.uv_model.specs.Violations.Rule.{rule_name}
 use Rattle.uv_links.specs.declared.counts.Counts.{Counts}
 use Rattle.uv_links.specs.declared.fault.LinkFault.{LinkFault}
 use Rattle.uv_links.specs.declared.fault.LinkFault.TheVariants as link
@@ -56,7 +56,7 @@ abbrev pub end_without_file : FileFault → End
 end_without_file file.Memory = Fault cli.Memory
 end_without_file (file.Unread reason) = Unread
 
--- the end where the words give no job
+-- the end where the arguments give no job
 abbrev pub end_without_job : WordsFault → End
 end_without_job words.Memory = Fault cli.Memory
 end_without_job (words.Words error) = if asks_to_show (words.Words error) then Shown else Words

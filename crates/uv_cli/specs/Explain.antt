@@ -4,10 +4,10 @@ use Rattle.std.specs.Prelude.{◌≡◌, ℕ, List, [], ◌∷◌, ◌++◌, cod
 use Rattle.std.specs.Borrow.{Bor}
 use Rattle.std.specs.Io.KnownBytes.{Appends}
 use Rattle.uv_model.specs.declared.rule.Rule.{Rule}
-use Rattle.uv_model.specs.Complaints.Rule.{named_rule, rule_name, rule_sentence, rules_in_order}
+use Rattle.uv_model.specs.Violations.Rule.{named_rule, rule_name, rule_sentence, rules_in_order}
 use Rattle.uv_report.specs.Explanation.{rule_asks, rule_base, rule_mended, rule_place, rule_section, rule_wrong}
-use Rattle.uv_report.specs.declared.finding.Finding.{Finding}
-use Rattle.uv_report.specs.Finding.{finding_help, finding_name, finding_sentence, named_finding}
+use Rattle.uv_report.specs.declared.line_violation.LineViolation.{LineViolation}
+use Rattle.uv_report.specs.LineViolation.{violation_help, violation_name, violation_sentence, named_violation}
 use Rattle.uv_cli.specs.declared.explain.ExplainEnd.{ExplainEnd}
 use Rattle.uv_cli.specs.declared.explain.ExplainEnd.TheVariants.{Explained, Unknown}
 use Rattle.uv_cli.specs.CheckText.{line, line_of, refused_text}
@@ -38,32 +38,32 @@ abbrev pub explanations_text : List Rule → List ℕ
 explanations_text [] = []
 explanations_text (rule ∷ rest) = explanation_text rule ++ flat_map next_text rest
 
--- the lines of a finding with a line that isn't judged: its name, what is wrong, and what a line is asked
-abbrev pub finding_lines : Finding → List ℕ
-finding_lines finding =
-    line (codes "rule ") (finding_name finding) ++ (line (codes "means ") (finding_sentence finding)
-    ++ line (codes "asks ") (finding_help finding))
+-- the lines of a violation with a line that isn't judged: its name, what is wrong, and what a line is asked
+abbrev pub violation_lines : LineViolation → List ℕ
+violation_lines violation =
+    line (codes "rule ") (violation_name violation) ++ (line (codes "means ") (violation_sentence violation)
+    ++ line (codes "asks ") (violation_help violation))
 
--- what is written of the finding with this name, where there is one
-abbrev pub explained_finding : List ℕ → Option (List ℕ)
-explained_finding name = option_map finding_lines (named_finding name)
+-- what is written of the violation with this name, where there is one
+abbrev pub explained_violation : List ℕ → Option (List ℕ)
+explained_violation name = option_map violation_lines (named_violation name)
 
--- what is written of the rule with this name, else of the finding
+-- what is written of the rule with this name, else of the violation
 abbrev pub explained_rule : List ℕ → Option Rule → Option (List ℕ)
 explained_rule name (Some rule) = Some (explanation_text rule)
-explained_rule name None = explained_finding name
+explained_rule name None = explained_violation name
 
--- what is written where this name is asked for, or none; nothing where it is the name of no rule and of no finding
+-- what is written where this name is asked for, or none; nothing where it is the name of no rule and of no violation
 abbrev pub explained : Option (Bor (List ℕ)) → Option (List ℕ)
 explained None = Some (explanations_text rules_in_order)
 explained (Some name) = explained_rule name.now (named_rule name.now)
 
--- what was asked for was written, or it is the name of no rule and of no finding
+-- what was asked for was written, or it is the name of no rule and of no violation
 abbrev pub HasExplained : Option (Bor (List ℕ)) → ExplainEnd → Option (List ℕ) → Option (List ℕ) → Type 0
 HasExplained rule Explained old new = (text : List ℕ) × (explained rule ≡ Some text) × Appends old new text
 HasExplained rule Unknown old new = explained rule ≡ None
 
--- a front of what was asked for was written
-abbrev pub HasExplainedFront : Option (Bor (List ℕ)) → Option (List ℕ) → Option (List ℕ) → Type 0
-HasExplainedFront rule old new =
+-- a prefix of what was asked for was written
+abbrev pub HasExplainedPrefix : Option (Bor (List ℕ)) → Option (List ℕ) → Option (List ℕ) → Type 0
+HasExplainedPrefix rule old new =
     (text : List ℕ) × (explained rule ≡ Some text) × ((count : ℕ) × Appends old new (take count text))

@@ -1,4 +1,4 @@
--- What a job has done with its devices, by the end that it gave.
+-- What a job has done with its streams, by the end that it gave.
 use Rattle.std.specs.Prelude.{◌≡◌, ◌≢◌, ℕ, ◌+◌, false, List, Option, String, option_map, string_bytes}
 use Rattle.std.specs.Borrow.{Bor}
 use Rattle.std.specs.Io.KnownBytes.{Consumes, IsAtEnd}
@@ -13,7 +13,7 @@ use Rattle.uv_links.specs.Report.{ListSetting}
 use Rattle.uv_links.specs.Run.{Leaves, Reports, reads_failed, writes_failed}
 use Rattle.uv_links.specs.Second.{AgreesOnBase}
 use Rattle.uv_resolve.specs.Base.{IsBase, IsBaseRefused}
-use Rattle.uv_vectors.specs.Run.{WritesVectors, WritesVectorsFront, is_judged}
+use Rattle.uv_vectors.specs.Run.{WritesVectors, WritesVectorsPrefix, is_judged}
 use Rattle.uv_words.specs.declared.words.Job.{Job}
 use Rattle.uv_words.specs.declared.words.Job.TheVariants as job
 use Rattle.uv_cli.specs.declared.check.CheckEnd.TheVariants as check
@@ -21,16 +21,16 @@ use Rattle.uv_cli.specs.declared.explain.ExplainEnd.TheVariants as explain
 use Rattle.uv_vectors.specs.declared.fault.CliFault.TheVariants as cli
 use Rattle.uv_cli.specs.declared.ends.End.{End}
 use Rattle.uv_cli.specs.declared.ends.End.TheVariants as end
-use Rattle.uv_cli.specs.Check.{HasWritten, HasWrittenFront, RunsAgainst}
-use Rattle.uv_cli.specs.Device.{Device}
-use Rattle.uv_cli.specs.Explain.{HasExplained, HasExplainedFront}
+use Rattle.uv_cli.specs.Check.{HasWritten, HasWrittenPrefix, RunsAgainst}
+use Rattle.uv_cli.specs.Stream.{Stream}
+use Rattle.uv_cli.specs.Explain.{HasExplained, HasExplainedPrefix}
 use Rattle.uv_cli.specs.Lint.{HasLinted}
 use Rattle.uv_cli.specs.Mend.{HasMended}
 
 -- ---- a check
 
 -- what was written of the text against the base's text
-abbrev pub HasChecked : Extent → Profile → Option (Bor (List ℕ)) → List ℕ → End → Device → Device → Type 0
+abbrev pub HasChecked : Extent → Profile → Option (Bor (List ℕ)) → List ℕ → End → Stream → Stream → Type 0
 HasChecked extent profile base text end.Valid old new =
     HasWritten extent profile base text check.Valid old.bytes new.bytes × (new.failed ≡ old.failed)
 HasChecked extent profile base text end.Refused old new =
@@ -39,7 +39,7 @@ HasChecked extent profile base text (end.BaseRefused refusal) old new =
     HasWritten extent profile base text (check.BaseRefused refusal) old.bytes new.bytes × (new ≡ old)
 HasChecked extent profile base text (end.Fault cli.Memory) old new = new ≡ old
 HasChecked extent profile base text (end.Fault cli.Write) old new =
-    HasWrittenFront extent profile base text old.bytes new.bytes × (new.failed ≡ old.failed + 1)
+    HasWrittenPrefix extent profile base text old.bytes new.bytes × (new.failed ≡ old.failed + 1)
 HasChecked extent profile base text _ old new = ⊥
 
 -- ---- a list of links
@@ -58,7 +58,7 @@ most_lines = 1000000000
 
 -- the list was read to its end, the whole report on it was written, and these are its counts
 pub record HasReported (profile : Profile) (base : Option Url) (counts : Counts)
-    (input rest old new : Device) : Type 0 where
+    (input rest old new : Stream) : Type 0 where
   pub read : List ℕ
   pub consumed : Consumes input.bytes rest.bytes read
   pub at_end : IsAtEnd rest.bytes
@@ -68,14 +68,14 @@ pub record HasReported (profile : Profile) (base : Option Url) (counts : Counts)
 
 -- the report stopped with this fault
 pub record HasStopped (profile : Profile) (base : Option Url) (fault : LinkFault)
-    (input rest old new : Device) : Type 0 where
+    (input rest old new : Stream) : Type 0 where
   pub read : List ℕ
   pub consumed : Consumes input.bytes rest.bytes read
   pub leaves : Leaves fault (list_setting profile base) most_lines old.bytes read (IsAtEnd rest.bytes) new.bytes
   pub failed : (rest.failed ≡ input.failed + reads_failed fault) × (new.failed ≡ old.failed + writes_failed fault)
 
 -- what was read and written of the list against a URL as base
-abbrev pub HasListedAgainst : Profile → Option Url → End → Device → Device → Device → Device → Type 0
+abbrev pub HasListedAgainst : Profile → Option Url → End → Stream → Stream → Stream → Stream → Type 0
 HasListedAgainst profile base end.Valid input rest old new =
     (counts : Counts) × HasReported profile base counts input rest old new × (counts.ok ≡ counts.lines)
 HasListedAgainst profile base end.Refused input rest old new =
@@ -84,7 +84,7 @@ HasListedAgainst profile base (end.Stopped fault) input rest old new = HasStoppe
 HasListedAgainst profile base _ input rest old new = ⊥
 
 -- the same against the base's text, which is judged alone, before anything is read or written
-abbrev pub HasListed : Profile → Option (Bor (List ℕ)) → End → Device → Device → Device → Device → Type 0
+abbrev pub HasListed : Profile → Option (Bor (List ℕ)) → End → Stream → Stream → Stream → Stream → Type 0
 HasListed profile base (end.BaseRefused refusal) input rest old new =
     IsBaseRefused profile base refusal × (rest ≡ input) × (new ≡ old)
 HasListed profile base (end.Fault cli.Memory) input rest old new = (rest ≡ input) × (new ≡ old)
@@ -94,24 +94,24 @@ HasListed profile base end input rest old new =
 -- ---- a vector file
 
 -- what a run over the bytes of a vector file has written
-abbrev pub HasRunVectors : List ℕ → End → Device → Device → Type 0
+abbrev pub HasRunVectors : List ℕ → End → Stream → Stream → Type 0
 HasRunVectors bytes (end.Vectors ended) old new =
     WritesVectors bytes ended old.bytes new.bytes × (is_judged ended ≡ false → new ≡ old) × (new.failed ≡ old.failed)
 HasRunVectors bytes (end.Fault cli.Memory) old new = new ≡ old
 HasRunVectors bytes (end.Fault cli.Write) old new =
-    WritesVectorsFront bytes old.bytes new.bytes × (new.failed ≡ old.failed + 1)
+    WritesVectorsPrefix bytes old.bytes new.bytes × (new.failed ≡ old.failed + 1)
 HasRunVectors bytes _ old new = ⊥
 
 -- ---- an explanation
 
 -- what was written of the rule with this name, or of each rule
-abbrev pub HasRunExplain : Option (Bor (List ℕ)) → End → Device → Device → Type 0
+abbrev pub HasRunExplain : Option (Bor (List ℕ)) → End → Stream → Stream → Type 0
 HasRunExplain rule end.Shown old new =
     HasExplained rule explain.Explained old.bytes new.bytes × (new.failed ≡ old.failed)
 HasRunExplain rule end.UnknownRule old new = HasExplained rule explain.Unknown old.bytes new.bytes × (new ≡ old)
 HasRunExplain rule (end.Fault cli.Memory) old new = new ≡ old
 HasRunExplain rule (end.Fault cli.Write) old new =
-    HasExplainedFront rule old.bytes new.bytes × (new.failed ≡ old.failed + 1)
+    HasExplainedPrefix rule old.bytes new.bytes × (new.failed ≡ old.failed + 1)
 HasRunExplain rule _ old new = ⊥
 
 -- ---- a job
@@ -122,7 +122,7 @@ AtLent text P =
     (lent : Option (Bor (List ℕ))) × (option_map (λ t. t.now) lent ≡ option_map string_bytes text) × P lent
 
 -- what the job has read and written, where its file has these bytes
-abbrev pub HasDone : Job → List ℕ → End → Device → Device → Device → Device → Type 0
+abbrev pub HasDone : Job → List ℕ → End → Stream → Stream → Stream → Stream → Type 0
 HasDone (job.Check text base extent profile) bytes end input rest old new =
     AtLent base (λ lent. HasChecked extent profile lent (chars (string_bytes text)) end old new
     × RunsAgainst profile lent (chars (string_bytes text))) × (rest ≡ input)

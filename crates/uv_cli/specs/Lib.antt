@@ -1,6 +1,6 @@
 pub mod Check
 pub mod CheckText
-pub mod Device
+pub mod Stream
 pub mod Ends
 pub mod Explain
 pub mod Jobs

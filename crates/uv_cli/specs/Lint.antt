@@ -15,7 +15,7 @@ use Rattle.uv_lint.specs.declared.fault.LintFault.{LintFault}
 use Rattle.uv_lint.specs.declared.fault.LintFault.TheVariants.{Memory, Read, Write}
 use Rattle.uv_lint.specs.declared.setting.LineForm.{LineForm}
 use Rattle.uv_lint.specs.declared.setting.LineForm.TheVariants.{Plain, Located}
-use Rattle.uv_lint.specs.Findings.{FileSetting}
+use Rattle.uv_lint.specs.LineViolations.{FileSetting}
 use Rattle.uv_lint.specs.Report.{none_counted}
 use Rattle.uv_lint.specs.Run.{FailsReads, Leaves, Reports, writes_failed}
 use Rattle.uv_resolve.specs.Base.{IsBase, IsBaseRefused}
@@ -24,7 +24,7 @@ use Rattle.uv_cli.specs.declared.ends.End.{End}
 use Rattle.uv_cli.specs.declared.ends.End.TheVariants as end
 use Rattle.uv_vectors.specs.declared.fault.CliFault.TheVariants as cli
 use Rattle.uv_cli.specs.declared.linted.Linted.{Linted}
-use Rattle.uv_cli.specs.Device.{Device}
+use Rattle.uv_cli.specs.Stream.{Stream}
 use Rattle.uv_cli.specs.Linted.{is_clean, is_stopped, is_writable, no_file, with_fault, with_file}
 
 -- ---- what the job asks for
@@ -64,27 +64,27 @@ WritesFile setting is_first (Ok done) counts read rest old new =
 WritesFile setting is_first (Err fault) counts read rest old new =
     Leaves fault setting most is_first old read (IsAtEnd rest) counts new
 
--- how often the devices have failed behind it
-abbrev pub FailsAsAnswered : Result (Unit {0}) LintFault → Device → Device → Device → Device → Type 0
+-- how often the streams have failed behind it
+abbrev pub FailsAsAnswered : Result (Unit {0}) LintFault → Stream → Stream → Stream → Stream → Type 0
 FailsAsAnswered (Ok done) input rest old new = (rest.failed ≡ input.failed) × (new.failed ≡ old.failed)
 FailsAsAnswered (Err fault) input rest old new =
     FailsReads fault input.failed rest.failed × (new.failed ≡ old.failed + writes_failed fault)
 
 -- a source was linted, of which so many lines were counted
 pub record LintsSource (setting : FileSetting) (is_first : Bool) (counts : LintCounts)
-    (answer : Result (Unit {0}) LintFault) (input rest old new : Device) : Type 0 where
+    (answer : Result (Unit {0}) LintFault) (input rest old new : Stream) : Type 0 where
   pub read : List ℕ
   pub consumed : Consumes input.bytes rest.bytes read
   pub wrote : WritesFile setting is_first answer counts read rest.bytes old.bytes new.bytes
   pub failed : FailsAsAnswered answer input rest old new
 
 -- a source that nothing else has read was linted: the file with this name
-abbrev pub LintsOpened : FileSetting → Bool → LintCounts → Result (Unit {0}) LintFault → Device → Device → Type 0
+abbrev pub LintsOpened : FileSetting → Bool → LintCounts → Result (Unit {0}) LintFault → Stream → Stream → Type 0
 LintsOpened setting is_first counts answer old new =
-    (file : Device) × (left : Device) × LintsSource setting is_first counts answer file left old new
+    (file : Stream) × (left : Stream) × LintsSource setting is_first counts answer file left old new
 
 -- nothing of a file was read or written
-abbrev pub LintsNothing : LintCounts → Device → Device → Type 0
+abbrev pub LintsNothing : LintCounts → Stream → Stream → Type 0
 LintsNothing counts old new = (counts ≡ none_counted) × (new ≡ old)
 
 -- a file wasn't opened: it couldn't be, or memory ran out
@@ -94,12 +94,12 @@ IsUnopened (Err Memory) = Unit {0}
 IsUnopened _ = ⊥
 
 -- the input isn't read where its count of failed reads stands at its end
-abbrev pub IsUnreadable : Result (Unit {0}) LintFault → Device → Type 0
+abbrev pub IsUnreadable : Result (Unit {0}) LintFault → Stream → Type 0
 IsUnreadable answer input = (answer ≡ Err Read) × (input.failed ≡ 2 ^ 64 - 1)
 
 -- the input was linted for the file that is named `-`, else a file that was opened by its name, if it could be
 abbrev pub LintsNamed : Bool → FileSetting → Bool → LintCounts → Result (Unit {0}) LintFault
-    → Device → Device → Device → Device → Type 0
+    → Stream → Stream → Stream → Stream → Type 0
 LintsNamed true setting is_first counts answer input rest old new =
     LintsSource setting is_first counts answer input rest old new
     ⊎ (LintsNothing counts old new × IsUnreadable answer input × (rest ≡ input))
@@ -108,14 +108,14 @@ LintsNamed false setting is_first counts answer input rest old new =
     ⊎ (LintsNothing counts old new × IsUnopened answer)) × (rest ≡ input)
 
 -- the next file was linted
-pub record LintsFile (setting : FileSetting) (before after : Linted) (input rest old new : Device) : Type 0 where
+pub record LintsFile (setting : FileSetting) (before after : Linted) (input rest old new : Stream) : Type 0 where
   pub counts : LintCounts
   pub answer : Result (Unit {0}) LintFault
   pub named : LintsNamed (bytes_eq setting.file (codes "-")) setting (is_clean before) counts answer input rest old new
   pub is_after : after ≡ with_file before counts answer
 
 -- nothing is done behind what stopped the lint
-pub record StaysStopped (before after : Linted) (input rest old new : Device) : Type 0 where
+pub record StaysStopped (before after : Linted) (input rest old new : Stream) : Type 0 where
   pub is_after : after ≡ before
   pub unread : rest ≡ input
   pub unwritten : new ≡ old
@@ -123,47 +123,47 @@ pub record StaysStopped (before after : Linted) (input rest old new : Device) : 
 -- ---- the files
 
 -- the next file was linted, or the lint had stopped
-abbrev pub LintsNext : Bool → FileSetting → Linted → Linted → Device → Device → Device → Device → Type 0
+abbrev pub LintsNext : Bool → FileSetting → Linted → Linted → Stream → Stream → Stream → Stream → Type 0
 LintsNext true setting before after input rest old new = StaysStopped before after input rest old new
 LintsNext false setting before after input rest old new = LintsFile setting before after input rest old new
 
 -- these files were linted, one after the other
 abbrev pub LintsAll : (List ℕ → FileSetting) → List (List ℕ) → Linted → Linted
-    → Device → Device → Device → Device → Type 0
+    → Stream → Stream → Stream → Stream → Type 0
 LintsAll setting [] before after input rest old new = StaysStopped before after input rest old new
 LintsAll setting (file ∷ files) before after input rest old new =
-    (one : Linted) × (read : Device) × (wrote : Device)
+    (one : Linted) × (read : Stream) × (wrote : Stream)
     × LintsNext (is_stopped before) (setting file) before one input read old wrote
     × LintsAll setting files one after read rest wrote new
 
 -- ---- the whole report
 
--- a piece was written, or a front of it where a write failed, and then the lint has stopped
-abbrev pub WritesOrStops : Bool → List ℕ → Linted → Linted → Device → Device → Type 0
+-- a piece was written, or a prefix of it where a write failed, and then the lint has stopped
+abbrev pub WritesOrStops : Bool → List ℕ → Linted → Linted → Stream → Stream → Type 0
 WritesOrStops true piece before after old new =
     (after ≡ before) × Appends old.bytes new.bytes piece × (new.failed ≡ old.failed)
 WritesOrStops false piece before after old new =
-    (after ≡ with_fault before Write) × ((front : ℕ) × Appends old.bytes new.bytes (take front piece))
+    (after ≡ with_fault before Write) × ((prefix : ℕ) × Appends old.bytes new.bytes (take prefix piece))
     × (new.failed ≡ old.failed + 1)
 
 -- the same, but nothing is written behind a failed write
-abbrev pub WritesPiece : Bool → List ℕ → Linted → Linted → Device → Device → Type 0
+abbrev pub WritesPiece : Bool → List ℕ → Linted → Linted → Stream → Stream → Type 0
 WritesPiece true piece before after old new = (is_out : Bool) × WritesOrStops is_out piece before after old new
 WritesPiece false piece before after old new = (after ≡ before) × (new ≡ old)
 
 -- the report on the files was written: what it begins with, the report on each file, and what it ends with
 pub record IsLinted (setting : List ℕ → FileSetting) (format : Format) (files : List (List ℕ)) (is_quiet : Bool)
-    (linted : Linted) (input rest old new : Device) : Type 0 where
+    (linted : Linted) (input rest old new : Stream) : Type 0 where
   pub first : Linted
   pub last : Linted
-  pub begun : Device
-  pub ended : Device
+  pub begun : Stream
+  pub ended : Stream
   pub begins : WritesPiece true (begin_text format) (no_file is_quiet) first old begun
   pub all : LintsAll setting files first last input rest begun ended
   pub ends : WritesPiece (is_writable last.stopped) (end_text format) last linted ended new
 
 -- what was read and written of the files against a URL as base
-abbrev pub HasLintedAgainst : LintJob → Option Url → Format → End → Device → Device → Device → Device → Type 0
+abbrev pub HasLintedAgainst : LintJob → Option Url → Format → End → Stream → Stream → Stream → Stream → Type 0
 HasLintedAgainst asked base format (end.Linted linted) input rest old new =
     IsLinted (setting_of asked base format) format (map string_bytes asked.files.items) asked.quiet linted
     input rest old new
@@ -173,7 +173,7 @@ HasLintedAgainst asked base format _ input rest old new = ⊥
 -- The same by the texts that the job has. The format is found first, and then the base is judged alone, before anything
 -- is read or written.
 abbrev pub HasLinted : LintJob → Option (Bor (List ℕ)) → Option (Bor (List ℕ)) → End
-    → Device → Device → Device → Device → Type 0
+    → Stream → Stream → Stream → Stream → Type 0
 HasLinted asked base name end.UnknownFormat input rest old new =
     (format_of name ≡ None) × (rest ≡ input) × (new ≡ old)
 HasLinted asked base name (end.BaseRefused refusal) input rest old new =

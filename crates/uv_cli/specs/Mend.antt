@@ -15,7 +15,7 @@ use Rattle.uv_cli.specs.declared.check.CheckEnd.TheVariants as check
 use Rattle.uv_cli.specs.declared.ends.End.{End}
 use Rattle.uv_cli.specs.declared.ends.End.TheVariants as end
 use Rattle.uv_cli.specs.CheckText.{refused_text}
-use Rattle.uv_cli.specs.Device.{Device}
+use Rattle.uv_cli.specs.Stream.{Stream}
 
 -- what is printed of an answer: its name, and below it the mended text, or the line of the refusal
 unfoldable pub mending_text : Mending → List ℕ
@@ -45,8 +45,8 @@ pub record WritesMending (profile : Profile) (base : Option Url) (text : List �
   pub says : SaysMending profile base text end whole
   pub wrote : Appends old new whole
 
--- a front of what is said of the text was written
-pub record WritesMendingFront (profile : Profile) (base : Option Url) (text : List ℕ)
+-- a prefix of what is said of the text was written
+pub record WritesMendingPrefix (profile : Profile) (base : Option Url) (text : List ℕ)
     (old new : Option (List ℕ)) : Type 0 where
   pub end : CheckEnd
   pub whole : List ℕ
@@ -61,14 +61,14 @@ HasWrittenMending profile base text (check.BaseRefused refusal) old new = IsBase
 HasWrittenMending profile base text end old new =
     (url : Option Url) × IsBase profile base url × WritesMending profile url text end old new
 
--- a front of what is said of the text against the base's text was written
-abbrev pub HasWrittenMendingFront
+-- a prefix of what is said of the text against the base's text was written
+abbrev pub HasWrittenMendingPrefix
     : Profile → Option (Bor (List ℕ)) → List ℕ → Option (List ℕ) → Option (List ℕ) → Type 0
-HasWrittenMendingFront profile base text old new =
-    (url : Option Url) × IsBase profile base url × WritesMendingFront profile url text old new
+HasWrittenMendingPrefix profile base text old new =
+    (url : Option Url) × IsBase profile base url × WritesMendingPrefix profile url text old new
 
 -- what was written of the text against the base's text, by how the run ended
-abbrev pub HasMended : Profile → Option (Bor (List ℕ)) → List ℕ → End → Device → Device → Type 0
+abbrev pub HasMended : Profile → Option (Bor (List ℕ)) → List ℕ → End → Stream → Stream → Type 0
 HasMended profile base text end.Valid old new =
     HasWrittenMending profile base text check.Valid old.bytes new.bytes × (new.failed ≡ old.failed)
 HasMended profile base text end.Refused old new =
@@ -77,5 +77,5 @@ HasMended profile base text (end.BaseRefused refusal) old new =
     HasWrittenMending profile base text (check.BaseRefused refusal) old.bytes new.bytes × (new ≡ old)
 HasMended profile base text (end.Fault cli.Memory) old new = new ≡ old
 HasMended profile base text (end.Fault cli.Write) old new =
-    HasWrittenMendingFront profile base text old.bytes new.bytes × (new.failed ≡ old.failed + 1)
+    HasWrittenMendingPrefix profile base text old.bytes new.bytes × (new.failed ≡ old.failed + 1)
 HasMended profile base text _ old new = ⊥

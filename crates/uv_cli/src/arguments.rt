@@ -29,7 +29,7 @@ pub(crate) fn arguments<R: Env + AllocGlobal>(rt: &R) -> Result<Vec<String>, All
     Ok(texts)
 }
 
-// Reads an argument to the front of the room, which grows until it suffices, and gives how many bytes it has.
+// Reads an argument to the start of the room, which grows until it suffices, and gives how many bytes it has.
 fn read_argument<R: Env>(
     rt: &R,
     number: usize,
@@ -48,8 +48,8 @@ fn read_argument<R: Env>(
     Err(AllocError)
 }
 
-// An argument's text, or what stands for it where its bytes aren't UTF-8: behind `-` where it begins so, since it may be
-// an option then.
+// An argument's text, or what stands for it where its bytes aren't UTF-8: behind `-` where it begins so, since it may
+// be an option then.
 fn text_of(alloc: Global, number: usize, bytes: &[u8]) -> Result<String, AllocError> {
     match from_utf8(bytes) {
         Ok(text) => text.to_string(alloc),

@@ -1,7 +1,9 @@
 //! The check of one text, alone or against a base, with the first of its violations or with all of them.
-ghost use Rattle.std.specs.Prelude.{◌≡◌, ◌+◌, ◌-◌, ◌^◌, ◌<◌, ℕ, List, Option, Some, None, IfOk, OnOk, OnErr, chars, option_copied, string_bytes, take};
+ghost use Rattle.std.specs.Prelude.{◌≡◌, ◌+◌, ◌-◌, ◌^◌, ◌<◌, ℕ, List, Option, Some, None, IfOk, OnOk, OnErr, chars};
+ghost use Rattle.std.specs.Prelude.{option_copied, string_bytes, take};
 ghost use Rattle.std.specs.Io.KnownBytes.{Appends};
-ghost use Rattle.uv_cli.specs.Check.{HasWritten, HasWrittenFront, RunsAgainst, Says, SaysRefused, WritesFront, WritesWhole};
+ghost use Rattle.uv_cli.specs.Check.{HasWritten, HasWrittenPrefix, RunsAgainst, Says, SaysRefused, WritesPrefix};
+ghost use Rattle.uv_cli.specs.Check.{WritesWhole};
 ghost use Rattle.uv_grammar.specs.Verdict.{IsRefused};
 
 use crate::report::{check_lines, fault_lines, refused_line};
@@ -41,7 +43,7 @@ pub fn run_check<S: Sink>(
         → out.new ≡ out.old }
     ensures quiet { OnOk result (S.failed out.new ≡ S.failed out.old) }
     ensures memory { result ≡ Err CliFault.Memory → out.new ≡ out.old }
-    ensures front { result ≡ Err CliFault.Write → HasWrittenFront Extent.First profile base.entry (chars text.now)
+    ensures prefix { result ≡ Err CliFault.Write → HasWrittenPrefix Extent.First profile base.entry (chars text.now)
         (S.contents out.old) (S.contents out.new) }
     ensures failed { result ≡ Err CliFault.Write → S.failed out.new ≡ S.failed out.old + 1 }
     ensures runs { RunsAgainst profile base.entry (chars text.now) }
@@ -65,7 +67,7 @@ pub fn run_faults<S: Sink>(
         → out.new ≡ out.old }
     ensures quiet { OnOk result (S.failed out.new ≡ S.failed out.old) }
     ensures memory { result ≡ Err CliFault.Memory → out.new ≡ out.old }
-    ensures front { result ≡ Err CliFault.Write → HasWrittenFront Extent.All profile base.entry (chars text.now)
+    ensures prefix { result ≡ Err CliFault.Write → HasWrittenPrefix Extent.All profile base.entry (chars text.now)
         (S.contents out.old) (S.contents out.new) }
     ensures failed { result ≡ Err CliFault.Write → S.failed out.new ≡ S.failed out.old + 1 }
     ensures runs { RunsAgainst profile base.entry (chars text.now) }
@@ -89,7 +91,7 @@ fn check_with_base<S: Sink>(
         → out.new ≡ out.old }
     ensures quiet { OnOk result (S.failed out.new ≡ S.failed out.old) }
     ensures memory { result ≡ Err CliFault.Memory → out.new ≡ out.old }
-    ensures front { result ≡ Err CliFault.Write → HasWrittenFront extent profile base.entry (chars text.now)
+    ensures prefix { result ≡ Err CliFault.Write → HasWrittenPrefix extent profile base.entry (chars text.now)
         (S.contents out.old) (S.contents out.new) }
     ensures failed { result ≡ Err CliFault.Write → S.failed out.new ≡ S.failed out.old + 1 }
     ensures runs { RunsAgainst profile base.entry (chars text.now) }
@@ -121,7 +123,7 @@ fn check_against<S: Sink>(
         (S.contents out.old) (S.contents out.new)) }
     ensures quiet { OnOk result (S.failed out.new ≡ S.failed out.old) }
     ensures memory { result ≡ Err CliFault.Memory → out.new ≡ out.old }
-    ensures front { result ≡ Err CliFault.Write → WritesFront extent profile (option_copied base.entry)
+    ensures prefix { result ≡ Err CliFault.Write → WritesPrefix extent profile (option_copied base.entry)
         (chars text.now) (S.contents out.old) (S.contents out.new) }
     ensures failed { result ≡ Err CliFault.Write → S.failed out.new ≡ S.failed out.old + 1 }
 {

@@ -1,7 +1,8 @@
 //! How the program ends: with which exit status, and what it says of that on standard error.
 ghost use Rattle.std.specs.Prelude.{◌≡◌, IfOk, string_bytes};
 ghost use Rattle.uv_cli.specs.Ends as spec;
-ghost use Rattle.uv_cli.specs.Ends.{base_refused_text, error_text, malformed_text, status_of, stopped_text, vectors_text};
+ghost use Rattle.uv_cli.specs.Ends.{base_refused_text, error_text, malformed_text, status_of, stopped_text};
+ghost use Rattle.uv_cli.specs.Ends.{vectors_text};
 
 use crate::check::CheckEnd;
 use crate::explain::ExplainEnd;
@@ -23,17 +24,17 @@ pub enum End {
     Refused,
     /// Help, the version or an explanation was asked for, and shown.
     Shown,
-    /// The words of the command line are refused.
+    /// The arguments are refused.
     Words,
-    /// A word that has to be the name of a rule is the name of none.
+    /// An argument that has to be the name of a rule is the name of none.
     UnknownRule,
-    /// A word that has to be the name of a format is the name of none.
+    /// An argument that has to be the name of a format is the name of none.
     UnknownFormat,
-    /// A word that has to be the name of a profile is the name of none.
+    /// An argument that has to be the name of a profile is the name of none.
     UnknownProfile,
     /// The base's text is refused alone, for this reason.
     BaseRefused(Refusal),
-    /// A growth was refused, or a write or a flush failed.
+    /// An allocation failed, or a write or a flush failed.
     Fault(CliFault),
     /// The lint of files has come to this.
     Linted(Linted),
@@ -104,7 +105,7 @@ pub(crate) fn end_without_file(fault: FileFault) -> End
     }
 }
 
-/// The end where the words give no job.
+/// The end where the arguments give no job.
 pub(crate) fn end_without_job(fault: &WordsFault) -> End
     ensures { result ≡ spec.end_without_job fault.now }
 {
@@ -135,8 +136,8 @@ pub(crate) fn end_after_output(end: End, is_out: bool) -> End
 }
 
 /// The exit status: 0 where the text is valid, every line ok, every case passed, or help or an explanation shown; 1
-/// where one is refused, differs or fails; 2 where the words, a rule's name, the base or the vector file are refused or
-/// the base differs; 3 for any other fault.
+/// where one is refused, differs or fails; 2 where the arguments, a rule's name, the base or the vector file are
+/// refused or the base differs; 3 for any other fault.
 pub fn status(end: End) -> u8
     ensures { result ≡ status_of end }
 {
@@ -151,7 +152,7 @@ pub fn status(end: End) -> u8
     }
 }
 
-/// What is said on standard error at the end: the last line, which tells a script why there is a status above 1, or
+/// What is said on standard error at the end: the last line, which says to a script why there is a status above 1, or
 /// nothing; of a lint also the counts.
 pub fn error_line(alloc: Global, end: End) -> Result<String, AllocError>
     ensures { IfOk result (λ text. string_bytes text ≡ error_text end) }

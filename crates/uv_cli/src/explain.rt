@@ -1,12 +1,12 @@
 //! The command `explain`: what a rule asks, its section of the URL Standard, and an example, of one rule or of each.
 ghost use Rattle.std.specs.Prelude.{◌≡◌, ◌++◌, ◌+◌, ◌-◌, ◌^◌, ◌<◌, IfOk, OnOk, option_map, string_bytes};
-ghost use Rattle.uv_cli.specs.Explain.{HasExplained, HasExplainedFront, example_lines, explained, explanation_text};
-ghost use Rattle.uv_cli.specs.Explain.{explanations_text, explained_finding, finding_lines, rule_lines};
+ghost use Rattle.uv_cli.specs.Explain.{HasExplained, HasExplainedPrefix, example_lines, explained, explanation_text};
+ghost use Rattle.uv_cli.specs.Explain.{explanations_text, explained_violation, violation_lines, rule_lines};
 
 use crate::report::{push_line, push_present, refused_line};
 use std::alloc::{AllocError, Global};
 use uv_model::{DeviceFault, Refusal, Rule, Sink, write_whole};
-use uv_report::{Finding, explain};
+use uv_report::{LineViolation, explain};
 use uv_vectors::CliFault;
 
 /// How an explanation ends.
@@ -14,13 +14,13 @@ use uv_vectors::CliFault;
 pub enum ExplainEnd {
     /// What was asked for was written.
     Explained,
-    /// The name is that of no rule and of no finding with a line. Nothing was written.
+    /// The name is that of no rule and of no violation with a line. Nothing was written.
     Unknown,
 }
 
 /// Writes what the rule with a name asks, where it stands, and an example; without a name it writes this of each rule,
-/// in the order of their numbers, with an empty line between two. By the name of a finding with a line that isn't judged
-/// it writes what a line is asked.
+/// in the order of their numbers, with an empty line between two. By the name of a violation with a line that isn't
+/// judged it writes what a line is asked.
 ///
 /// An error of memory leaves the output as it was; an error of a write leaves a beginning of what was to be written.
 pub fn run_explain<S: Sink>(
@@ -33,8 +33,8 @@ pub fn run_explain<S: Sink>(
     ensures unknown { result ≡ Ok ExplainEnd.Unknown → out.new ≡ out.old }
     ensures quiet { OnOk result (S.failed out.new ≡ S.failed out.old) }
     ensures memory { result ≡ Err CliFault.Memory → out.new ≡ out.old }
-    ensures front { result ≡ Err CliFault.Write →
-        HasExplainedFront rule.entry (S.contents out.old) (S.contents out.new) }
+    ensures prefix { result ≡ Err CliFault.Write →
+        HasExplainedPrefix rule.entry (S.contents out.old) (S.contents out.new) }
     ensures failed { result ≡ Err CliFault.Write → S.failed out.new ≡ S.failed out.old + 1 }
 {
     let Some(text) = text_of(alloc, rule)? else {
@@ -55,29 +55,29 @@ fn text_of(alloc: Global, rule: Option<&str>) -> Result<Option<String>, AllocErr
     };
     match Rule::of_name(name) {
         Some(rule) => Ok(Some(explanation(alloc, rule)?)),
-        None => finding_text(alloc, name),
+        None => violation_text(alloc, name),
     }
 }
 
-// What is written of the finding with a name, where there is one with a line that isn't judged.
-fn finding_text(alloc: Global, name: &str) -> Result<Option<String>, AllocError>
-    ensures { IfOk result (λ text. option_map string_bytes text ≡ explained_finding name.now) }
+// What is written of the violation with a name, where there is one with a line that isn't judged.
+fn violation_text(alloc: Global, name: &str) -> Result<Option<String>, AllocError>
+    ensures { IfOk result (λ text. option_map string_bytes text ≡ explained_violation name.now) }
 {
-    let Some(finding) = Finding::of_name(name) else {
+    let Some(violation) = LineViolation::of_name(name) else {
         return Ok(None);
     };
     let mut text = String::new(alloc);
-    push_finding(&mut text, finding)?;
+    push_violation(&mut text, violation)?;
     Ok(Some(text))
 }
 
-// Pushes what a finding is called, what it means, and what a line is asked.
-fn push_finding(text: &mut String, finding: Finding) -> Result<(), AllocError>
-    ensures { OnOk result (string_bytes text.new ≡ string_bytes text.old ++ finding_lines finding) }
+// Pushes what a violation is called, what it means, and what a line is asked.
+fn push_violation(text: &mut String, violation: LineViolation) -> Result<(), AllocError>
+    ensures { OnOk result (string_bytes text.new ≡ string_bytes text.old ++ violation_lines violation) }
 {
-    push_line(text, "rule ", finding.name())?;
-    push_line(text, "means ", finding.sentence())?;
-    push_line(text, "asks ", finding.help())
+    push_line(text, "rule ", violation.name())?;
+    push_line(text, "means ", violation.sentence())?;
+    push_line(text, "asks ", violation.help())
 }
 
 // The explanations of rules, with an empty line between two.

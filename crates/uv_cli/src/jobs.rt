@@ -1,4 +1,4 @@
-//! A job and the run that it asks for, over any devices.
+//! A job and the run that it asks for, over any reader and writer.
 ghost use Rattle.std.specs.Prelude.{◌≡◌, ◌-◌, ◌^◌, ◌<◌, chars};
 ghost use Rattle.uv_cli.specs.Check.{RunsAgainst};
 ghost use Rattle.uv_cli.specs.Jobs.{HasChecked, HasDone, HasRunExplain, HasRunVectors};

@@ -1,7 +1,7 @@
 //! The command `lint`: a report on the lines of files, in a format that people or tools read.
 ghost use Rattle.std.specs.Prelude.{◌≡◌, ◌-◌, ◌^◌, ◌<◌, ◌⊎◌, IfOk, codes, map, option_copied, string_bytes, true};
 ghost use Rattle.std.specs.Str.{bytes_eq};
-ghost use Rattle.uv_lint.specs.Findings.{file_setting};
+ghost use Rattle.uv_lint.specs.LineViolations.{file_setting};
 ghost use Rattle.uv_report.specs.Report.{begin_text, end_text};
 ghost use Rattle.uv_cli.specs.Lint.{HasLinted, HasLintedAgainst, LintsAll, LintsNamed, LintsNext, LintsNothing};
 ghost use Rattle.uv_cli.specs.Lint.{LintsOpened, IsUnopened, WritesPiece, form_of, format_of};
@@ -282,7 +282,7 @@ fn report_failed_read<R: Eprint + AllocGlobal>(
     }
 }
 
-// Why a file isn't opened. What isn't want of memory is reported.
+// Why a file isn't opened. What isn't out of memory is reported.
 fn unopened<R: Eprint + AllocGlobal>(rt: &R, file: &str, kind: ErrorKind) -> LintFault
     ensures { IsUnopened (Err result) }
 {

@@ -2,7 +2,8 @@
 ghost use Rattle.std.specs.Prelude.{◌≡◌, ◌+◌, ◌-◌, ◌^◌, ◌<◌, ◌++◌, IfOk, OnOk, codes, option_copied, string_bytes};
 ghost use Rattle.uv_mend.specs.Kinds.{kind_name};
 ghost use Rattle.uv_cli.specs.Mend as spec;
-ghost use Rattle.uv_cli.specs.Mend.{HasWrittenMending, HasWrittenMendingFront, SaysMending, WritesMending, WritesMendingFront, mending_text};
+ghost use Rattle.uv_cli.specs.Mend.{HasWrittenMending, HasWrittenMendingPrefix, SaysMending, WritesMending};
+ghost use Rattle.uv_cli.specs.Mend.{WritesMendingPrefix, mending_text};
 
 use crate::check::CheckEnd;
 use crate::report::refused_line;
@@ -31,7 +32,7 @@ pub fn run_mend<S: Sink>(
         → out.new ≡ out.old }
     ensures quiet { OnOk result (S.failed out.new ≡ S.failed out.old) }
     ensures memory { result ≡ Err CliFault.Memory → out.new ≡ out.old }
-    ensures front { result ≡ Err CliFault.Write → HasWrittenMendingFront profile base.entry text.now
+    ensures prefix { result ≡ Err CliFault.Write → HasWrittenMendingPrefix profile base.entry text.now
         (S.contents out.old) (S.contents out.new) }
     ensures failed { result ≡ Err CliFault.Write → S.failed out.new ≡ S.failed out.old + 1 }
 {
@@ -55,7 +56,7 @@ fn mend_against<S: Sink>(
         (S.contents out.old) (S.contents out.new)) }
     ensures quiet { OnOk result (S.failed out.new ≡ S.failed out.old) }
     ensures memory { result ≡ Err CliFault.Memory → out.new ≡ out.old }
-    ensures front { result ≡ Err CliFault.Write → WritesMendingFront profile (option_copied base.entry) text.now
+    ensures prefix { result ≡ Err CliFault.Write → WritesMendingPrefix profile (option_copied base.entry) text.now
         (S.contents out.old) (S.contents out.new) }
     ensures failed { result ≡ Err CliFault.Write → S.failed out.new ≡ S.failed out.old + 1 }
 {

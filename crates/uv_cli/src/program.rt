@@ -1,4 +1,4 @@
-//! The program `urlcheck` over a runtime: its arguments, its devices and its exit status.
+//! The program `urlcheck` over a runtime: its arguments, its streams and its exit status.
 
 use crate::arguments::{arguments, refused};
 use crate::ends::{End, end_after_output, end_without_file, end_without_job, error_line, status};
@@ -74,7 +74,7 @@ fn open(end: End) -> Ended {
     }
 }
 
-// Does a job over the runtime's devices.
+// Does a job over the runtime's streams.
 fn done<R: Files + Input + Print + Eprint + AllocGlobal>(rt: &R, job: &Job) -> Ended {
     let file = match file_of(rt, job) {
         Ok(file) => file,

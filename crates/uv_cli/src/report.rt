@@ -1,6 +1,7 @@
 //! What a check prints: the lines of a valid text's record, the line of a refusal, or a line for each fault.
 ghost use Rattle.std.specs.Prelude.{◌≡◌, ◌++◌, OnOk, IfOk, Option, Some, option_copied, string_bytes};
-ghost use Rattle.uv_cli.specs.CheckText.{check_text, faults_text, host_line, line, line_of, path_lines, port_line, refused_text, segment_lines};
+ghost use Rattle.uv_cli.specs.CheckText.{check_text, faults_text, host_line, line, line_of, path_lines, port_line};
+ghost use Rattle.uv_cli.specs.CheckText.{refused_text, segment_lines};
 ghost use Rattle.uv_model.specs.Records.Serialize.{serial_host};
 
 use std::alloc::{AllocError, Global};

@@ -2,12 +2,12 @@
 
 ghost use Rattle.std.specs.Prelude.{None};
 
-mod devices;
 mod explain;
 mod faults;
 mod lint;
 mod memory;
 mod program;
+mod streams;
 
 use crate::check::{CheckEnd, run_check};
 use std::alloc::Global;
@@ -465,7 +465,7 @@ impl Sink for Narrow {
 
 // A write that fails in the middle of the output is a fault, and one that has room for all of it isn't.
 #[test]
-fn tells_a_failed_write(rt: HostRuntime) -> Result<(), Fail> {
+fn reports_a_failed_write(rt: HostRuntime) -> Result<(), Fail> {
     let whole = "valid\nscheme urn\nopaque a\n".len();
     for (room, fails) in [(0, true), (1, true), (whole - 1, true), (whole, false)] {
         let mut out = Narrow { room, failures: 0 };

@@ -6,7 +6,7 @@ use crate::ends::End;
 use std::alloc::{AllocError, Global};
 use strsim::levenshtein;
 use uv_model::{Profile, Rule};
-use uv_report::{Finding, Format, push_shown};
+use uv_report::{Format, LineViolation, push_shown};
 use uv_words::Job;
 
 // The formats in the order of docs and help.
@@ -48,9 +48,9 @@ fn rule_names(alloc: Global) -> Result<Vec<&'static str>, AllocError> {
     for rule in &Rule::in_order() {
         names.push(rule.name())?;
     }
-    names.push(Finding::NotUtf8.name())?;
-    names.push(Finding::TooLong.name())?;
-    names.push(Finding::NotLocated.name())?;
+    names.push(LineViolation::NotUtf8.name())?;
+    names.push(LineViolation::TooLong.name())?;
+    names.push(LineViolation::NotLocated.name())?;
     Ok(names)
 }
 

@@ -10,7 +10,7 @@ use std::io::{self, ErrorKind, Read};
 use uv_report::push_shown;
 use uv_vectors::MOST_BYTES;
 
-/// Why a file isn't read, as far as the library tells.
+/// Why a file isn't read, as far as the library says.
 #[derive(Clone, Copy, PartialEq, Eq)]
 pub(crate) enum Unread {
     /// There is no such file.

@@ -1,19 +1,19 @@
-//! A reader or a writer that keeps why a call of it failed, where a device keeps only that one did.
+//! A reader or a writer that keeps why a call of it failed, where the product's own keep only that one did.
 
 use std::io::{self, ErrorKind, Read, Write};
 
 /// A reader or a writer, with the kind of its last error, if a call of it has failed.
 #[derive(Drop)]
 pub(crate) struct Watched<D> {
-    device: D,
+    stream: D,
     fault: Option<ErrorKind>,
 }
 
 impl<D> Watched<D> {
-    /// The device, of which no call has failed yet.
-    pub(crate) fn new(device: D) -> Watched<D> {
+    /// The reader or writer, of which no call has failed yet.
+    pub(crate) fn new(stream: D) -> Watched<D> {
         Watched {
-            device,
+            stream,
             fault: None,
         }
     }
@@ -25,10 +25,10 @@ impl<D> Watched<D> {
 }
 
 impl<R: Read> Read for Watched<R> {
-    ghost remaining = { λ w. R.remaining w.device };
+    ghost remaining = { λ w. R.remaining w.stream };
 
     fn read(&mut self, buf: &mut [u8]) -> io::Result<usize> {
-        match self.device.read(buf) {
+        match self.stream.read(buf) {
             Ok(given) => Ok(given),
             Err(error) => {
                 self.fault = Some(error.kind());
@@ -39,10 +39,10 @@ impl<R: Read> Read for Watched<R> {
 }
 
 impl<W: Write> Write for Watched<W> {
-    ghost contents = { λ w. W.contents w.device };
+    ghost contents = { λ w. W.contents w.stream };
 
     fn write(&mut self, buf: &[u8]) -> io::Result<usize> {
-        match self.device.write(buf) {
+        match self.stream.write(buf) {
             Ok(taken) => Ok(taken),
             Err(error) => {
                 self.fault = Some(error.kind());
@@ -52,7 +52,7 @@ impl<W: Write> Write for Watched<W> {
     }
 
     fn flush(&mut self) -> io::Result<()> {
-        match self.device.flush() {
+        match self.stream.flush() {
             Ok(()) => Ok(()),
             Err(error) => {
                 self.fault = Some(error.kind());

@@ -20,7 +20,7 @@ use Rattle.uv_model.proofs.Cuts.SchemeCutLemmas.{scheme_without_colon, splits_at
 use Rattle.uv_model.proofs.Cuts.AuthorityCutLemmas.{host_cut-is, written_host_cut}
 use Rattle.uv_model.specs.Ascii.{colon, left_bracket, right_bracket}
 use Rattle.uv_model.specs.Cut.{host_before, host_cut, port_cut, text_before, is_port_mark, is_within, port_behind}
-use Rattle.uv_text.proofs.SplitsLemmas.{front_slice}
+use Rattle.uv_text.proofs.SplitsLemmas.{prefix_slice}
 
 -- a byte beyond ASCII is no `:`
 no_mark : (within : Bool) (b : ℕ) → 128 ≤ b → is_port_mark within b ≡ false
@@ -118,15 +118,15 @@ option_some (Some text) bytes utf8 same =
     ap (λ s. Some s) (encodes_same (chars bytes) text spelled)
 
 -- the sides of the `:` of a port
-pub host_sides : (bytes front behind : List ℕ) (end : ℕ) → IsUtf8 bytes → IsUtf8 front → IsUtf8 behind
-    → IsPortMark bytes (Some end) → front ≡ slice_range bytes 0 end → behind ≡ drop (end + 1) bytes
-    → (chars front ≡ host_before false (chars bytes)) × (Some (chars behind) ≡ port_behind false (chars bytes))
-host_sides bytes front behind end utf8 front_utf8 behind_utf8 mark is_front is_behind =
-    let host : front ≡ encodes (host_before false (chars bytes))
-    = is_front ∙ (front_slice bytes end ∙ (sym mark.2 ∙ host_before-chars bytes utf8)) in
+pub host_sides : (bytes prefix behind : List ℕ) (end : ℕ) → IsUtf8 bytes → IsUtf8 prefix → IsUtf8 behind
+    → IsPortMark bytes (Some end) → prefix ≡ slice_range bytes 0 end → behind ≡ drop (end + 1) bytes
+    → (chars prefix ≡ host_before false (chars bytes)) × (Some (chars behind) ≡ port_behind false (chars bytes))
+host_sides bytes prefix behind end utf8 prefix_utf8 behind_utf8 mark is_prefix is_behind =
+    let host : prefix ≡ encodes (host_before false (chars bytes))
+    = is_prefix ∙ (prefix_slice bytes end ∙ (sym mark.2 ∙ host_before-chars bytes utf8)) in
     let port : Some behind ≡ option_map encodes (port_behind false (chars bytes))
     = ap (λ s. Some s) is_behind ∙ (sym mark.3 ∙ port_behind-chars bytes utf8) in (
-      encodes_same (chars front) (host_before false (chars bytes)) (encodes-chars front front_utf8 ∙ host),
+      encodes_same (chars prefix) (host_before false (chars bytes)) (encodes-chars prefix prefix_utf8 ∙ host),
       option_some (port_behind false (chars bytes)) behind behind_utf8 port,
     )
 
@@ -148,14 +148,14 @@ mark_boundary bytes end utf8 mark =
 -- ---- texts without a scheme
 
 -- what stands before the first `:` isn't a scheme
-pub no_scheme_front : (front rest : List ℕ) → is_without colon front ≡ true → is_scheme front ≡ false
-    → starts_with_scheme (front ++ colon ∷ rest) ≡ false
-no_scheme_front front rest none other =
-    elim (cases_Bool (starts_with_scheme (front ++ colon ∷ rest))) [
+pub no_scheme_prefix : (prefix rest : List ℕ) → is_without colon prefix ≡ true → is_scheme prefix ≡ false
+    → starts_with_scheme (prefix ++ colon ∷ rest) ≡ false
+no_scheme_prefix prefix rest none other =
+    elim (cases_Bool (starts_with_scheme (prefix ++ colon ∷ rest))) [
       | inl starts ↦
-          let s = splits_at_scheme (front ++ colon ∷ rest) starts in
-          let first : front ≡ s.scheme
-          = sym (text_before-mark colon front rest none) ∙ (ap (λ t. text_before colon t) s.joined
+          let s = splits_at_scheme (prefix ++ colon ∷ rest) starts in
+          let first : prefix ≡ s.scheme
+          = sym (text_before-mark colon prefix rest none) ∙ (ap (λ t. text_before colon t) s.joined
           ∙ text_before-mark colon s.scheme s.rest (scheme_without_colon s.scheme s.is)) in
           absurd (false≢true (sym other ∙ (ap is_scheme first ∙ s.is)))
       | inr not ↦ not
@@ -187,14 +187,14 @@ splits_before_port class authority host port (inl same) is_host is_port =
 splits_before_port class authority host port (inr same) is_host is_port =
     rw same (splits_host Other authority host port is_host is_port)
 
--- a text whose front before the first `:` is no scheme is a rest alone
-pub splits_no_scheme : (text front : List ℕ) (rest : Option (List ℕ)) → text ≡ front ++ written_behind colon rest
-    → is_without colon front ≡ true → (IsSome rest → is_scheme front ≡ false) → SplitsScheme text None text
-splits_no_scheme text front None joined none other =
-    let whole : text ≡ front = joined ∙ append-nil front in
-    record { joined = refl; scheme = rw whole (no_scheme_alone front none) }
-splits_no_scheme text front (Some rest) joined none other =
-    record { joined = refl; scheme = rw joined (no_scheme_front front rest none (other refl)) }
+-- a text whose prefix before the first `:` is no scheme is a rest alone
+pub splits_no_scheme : (text prefix : List ℕ) (rest : Option (List ℕ)) → text ≡ prefix ++ written_behind colon rest
+    → is_without colon prefix ≡ true → (IsSome rest → is_scheme prefix ≡ false) → SplitsScheme text None text
+splits_no_scheme text prefix None joined none other =
+    let whole : text ≡ prefix = joined ∙ append-nil prefix in
+    record { joined = refl; scheme = rw whole (no_scheme_alone prefix none) }
+splits_no_scheme text prefix (Some rest) joined none other =
+    record { joined = refl; scheme = rw joined (no_scheme_prefix prefix rest none (other refl)) }
 
 -- without a `:` there is no port
 pub no_port : (bytes : List ℕ) → is_without colon bytes ≡ true → IsPortMark bytes None
@@ -226,11 +226,12 @@ first_port bytes end first none =
       | inr more ↦ rw (other, more) refl
     ]
 
-    before : (front rest : List ℕ) → is_without colon front ≡ true → is_without left_bracket front ≡ true
-        → (host_before false (front ++ colon ∷ rest) ≡ front) × (port_behind false (front ++ colon ∷ rest) ≡ Some rest)
+    before : (prefix rest : List ℕ) → is_without colon prefix ≡ true → is_without left_bracket prefix ≡ true
+        → (host_before false (prefix ++ colon ∷ rest) ≡ prefix)
+        × (port_behind false (prefix ++ colon ∷ rest) ≡ Some rest)
     before [] rest none closed = (refl, refl)
-    before (c ∷ front) rest none closed =
-        let marks = is_without-cons colon c front none in
-        let brackets = is_without-cons left_bracket c front closed in
-        let more = before front rest marks.1 brackets.1 in
+    before (c ∷ prefix) rest none closed =
+        let marks = is_without-cons colon c prefix none in
+        let brackets = is_without-cons left_bracket c prefix closed in
+        let more = before prefix rest marks.1 brackets.1 in
         rw (marks.0, outside c brackets.0) (ap (λ s. c ∷ s) more.0, more.1)

@@ -1,4 +1,4 @@
--- The parts built from a cut without a complaint are valid.
+-- The parts built from a cut without a violation are valid.
 use Rattle.std.proofs.Common.{◌≡◌, ◌≢◌, ℕ, List, [], ◌∷◌, ◌++◌, true, false, Option, Some, None, refl, sym, ap, ◌∙◌}
 use Rattle.std.proofs.Common.{subst, inl, inr}
 use Rattle.std.specs.Prelude.{◌⊎◌, ◌+◌, IsSome, is_some}
@@ -12,15 +12,15 @@ use Rattle.uv_model.specs.declared.rule.Rule.TheVariants.{DriveAfterHost}
 use Rattle.uv_model.specs.declared.scheme.Class.{Class}
 use Rattle.uv_model.specs.declared.scheme.Class.TheVariants.{Special, File, Other}
 use Rattle.uv_model.specs.Ascii.{number_sign, question_mark}
-use Rattle.uv_model.specs.Complaints.Complaint.{HasEmptyFirst, HasHost, MayBeUnitComplaint, IsStarted}
-use Rattle.uv_model.specs.Complaints.Complaint.{starts_with_number_sign}
+use Rattle.uv_model.specs.Violations.Violation.{HasEmptyFirst, HasHost, MayBeUnitViolation, IsStarted}
+use Rattle.uv_model.specs.Violations.Violation.{starts_with_number_sign}
 use Rattle.uv_model.specs.Cut.{Cut, IsCut, IsHostCut, IsSchemeCut, class_in, path_place, query_place, fragment_place}
-use Rattle.uv_model.specs.Cut.{starts_with_two_slashes, written_front, written_middle, written_start}
+use Rattle.uv_model.specs.Cut.{starts_with_two_slashes, written_prefix, written_middle, written_start}
 use Rattle.uv_model.specs.Parts.{Form, NoPath, Parts, PathAbsolute, PathRelative, SchemeOpaque, SchemePath, has_scheme}
 use Rattle.uv_model.specs.Parts.{written_authority, written_behind, written_scheme}
 use Rattle.uv_model.specs.Path.{IsPathAbsolute, IsPathRelative, is_without, starts_with_drive_segment}
 use Rattle.uv_model.specs.Path.{starts_with_slash}
-use Rattle.uv_model.specs.Complaints.Refusal.{IsLeast}
+use Rattle.uv_model.specs.Violations.Refusal.{IsLeast}
 use Rattle.uv_model.specs.Scheme.{scheme_class}
 use Rattle.uv_model.specs.Units.{IsUnits}
 use Rattle.uv_model.specs.Records.Url.{Url, is_opaque}
@@ -28,19 +28,19 @@ use Rattle.uv_model.specs.Setting.{Setting, setting_of}
 use Rattle.uv_model.specs.Valid.{FitsAuthority, FitsBase, FitsDrive, FitsForm, HasAuthority, HasNoAuthority}
 use Rattle.uv_model.specs.Valid.{IsOpaqueHostText, IsOpaquePath, FitsScheme, IsPathBehind, MayBePathBehind}
 use Rattle.uv_model.specs.Valid.{MayBePortText, MayBeUnits, Valid, port_given, starts_with_scheme}
-use Rattle.uv_model.proofs.Complaints.ComplaintLemmas.{cut_with}
+use Rattle.uv_model.proofs.Violations.ViolationLemmas.{cut_with}
 use Rattle.uv_model.proofs.Texts.MarkLemmas.{is_without-cons, is_without-parts}
-use Rattle.uv_model.proofs.Complaints.UnitComplaintLemmas.{units_uncomplained}
+use Rattle.uv_model.proofs.Violations.UnitViolationLemmas.{units_without_violation}
 use Rattle.uv_model.proofs.Cuts.ValidCutLemmas.{written_as_cut}
 use Rattle.uv_grammar.specs.Built.{built, form_of, form_with, pieces, segments_in, segments_of}
 use Rattle.uv_grammar.specs.HostValues.{FitsHost}
-use Rattle.uv_grammar.specs.PartComplaints.{BehindAuthority}
+use Rattle.uv_grammar.specs.PartViolations.{BehindAuthority}
 use Rattle.uv_grammar.specs.PartValues.{FitsHostPart, FitsPortPart}
 use Rattle.uv_grammar.proofs.SegmentLemmas.{path_absolute, path_relative, path_slashed, relative_path}
 
--- ---- what the absence of complaints says
+-- ---- what the absence of violations says
 
--- the path's start, the path, the query and the fragment have no complaint
+-- the path's start, the path, the query and the fragment have no violation
 record IsQuiet (setting : Setting) (cut : Cut) : Type 0 where
   first : HasEmptyFirst setting.profile cut.path_text → ⊥
   drive : setting.class ≡ File → HasHost setting.base cut.scheme cut.host_text
@@ -49,14 +49,14 @@ record IsQuiet (setting : Setting) (cut : Cut) : Type 0 where
   query : MayBeUnits cut.query
   fragment : MayBeUnits cut.fragment
 
-no_complaint_units : (start : ℕ) (text : Option (List ℕ))
-    → ((place : ℕ) (rule : Rule) → MayBeUnitComplaint start text place rule → ⊥) → MayBeUnits text
-no_complaint_units start None none = tt
-no_complaint_units start (Some text) none =
-    units_uncomplained text
+no_violation_units : (start : ℕ) (text : Option (List ℕ))
+    → ((place : ℕ) (rule : Rule) → MayBeUnitViolation start text place rule → ⊥) → MayBeUnits text
+no_violation_units start None none = tt
+no_violation_units start (Some text) none =
+    units_without_violation text
     (λ place rule h. none (start + place) rule (record { inner = place; moved = refl; holds = h }))
 
--- from no complaint to what it says
+-- from no violation to what it says
 quiet : (setting : Setting) (cut : Cut) → IsLeast (BehindAuthority setting cut) None → IsQuiet setting cut
 quiet setting cut none = record {
   first = λ empty.
@@ -68,11 +68,11 @@ quiet setting cut none = record {
         (inl (record { inner = 0; moved = refl; holds = (file, host, drive, refl) })))
     | inr other ↦ other
   ];
-  path = units_uncomplained cut.path_text
+  path = units_without_violation cut.path_text
       (λ place rule h. none (path_place cut + place) rule
       (inr (inl (record { inner = place; moved = refl; holds = h }))));
-  query = no_complaint_units (query_place cut) cut.query (λ place rule h. none place rule (inr (inr (inl h))));
-  fragment = no_complaint_units (fragment_place cut) cut.fragment (λ place rule h. none place rule (inr (inr (inr h))));
+  query = no_violation_units (query_place cut) cut.query (λ place rule h. none place rule (inr (inr (inl h))));
+  fragment = no_violation_units (fragment_place cut) cut.fragment (λ place rule h. none place rule (inr (inr (inr h))));
 }
 
 -- the path of a cut text holds no `?`
@@ -345,16 +345,16 @@ scheme_fits None None (c ∷ rest) middle is = elim (cases_Bool (starts_with_sla
 -- ---- the base
 
 -- a text that begins with `#` is a fragment alone
-number_sign_first : (front : List ℕ) (fragment : Option (List ℕ)) → is_without number_sign front ≡ true
-    → starts_with_number_sign (front ++ written_behind number_sign fragment) ≡ true → (front ≡ []) × IsSome fragment
+number_sign_first : (prefix : List ℕ) (fragment : Option (List ℕ)) → is_without number_sign prefix ≡ true
+    → starts_with_number_sign (prefix ++ written_behind number_sign fragment) ≡ true → (prefix ≡ []) × IsSome fragment
 number_sign_first [] None none start = absurd (false≢true start)
 number_sign_first [] (Some fragment) none start = (refl, refl)
-number_sign_first (c ∷ front) fragment none start =
-    absurd (false≢true (sym (is_without-cons number_sign c front none).0 ∙ start))
+number_sign_first (c ∷ prefix) fragment none start =
+    absurd (false≢true (sym (is_without-cons number_sign c prefix none).0 ∙ start))
 
-no_front : (xs ys : List ℕ) → xs ++ ys ≡ [] → (xs ≡ []) × (ys ≡ [])
-no_front [] ys same = (refl, same)
-no_front (x ∷ xs) ys same = absurd cc
+no_prefix : (xs ys : List ℕ) → xs ++ ys ≡ [] → (xs ≡ []) × (ys ≡ [])
+no_prefix [] ys same = (refl, same)
+no_prefix (x ∷ xs) ys same = absurd cc
 
 nothing_behind : (mark : ℕ) (text : Option (List ℕ)) → written_behind mark text ≡ [] → text ≡ None
 nothing_behind mark None same = refl
@@ -366,14 +366,14 @@ no_authority_text None port_text same = refl
 no_authority_text (Some host_text) port_text same = absurd cc
 
 -- nothing stands before the fragment
-empty_front : (cut : Cut) → cut.scheme ≡ None → written_front cut ≡ []
+empty_prefix : (cut : Cut) → cut.scheme ≡ None → written_prefix cut ≡ []
     → (form_of cut ≡ NoPath) × (cut.query ≡ None)
-empty_front cut scheme same =
-    let front = no_front (written_start cut) (written_behind question_mark cut.query) same in
-    let start = no_front (written_scheme cut.scheme) (written_middle cut) front.0 in
-    let middle = no_front (written_authority cut.host_text cut.port_text) cut.path_text start.1 in
+empty_prefix cut scheme same =
+    let prefix = no_prefix (written_start cut) (written_behind question_mark cut.query) same in
+    let start = no_prefix (written_scheme cut.scheme) (written_middle cut) prefix.0 in
+    let middle = no_prefix (written_authority cut.host_text cut.port_text) cut.path_text start.1 in
     let host = no_authority_text cut.host_text cut.port_text middle.0 in
-    (rw (scheme, host, middle.1) refl, nothing_behind question_mark cut.query front.1)
+    (rw (scheme, host, middle.1) refl, nothing_behind question_mark cut.query prefix.1)
 
 scheme_there : (scheme : Option (List ℕ)) → (scheme ≡ None → ⊥) → IsSome scheme
 scheme_there None some = absurd (some refl)
@@ -396,16 +396,16 @@ base_fits profile (Some url) text cut host port is started = elim (scheme_or_non
     | inl opaque ↦ elim (cases_Bool (starts_with_number_sign text)) [
       | inr other ↦ absurd (started 0 OpaqueBase (none, opaque, other, refl))
       | inl start ↦
-          let f = number_sign_first (written_front cut) cut.fragment is.front
+          let f = number_sign_first (written_prefix cut) cut.fragment is.prefix
           (subst (λ (t : List ℕ). starts_with_number_sign t ≡ true) is.whole start) in
-          let e = empty_front cut none f.0 in
+          let e = empty_prefix cut none f.0 in
           inr (inr (e.0, e.1, f.1))
     ]
   ]
 ]
 
 -- The parts built from a cut are valid where its start, its host and its port are, and nothing behind them has a
--- complaint.
+-- violation.
 pub valid_built : (profile : Profile) (base : Option Url) (text : List ℕ) (cut : Cut) (host : Option Host)
     (port : Option ℕ)
     → IsCut base text cut → IsStarted (setting_of profile base cut.scheme) text cut

@@ -1,4 +1,4 @@
--- Lemmas on the complaints and the values of hosts.
+-- Lemmas on the violations and the values of hosts.
 use Rattle.std.proofs.Common.{◌≡◌, ◌≢◌, ℕ, List, [], ◌∷◌, Bool, true, false, refl, sym, ap, ◌∙◌, inl, inr, arith}
 use Rattle.std.proofs.Common.{Option, Some, None, eqb-true}
 use Rattle.std.proofs.Math.Nat.{le_refl}
@@ -15,15 +15,15 @@ use Rattle.uv_model.specs.declared.scheme.Class.{Class}
 use Rattle.uv_model.specs.declared.scheme.Class.TheVariants.{Special, File, Other}
 use Rattle.uv_host.specs.OpaqueHosts.{IsOpaqueHostOrEmpty}
 use Rattle.uv_model.specs.Hosts.Address.{IsBracketedIpv6}
-use Rattle.uv_model.specs.Complaints.Complaint.{HostContentComplaint, HostComplaint, HostTextComplaint, LacksHost}
+use Rattle.uv_model.specs.Violations.Violation.{HostContentViolation, HostViolation, HostTextViolation, LacksHost}
 use Rattle.uv_model.specs.Ascii.{percent_sign}
 use Rattle.uv_model.specs.Hosts.OpaqueHost.{IsOpaqueHost}
-use Rattle.uv_model.specs.Complaints.Refusal.{IsLeast}
-use Rattle.uv_model.specs.Complaints.Rule.{rule_number}
+use Rattle.uv_model.specs.Violations.Refusal.{IsLeast}
+use Rattle.uv_model.specs.Violations.Rule.{rule_number}
 use Rattle.uv_model.specs.Valid.{without_localhost}
 use Rattle.uv_model.proofs.Hosts.FileHosts.{file_host_fits}
-use Rattle.uv_model.proofs.Complaints.FaultlessHosts.{host_text_faultless}
-use Rattle.uv_model.proofs.Complaints.RefusalLemmas.{IsLeast-like}
+use Rattle.uv_model.proofs.Violations.FaultlessHosts.{host_text_faultless}
+use Rattle.uv_model.proofs.Violations.RefusalLemmas.{IsLeast-like}
 use Rattle.uv_grammar.specs.declared.judged.Judged.{Judged}
 use Rattle.uv_grammar.specs.declared.judged.Judged.TheVariants.{Valid, Refused}
 use Rattle.uv_grammar.specs.declared.parts_host.PartsHost.{PartsHost}
@@ -31,13 +31,13 @@ use Rattle.uv_grammar.specs.PartsHost.{FitsPartsHost, IsPartsHostText, as_host}
 use Rattle.uv_grammar.specs.HostValues.{FitsHost, FitsSomeHost}
 use Rattle.uv_grammar.specs.Judged.{IsJudged}
 use Rattle.uv_grammar.specs.NoMemory.{HostTakesNoMemory, MakesNoForm}
-use Rattle.uv_model.proofs.Complaints.UnitComplaintLemmas.{nothing_at}
+use Rattle.uv_model.proofs.Violations.UnitViolationLemmas.{nothing_at}
 
 -- ---- the empty host
 
 -- an empty text violates no rule by what it holds
 pub empty_content_fits : (profile : Profile) (class : Class) (place : ℕ) (rule : Rule)
-    → HostContentComplaint profile class [] place rule → ⊥
+    → HostContentViolation profile class [] place rule → ⊥
 empty_content_fits profile Special place HostDomain h = h.0.0.some refl
 empty_content_fits profile Special place HostNumber h = h.0.0.some refl
 empty_content_fits profile Special place HostIpv6 h = false≢true h.0.bracket
@@ -54,7 +54,7 @@ empty_content_fits profile Other place _ h = absurd h
 -- the rules of an empty host are that of a missing one
 pub empty_rule : (profile : Profile) (class : Class) (port_text : Option (List ℕ)) (path_text : List ℕ) (place : ℕ)
     (rule : Rule)
-    → HostComplaint profile class [] port_text path_text place rule
+    → HostViolation profile class [] port_text path_text place rule
     → (rule ≡ HostMissing) × LacksHost class [] port_text path_text × (place ≡ 0)
 empty_rule profile class port_text path_text place HostMissing h = (refl, h.0, h.1)
 empty_rule profile class port_text path_text place rule h = absurd (empty_content_fits profile class place rule h)
@@ -62,7 +62,7 @@ empty_rule profile class port_text path_text place rule h = absurd (empty_conten
 -- an empty host that may be so
 pub empty_silent : (profile : Profile) (class : Class) (port_text : Option (List ℕ)) (path_text : List ℕ)
     → ¬ (LacksHost class [] port_text path_text)
-    → IsLeast (HostComplaint profile class [] port_text path_text) None
+    → IsLeast (HostViolation profile class [] port_text path_text) None
 empty_silent profile class port_text path_text not place rule h =
     not (empty_rule profile class port_text path_text place rule h).1
 
@@ -70,7 +70,7 @@ empty_silent profile class port_text path_text not place rule h =
 
 -- what it holds violates no rule of a missing host
 content_not_missing : (profile : Profile) (class : Class) (text : List ℕ) (place : ℕ)
-    → HostContentComplaint profile class text place HostMissing → ⊥
+    → HostContentViolation profile class text place HostMissing → ⊥
 content_not_missing profile Special text place h = h.0
 content_not_missing profile File text place h = h.0
 content_not_missing profile Other text place h = h
@@ -81,22 +81,22 @@ lacks_nothing Special text port_text path_text some h = some h
 lacks_nothing File text port_text path_text some h = some h.0
 lacks_nothing Other text port_text path_text some h = some h.0
 
--- a complaint of what a host holds is one of the host
+-- a violation of what a host holds is one of the host
 pub content_to_host : (profile : Profile) (class : Class) (text : List ℕ) (port_text : Option (List ℕ))
     (path_text : List ℕ) (place : ℕ) (rule : Rule)
-    → HostContentComplaint profile class text place rule
-    → HostComplaint profile class text port_text path_text place rule
+    → HostContentViolation profile class text place rule
+    → HostViolation profile class text port_text path_text place rule
 content_to_host profile class text port_text path_text place HostMissing h =
     absurd (content_not_missing profile class text place h)
 content_to_host profile class text port_text path_text place _ h = h
 
--- and a complaint of a host that isn't empty is one of what it holds
+-- and a violation of a host that isn't empty is one of what it holds
 pub content_from_host : (profile : Profile) (class : Class) (text : List ℕ) (port_text : Option (List ℕ))
     (path_text : List ℕ)
     → text ≢ []
     → (place : ℕ) (rule : Rule)
-    → HostComplaint profile class text port_text path_text place rule
-    → HostContentComplaint profile class text place rule
+    → HostViolation profile class text port_text path_text place rule
+    → HostContentViolation profile class text place rule
 content_from_host profile class text port_text path_text some place HostMissing h =
     absurd (lacks_nothing class text port_text path_text some h.0)
 content_from_host profile class text port_text path_text some place _ h = h
@@ -106,25 +106,25 @@ pub content_answer : (profile : Profile) (class : Class) (text : List ℕ) (port
     (path_text : List ℕ)
     → text ≢ []
     → (answer : Judged (Option PartsHost)) → IsJudged (FitsPartsHost (FitsSomeHost profile class text))
-    (HostContentComplaint profile class text) answer
+    (HostContentViolation profile class text) answer
     → IsJudged (FitsPartsHost (FitsHost profile class text port_text path_text))
-    (HostComplaint profile class text port_text path_text) answer
+    (HostViolation profile class text port_text path_text) answer
 content_answer profile class text port_text path_text some (Valid host) is = (
   inl (some, is.0),
-  IsLeast-like (HostContentComplaint profile class text) (HostComplaint profile class text port_text path_text)
+  IsLeast-like (HostContentViolation profile class text) (HostViolation profile class text port_text path_text)
       (content_to_host profile class text port_text path_text)
       (content_from_host profile class text port_text path_text some) None is.1,
 )
 content_answer profile class text port_text path_text some (Refused refusal) is =
-    IsLeast-like (HostContentComplaint profile class text) (HostComplaint profile class text port_text path_text)
+    IsLeast-like (HostContentViolation profile class text) (HostViolation profile class text port_text path_text)
     (content_to_host profile class text port_text path_text)
     (content_from_host profile class text port_text path_text some) (Some refusal) is
 
 -- ---- the host strings of special and file URLs
 
 -- a text that should be a domain has one fault
-pub one_rule : (profile : Profile) (text : List ℕ) (rule other : Rule) → HostTextComplaint profile text rule
-    → HostTextComplaint profile text other
+pub one_rule : (profile : Profile) (text : List ℕ) (rule other : Rule) → HostTextViolation profile text rule
+    → HostTextViolation profile text other
     → rule ≡ other
 one_rule profile text HostDomain HostDomain h k = refl
 one_rule profile text HostNumber HostNumber h k = refl
@@ -140,9 +140,9 @@ one_rule profile text HostNumber _ h k = absurd k
 one_rule profile text HostIpv6 _ h k = absurd k
 one_rule profile text _ other h k = absurd h
 
--- the least complaint of a host string that isn't valid
-pub fault_least : (profile : Profile) (text : List ℕ) (rule : Rule) → HostTextComplaint profile text rule
-    → IsLeast (λ place r. HostTextComplaint profile text r × (place ≡ 0)) (Some (record { place = 0; rule = rule }))
+-- the least violation of a host string that isn't valid
+pub fault_least : (profile : Profile) (text : List ℕ) (rule : Rule) → HostTextViolation profile text rule
+    → IsLeast (λ place r. HostTextViolation profile text r × (place ≡ 0)) (Some (record { place = 0; rule = rule }))
 fault_least profile text rule h = record {
   stands = (h, refl);
   first = λ place other k. omega arith;
@@ -153,13 +153,13 @@ fault_least profile text rule h = record {
 
 -- the answer on a valid host string
 pub text_answer : (profile : Profile) (text : List ℕ) (host : PartsHost) → IsPartsHostText profile text host
-    → IsJudged (IsPartsHostText profile text) (HostContentComplaint profile Special text) (Valid host)
+    → IsJudged (IsPartsHostText profile text) (HostContentViolation profile Special text) (Valid host)
 text_answer profile text host is = (is, λ place rule h. host_text_faultless profile text (as_host host) is rule h.0)
 
 -- the answer of a file URL
 pub file_answer : (profile : Profile) (text : List ℕ) (host file_host : PartsHost) → IsPartsHostText profile text host
     → as_host file_host ≡ without_localhost (as_host host)
-    → IsJudged (FitsPartsHost (FitsSomeHost profile File text)) (HostContentComplaint profile File text) (Valid
+    → IsJudged (FitsPartsHost (FitsSomeHost profile File text)) (HostContentViolation profile File text) (Valid
     (Some file_host))
 file_answer profile text host file_host is same = (
   rw same (file_host_fits profile text (as_host host) is),

@@ -15,10 +15,10 @@ use Rattle.uv_model.specs.declared.rule.Rule.TheVariants.{FirstSegmentEmpty, Dri
 use Rattle.uv_model.specs.declared.scheme.Class.{Class}
 use Rattle.uv_model.specs.declared.scheme.Class.TheVariants as classes
 use Rattle.uv_model.specs.Ascii.{number_sign, question_mark}
-use Rattle.uv_model.specs.Complaints.AllComplaints.{AreFaults, ListsComplaints}
-use Rattle.uv_model.specs.Complaints.Complaint.{Complaint, ComplaintOf, HasHost, HostPartComplaint, JudgedComplaint}
-use Rattle.uv_model.specs.Complaints.Complaint.{Behind, PathStartComplaint, StartComplaint}
-use Rattle.uv_model.specs.Complaints.Refusal.{IsLeast}
+use Rattle.uv_model.specs.Violations.AllViolations.{AreFaults, ListsViolations}
+use Rattle.uv_model.specs.Violations.Violation.{Violation, ViolationOf, HasHost, HostPartViolation, JudgedViolation}
+use Rattle.uv_model.specs.Violations.Violation.{Behind, PathStartViolation, StartViolation}
+use Rattle.uv_model.specs.Violations.Refusal.{IsLeast}
 use Rattle.uv_model.specs.Cut.{Cut, behind_scheme, class_in, cut_of, host_text_cut, path_text_cut, port_text_cut}
 use Rattle.uv_model.specs.Cut.{scheme_cut, text_before, text_behind}
 use Rattle.uv_model.specs.Parts.{Form, SchemeAuthority, SchemePath, SchemeOpaque, Authority, PathAbsolute}
@@ -68,7 +68,8 @@ kind_alike url kind h =
 
 -- ---- what a text is read against
 
-class_alike : (a b : Url) → IsAlike a b → (scheme : Option (List ℕ)) → class_in (Some a) scheme ≡ class_in (Some b) scheme
+class_alike : (a b : Url) → IsAlike a b → (scheme : Option (List ℕ))
+    → class_in (Some a) scheme ≡ class_in (Some b) scheme
 class_alike a b h (Some scheme) = refl
 class_alike a b h None = h.class
 
@@ -86,9 +87,9 @@ cut_with start query fragment class = record {
 cut_alike : (a b : Url) (text : List ℕ) → IsAlike a b → cut_of (Some a) text ≡ cut_of (Some b) text
 unfolding cut_of
 cut_alike a b text h =
-    let front = text_before number_sign text in
-    let start = text_before question_mark front in
-    ap (cut_with start (text_behind question_mark front) (text_behind number_sign text))
+    let prefix = text_before number_sign text in
+    let start = text_before question_mark prefix in
+    ap (cut_with start (text_behind question_mark prefix) (text_behind number_sign text))
     (class_alike a b h (scheme_cut start))
 
 -- a setting with a base
@@ -102,12 +103,12 @@ setting_same : (profile : Profile) (a b : Url) → IsAlike a b → (scheme : Opt
 setting_same profile a b h (Some scheme) = refl
 setting_same profile a b h None = rw (h.class, h.port) refl
 
--- ---- complaints
+-- ---- violations
 
 start_swap : (profile : Profile) (a b : Url) → IsAlike a b → (class : Class) (port : Option ℕ) (text : List ℕ)
     (cut : Cut) (place : ℕ) (rule : Rule)
-    → StartComplaint (setting_with profile a class port) text cut place rule
-    → StartComplaint (setting_with profile b class port) text cut place rule
+    → StartViolation (setting_with profile a class port) text cut place rule
+    → StartViolation (setting_with profile b class port) text cut place rule
 start_swap profile a b h class port text cut place NoScheme x = absurd (none-some a (sym x.1))
 start_swap profile a b h class port text cut place OpaqueBase x = (x.0, sym h.path ∙ x.1, x.2, x.3)
 start_swap profile a b h class port text cut place TwoSlashes x = x
@@ -121,8 +122,8 @@ host_swap a b h (Some scheme) None x = absurd x
 
 path_swap : (profile : Profile) (a b : Url) → IsAlike a b → (class : Class) (port : Option ℕ) (cut : Cut) (place : ℕ)
     (rule : Rule)
-    → PathStartComplaint (setting_with profile a class port) cut place rule
-    → PathStartComplaint (setting_with profile b class port) cut place rule
+    → PathStartViolation (setting_with profile a class port) cut place rule
+    → PathStartViolation (setting_with profile b class port) cut place rule
 path_swap profile a b h class port cut place FirstSegmentEmpty x = x
 path_swap profile a b h class port cut place DriveAfterHost x =
     (x.0, host_swap a b h cut.scheme cut.host_text x.1, x.2, x.3)
@@ -130,15 +131,15 @@ path_swap profile a b h class port cut place _ x = absurd x
 
 host_part_swap : (profile : Profile) (a b : Url) (class : Class) (port : Option ℕ) (cut : Cut)
     (host_text : Option (List ℕ)) (place : ℕ) (rule : Rule)
-    → HostPartComplaint (setting_with profile a class port) (record cut { host_text = host_text }) place rule
-    → HostPartComplaint (setting_with profile b class port) (record cut { host_text = host_text }) place rule
+    → HostPartViolation (setting_with profile a class port) (record cut { host_text = host_text }) place rule
+    → HostPartViolation (setting_with profile b class port) (record cut { host_text = host_text }) place rule
 host_part_swap profile a b class port cut None place rule x = absurd x
 host_part_swap profile a b class port cut (Some host_text) place rule x = x
 
 judged_swap : (profile : Profile) (a b : Url) → IsAlike a b → (class : Class) (port : Option ℕ) (cut : Cut) (place : ℕ)
     (rule : Rule)
-    → JudgedComplaint (setting_with profile a class port) cut place rule
-    → JudgedComplaint (setting_with profile b class port) cut place rule
+    → JudgedViolation (setting_with profile a class port) cut place rule
+    → JudgedViolation (setting_with profile b class port) cut place rule
 judged_swap profile a b h class port cut place rule (inl x) =
     inl (host_part_swap profile a b class port cut cut.host_text place rule x)
 judged_swap profile a b h class port cut place rule (inr (inl x)) = inr (inl x)
@@ -148,30 +149,30 @@ judged_swap profile a b h class port cut place rule (inr (inr x)) = inr (inr (re
   holds = path_swap profile a b h class port cut x.inner rule x.holds;
 }))
 
-complaint_swap : (profile : Profile) (a b : Url) → IsAlike a b → (class : Class) (port : Option ℕ) (text : List ℕ)
+violation_swap : (profile : Profile) (a b : Url) → IsAlike a b → (class : Class) (port : Option ℕ) (text : List ℕ)
     (cut : Cut) (place : ℕ) (rule : Rule)
-    → ComplaintOf (setting_with profile a class port) text cut place rule
-    → ComplaintOf (setting_with profile b class port) text cut place rule
-complaint_swap profile a b h class port text cut place rule (inl x) =
+    → ViolationOf (setting_with profile a class port) text cut place rule
+    → ViolationOf (setting_with profile b class port) text cut place rule
+violation_swap profile a b h class port text cut place rule (inl x) =
     inl (start_swap profile a b h class port text cut place rule x)
-complaint_swap profile a b h class port text cut place rule (inr (inl (started, x))) = inr (inl (
+violation_swap profile a b h class port text cut place rule (inr (inl (started, x))) = inr (inl (
   λ other number again.
       started other number (start_swap profile b a (flip a b h) class port text cut other number again),
   judged_swap profile a b h class port cut place rule x,
 ))
-complaint_swap profile a b h class port text cut place rule (inr (inr x)) = inr (inr x)
+violation_swap profile a b h class port text cut place rule (inr (inr x)) = inr (inr x)
 
 -- a text violates the same rules at the same places against both
-pub complaint_alike : (profile : Profile) (a b : Url) (text : List ℕ) → IsAlike a b → (place : ℕ) (rule : Rule)
-    → Complaint profile (Some a) text place rule → Complaint profile (Some b) text place rule
-unfolding Complaint
-complaint_alike profile a b text h place rule x =
+pub violation_alike : (profile : Profile) (a b : Url) (text : List ℕ) → IsAlike a b → (place : ℕ) (rule : Rule)
+    → Violation profile (Some a) text place rule → Violation profile (Some b) text place rule
+unfolding Violation
+violation_alike profile a b text h place rule x =
     let cut = cut_of (Some a) text in
     let class = class_in (Some a) cut.scheme in
     let port = default_port (scheme_or (Some a) cut.scheme) in
-    subst (λ (k : Cut). ComplaintOf (setting_of profile (Some b) k.scheme) text k place rule) (cut_alike a b text h)
-    (subst (λ (s : Setting). ComplaintOf s text cut place rule) (setting_same profile a b h cut.scheme)
-    (complaint_swap profile a b h class port text cut place rule x))
+    subst (λ (k : Cut). ViolationOf (setting_of profile (Some b) k.scheme) text k place rule) (cut_alike a b text h)
+    (subst (λ (s : Setting). ViolationOf s text cut place rule) (setting_same profile a b h cut.scheme)
+    (violation_swap profile a b h class port text cut place rule x))
 
 -- ---- parts
 
@@ -249,19 +250,19 @@ least_alike : (before after : ℕ → Rule → Type 0)
     → ((place : ℕ) (rule : Rule) → before place rule → after place rule)
     → ((place : ℕ) (rule : Rule) → after place rule → before place rule)
     → (refusal : Option Refusal) → IsLeast before refusal → IsLeast after refusal
-least_alike before after to from None x = λ place rule complaint. x place rule (from place rule complaint)
+least_alike before after to from None x = λ place rule violation. x place rule (from place rule violation)
 least_alike before after to from (Some refusal) x = record {
   stands = to refusal.place refusal.rule x.stands;
-  first = λ place rule complaint. x.first place rule (from place rule complaint);
-  lowest = λ rule complaint. x.lowest rule (from refusal.place rule complaint);
+  first = λ place rule violation. x.first place rule (from place rule violation);
+  lowest = λ rule violation. x.lowest rule (from refusal.place rule violation);
 }
 
--- the least complaint against both
-complaint_least : (profile : Profile) (a b : Url) (text : List ℕ) → IsAlike a b → (refusal : Option Refusal)
-    → IsLeast (Complaint profile (Some a) text) refusal → IsLeast (Complaint profile (Some b) text) refusal
-complaint_least profile a b text h refusal x =
-    least_alike (Complaint profile (Some a) text) (Complaint profile (Some b) text)
-    (complaint_alike profile a b text h) (complaint_alike profile b a text (flip a b h)) refusal x
+-- the least violation against both
+violation_least : (profile : Profile) (a b : Url) (text : List ℕ) → IsAlike a b → (refusal : Option Refusal)
+    → IsLeast (Violation profile (Some a) text) refusal → IsLeast (Violation profile (Some b) text) refusal
+violation_least profile a b text h refusal x =
+    least_alike (Violation profile (Some a) text) (Violation profile (Some b) text)
+    (violation_alike profile a b text h) (violation_alike profile b a text (flip a b h)) refusal x
 
 -- the verdict against both
 pub verdict_alike : (profile : Profile) (a b : Url) (text : List ℕ) → IsAlike a b → (verdict : Verdict)
@@ -269,10 +270,11 @@ pub verdict_alike : (profile : Profile) (a b : Url) (text : List ℕ) → IsAlik
 verdict_alike profile a b text h (Yes parts) x = record {
   valid = valid_alike profile a b text h parts x.valid;
   only = λ other again. x.only other (valid_alike profile b a text (flip a b h) other again);
-  silent = λ place rule complaint. x.silent place rule (complaint_alike profile b a text (flip a b h) place rule complaint);
+  silent = λ place rule violation. x.silent place rule
+      (violation_alike profile b a text (flip a b h) place rule violation);
 }
 verdict_alike profile a b text h (No refusal) x = record {
-  least = complaint_least profile a b text h (Some refusal) x.least;
+  least = violation_least profile a b text h (Some refusal) x.least;
   within = x.within;
   none = λ parts valid. x.none parts (valid_alike profile b a text (flip a b h) parts valid);
 }
@@ -284,21 +286,21 @@ validity_alike profile a b text h true (parts, x) = (parts, valid_alike profile 
 validity_alike profile a b text h false x =
     λ parts valid. x parts (valid_alike profile b a text (flip a b h) parts valid)
 
--- all complaints against both
+-- all violations against both
 pub faults_alike : (profile : Profile) (a b : Url) (text : List ℕ) → IsAlike a b → (refusals : List Refusal)
     → AreFaults profile (Some a) text refusals → AreFaults profile (Some b) text refusals
 faults_alike profile a b text h refusals x =
-    let to = complaint_alike profile a b text h in
-    let from = complaint_alike profile b a text (flip a b h) in
+    let to = violation_alike profile a b text h in
+    let from = violation_alike profile b a text (flip a b h) in
     record {
       lists = record {
         each = λ refusal. (
           λ held. to refusal.place refusal.rule ((x.lists.each refusal).0 held),
-          λ complaint. (x.lists.each refusal).1 (from refusal.place refusal.rule complaint),
+          λ violation. (x.lists.each refusal).1 (from refusal.place refusal.rule violation),
         );
         ordered = x.lists.ordered;
       };
-      least = complaint_least profile a b text h _ x.least;
+      least = violation_least profile a b text h _ x.least;
       none = λ parts valid. x.none parts (valid_alike profile b a text (flip a b h) parts valid);
     }
 

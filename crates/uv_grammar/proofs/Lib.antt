@@ -5,7 +5,7 @@ pub mod KindLemmas
 pub mod PartFaultLemmas
 pub mod PartLemmas
 pub mod PieceLemmas
-pub mod PlainFrontLemmas
+pub mod PlainPrefixLemmas
 pub mod PlainLinkLemmas
 pub mod PortLemmas
 pub mod ScanLemmas

@@ -1,4 +1,4 @@
--- The complaints of the start, the host, the port and the path's start: one at most, or one of each code point.
+-- The violations of the start, the host, the port and the path's start: one at most, or one of each code point.
 use Rattle.std.proofs.Common.{◌≡◌, ◌≢◌, ℕ, ◌⊎◌, List, [], ◌∷◌, ◌++◌, true, false, not, Option, Some, inl, inr, refl}
 use Rattle.std.proofs.Common.{sym, ap, ◌∙◌, subst, ◌==◌, eqb-true}
 use Rattle.std.specs.Prelude.{◌<◌, ◌+◌, is_some}
@@ -15,38 +15,38 @@ use Rattle.uv_model.specs.declared.rule.Refusal.{Refusal}
 use Rattle.uv_model.specs.declared.scheme.Class.{Class}
 use Rattle.uv_model.specs.declared.scheme.Class.TheVariants.{Special, File, Other}
 use Rattle.uv_model.specs.Ascii.{slash}
-use Rattle.uv_model.specs.Complaints.AllComplaints.{AreFaults, ListsComplaints}
-use Rattle.uv_model.specs.Complaints.Complaint.{Behind, Complaint, ComplaintOf, HasEmptyFirst, HasOpaquePath}
-use Rattle.uv_model.specs.Complaints.Complaint.{ContentComplaint, HostContentComplaint, HostComplaint}
-use Rattle.uv_model.specs.Complaints.Complaint.{HostPartComplaint, IsStarted, JudgedComplaint, PathStartComplaint}
-use Rattle.uv_model.specs.Complaints.Complaint.{PortComplaint, PortPartComplaint, StartComplaint}
+use Rattle.uv_model.specs.Violations.AllViolations.{AreFaults, ListsViolations}
+use Rattle.uv_model.specs.Violations.Violation.{Behind, Violation, ViolationOf, HasEmptyFirst, HasOpaquePath}
+use Rattle.uv_model.specs.Violations.Violation.{ContentViolation, HostContentViolation, HostViolation}
+use Rattle.uv_model.specs.Violations.Violation.{HostPartViolation, IsStarted, JudgedViolation, PathStartViolation}
+use Rattle.uv_model.specs.Violations.Violation.{PortViolation, PortPartViolation, StartViolation}
 use Rattle.uv_model.specs.Cut.{Cut, IsCut, host_place, path_place, port_place}
 use Rattle.uv_model.specs.Hosts.OpaqueHost.{starts_with_bracket}
 use Rattle.uv_model.specs.Parts.{Parts}
 use Rattle.uv_model.specs.Path.{is_drive_letter, starts_with_drive_segment}
-use Rattle.uv_model.specs.Complaints.Refusal.{IsLeast}
-use Rattle.uv_model.specs.Complaints.Rule.{rule_number}
+use Rattle.uv_model.specs.Violations.Refusal.{IsLeast}
+use Rattle.uv_model.specs.Violations.Rule.{rule_number}
 use Rattle.uv_model.specs.Records.Url.{Url}
 use Rattle.uv_model.specs.Setting.{Setting, setting_of}
 use Rattle.uv_model.specs.Valid as valid
-use Rattle.uv_model.proofs.Complaints.AllComplaintsLemmas.{contains_here, lists_least, lists_like}
+use Rattle.uv_model.proofs.Violations.AllViolationsLemmas.{contains_here, lists_least, lists_like}
 use Rattle.uv_model.proofs.Cuts.CutLemmas.{cut_is_computed}
-use Rattle.uv_model.proofs.Complaints.ComplaintsExcludeParts.{faultless}
-use Rattle.uv_model.proofs.Complaints.LeastLemmas.{Either, Precedes}
-use Rattle.uv_model.proofs.Complaints.RefusedLemmas.{FromPort, host_first, path_first, path_start_first, port_first}
-use Rattle.uv_model.proofs.Complaints.RefusedLemmas.{query_first, start_before_held}
-use Rattle.uv_grammar.specs.Faults.{AddsComplaints, FirstComplaint, fault_list}
+use Rattle.uv_model.proofs.Violations.ViolationsExcludeParts.{faultless}
+use Rattle.uv_model.proofs.Violations.LeastLemmas.{Either, Precedes}
+use Rattle.uv_model.proofs.Violations.RefusedLemmas.{FromPort, host_first, path_first, path_start_first, port_first}
+use Rattle.uv_model.proofs.Violations.RefusedLemmas.{query_first, start_before_held}
+use Rattle.uv_grammar.specs.Faults.{AddsViolations, FirstViolation, fault_list}
 use Rattle.uv_grammar.specs.HostValues.{is_scanned}
 use Rattle.uv_grammar.specs.declared.judged.Judged.{Judged}
 use Rattle.uv_grammar.specs.declared.judged.Judged.TheVariants.{Valid, Refused}
 use Rattle.uv_grammar.specs.Judged.{IsJudged, refusal_of}
-use Rattle.uv_grammar.specs.PartComplaints.{OfFragment, OfPath, OfPathStart, OfQuery}
-use Rattle.uv_grammar.specs.Scan.{DigitComplaint, HostUnitComplaint}
+use Rattle.uv_grammar.specs.PartViolations.{OfFragment, OfPath, OfPathStart, OfQuery}
+use Rattle.uv_grammar.specs.Scan.{DigitViolation, HostUnitViolation}
 use Rattle.uv_grammar.proofs.HostLemmas.{empty_rule, content_from_host, one_rule}
 use Rattle.uv_grammar.proofs.PortLemmas.{digits_only}
 use Rattle.uv_grammar.proofs.ScanLemmas.{HasOneAtMost, adds_both, adds_fault, adds_like}
 
--- ---- one complaint at most
+-- ---- one violation at most
 
 -- behind a place as at the start
 behind_one_at_most : (start : ℕ) (F : ℕ → Rule → Type 0) → HasOneAtMost F → HasOneAtMost (Behind start F)
@@ -55,7 +55,7 @@ behind_one_at_most start F only place other rule second h k =
     (h.moved ∙ (ap (λ n. start + n) same.0 ∙ sym k.moved), same.1)
 
 -- the rules of the start exclude each other
-start_one_at_most : (setting : Setting) (text : List ℕ) (cut : Cut) → HasOneAtMost (StartComplaint setting text cut)
+start_one_at_most : (setting : Setting) (text : List ℕ) (cut : Cut) → HasOneAtMost (StartViolation setting text cut)
 start_one_at_most setting text cut place other NoScheme NoScheme h k = (h.2 ∙ sym k.2, refl)
 start_one_at_most setting text cut place other OpaqueBase OpaqueBase h k = (h.3 ∙ sym k.3, refl)
 start_one_at_most setting text cut place other TwoSlashes TwoSlashes h k = (h.1 ∙ sym k.1, refl)
@@ -94,9 +94,9 @@ no_drive Standard (a ∷ b ∷ c ∷ d ∷ rest) two drive =
 
 -- the rules of the path's start exclude each other
 pub path_start_one_at_most : (setting : Setting) (cut : Cut) → HasOneAtMost (OfPathStart setting cut)
-path_start_one_at_most setting cut = behind_one_at_most (path_place cut) (PathStartComplaint setting cut) only
+path_start_one_at_most setting cut = behind_one_at_most (path_place cut) (PathStartViolation setting cut) only
   where
-    only : HasOneAtMost (PathStartComplaint setting cut)
+    only : HasOneAtMost (PathStartViolation setting cut)
     only place other FirstSegmentEmpty FirstSegmentEmpty h k = (h.1 ∙ sym k.1, refl)
     only place other DriveAfterHost DriveAfterHost h k = (h.3 ∙ sym k.3, refl)
     only place other FirstSegmentEmpty DriveAfterHost h k = absurd (no_drive setting.profile cut.path_text h.0 k.2)
@@ -110,7 +110,7 @@ path_start_one_at_most setting cut = behind_one_at_most (path_place cut) (PathSt
 -- a host that isn't judged code point by code point violates one rule
 host_one_at_most : (profile : Profile) (class : Class) (text : List ℕ) (port_text : Option (List ℕ))
     (path_text : List ℕ)
-    → is_scanned class text ≡ false → HasOneAtMost (HostComplaint profile class text port_text path_text)
+    → is_scanned class text ≡ false → HasOneAtMost (HostViolation profile class text port_text path_text)
 host_one_at_most profile class [] port_text path_text whole place other rule second h k =
     let one = empty_rule profile class port_text path_text place rule h in
     let two = empty_rule profile class port_text path_text other second k in
@@ -130,7 +130,7 @@ host_one_at_most profile class (c ∷ rest) port_text path_text whole place othe
     ]
 
     of_content : (class : Class) → is_scanned class (c ∷ rest) ≡ false
-        → HasOneAtMost (HostContentComplaint profile class (c ∷ rest))
+        → HasOneAtMost (HostContentViolation profile class (c ∷ rest))
     of_content Special none place other rule second h k =
         (h.1 ∙ sym k.1, one_rule profile (c ∷ rest) rule second h.0 k.0)
     of_content File none place other rule second h k =
@@ -146,12 +146,12 @@ host_one_at_most profile class (c ∷ rest) port_text path_text whole place othe
 -- the fault of such a host is all that is added
 pub host_fault_adds : (setting : Setting) (cut : Cut) (class : Class) (host_text : List ℕ) (before after : List Refusal)
     (fault : Option Refusal) → cut.host_text ≡ Some host_text → class ≡ setting.class
-    → is_scanned class host_text ≡ false → IsLeast (HostPartComplaint setting cut) fault
-    → after ≡ before ++ fault_list fault → AddsComplaints (HostPartComplaint setting cut) before after
+    → is_scanned class host_text ≡ false → IsLeast (HostPartViolation setting cut) fault
+    → after ≡ before ++ fault_list fault → AddsViolations (HostPartViolation setting cut) before after
 host_fault_adds setting cut class host_text before after fault is same whole least joined =
-    adds_fault (HostPartComplaint setting cut) before after fault only least joined
+    adds_fault (HostPartViolation setting cut) before after fault only least joined
   where
-    only : HasOneAtMost (HostPartComplaint setting cut)
+    only : HasOneAtMost (HostPartViolation setting cut)
     only = rw is (behind_one_at_most (host_place cut) _
         (host_one_at_most setting.profile setting.class host_text cut.port_text cut.path_text
         (ap (λ k. is_scanned k host_text) (sym same) ∙ whole)))
@@ -159,11 +159,11 @@ host_fault_adds setting cut class host_text before after fault is same whole lea
 -- the faults of a host that is judged code point by code point are all that is added
 pub host_scan_adds : (setting : Setting) (cut : Cut) (class : Class) (host_text : List ℕ) (before after : List Refusal)
     → cut.host_text ≡ Some host_text → class ≡ setting.class → is_scanned class host_text ≡ true
-    → AddsComplaints (Behind (host_place cut) (HostUnitComplaint host_text)) before after
-    → AddsComplaints (HostPartComplaint setting cut) before after
+    → AddsViolations (Behind (host_place cut) (HostUnitViolation host_text)) before after
+    → AddsViolations (HostPartViolation setting cut) before after
 host_scan_adds setting cut class host_text before after is same scanned adds =
-    rw is (adds_like (Behind (host_place cut) (HostUnitComplaint host_text))
-    (Behind (host_place cut) (HostComplaint setting.profile setting.class host_text cut.port_text cut.path_text))
+    rw is (adds_like (Behind (host_place cut) (HostUnitViolation host_text))
+    (Behind (host_place cut) (HostViolation setting.profile setting.class host_text cut.port_text cut.path_text))
     (λ place rule h. record {
       inner = h.inner;
       moved = h.moved;
@@ -189,8 +189,8 @@ host_scan_adds setting cut class host_text before after is same scanned adds =
     ]
 
     to : (class : Class) (text : List ℕ) → is_scanned class text ≡ true → (place : ℕ) (rule : Rule)
-        → HostUnitComplaint text place rule
-        → HostComplaint setting.profile class text cut.port_text cut.path_text place rule
+        → HostUnitViolation text place rule
+        → HostViolation setting.profile class text cut.port_text cut.path_text place rule
     to Special text tested place rule h = absurd (false≢true tested)
     to File text tested place rule h = absurd (false≢true tested)
     to Other [] tested place rule h = absurd (false≢true tested)
@@ -199,8 +199,8 @@ host_scan_adds setting cut class host_text before after is same scanned adds =
     to Other (c ∷ rest) tested place _ h = absurd h
 
     from : (class : Class) (text : List ℕ) → is_scanned class text ≡ true → (place : ℕ) (rule : Rule)
-        → HostComplaint setting.profile class text cut.port_text cut.path_text place rule
-        → HostUnitComplaint text place rule
+        → HostViolation setting.profile class text cut.port_text cut.path_text place rule
+        → HostUnitViolation text place rule
     from Special text tested place rule h = absurd (false≢true tested)
     from File text tested place rule h = absurd (false≢true tested)
     from Other [] tested place rule h = absurd (false≢true tested)
@@ -213,7 +213,7 @@ host_scan_adds setting cut class host_text before after is same scanned adds =
 -- ---- the port
 
 -- digits alone violate one rule
-port_one_at_most : (text : List ℕ) → list_all is_ascii_digit text ≡ true → HasOneAtMost (PortComplaint text)
+port_one_at_most : (text : List ℕ) → list_all is_ascii_digit text ≡ true → HasOneAtMost (PortViolation text)
 port_one_at_most text digits place other PortRange PortRange h k = (h.1 ∙ sym k.1, refl)
 port_one_at_most text digits place other PortDigit second h k = absurd (digits_only text place digits h)
 port_one_at_most text digits place other PortRange PortDigit h k = absurd (digits_only text other digits k)
@@ -223,106 +223,106 @@ port_one_at_most text digits place other _ second h k = absurd h
 -- the fault of digits is all that is added
 pub port_fault_adds : (cut : Cut) (host_text port_text : List ℕ) (before after : List Refusal) (fault : Option Refusal)
     → cut.host_text ≡ Some host_text → cut.port_text ≡ Some port_text → list_all is_ascii_digit port_text ≡ true
-    → IsLeast (PortPartComplaint cut) fault → after ≡ before ++ fault_list fault
-    → AddsComplaints (PortPartComplaint cut) before after
+    → IsLeast (PortPartViolation cut) fault → after ≡ before ++ fault_list fault
+    → AddsViolations (PortPartViolation cut) before after
 port_fault_adds cut host_text port_text before after fault host port digits least joined =
-    adds_fault (PortPartComplaint cut) before after fault only least joined
+    adds_fault (PortPartViolation cut) before after fault only least joined
   where
-    only : HasOneAtMost (PortPartComplaint cut)
-    only = rw (host, port) (behind_one_at_most (port_place host_text cut) (PortComplaint port_text)
+    only : HasOneAtMost (PortPartViolation cut)
+    only = rw (host, port) (behind_one_at_most (port_place host_text cut) (PortViolation port_text)
         (port_one_at_most port_text digits))
 
 -- the faults of a port that isn't digits alone are all that is added
 pub port_scan_adds : (cut : Cut) (host_text port_text : List ℕ) (before after : List Refusal)
     → cut.host_text ≡ Some host_text → cut.port_text ≡ Some port_text → list_all is_ascii_digit port_text ≡ false
-    → AddsComplaints (Behind (port_place host_text cut) (DigitComplaint port_text)) before after
-    → AddsComplaints (PortPartComplaint cut) before after
+    → AddsViolations (Behind (port_place host_text cut) (DigitViolation port_text)) before after
+    → AddsViolations (PortPartViolation cut) before after
 port_scan_adds cut host_text port_text before after host port other adds =
-    rw (host, port) (adds_like (Behind (port_place host_text cut) (DigitComplaint port_text))
-    (Behind (port_place host_text cut) (PortComplaint port_text))
+    rw (host, port) (adds_like (Behind (port_place host_text cut) (DigitViolation port_text))
+    (Behind (port_place host_text cut) (PortViolation port_text))
     (λ place rule h. record { inner = h.inner; moved = h.moved; holds = to h.inner rule h.holds })
     (λ place rule h. record { inner = h.inner; moved = h.moved; holds = from h.inner rule h.holds })
     before after adds)
   where
-    to : (place : ℕ) (rule : Rule) → DigitComplaint port_text place rule → PortComplaint port_text place rule
+    to : (place : ℕ) (rule : Rule) → DigitViolation port_text place rule → PortViolation port_text place rule
     to place PortDigit h = h
     to place _ h = absurd h
 
-    from : (place : ℕ) (rule : Rule) → PortComplaint port_text place rule → DigitComplaint port_text place rule
+    from : (place : ℕ) (rule : Rule) → PortViolation port_text place rule → DigitViolation port_text place rule
     from place PortDigit h = h
     from place PortRange h = absurd (false≢true (sym other ∙ h.0.digits))
     from place _ h = absurd h
 
 -- ---- the parts one after another
 
--- the refusal of a judged part is its least complaint
-pub judged_least : {A : Type 0} (fits : A → Type 0) (complaint : ℕ → Rule → Type 0) (judged : Judged A)
-    → IsJudged fits complaint judged → IsLeast complaint (refusal_of judged)
-judged_least fits complaint (Valid value) is = is.1
-judged_least fits complaint (Refused refusal) is = is
+-- the refusal of a judged part is its least violation
+pub judged_least : {A : Type 0} (fits : A → Type 0) (violation : ℕ → Rule → Type 0) (judged : Judged A)
+    → IsJudged fits violation judged → IsLeast violation (refusal_of judged)
+judged_least fits violation (Valid value) is = is.1
+judged_least fits violation (Refused refusal) is = is
 
 -- the host, the port and the path's start
 pub judged_adds : (setting : Setting) (cut : Cut) (a b c d : List Refusal)
-    → AddsComplaints (HostPartComplaint setting cut) a b → AddsComplaints (PortPartComplaint cut) b c
-    → AddsComplaints (OfPathStart setting cut) c d → AddsComplaints (JudgedComplaint setting cut) a d
+    → AddsViolations (HostPartViolation setting cut) a b → AddsViolations (PortPartViolation cut) b c
+    → AddsViolations (OfPathStart setting cut) c d → AddsViolations (JudgedViolation setting cut) a d
 judged_adds setting cut a b c d host port start =
-    adds_both (HostPartComplaint setting cut) (Either (PortPartComplaint cut) (OfPathStart setting cut)) a b d
+    adds_both (HostPartViolation setting cut) (Either (PortPartViolation cut) (OfPathStart setting cut)) a b d
     (record {
       order = λ place later rule other h k. (host_first setting cut).order place later rule other h
           (onward later other k);
     })
     host
-    (adds_both (PortPartComplaint cut) (OfPathStart setting cut) b c d
+    (adds_both (PortPartViolation cut) (OfPathStart setting cut) b c d
     (record { order = λ place later rule other h k. (port_first setting cut).order place later rule other h (inl k) })
     port start)
   where
-    onward : (place : ℕ) (rule : Rule) → Either (PortPartComplaint cut) (OfPathStart setting cut) place rule
+    onward : (place : ℕ) (rule : Rule) → Either (PortPartViolation cut) (OfPathStart setting cut) place rule
         → FromPort setting cut place rule
     onward place rule (inl h) = inl h
     onward place rule (inr h) = inr (inl h)
 
 -- what the path, the query and the fragment hold
-pub held_adds : (cut : Cut) (a b c d : List Refusal) → AddsComplaints (OfPath cut) a b
-    → AddsComplaints (OfQuery cut) b c → AddsComplaints (OfFragment cut) c d → AddsComplaints (ContentComplaint cut) a d
+pub held_adds : (cut : Cut) (a b c d : List Refusal) → AddsViolations (OfPath cut) a b
+    → AddsViolations (OfQuery cut) b c → AddsViolations (OfFragment cut) c d → AddsViolations (ContentViolation cut) a d
 held_adds cut a b c d path query fragment =
     adds_both (OfPath cut) (Either (OfQuery cut) (OfFragment cut)) a b d (path_first cut) path
     (adds_both (OfQuery cut) (OfFragment cut) b c d (query_first cut) query fragment)
 
 -- a text whose start violates a rule
 pub start_adds : (setting : Setting) (text : List ℕ) (cut : Cut) (refusal : Refusal) (before after : List Refusal)
-    → IsLeast (StartComplaint setting text cut) (Some refusal) → after ≡ before ++ fault_list (Some refusal)
-    → AddsComplaints (FirstComplaint setting text cut) before after
+    → IsLeast (StartViolation setting text cut) (Some refusal) → after ≡ before ++ fault_list (Some refusal)
+    → AddsViolations (FirstViolation setting text cut) before after
 start_adds setting text cut refusal before after least joined =
-    adds_like (StartComplaint setting text cut) (FirstComplaint setting text cut)
+    adds_like (StartViolation setting text cut) (FirstViolation setting text cut)
     (λ place rule h. inl h) from before after
-    (adds_fault (StartComplaint setting text cut) before after (Some refusal)
+    (adds_fault (StartViolation setting text cut) before after (Some refusal)
     (start_one_at_most setting text cut) least joined)
   where
-    from : (place : ℕ) (rule : Rule) → FirstComplaint setting text cut place rule
-        → StartComplaint setting text cut place rule
+    from : (place : ℕ) (rule : Rule) → FirstViolation setting text cut place rule
+        → StartViolation setting text cut place rule
     from place rule (inl h) = h
     from place rule (inr (started, h)) = absurd (started refusal.place refusal.rule least.stands)
 
 -- and one whose start violates none
 pub started_adds : (setting : Setting) (text : List ℕ) (cut : Cut) (before after : List Refusal)
-    → IsStarted setting text cut → AddsComplaints (JudgedComplaint setting cut) before after
-    → AddsComplaints (FirstComplaint setting text cut) before after
+    → IsStarted setting text cut → AddsViolations (JudgedViolation setting cut) before after
+    → AddsViolations (FirstViolation setting text cut) before after
 started_adds setting text cut before after started adds =
-    adds_like (JudgedComplaint setting cut) (FirstComplaint setting text cut) (λ place rule h. inr (started, h)) from
+    adds_like (JudgedViolation setting cut) (FirstViolation setting text cut) (λ place rule h. inr (started, h)) from
     before after adds
   where
-    from : (place : ℕ) (rule : Rule) → FirstComplaint setting text cut place rule
-        → JudgedComplaint setting cut place rule
+    from : (place : ℕ) (rule : Rule) → FirstViolation setting text cut place rule
+        → JudgedViolation setting cut place rule
     from place rule (inl h) = absurd (started place rule h)
     from place rule (inr (again, h)) = h
 
--- the first complaints stand before those of what the path, the query and the fragment hold
+-- the first violations stand before those of what the path, the query and the fragment hold
 first_before_held : (setting : Setting) (text : List ℕ) (cut : Cut)
-    → Precedes (FirstComplaint setting text cut) (ContentComplaint cut)
+    → Precedes (FirstViolation setting text cut) (ContentViolation cut)
 first_before_held setting text cut = record { order = order }
   where
-    order : (place later : ℕ) (rule other : Rule) → FirstComplaint setting text cut place rule
-        → ContentComplaint cut later other
+    order : (place later : ℕ) (rule other : Rule) → FirstViolation setting text cut place rule
+        → ContentViolation cut later other
         → (place < later) ⊎ ((place ≡ later) × (rule_number rule < rule_number other))
     order place later rule other (inl start) held =
         (start_before_held setting text cut).order place later rule other start held
@@ -333,47 +333,47 @@ first_before_held setting text cut = record { order = order }
     order place later rule other (inr (started, inr (inr start))) held =
         (path_start_first setting cut).order place later rule other start held
 
--- a list with no refusal, where there is no complaint
+-- a list with no refusal, where there is no violation
 no_faults : (profile : Profile) (base : Option Url) (text : List ℕ) (found : List Refusal)
-    → ListsComplaints (Complaint profile base text) found → (parts : Parts) → valid.Valid profile base text parts
+    → ListsViolations (Violation profile base text) found → (parts : Parts) → valid.Valid profile base text parts
     → found ≡ []
 no_faults profile base text [] lists parts fits = refl
 no_faults profile base text (refusal ∷ rest) lists parts fits =
     absurd (faultless profile base text refusal.place refusal.rule
     ((lists.each refusal).0 (contains_here refusal rest)) parts fits)
 
--- all the complaints of a text
+-- all the violations of a text
 pub all_faults : (profile : Profile) (base : Option Url) (text : List ℕ) (cut : Cut) (setting : Setting)
     (first found : List Refusal)
     → IsCut base text cut → setting ≡ setting_of profile base cut.scheme
-    → AddsComplaints (FirstComplaint setting text cut) [] first → AddsComplaints (ContentComplaint cut) first found
+    → AddsViolations (FirstViolation setting text cut) [] first → AddsViolations (ContentViolation cut) first found
     → AreFaults profile base text found
-unfolding Complaint
+unfolding Violation
 all_faults profile base text cut setting first found is made one two =
-    let F = Either (FirstComplaint setting text cut) (ContentComplaint cut) in
-    let both = adds_both (FirstComplaint setting text cut) (ContentComplaint cut) [] first found
+    let F = Either (FirstViolation setting text cut) (ContentViolation cut) in
+    let both = adds_both (FirstViolation setting text cut) (ContentViolation cut) [] first found
     (first_before_held setting text cut) one two in
-    let of_cut : ListsComplaints (ComplaintOf setting text cut) found
-    = subst (λ (l : List Refusal). ListsComplaints (ComplaintOf setting text cut) l) (sym both.joined)
-    (lists_like F (ComplaintOf setting text cut) to from both.added both.lists) in
-    let lists : ListsComplaints (Complaint profile base text) found
-    = subst (λ (c : Cut). ListsComplaints (ComplaintOf (setting_of profile base c.scheme) text c) found)
+    let of_cut : ListsViolations (ViolationOf setting text cut) found
+    = subst (λ (l : List Refusal). ListsViolations (ViolationOf setting text cut) l) (sym both.joined)
+    (lists_like F (ViolationOf setting text cut) to from both.added both.lists) in
+    let lists : ListsViolations (Violation profile base text) found
+    = subst (λ (c : Cut). ListsViolations (ViolationOf (setting_of profile base c.scheme) text c) found)
     (cut_is_computed base text cut is)
-    (subst (λ (s : Setting). ListsComplaints (ComplaintOf s text cut) found) made of_cut) in
+    (subst (λ (s : Setting). ListsViolations (ViolationOf s text cut) found) made of_cut) in
     record {
       lists = lists;
-      least = lists_least (Complaint profile base text) found lists;
+      least = lists_least (Violation profile base text) found lists;
       none = no_faults profile base text found lists;
     }
   where
-    to : (place : ℕ) (rule : Rule) → Either (FirstComplaint setting text cut) (ContentComplaint cut) place rule
-        → ComplaintOf setting text cut place rule
+    to : (place : ℕ) (rule : Rule) → Either (FirstViolation setting text cut) (ContentViolation cut) place rule
+        → ViolationOf setting text cut place rule
     to place rule (inl (inl start)) = inl start
     to place rule (inl (inr judged)) = inr (inl judged)
     to place rule (inr held) = inr (inr held)
 
-    from : (place : ℕ) (rule : Rule) → ComplaintOf setting text cut place rule
-        → Either (FirstComplaint setting text cut) (ContentComplaint cut) place rule
+    from : (place : ℕ) (rule : Rule) → ViolationOf setting text cut place rule
+        → Either (FirstViolation setting text cut) (ContentViolation cut) place rule
     from place rule (inl start) = inl (inl start)
     from place rule (inr (inl judged)) = inl (inr judged)
     from place rule (inr (inr held)) = inr held

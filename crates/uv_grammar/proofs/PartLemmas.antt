@@ -1,11 +1,11 @@
 -- Lemmas on the host and the port of a cut text.
 use Rattle.std.proofs.Common.{◌≡◌, ℕ, List, [], ◌∷◌, Option, Some, None, refl, ap, ◌∙◌}
-use Rattle.uv_model.specs.Complaints.Complaint.{PortPartComplaint}
+use Rattle.uv_model.specs.Violations.Violation.{PortPartViolation}
 use Rattle.uv_model.specs.Cut.{Cut}
-use Rattle.uv_model.specs.Complaints.Refusal.{IsLeast}
+use Rattle.uv_model.specs.Violations.Refusal.{IsLeast}
 use Rattle.uv_model.specs.Setting.{Setting}
 use Rattle.uv_model.specs.Valid.{port_given}
-use Rattle.uv_model.proofs.Complaints.RefusedLemmas.{least_of_port}
+use Rattle.uv_model.proofs.Violations.RefusedLemmas.{least_of_port}
 use Rattle.uv_grammar.specs.PartValues.{FitsPort, FitsPortPart, port_number, without_default}
 use Rattle.uv_grammar.proofs.PortLemmas.{port_silent}
 
@@ -19,7 +19,7 @@ given_number default (digit ∷ rest) = refl
 pub valid_port : (setting : Setting) (cut : Cut) (host_text port_text : List ℕ) (number value : Option ℕ)
     → cut.host_text ≡ Some host_text → cut.port_text ≡ Some port_text → FitsPort port_text number
     → value ≡ without_default setting.default_port number
-    → FitsPortPart setting cut value × IsLeast (PortPartComplaint cut) None
+    → FitsPortPart setting cut value × IsLeast (PortPartViolation cut) None
 valid_port setting cut host_text port_text number value host port (is, numbered) given = (
   rw (host, port) (
     is,

@@ -18,7 +18,7 @@ use Rattle.uv_model.specs.declared.rule.Rule.TheVariants.{DriveAfterHost}
 use Rattle.uv_model.specs.declared.scheme.Class.TheVariants.{Special}
 use Rattle.uv_model.specs.Ascii.{slash, colon, question_mark, number_sign, left_bracket, right_bracket}
 use Rattle.uv_model.specs.Valid.{MayBePortText}
-use Rattle.uv_model.specs.Complaints.Complaint.{IsStarted, PathStartComplaint, MayBeUnitComplaint}
+use Rattle.uv_model.specs.Violations.Violation.{IsStarted, PathStartViolation, MayBeUnitViolation}
 use Rattle.uv_model.specs.Cut.{Cut, IsCut, EndsAtPort, IsHostCut, is_within, is_within_at_end, written_cut}
 use Rattle.uv_model.specs.Cut.{written_start, starts_with_two_slashes}
 use Rattle.uv_model.specs.Hosts.Domain.{IsDomain, is_form_code_point}
@@ -31,15 +31,15 @@ use Rattle.uv_model.proofs.Hosts.DomainLemmas.{IsAscii-form}
 use Rattle.uv_model.proofs.Cuts.HostCutLemmas.{is_without-passes}
 use Rattle.uv_model.proofs.Cuts.ValidCutLemmas.{scheme_without}
 use Rattle.uv_model.proofs.Texts.MarkLemmas.{is_without-append, is_without-more, has_mark}
-use Rattle.uv_model.proofs.Complaints.UnitComplaintLemmas.{no_complaint-faultless}
+use Rattle.uv_model.proofs.Violations.UnitViolationLemmas.{no_violation-faultless}
 use Rattle.uv_grammar.specs.Built.{built}
-use Rattle.uv_grammar.specs.PartComplaints.{BehindAuthority}
+use Rattle.uv_grammar.specs.PartViolations.{BehindAuthority}
 use Rattle.uv_grammar.specs.PartValues.{FitsHostPart, FitsPortPart}
 use Rattle.uv_grammar.specs.PlainLinks.{IsNameCut, IsPartCut, IsPathCut, IsPlainLink, IsPortCut}
 use Rattle.uv_grammar.specs.PlainLinks.{IsSpecialCut, MayBeUnits}
 use Rattle.uv_grammar.specs.Verdict.{IsAccepted}
 use Rattle.uv_grammar.proofs.VerdictLemmas.{accepted}
-use Rattle.uv_model.proofs.Complaints.ComplaintsExcludeParts.{one_slash_start}
+use Rattle.uv_model.proofs.Violations.ViolationsExcludeParts.{one_slash_start}
 
 -- the name of a domain that is its own form
 form_each : (name form : List ℕ) → IsDomain Standard name form → list_all (is_form_code_point Standard) form ≡ true
@@ -101,8 +101,8 @@ ends_at_port : (name : List ℕ) (port_text : Option (List ℕ)) → list_all (i
 ends_at_port name port_text each =
     let none : is_without colon name ≡ true = is_without-passes (is_form_code_point Standard) colon name refl each in
     record {
-      none_before = λ front rest same.
-          absurd (false≢true (sym (has_mark colon front rest) ∙ (ap (is_without colon) (sym same) ∙ none)));
+      none_before = λ prefix rest same.
+          absurd (false≢true (sym (has_mark colon prefix rest) ∙ (ap (is_without colon) (sym same) ∙ none)));
       ends = λ some. no_brackets name each;
     }
 
@@ -149,7 +149,7 @@ plain_is_cut base text scheme name form port_text port path query fragment own l
     let ported = written_behind colon port_text in
     record {
       whole = plain_whole text scheme name form port_text port path query fragment l;
-      front =
+      prefix =
           is_without-append number_sign (written_start (plain_cut scheme name port_text path query fragment))
           (written_behind question_mark query)
           (start_without number_sign scheme name ported path refl
@@ -186,7 +186,7 @@ plain_started setting text scheme name port_text path query fragment place _ h =
 plain_path_start : (setting : Setting) (scheme name : List ℕ) (port_text : Option (List ℕ)) (path : List ℕ)
     (query fragment : Option (List ℕ)) (place : ℕ) (rule : Rule)
     → setting.class ≡ Special → starts_with_two_slashes path ≡ false
-    → PathStartComplaint setting (plain_cut scheme name port_text path query fragment) place rule → ⊥
+    → PathStartViolation setting (plain_cut scheme name port_text path query fragment) place rule → ⊥
 plain_path_start setting scheme name port_text path query fragment place FirstSegmentEmpty special single h =
     one_slash_start setting.profile path single h.0
 plain_path_start setting scheme name port_text path query fragment place DriveAfterHost special single h = cc
@@ -194,9 +194,9 @@ plain_path_start setting scheme name port_text path query fragment place DriveAf
 plain_path_start setting scheme name port_text path query fragment place _ special single h = absurd h
 
 part_silent : (start : ℕ) (part : Option (List ℕ)) (place : ℕ) (rule : Rule) → MayBeUnits part
-    → MayBeUnitComplaint start part place rule → ⊥
+    → MayBeUnitViolation start part place rule → ⊥
 part_silent start None place rule units h = h
-part_silent start (Some text) place rule units h = no_complaint-faultless text units.units h.inner rule h.holds
+part_silent start (Some text) place rule units h = no_violation-faultless text units.units h.inner rule h.holds
 
 plain_silent : (setting : Setting) (text scheme name form : List ℕ) (port_text : Option (List ℕ)) (port : Option ℕ)
     (path : List ℕ) (query fragment : Option (List ℕ))
@@ -206,7 +206,7 @@ plain_silent : (setting : Setting) (text scheme name form : List ℕ) (port_text
 plain_silent setting text scheme name form port_text port path query fragment special l place rule (inl h) =
     plain_path_start setting scheme name port_text path query fragment h.inner rule special l.path_cut.single h.holds
 plain_silent setting text scheme name form port_text port path query fragment special l place rule (inr (inl h)) =
-    no_complaint-faultless path l.path_cut.units.units h.inner rule h.holds
+    no_violation-faultless path l.path_cut.units.units h.inner rule h.holds
 plain_silent setting text scheme name form port_text port path query fragment special l place rule (inr (inr (inl h))) =
     part_silent _ query place rule l.query_cut.units h
 plain_silent setting text scheme name form port_text port path query fragment special l place rule (inr (inr (inr h))) =

@@ -1,4 +1,4 @@
--- The front of a text that the scan of units passes is URL units, without the marks that its class lacks.
+-- The prefix of a text that the scan of units passes is URL units, without the marks that its class lacks.
 use Rattle.std.proofs.Common.{◌≡◌, ℕ, ◌<◌, ◌==◌, Bool, true, false, not, ◌&&◌, List, [], ◌∷◌, ◌++◌, take, refl, sym}
 use Rattle.std.proofs.Common.{◌∙◌, subst, inl, inr, arith, eqb-true, ne_eqb}
 use Rattle.std.specs.Prelude.{nat_le}
@@ -24,35 +24,35 @@ unfolding is_url_code_point
 number_sign-unit = refl
 
 module _ (held : ℕ → Bool) where
-  -- the front of units
-  abbrev front : List ℕ → List ℕ
-  front text = take (unit_length held text) text
+  -- the prefix of units
+  abbrev prefix : List ℕ → List ℕ
+  prefix text = take (unit_length held text) text
 
   -- both sides of the cut are the text
-  pub split_joined : (text front rest : List ℕ) → IsUnitSplit held text front rest → text ≡ front ++ rest
-  split_joined text front rest cut =
-      rw (cut.is_front, cut.is_rest) (sym (take-append-drop (unit_length held text) text))
+  pub split_joined : (text prefix rest : List ℕ) → IsUnitSplit held text prefix rest → text ≡ prefix ++ rest
+  split_joined text prefix rest cut =
+      rw (cut.is_prefix, cut.is_rest) (sym (take-append-drop (unit_length held text) text))
 
-  -- the hex digits behind a `%` are in the front
-  hex_front : HasHexDigits held → (rest : List ℕ) → starts_with_two_hex rest ≡ true
-      → starts_with_two_hex (front rest) ≡ true
-  hex_front digits [] hex = absurd (false≢true hex)
-  hex_front digits (high ∷ []) hex = absurd (false≢true hex)
-  hex_front digits (high ∷ low ∷ rest) hex =
+  -- the hex digits behind a `%` are in the prefix
+  hex_prefix : HasHexDigits held → (rest : List ℕ) → starts_with_two_hex rest ≡ true
+      → starts_with_two_hex (prefix rest) ≡ true
+  hex_prefix digits [] hex = absurd (false≢true hex)
+  hex_prefix digits (high ∷ []) hex = absurd (false≢true hex)
+  hex_prefix digits (high ∷ low ∷ rest) hex =
       let both = and_parts (is_ascii_hexdigit high) (is_ascii_hexdigit low) hex in
       rw (digits high both.0, digits low both.1) hex
 
-  -- a code point that begins a unit of the text begins one of the front
-  unit_front : ((c : ℕ) → held c ≡ true → is_url_code_point c ≡ true) → HasHexDigits held → (c : ℕ)
-      (rest : List ℕ) → begins_unit held c rest ≡ true → is_unit_at c (front rest) ≡ true
+  -- a code point that begins a unit of the text begins one of the prefix
+  unit_prefix : ((c : ℕ) → held c ≡ true → is_url_code_point c ≡ true) → HasHexDigits held → (c : ℕ)
+      (rest : List ℕ) → begins_unit held c rest ≡ true → is_unit_at c (prefix rest) ≡ true
   unfolding is_unit_at
-  unit_front url digits c rest begins =
+  unit_prefix url digits c rest begins =
       elim (cases_eq c percent_sign) [
         | inl same ↦
             let here : begins_unit held percent_sign rest ≡ true = rw same at begins in
             rw same (elim (or_cases (held percent_sign) (begins_mark percent_sign rest) here) [
               | inl class ↦ absurd (false≢true (sym percent_sign-unit ∙ url percent_sign class))
-              | inr mark ↦ hex_front digits rest mark
+              | inr mark ↦ hex_prefix digits rest mark
             ])
         | inr other ↦
             let no_percent : (c == percent_sign) ≡ false = ne_eqb c percent_sign other in
@@ -64,24 +64,24 @@ module _ (held : ℕ → Bool) where
             ]
       ]
 
-  -- the front is units
-  faultless_front : ((c : ℕ) → held c ≡ true → is_url_code_point c ≡ true) → HasHexDigits held
-      → (text : List ℕ) → is_faultless (front text) ≡ true
-  faultless_front url digits [] = refl
-  faultless_front url digits (c ∷ rest) =
+  -- the prefix is units
+  faultless_prefix : ((c : ℕ) → held c ≡ true → is_url_code_point c ≡ true) → HasHexDigits held
+      → (text : List ℕ) → is_faultless (prefix text) ≡ true
+  faultless_prefix url digits [] = refl
+  faultless_prefix url digits (c ∷ rest) =
       elim (cases_Bool (begins_unit held c rest)) [
-        | inl begins ↦ rw begins (rw (unit_front url digits c rest begins, faultless_front url digits rest) refl)
+        | inl begins ↦ rw begins (rw (unit_prefix url digits c rest begins, faultless_prefix url digits rest) refl)
         | inr stops ↦ rw stops refl
       ]
 
-  -- a mark that begins no unit isn't in the front
-  without_front : (mark : ℕ) → mark < 128 → (mark == percent_sign) ≡ false → held mark ≡ false
-      → (text : List ℕ) → is_without mark (front text) ≡ true
-  without_front mark small no_percent lacks [] = refl
-  without_front mark small no_percent lacks (c ∷ rest) =
+  -- a mark that begins no unit isn't in the prefix
+  without_prefix : (mark : ℕ) → mark < 128 → (mark == percent_sign) ≡ false → held mark ≡ false
+      → (text : List ℕ) → is_without mark (prefix text) ≡ true
+  without_prefix mark small no_percent lacks [] = refl
+  without_prefix mark small no_percent lacks (c ∷ rest) =
       elim (cases_Bool (begins_unit held c rest)) [
-        | inl begins ↦ rw begins (is_without-more mark c (front rest) (other begins)
-            (without_front mark small no_percent lacks rest))
+        | inl begins ↦ rw begins (is_without-more mark c (prefix rest) (other begins)
+            (without_prefix mark small no_percent lacks rest))
         | inr stops ↦ rw stops refl
       ]
     where
@@ -108,26 +108,26 @@ path_byte held holds c here =
     (and_parts (is_url_code_point c) (not (c == question_mark)) both.1).0
 
 -- the units of a query or a fragment
-pub url_units : (held : ℕ → Bool) (text front rest : List ℕ) → HoldsUrlBytes held → HasHexDigits held
-    → IsUnitSplit held text front rest → AreUnits true front
-url_units held text front rest holds digits cut =
-    rw cut.is_front (record {
-      units = faultless_front held (url_byte held holds) digits text;
+pub url_units : (held : ℕ → Bool) (text prefix rest : List ℕ) → HoldsUrlBytes held → HasHexDigits held
+    → IsUnitSplit held text prefix rest → AreUnits true prefix
+url_units held text prefix rest holds digits cut =
+    rw cut.is_prefix (record {
+      units = faultless_prefix held (url_byte held holds) digits text;
       no_number_sign =
-          without_front held number_sign (omega arith) refl (holds number_sign ∙ rw number_sign-unit refl) text;
+          without_prefix held number_sign (omega arith) refl (holds number_sign ∙ rw number_sign-unit refl) text;
       no_question_mark = λ none. absurd cc;
     })
 
 -- the units of a path
-pub path_units : (held : ℕ → Bool) (text front rest : List ℕ) → HoldsPathBytes held → HasHexDigits held
-    → IsUnitSplit held text front rest → AreUnits false front
-path_units held text front rest holds digits cut =
-    rw cut.is_front (record {
-      units = faultless_front held (path_byte held holds) digits text;
+pub path_units : (held : ℕ → Bool) (text prefix rest : List ℕ) → HoldsPathBytes held → HasHexDigits held
+    → IsUnitSplit held text prefix rest → AreUnits false prefix
+path_units held text prefix rest holds digits cut =
+    rw cut.is_prefix (record {
+      units = faultless_prefix held (path_byte held holds) digits text;
       no_number_sign =
-          without_front held number_sign (omega arith) refl (holds number_sign ∙ rw number_sign-unit refl) text;
+          without_prefix held number_sign (omega arith) refl (holds number_sign ∙ rw number_sign-unit refl) text;
       no_question_mark = λ none.
-          without_front held question_mark (omega arith) refl (holds question_mark ∙ no_question) text;
+          without_prefix held question_mark (omega arith) refl (holds question_mark ∙ no_question) text;
     })
   where
     no_question : (is_ascii question_mark && (is_url_code_point question_mark && not (question_mark == question_mark)))

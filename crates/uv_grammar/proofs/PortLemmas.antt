@@ -13,14 +13,14 @@ use Rattle.std.proofs.Math.Nat.{le_refl}
 use Rattle.uv_model.specs.declared.rule.Refusal.{Refusal}
 use Rattle.uv_model.specs.declared.rule.Rule.{Rule}
 use Rattle.uv_model.specs.declared.rule.Rule.TheVariants.{PortDigit, PortRange}
-use Rattle.uv_model.specs.Complaints.Complaint.{HasForeignDigit, IsTooLarge, PortComplaint}
-use Rattle.uv_model.specs.Complaints.Refusal.{IsLeast}
-use Rattle.uv_model.specs.Complaints.Rule.{rule_number}
+use Rattle.uv_model.specs.Violations.Violation.{HasForeignDigit, IsTooLarge, PortViolation}
+use Rattle.uv_model.specs.Violations.Refusal.{IsLeast}
+use Rattle.uv_model.specs.Violations.Rule.{rule_number}
 use Rattle.uv_model.specs.Valid.{IsPortText}
-use Rattle.uv_model.proofs.Complaints.RefusalLemmas.{IsLeast-like}
+use Rattle.uv_model.proofs.Violations.RefusalLemmas.{IsLeast-like}
 use Rattle.uv_model.proofs.Texts.AsciiLemmas.{IsAscii-from_test, chars-from_IsAscii}
 use Rattle.uv_grammar.specs.PartValues.{port_number}
-use Rattle.uv_grammar.specs.Scan.{DigitComplaint}
+use Rattle.uv_grammar.specs.Scan.{DigitViolation}
 use Rattle.uv_model.proofs.Cuts.HostCutLemmas.{passes-weaker}
 
 one_more : (n : ℕ) → suc n ≡ 1 + n
@@ -68,49 +68,49 @@ digits_only (c ∷ rest) (suc place) digits h =
 
 -- the least code point that isn't a digit
 pub foreign_least : (text : List ℕ) → list_all is_ascii_digit text ≡ false
-    → IsLeast (DigitComplaint text) (Some (record { place = prefix_len is_ascii_digit text; rule = PortDigit }))
+    → IsLeast (DigitViolation text) (Some (record { place = prefix_len is_ascii_digit text; rule = PortDigit }))
 foreign_least text other = record { stands = foreign_here text other; first = first; lowest = lowest }
   where
-    first : (place : ℕ) (rule : Rule) → DigitComplaint text place rule → prefix_len is_ascii_digit text ≤ place
+    first : (place : ℕ) (rule : Rule) → DigitViolation text place rule → prefix_len is_ascii_digit text ≤ place
     first place PortDigit h = foreign_first text place h
     first place _ h = absurd h
 
-    lowest : (rule : Rule) → DigitComplaint text (prefix_len is_ascii_digit text) rule → 9 ≤ rule_number rule
+    lowest : (rule : Rule) → DigitViolation text (prefix_len is_ascii_digit text) rule → 9 ≤ rule_number rule
     lowest PortDigit h = le_refl 9
     lowest _ h = absurd h
 
 -- digits alone have none
-pub digits_silent : (text : List ℕ) → list_all is_ascii_digit text ≡ true → IsLeast (DigitComplaint text) None
+pub digits_silent : (text : List ℕ) → list_all is_ascii_digit text ≡ true → IsLeast (DigitViolation text) None
 digits_silent text digits place PortDigit h = digits_only text place digits h
 digits_silent text digits place _ h = absurd h
 
--- such a code point is the least complaint of a port
-pub port_least : (text : List ℕ) (refusal : Refusal) → IsLeast (DigitComplaint text) (Some refusal)
-    → IsLeast (PortComplaint text) (Some refusal)
+-- such a code point is the least violation of a port
+pub port_least : (text : List ℕ) (refusal : Refusal) → IsLeast (DigitViolation text) (Some refusal)
+    → IsLeast (PortViolation text) (Some refusal)
 port_least text refusal least =
-    IsLeast-like (DigitComplaint text) (PortComplaint text) to from (Some refusal) least
+    IsLeast-like (DigitViolation text) (PortViolation text) to from (Some refusal) least
   where
-    to : (place : ℕ) (rule : Rule) → DigitComplaint text place rule → PortComplaint text place rule
+    to : (place : ℕ) (rule : Rule) → DigitViolation text place rule → PortViolation text place rule
     to place PortDigit h = h
     to place _ h = absurd h
 
-    from : (place : ℕ) (rule : Rule) → PortComplaint text place rule → DigitComplaint text place rule
+    from : (place : ℕ) (rule : Rule) → PortViolation text place rule → DigitViolation text place rule
     from place PortDigit h = h
     from place PortRange h = absurd (digits_silent text h.0.digits refusal.place refusal.rule least.stands)
     from place _ h = absurd h
 
--- the least complaint of digits that denote too much
+-- the least violation of digits that denote too much
 pub large_least : (text : List ℕ) → IsTooLarge text
-    → IsLeast (PortComplaint text) (Some (record { place = 0; rule = PortRange }))
+    → IsLeast (PortViolation text) (Some (record { place = 0; rule = PortRange }))
 large_least text large = record { stands = (large, refl); first = λ place rule h. omega arith; lowest = lowest }
   where
-    lowest : (rule : Rule) → PortComplaint text 0 rule → 10 ≤ rule_number rule
+    lowest : (rule : Rule) → PortViolation text 0 rule → 10 ≤ rule_number rule
     lowest PortDigit h = absurd (digits_only text 0 large.digits h)
     lowest PortRange h = le_refl 10
     lowest _ h = absurd h
 
--- a valid port has no complaint
-pub port_silent : (text : List ℕ) → IsPortText text → IsLeast (PortComplaint text) None
+-- a valid port has no violation
+pub port_silent : (text : List ℕ) → IsPortText text → IsLeast (PortViolation text) None
 port_silent text is place PortDigit h = digits_only text place is.digits h
 port_silent text is place PortRange h = let large = h.0.large in let small = is.range in absurd (omega arith)
 port_silent text is place _ h = absurd h
@@ -126,11 +126,11 @@ digit_bytes bytes utf8 digits =
     chars-from_IsAscii bytes utf8
     (IsAscii-from_test (chars bytes) (passes-weaker is_ascii_digit is_ascii is_digit_ascii (chars bytes) digits))
 
-tells_digits : IsDigitsTest (λ ds. list_all is_ascii_digit ds ≡ true)
-tells_digits = search rules
+digits_test : IsDigitsTest (λ ds. list_all is_ascii_digit ds ≡ true)
+digits_test = search rules
 
 own : IsNumeralModel (λ ds. list_all is_ascii_digit ds ≡ true) (digits_value 10)
-own = numerals_by_value (λ ds. list_all is_ascii_digit ds ≡ true) tells_digits
+own = numerals_by_value (λ ds. list_all is_ascii_digit ds ≡ true) digits_test
 
 -- an empty port
 pub empty_port : (text : List ℕ) → text ≡ [] → IsPortText text × (None ≡ port_number text)

@@ -15,9 +15,9 @@ use Rattle.uv_model.specs.Path.{is_without, starts_with_slash}
 use Rattle.uv_model.proofs.Texts.MarkLemmas.{is_without-cons, is_without-more, is_without-parts}
 use Rattle.uv_grammar.specs.TextSplits.{IsFirstMark, SplitsAtSlash}
 use Rattle.uv_grammar.proofs.TestLemmas.{starts_with_slash-chars}
-use Rattle.uv_text.proofs.SplitsLemmas.{chars-ascii_first, front_slice}
+use Rattle.uv_text.proofs.SplitsLemmas.{chars-ascii_first, prefix_slice}
 
--- the byte behind a front
+-- the byte behind a prefix
 pub byte_behind : (xs ys : List ℕ) (c : ℕ) → get_or (xs ++ (c ∷ ys)) (length xs) 0 ≡ c
 byte_behind [] ys c = refl
 byte_behind (x ∷ xs) ys c = byte_behind xs ys c
@@ -78,13 +78,13 @@ first_mark_boundary mark bytes end small utf8 first =
     IsCharBoundary-after_ascii bytes end utf8 first.0 (rw first.1 small)
 
 -- the two sides of the first mark
-pub splits_at_mark : (mark : ℕ) (bytes front rest : List ℕ) (end : ℕ) → mark < 128 → IsUtf8 bytes
-    → IsFirstMark mark bytes (Some end) → front ≡ slice_range bytes 0 end → rest ≡ drop (end + 1) bytes
-    → (chars bytes ≡ chars front ++ mark ∷ chars rest) × (is_without mark (chars front) ≡ true)
-splits_at_mark mark bytes front rest end small utf8 first is_front is_rest =
+pub splits_at_mark : (mark : ℕ) (bytes prefix rest : List ℕ) (end : ℕ) → mark < 128 → IsUtf8 bytes
+    → IsFirstMark mark bytes (Some end) → prefix ≡ slice_range bytes 0 end → rest ≡ drop (end + 1) bytes
+    → (chars bytes ≡ chars prefix ++ mark ∷ chars rest) × (is_without mark (chars prefix) ≡ true)
+splits_at_mark mark bytes prefix rest end small utf8 first is_prefix is_rest =
     let whole = around bytes end mark first.0 first.1 in
     let both : IsUtf8 (take end bytes ++ mark ∷ drop (end + 1) bytes) = subst IsUtf8 whole utf8 in
-    rw (is_front, is_rest, front_slice) (
+    rw (is_prefix, is_rest, prefix_slice) (
       ap chars whole ∙ chars_at_mark (take end bytes) (drop (end + 1) bytes) mark both small,
       is_without-chars mark (take end bytes) small
           (sides_utf8 (take end bytes) (drop (end + 1) bytes) mark both small).0 first.2,
@@ -106,22 +106,22 @@ no_slash_first bytes utf8 none = starts_with_slash-chars bytes utf8 ∙ first by
     first (c ∷ rest) none = ne_eqb c slash (λ e. none rest (ap (λ k. k ∷ rest) e))
 
 -- the two sides of the first `/`
-pub splits_at_slash : (bytes front behind : List ℕ) (end : ℕ) → IsUtf8 bytes → IsFirstMark slash bytes (Some end)
-    → front ≡ slice_range bytes 0 end → behind ≡ drop end bytes
-    → SplitsAtSlash (chars bytes) (chars front) (chars behind)
-splits_at_slash bytes front behind end utf8 found is_front is_behind =
+pub splits_at_slash : (bytes prefix behind : List ℕ) (end : ℕ) → IsUtf8 bytes → IsFirstMark slash bytes (Some end)
+    → prefix ≡ slice_range bytes 0 end → behind ≡ drop end bytes
+    → SplitsAtSlash (chars bytes) (chars prefix) (chars behind)
+splits_at_slash bytes prefix behind end utf8 found is_prefix is_behind =
     let before : IsUtf8 (take end bytes)
     = IsUtf8-take bytes end utf8 (IsCharBoundary-before_ascii bytes end found.0 (rw found.1 (lit< tt))) in
     let first : chars (drop end bytes) ≡ slash ∷ chars (drop (end + 1) bytes)
     = ap chars (drop_at bytes end slash found.0 found.1)
     ∙ chars-ascii_first slash (drop (end + 1) bytes) (lit< tt) in
-    rw (is_front, is_behind, front_slice) (record {
+    rw (is_prefix, is_behind, prefix_slice) (record {
       joined = ap chars (sym (take-append-drop end bytes)) ∙ chars-append (take end bytes) (drop end bytes) before;
       no_slash = is_without-chars slash (take end bytes) (lit< tt) before found.2;
       path = λ some. subst (λ (s : List ℕ). starts_with_slash s ≡ true) (sym first) refl;
     })
 
--- a text without `/` is a front alone
+-- a text without `/` is a prefix alone
 pub splits_at_end : (bytes rest : List ℕ) → IsUtf8 bytes → IsFirstMark slash bytes None
     → rest ≡ drop (length bytes) bytes → SplitsAtSlash (chars bytes) (chars bytes) (chars rest)
 splits_at_end bytes rest utf8 none empty =

@@ -10,7 +10,7 @@ use Rattle.std.specs.List.{list_all}
 use Rattle.std.specs.Char.{is_ascii, is_ascii_alphabetic, is_ascii_digit}
 use Rattle.std.proofs.Math.Utf8.{encodes}
 use Rattle.uv_model.proofs.Texts.AsciiLemmas.{chars-from_IsAscii, IsAscii-from_test}
-use Rattle.uv_model.specs.Complaints.Complaint.{starts_with_number_sign}
+use Rattle.uv_model.specs.Violations.Violation.{starts_with_number_sign}
 use Rattle.uv_model.specs.Cut.{starts_with_two_slashes}
 use Rattle.uv_model.specs.Hosts.OpaqueHost.{starts_with_bracket}
 use Rattle.uv_model.specs.Path.{starts_with_slash, starts_with_drive_segment}
@@ -33,28 +33,28 @@ ascii_test test ascii bytes utf8 =
     (chars-from_IsAscii bytes utf8 (ascii (chars bytes) passed)) passed)
     (λ passed. subst (λ (s : List ℕ). test s ≡ true) (sym (chars-IsAscii bytes (ascii bytes passed))) passed)
 
--- the text passes the test by an ASCII front
-pub record PassesByFront (test : List ℕ → Bool) (text : List ℕ) : Type 0 where
-  pub front : List ℕ
+-- the text passes the test by an ASCII prefix
+pub record PassesByPrefix (test : List ℕ → Bool) (text : List ℕ) : Type 0 where
+  pub prefix : List ℕ
   pub rest : List ℕ
-  pub whole : text ≡ front ++ rest
-  pub ascii : IsAscii front
-  pub any : (other : List ℕ) → test (front ++ other) ≡ true
+  pub whole : text ≡ prefix ++ rest
+  pub ascii : IsAscii prefix
+  pub any : (other : List ℕ) → test (prefix ++ other) ≡ true
 
--- a test that is passed by an ASCII front alone
-pub front_test : (test : List ℕ → Bool) → ((text : List ℕ) → test text ≡ true → PassesByFront test text)
+-- a test that is passed by an ASCII prefix alone
+pub prefix_test : (test : List ℕ → Bool) → ((text : List ℕ) → test text ≡ true → PassesByPrefix test text)
     → (bytes : List ℕ) → IsUtf8 bytes → test (chars bytes) ≡ test bytes
-front_test test passes bytes utf8 =
+prefix_test test passes bytes utf8 =
     same_tests (test (chars bytes)) (test bytes)
     (λ passed. let p = passes (chars bytes) passed in
-    let same : bytes ≡ p.front ++ encodes p.rest
-    = sym (encodes-chars bytes utf8) ∙ (ap encodes p.whole ∙ (encodes-append p.front p.rest
-    ∙ ap (λ s. s ++ encodes p.rest) (encodes-IsAscii p.front p.ascii))) in
+    let same : bytes ≡ p.prefix ++ encodes p.rest
+    = sym (encodes-chars bytes utf8) ∙ (ap encodes p.whole ∙ (encodes-append p.prefix p.rest
+    ∙ ap (λ s. s ++ encodes p.rest) (encodes-IsAscii p.prefix p.ascii))) in
     subst (λ (s : List ℕ). test s ≡ true) (sym same) (p.any (encodes p.rest)))
     (λ passed. let p = passes bytes passed in
-    let same : chars bytes ≡ p.front ++ chars p.rest
-    = ap chars p.whole ∙ (chars-append p.front p.rest (IsUtf8-from_ascii p.front p.ascii)
-    ∙ ap (λ s. s ++ chars p.rest) (chars-IsAscii p.front p.ascii)) in
+    let same : chars bytes ≡ p.prefix ++ chars p.rest
+    = ap chars p.whole ∙ (chars-append p.prefix p.rest (IsUtf8-from_ascii p.prefix p.ascii)
+    ∙ ap (λ s. s ++ chars p.rest) (chars-IsAscii p.prefix p.ascii)) in
     subst (λ (s : List ℕ). test s ≡ true) (sym same) (p.any (chars p.rest)))
 
 -- ---- the tests in use
@@ -67,12 +67,12 @@ and_true first second = rw (first, second) refl
 first_test : (test : List ℕ → Bool) → test [] ≡ false
     → ((c : ℕ) (rest other : List ℕ) → test (c ∷ rest) ≡ true → (is_ascii c ≡ true) × (test (c ∷ other) ≡ true))
     → (bytes : List ℕ) → IsUtf8 bytes → test (chars bytes) ≡ test bytes
-first_test test none one bytes utf8 = front_test test passes bytes utf8
+first_test test none one bytes utf8 = prefix_test test passes bytes utf8
   where
-    passes : (text : List ℕ) → test text ≡ true → PassesByFront test text
+    passes : (text : List ℕ) → test text ≡ true → PassesByPrefix test text
     passes [] passed = absurd (false≢true (sym none ∙ passed))
     passes (c ∷ rest) passed = record {
-      front = c ∷ [];
+      prefix = c ∷ [];
       rest = rest;
       whole = refl;
       ascii = IsAscii-from_test (c ∷ []) (and_true (one c rest rest passed).0 refl);
@@ -99,13 +99,13 @@ starts_with_bracket-chars = first_test starts_with_bracket refl
 -- `//` begins the code points where it begins the bytes
 pub starts_with_two_slashes-chars : (bytes : List ℕ) → IsUtf8 bytes
     → starts_with_two_slashes (chars bytes) ≡ starts_with_two_slashes bytes
-starts_with_two_slashes-chars bytes utf8 = front_test starts_with_two_slashes passes bytes utf8
+starts_with_two_slashes-chars bytes utf8 = prefix_test starts_with_two_slashes passes bytes utf8
   where
-    passes : (text : List ℕ) → starts_with_two_slashes text ≡ true → PassesByFront starts_with_two_slashes text
+    passes : (text : List ℕ) → starts_with_two_slashes text ≡ true → PassesByPrefix starts_with_two_slashes text
     passes [] passed = absurd cc
     passes (c ∷ []) passed = absurd cc
     passes (c ∷ d ∷ rest) passed = record {
-      front = c ∷ d ∷ [];
+      prefix = c ∷ d ∷ [];
       rest = rest;
       whole = refl;
       ascii = IsAscii-from_test (c ∷ d ∷ []) (grind (arith, nat_tests));
@@ -115,15 +115,15 @@ starts_with_two_slashes-chars bytes utf8 = front_test starts_with_two_slashes pa
 -- a drive letter between slashes begins the code points where it begins the bytes
 pub starts_with_drive_segment-chars : (bytes : List ℕ) → IsUtf8 bytes
     → starts_with_drive_segment (chars bytes) ≡ starts_with_drive_segment bytes
-starts_with_drive_segment-chars bytes utf8 = front_test starts_with_drive_segment passes bytes utf8
+starts_with_drive_segment-chars bytes utf8 = prefix_test starts_with_drive_segment passes bytes utf8
   where
-    passes : (text : List ℕ) → starts_with_drive_segment text ≡ true → PassesByFront starts_with_drive_segment text
+    passes : (text : List ℕ) → starts_with_drive_segment text ≡ true → PassesByPrefix starts_with_drive_segment text
     passes [] passed = absurd cc
     passes (a ∷ []) passed = absurd cc
     passes (a ∷ b ∷ []) passed = absurd cc
     passes (a ∷ b ∷ c ∷ []) passed = absurd cc
     passes (a ∷ b ∷ c ∷ d ∷ rest) passed = record {
-      front = a ∷ b ∷ c ∷ d ∷ [];
+      prefix = a ∷ b ∷ c ∷ d ∷ [];
       rest = rest;
       whole = refl;
       ascii = IsAscii-from_test (a ∷ b ∷ c ∷ d ∷ []) (grind (arith, nat_tests));

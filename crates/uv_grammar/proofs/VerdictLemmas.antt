@@ -4,23 +4,23 @@ use Rattle.std.specs.Str.{chars, IsUtf8}
 use Rattle.std.proofs.lemmas.Str.{encodes-chars, length-le-encodes}
 use Rattle.uv_model.specs.declared.profile.Profile.{Profile}
 use Rattle.uv_model.specs.declared.rule.Refusal.{Refusal}
-use Rattle.uv_model.specs.Complaints.Complaint.{Complaint, HostPartComplaint, IsStarted, PortPartComplaint}
-use Rattle.uv_model.specs.Complaints.Complaint.{StartComplaint}
+use Rattle.uv_model.specs.Violations.Violation.{Violation, HostPartViolation, IsStarted, PortPartViolation}
+use Rattle.uv_model.specs.Violations.Violation.{StartViolation}
 use Rattle.uv_model.specs.Cut.{Cut, IsCut, cut_of, written_cut}
 use Rattle.uv_model.specs.Parts.{Parts, written}
-use Rattle.uv_model.specs.Complaints.Refusal.{IsLeast}
+use Rattle.uv_model.specs.Violations.Refusal.{IsLeast}
 use Rattle.uv_model.specs.Records.Url.{Url}
 use Rattle.uv_model.specs.Setting.{Setting, setting_of}
 use Rattle.uv_model.specs.Valid.{Valid}
-use Rattle.uv_model.proofs.Complaints.ComplaintPlaces.{complaint_within}
-use Rattle.uv_model.proofs.Complaints.ComplaintsExcludeParts.{faultless}
+use Rattle.uv_model.proofs.Violations.ViolationPlaces.{violation_within}
+use Rattle.uv_model.proofs.Violations.ViolationsExcludeParts.{faultless}
 use Rattle.uv_model.proofs.Cuts.CutLemmas.{cut_is_computed}
 use Rattle.uv_model.proofs.Cuts.UniqueParts.{parts_are_unique}
-use Rattle.uv_model.proofs.Complaints.RefusedLemmas.{FromHost, host_passes, host_refuses, least_of_parts, port_passes}
-use Rattle.uv_model.proofs.Complaints.RefusedLemmas.{port_refuses, refused_at_start}
+use Rattle.uv_model.proofs.Violations.RefusedLemmas.{FromHost, host_passes, host_refuses, least_of_parts, port_passes}
+use Rattle.uv_model.proofs.Violations.RefusedLemmas.{port_refuses, refused_at_start}
 use Rattle.uv_grammar.specs.Laws.{PartsAreTheText}
 use Rattle.uv_grammar.specs.NoMemory.{HostPartTakesNoMemory, TakesNoMemory}
-use Rattle.uv_grammar.specs.PartComplaints.{BehindAuthority, IsCountable}
+use Rattle.uv_grammar.specs.PartViolations.{BehindAuthority, IsCountable}
 use Rattle.uv_grammar.specs.Verdict.{IsAccepted, IsBuilt, IsRefused}
 use Rattle.uv_grammar.proofs.BuiltLemmas.{valid_built}
 
@@ -33,12 +33,12 @@ countable bytes cut utf8 small same =
     let whole = ap length same in
     omega arith
 
--- the least complaint excludes all parts, and stands within the text
+-- the least violation excludes all parts, and stands within the text
 pub refused : (profile : Profile) (base : Option Url) (text : List ℕ) (refusal : Refusal)
-    → IsLeast (Complaint profile base text) (Some refusal) → IsRefused profile base text refusal
+    → IsLeast (Violation profile base text) (Some refusal) → IsRefused profile base text refusal
 refused profile base text refusal least = record {
   least = least;
-  within = complaint_within profile base text refusal.place refusal.rule least.stands;
+  within = violation_within profile base text refusal.place refusal.rule least.stands;
   none = faultless profile base text refusal.place refusal.rule least.stands;
 }
 
@@ -46,11 +46,11 @@ refused profile base text refusal least = record {
 pub refused_start : (profile : Profile) (base : Option Url) (text : List ℕ) (cut : Cut) (setting : Setting)
     (refusal : Refusal)
     → IsCut base text cut → setting ≡ setting_of profile base cut.scheme
-    → IsLeast (StartComplaint setting text cut) (Some refusal) → IsRefused profile base text refusal
+    → IsLeast (StartViolation setting text cut) (Some refusal) → IsRefused profile base text refusal
 refused_start profile base text cut setting refusal is made least =
     refused profile base text refusal
     (refused_at_start profile base text cut refusal is
-    (subst (λ (s : Setting). IsLeast (StartComplaint s text cut) (Some refusal)) made least))
+    (subst (λ (s : Setting). IsLeast (StartViolation s text cut) (Some refusal)) made least))
 
 -- a text whose start is valid is refused by its host, its port or what stands behind them
 refused_started : (profile : Profile) (base : Option Url) (text : List ℕ) (cut : Cut) (setting : Setting)
@@ -67,7 +67,7 @@ refused_started profile base text cut setting refusal is made started least =
 pub refused_host : (profile : Profile) (base : Option Url) (text : List ℕ) (cut : Cut) (setting : Setting)
     (refusal : Refusal)
     → IsCut base text cut → setting ≡ setting_of profile base cut.scheme → IsStarted setting text cut
-    → IsLeast (HostPartComplaint setting cut) (Some refusal) → IsRefused profile base text refusal
+    → IsLeast (HostPartViolation setting cut) (Some refusal) → IsRefused profile base text refusal
 refused_host profile base text cut setting refusal is made started least =
     refused_started profile base text cut setting refusal is made started (host_refuses setting cut refusal least)
 
@@ -75,7 +75,7 @@ refused_host profile base text cut setting refusal is made started least =
 pub refused_port : (profile : Profile) (base : Option Url) (text : List ℕ) (cut : Cut) (setting : Setting)
     (refusal : Refusal)
     → IsCut base text cut → setting ≡ setting_of profile base cut.scheme → IsStarted setting text cut
-    → IsLeast (HostPartComplaint setting cut) None → IsLeast (PortPartComplaint cut) (Some refusal)
+    → IsLeast (HostPartViolation setting cut) None → IsLeast (PortPartViolation cut) (Some refusal)
     → IsRefused profile base text refusal
 refused_port profile base text cut setting refusal is made started host least =
     refused_started profile base text cut setting refusal is made started
@@ -85,7 +85,7 @@ refused_port profile base text cut setting refusal is made started host least =
 pub refused_behind : (profile : Profile) (base : Option Url) (text : List ℕ) (cut : Cut) (setting : Setting)
     (refusal : Refusal)
     → IsCut base text cut → setting ≡ setting_of profile base cut.scheme → IsStarted setting text cut
-    → IsLeast (HostPartComplaint setting cut) None → IsLeast (PortPartComplaint cut) None
+    → IsLeast (HostPartViolation setting cut) None → IsLeast (PortPartViolation cut) None
     → IsLeast (BehindAuthority setting cut) (Some refusal) → IsRefused profile base text refusal
 refused_behind profile base text cut setting refusal is made started host port least =
     refused_started profile base text cut setting refusal is made started
@@ -105,7 +105,7 @@ accepted profile base text cut setting is made started parts built =
     record {
       valid = valid;
       only = λ other again. parts_are_unique profile base text other parts again valid;
-      silent = λ place rule complaint. faultless profile base text place rule complaint parts valid;
+      silent = λ place rule violation. faultless profile base text place rule violation parts valid;
     }
 
 -- a valid text is its parts written out
@@ -124,5 +124,5 @@ host_without_memory profile base text cut setting is made started h =
     (sym (cut_is_computed base text cut is)) h))
   where
     of_host : TakesNoMemory setting text cut → HostPartTakesNoMemory setting cut.host_text
-    of_host (inl (place, rule, complaint)) = absurd (started place rule complaint)
+    of_host (inl (place, rule, violation)) = absurd (started place rule violation)
     of_host (inr host) = host

@@ -1,17 +1,17 @@
--- Lists to which the complaints of parts are added, after the order of URL Standard, section 4.3.
+-- Lists to which the violations of parts are added, after the order of URL Standard, section 4.3.
 use Rattle.std.specs.Prelude.{◌≡◌, ℕ, ◌⊎◌, List, [], ◌∷◌, ◌++◌, Option, Some, None}
 use Rattle.uv_model.specs.declared.rule.Rule.{Rule}
 use Rattle.uv_model.specs.declared.rule.Refusal.{Refusal}
-use Rattle.uv_model.specs.Complaints.AllComplaints.{ListsComplaints}
-use Rattle.uv_model.specs.Complaints.Complaint.{IsStarted, JudgedComplaint, StartComplaint}
+use Rattle.uv_model.specs.Violations.AllViolations.{ListsViolations}
+use Rattle.uv_model.specs.Violations.Violation.{IsStarted, JudgedViolation, StartViolation}
 use Rattle.uv_model.specs.Cut.{Cut}
 use Rattle.uv_model.specs.Setting.{Setting}
 
--- what is added to the list are exactly these complaints, each once, in their order
-pub record AddsComplaints (complaint : ℕ → Rule → Type 0) (before after : List Refusal) : Type 0 where
+-- what is added to the list are exactly these violations, each once, in their order
+pub record AddsViolations (violation : ℕ → Rule → Type 0) (before after : List Refusal) : Type 0 where
   pub added : List Refusal
   pub joined : after ≡ before ++ added
-  pub lists : ListsComplaints complaint added
+  pub lists : ListsViolations violation added
 
 -- the fault, where there is one
 abbrev pub fault_list : Option Refusal → List Refusal
@@ -19,7 +19,7 @@ fault_list None = []
 fault_list (Some refusal) = refusal ∷ []
 
 -- those of the start, or where there are none, those of the host, the port and the path's start
-abbrev pub FirstComplaint : Setting → List ℕ → Cut → ℕ → Rule → Type 0
-FirstComplaint setting text cut place rule =
-    StartComplaint setting text cut place rule
-    ⊎ (IsStarted setting text cut × JudgedComplaint setting cut place rule)
+abbrev pub FirstViolation : Setting → List ℕ → Cut → ℕ → Rule → Type 0
+FirstViolation setting text cut place rule =
+    StartViolation setting text cut place rule
+    ⊎ (IsStarted setting text cut × JudgedViolation setting cut place rule)

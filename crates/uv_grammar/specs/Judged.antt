@@ -4,12 +4,12 @@ use Rattle.uv_grammar.specs.declared.judged.Judged.{Judged}
 use Rattle.uv_grammar.specs.declared.judged.Judged.TheVariants.{Valid, Refused}
 use Rattle.uv_model.specs.declared.rule.Refusal.{Refusal}
 use Rattle.uv_model.specs.declared.rule.Rule.{Rule}
-use Rattle.uv_model.specs.Complaints.Refusal.{IsLeast}
+use Rattle.uv_model.specs.Violations.Refusal.{IsLeast}
 
--- a value that fits where there is no complaint, and else the least complaint
+-- a value that fits where there is no violation, and else the least violation
 abbrev pub IsJudged : {A : Type 0} → (A → Type 0) → (ℕ → Rule → Type 0) → Judged A → Type 0
-IsJudged fits complaint (Valid value) = fits value × IsLeast complaint None
-IsJudged fits complaint (Refused refusal) = IsLeast complaint (Some refusal)
+IsJudged fits violation (Valid value) = fits value × IsLeast violation None
+IsJudged fits violation (Refused refusal) = IsLeast violation (Some refusal)
 
 -- the refusal of a part that isn't valid
 abbrev pub refusal_of : {A : Type 0} → Judged A → Option Refusal

@@ -7,7 +7,7 @@ pub mod HostValues
 pub mod Judged
 pub mod Laws
 pub mod NoMemory
-pub mod PartComplaints
+pub mod PartViolations
 pub mod PartValues
 pub mod PlainLinks
 pub mod Scan

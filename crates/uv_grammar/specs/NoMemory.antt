@@ -5,7 +5,7 @@ use Rattle.uv_model.specs.declared.profile.Profile.{Profile}
 use Rattle.uv_model.specs.declared.rule.Rule.{Rule}
 use Rattle.uv_model.specs.declared.scheme.Class.{Class}
 use Rattle.uv_model.specs.declared.scheme.Class.TheVariants.{Other}
-use Rattle.uv_model.specs.Complaints.Complaint.{StartComplaint}
+use Rattle.uv_model.specs.Violations.Violation.{StartViolation}
 use Rattle.uv_model.specs.Cut.{Cut, cut_of}
 use Rattle.uv_model.specs.Hosts.Address.{IsIpv4}
 use Rattle.uv_model.specs.Hosts.Domain.{has_permitted}
@@ -32,7 +32,7 @@ HostPartTakesNoMemory setting (Some text) = HostTakesNoMemory setting.profile se
 -- the start of the text violates a rule, so that no host is judged, or there is no host or such a one
 abbrev pub TakesNoMemory : Setting → List ℕ → Cut → Type 0
 TakesNoMemory setting text cut =
-    ((place : ℕ) × (rule : Rule) × StartComplaint setting text cut place rule)
+    ((place : ℕ) × (rule : Rule) × StartViolation setting text cut place rule)
     ⊎ HostPartTakesNoMemory setting cut.host_text
 
 -- the text is judged against the base without memory

@@ -17,19 +17,19 @@ use Rattle.uv_model.specs.Valid.{MayBePortText, port_given}
 use Rattle.uv_grammar.specs.declared.plain_links.PlainCut.{PlainCut}
 use Rattle.uv_grammar.specs.Slices.{chars_of, chars_of_option}
 
--- the front of so many bytes is ASCII
-abbrev pub HasAsciiFront : List ℕ → ℕ → Type 0
-HasAsciiFront bytes end = (end ≤ length bytes) × (list_all is_ascii (take end bytes) ≡ true)
+-- the prefix of so many bytes is ASCII
+abbrev pub HasAsciiPrefix : List ℕ → ℕ → Type 0
+HasAsciiPrefix bytes end = (end ≤ length bytes) × (list_all is_ascii (take end bytes) ≡ true)
 
--- the bytes are cut behind an ASCII front
-pub record IsFrontCut (bytes : List ℕ) (end : ℕ) (front rest : List ℕ) : Type 0 where
-  pub is_front : front ≡ take end bytes
+-- the bytes are cut behind an ASCII prefix
+pub record IsPrefixCut (bytes : List ℕ) (end : ℕ) (prefix rest : List ℕ) : Type 0 where
+  pub is_prefix : prefix ≡ take end bytes
   pub is_rest : rest ≡ drop end bytes
-  pub code_points : chars front ≡ take end bytes
+  pub code_points : chars prefix ≡ take end bytes
   pub joined : chars bytes ≡ take end bytes ++ chars rest
 
 -- so many bytes are a special scheme, behind which `://` stands
-pub record IsSpecialFront (bytes : List ℕ) (end : ℕ) : Type 0 where
+pub record IsSpecialPrefix (bytes : List ℕ) (end : ℕ) : Type 0 where
   pub inside : end ≤ length bytes
   pub scheme : is_scheme (take end bytes) ≡ true
   pub special : scheme_class (take end bytes) ≡ Special

@@ -1,26 +1,26 @@
--- The complaints of texts that are judged code point by code point, after the URL Standard, sections 3.2, 3.4 and 4.3.
+-- The violations of texts that are judged code point by code point, after the URL Standard, sections 3.2, 3.4 and 4.3.
 use Rattle.std.specs.Prelude.{ℕ, List}
 use Rattle.uv_grammar.specs.declared.scan.Scan.{Scan}
 use Rattle.uv_grammar.specs.declared.scan.Scan.TheVariants.{Units, OpaqueHost, Digits}
 use Rattle.uv_model.specs.declared.rule.Rule.{Rule}
 use Rattle.uv_model.specs.declared.rule.Rule.TheVariants.{HostCodePoint, Percent, PortDigit}
-use Rattle.uv_model.specs.Complaints.Complaint.{HasForeignDigit}
-use Rattle.uv_model.specs.Complaints.OpaqueHostComplaint.{HasForeignHostCodePoint}
-use Rattle.uv_model.specs.Complaints.UnitComplaint.{HasBarePercent, UnitComplaint}
+use Rattle.uv_model.specs.Violations.Violation.{HasForeignDigit}
+use Rattle.uv_model.specs.Violations.OpaqueHostViolation.{HasForeignHostCodePoint}
+use Rattle.uv_model.specs.Violations.UnitViolation.{HasBarePercent, UnitViolation}
 
 -- a code point that no opaque host holds, or a `%` without two hex digits
-abbrev pub HostUnitComplaint : List ℕ → ℕ → Rule → Type 0
-HostUnitComplaint text place HostCodePoint = HasForeignHostCodePoint text place
-HostUnitComplaint text place Percent = HasBarePercent text place
-HostUnitComplaint text place _ = ⊥
+abbrev pub HostUnitViolation : List ℕ → ℕ → Rule → Type 0
+HostUnitViolation text place HostCodePoint = HasForeignHostCodePoint text place
+HostUnitViolation text place Percent = HasBarePercent text place
+HostUnitViolation text place _ = ⊥
 
 -- a code point that is no digit
-abbrev pub DigitComplaint : List ℕ → ℕ → Rule → Type 0
-DigitComplaint text place PortDigit = HasForeignDigit text place
-DigitComplaint text place _ = ⊥
+abbrev pub DigitViolation : List ℕ → ℕ → Rule → Type 0
+DigitViolation text place PortDigit = HasForeignDigit text place
+DigitViolation text place _ = ⊥
 
--- the complaints of a text that should consist of this
-abbrev pub ScanComplaint : Scan → List ℕ → ℕ → Rule → Type 0
-ScanComplaint Units = UnitComplaint
-ScanComplaint OpaqueHost = HostUnitComplaint
-ScanComplaint Digits = DigitComplaint
+-- the violations of a text that should consist of this
+abbrev pub ScanViolation : Scan → List ℕ → ℕ → Rule → Type 0
+ScanViolation Units = UnitViolation
+ScanViolation OpaqueHost = HostUnitViolation
+ScanViolation Digits = DigitViolation

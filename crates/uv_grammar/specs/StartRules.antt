@@ -2,7 +2,7 @@
 use Rattle.std.specs.Prelude.{ℕ, not, ◌&&◌, List, Option, Some, None, if◌then◌else◌}
 use Rattle.uv_model.specs.declared.rule.Refusal.{Refusal}
 use Rattle.uv_model.specs.declared.rule.Rule.TheVariants.{NoScheme, OpaqueBase}
-use Rattle.uv_model.specs.Complaints.Complaint.{starts_with_number_sign}
+use Rattle.uv_model.specs.Violations.Violation.{starts_with_number_sign}
 use Rattle.uv_model.specs.Records.Url.{Url, is_opaque}
 
 -- there is no base, or it has an opaque path and the text is more than a fragment

@@ -18,10 +18,10 @@ pub record SplitsScheme (text : List ℕ) (name : Option (List ℕ)) (rest : Lis
   pub joined : text ≡ written_scheme name ++ rest
   pub scheme : IsSchemeCut name rest
 
--- the text is a front without `/`, and a rest that is empty or begins with `/`
-pub record SplitsAtSlash (text front behind : List ℕ) : Type 0 where
-  pub joined : text ≡ front ++ behind
-  pub no_slash : is_without slash front ≡ true
+-- the text is a prefix without `/`, and a rest that is empty or begins with `/`
+pub record SplitsAtSlash (text prefix behind : List ℕ) : Type 0 where
+  pub joined : text ≡ prefix ++ behind
+  pub no_slash : is_without slash prefix ≡ true
   pub path : behind ≢ [] → starts_with_slash behind ≡ true
 
 -- the text is `//`, an authority without `/`, and a path that is empty or begins with `/`

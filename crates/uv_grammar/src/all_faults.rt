@@ -1,13 +1,14 @@
 //! All the faults of a text at once, by the judges of its parts.
 ghost use Rattle.std.specs.Prelude.{◌≡◌, ◌++◌, IfOk, OnOk, Some, option_copied};
 ghost use Rattle.std.specs.Str.{chars};
-ghost use Rattle.uv_model.specs.Complaints.AllComplaints.{AreFaults};
-ghost use Rattle.uv_model.specs.Complaints.Complaint.{ContentComplaint, HostPartComplaint, JudgedComplaint, PortPartComplaint};
+ghost use Rattle.uv_model.specs.Violations.AllViolations.{AreFaults};
+ghost use Rattle.uv_model.specs.Violations.Violation.{ContentViolation, HostPartViolation, JudgedViolation};
+ghost use Rattle.uv_model.specs.Violations.Violation.{PortPartViolation};
 ghost use Rattle.uv_model.specs.Records.Url.{Url};
 ghost use Rattle.uv_grammar.specs.Bases.{IsOfKind, as_base};
-ghost use Rattle.uv_grammar.specs.Faults.{AddsComplaints, FirstComplaint, fault_list};
+ghost use Rattle.uv_grammar.specs.Faults.{AddsViolations, FirstViolation, fault_list};
 ghost use Rattle.uv_grammar.specs.HostValues.{is_scanned};
-ghost use Rattle.uv_grammar.specs.PartComplaints.{IsCountable, OfFragment, OfQuery};
+ghost use Rattle.uv_grammar.specs.PartViolations.{IsCountable, OfFragment, OfQuery};
 
 use crate::authority::{judge_host_part, judge_port_part};
 use crate::bases::{Base, BaseKind};
@@ -23,7 +24,7 @@ use uv_model::{Class, Profile, Record, Refusal};
 /// All that is wrong with a text by the profile, alone or against a base: each rule at each place where it is violated,
 /// once, by place and at one place by the rule's number (URL Standard, section 4.3). The first is the refusal of
 /// `check`, and there is none exactly where `check` says yes. Where the start of the text violates a rule, as a special
-/// scheme without `//`, no host, no port and no start of a path is judged. The error is want of memory.
+/// scheme without `//`, no host, no port and no start of a path is judged. The error is out of memory.
 pub fn faults(
     alloc: Global,
     text: &str,
@@ -73,7 +74,7 @@ fn push_first_faults(
     setting: &Setting,
 ) -> Result<(), AllocError>
     requires { IsCountable cut.now }
-    ensures { OnOk result (AddsComplaints (FirstComplaint setting.now (chars text.now) cut.now)
+    ensures { OnOk result (AddsViolations (FirstViolation setting.now (chars text.now) cut.now)
         found.old.items found.new.items) }
 {
     match start_fault(text, cut, setting) {
@@ -91,7 +92,7 @@ fn push_judged_faults(
 ) -> Result<(), AllocError>
     requires { IsCountable cut.now }
     ensures { OnOk result
-        (AddsComplaints (JudgedComplaint setting.now cut.now) found.old.items found.new.items) }
+        (AddsViolations (JudgedViolation setting.now cut.now) found.old.items found.new.items) }
 {
     push_host_faults(alloc, found, cut, setting)?;
     push_port_faults(found, cut, setting)?;
@@ -107,7 +108,7 @@ fn push_host_faults(
 ) -> Result<(), AllocError>
     requires { IsCountable cut.now }
     ensures { OnOk result
-        (AddsComplaints (HostPartComplaint setting.now cut.now) found.old.items found.new.items) }
+        (AddsViolations (HostPartViolation setting.now cut.now) found.old.items found.new.items) }
 {
     let Some(host_text) = cut.host_text else {
         return Ok(());
@@ -135,7 +136,7 @@ fn push_port_faults(
     setting: &Setting,
 ) -> Result<(), AllocError>
     requires { IsCountable cut.now }
-    ensures { OnOk result (AddsComplaints (PortPartComplaint cut.now) found.old.items found.new.items) }
+    ensures { OnOk result (AddsViolations (PortPartViolation cut.now) found.old.items found.new.items) }
 {
     let Some(host_text) = cut.host_text else {
         return Ok(());
@@ -152,7 +153,7 @@ fn push_port_faults(
 // The faults of what the path, the query and the fragment hold.
 fn push_held_faults(found: &mut Vec<Refusal>, cut: &Cut) -> Result<(), AllocError>
     requires { IsCountable cut.now }
-    ensures { OnOk result (AddsComplaints (ContentComplaint cut.now) found.old.items found.new.items) }
+    ensures { OnOk result (AddsViolations (ContentViolation cut.now) found.old.items found.new.items) }
 {
     push_scan(found, Scan::Units, path_place(cut), cut.path_text)?;
     push_query_faults(found, cut)?;
@@ -162,7 +163,7 @@ fn push_held_faults(found: &mut Vec<Refusal>, cut: &Cut) -> Result<(), AllocErro
 // The faults of the query.
 fn push_query_faults(found: &mut Vec<Refusal>, cut: &Cut) -> Result<(), AllocError>
     requires { IsCountable cut.now }
-    ensures { OnOk result (AddsComplaints (OfQuery cut.now) found.old.items found.new.items) }
+    ensures { OnOk result (AddsViolations (OfQuery cut.now) found.old.items found.new.items) }
 {
     match cut.query {
         Some(query) => push_scan(found, Scan::Units, query_place(cut), query),
@@ -173,7 +174,7 @@ fn push_query_faults(found: &mut Vec<Refusal>, cut: &Cut) -> Result<(), AllocErr
 // The faults of the fragment.
 fn push_fragment_faults(found: &mut Vec<Refusal>, cut: &Cut) -> Result<(), AllocError>
     requires { IsCountable cut.now }
-    ensures { OnOk result (AddsComplaints (OfFragment cut.now) found.old.items found.new.items) }
+    ensures { OnOk result (AddsViolations (OfFragment cut.now) found.old.items found.new.items) }
 {
     match cut.fragment {
         Some(fragment) => push_scan(found, Scan::Units, fragment_place(cut), fragment),

@@ -1,10 +1,10 @@
 //! The host and the port of a cut text.
 ghost use Rattle.std.specs.Prelude.{◌≡◌, IfOk, IsOk};
-ghost use Rattle.uv_model.specs.Complaints.Complaint.{HostPartComplaint, PortPartComplaint};
+ghost use Rattle.uv_model.specs.Violations.Violation.{HostPartViolation, PortPartViolation};
 ghost use Rattle.uv_grammar.specs.PartsHost.{FitsPartsHost};
 ghost use Rattle.uv_grammar.specs.Judged.{IsJudged};
 ghost use Rattle.uv_grammar.specs.NoMemory.{HostPartTakesNoMemory};
-ghost use Rattle.uv_grammar.specs.PartComplaints.{IsCountable};
+ghost use Rattle.uv_grammar.specs.PartViolations.{IsCountable};
 ghost use Rattle.uv_grammar.specs.PartValues.{FitsHostPart, FitsPortPart, without_default};
 
 use crate::cut::Cut;
@@ -16,7 +16,7 @@ use crate::port::judge_port;
 use crate::setting::Setting;
 use std::alloc::{AllocError, Global};
 
-/// The host of a cut text, a refusal counted from the text's start. The error is want of memory.
+/// The host of a cut text, a refusal counted from the text's start. The error is out of memory.
 pub(crate) fn judge_host_part<'t>(
     alloc: Global,
     cut: &Cut<'t>,
@@ -24,7 +24,7 @@ pub(crate) fn judge_host_part<'t>(
 ) -> Result<Judged<Option<PartsHost<'t>>>, AllocError>
     requires { IsCountable cut.now }
     ensures answer { IfOk result
-        (IsJudged (FitsPartsHost (FitsHostPart setting.now cut.now)) (HostPartComplaint setting.now cut.now)) }
+        (IsJudged (FitsPartsHost (FitsHostPart setting.now cut.now)) (HostPartViolation setting.now cut.now)) }
     ensures memory { HostPartTakesNoMemory setting.now cut.now.host_text → IsOk result }
 {
     let Some(host_text) = cut.host_text else {
@@ -46,7 +46,7 @@ pub(crate) fn judge_host_part<'t>(
 /// The port of a cut text, a refusal counted from the text's start.
 pub(crate) fn judge_port_part(cut: &Cut, setting: &Setting) -> Judged<Option<u16>>
     requires { IsCountable cut.now }
-    ensures { IsJudged (FitsPortPart setting.now cut.now) (PortPartComplaint cut.now) result }
+    ensures { IsJudged (FitsPortPart setting.now cut.now) (PortPartViolation cut.now) result }
 {
     match (cut.host_text, cut.port_text) {
         (Some(host_text), Some(port_text)) => match judge_port(port_text) {

@@ -21,8 +21,8 @@ pub enum BaseScheme {
     Other,
 }
 
-/// The kind of a base, which is all that a verdict asks of it (URL Standard, section 4.3): against two bases of one kind
-/// each text is valid with the same parts, or violates the same rules at the same places.
+/// The kind of a base, which is all that a verdict asks of it (URL Standard, section 4.3): against two bases of one
+/// kind each text is valid with the same parts, or violates the same rules at the same places.
 #[derive(Clone, Copy, Debug, PartialEq, Eq)]
 pub struct BaseKind {
     /// The scheme.

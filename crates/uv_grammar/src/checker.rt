@@ -28,7 +28,7 @@ pub enum Verdict<'t> {
 }
 
 /// Whether a text is a valid URL string by the profile, alone or against a base (URL Standard, section 4.3), with its
-/// parts or its least refusal. The error is want of memory, which is asked for where a domain's form is made alone.
+/// parts or its least refusal. The error is out of memory, which is asked for where a domain's form is made alone.
 pub fn check<'t>(
     alloc: Global,
     text: &'t str,

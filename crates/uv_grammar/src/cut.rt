@@ -53,8 +53,8 @@ pub(crate) fn cut_text<'t, 'b>(
     ensures cut { IsCut (as_base base.entry) (chars text.now) result.0 }
     ensures setting { result.1 ≡ setting_of profile (as_base base.entry) result.0.scheme }
 {
-    let (front, fragment) = split_at_mark(text, '#');
-    let (start, query) = split_at_mark(front, '?');
+    let (prefix, fragment) = split_at_mark(text, '#');
+    let (start, query) = split_at_mark(prefix, '?');
     let (scheme, middle) = split_scheme(start);
     let setting = Setting::of(base, scheme, profile);
     let (host_text, port_text, path_text) = split_middle(middle, setting.class);
@@ -88,9 +88,9 @@ pub(crate) fn split_scheme<'t>(text: &'t str) -> (Option<&'t str>, &'t str)
     ensures { SplitsScheme (chars text.now) (chars_of_option result.0) (chars_of result.1) }
 {
     match split_at_mark(text, ':') {
-        (front, Some(rest)) => {
-            if is_scheme_text(front) {
-                (Some(front), rest)
+        (prefix, Some(rest)) => {
+            if is_scheme_text(prefix) {
+                (Some(prefix), rest)
             } else {
                 (None, text)
             }

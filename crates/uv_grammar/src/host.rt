@@ -2,8 +2,8 @@
 ghost use Rattle.std.specs.Prelude.{◌≡◌, ◌≢◌, IfOk, IsOk, [], codes, true};
 ghost use Rattle.std.specs.Str.{bytes_eq, chars};
 ghost use Rattle.uv_model.specs.declared.profile.Profile.{Profile};
-ghost use Rattle.uv_model.specs.Complaints.Complaint.{HostContentComplaint, HostComplaint, ShouldBeDomain};
-ghost use Rattle.uv_model.specs.Complaints.OpaqueHostComplaint.{OpaqueHostComplaint};
+ghost use Rattle.uv_model.specs.Violations.Violation.{HostContentViolation, HostViolation, ShouldBeDomain};
+ghost use Rattle.uv_model.specs.Violations.OpaqueHostViolation.{OpaqueHostViolation};
 ghost use Rattle.uv_model.specs.Hosts.OpaqueHost.{starts_with_bracket};
 ghost use Rattle.uv_host.specs.Domains.{IsPlainAnswer};
 ghost use Rattle.uv_model.specs.Valid.{IsOpaqueHostText, without_localhost};
@@ -23,7 +23,7 @@ use uv_host::{
 use uv_model::{Class, Host, Profile, Refusal, Rule, Text};
 
 /// The host, judged by its class, beside the port and the path that follow it, with its value where it isn't an opaque
-/// host. A refusal's place is counted in code points from the host's start. The error is want of memory.
+/// host. A refusal's place is counted in code points from the host's start. The error is out of memory.
 pub(crate) fn judge_host<'t>(
     alloc: Global,
     class: Class,
@@ -35,7 +35,7 @@ pub(crate) fn judge_host<'t>(
     ensures answer { IfOk result (IsJudged
         (FitsPartsHost (FitsHost profile class (chars host_text.now) (chars_of_option port_text.entry)
         (chars path_text.now)))
-        (HostComplaint profile class (chars host_text.now) (chars_of_option port_text.entry) (chars path_text.now))) }
+        (HostViolation profile class (chars host_text.now) (chars_of_option port_text.entry) (chars path_text.now))) }
     ensures memory { HostTakesNoMemory profile class (chars host_text.now) → IsOk result }
 {
     if host_text.is_empty() {
@@ -56,7 +56,7 @@ fn judge_empty_host<'t>(
 ) -> Judged<Option<PartsHost<'t>>>
     ensures { (profile : Profile)
         → IsJudged (FitsPartsHost (FitsHost profile class [] (chars_of_option port_text.entry) (chars path_text.now)))
-        (HostComplaint profile class [] (chars_of_option port_text.entry) (chars path_text.now)) result }
+        (HostViolation profile class [] (chars_of_option port_text.entry) (chars path_text.now)) result }
 {
     let is_missing = match class {
         Class::Special => true,
@@ -81,7 +81,7 @@ fn judge_special_host<'t>(
 ) -> Result<Judged<Option<PartsHost<'t>>>, AllocError>
     requires { chars text.now ≢ [] }
     ensures answer { IfOk result (IsJudged (FitsPartsHost (FitsSomeHost profile Class.Special (chars text.now)))
-        (HostContentComplaint profile Class.Special (chars text.now))) }
+        (HostContentViolation profile Class.Special (chars text.now))) }
     ensures memory { MakesNoForm profile (chars text.now) → IsOk result }
 {
     match judge_host_text(alloc, text, profile)? {
@@ -98,7 +98,7 @@ fn judge_file_host<'t>(
 ) -> Result<Judged<Option<PartsHost<'t>>>, AllocError>
     requires { chars text.now ≢ [] }
     ensures answer { IfOk result (IsJudged (FitsPartsHost (FitsSomeHost profile Class.File (chars text.now)))
-        (HostContentComplaint profile Class.File (chars text.now))) }
+        (HostContentViolation profile Class.File (chars text.now))) }
     ensures memory { MakesNoForm profile (chars text.now) → IsOk result }
 {
     match judge_host_text(alloc, text, profile)? {
@@ -153,7 +153,7 @@ fn judge_host_text<'t>(
 ) -> Result<Judged<PartsHost<'t>>, AllocError>
     requires { chars text.now ≢ [] }
     ensures answer { IfOk result (IsJudged (IsPartsHostText profile (chars text.now))
-        (HostContentComplaint profile Class.Special (chars text.now))) }
+        (HostContentViolation profile Class.Special (chars text.now))) }
     ensures memory { MakesNoForm profile (chars text.now) → IsOk result }
 {
     if has_bracket(text) {
@@ -179,7 +179,7 @@ fn judge_plain_name(text: &str, answer: PlainAnswer) -> Judged<PartsHost<'_>>
     requires text { ShouldBeDomain (chars text.now) }
     requires answer { (profile : Profile) → IsPlainAnswer profile (chars text.now) text.now answer }
     ensures { (profile : Profile) → IsJudged (IsPartsHostText profile (chars text.now))
-        (HostContentComplaint profile Class.Special (chars text.now)) result }
+        (HostContentViolation profile Class.Special (chars text.now)) result }
 {
     match answer {
         PlainAnswer::Domain => Judged::Valid(PartsHost::Plain(AsciiText::of(text))),
@@ -192,7 +192,7 @@ fn judge_plain_name(text: &str, answer: PlainAnswer) -> Judged<PartsHost<'_>>
 fn judge_bracketed_host(text: &str) -> Judged<PartsHost<'_>>
     requires { starts_with_bracket (chars text.now) ≡ true }
     ensures { (profile : Profile) → IsJudged (IsPartsHostText profile (chars text.now))
-        (HostContentComplaint profile Class.Special (chars text.now)) result }
+        (HostContentViolation profile Class.Special (chars text.now)) result }
 {
     match bracketed_ipv6(text) {
         Some(pieces) => Judged::Valid(PartsHost::Made(Host::V6(pieces))),
@@ -211,7 +211,7 @@ fn at_start(rule: Rule) -> Refusal
 fn judge_opaque_host(text: &str) -> Judged<Option<PartsHost<'_>>>
     requires { chars text.now ≢ [] }
     ensures { IsJudged (FitsPartsHost (IsOpaqueHostText (chars text.now)))
-        (OpaqueHostComplaint (chars text.now)) result }
+        (OpaqueHostViolation (chars text.now)) result }
 {
     if let Some(refusal) = opaque_fault(text) {
         return Judged::Refused(refusal);

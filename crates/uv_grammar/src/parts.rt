@@ -79,7 +79,7 @@ impl<'t> Parts<'t> {
         }
     }
 
-    /// The same host given back, copied only where it is a slice of the text. The error is want of memory.
+    /// The same host given back, copied only where it is a slice of the text. The error is out of memory.
     pub fn into_host(self, alloc: Global) -> Result<Option<Host>, AllocError>
         ensures { IfOk result (λ host. host ≡ self.entry.host) }
     {

@@ -41,7 +41,7 @@ impl<'t> AsciiText<'t> {
         self.text
     }
 
-    // An owned text of the same code points. The error is want of memory.
+    // An owned text of the same code points. The error is out of memory.
     fn copy(&self, alloc: Global) -> Result<Text, AllocError>
         ensures { IfOk result (λ text. text ≡ self.now) }
     {
@@ -70,7 +70,7 @@ impl<'t> PartsHost<'t> {
         }
     }
 
-    /// The host given back, copied only where it is a slice of the text. The error is want of memory.
+    /// The host given back, copied only where it is a slice of the text. The error is out of memory.
     pub(crate) fn into_host(self, alloc: Global) -> Result<Host, AllocError>
         ensures { IfOk result (λ host. host ≡ as_host self.entry) }
     {
@@ -97,7 +97,7 @@ pub enum HostRef<'p> {
 }
 
 impl<'p> HostRef<'p> {
-    /// The host, copied. The error is want of memory.
+    /// The host, copied. The error is out of memory.
     pub fn copy(&self, alloc: Global) -> Result<Host, AllocError>
         ensures { IfOk result (λ host. host ≡ referred self.now) }
     {

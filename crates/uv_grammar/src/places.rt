@@ -1,10 +1,10 @@
 //! The places of the parts of a cut text, in code points from 0 at the text's start.
 ghost use Rattle.std.specs.Prelude.{◌≡◌, ◌+◌, ◌<◌, ◌^◌, IsSome, Some, length};
 ghost use Rattle.std.specs.Str.{chars};
-ghost use Rattle.uv_model.specs.Complaints.Complaint.{refusal_behind, slashes_place};
+ghost use Rattle.uv_model.specs.Violations.Violation.{refusal_behind, slashes_place};
 ghost use Rattle.uv_model.specs.Cut.{fragment_place, host_place, path_place, port_place, query_place, scheme_end};
 ghost use Rattle.uv_model.specs.Parts.{written_authority};
-ghost use Rattle.uv_grammar.specs.PartComplaints.{IsCountable};
+ghost use Rattle.uv_grammar.specs.PartViolations.{IsCountable};
 
 use crate::cut::Cut;
 use crate::marks::beginnings::has_slash;

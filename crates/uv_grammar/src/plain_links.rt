@@ -1,6 +1,7 @@
 //! The links that people write, judged at one pass: a special scheme, a plain domain, a port or none, and a path, a
 //! query and a fragment of URL units. All others are judged by their parts.
-ghost use Rattle.std.specs.Prelude.{◌≡◌, ◌≢◌, ◌++◌, ◌∷◌, ◌<◌, [], ℕ, List, false, true, Option, IfSome, IsTrue, drop, length};
+ghost use Rattle.std.specs.Prelude.{◌≡◌, ◌≢◌, ◌++◌, ◌∷◌, ◌<◌, [], ℕ, List, false, true, Option, IfSome, IsTrue, drop};
+ghost use Rattle.std.specs.Prelude.{length};
 ghost use Rattle.std.specs.Char.{is_ascii_digit};
 ghost use Rattle.std.specs.List.{prefix_len};
 ghost use Rattle.std.specs.Str.{chars};
@@ -10,7 +11,8 @@ ghost use Rattle.uv_model.specs.Cut.{starts_with_two_slashes};
 ghost use Rattle.uv_model.specs.Path.{starts_with_slash};
 ghost use Rattle.uv_model.specs.Records.Url.{Url};
 ghost use Rattle.uv_model.specs.Scheme.{default_port};
-ghost use Rattle.uv_grammar.specs.PlainLinks.{HasAsciiFront, IsFrontCut, IsNameCut, IsPartCut, IsPathCut, IsPlainCut, IsPortCut, IsSpecialCut, IsSpecialFront};
+ghost use Rattle.uv_grammar.specs.PlainLinks.{HasAsciiPrefix, IsPrefixCut, IsNameCut, IsPartCut, IsPathCut, IsPlainCut};
+ghost use Rattle.uv_grammar.specs.PlainLinks.{IsPortCut, IsSpecialCut, IsSpecialPrefix};
 ghost use Rattle.uv_grammar.specs.Slices.{chars_of, chars_of_option};
 ghost use Rattle.uv_grammar.specs.Verdict.{IsAccepted, IsValidity};
 
@@ -23,7 +25,7 @@ use crate::marks::behind_slash;
 use crate::parts::Parts;
 use crate::parts_host::{AsciiText, PartsHost};
 use crate::port::judge_port;
-use uv_host::{is_plain_domain, name_front};
+use uv_host::{is_plain_domain, name_prefix};
 use uv_model::{Class, class_of, default_port};
 use uv_text::{Tail, UnitClass, split_tail};
 
@@ -65,7 +67,8 @@ pub(crate) fn plain_link<'t>(text: &'t str) -> Option<Parts<'t>>
     }
 }
 
-/// Whether a link is plain, and so by each profile and against any base valid. Where the answer is no, that says nothing.
+/// Whether a link is plain, and so by each profile and against any base valid. Where the answer is no, that says
+/// nothing.
 #[inline(always)]
 pub(crate) fn is_plain_link(text: &str) -> bool
     ensures { IsTrue result → (profile : Profile) (base : Option Url) → IsValidity profile base (chars text.now) true }
@@ -117,8 +120,8 @@ fn split_special<'t>(text: &'t str) -> Option<(&'t str, Tail<'t>)>
     let Some(end) = special_end(text.as_bytes()) else {
         return split_upper(text);
     };
-    let (scheme, behind) = split_front(&Tail::of(text), end);
-    let (_, rest) = split_front(&behind, 3);
+    let (scheme, behind) = split_prefix(&Tail::of(text), end);
+    let (_, rest) = split_prefix(&behind, 3);
     Some((scheme, rest))
 }
 
@@ -160,20 +163,20 @@ fn behind_two_slashes<'t>(text: &'t str) -> Option<&'t str>
     }
 }
 
-// How many bytes a special scheme has at the front.
+// How many bytes a special scheme has at its start.
 #[inline(always)]
 fn special_end(bytes: &[u8]) -> Option<usize>
-    ensures { IfSome result (IsSpecialFront bytes.now) }
+    ensures { IfSome result (IsSpecialPrefix bytes.now) }
 {
-    if has_front(bytes, b"https://") {
+    if has_prefix(bytes, b"https://") {
         Some(5)
-    } else if has_front(bytes, b"http://") {
+    } else if has_prefix(bytes, b"http://") {
         Some(4)
-    } else if has_front(bytes, b"ftp://") {
+    } else if has_prefix(bytes, b"ftp://") {
         Some(3)
-    } else if has_front(bytes, b"wss://") {
+    } else if has_prefix(bytes, b"wss://") {
         Some(3)
-    } else if has_front(bytes, b"ws://") {
+    } else if has_prefix(bytes, b"ws://") {
         Some(2)
     } else {
         None
@@ -181,10 +184,10 @@ fn special_end(bytes: &[u8]) -> Option<usize>
 }
 
 // Whether the bytes begin with these.
-fn has_front(bytes: &[u8], front: &[u8]) -> bool
-    ensures { IsTrue result → bytes.now ≡ front.now ++ drop (length front.now) bytes.now }
+fn has_prefix(bytes: &[u8], prefix: &[u8]) -> bool
+    ensures { IsTrue result → bytes.now ≡ prefix.now ++ drop (length prefix.now) bytes.now }
 {
-    bytes.starts_with(front)
+    bytes.starts_with(prefix)
 }
 
 // Whether the first byte is this one.
@@ -202,10 +205,10 @@ fn begins_with(bytes: &[u8], mark: u8) -> bool
 fn split_name<'t>(text: &Tail<'t>) -> Option<(&'t str, Tail<'t>)>
     ensures { IfSome result (λ r. IsNameCut (chars text.now) (chars_of r.0) r.0.now (chars r.1)) }
 {
-    let Some(end) = name_front(text) else {
+    let Some(end) = name_prefix(text) else {
         return None;
     };
-    let (name, rest) = split_front(text, end);
+    let (name, rest) = split_prefix(text, end);
     if is_plain_domain(name) {
         Some((name, rest))
     } else {
@@ -221,8 +224,8 @@ fn split_port<'t>(text: Tail<'t>, scheme: &str) -> Option<(Option<&'t str>, Opti
     if !begins_with(text.as_str().as_bytes(), b':') {
         return Some((None, None, text));
     }
-    let (_, behind) = split_front(&text, 1);
-    let (port_text, rest) = split_front(&behind, digits_front(behind.as_str().as_bytes()));
+    let (_, behind) = split_prefix(&text, 1);
+    let (port_text, rest) = split_prefix(&behind, digits_prefix(behind.as_str().as_bytes()));
     match judge_port(port_text) {
         Judged::Valid(number) => {
             let port = without_default(default_port(scheme), number);
@@ -233,7 +236,7 @@ fn split_port<'t>(text: Tail<'t>, scheme: &str) -> Option<(Option<&'t str>, Opti
 }
 
 // How many digits the bytes begin with.
-fn digits_front(bytes: &[u8]) -> usize
+fn digits_prefix(bytes: &[u8]) -> usize
     ensures { result ≡ prefix_len is_ascii_digit bytes.now }
 {
     bytes.iter().take_while(|b| b.is_ascii_digit()).count()
@@ -272,16 +275,16 @@ fn split_part<'t>(text: Tail<'t>, mark: u8) -> (Option<&'t str>, Tail<'t>)
     if !begins_with(text.as_str().as_bytes(), mark) {
         return (None, text);
     }
-    let (_, behind) = split_front(&text, 1);
+    let (_, behind) = split_prefix(&text, 1);
     let (part, rest) = split_tail(&behind, UnitClass::Url);
     (Some(part), rest)
 }
 
-// The two sides of the end of an ASCII front.
+// The two sides of the end of an ASCII prefix.
 #[inline(always)]
-fn split_front<'t>(text: &Tail<'t>, end: usize) -> (&'t str, Tail<'t>)
-    requires { HasAsciiFront text.now end }
-    ensures { IsFrontCut text.now end result.0.now result.1 }
+fn split_prefix<'t>(text: &Tail<'t>, end: usize) -> (&'t str, Tail<'t>)
+    requires { HasAsciiPrefix text.now end }
+    ensures { IsPrefixCut text.now end result.0.now result.1 }
 {
     text.split_at(end)
 }

@@ -3,11 +3,11 @@ ghost use Rattle.std.specs.Prelude.{◌≡◌, IsNone, true};
 ghost use Rattle.std.specs.Char.{is_ascii_digit};
 ghost use Rattle.std.specs.List.{list_all, prefix_len};
 ghost use Rattle.std.specs.Str.{chars};
-ghost use Rattle.uv_model.specs.Complaints.Complaint.{PortComplaint};
-ghost use Rattle.uv_model.specs.Complaints.Refusal.{IsLeast};
+ghost use Rattle.uv_model.specs.Violations.Violation.{PortViolation};
+ghost use Rattle.uv_model.specs.Violations.Refusal.{IsLeast};
 ghost use Rattle.uv_grammar.specs.Judged.{IsJudged};
 ghost use Rattle.uv_grammar.specs.PartValues.{FitsPort};
-ghost use Rattle.uv_grammar.specs.Scan.{DigitComplaint};
+ghost use Rattle.uv_grammar.specs.Scan.{DigitViolation};
 
 use crate::judged::Judged;
 use crate::marks::beginnings::are_digits;
@@ -16,7 +16,7 @@ use uv_model::{Refusal, Rule};
 /// The text of a port, judged (URL Standard, section 4.3), with its number where it isn't empty. A refusal's place is
 /// counted in code points from the port's start.
 pub(crate) fn judge_port(text: &str) -> Judged<Option<u16>>
-    ensures { IsJudged (FitsPort (chars text.now)) (PortComplaint (chars text.now)) result }
+    ensures { IsJudged (FitsPort (chars text.now)) (PortViolation (chars text.now)) result }
 {
     match digit_fault(text) {
         Some(refusal) => Judged::Refused(refusal),
@@ -26,14 +26,14 @@ pub(crate) fn judge_port(text: &str) -> Judged<Option<u16>>
 
 /// The first code point of a text that is no digit.
 pub(crate) fn digit_fault(text: &str) -> Option<Refusal>
-    ensures least { IsLeast (DigitComplaint (chars text.now)) result }
+    ensures least { IsLeast (DigitViolation (chars text.now)) result }
     ensures none { IsNone result → list_all is_ascii_digit (chars text.now) ≡ true }
 {
     if are_digits(text) {
         return None;
     }
     Some(Refusal {
-        place: digits_front(text),
+        place: digits_prefix(text),
         rule: Rule::PortDigit,
     })
 }
@@ -41,7 +41,7 @@ pub(crate) fn digit_fault(text: &str) -> Option<Refusal>
 // The text of a port that is digits alone.
 fn judge_digits(text: &str) -> Judged<Option<u16>>
     requires { list_all is_ascii_digit (chars text.now) ≡ true }
-    ensures { IsJudged (FitsPort (chars text.now)) (PortComplaint (chars text.now)) result }
+    ensures { IsJudged (FitsPort (chars text.now)) (PortViolation (chars text.now)) result }
 {
     if text.is_empty() {
         return Judged::Valid(None);
@@ -56,7 +56,7 @@ fn judge_digits(text: &str) -> Judged<Option<u16>>
 }
 
 // How many digits the text begins with.
-fn digits_front(text: &str) -> usize
+fn digits_prefix(text: &str) -> usize
     ensures { result ≡ prefix_len is_ascii_digit (chars text.now) }
 {
     text.chars().take_while(|c| c.is_ascii_digit()).count()

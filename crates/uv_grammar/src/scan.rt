@@ -1,10 +1,10 @@
 //! Texts that are judged code point by code point.
 ghost use Rattle.std.specs.Prelude.{◌≡◌, ◌+◌, ◌<◌, ◌^◌, OnOk, length};
 ghost use Rattle.std.specs.Str.{chars};
-ghost use Rattle.uv_model.specs.Complaints.Complaint.{Behind};
-ghost use Rattle.uv_model.specs.Complaints.Refusal.{IsLeast};
-ghost use Rattle.uv_grammar.specs.Faults.{AddsComplaints};
-ghost use Rattle.uv_grammar.specs.Scan.{HostUnitComplaint, ScanComplaint};
+ghost use Rattle.uv_model.specs.Violations.Violation.{Behind};
+ghost use Rattle.uv_model.specs.Violations.Refusal.{IsLeast};
+ghost use Rattle.uv_grammar.specs.Faults.{AddsViolations};
+ghost use Rattle.uv_grammar.specs.Scan.{HostUnitViolation, ScanViolation};
 
 use crate::marks::beginnings::has_bracket;
 use crate::places::refusal_behind;
@@ -34,7 +34,7 @@ pub(crate) fn push_scan(
 ) -> Result<(), AllocError>
     requires { start + length (chars text.now) < 2 ^ 64 }
     ensures { OnOk result
-        (AddsComplaints (Behind start (ScanComplaint scan (chars text.now))) found.old.items found.new.items) }
+        (AddsViolations (Behind start (ScanViolation scan (chars text.now))) found.old.items found.new.items) }
 {
     let mut left = text;
     let mut here = start;
@@ -48,7 +48,7 @@ pub(crate) fn push_scan(
 
 // The first fault of a text.
 fn next_fault(scan: Scan, text: &str) -> Option<Refusal>
-    ensures { IsLeast (ScanComplaint scan (chars text.now)) result }
+    ensures { IsLeast (ScanViolation scan (chars text.now)) result }
 {
     match scan {
         Scan::Units => first_fault(text),
@@ -59,7 +59,7 @@ fn next_fault(scan: Scan, text: &str) -> Option<Refusal>
 
 // The first code point that an opaque host can't hold there, brackets among them.
 fn host_fault(text: &str) -> Option<Refusal>
-    ensures { IsLeast (HostUnitComplaint (chars text.now)) result }
+    ensures { IsLeast (HostUnitViolation (chars text.now)) result }
 {
     if has_bracket(text) {
         return Some(Refusal {

@@ -1,10 +1,10 @@
 //! The rules of the start of a text and of the start of a path.
 ghost use Rattle.std.specs.Prelude.{◌≡◌, ◌≢◌, ◌↔◌, IsTrue, None, []};
 ghost use Rattle.std.specs.Str.{chars};
-ghost use Rattle.uv_model.specs.Complaints.Complaint.{HasEmptyFirst, HasHost, PathStartComplaint, StartComplaint};
-ghost use Rattle.uv_model.specs.Complaints.Refusal.{IsLeast};
+ghost use Rattle.uv_model.specs.Violations.Violation.{HasEmptyFirst, HasHost, PathStartViolation, StartViolation};
+ghost use Rattle.uv_model.specs.Violations.Refusal.{IsLeast};
 ghost use Rattle.uv_grammar.specs.Bases.{as_base};
-ghost use Rattle.uv_grammar.specs.PartComplaints.{IsCountable, OfPathStart};
+ghost use Rattle.uv_grammar.specs.PartViolations.{IsCountable, OfPathStart};
 ghost use Rattle.uv_grammar.specs.StartRules.{base_fault};
 
 use crate::bases::Base;
@@ -18,7 +18,7 @@ use uv_model::{Class, Profile, Refusal, Rule};
 /// or an opaque one, and a special scheme without `//`.
 pub(crate) fn start_fault(text: &str, cut: &Cut, setting: &Setting) -> Option<Refusal>
     requires { IsCountable cut.now }
-    ensures { IsLeast (StartComplaint setting.now (chars text.now) cut.now) result }
+    ensures { IsLeast (StartViolation setting.now (chars text.now) cut.now) result }
 {
     match cut.scheme {
         None => base_fault(text, setting.base),
@@ -71,7 +71,7 @@ pub(crate) fn path_start_fault(cut: &Cut, setting: &Setting) -> Option<Refusal>
 
 // The same, its place counted in code points from the path's start.
 fn first_segment_fault(cut: &Cut, setting: &Setting) -> Option<Refusal>
-    ensures { IsLeast (PathStartComplaint setting.now cut.now) result }
+    ensures { IsLeast (PathStartViolation setting.now cut.now) result }
 {
     if has_empty_first(cut.path_text, setting.profile) {
         return Some(Refusal {

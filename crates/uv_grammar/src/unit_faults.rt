@@ -1,8 +1,8 @@
 //! The first faults of what the path, the query and the fragment of a cut text hold.
 ghost use Rattle.std.specs.Prelude.{◌+◌, ◌<◌, ◌^◌, length};
 ghost use Rattle.std.specs.Str.{chars};
-ghost use Rattle.uv_model.specs.Complaints.Refusal.{IsLeast};
-ghost use Rattle.uv_grammar.specs.PartComplaints.{BehindAuthority, IsCountable, OfFragment, OfPath, OfQuery};
+ghost use Rattle.uv_model.specs.Violations.Refusal.{IsLeast};
+ghost use Rattle.uv_grammar.specs.PartViolations.{BehindAuthority, IsCountable, OfFragment, OfPath, OfQuery};
 
 use crate::cut::Cut;
 use crate::places::{fragment_place, path_place, query_place, refusal_behind};

@@ -12,8 +12,8 @@ use crate::plain_links::is_plain_link;
 use std::alloc::{AllocError, Global};
 use uv_model::{Profile, Record};
 
-/// Whether a text is a valid URL string by the profile, alone or against a base (URL Standard, section 4.3): what `check`
-/// says, without the parts. The error is want of memory, which is asked for where a domain's form is made alone.
+/// Whether a text is a valid URL string by the profile, alone or against a base (URL Standard, section 4.3): what
+/// `check` says, without the parts. The error is out of memory, which is asked for where a domain's form is made alone.
 pub fn is_valid(
     alloc: Global,
     text: &str,

@@ -2,7 +2,7 @@ pub mod BracketLemmas
 pub mod ChainLemmas
 pub mod LowerLemmas
 pub mod NameBitsLemmas
-pub mod NameFrontLemmas
+pub mod NamePrefixLemmas
 pub mod OpaqueHostLemmas
 pub mod PlainLemmas
 pub mod OpaqueHostScan

@@ -165,9 +165,9 @@ module _ (signed : Bool) (xs : List ℕ) (few : length xs ≤ 32) where
       )
 
 -- the same of the first 32 bytes of a text
-pub joined_front : (signed : Bool) (rest : List ℕ) (n : ℕ) → n ≡ trailing_ones w64 (joined_bits signed (take 32 rest))
+pub joined_prefix : (signed : Bool) (rest : List ℕ) (n : ℕ) → n ≡ trailing_ones w64 (joined_bits signed (take 32 rest))
     → (n ≤ 32) × IsJoined signed rest n
-joined_front signed rest n is =
+joined_prefix signed rest n is =
     let long = length-take 32 rest in
     let run = joined_run signed (take 32 rest) (omega arith) in
     let few = run.0 in

@@ -1,4 +1,4 @@
--- The complaints of an opaque host, from code point to code point, and the least of them.
+-- The violations of an opaque host, from code point to code point, and the least of them.
 use Rattle.std.proofs.Common.{◌≡◌, ◌≢◌, ℕ, zero, suc, ◌+◌, ◌≤◌, Bool, true, false, not, List, [], ◌∷◌, Option, Some}
 use Rattle.std.proofs.Common.{None, refl, sym, ap, ◌∙◌, inl, inr, ◌⊎◌, ◌↔◌, arith, le_refl}
 use Rattle.std.specs.List.{list_all}
@@ -9,26 +9,26 @@ use Rattle.uv_model.specs.declared.rule.Refusal.{Refusal}
 use Rattle.uv_model.specs.Hosts.Address.{IsBracketedIpv6}
 use Rattle.uv_model.specs.Ascii.{percent_sign}
 use Rattle.uv_model.specs.Hosts.OpaqueHost.{is_forbidden_host, starts_with_bracket}
-use Rattle.uv_model.specs.Complaints.OpaqueHostComplaint.{HasForeignHostCodePoint, OpaqueHostComplaint}
-use Rattle.uv_model.specs.Complaints.Refusal.{IsLeast}
-use Rattle.uv_model.specs.Complaints.Rule.{rule_number}
-use Rattle.uv_model.specs.Complaints.UnitComplaint.{HasBarePercent}
+use Rattle.uv_model.specs.Violations.OpaqueHostViolation.{HasForeignHostCodePoint, OpaqueHostViolation}
+use Rattle.uv_model.specs.Violations.Refusal.{IsLeast}
+use Rattle.uv_model.specs.Violations.Rule.{rule_number}
+use Rattle.uv_model.specs.Violations.UnitViolation.{HasBarePercent}
 use Rattle.uv_model.specs.Units.{is_url_code_point, starts_with_two_hex, is_unit_at, is_faultless}
 use Rattle.uv_model.proofs.Addresses.AddressUniqueness.{bracketed_bracket}
-use Rattle.uv_model.proofs.Complaints.RefusalLemmas.{IsLeast-like}
+use Rattle.uv_model.proofs.Violations.RefusalLemmas.{IsLeast-like}
 use Rattle.uv_model.proofs.Texts.UnitsLemmas.{is_faultless-units, IsUnits-faultless}
 use Rattle.uv_host.specs.OpaqueHosts.{host_fault, fault_at_or, first_host_fault, IsOpaqueHostOrEmpty}
-use Rattle.uv_model.proofs.Complaints.UnitComplaintLemmas.{head_same, tail_same, nothing_at}
-use Rattle.uv_model.proofs.Complaints.FaultlessHosts.{opaque_no_bracket}
+use Rattle.uv_model.proofs.Violations.UnitViolationLemmas.{head_same, tail_same, nothing_at}
+use Rattle.uv_model.proofs.Violations.FaultlessHosts.{opaque_no_bracket}
 
 -- ---- a text that begins with `[`
 
--- an IPv6 text in brackets has no complaint
+-- an IPv6 text in brackets has no violation
 pub bracketed_silent : (text pieces : List ℕ) → starts_with_bracket text ≡ true → IsBracketedIpv6 text pieces
-    → IsLeast (OpaqueHostComplaint text) None
+    → IsLeast (OpaqueHostViolation text) None
 bracketed_silent text pieces bracket is = none
   where
-    none : (place : ℕ) (rule : Rule) → OpaqueHostComplaint text place rule → ⊥
+    none : (place : ℕ) (rule : Rule) → OpaqueHostViolation text place rule → ⊥
     none place HostIpv6 h = h.0.no_value pieces is
     none place HostCodePoint h = false≢true (sym h.0 ∙ bracket)
     none place Percent h = false≢true (sym h.0 ∙ bracket)
@@ -36,13 +36,13 @@ bracketed_silent text pieces bracket is = none
 
 -- ---- the first code point of any other text
 
--- the complaints of a text that doesn't begin with `[`
+-- the violations of a text that doesn't begin with `[`
 abbrev Unbracketed : List ℕ → ℕ → Rule → Type 0
 Unbracketed text place HostCodePoint = HasForeignHostCodePoint text place
 Unbracketed text place Percent = HasBarePercent text place
 Unbracketed text place _ = ⊥
 
--- a complaint stands one place later behind one more code point
+-- a violation stands one place later behind one more code point
 later : (c : ℕ) (rest : List ℕ) (place : ℕ) (rule : Rule) → Unbracketed rest place rule
     → Unbracketed (c ∷ rest) (suc place) rule
 later c rest place HostCodePoint h =
@@ -58,7 +58,7 @@ earlier c rest place HostCodePoint h =
 earlier c rest place Percent h = record { rest = h.rest; here = h.here; bare = h.bare }
 earlier c rest place _ h = absurd h
 
--- the empty text has no complaint
+-- the empty text has no violation
 empty_silent : (place : ℕ) (rule : Rule) → Unbracketed [] place rule → ⊥
 empty_silent place HostCodePoint h = nothing_at place _ _ h.here
 empty_silent place Percent h = nothing_at place _ _ h.here
@@ -79,7 +79,7 @@ foreign_fault c rest (inr (foreign, other)) =
       | inr allowed ↦ rw (ne_eqb c percent_sign other, allowed, foreign) refl
     ]
 
--- a complaint of the first code point is its fault
+-- a violation of the first code point is its fault
 said : (c : ℕ) (rest : List ℕ) (rule : Rule) → Unbracketed (c ∷ rest) 0 rule → host_fault c rest ≡ Some rule
 said c rest HostCodePoint h =
     let same = head_same c h.code_point rest h.rest h.here in
@@ -91,7 +91,7 @@ said c rest Percent h =
     rw (same, bare) refl
 said c rest _ h = absurd h
 
--- its fault is a complaint
+-- its fault is a violation
 stands : (c : ℕ) (rest : List ℕ) (rule : Rule) → host_fault c rest ≡ Some rule → Unbracketed (c ∷ rest) 0 rule
 stands c rest rule fault =
     elim (cases_eq c percent_sign) [
@@ -122,11 +122,11 @@ stands c rest rule fault =
 
 -- ---- the whole text
 
--- the complaints of a text before which so many code points stand
+-- the violations of a text before which so many code points stand
 abbrev From : ℕ → List ℕ → ℕ → Rule → Type 0
 From start text place rule = (inner : ℕ) × (place ≡ start + inner) × Unbracketed text inner rule
 
--- the least complaint behind one more code point, by that code point's fault
+-- the least violation behind one more code point, by that code point's fault
 step : (start c : ℕ) (rest : List ℕ) (fault : Option Rule) → host_fault c rest ≡ fault
     → IsLeast (From (start + 1) rest) (first_host_fault (start + 1) rest)
     → IsLeast (From start (c ∷ rest)) (fault_at_or start fault (first_host_fault (start + 1) rest))
@@ -153,29 +153,29 @@ step start c rest None is after =
     from place rule (zero, at, h) = let found = said c rest rule h in absurd (cc)
     from place rule (suc inner, at, h) = (inner, omega (arith, at), earlier c rest inner rule h)
 
--- the first fault is the least complaint
+-- the first fault is the least violation
 first_least : (start : ℕ) (text : List ℕ) → IsLeast (From start text) (first_host_fault start text)
 first_least start [] = λ place rule (inner, at, h). empty_silent inner rule h
 first_least start (c ∷ rest) = step start c rest (host_fault c rest) refl (first_least (start + 1) rest)
 
--- the first fault of a text that doesn't begin with `[` is its least complaint
+-- the first fault of a text that doesn't begin with `[` is its least violation
 pub unbracketed_least : (text : List ℕ) → starts_with_bracket text ≡ false
-    → IsLeast (OpaqueHostComplaint text) (first_host_fault 0 text)
+    → IsLeast (OpaqueHostViolation text) (first_host_fault 0 text)
 unbracketed_least text no_bracket =
-    IsLeast-like (From 0 text) (OpaqueHostComplaint text) to from (first_host_fault 0 text) (first_least 0 text)
+    IsLeast-like (From 0 text) (OpaqueHostViolation text) to from (first_host_fault 0 text) (first_least 0 text)
   where
-    to : (place : ℕ) (rule : Rule) → From 0 text place rule → OpaqueHostComplaint text place rule
+    to : (place : ℕ) (rule : Rule) → From 0 text place rule → OpaqueHostViolation text place rule
     to place HostCodePoint (inner, at, h) = let same : place ≡ inner = omega arith in rw same (no_bracket, h)
     to place Percent (inner, at, h) = let same : place ≡ inner = omega arith in rw same (no_bracket, h)
     to place _ (inner, at, h) = absurd h
 
-    from : (place : ℕ) (rule : Rule) → OpaqueHostComplaint text place rule → From 0 text place rule
+    from : (place : ℕ) (rule : Rule) → OpaqueHostViolation text place rule → From 0 text place rule
     from place HostIpv6 h = absurd (false≢true (sym no_bracket ∙ h.0.bracket))
     from place HostCodePoint h = (place, omega arith, h.1)
     from place Percent h = (place, omega arith, h.1)
     from place _ h = absurd h
 
--- ---- texts without a complaint
+-- ---- texts without a violation
 
 -- a code point without a fault is no fault of units, and no forbidden host code point
 allowed_here : (c : ℕ) (rest : List ℕ) → host_fault c rest ≡ None

@@ -1,4 +1,4 @@
--- The first fault of an opaque host is the code point behind the longest front of units that it may hold.
+-- The first fault of an opaque host is the code point behind the longest prefix of units that it may hold.
 use Rattle.std.proofs.Common.{◌≡◌, ℕ, suc, ◌+◌, ◌≤◌, ◌==◌, Bool, true, false, not, ◌&&◌, ◌||◌, List, [], ◌∷◌, drop}
 use Rattle.std.proofs.Common.{length, Option, Some, None, refl, sym, ap, ◌∙◌, inl, inr, arith, lt-ltb, le-ltb, ne_eqb}
 use Rattle.std.specs.Prelude.{if◌then◌else◌, nat_le}
@@ -86,17 +86,17 @@ fault_behind held holds place (c ∷ rest) =
     ]
 
 -- a code point behind the units
-pub fault_found : (held : ℕ → Bool) (text front rest : List ℕ) (c : ℕ) (more : List ℕ) (place : ℕ) (rule : Rule)
-    → HoldsOpaqueHostBytes held → IsUnitSplit held text front rest → rest ≡ c ∷ more → place ≡ length front
+pub fault_found : (held : ℕ → Bool) (text prefix rest : List ℕ) (c : ℕ) (more : List ℕ) (place : ℕ) (rule : Rule)
+    → HoldsOpaqueHostBytes held → IsUnitSplit held text prefix rest → rest ≡ c ∷ more → place ≡ length prefix
     → rule ≡ host_rule c → Some (record { place = place; rule = rule }) ≡ first_host_fault 0 text
-fault_found held text front rest c more place rule holds cut first counted named =
+fault_found held text prefix rest c more place rule holds cut first counted named =
     let n = unit_length held text in
     let here : place ≡ 0 + n =
-    counted ∙ ap length cut.is_front ∙ length-take-le n text (unit_length-le held text) ∙ omega arith in
+    counted ∙ ap length cut.is_prefix ∙ length-take-le n text (unit_length-le held text) ∙ omega arith in
     rw (here, named) (ap (fault_at (0 + n)) (sym first ∙ cut.is_rest)) ∙ sym (fault_behind held holds 0 text)
 
 -- none behind them
-pub no_fault : (held : ℕ → Bool) (text front rest : List ℕ) → HoldsOpaqueHostBytes held
-    → IsUnitSplit held text front rest → rest ≡ [] → None ≡ first_host_fault 0 text
-no_fault held text front rest holds cut none =
+pub no_fault : (held : ℕ → Bool) (text prefix rest : List ℕ) → HoldsOpaqueHostBytes held
+    → IsUnitSplit held text prefix rest → rest ≡ [] → None ≡ first_host_fault 0 text
+no_fault held text prefix rest holds cut none =
     ap (fault_at (0 + unit_length held text)) (sym none ∙ cut.is_rest) ∙ sym (fault_behind held holds 0 text)

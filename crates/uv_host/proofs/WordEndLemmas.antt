@@ -17,22 +17,22 @@ use Rattle.uv_model.specs.Hosts.Domain.{ends_in_number, is_digits, is_hexadecima
 use Rattle.uv_host.specs.PlainNames.{HasWordEnd, is_word_letter}
 
 -- a test that the last code point doesn't pass
-all_but_last : (p : ℕ → Bool) (front : List ℕ) (c : ℕ) → p c ≡ false → list_all p (front ++ c ∷ []) ≡ false
+all_but_last : (p : ℕ → Bool) (prefix : List ℕ) (c : ℕ) → p c ≡ false → list_all p (prefix ++ c ∷ []) ≡ false
 all_but_last p [] c fails = rw fails refl
-all_but_last p (b ∷ front) c fails = rw (all_but_last p front c fails) (elim (cases_Bool (p b)) [
+all_but_last p (b ∷ prefix) c fails = rw (all_but_last p prefix c fails) (elim (cases_Bool (p b)) [
   | inl here ↦ rw here refl
   | inr other ↦ rw other refl
 ])
 
 -- a label that ends with such a letter is no number
-no_number : (front : List ℕ) (c : ℕ) → is_word_letter c ≡ true
-    → (is_digits (front ++ c ∷ []) || is_hexadecimal (front ++ c ∷ [])) ≡ false
-no_number front c word =
+no_number : (prefix : List ℕ) (c : ℕ) → is_word_letter c ≡ true
+    → (is_digits (prefix ++ c ∷ []) || is_hexadecimal (prefix ++ c ∷ [])) ≡ false
+no_number prefix c word =
     let no_digit : is_ascii_digit c ≡ false = grind (arith, nat_tests, word) in
-    rw (all_but_last is_ascii_digit front c no_digit) (digits (nat_lt 0 (length (front ++ c ∷ []))) (hex front))
+    rw (all_but_last is_ascii_digit prefix c no_digit) (digits (nat_lt 0 (length (prefix ++ c ∷ []))) (hex prefix))
   where
-    digits : (some : Bool) → is_hexadecimal (front ++ c ∷ []) ≡ false
-        → ((some && false) || is_hexadecimal (front ++ c ∷ [])) ≡ false
+    digits : (some : Bool) → is_hexadecimal (prefix ++ c ∷ []) ≡ false
+        → ((some && false) || is_hexadecimal (prefix ++ c ∷ [])) ≡ false
     digits true none = none
     digits false none = none
 
@@ -40,39 +40,39 @@ no_number front c word =
     and_false true = refl
     and_false false = refl
 
-    hex : (front : List ℕ) → is_hexadecimal (front ++ c ∷ []) ≡ false
+    hex : (prefix : List ℕ) → is_hexadecimal (prefix ++ c ∷ []) ≡ false
     hex [] = elim (cases_Bool (nat_eq 48 c)) [ inl is ↦ rw is refl | inr not ↦ rw not refl ]
     hex (a ∷ []) =
         let other : nat_eq 120 c ≡ false = grind (arith, nat_tests, word) in
         elim (cases_Bool (nat_eq 48 a)) [ inl is ↦ rw (is, other) refl | inr not ↦ rw not refl ]
-    hex (a ∷ b ∷ front) =
+    hex (a ∷ b ∷ prefix) =
         let no_hex : is_ascii_hexdigit c ≡ false = grind (arith, nat_tests, word) in
-        rw (all_but_last is_ascii_hexdigit front c no_hex)
+        rw (all_but_last is_ascii_hexdigit prefix c no_hex)
         (and_false _)
 
 -- what stands behind the last full stop ends as the text does
-last_ends : (front : List ℕ) (c : ℕ) → is_full_stop c ≡ false
-    → (label : List ℕ) × (after_last is_full_stop (front ++ c ∷ []) ≡ label ++ c ∷ [])
-last_ends front c other =
-    let text = front ++ c ∷ [] in
-    let long : length text ≡ length front + 1 = length-append front (c ∷ []) in
-    let at : length text - 1 ≡ length front = omega arith in
+last_ends : (prefix : List ℕ) (c : ℕ) → is_full_stop c ≡ false
+    → (label : List ℕ) × (after_last is_full_stop (prefix ++ c ∷ []) ≡ label ++ c ∷ [])
+last_ends prefix c other =
+    let text = prefix ++ c ∷ [] in
+    let long : length text ≡ length prefix + 1 = length-append prefix (c ∷ []) in
+    let at : length text - 1 ≡ length prefix = omega arith in
     let last : not (is_full_stop (get_or text (length text - 1) 0)) ≡ true
-    = rw at (rw (get_or-append_seam front c [] 0, other) refl) in
+    = rw at (rw (get_or-append_seam prefix c [] 0, other) refl) in
     let some = suffix_len-take_yes (λ b. not (is_full_stop b)) text (length text) 0 (omega arith) (omega arith) last in
     let whole : take (length text) text ≡ text = take_all (length text) text (omega arith) in
     let count : 1 ≤ suffix_len (λ b. not (is_full_stop b)) text
     = omega (arith, some, ap (suffix_len (λ b. not (is_full_stop b))) whole) in
     let k = length text - suffix_len (λ b. not (is_full_stop b)) text in
-    (drop k front, drop-append-le k front (c ∷ []) (omega arith))
+    (drop k prefix, drop-append-le k prefix (c ∷ []) (omega arith))
 
 -- a name that ends so doesn't end in a number
-word_name : (front : List ℕ) (c : ℕ) → is_word_letter c ≡ true → (name : List ℕ)
-    → without_root name ≡ front ++ c ∷ [] → ends_in_number name ≡ false
+word_name : (prefix : List ℕ) (c : ℕ) → is_word_letter c ≡ true → (name : List ℕ)
+    → without_root name ≡ prefix ++ c ∷ [] → ends_in_number name ≡ false
 unfolding ends_in_number
-word_name front c word name root =
+word_name prefix c word name root =
     let other : is_full_stop c ≡ false = grind (arith, nat_tests, word) in
-    let label = last_ends front c other in
+    let label = last_ends prefix c other in
     let same : last_label name ≡ label.0 ++ c ∷ [] = ap (after_last is_full_stop) root ∙ label.1 in
     rw same (no_number label.0 c word)
 
@@ -87,9 +87,9 @@ end_parts name some =
 -- neither with the root's full stop nor without it
 no_number_name : (name : List ℕ) → HasWordEnd (without_root name) → ends_in_number name ≡ false
 no_number_name name ends =
-    let front = without_root name in
-    word_name (take (length front - 1) front) (slice_index front (length front - 1)) ends.1 name
-    (end_parts front ends.0)
+    let prefix = without_root name in
+    word_name (take (length prefix - 1) prefix) (slice_index prefix (length prefix - 1)) ends.1 name
+    (end_parts prefix ends.0)
 
 -- such a letter at the end of a name
 pub bare_word : (name : List ℕ) → 1 ≤ length name → is_word_letter (get_or name (length name - 1) 0) ≡ true

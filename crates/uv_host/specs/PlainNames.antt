@@ -36,9 +36,9 @@ is_chain signed (c ∷ rest) = goes_on signed c && is_chain (is_sign c) rest
 abbrev pub is_rooted_chain : List ℕ → Bool
 is_rooted_chain name = is_chain false (without_root name)
 
--- the front of so many bytes is such a name
-abbrev pub IsChainFront : List ℕ → ℕ → Type 0
-IsChainFront bytes n = (n ≤ length bytes) × (is_rooted_chain (take n bytes) ≡ true)
+-- the prefix of so many bytes is such a name
+abbrev pub IsChainPrefix : List ℕ → ℕ → Type 0
+IsChainPrefix bytes n = (n ≤ length bytes) × (is_rooted_chain (take n bytes) ≡ true)
 
 -- a lower-case letter that is no hex digit and not the `x` of a number
 abbrev pub is_word_letter : ℕ → Bool

@@ -1,6 +1,7 @@
 //! Domains of special URLs (URL Standard, sections 3.3 to 3.5; UTS #46, section 4).
 ghost use Rattle.std.specs.Cow.{cow_str_bytes};
-ghost use Rattle.std.specs.Prelude.{chars, encode_utf8_all, false, IfOk, IfSome, IsSome, IsTrue, List, MatchOption, option_map, slice_index, string_bytes, true, ◌↔◌, ◌≡◌, ◌==◌, ℕ};
+ghost use Rattle.std.specs.Prelude.{chars, encode_utf8_all, false, IfOk, IfSome, IsSome, IsTrue, List, MatchOption};
+ghost use Rattle.std.specs.Prelude.{option_map, slice_index, string_bytes, true, ◌↔◌, ◌≡◌, ◌==◌, ℕ};
 ghost use Rattle.std.specs.Str.{IsAscii};
 ghost use Rattle.idna.specs.Uts46.{to_ascii};
 ghost use Rattle.std.specs.List.{list_all};
@@ -32,7 +33,7 @@ pub enum DomainAnswer {
 /// settings of the URL parser gives the form, its labels have 1 to 63 code points and the whole 1 to 253, and it
 /// doesn't end in a number. By the standard profile ToASCII with the strict settings of UTS #46 gives the same form; by
 /// the wide profile the form holds letters, digits, `-`, `.` and `_` alone. A text with an ASCII code point other than
-/// these, or by the standard profile with `_`, is none, and that takes no memory. The error is want of memory.
+/// these, or by the standard profile with `_`, is none, and that takes no memory. The error is out of memory.
 pub fn domain(alloc: Global, text: &str, profile: Profile) -> Result<DomainAnswer, AllocError>
     ensures answer { IfOk result (IsAnswer profile (chars text.now)) }
     ensures refused { spec.has_permitted profile (chars text.now) ≡ false → result ≡ Ok DomainAnswer.Not }
@@ -64,8 +65,8 @@ fn mapped_domain(alloc: Global, text: &str, profile: Profile) -> Result<DomainAn
     }
 }
 
-/// The lower case of a permitted text, where that is its form but for the lengths: the text is ASCII, and ToASCII leaves
-/// its lower case as it is. Where there is none, that says nothing.
+/// The lower case of a permitted text, where that is its form but for the lengths: the text is ASCII, and ToASCII
+/// leaves its lower case as it is. Where there is none, that says nothing.
 fn lower_form(alloc: Global, text: &str, profile: Profile) -> Result<Option<String>, AllocError>
     requires { spec.has_permitted profile (chars text.now) ≡ true }
     ensures { IfOk result (λ answer. IfSome answer

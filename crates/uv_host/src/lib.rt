@@ -9,4 +9,4 @@ mod plain_names;
 pub use addresses::{bracketed_ipv6, ipv4, ipv6};
 pub use domains::{DomainAnswer, PlainAnswer, domain, plain_answer};
 pub use opaque_hosts::opaque_fault;
-pub use plain_names::{is_plain_domain, name_front};
+pub use plain_names::{is_plain_domain, name_prefix};

@@ -1,8 +1,8 @@
 //! Opaque hosts (URL Standard, sections 3.2 and 3.4).
 ghost use Rattle.std.specs.Prelude.{◌≡◌, ◌↔◌, true, None, chars};
 ghost use Rattle.uv_model.specs.Hosts.OpaqueHost as spec;
-ghost use Rattle.uv_model.specs.Complaints.OpaqueHostComplaint.{OpaqueHostComplaint};
-ghost use Rattle.uv_model.specs.Complaints.Refusal.{IsLeast, StandsWithin};
+ghost use Rattle.uv_model.specs.Violations.OpaqueHostViolation.{OpaqueHostViolation};
+ghost use Rattle.uv_model.specs.Violations.Refusal.{IsLeast, StandsWithin};
 ghost use Rattle.uv_host.specs.OpaqueHosts.{first_host_fault, host_rule, IsOpaqueHostOrEmpty};
 
 use crate::addresses::bracketed_ipv6;
@@ -12,7 +12,7 @@ use uv_text::{UnitClass, count_code_points, split_units};
 /// What is wrong with the text of an opaque host: the least place, in code points from the text's start, and there the
 /// least rule. `None` for an empty text, an IPv6 text in brackets and an opaque host (URL Standard, section 3.4).
 pub fn opaque_fault(text: &str) -> Option<Refusal>
-    ensures least { IsLeast (OpaqueHostComplaint (chars text.now)) result }
+    ensures least { IsLeast (OpaqueHostViolation (chars text.now)) result }
     ensures within { StandsWithin (chars text.now) result }
     ensures silent { result ≡ None ↔ IsOpaqueHostOrEmpty (chars text.now) }
 {
@@ -36,7 +36,7 @@ fn starts_with_bracket(text: &str) -> bool
 /// The fault of a text that begins with `[`: it has one unless it is an IPv6 text in brackets.
 fn bracket_fault(text: &str) -> Option<Refusal>
     requires { spec.starts_with_bracket (chars text.now) ≡ true }
-    ensures least { IsLeast (OpaqueHostComplaint (chars text.now)) result }
+    ensures least { IsLeast (OpaqueHostViolation (chars text.now)) result }
     ensures within { StandsWithin (chars text.now) result }
     ensures silent { result ≡ None ↔ IsOpaqueHostOrEmpty (chars text.now) }
 {
@@ -53,10 +53,10 @@ fn bracket_fault(text: &str) -> Option<Refusal>
 fn first_fault(text: &str) -> Option<Refusal>
     ensures { result ≡ first_host_fault 0 (chars text.now) }
 {
-    let (front, rest) = split_units(text, UnitClass::OpaqueHost);
+    let (prefix, rest) = split_units(text, UnitClass::OpaqueHost);
     match first_code_point(rest) {
         Some((c, _)) => Some(Refusal {
-            place: count_code_points(front),
+            place: count_code_points(prefix),
             rule: host_rule(c),
         }),
         None => None,
@@ -100,7 +100,7 @@ mod tests {
     }
 
     #[test]
-    fn counts_the_place_behind_a_long_front(rt: HostRuntime) -> Result<(), Fail> {
+    fn counts_the_place_behind_a_long_prefix(rt: HostRuntime) -> Result<(), Fail> {
         let mut text = "a".repeat(rt.alloc(), 64)?;
         text.push_str("^")?;
         assert_eq!(rt;

@@ -1,6 +1,6 @@
 //! Plain names: letters and digits with single marks between them.
 ghost use Rattle.std.specs.Prelude.{◌≡◌, ◌^◌, ◌<◌, ◌≤◌, false, IfSome, IsTrue, chars, drop, length, slice_index, true};
-ghost use Rattle.uv_host.specs.PlainNames.{IsJoined, IsChainFront, is_rooted_chain, is_sign, is_word_letter};
+ghost use Rattle.uv_host.specs.PlainNames.{IsJoined, IsChainPrefix, is_rooted_chain, is_sign, is_word_letter};
 ghost use Rattle.uv_model.specs.declared.profile.Profile.{Profile};
 ghost use Rattle.uv_model.specs.Hosts.Domain as spec;
 
@@ -15,12 +15,12 @@ const SIGN_ROWS: [u8; 16] = [
 // The hyphen and the full stop.
 const JOINT_ROWS: [u8; 16] = [0, 0, 0, 0, 0, 0, 0, 0, 0, 0, 0, 0, 0, 4, 4, 0];
 
-/// How many bytes a name has at the front of a text: lower-case letters and digits, with single hyphens and full stops
+/// How many bytes a name has at the start of a text: lower-case letters and digits, with single hyphens and full stops
 /// between them, and the root's full stop at its end or none. It ends where none of these follows; no verdict rests on
 /// that, and only the time of one does, since a text whose name was missed or cut short is judged by its parts.
 #[inline(always)]
-pub fn name_front(text: &Tail<'_>) -> Option<usize>
-    ensures { IfSome result (IsChainFront text.now) }
+pub fn name_prefix(text: &Tail<'_>) -> Option<usize>
+    ensures { IfSome result (IsChainPrefix text.now) }
 {
     let end = chain_end(text);
     if end == 0 || text.as_str().as_bytes()[end - 1] == b'-' {
@@ -119,15 +119,15 @@ mod tests {
             ("3d.x1:80", 5),
             ("a_b", 1),
         ] {
-            assert_eq!(rt; name_front(&Tail::of(text)), Some(end), "of {text}");
+            assert_eq!(rt; name_prefix(&Tail::of(text)), Some(end), "of {text}");
         }
         for text in ["", ".", ".a", "a-/", "a-.b", "-a", "Ab"] {
-            assert_eq!(rt; name_front(&Tail::of(text)), None, "of {text}");
+            assert_eq!(rt; name_prefix(&Tail::of(text)), None, "of {text}");
         }
     }
 
-    // The name at the front of a label of so many bytes and what stands behind it.
-    fn front_of_label(
+    // The name at the start of a label of so many bytes and what stands behind it.
+    fn prefix_of_label(
         alloc: Global,
         length: usize,
         behind: &str,
@@ -137,7 +137,7 @@ mod tests {
             text.push('a')?;
         }
         text.push_str(behind)?;
-        Ok(name_front(&Tail::of(text.as_str())))
+        Ok(name_prefix(&Tail::of(text.as_str())))
     }
 
     #[test]
@@ -154,7 +154,7 @@ mod tests {
                 ("-.b", None),
                 ("-", None),
             ] {
-                let found = front_of_label(rt.alloc(), length, behind)?;
+                let found = prefix_of_label(rt.alloc(), length, behind)?;
                 assert_eq!(rt; found, end, "of {length} before {behind}");
             }
         }

@@ -12,7 +12,7 @@ use Rattle.uv_lines.specs.declared.limits.LineLimits.{LineLimits}
 use Rattle.uv_lines.specs.Fault.{is_write, may_write}
 use Rattle.uv_lines.specs.Lines.{closed_lines, lines_of}
 use Rattle.uv_lines.specs.Reported.{Cut, Reported, Wrote}
-use Rattle.uv_lines.specs.Run.{Leaves, WroteAll, WroteFirst, WroteFront, reads_failed, writes_failed}
+use Rattle.uv_lines.specs.Run.{Leaves, WroteAll, WroteFirst, WrotePrefix, reads_failed, writes_failed}
 use Rattle.uv_lines.specs.Framed.{Ends, FailsReads, Follows, FollowsFault, Framed, LeavesPart}
 use Rattle.uv_lines.proofs.PassLemmas.{closed_few, quiet_writes}
 
@@ -52,7 +52,7 @@ pub Cut-map : {S T : Type 0} (P : List (List ℕ) → List ℕ → S → Type 0)
     → ((lines : List (List ℕ)) (text : List ℕ) → P lines text s → Q lines text t)
     → Cut P lines old new s → Cut Q lines old new t
 Cut-map P Q lines old new s t is cut =
-    record { text = cut.text; reported = is lines cut.text cut.reported; front = cut.front; wrote = cut.wrote }
+    record { text = cut.text; reported = is lines cut.text cut.reported; prefix = cut.prefix; wrote = cut.wrote }
 
 -- what a fault leaves of one is what it leaves of the other, where a whole report is one of its own parts
 pub LeavesPart-map : {S T F : Type 0} (P W : List (List ℕ) → List ℕ → S → Type 0)
@@ -87,8 +87,8 @@ some_first P limits Endless old new read at_end s is left = (length (closed_line
 -- ---- the frame
 
 -- a prefix of a prefix is one of the whole
-pub front_of : (n : ℕ) (xs ys : List ℕ) → (m : ℕ) × (take m (xs ++ ys) ≡ take n xs)
-front_of n xs ys =
+pub prefix_of : (n : ℕ) (xs ys : List ℕ) → (m : ℕ) × (take m (xs ++ ys) ≡ take n xs)
+prefix_of n xs ys =
     elim (cases_lt (length xs) n) [
       | inl above ↦ (length xs, take-append_seam xs ys ∙ sym (take_all n xs (omega (arith, above))))
       | inr within ↦ (n, take-append-le n xs ys within)
@@ -113,47 +113,47 @@ framed_wrote reports n begin behind start lines old mid now new q begun all ende
 
 -- what stands after it was cut
 framed_cut : {S : Type 0} (reports : S → Option (List ℕ) → List ℕ → S → Type 0) (n : ℕ) (begin : List ℕ)
-    (behind : S → List ℕ) (start : S) (lines : List (List ℕ)) (old mid now new : Option (List ℕ)) (q : S) (front : ℕ)
+    (behind : S → List ℕ) (start : S) (lines : List (List ℕ)) (old mid now new : Option (List ℕ)) (q : S) (prefix : ℕ)
     → Appends old mid begin → Wrote (Reported reports n start) lines mid now q
-    → Appends now new (take front (behind q)) → Cut (Framed reports n begin behind start) lines old new q
-framed_cut reports n begin behind start lines old mid now new q front begun all cut = record {
+    → Appends now new (take prefix (behind q)) → Cut (Framed reports n begin behind start) lines old new q
+framed_cut reports n begin behind start lines old mid now new q prefix begun all cut = record {
   text = begin ++ (all.text ++ behind q);
   reported = record { said = all.text; reported = all.reported; whole = refl };
-  front = length begin + (length all.text + front);
+  prefix = length begin + (length all.text + prefix);
   wrote = rw (
-    take-append-add begin (all.text ++ behind q) (length all.text + front),
-    take-append-add all.text (behind q) front,
-  ) (wrote_three old mid now new begin all.text (take front (behind q)) begun all.wrote cut);
+    take-append-add begin (all.text ++ behind q) (length all.text + prefix),
+    take-append-add all.text (behind q) prefix,
+  ) (wrote_three old mid now new begin all.text (take prefix (behind q)) begun all.wrote cut);
 }
 
 -- it was cut itself
-framed_front : {S : Type 0} (reports : S → Option (List ℕ) → List ℕ → S → Type 0) (n : ℕ) (begin : List ℕ)
+framed_prefix : {S : Type 0} (reports : S → Option (List ℕ) → List ℕ → S → Type 0) (n : ℕ) (begin : List ℕ)
     (behind : S → List ℕ) (start : S) (lines : List (List ℕ)) (old mid new : Option (List ℕ)) (q : S)
     → Appends old mid begin → Cut (Reported reports n start) lines mid new q
     → Cut (Framed reports n begin behind start) lines old new q
-framed_front reports n begin behind start lines old mid new q begun all =
-    let front = front_of all.front all.text (behind q) in
+framed_prefix reports n begin behind start lines old mid new q begun all =
+    let prefix = prefix_of all.prefix all.text (behind q) in
     record {
       text = begin ++ (all.text ++ behind q);
       reported = record { said = all.text; reported = all.reported; whole = refl };
-      front = length begin + front.0;
-      wrote = rw (take-append-add begin (all.text ++ behind q) front.0, front.1)
-          (Appends-trans old mid new begin (take all.front all.text) begun all.wrote);
+      prefix = length begin + prefix.0;
+      wrote = rw (take-append-add begin (all.text ++ behind q) prefix.0, prefix.1)
+          (Appends-trans old mid new begin (take all.prefix all.text) begun all.wrote);
     }
 
 -- what stands before it was cut
 pub begin_cut : {S : Type 0} (reports : S → Option (List ℕ) → List ℕ → S → Type 0) (n : ℕ) (begin : List ℕ)
     (behind : S → List ℕ) (start : S) (old new : Option (List ℕ)) (k : ℕ)
-    → Appends old new (take k begin) → WroteFront (Framed reports n begin behind start) old [] start new
+    → Appends old new (take k begin) → WrotePrefix (Framed reports n begin behind start) old [] start new
 begin_cut reports n begin behind start old new k wrote =
-    let front = front_of k begin ([] ++ behind start) in (
+    let prefix = prefix_of k begin ([] ++ behind start) in (
       0,
       omega arith,
       record {
         text = begin ++ ([] ++ behind start);
         reported = record { said = []; reported = (refl, refl); whole = refl };
-        front = front.0;
-        wrote = rw front.1 wrote;
+        prefix = prefix.0;
+        wrote = rw prefix.1 wrote;
       },
     )
 
@@ -165,34 +165,35 @@ append_none [] ys none = (refl, none)
 append_none (x ∷ xs) ys none = cc
 
 -- a piece after one that was written
-pub follows_more : {F : Type 0} (first piece : List ℕ) (told result : Result (Unit {0}) (LineFault F))
+pub follows_more : {F : Type 0} (first piece : List ℕ) (reported result : Result (Unit {0}) (LineFault F))
     (old now new : Option (List ℕ)) (before between after : ℕ) → Appends old now first → between ≡ before
-    → Follows piece told result now new between after → Follows (first ++ piece) told result old new before after
-follows_more first piece told result old now new before between after wrote same (inl writes) = inl (record {
-  told = writes.told;
+    → Follows piece reported result now new between after
+    → Follows (first ++ piece) reported result old new before after
+follows_more first piece reported result old now new before between after wrote same (inl writes) = inl (record {
+  reported = writes.reported;
   wrote = Appends-trans old now new first piece wrote writes.wrote;
   quiet = writes.quiet ∙ same;
 })
-follows_more first piece told result old now new before between after wrote same (inr cuts) = inr (record {
-  told = cuts.told;
+follows_more first piece reported result old now new before between after wrote same (inr cuts) = inr (record {
+  reported = cuts.reported;
   some = λ none. cuts.some (append_none first piece none).1;
-  front = length first + cuts.front;
-  wrote = rw (take-append-add first piece cuts.front)
-      (Appends-trans old now new first (take cuts.front piece) wrote cuts.wrote);
+  prefix = length first + cuts.prefix;
+  wrote = rw (take-append-add first piece cuts.prefix)
+      (Appends-trans old now new first (take cuts.prefix piece) wrote cuts.wrote);
   failed = cuts.failed ∙ ap (λ n. n + 1) same;
 })
 
 -- after one that was cut nothing is written
-pub follows_cut : {F : Type 0} (first piece : List ℕ) (told : Result (Unit {0}) (LineFault F))
+pub follows_cut : {F : Type 0} (first piece : List ℕ) (reported : Result (Unit {0}) (LineFault F))
     (old new : Option (List ℕ)) (before after n : ℕ) → first ≢ [] → Appends old new (take n first)
-    → after ≡ before + 1 → Follows (first ++ piece) told (Err Write) old new before after
-follows_cut first piece told old new before after n some cut failed =
-    let front = front_of n first piece in
+    → after ≡ before + 1 → Follows (first ++ piece) reported (Err Write) old new before after
+follows_cut first piece reported old new before after n some cut failed =
+    let prefix = prefix_of n first piece in
     inr (record {
-      told = refl;
+      reported = refl;
       some = λ none. some (append_none first piece none).0;
-      front = front.0;
-      wrote = rw front.1 cut;
+      prefix = prefix.0;
+      wrote = rw prefix.1 cut;
       failed = failed;
     })
 
@@ -224,19 +225,19 @@ ended_fault : {S F : Type 0} (reports : S → Option (List ℕ) → List ℕ →
     → FollowsFault is end e result now new before after
     → Ended (Framed reports limits.line_bytes begin (λ _. end) start) W limits result old read at_end q new
 ended_fault reports limits begin end W start e result old mid now new read at_end q before after true is begun ran
-    (told, same, quiet) =
+    (reported, same, quiet) =
     let n = limits.line_bytes in
     let P = Framed reports n begin (λ _. end) start in
-    subst (λ r. Ended P W limits r old read at_end q new) (sym told)
+    subst (λ r. Ended P W limits r old read at_end q new) (sym reported)
     (inl (Leaves-map (Reported reports n start) P limits e mid now old new read at_end q q
     (λ no. let never : true ≡ false = sym is ∙ no in cc)
     (λ _ lines cut. subst (λ o. Cut P lines old o q) (sym same)
-    (framed_front reports n begin (λ _. end) start lines old mid now q begun cut)) ran))
+    (framed_prefix reports n begin (λ _. end) start lines old mid now q begun cut)) ran))
 ended_fault reports limits begin end W start e result old mid now new read at_end q before after false is begun ran
     (inl writes) =
     let n = limits.line_bytes in
     let P = Framed reports n begin (λ _. end) start in
-    subst (λ r. Ended P W limits r old read at_end q new) (sym writes.told)
+    subst (λ r. Ended P W limits r old read at_end q new) (sym writes.reported)
     (inl (Leaves-map (Reported reports n start) P limits e mid now old new read at_end q q
     (λ _ lines all. framed_wrote reports n begin (λ _. end) start lines old mid now new q begun all writes.wrote)
     (λ yes. let never : true ≡ false = sym yes ∙ is in cc) ran))
@@ -245,10 +246,10 @@ ended_fault reports limits begin end W start e result old mid now new read at_en
     let n = limits.line_bytes in
     let P = Framed reports n begin (λ _. end) start in
     let first = some_first (Reported reports n start) limits e mid now read at_end q is ran in
-    subst (λ r. Ended P W limits r old read at_end q new) (sym cuts.told) (inl (
+    subst (λ r. Ended P W limits r old read at_end q new) (sym cuts.reported) (inl (
       first.0,
       first.1,
-      framed_cut reports n begin (λ _. end) start (take first.0 (lines_of read)) old mid now new q cuts.front begun
+      framed_cut reports n begin (λ _. end) start (take first.0 (lines_of read)) old mid now new q cuts.prefix begun
           first.2 cuts.wrote,
     ))
 
@@ -265,7 +266,7 @@ ended reports limits begin end last start (Ok u) result old mid now new read at_
     let n = limits.line_bytes in
     let P = Framed reports n begin (λ _. end) start in
     let W = Framed reports n begin (λ s. last s ++ end) start in
-    subst (λ r. Ended P W limits r old read at_end q new) (sym writes.told) (
+    subst (λ r. Ended P W limits r old read at_end q new) (sym writes.reported) (
       ran.0,
       record {
         wrote = framed_wrote reports n begin (λ s. last s ++ end) start (lines_of read) old mid now new q begun
@@ -278,9 +279,9 @@ ended reports limits begin end last start (Ok u) result old mid now new read at_
     let n = limits.line_bytes in
     let P = Framed reports n begin (λ _. end) start in
     let W = Framed reports n begin (λ s. last s ++ end) start in
-    subst (λ r. Ended P W limits r old read at_end q new) (sym cuts.told) (inr (
+    subst (λ r. Ended P W limits r old read at_end q new) (sym cuts.reported) (inr (
       refl,
-      framed_cut reports n begin (λ s. last s ++ end) start (lines_of read) old mid now new q cuts.front begun
+      framed_cut reports n begin (λ s. last s ++ end) start (lines_of read) old mid now new q cuts.prefix begun
           ran.1.wrote cuts.wrote,
     ))
 ended reports limits begin end last start (Ok u) result old mid now new read at_end q before after begun ran
@@ -288,7 +289,7 @@ ended reports limits begin end last start (Ok u) result old mid now new read at_
     let n = limits.line_bytes in
     let P = Framed reports n begin (λ _. end) start in
     let W = Framed reports n begin (λ s. last s ++ end) start in
-    subst (λ r. Ended P W limits r old read at_end q new) (sym writes.told) (inl (
+    subst (λ r. Ended P W limits r old read at_end q new) (sym writes.reported) (inl (
       length (lines_of read),
       omega arith,
       inr ran.0,
@@ -300,11 +301,11 @@ ended reports limits begin end last start (Ok u) result old mid now new read at_
     let n = limits.line_bytes in
     let P = Framed reports n begin (λ _. end) start in
     let W = Framed reports n begin (λ s. last s ++ end) start in
-    subst (λ r. Ended P W limits r old read at_end q new) (sym cuts.told) (inl (
+    subst (λ r. Ended P W limits r old read at_end q new) (sym cuts.reported) (inl (
       length (lines_of read),
       omega arith,
       framed_cut reports n begin (λ _. end) start (take (length (lines_of read)) (lines_of read)) old mid now new q
-          cuts.front begun (all_first (Reported reports n start) limits mid now read q ran.1) cuts.wrote,
+          cuts.prefix begun (all_first (Reported reports n start) limits mid now read q ran.1) cuts.wrote,
     ))
 ended reports limits begin end last start (Err e) result old mid now new read at_end q before after begun ran follows =
     ended_fault reports limits begin end (Framed reports limits.line_bytes begin (λ s. last s ++ end) start) start e
@@ -354,14 +355,14 @@ fails_behind : {F : Type 0} (end : List ℕ) (e : LineFault F) (result : Result 
     (now new : Option (List ℕ)) (reads reads' writes writes' writes'' : ℕ) (is : Bool) → is_write e ≡ is
     → (reads' ≡ reads + reads_failed e) × (writes' ≡ writes + writes_failed e)
     → FollowsFault is end e result now new writes' writes'' → Fails end result reads reads' writes writes''
-fails_behind end e result now new reads reads' writes writes' writes'' true is stop (told, same, quiet) =
-    subst (λ r. Fails end r reads reads' writes writes'') (sym told)
+fails_behind end e result now new reads reads' writes writes' writes'' true is stop (reported, same, quiet) =
+    subst (λ r. Fails end r reads reads' writes writes'') (sym reported)
     ((reads_of end e reads reads' stop.0).0, quiet ∙ stop.1)
 fails_behind end e result now new reads reads' writes writes' writes'' false is stop (inl writes_end) =
-    subst (λ r. Fails end r reads reads' writes writes'') (sym writes_end.told)
+    subst (λ r. Fails end r reads reads' writes writes'') (sym writes_end.reported)
     ((reads_of end e reads reads' stop.0).0, writes_end.quiet ∙ stop.1)
 fails_behind end e result now new reads reads' writes writes' writes'' false is stop (inr cuts) =
-    subst (λ r. Fails end r reads reads' writes writes'') (sym cuts.told) (
+    subst (λ r. Fails end r reads reads' writes writes'') (sym cuts.reported) (
       (reads_of end e reads reads' stop.0).1 cuts.some,
       (let failed = cuts.failed in
           let before = stop.1 in
@@ -375,17 +376,17 @@ pub fails : {F : Type 0} (last end : List ℕ) (answer result : Result (Unit {0}
     → Stops answer reads reads' writes writes' → Ends last end answer result now new writes' writes''
     → Fails end result reads reads' writes writes''
 fails last end (Ok u) result now new reads reads' writes writes' writes'' stop (inl (inl writes_all)) =
-    subst (λ r. Fails end r reads reads' writes writes'') (sym writes_all.told) (stop.0, writes_all.quiet ∙ stop.1)
+    subst (λ r. Fails end r reads reads' writes writes'') (sym writes_all.reported) (stop.0, writes_all.quiet ∙ stop.1)
 fails last end (Ok u) result now new reads reads' writes writes' writes'' stop (inl (inr cuts)) =
-    subst (λ r. Fails end r reads reads' writes writes'') (sym cuts.told)
+    subst (λ r. Fails end r reads reads' writes writes'') (sym cuts.reported)
     (inl stop.0, cuts.failed ∙ ap (λ n. n + 1) stop.1)
 fails last end (Ok u) result now new reads reads' writes writes' writes'' stop (inr (fault, inl writes_end)) =
-    subst (λ r. Fails end r reads reads' writes writes'') (sym writes_end.told) (
+    subst (λ r. Fails end r reads reads' writes writes'') (sym writes_end.reported) (
       stop.0,
       (let same = writes_end.quiet in let before = stop.1 in omega (arith, same, before)),
     )
 fails last end (Ok u) result now new reads reads' writes writes' writes'' stop (inr (fault, inr cuts)) =
-    subst (λ r. Fails end r reads reads' writes writes'') (sym cuts.told)
+    subst (λ r. Fails end r reads reads' writes writes'') (sym cuts.reported)
     (inl stop.0, cuts.failed ∙ ap (λ n. n + 1) stop.1)
 fails last end (Err e) result now new reads reads' writes writes' writes'' stop follows =
     fails_behind end e result now new reads reads' writes writes' writes'' (is_write e) refl stop follows

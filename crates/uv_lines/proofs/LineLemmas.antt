@@ -9,7 +9,7 @@ use Rattle.std.proofs.Math.Seq.{take-add}
 use Rattle.memchr.specs.Find.{IsFirstByte, is_byte}
 use Rattle.std.proofs.lemmas.Bool.{eqb-true}
 use Rattle.std.specs.Str.Lines.{strip_carriage_return}
-use Rattle.uv_lines.specs.Lines.{line_feed, put_front, split, closed_lines, open_lines, lines_of}
+use Rattle.uv_lines.specs.Lines.{line_feed, put_prefix, split, closed_lines, open_lines, lines_of}
 
 -- ---- two texts, one after the other
 
@@ -28,7 +28,7 @@ join-cons w ws l [] m = refl
 join-cons w ws l (v ∷ vs) m = refl
 
 join-put : (x : ℕ) (ws : List (List ℕ)) (l : List ℕ) (vs : List (List ℕ)) (m : List ℕ)
-    → put_front x (join ws l vs m).0 (join ws l vs m).1 ≡ join (put_front x ws l).0 (put_front x ws l).1 vs m
+    → put_prefix x (join ws l vs m).0 (join ws l vs m).1 ≡ join (put_prefix x ws l).0 (put_prefix x ws l).1 vs m
 join-put x [] l [] m = refl
 join-put x [] l (v ∷ vs) m = refl
 join-put x (w ∷ ws) l [] m = refl
@@ -43,10 +43,11 @@ split-append (x ∷ xs) ys =
     let s = split xs in
     let t = split ys in
     let both = split (xs ++ ys) in
-    elim (x == line_feed) as (λ b. (cond b ([] ∷ both.0, both.1) (put_front x both.0 both.1))
-    ≡ join (cond b ([] ∷ s.0, s.1) (put_front x s.0 s.1)).0 (cond b ([] ∷ s.0, s.1) (put_front x s.0 s.1)).1 t.0 t.1) [
+    elim (x == line_feed) as (λ b. (cond b ([] ∷ both.0, both.1) (put_prefix x both.0 both.1))
+    ≡ join (cond b ([] ∷ s.0, s.1) (put_prefix x s.0 s.1)).0
+    (cond b ([] ∷ s.0, s.1) (put_prefix x s.0 s.1)).1 t.0 t.1) [
       | true ↦ ap (λ p. ([] ∷ p.0, p.1)) ih ∙ sym (join-cons [] s.0 s.1 t.0 t.1)
-      | false ↦ ap (λ p. put_front x p.0 p.1) ih ∙ join-put x s.0 s.1 t.0 t.1
+      | false ↦ ap (λ p. put_prefix x p.0 p.1) ih ∙ join-put x s.0 s.1 t.0 t.1
     ]
 
 -- a text that holds no LF stays one part
@@ -59,13 +60,13 @@ split-without (x ∷ xs) none =
     rw (other, rest) refl
 
 -- behind a text that holds no LF and an LF a line is closed
-pub split-closing : (xs front : List ℕ) → split front ≡ ([], front)
-    → split (xs ++ (front ++ line_feed ∷ [])) ≡ ((split xs).0 ++ ((split xs).1 ++ front) ∷ [], [])
-split-closing xs front none =
-    let tail : split (front ++ line_feed ∷ []) ≡ (front ∷ [], []) =
-    split-append front (line_feed ∷ []) ∙ ap (λ p. join p.0 p.1 ([] ∷ []) []) none
-    ∙ ap (λ l. (l ∷ [], [])) (append-nil front) in
-    split-append xs (front ++ line_feed ∷ []) ∙ ap (λ p. join (split xs).0 (split xs).1 p.0 p.1) tail
+pub split-closing : (xs prefix : List ℕ) → split prefix ≡ ([], prefix)
+    → split (xs ++ (prefix ++ line_feed ∷ [])) ≡ ((split xs).0 ++ ((split xs).1 ++ prefix) ∷ [], [])
+split-closing xs prefix none =
+    let tail : split (prefix ++ line_feed ∷ []) ≡ (prefix ∷ [], []) =
+    split-append prefix (line_feed ∷ []) ∙ ap (λ p. join p.0 p.1 ([] ∷ []) []) none
+    ∙ ap (λ l. (l ∷ [], [])) (append-nil prefix) in
+    split-append xs (prefix ++ line_feed ∷ []) ∙ ap (λ p. join (split xs).0 (split xs).1 p.0 p.1) tail
 
 -- behind a text that holds no LF the last part has grown by it
 pub split-growing : (xs rest : List ℕ) → split rest ≡ ([], rest)
@@ -73,15 +74,16 @@ pub split-growing : (xs rest : List ℕ) → split rest ≡ ([], rest)
 split-growing xs rest none =
     split-append xs rest ∙ ap (λ p. join (split xs).0 (split xs).1 p.0 p.1) none
 
--- ---- the lines of a text and of its fronts
+-- ---- the lines of a text and of its prefixes
 
 -- a first LF closes the line that has begun
-pub closed-closing : (xs front : List ℕ) → split front ≡ ([], front)
-    → closed_lines (xs ++ (front ++ line_feed ∷ [])) ≡ closed_lines xs ++ strip_carriage_return ((split xs).1 ++ front)
+pub closed-closing : (xs prefix : List ℕ) → split prefix ≡ ([], prefix)
+    → closed_lines (xs ++ (prefix ++ line_feed ∷ []))
+    ≡ closed_lines xs ++ strip_carriage_return ((split xs).1 ++ prefix)
     ∷ []
-closed-closing xs front none =
-    ap (λ p. map strip_carriage_return p.0) (split-closing xs front none)
-    ∙ map-append strip_carriage_return (split xs).0 (((split xs).1 ++ front) ∷ [])
+closed-closing xs prefix none =
+    ap (λ p. map strip_carriage_return p.0) (split-closing xs prefix none)
+    ∙ map-append strip_carriage_return (split xs).0 (((split xs).1 ++ prefix) ∷ [])
 
 -- what holds no LF closes no line
 pub closed-growing : (xs rest : List ℕ) → split rest ≡ ([], rest) → closed_lines (xs ++ rest) ≡ closed_lines xs
@@ -95,8 +97,8 @@ closed_joined ws l (v ∷ vs) m =
     (map strip_carriage_return ((l ++ v) ∷ vs), map-append strip_carriage_return ws ((l ++ v) ∷ vs))
 
 -- the lines that a text closes are the first of those that a longer one closes
-pub closed_front : (xs ys : List ℕ) → (more : List (List ℕ)) × (closed_lines (xs ++ ys) ≡ closed_lines xs ++ more)
-closed_front xs ys =
+pub closed_prefix : (xs ys : List ℕ) → (more : List (List ℕ)) × (closed_lines (xs ++ ys) ≡ closed_lines xs ++ more)
+closed_prefix xs ys =
     let p = closed_joined (split xs).0 (split xs).1 (split ys).0 (split ys).1 in
     (p.0, ap (λ q. map strip_carriage_return q.0) (split-append xs ys) ∙ p.1)
 
@@ -121,7 +123,7 @@ lines_joined ws l (v ∷ vs) m h =
       length-append ws ((l ++ v) ∷ vs),
     ) (omega arith)
 
-put_last : (x : ℕ) (ws : List (List ℕ)) (l : List ℕ) → (put_front x ws l).0 ≡ [] → 0 < length (put_front x ws l).1
+put_last : (x : ℕ) (ws : List (List ℕ)) (l : List ℕ) → (put_prefix x ws l).0 ≡ [] → 0 < length (put_prefix x ws l).1
 put_last x [] l h = omega arith
 put_last x (w ∷ ws) l h = cc
 
@@ -129,8 +131,8 @@ last_some : (xs : List ℕ) → 0 < length xs → (split xs).0 ≡ [] → 0 < le
 last_some [] h = λ e. omega arith
 last_some (x ∷ xs) h =
     let s = split xs in
-    elim (x == line_feed) as (λ b. (cond b ([] ∷ s.0, s.1) (put_front x s.0 s.1)).0 ≡ []
-    → 0 < length (cond b ([] ∷ s.0, s.1) (put_front x s.0 s.1)).1) [
+    elim (x == line_feed) as (λ b. (cond b ([] ∷ s.0, s.1) (put_prefix x s.0 s.1)).0 ≡ []
+    → 0 < length (cond b ([] ∷ s.0, s.1) (put_prefix x s.0 s.1)).1) [
       | true ↦ λ e. cc
       | false ↦ λ e. put_last x s.0 s.1 e
     ]
@@ -143,7 +145,7 @@ lines_more xs ys h =
     (sym (split-append xs ys))
     (lines_joined (split xs).0 (split xs).1 (split ys).0 (split ys).1 (last_some ys h)))
 
--- ---- a line of which a front is kept
+-- ---- a line of which a prefix is kept
 
 -- at most one CR is taken off
 pub strip_at_most : (l : List ℕ) → length l ≤ length (strip_carriage_return l) + 1
@@ -165,9 +167,9 @@ no_line_feed xs none =
     split-without xs (λ k below e. none k (omega arith) below (rw e refl))
 
 -- and of one that holds one
-pub front_line_feed : (xs : List ℕ) (at : ℕ) → IsFirstByte (is_byte line_feed) xs (Some at)
+pub prefix_line_feed : (xs : List ℕ) (at : ℕ) → IsFirstByte (is_byte line_feed) xs (Some at)
     → split (take at xs) ≡ ([], take at xs)
-front_line_feed xs at first =
+prefix_line_feed xs at first =
     split-without (take at xs) (λ k below e.
     let inside : k < at = let size = length-take at xs in omega (arith, below, size) in
     first.0.before k (omega arith) inside (rw (sym (get_or-take at xs k 0 inside) ∙ e) refl))
@@ -186,9 +188,9 @@ rest_is piece start =
     take_all (length piece - start) (drop start piece) (let size = length-drop start piece in omega (arith, size))
 
 -- a line in it has as many bytes as stand between its ends
-pub front_is : (piece : List ℕ) (start size : ℕ)
+pub prefix_is : (piece : List ℕ) (start size : ℕ)
     → take (start + size - start) (drop start piece) ≡ take size (drop start piece)
-front_is piece start size = ap (λ n. take n (drop start piece)) (omega arith)
+prefix_is piece start size = ap (λ n. take n (drop start piece)) (omega arith)
 
 -- a piece is what was taken of it, a line with its LF, and the rest
 pub piece_joined : (read piece : List ℕ) (start size : ℕ)

@@ -12,9 +12,9 @@ use Rattle.uv_lines.specs.Fault.{is_write, may_write}
 use Rattle.uv_lines.specs.Lines.{split, closed_lines, open_lines, lines_of}
 use Rattle.uv_lines.specs.Progress.{Stands, IsReportOfFirst, TakeFault}
 use Rattle.uv_lines.specs.Reported.{Reported, Wrote}
-use Rattle.uv_lines.specs.Run.{At, WaitFault, Waits, WroteFirst, WroteFront, WroteLines, Leaves, PassFault}
+use Rattle.uv_lines.specs.Run.{At, WaitFault, Waits, WroteFirst, WrotePrefix, WroteLines, Leaves, PassFault}
 use Rattle.uv_lines.specs.Run.{FinishFault, reads_failed, writes_failed}
-use Rattle.uv_lines.proofs.StandsLemmas.{Stands-start, front_count, front_report}
+use Rattle.uv_lines.proofs.StandsLemmas.{Stands-start, prefix_count, prefix_report}
 
 -- before the first piece
 pub At-start : {S : Type 0} (reports : S → Option (List ℕ) → List ℕ → S → Type 0) (lines : S → ℕ) (n : ℕ) (p : S)
@@ -69,7 +69,7 @@ pub stands_first : {S : Type 0} (reports : S → Option (List ℕ) → List ℕ 
     → IsReportOfFirst reports n start read (length (closed_lines read)) q (written ++ text)
 stands_first reports lines n start written read q begun text stands =
     subst (λ bytes. IsReportOfFirst reports n start bytes (length (closed_lines read)) q (written ++ text))
-    (append-nil read) (front_report reports lines n start written read [] q begun text stands)
+    (append-nil read) (prefix_report reports lines n start written read [] q begun text stands)
 
 -- some of the first lines
 abbrev pub IsReportOfSome : {S : Type 0} → (S → Option (List ℕ) → List ℕ → S → Type 0) → ℕ → S → List ℕ → S
@@ -143,7 +143,7 @@ pub taken_cut : {S F : Type 0} (reports : S → Option (List ℕ) → List ℕ �
     (limits : LineLimits) (start : S) (answer : Result (Unit {0}) (LineFault F)) (old : Option (List ℕ))
     (read : List ℕ) (q : S) (begun text : List ℕ) (now : Option (List ℕ)) → may_write answer ≡ false
     → Taken reports lines limits start answer old read q begun text now
-    → WroteFront (Reported reports limits.line_bytes start) old read q now
+    → WrotePrefix (Reported reports limits.line_bytes start) old read q now
 taken_cut reports lines limits start (Ok u) old read q begun text now none taken = cc
 taken_cut reports lines limits start (Err e) old read q begun text now none taken =
     subst (λ b. WaitFault b reports limits start e old read q text now) (not_false (is_write e) none) taken
@@ -170,14 +170,14 @@ taken_waits reports lines limits start (Err e) old read q begun text now may tak
 pub write-left : {S : Type 0} (reports : S → Option (List ℕ) → List ℕ → S → Type 0) (limits : LineLimits)
     (start : S) (old now new : Option (List ℕ)) (written read text : List ℕ) (q r : S) (n : ℕ)
     → Appends old now written → IsReportOfSome reports limits.line_bytes start read q (written ++ text) → r ≡ q
-    → Appends now new (take n text) → WroteFront (Reported reports limits.line_bytes start) old read r new
+    → Appends now new (take n text) → WrotePrefix (Reported reports limits.line_bytes start) old read r new
 write-left reports limits start old now new written read text q r n before report same part = (
   report.0,
   report.1,
   record {
     text = written ++ text;
     reported = rw same report.2;
-    front = length written + n;
+    prefix = length written + n;
     wrote = rw (take-append-add written text n) (Appends-trans old now new written (take n text) before part);
   },
 )
@@ -186,16 +186,16 @@ write-left reports limits start old now new written read text q r n before repor
 pub write-cut : {S : Type 0} (reports : S → Option (List ℕ) → List ℕ → S → Type 0) (lines : S → ℕ) (n : ℕ) (start : S)
     (old now new : Option (List ℕ)) (read rest : List ℕ) (p q : S) (begun text : List ℕ) (k : ℕ)
     → Waits reports lines n start old read p begun text now → q ≡ p → Appends now new (take k text)
-    → WroteFront (Reported reports n start) old (read ++ rest) q new
+    → WrotePrefix (Reported reports n start) old (read ++ rest) q new
 write-cut reports lines n start old now new read rest p q begun text k waits same part =
     let few = closed_few (read ++ rest) in
-    let more = front_count read rest in (
+    let more = prefix_count read rest in (
       length (closed_lines read),
       omega (arith, few, more),
       record {
         text = waits.written ++ text;
-        reported = rw same (front_report reports lines n start waits.written read rest p begun text waits.stands);
-        front = length waits.written + k;
+        reported = rw same (prefix_report reports lines n start waits.written read rest p begun text waits.stands);
+        prefix = length waits.written + k;
         wrote = rw (take-append-add waits.written text k)
             (Appends-trans old now new waits.written (take k text) waits.wrote part);
       },

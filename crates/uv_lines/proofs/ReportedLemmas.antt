@@ -1,4 +1,4 @@
--- The report on a list to which a line is added, and on a line of which a front is kept.
+-- The report on a list to which a line is added, and on a line of which a prefix is kept.
 use Rattle.std.proofs.Common.{◌≡◌, ℕ, ◌+◌, ◌<◌, List, [], ◌∷◌, ◌++◌, Option, None, false, nat_le, length, take, refl}
 use Rattle.std.proofs.Common.{sym, ap, ◌∙◌, subst, arith, append_assoc, append-nil, inl, inr, take_all}
 use Rattle.std.proofs.lemmas.Grind.{common_steps}
@@ -38,7 +38,7 @@ short_line-long n line long =
     let over : nat_le (length line) n ≡ false = grind (arith, common_steps, long) in
     rw over refl
 
--- a line of which a front is kept, two bytes longer than a line may be, is reported on as the whole: without the CR at
+-- a line of which a prefix is kept, two bytes longer than a line may be, is reported on as the whole: without the CR at
 -- its end
 pub kept_short_line : (n : ℕ) (line : List ℕ)
     → short_line n (strip_carriage_return (take (n + 2) line)) ≡ short_line n (strip_carriage_return line)

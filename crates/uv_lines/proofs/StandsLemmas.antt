@@ -7,11 +7,11 @@ use Rattle.std.specs.Str.Lines.{strip_carriage_return}
 use Rattle.uv_lines.specs.Lines.{line_feed, short_line, split, closed_lines, open_lines, lines_of}
 use Rattle.uv_lines.specs.Progress.{Stands, Adds, IsReportOfFirst}
 use Rattle.uv_lines.specs.Reported.{Reported}
-use Rattle.uv_lines.proofs.LineLemmas.{split-closing, split-growing, closed-closing, closed-growing, closed_front}
+use Rattle.uv_lines.proofs.LineLemmas.{split-closing, split-growing, closed-closing, closed-growing, closed_prefix}
 use Rattle.uv_lines.proofs.LineLemmas.{lines_more, take_more}
 use Rattle.uv_lines.proofs.ReportedLemmas.{Reported-snoc, kept_short_line, kept_short_line_open}
 
--- of a line whose front isn't kept nothing has come
+-- of a line whose prefix isn't kept nothing has come
 none_begun : (n : ℕ) (l : List ℕ) → take (n + 2) l ≡ [] → l ≡ []
 none_begun n [] e = refl
 none_begun n (x ∷ xs) e =
@@ -39,16 +39,16 @@ said_more reports lines n start p q ls line written old new all adds =
     (append_assoc written old adds.said ∙ ap (λ t. written ++ t) (sym adds.appended))
     (Reported-snoc reports n start ls line (written ++ old) adds.said p q all adds.reported)
 
--- a line has ended behind a further front of it
+-- a line has ended behind a further prefix of it
 pub Stands-closed : {S : Type 0} (reports : S → Option (List ℕ) → List ℕ → S → Type 0) (lines : S → ℕ) (n : ℕ)
-    (start : S) (written read front : List ℕ) (p q : S) (begun left old new : List ℕ) → split front ≡ ([], front)
+    (start : S) (written read prefix : List ℕ) (p q : S) (begun left old new : List ℕ) → split prefix ≡ ([], prefix)
     → Stands reports lines n start written read p begun old
-    → Adds reports lines p old (short_line n (strip_carriage_return ((split read).1 ++ front))) q new → left ≡ []
-    → Stands reports lines n start written (read ++ (front ++ line_feed ∷ [])) q left new
-Stands-closed reports lines n start written read front p q begun left old new none h adds empty =
-    let line = strip_carriage_return ((split read).1 ++ front) in
-    let closed = closed-closing read front none in
-    let rest : (split (read ++ (front ++ line_feed ∷ []))).1 ≡ [] = ap (λ s. s.1) (split-closing read front none) in
+    → Adds reports lines p old (short_line n (strip_carriage_return ((split read).1 ++ prefix))) q new → left ≡ []
+    → Stands reports lines n start written (read ++ (prefix ++ line_feed ∷ [])) q left new
+Stands-closed reports lines n start written read prefix p q begun left old new none h adds empty =
+    let line = strip_carriage_return ((split read).1 ++ prefix) in
+    let closed = closed-closing read prefix none in
+    let rest : (split (read ++ (prefix ++ line_feed ∷ []))).1 ≡ [] = ap (λ s. s.1) (split-closing read prefix none) in
     record {
       reported = rw closed
           (said_more reports lines n start p q (closed_lines read) line written old new h.reported adds);
@@ -59,30 +59,31 @@ Stands-closed reports lines n start written read front p q begun left old new no
 
 -- the same where nothing of the line had come
 pub Stands-whole : {S : Type 0} (reports : S → Option (List ℕ) → List ℕ → S → Type 0) (lines : S → ℕ) (n : ℕ)
-    (start : S) (written read front : List ℕ) (p q : S) (begun left old new : List ℕ) → split front ≡ ([], front)
+    (start : S) (written read prefix : List ℕ) (p q : S) (begun left old new : List ℕ) → split prefix ≡ ([], prefix)
     → Stands reports lines n start written read p begun old → begun ≡ []
-    → Adds reports lines p old (short_line n (strip_carriage_return front)) q new → left ≡ []
-    → Stands reports lines n start written (read ++ (front ++ line_feed ∷ [])) q left new
-Stands-whole reports lines n start written read front p q begun left old new none h whole adds empty =
+    → Adds reports lines p old (short_line n (strip_carriage_return prefix)) q new → left ≡ []
+    → Stands reports lines n start written (read ++ (prefix ++ line_feed ∷ [])) q left new
+Stands-whole reports lines n start written read prefix p q begun left old new none h whole adds empty =
     let nothing : (split read).1 ≡ [] = none_begun n (split read).1 (sym h.kept ∙ whole) in
-    Stands-closed reports lines n start written read front p q begun left old new none h
-    (subst (λ l. Adds reports lines p old (short_line n (strip_carriage_return (l ++ front))) q new) (sym nothing) adds)
+    Stands-closed reports lines n start written read prefix p q begun left old new none h
+    (subst (λ l. Adds reports lines p old (short_line n (strip_carriage_return (l ++ prefix))) q new)
+    (sym nothing) adds)
     empty
 
--- the same where a front of the line was kept, and this one with it
+-- the same where a prefix of the line was kept, and this one with it
 pub Stands-kept : {S : Type 0} (reports : S → Option (List ℕ) → List ℕ → S → Type 0) (lines : S → ℕ) (n : ℕ)
-    (start : S) (written read front : List ℕ) (p q : S) (begun kept left old new : List ℕ)
-    → split front ≡ ([], front)
-    → Stands reports lines n start written read p begun old → kept ≡ take (n + 2) (begun ++ front)
+    (start : S) (written read prefix : List ℕ) (p q : S) (begun kept left old new : List ℕ)
+    → split prefix ≡ ([], prefix)
+    → Stands reports lines n start written read p begun old → kept ≡ take (n + 2) (begun ++ prefix)
     → Adds reports lines p old (short_line n (strip_carriage_return kept)) q new → left ≡ []
-    → Stands reports lines n start written (read ++ (front ++ line_feed ∷ [])) q left new
-Stands-kept reports lines n start written read front p q begun kept left old new none h is adds empty =
-    let line = (split read).1 ++ front in
+    → Stands reports lines n start written (read ++ (prefix ++ line_feed ∷ [])) q left new
+Stands-kept reports lines n start written read prefix p q begun kept left old new none h is adds empty =
+    let line = (split read).1 ++ prefix in
     let same : kept ≡ take (n + 2) line =
-    is ∙ ap (λ l. take (n + 2) (l ++ front)) h.kept ∙ take_more (n + 2) (split read).1 front in
+    is ∙ ap (λ l. take (n + 2) (l ++ prefix)) h.kept ∙ take_more (n + 2) (split read).1 prefix in
     let same_line : short_line n (strip_carriage_return kept) ≡ short_line n (strip_carriage_return line) =
     ap (λ l. short_line n (strip_carriage_return l)) same ∙ kept_short_line n line in
-    Stands-closed reports lines n start written read front p q begun left old new none h
+    Stands-closed reports lines n start written read prefix p q begun left old new none h
     (subst (λ s. Adds reports lines p old s q new) same_line adds) empty
 
 -- a line has gone on
@@ -100,24 +101,24 @@ Stands-growing reports lines n start written read rest p begun kept text none h 
 
 -- ---- faults
 
--- the lines that a front of the list closes are the first of the list's lines
+-- the lines that a prefix of the list closes are the first of the list's lines
 first_lines : (xs ys : List ℕ) → take (length (closed_lines xs)) (lines_of (xs ++ ys)) ≡ closed_lines xs
 first_lines xs ys =
-    let m = closed_front xs ys in
+    let m = closed_prefix xs ys in
     rw m.1 (ap (λ l. take (length (closed_lines xs)) l)
     (append_assoc (closed_lines xs) m.0 (open_lines (split (xs ++ ys)).1))
     ∙ take-append_seam (closed_lines xs) (m.0 ++ open_lines (split (xs ++ ys)).1))
 
 -- the report on them
-pub front_report : {S : Type 0} (reports : S → Option (List ℕ) → List ℕ → S → Type 0) (lines : S → ℕ) (n : ℕ)
+pub prefix_report : {S : Type 0} (reports : S → Option (List ℕ) → List ℕ → S → Type 0) (lines : S → ℕ) (n : ℕ)
     (start : S) (written read rest : List ℕ) (p : S) (begun text : List ℕ)
     → Stands reports lines n start written read p begun text
     → IsReportOfFirst reports n start (read ++ rest) (length (closed_lines read)) p (written ++ text)
-front_report reports lines n start written read rest p begun text h = rw (first_lines read rest) h.reported
+prefix_report reports lines n start written read rest p begun text h = rw (first_lines read rest) h.reported
 
--- as many lines are closed as a front of the list closes, or more
-pub front_count : (xs ys : List ℕ) → length (closed_lines xs) ≤ length (closed_lines (xs ++ ys))
-front_count xs ys = let m = closed_front xs ys in rw (m.1, length-append (closed_lines xs) m.0) (omega arith)
+-- as many lines are closed as a prefix of the list closes, or more
+pub prefix_count : (xs ys : List ℕ) → length (closed_lines xs) ≤ length (closed_lines (xs ++ ys))
+prefix_count xs ys = let m = closed_prefix xs ys in rw (m.1, length-append (closed_lines xs) m.0) (omega arith)
 
 -- no line more was reported on
 pub room-left : {S : Type 0} (reports : S → Option (List ℕ) → List ℕ → S → Type 0) (lines : S → ℕ) (n : ℕ)
@@ -127,8 +128,8 @@ pub room-left : {S : Type 0} (reports : S → Option (List ℕ) → List ℕ →
     × IsReportOfFirst reports n start (read ++ rest) count q (written ++ new)
 room-left reports lines n start written read rest p q begun old new h same text = (
   length (closed_lines read),
-  front_count read rest,
-  rw (same, text) (front_report reports lines n start written read rest p begun old h),
+  prefix_count read rest,
+  rw (same, text) (prefix_report reports lines n start written read rest p begun old h),
 )
 
 -- a further line has begun behind as many as may come
@@ -139,7 +140,7 @@ pub many-left : {S : Type 0} (reports : S → Option (List ℕ) → List ℕ →
     × (most < length (lines_of (read ++ rest)))
 many-left reports lines n most start written read rest p begun text h full more =
     let count : most ≡ length (closed_lines read) = sym full ∙ h.count in (
-      rw count (front_report reports lines n start written read rest p begun text h),
+      rw count (prefix_report reports lines n start written read rest p begun text h),
       rw count (lines_more read rest more),
     )
 
@@ -194,5 +195,5 @@ end-left reports lines n start written read p q begun old new h same text = (
   rw (length-append (closed_lines read) (open_lines (split read).1)) (omega arith),
   rw (same, text)
       (subst (λ bytes. IsReportOfFirst reports n start bytes (length (closed_lines read)) p (written ++ old))
-      (append-nil read) (front_report reports lines n start written read [] p begun old h)),
+      (append-nil read) (prefix_report reports lines n start written read [] p begun old h)),
 )

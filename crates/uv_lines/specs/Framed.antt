@@ -37,24 +37,24 @@ FailsReads end _ old new = new ≡ old
 -- a piece was written, and this answer is reported
 pub record Writes {F : Type 0} (piece : List ℕ) (answer result : Result (Unit {0}) (LineFault F))
     (old new : Option (List ℕ)) (before after : ℕ) : Type 0 where
-  pub told : result ≡ answer
+  pub reported : result ≡ answer
   pub wrote : Appends old new piece
   pub quiet : after ≡ before
 
 -- a prefix of it was, and the failed write is reported
 pub record Cuts {F : Type 0} (piece : List ℕ) (result : Result (Unit {0}) (LineFault F))
     (old new : Option (List ℕ)) (before after : ℕ) : Type 0 where
-  pub told : result ≡ Err Write
+  pub reported : result ≡ Err Write
   pub some : piece ≢ []
-  pub front : ℕ
-  pub wrote : Appends old new (take front piece)
+  pub prefix : ℕ
+  pub wrote : Appends old new (take prefix piece)
   pub failed : after ≡ before + 1
 
 -- a piece follows an answer, where so many writes have failed before and after
 abbrev pub Follows : {F : Type 0} → List ℕ → Result (Unit {0}) (LineFault F) → Result (Unit {0}) (LineFault F)
     → Option (List ℕ) → Option (List ℕ) → ℕ → ℕ → Type 0
-Follows piece told result old new before after =
-    Writes piece told result old new before after ⊎ Cuts piece result old new before after
+Follows piece reported result old new before after =
+    Writes piece reported result old new before after ⊎ Cuts piece result old new before after
 
 -- the end follows a fault but one of a write
 abbrev pub FollowsFault : {F : Type 0} → Bool → List ℕ → LineFault F → Result (Unit {0}) (LineFault F)

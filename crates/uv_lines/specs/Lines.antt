@@ -8,15 +8,15 @@ abbrev pub line_feed : ℕ
 line_feed = 10
 
 -- a byte before the first of the texts that LF ends, or before the last text where there is none
-abbrev pub put_front : ℕ → List (List ℕ) → List ℕ → (List (List ℕ)) × List ℕ
-put_front x [] last = ([], x ∷ last)
-put_front x (l ∷ ls) last = ((x ∷ l) ∷ ls, last)
+abbrev pub put_prefix : ℕ → List (List ℕ) → List ℕ → (List (List ℕ)) × List ℕ
+put_prefix x [] last = ([], x ∷ last)
+put_prefix x (l ∷ ls) last = ((x ∷ l) ∷ ls, last)
 
 -- what stands before each LF, and what follows the last one
 abbrev pub split : List ℕ → (List (List ℕ)) × List ℕ
 split [] = ([], [])
 split (x ∷ xs) =
-    if x == line_feed then ([] ∷ (split xs).0, (split xs).1) else put_front x (split xs).0 (split xs).1
+    if x == line_feed then ([] ∷ (split xs).0, (split xs).1) else put_prefix x (split xs).0 (split xs).1
 
 -- the lines that an LF ends, each without the one CR before it
 abbrev pub closed_lines : List ℕ → List (List ℕ)

@@ -7,8 +7,8 @@ use Rattle.uv_lines.specs.declared.limits.LineLimits.{LineLimits}
 use Rattle.uv_lines.specs.Lines.{split, closed_lines, lines_of}
 use Rattle.uv_lines.specs.Reported.{Reported}
 
--- The run has read these bytes and written a text: of the begun line a front is kept, which decides what is said of it;
--- the text and what waits to be written are the report on each line that an LF ended.
+-- The run has read these bytes and written a text: of the begun line a prefix is kept, which decides what is said of
+-- it; the text and what waits to be written are the report on each line that an LF ended.
 pub record Stands {S : Type 0} (reports : S → Option (List ℕ) → List ℕ → S → Type 0) (lines : S → ℕ)
     (line_bytes : ℕ) (start : S) (written read : List ℕ) (now : S) (begun text : List ℕ) : Type 0 where
   pub reported : Reported reports line_bytes start (closed_lines read) (written ++ text) now

@@ -9,8 +9,8 @@ abbrev pub Reported : {S : Type 0} → (S → Option (List ℕ) → List ℕ →
     → Type 0
 Reported reports line_bytes start [] text now = (text ≡ []) × (now ≡ start)
 Reported {S} reports line_bytes start (line ∷ lines) text now =
-    (front : List ℕ) × (rest : List ℕ) × (next : S) × reports start (short_line line_bytes line) front next
-    × Reported reports line_bytes next lines rest now × (text ≡ front ++ rest)
+    (prefix : List ℕ) × (rest : List ℕ) × (next : S) × reports start (short_line line_bytes line) prefix next
+    × Reported reports line_bytes next lines rest now × (text ≡ prefix ++ rest)
 
 -- ---- reports that are written. A report is given by what it is: of these lines this text, which leaves the reporter
 -- in this state.
@@ -22,10 +22,10 @@ pub record Wrote {S : Type 0} (IsReport : List (List ℕ) → List ℕ → S →
   pub reported : IsReport lines text now
   pub wrote : Appends old new text
 
--- a front of it was
+-- a prefix of it was
 pub record Cut {S : Type 0} (IsReport : List (List ℕ) → List ℕ → S → Type 0) (lines : List (List ℕ))
     (old new : Option (List ℕ)) (now : S) : Type 0 where
   pub text : List ℕ
   pub reported : IsReport lines text now
-  pub front : ℕ
-  pub wrote : Appends old new (take front text)
+  pub prefix : ℕ
+  pub wrote : Appends old new (take prefix text)

@@ -20,9 +20,9 @@ abbrev pub WroteFirst : {S : Type 0} → (List (List ℕ) → List ℕ → S →
 WroteFirst IsReport old read count now new = Wrote IsReport (take count (lines_of read)) old new now
 
 -- a beginning of the report on some of the first lines was written, perhaps cut within what is said of a line
-abbrev pub WroteFront : {S : Type 0} → (List (List ℕ) → List ℕ → S → Type 0) → Option (List ℕ) → List ℕ → S
+abbrev pub WrotePrefix : {S : Type 0} → (List (List ℕ) → List ℕ → S → Type 0) → Option (List ℕ) → List ℕ → S
     → Option (List ℕ) → Type 0
-WroteFront IsReport old read now new =
+WrotePrefix IsReport old read now new =
     (count : ℕ) × (count ≤ length (lines_of read)) × Cut IsReport (take count (lines_of read)) old new now
 
 -- The report on some of the first lines was written. They are lines that an LF has ended, but for a last one without
@@ -40,7 +40,7 @@ Leaves IsReport limits (Report fault) old read at_end now new = WroteLines IsRep
 Leaves IsReport limits Memory old read at_end now new = WroteLines IsReport old read at_end now new
 Leaves IsReport limits Read old read at_end now new =
     WroteFirst IsReport old read (length (closed_lines read)) now new
-Leaves IsReport limits Write old read at_end now new = WroteFront IsReport old read now new
+Leaves IsReport limits Write old read at_end now new = WrotePrefix IsReport old read now new
 Leaves IsReport limits TooManyLines old read at_end now new =
     WroteFirst IsReport old read limits.lines now new × (limits.lines < length (lines_of read))
 Leaves IsReport limits Endless old read at_end now new =
@@ -71,12 +71,12 @@ pub record At {S : Type 0} (reports : S → Option (List ℕ) → List ℕ → S
   pub waits : Waits reports lines line_bytes start old read now begun text new
   pub none : text ≡ []
 
--- What a fault leaves while lines are taken: behind a failed write a front of the report on some of the first lines was
--- written, behind each other one the report on some of them was written or waits to be.
+-- What a fault leaves while lines are taken: behind a failed write a prefix of the report on some of the first lines
+-- was written, behind each other one the report on some of them was written or waits to be.
 abbrev pub WaitFault : {S F : Type 0} → Bool → (S → Option (List ℕ) → List ℕ → S → Type 0) → LineLimits → S
     → LineFault F → Option (List ℕ) → List ℕ → S → List ℕ → Option (List ℕ) → Type 0
 WaitFault true reports limits start fault old read now text new =
-    WroteFront (Reported reports limits.line_bytes start) old read now new
+    WrotePrefix (Reported reports limits.line_bytes start) old read now new
 WaitFault false reports limits start fault old read now text new =
     (written : List ℕ) × Appends old new written × TakeFault reports limits start fault read now (written ++ text)
 
@@ -84,7 +84,7 @@ WaitFault false reports limits start fault old read now text new =
 abbrev pub PassFault : {S F : Type 0} → (S → Option (List ℕ) → List ℕ → S → Type 0) → LineLimits → S → LineFault F
     → Option (List ℕ) → List ℕ → S → Option (List ℕ) → Type 0
 PassFault reports limits start Write old read now new =
-    WroteFront (Reported reports limits.line_bytes start) old read now new
+    WrotePrefix (Reported reports limits.line_bytes start) old read now new
 PassFault reports limits start (Report fault) old read now new =
     (count : ℕ) × (count ≤ length (closed_lines read))
     × WroteFirst (Reported reports limits.line_bytes start) old read count now new
@@ -100,7 +100,7 @@ PassFault reports limits start _ old read now new = ⊥
 abbrev pub FinishFault : {S F : Type 0} → (S → Option (List ℕ) → List ℕ → S → Type 0) → LineLimits → S → LineFault F
     → Option (List ℕ) → List ℕ → S → Option (List ℕ) → Type 0
 FinishFault reports limits start Write old read now new =
-    WroteFront (Reported reports limits.line_bytes start) old read now new
+    WrotePrefix (Reported reports limits.line_bytes start) old read now new
 FinishFault reports limits start (Report fault) old read now new =
     (count : ℕ) × (count ≤ length (lines_of read))
     × WroteFirst (Reported reports limits.line_bytes start) old read count now new

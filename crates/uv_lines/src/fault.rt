@@ -7,7 +7,7 @@ ghost use Rattle.uv_lines.specs.Fault as spec;
 pub enum LineFault<F> {
     /// The reporter couldn't report on a line. The report on all lines before it was written.
     Report(F),
-    /// A growth was refused. The report on whole lines was written.
+    /// An allocation failed. The report on whole lines was written.
     Memory,
     /// A read failed. The report on every line whose LF was read was written.
     Read,

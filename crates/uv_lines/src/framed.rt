@@ -1,5 +1,6 @@
 //! A run over the lines of a list, with what stands around the report.
-ghost use Rattle.std.specs.Prelude.{◌≡◌, ◌≢◌, ℕ, ◌+◌, ◌-◌, ◌^◌, ◌<◌, ◌≤◌, ◌++◌, List, [], true, IfErr, IfOk, Ok, OnErr, OnOk, take};
+ghost use Rattle.std.specs.Prelude.{◌≡◌, ◌≢◌, ℕ, ◌+◌, ◌-◌, ◌^◌, ◌<◌, ◌≤◌, ◌++◌, List, [], true, IfErr, IfOk, Ok, OnErr};
+ghost use Rattle.std.specs.Prelude.{OnOk, take};
 ghost use Rattle.std.specs.Io.KnownBytes.{Appends, Consumes, IsAtEnd};
 ghost use Rattle.uv_lines.specs.Fault.{may_write};
 ghost use Rattle.uv_lines.specs.Framed.{Ends, FailsReads, Follows, Framed, LeavesPart};
@@ -117,14 +118,14 @@ fn write_last<W: Sink, F: Drop>(writer: &mut W, last: &[u8], end: &[u8]) -> Resu
 fn follow<W: Sink, F: Drop>(
     writer: &mut W,
     piece: &[u8],
-    told: Result<(), LineFault<F>>,
+    reported: Result<(), LineFault<F>>,
 ) -> Result<(), LineFault<F>>
     requires { W.failed writer.old < 2 ^ 64 - 1 }
-    ensures { Follows piece.now told result (W.contents writer.old) (W.contents writer.new) (W.failed writer.old)
+    ensures { Follows piece.now reported result (W.contents writer.old) (W.contents writer.new) (W.failed writer.old)
         (W.failed writer.new) }
 {
     match write_some(writer, piece) {
-        Ok(()) => told,
+        Ok(()) => reported,
         Err(DeviceFault) => Err(LineFault::Write),
     }
 }
@@ -135,7 +136,7 @@ fn write_some<W: Sink>(writer: &mut W, piece: &[u8]) -> Result<(), DeviceFault>
     ensures whole { OnOk result (Appends (W.contents writer.old) (W.contents writer.new) piece.now) }
     ensures quiet { OnOk result (W.failed writer.new ≡ W.failed writer.old) }
     ensures some { OnErr result (piece.now ≢ []) }
-    ensures front { OnErr result ((n : ℕ)
+    ensures prefix { OnErr result ((n : ℕ)
         × Appends (W.contents writer.old) (W.contents writer.new) (take n piece.now)) }
     ensures failed { OnErr result (W.failed writer.new ≡ W.failed writer.old + 1) }
 {

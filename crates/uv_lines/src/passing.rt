@@ -1,5 +1,6 @@
 //! Pieces of a list passed on: what is said of the lines of a piece is written before the next one is read.
-ghost use Rattle.std.specs.Prelude.{◌≡◌, ℕ, ◌+◌, ◌-◌, ◌^◌, ◌<◌, ◌++◌, List, [], Option, IfErr, OnOk, OnErr, length, take};
+ghost use Rattle.std.specs.Prelude.{◌≡◌, ℕ, ◌+◌, ◌-◌, ◌^◌, ◌<◌, ◌++◌, List, [], Option, IfErr, OnOk, OnErr, length};
+ghost use Rattle.std.specs.Prelude.{take};
 ghost use Rattle.std.specs.Io.KnownBytes.{Appends};
 ghost use Rattle.uv_lines.specs.Reported.{Reported};
 ghost use Rattle.uv_lines.specs.Run.{At, FinishFault, PassFault, Waits, WroteAll, writes_failed};
@@ -91,7 +92,7 @@ impl<R: Reporter> Progress<R> {
             → Waits R.reports R.lines self.old.limits.line_bytes start old read self.new.reporter
             self.new.begun.items self.new.text.items (W.contents writer.new)) }
         ensures quiet { OnOk result (W.failed writer.new ≡ W.failed writer.old) }
-        ensures front { OnErr result ((n : ℕ)
+        ensures prefix { OnErr result ((n : ℕ)
             × Appends (W.contents writer.old) (W.contents writer.new) (take n self.old.text.items)) }
         ensures failed { OnErr result (W.failed writer.new ≡ W.failed writer.old + 1) }
     {
@@ -112,7 +113,7 @@ impl<R: Reporter> Progress<R> {
         ensures rest { (self.new.reporter ≡ self.old.reporter) × (self.new.limits ≡ self.old.limits)
             × (self.new.begun.items ≡ self.old.begun.items) }
         ensures quiet { OnOk result (W.failed writer.new ≡ W.failed writer.old) }
-        ensures front { OnErr result ((n : ℕ)
+        ensures prefix { OnErr result ((n : ℕ)
             × Appends (W.contents writer.old) (W.contents writer.new) (take n self.old.text.items)) }
         ensures failed { OnErr result (W.failed writer.new ≡ W.failed writer.old + 1) }
     {

@@ -1,5 +1,6 @@
 //! What reports on the lines of a list.
-ghost use Rattle.std.specs.Prelude.{◌≡◌, ℕ, ◌+◌, ◌-◌, ◌^◌, ◌<◌, List, Option, IfOk, OnOk, OnErr, option_copied, string_bytes};
+ghost use Rattle.std.specs.Prelude.{◌≡◌, ℕ, ◌+◌, ◌-◌, ◌^◌, ◌<◌, List, Option, IfOk, OnOk, OnErr, option_copied};
+ghost use Rattle.std.specs.Prelude.{string_bytes};
 ghost use Rattle.uv_lines.specs.Progress.{Adds};
 
 use std::alloc::Global;

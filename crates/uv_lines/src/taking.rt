@@ -1,5 +1,6 @@
 //! The lines of a piece, each reported on where it ends.
-ghost use Rattle.std.specs.Prelude.{◌≡◌, ℕ, ◌+◌, ◌-◌, ◌^◌, ◌<◌, List, [], ◌∷◌, ◌++◌, IfErr, IfSome, None, OnOk, OnErr, Option, drop, false, length, take, true, vec_len};
+ghost use Rattle.std.specs.Prelude.{◌≡◌, ℕ, ◌+◌, ◌-◌, ◌^◌, ◌<◌, List, [], ◌∷◌, ◌++◌, IfErr, IfSome, None, OnOk, OnErr};
+ghost use Rattle.std.specs.Prelude.{Option, drop, false, length, take, true, vec_len};
 ghost use Rattle.std.specs.Str.Lines.{strip_carriage_return};
 ghost use Rattle.uv_lines.specs.Lines.{line_feed, short_line, split};
 ghost use Rattle.uv_lines.specs.Fault.{is_write, may_write};
@@ -56,24 +57,24 @@ impl<R: Reporter> Progress<R> {
         }
     }
 
-    // Reports on the line that an LF ends behind this front of a piece.
-    fn close_line(&mut self, alloc: Global, front: &[u8]) -> Result<(), LineFault<R::Fault>>
-        requires { split front.now ≡ ([], front.now) }
+    // Reports on the line that an LF ends behind this prefix of a piece.
+    fn close_line(&mut self, alloc: Global, prefix: &[u8]) -> Result<(), LineFault<R::Fault>>
+        requires { split prefix.now ≡ ([], prefix.now) }
         ensures kind { IfErr result (λ e. is_write e ≡ false) }
         ensures setting { self.new.limits ≡ self.old.limits }
         ensures stands { OnOk result ((start : R) (written read : List ℕ)
             → Stands R.reports R.lines self.old.limits.line_bytes start written read self.old.reporter
             self.old.begun.items self.old.text.items
             → Stands R.reports R.lines self.old.limits.line_bytes start written
-            (read ++ (front.now ++ line_feed ∷ [])) self.new.reporter self.new.begun.items self.new.text.items) }
+            (read ++ (prefix.now ++ line_feed ∷ [])) self.new.reporter self.new.begun.items self.new.text.items) }
         ensures fault { IfErr result (λ e. (start : R) (written read rest : List ℕ)
             → Stands R.reports R.lines self.old.limits.line_bytes start written read self.old.reporter
             self.old.begun.items self.old.text.items
-            → TakeFault R.reports self.old.limits start e (read ++ (front.now ++ line_feed ∷ rest)) self.new.reporter
+            → TakeFault R.reports self.old.limits start e (read ++ (prefix.now ++ line_feed ∷ rest)) self.new.reporter
             (written ++ self.new.text.items)) }
     {
         if !self.begun.is_empty() {
-            return match self.close_begun_line(alloc, front) {
+            return match self.close_begun_line(alloc, prefix) {
                 Ok(()) => Ok(()),
                 Err(fault) => Err(fault),
             };
@@ -81,30 +82,30 @@ impl<R: Reporter> Progress<R> {
         if self.reporter.line_count() == self.limits.lines {
             return Err(LineFault::TooManyLines);
         }
-        match self.report_whole(alloc, without_return(front)) {
+        match self.report_whole(alloc, without_return(prefix)) {
             Ok(()) => Ok(()),
             Err(fault) => Err(LineFault::Report(fault)),
         }
     }
 
     // The same where a line has begun.
-    fn close_begun_line(&mut self, alloc: Global, front: &[u8]) -> Result<(), LineFault<R::Fault>>
+    fn close_begun_line(&mut self, alloc: Global, prefix: &[u8]) -> Result<(), LineFault<R::Fault>>
         requires begun { 0 < vec_len self.old.begun }
-        requires line { split front.now ≡ ([], front.now) }
+        requires line { split prefix.now ≡ ([], prefix.now) }
         ensures kind { IfErr result (λ e. is_write e ≡ false) }
         ensures setting { self.new.limits ≡ self.old.limits }
         ensures stands { OnOk result ((start : R) (written read : List ℕ)
             → Stands R.reports R.lines self.old.limits.line_bytes start written read self.old.reporter
             self.old.begun.items self.old.text.items
             → Stands R.reports R.lines self.old.limits.line_bytes start written
-            (read ++ (front.now ++ line_feed ∷ [])) self.new.reporter self.new.begun.items self.new.text.items) }
+            (read ++ (prefix.now ++ line_feed ∷ [])) self.new.reporter self.new.begun.items self.new.text.items) }
         ensures fault { IfErr result (λ e. (start : R) (written read rest : List ℕ)
             → Stands R.reports R.lines self.old.limits.line_bytes start written read self.old.reporter
             self.old.begun.items self.old.text.items
-            → TakeFault R.reports self.old.limits start e (read ++ (front.now ++ line_feed ∷ rest)) self.new.reporter
+            → TakeFault R.reports self.old.limits start e (read ++ (prefix.now ++ line_feed ∷ rest)) self.new.reporter
             (written ++ self.new.text.items)) }
     {
-        if let Err(AllocError) = self.keep(front) {
+        if let Err(AllocError) = self.keep(prefix) {
             return Err(LineFault::Memory);
         }
         match self.report_begun(alloc, true) {
@@ -159,7 +160,7 @@ impl<R: Reporter> Progress<R> {
         }
     }
 
-    // Reports on a line of which no front is kept.
+    // Reports on a line of which no prefix is kept.
     fn report_whole(&mut self, alloc: Global, line: &[u8]) -> Result<(), R::Fault>
         requires few { R.lines self.old.reporter < self.old.limits.lines }
         requires none { vec_len self.old.begun ≡ 0 }
@@ -242,7 +243,7 @@ fn without_return(line: &[u8]) -> &[u8]
     ensures { result.now ≡ strip_carriage_return line.now }
 {
     match line.split_last() {
-        Some((b'\r', front)) => front,
+        Some((b'\r', prefix)) => prefix,
         _ => line,
     }
 }

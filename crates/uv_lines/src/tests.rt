@@ -180,8 +180,8 @@ impl Sink for Sizes {
     }
 }
 
-// What is said of 2,000 lines of one piece is 2,000,000 bytes. It is written where 262,144 bytes or more wait, which are
-// the 263,000 of 263 lines.
+// What is said of 2,000 lines of one piece is 2,000,000 bytes. It is written where 262,144 bytes or more wait, which
+// are the 263,000 of 263 lines.
 #[test]
 fn writes_what_is_much_in_the_midst_of_a_piece(rt: HostRuntime) {
     let list = [b'\n'; 2_000];

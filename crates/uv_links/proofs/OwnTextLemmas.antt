@@ -31,11 +31,12 @@ use Rattle.uv_model.specs.Valid.{FitsAuthority, FitsForm, FitsHostText, IsSpecia
 use Rattle.uv_model.proofs.Paths.SlashedPaths.{slashed_or_none}
 use Rattle.uv_model.proofs.Texts.AsciiLemmas.{IsAscii-from_test}
 use Rattle.uv_model.proofs.Texts.EncodingLemmas.{is_kept, encoded_code_point-kept}
+use Rattle.uv_parser.proofs.RoundTrip.SerializedTexts.{serial_segments-joined}
 use Rattle.uv_grammar.proofs.HostLemmas.{some_chars}
 use Rattle.uv_resolve.proofs.RecordLemmas.{fields, denote-fields}
-use Rattle.uv_links.specs.OwnText.{HasOwnFront, HasOwnScheme, IsOwnPath, IsOwnRoot, IsOwnScheme, IsOwnText}
+use Rattle.uv_links.specs.OwnText.{HasOwnPrefix, HasOwnScheme, IsOwnPath, IsOwnRoot, IsOwnScheme, IsOwnText}
 use Rattle.uv_links.specs.OwnText.{has_no_dots, is_dot_mark, is_kept_segment, is_never_encoded}
-use Rattle.uv_links.specs.Report.{DenotesText}
+use Rattle.uv_resolve.specs.Resolve.{DenotesText}
 
 -- ---- texts that no part encodes
 
@@ -115,12 +116,6 @@ authority_path-kept : (segments : List (List ℕ)) → segments ≢ [] → list_
 authority_path-kept [] some no_dots bytes = absurd (some refl)
 authority_path-kept (segment ∷ rest) some no_dots bytes = walk-kept Special [] (segment ∷ rest) no_dots bytes
 
--- segments with `/` before each are joined behind one
-serial_segments-join : (first : List ℕ) (rest : List (List ℕ))
-    → serial_segments (first ∷ rest) ≡ slash ∷ join_with_byte slash (first ∷ rest)
-serial_segments-join first [] = ap (λ t. slash ∷ t) (append-nil first)
-serial_segments-join first (next ∷ rest) = ap (λ t. slash ∷ (first ++ t)) (serial_segments-join next rest)
-
 -- a path behind an authority is its segments with `/` before each
 slashed_text : (segments : List (List ℕ)) (text : List ℕ) → segments ≢ [] → MayBePathSlashed segments text
     → text ≡ serial_segments segments
@@ -128,7 +123,7 @@ slashed_text segments text some (inl none) = absurd (some none.1)
 slashed_text segments text some (inr path) =
     let joins = path.joins in
     path.slashed ∙ ap (λ t. slash ∷ t) (joins.joined ∙ ap (join_with_byte slash) joins.some)
-    ∙ sym (serial_segments-join joins.first joins.others) ∙ sym (ap serial_segments joins.some)
+    ∙ sym (serial_segments-joined joins.first joins.others) ∙ sym (ap serial_segments joins.some)
 
 -- a code point that is neither `.` nor `%` is neither in lower case
 lower_mark : (c : ℕ) → is_dot_mark c ≡ false → is_dot_mark (to_ascii_lowercase c) ≡ false
@@ -164,16 +159,16 @@ no_dots-weaker : (text : List ℕ) → has_no_dots true text ≡ true → has_no
 no_dots-weaker [] h = refl
 no_dots-weaker (c ∷ rest) h = (and_parts (not (is_dot_mark c)) (has_no_dots (c == slash) rest) h).1
 
--- and so is what stands behind a front
-no_dots-behind : (begins : Bool) (front rest : List ℕ) → has_no_dots begins (front ++ rest) ≡ true
+-- and so is what stands behind a prefix
+no_dots-behind : (begins : Bool) (prefix rest : List ℕ) → has_no_dots begins (prefix ++ rest) ≡ true
     → has_no_dots false rest ≡ true
 no_dots-behind false [] rest h = h
 no_dots-behind true [] rest h = no_dots-weaker rest h
-no_dots-behind begins (c ∷ front) rest h =
-    no_dots-behind (c == slash) front rest
-    (and_parts (not (begins && is_dot_mark c)) (has_no_dots (c == slash) (front ++ rest)) h).1
+no_dots-behind begins (c ∷ prefix) rest h =
+    no_dots-behind (c == slash) prefix rest
+    (and_parts (not (begins && is_dot_mark c)) (has_no_dots (c == slash) (prefix ++ rest)) h).1
 
--- such a text is told from its next byte and what follows it
+-- such a text is known by its next byte and what follows it
 no_dots-first : (begins : Bool) (text : List ℕ) (k : ℕ) → k < length text
     → has_no_dots begins (drop k text) ≡ (not (begins && is_dot_mark (slice_index_or text k 0))
     && has_no_dots (slice_index_or text k 0 == slash) (drop (k + 1) text))
@@ -293,43 +288,43 @@ special_path profile base text parts scheme form valid formed schemed special ho
     in
     slashed_or_none profile parts.segments parts.path_text fits.path
 
--- a text with such a front is spelled with its parts
-front-spelled : (profile : Profile) (base : Option Url) (text : List ℕ) (parts : Parts) (scheme : List ℕ)
-    → Valid profile base text parts → (own : HasOwnFront text parts) → parts.scheme ≡ Some scheme
+-- a text with such a prefix is spelled with its parts
+prefix-spelled : (profile : Profile) (base : Option Url) (text : List ℕ) (parts : Parts) (scheme : List ℕ)
+    → Valid profile base text parts → (own : HasOwnPrefix text parts) → parts.scheme ≡ Some scheme
     → text ≡ spelled scheme own.host.form parts.path_text parts.query parts.fragment
-front-spelled profile base text parts scheme valid own schemed =
+prefix-spelled profile base text parts scheme valid own schemed =
     valid.whole ∙ written-spelled parts scheme own.host.form schemed own.host.host_text own.port.text
 
 -- the path of such a text is of code points that no part encodes
-front-path : (text : List ℕ) (parts : Parts) (scheme : List ℕ) (own : HasOwnFront text parts)
+prefix-path : (text : List ℕ) (parts : Parts) (scheme : List ℕ) (own : HasOwnPrefix text parts)
     → text ≡ spelled scheme own.host.form parts.path_text parts.query parts.fragment
     → (list_all is_never_encoded parts.path_text ≡ true)
     × (list_all is_never_encoded (written_behind question_mark parts.query
     ++ written_behind number_sign parts.fragment) ≡ true)
-front-path text parts scheme own whole =
+prefix-path text parts scheme own whole =
     let form = own.host.form in
     let bytes : list_all is_never_encoded (spelled scheme form parts.path_text parts.query parts.fragment) ≡ true
     = sym (ap (list_all is_never_encoded) whole) ∙ own.bytes
     in
     let ends = written_behind question_mark parts.query ++ written_behind number_sign parts.fragment in
-    let front = slash ∷ slash ∷ (form ++ []) in
-    let from_colon = both scheme (colon ∷ (front ++ (parts.path_text ++ ends))) bytes in
-    let from_host = both front (parts.path_text ++ ends)
-    (behind colon (front ++ (parts.path_text ++ ends)) from_colon.1) in
+    let prefix = slash ∷ slash ∷ (form ++ []) in
+    let from_colon = both scheme (colon ∷ (prefix ++ (parts.path_text ++ ends))) bytes in
+    let from_host = both prefix (parts.path_text ++ ends)
+    (behind colon (prefix ++ (parts.path_text ++ ends)) from_colon.1) in
     both parts.path_text ends from_host.1
 
 -- the text of the URL that it denotes, by the segments
-front-serial : (base : Option Url) (text : List ℕ) (parts : Parts) (scheme : List ℕ) (segments : List (List ℕ))
-    → (own : HasOwnFront text parts) → parts.scheme ≡ Some scheme → IsOwnScheme scheme
+prefix-serial : (base : Option Url) (text : List ℕ) (parts : Parts) (scheme : List ℕ) (segments : List (List ℕ))
+    → (own : HasOwnPrefix text parts) → parts.scheme ≡ Some scheme → IsOwnScheme scheme
     → text ≡ spelled scheme own.host.form parts.path_text parts.query parts.fragment
     → authority_path Special parts.segments ≡ segments
     → spelled scheme own.host.form (serial_segments segments) parts.query parts.fragment ≡ serial (denote base parts)
-front-serial base text parts scheme segments own schemed is whole path =
+prefix-serial base text parts scheme segments own schemed is whole path =
     let form = own.host.form in
     let query = parts.query in
     let fragment = parts.fragment in
     let from_query = both (written_behind question_mark query) (written_behind number_sign fragment)
-    (front-path text parts scheme own whole).1 in
+    (prefix-path text parts scheme own whole).1 in
     let denoted : fields scheme (Some (Domain form)) None (Segments segments) query fragment ≡ denote base parts
     = denote-fields base parts Special scheme (Some (Domain form)) None (Segments segments) query fragment
     (sym (ap (λ s. scheme_class (scheme_or base s)) schemed ∙ is.special))
@@ -347,22 +342,22 @@ own-schemed : (profile : Profile) (base : Option Url) (text : List ℕ) (parts :
     → Valid profile base text parts → IsOwnText text parts → parts.scheme ≡ Some scheme → IsOwnScheme scheme
     → text ≡ serial (denote base parts)
 own-schemed profile base text parts scheme valid own schemed is =
-    let front = own.front in
-    let form = front.host.form in
+    let prefix = own.prefix in
+    let form = prefix.host.form in
     let segments = parts.segments in
-    let whole = front-spelled profile base text parts scheme valid front schemed in
+    let whole = prefix-spelled profile base text parts scheme valid prefix schemed in
     let slashed : MayBePathSlashed segments parts.path_text
-    = special_path profile base text parts scheme form valid front.form schemed is.special front.host.host_text
+    = special_path profile base text parts scheme form valid prefix.form schemed is.special prefix.host.host_text
     in
     let some = some_segments segments parts.path_text own.path.0 slashed in
     let path : parts.path_text ≡ serial_segments segments
     = slashed_text segments parts.path_text some slashed
     in
-    let bytes = (front-path text parts scheme front whole).0 in
+    let bytes = (prefix-path text parts scheme prefix whole).0 in
     let no_dots = subst (λ t. has_no_dots false t ≡ true) path
     (own.path.1 (never_encoded-ascii parts.path_text bytes)) in
     whole ∙ ap (λ p. spelled scheme form p parts.query parts.fragment) path
-    ∙ front-serial base text parts scheme segments front schemed is whole
+    ∙ prefix-serial base text parts scheme segments prefix schemed is whole
     (authority_path-kept segments some (kept-segments segments no_dots)
     (sym (ap (list_all is_never_encoded) path) ∙ bytes))
 
@@ -378,12 +373,12 @@ root-schemed : (profile : Profile) (base : Option Url) (text : List ℕ) (parts 
     → Valid profile base text parts → IsOwnRoot text parts → parts.scheme ≡ Some scheme → IsOwnScheme scheme
     → text ++ (slash ∷ []) ≡ serial (denote base parts)
 root-schemed profile base text parts scheme valid own schemed is =
-    let front = own.front in
-    let form = front.host.form in
+    let prefix = own.prefix in
+    let form = prefix.host.form in
     let ends = own.ends in
-    let whole = front-spelled profile base text parts scheme valid front schemed in
+    let whole = prefix-spelled profile base text parts scheme valid prefix schemed in
     let slashed : MayBePathSlashed parts.segments parts.path_text
-    = special_path profile base text parts scheme form valid front.form schemed is.special front.host.host_text
+    = special_path profile base text parts scheme form valid prefix.form schemed is.special prefix.host.host_text
     in
     let root : authority_path Special parts.segments ≡ [] ∷ []
     = ap (authority_path Special) (no_segments parts.segments parts.path_text slashed ends.path)
@@ -396,12 +391,12 @@ root-schemed profile base text parts scheme valid own schemed is =
     ap (λ t. t ++ (slash ∷ [])) bare ∙ spelled-host scheme form
     ∙ ap (λ q. spelled scheme form (slash ∷ []) q None) (sym ends.query)
     ∙ ap (λ f. spelled scheme form (slash ∷ []) parts.query f) (sym ends.fragment)
-    ∙ front-serial base text parts scheme ([] ∷ []) front schemed is whole root
+    ∙ prefix-serial base text parts scheme ([] ∷ []) prefix schemed is whole root
 
 -- the text of the URL that such a text denotes is the text
 pub own_text : (profile : Profile) (base : Option Url) (text : List ℕ) (parts : Parts)
     → Valid profile base text parts → IsOwnText text parts → text ≡ serial (denote base parts)
-own_text profile base text parts valid own = go parts.scheme refl own.front.scheme
+own_text profile base text parts valid own = go parts.scheme refl own.prefix.scheme
   where
     go : (scheme : Option (List ℕ)) → parts.scheme ≡ scheme → HasOwnScheme scheme → text ≡ serial (denote base parts)
     go None e has = absurd has
@@ -410,7 +405,7 @@ own_text profile base text parts valid own = go parts.scheme refl own.front.sche
 -- or the text with a `/` behind it, where it ends in its host
 pub own_root : (profile : Profile) (base : Option Url) (text : List ℕ) (parts : Parts)
     → Valid profile base text parts → IsOwnRoot text parts → text ++ (slash ∷ []) ≡ serial (denote base parts)
-own_root profile base text parts valid own = go parts.scheme refl own.front.scheme
+own_root profile base text parts valid own = go parts.scheme refl own.prefix.scheme
   where
     go : (scheme : Option (List ℕ)) → parts.scheme ≡ scheme → HasOwnScheme scheme
         → text ++ (slash ∷ []) ≡ serial (denote base parts)
@@ -436,7 +431,7 @@ pub own_text_denotes : (profile : Profile) (base : Option Url) (text : List ℕ)
 own_text_denotes profile base text parts valid own = (
   denote base parts,
   (parts, valid, refl),
-  own_text profile base text parts (valid_bytes profile base text parts own.front.bytes valid) own,
+  own_text profile base text parts (valid_bytes profile base text parts own.prefix.bytes valid) own,
 )
 
 -- and one that ends in its host a URL with this text and a `/`
@@ -446,7 +441,7 @@ pub own_root_denotes : (profile : Profile) (base : Option Url) (text : List ℕ)
 own_root_denotes profile base text parts valid own = (
   denote base parts,
   (parts, valid, refl),
-  own_root profile base text parts (valid_bytes profile base text parts own.front.bytes valid) own,
+  own_root profile base text parts (valid_bytes profile base text parts own.prefix.bytes valid) own,
 )
 
 -- the code points of a text: there are some where it has bytes, and ASCII ones are its bytes

@@ -22,7 +22,7 @@ use Rattle.uv_links.specs.Fault.{IsBaseFault}
 use Rattle.uv_links.specs.Report.{ListSetting, Said, TooLong, IsSaid, AreSaid, IsReport, IsReportOfFirst, report_line}
 use Rattle.uv_links.specs.Report.{report_lines, count_line, counted, tally, ok_of, bad_of, differs_of}
 use Rattle.uv_links.specs.Reporting.{Reporting, IsSaidOf, Says, none_counted}
-use Rattle.uv_links.specs.Run.{WroteFirst, WroteFront, WroteLines, Reports, Leaves, fault_of_run, reads_failed}
+use Rattle.uv_links.specs.Run.{WroteFirst, WrotePrefix, WroteLines, Reports, Leaves, fault_of_run, reads_failed}
 use Rattle.uv_links.specs.Run.{writes_failed}
 
 -- ---- what is said of each line
@@ -188,7 +188,7 @@ part-left stopped.Write s most old read at_end q new left =
     record {
       text = cut.text;
       report = inr (left.0, left.1, first_report s q read cut.text left.0 cut.reported);
-      front = cut.front;
+      prefix = cut.prefix;
       wrote = cut.wrote;
     }
 part-left stopped.TooManyLines s most old read at_end q new left = (wrote_first s old new read most q left.0, left.1)
@@ -205,7 +205,7 @@ run-left e s most old read at_end q new (inr (is, cut)) =
     subst (λ f. Leaves (fault_of_run f) s most old read at_end new) (sym is) (record {
       text = cut.text;
       report = inl (q.counts, whole_report s q read cut.text cut.reported);
-      front = cut.front;
+      prefix = cut.prefix;
       wrote = cut.wrote;
     })
 

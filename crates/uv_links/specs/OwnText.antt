@@ -59,7 +59,7 @@ pub record EndsInHost (parts : Parts) : Type 0 where
   pub fragment : parts.fragment ≡ None
 
 -- a text whose scheme and authority are written as they are denoted, and of which no part is encoded
-pub record HasOwnFront (text : List ℕ) (parts : Parts) : Type 0 where
+pub record HasOwnPrefix (text : List ℕ) (parts : Parts) : Type 0 where
   pub form : parts.form ≡ SchemeAuthority
   pub bytes : list_all is_never_encoded text ≡ true
   pub scheme : HasOwnScheme parts.scheme
@@ -68,10 +68,10 @@ pub record HasOwnFront (text : List ℕ) (parts : Parts) : Type 0 where
 
 -- what makes a valid text with these parts its own URL's text
 pub record IsOwnText (text : List ℕ) (parts : Parts) : Type 0 where
-  pub front : HasOwnFront text parts
+  pub prefix : HasOwnPrefix text parts
   pub path : IsOwnPath parts.path_text
 
 -- what makes it that text but for the `/` of the path, which stands behind it
 pub record IsOwnRoot (text : List ℕ) (parts : Parts) : Type 0 where
-  pub front : HasOwnFront text parts
+  pub prefix : HasOwnPrefix text parts
   pub ends : EndsInHost parts

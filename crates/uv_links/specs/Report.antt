@@ -5,11 +5,10 @@ use Rattle.std.specs.Prelude.{take, sum_by}
 use Rattle.std.specs.Str.{IsUtf8, chars}
 use Rattle.uv_model.specs.declared.profile.Profile.{Profile}
 use Rattle.uv_model.specs.declared.rule.Refusal.{Refusal}
-use Rattle.uv_model.specs.Complaints.Rule.{rule_name}
-use Rattle.uv_model.specs.Records.Serialize.{serial}
+use Rattle.uv_model.specs.Violations.Rule.{rule_name}
 use Rattle.uv_model.specs.Records.Url.{Url}
 use Rattle.uv_grammar.specs.Verdict.{IsRefused}
-use Rattle.uv_resolve.specs.Resolve.{Denotes}
+use Rattle.uv_resolve.specs.Resolve.{DenotesText}
 use Rattle.uv_links.specs.declared.counts.Counts.{Counts}
 use Rattle.uv_lines.specs.Lines.{lines_of}
 use Rattle.uv_links.specs.Second.{second_text}
@@ -33,11 +32,7 @@ pub record IsText (setting : ListSetting) (line : List ℕ) : Type 0 where
   pub short : length line ≤ setting.line_bytes
   pub utf8 : IsUtf8 line
 
--- the line is a valid URL string, and this is the text of the URL that it denotes
-abbrev pub DenotesText : Profile → Option Url → List ℕ → List ℕ → Type 0
-DenotesText profile base line text = (url : Url) × Denotes profile base (chars line) url × (text ≡ serial url)
-
--- What is said of a line: it is too long; else it isn't UTF-8; else it is refused, by its least complaint; else it is
+-- What is said of a line: it is too long; else it isn't UTF-8; else it is refused, by its least violation; else it is
 -- accepted, and the second parser gives the same text or doesn't.
 abbrev pub IsSaid : ListSetting → List ℕ → Said → Type 0
 IsSaid setting line TooLong = setting.line_bytes < length line

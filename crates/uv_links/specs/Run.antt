@@ -36,12 +36,12 @@ IsReportOrFirst setting read text =
     ⊎ ((count : ℕ) × (count ≤ length (lines_of read)) × IsReportOfFirst setting read count text)
 
 -- a beginning of it was written, perhaps cut within a line
-pub record WroteFront (setting : ListSetting) (old : Option (List ℕ)) (read : List ℕ)
+pub record WrotePrefix (setting : ListSetting) (old : Option (List ℕ)) (read : List ℕ)
     (new : Option (List ℕ)) : Type 0 where
   pub text : List ℕ
   pub report : IsReportOrFirst setting read text
-  pub front : ℕ
-  pub wrote : Appends old new (take front text)
+  pub prefix : ℕ
+  pub wrote : Appends old new (take prefix text)
 
 -- The report's lines on the first lines were written, and no line of counts. They are lines that an LF has ended, but
 -- for a last one without LF where no byte is left to come.
@@ -55,7 +55,7 @@ abbrev pub Leaves : LinkFault → ListSetting → ℕ → Option (List ℕ) → 
 Leaves Memory setting most old read at_end new = WroteLines setting old read at_end new
 Leaves Overflow setting most old read at_end new = WroteLines setting old read at_end new
 Leaves Read setting most old read at_end new = WroteFirst setting old read (length (closed_lines read)) new
-Leaves Write setting most old read at_end new = WroteFront setting old read new
+Leaves Write setting most old read at_end new = WrotePrefix setting old read new
 Leaves BaseDiffers setting most old read at_end new = (read ≡ []) × Keeps old new × ¬ (AgreesOnBase setting.base)
 Leaves TooManyLines setting most old read at_end new =
     WroteFirst setting old read most new × (most < length (lines_of read))

@@ -42,7 +42,7 @@ IsReadAs base text written None = text_against base text ≢ Some written
 IsReadAs base text written (Some url) =
     (parsed (parse_url base text) ≡ Some url) × (text_against base text ≡ Some written) × (second_serial url ≡ written)
 
--- the fault that its error stands for: want of memory, and a text longer than its own can be; every other error refuses
+-- the fault that its error stands for: out of memory, and a text longer than its own can be; every other error refuses
 -- the text
 abbrev pub room_fault : ParseError → Option RoomFault
 room_fault error.OutOfMemory = Some fault.Memory

@@ -10,7 +10,7 @@ use thiserror::Error;
 /// Why a run over a list of links stopped, and what it had written by then. How far the reader was read is open.
 #[derive(Clone, Copy, Debug, PartialEq, Eq, Error)]
 pub enum LinkFault {
-    /// A growth was refused. Whole lines of the report were written.
+    /// An allocation failed. Whole lines of the report were written.
     #[error("memory")]
     Memory,
     /// A read failed. The report's lines of every line whose LF was read were written.
@@ -45,7 +45,7 @@ impl From<AllocError> for LinkFault {
 /// Why nothing is said of a line.
 #[derive(Clone, Copy, Debug, PartialEq, Eq)]
 pub(crate) enum RoomFault {
-    /// A growth was refused.
+    /// An allocation failed.
     Memory,
     /// A text is longer than the second parser's can be.
     Overflow,

@@ -4,7 +4,8 @@ ghost use Rattle.std.specs.Str.{IsUtf8};
 ghost use Rattle.uv_model.specs.Ascii.{slash};
 ghost use Rattle.uv_links.specs.Fault.{IsBaseFault};
 ghost use Rattle.uv_links.specs.Judgement.{judged_said};
-ghost use Rattle.uv_links.specs.Report.{DenotesText, IsSaid};
+ghost use Rattle.uv_links.specs.Report.{IsSaid};
+ghost use Rattle.uv_resolve.specs.Resolve.{DenotesText};
 ghost use Rattle.uv_links.specs.Second.{AgreesOnBase, IsReadAs, second_base};
 
 use crate::fault::{LinkFault, RoomFault, fault_of_room};

@@ -48,7 +48,7 @@ fn refused_text(alloc: Global, number: u64, refusal: Refusal) -> Result<String, 
     format!(in alloc; "{number} bad {place} {name}\n")
 }
 
-/// Appends one line of the report, with its LF. The error is want of memory: `out` then still begins with what it held.
+/// Appends one line of the report, with its LF. The error is out of memory: `out` then still begins with what it held.
 #[tactic(auto, unfolding(crate::specs::Report::report_line))]
 pub(crate) fn push_line(
     out: &mut Vec<u8>,

@@ -4,7 +4,8 @@ ghost use Rattle.std.specs.Prelude.{◌≡◌, ◌&&◌, [], IsTrue, Some, false
 ghost use Rattle.std.specs.List.{list_all};
 ghost use Rattle.std.specs.Str.{IsAscii, chars};
 ghost use Rattle.uv_grammar.specs.Slices.{chars_of_option};
-ghost use Rattle.uv_links.specs.OwnText.{EndsInHost, HasNoPort, HasOwnFront, HasOwnHost, HasOwnScheme, IsOwnPath, IsOwnRoot, IsOwnScheme, IsOwnText, has_no_dots, is_dot_mark, is_never_encoded};
+ghost use Rattle.uv_links.specs.OwnText.{EndsInHost, HasNoPort, HasOwnPrefix, HasOwnHost, HasOwnScheme, IsOwnPath};
+ghost use Rattle.uv_links.specs.OwnText.{IsOwnRoot, IsOwnScheme, IsOwnText, has_no_dots, is_dot_mark, is_never_encoded};
 
 use memchr::memchr;
 use uv_grammar::{Form, HostRef, Parts};
@@ -15,19 +16,19 @@ use uv_grammar::{Form, HostRef, Parts};
 pub(crate) fn is_own_text(text: &str, parts: &Parts<'_>) -> bool
     ensures { IsTrue result → IsOwnText text.now parts.now }
 {
-    is_own_path(parts.path_text()) && has_own_front(text, parts)
+    is_own_path(parts.path_text()) && has_own_prefix(text, parts)
 }
 
 /// The same of a text that ends in its host, where the URL's text has a `/` behind it.
 pub(crate) fn is_own_root(text: &str, parts: &Parts<'_>) -> bool
     ensures { IsTrue result → IsOwnRoot text.now parts.now }
 {
-    ends_in_host(parts) && has_own_front(text, parts)
+    ends_in_host(parts) && has_own_prefix(text, parts)
 }
 
 // Whether no part is encoded, and what stands before the path is written as it is denoted.
-fn has_own_front(text: &str, parts: &Parts<'_>) -> bool
-    ensures { IsTrue result → HasOwnFront text.now parts.now }
+fn has_own_prefix(text: &str, parts: &Parts<'_>) -> bool
+    ensures { IsTrue result → HasOwnPrefix text.now parts.now }
 {
     match parts.form() {
         Form::SchemeAuthority => {

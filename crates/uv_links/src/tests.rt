@@ -1,8 +1,8 @@
-//! Reports on lists written out: the format of a link list's lines and counts, and the faults of devices.
+//! Reports on lists written out: the format of a link list's lines and counts, and I/O errors.
 ghost use Rattle.std.specs.Prelude.{◌+◌, ◌<◌, None};
 
-mod devices;
 mod record_texts;
+mod streams;
 
 use super::*;
 use std::alloc::Global;
@@ -143,8 +143,8 @@ impl Source for Broken {
         self.reads = self.reads.saturating_add(1);
         let bytes = b"urn:a\nurn";
         match into.get_mut(..bytes.len()) {
-            Some(front) if self.reads == 1 => {
-                front.copy_from_slice(bytes);
+            Some(prefix) if self.reads == 1 => {
+                prefix.copy_from_slice(bytes);
                 Ok(bytes.len())
             }
             _ => {
@@ -161,7 +161,7 @@ impl Source for Broken {
 
 // A line before a failed read is out, and neither the begun one nor the counts.
 #[test]
-fn tells_a_failed_read(rt: HostRuntime) {
+fn reports_a_failed_read(rt: HostRuntime) {
     let mut reader = Broken {
         reads: 0,
         failures: 0,
@@ -210,7 +210,7 @@ impl Sink for Narrow {
 }
 
 #[test]
-fn tells_a_failed_write(rt: HostRuntime) {
+fn reports_a_failed_write(rt: HostRuntime) {
     let whole = "1 ok urn:a\nlinks 1 ok 1 bad 0 differs 0\n".len();
     for (room, fails) in [(0, true), (5, true), (whole - 1, true), (whole, false)] {
         let bytes: &[u8] = b"urn:a\n";

@@ -1,5 +1,5 @@
 pub mod DiagnosticLemmas
-pub mod FindingLemmas
+pub mod LineViolationLemmas
 pub mod ReporterLemmas
 pub mod RunLemmas
 pub mod LocatedLemmas

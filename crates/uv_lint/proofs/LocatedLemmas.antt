@@ -1,6 +1,7 @@
 -- Lemmas on lines that say where their links stand.
 use Rattle.std.proofs.Common.{◌≡◌, ℕ, suc, ◌+◌, ◌<◌, ◌≤◌, ◌^◌, List, [], ◌∷◌, true, false, drop, get_or, length, take}
-use Rattle.std.proofs.Common.{Option, Some, None, Ok, Err, is_some, option_map, refl, sym, ap, ◌∙◌, arith, inl, inr, rules}
+use Rattle.std.proofs.Common.{Option, Some, None, Ok, Err, is_some, option_map, refl, sym, ap, ◌∙◌, arith, inl, inr}
+use Rattle.std.proofs.Common.{rules}
 use Rattle.std.proofs.Common.{add-one, drop-cons, le-ltb}
 use Rattle.std.specs.Prelude.{◌==◌}
 use Rattle.std.specs.Char.{is_ascii_digit}
@@ -41,11 +42,11 @@ leading_digits (b ∷ rest) = elim (cases_Bool (is_ascii_digit b)) [
   | inr other ↦ rw other refl
 ]
 
-tells_digits : IsDigitsTest (λ ds. list_all is_ascii_digit ds ≡ true)
-tells_digits = search rules
+digits_test : IsDigitsTest (λ ds. list_all is_ascii_digit ds ≡ true)
+digits_test = search rules
 
 own : IsNumeralModel (λ ds. list_all is_ascii_digit ds ≡ true) (digits_value 10)
-own = numerals_by_value (λ ds. list_all is_ascii_digit ds ≡ true) tells_digits
+own = numerals_by_value (λ ds. list_all is_ascii_digit ds ≡ true) digits_test
 
 -- digits are UTF-8
 pub digits_utf8 : (digits : List ℕ) → list_all is_ascii_digit digits ≡ true → IsUtf8 digits

@@ -3,7 +3,7 @@ use Rattle.std.proofs.Common.{◌≡◌, ℕ, ◌+◌, Bool, List, [], ◌∷◌
 use Rattle.std.proofs.Common.{◌∙◌, subst, arith, sum_by, inl, inr, zero-add}
 use Rattle.std.proofs.lemmas.List.Sums.{sum_by-append}
 use Rattle.std.specs.declared.alloc.AllocError.{AllocError}
-use Rattle.uv_report.specs.declared.finding.Finding.{Finding}
+use Rattle.uv_report.specs.declared.line_violation.LineViolation.{LineViolation}
 use Rattle.uv_lines.specs.declared.fault.LineFault.{LineFault}
 use Rattle.uv_lines.specs.declared.fault.LineFault.TheVariants as stopped
 use Rattle.uv_lines.specs.declared.limits.LineLimits.{LineLimits}
@@ -14,7 +14,7 @@ use Rattle.uv_lines.specs.Reported.{Reported}
 use Rattle.uv_lines.specs.Run as run
 use Rattle.uv_lint.specs.declared.counts.LintCounts.{LintCounts}
 use Rattle.uv_lint.specs.declared.fault.LintFault.{LintFault}
-use Rattle.uv_lint.specs.Findings.{AreAllFindings, FileSetting}
+use Rattle.uv_lint.specs.LineViolations.{AreAllViolations, FileSetting}
 use Rattle.uv_lint.specs.Report.{IsReport, counted, judged_line, judged_lines, judged_of, line_text, lines_text}
 use Rattle.uv_lint.specs.Report.{lines_within, list_begin_text, list_end_text, none_counted, refused_of, tally}
 use Rattle.uv_lint.specs.Reporting.{Linting, Says, with_line}
@@ -33,8 +33,8 @@ counts_of a b = record { lines = a; refused = b }
 same_counts : (a a' b b' : ℕ) → a ≡ a' → b ≡ b' → counts_of a b ≡ counts_of a' b'
 same_counts a a' b b' p q = ap (λ n. counts_of n b) p ∙ ap (λ n. counts_of a' n) q
 
-plus-counted : (c : LintCounts) (line : Option (List ℕ)) (found : List Finding) (lines : List (Option (List ℕ)))
-    (rest : List (List Finding))
+plus-counted : (c : LintCounts) (line : Option (List ℕ)) (found : List LineViolation) (lines : List (Option (List ℕ)))
+    (rest : List (List LineViolation))
     → plus (counted c line found) (tally lines rest) ≡ plus c (tally (line ∷ lines) (found ∷ rest))
 plus-counted c line found lines rest =
     let judged = sum_by-append judged_of (line ∷ []) lines in
@@ -50,33 +50,33 @@ plus-no_lines : (c : LintCounts) → c ≡ plus c (tally [] [])
 plus-no_lines c = same_counts c.lines (c.lines + 0) c.refused (c.refused + 0) (omega arith) (omega arith)
 
 -- what was said of lines, one after the other
-record WasTold (n : ℕ) (p : Linting) (ls : List (List ℕ)) (text : List ℕ) (q : Linting) : Type 0 where
-  findings : List (List Finding)
-  found : AreAllFindings p.setting (judged_lines p.lines (map (short_line n) ls)) findings
-  lines : text ≡ lines_text p.setting (p.lines + 1) p.is_first (judged_lines p.lines (map (short_line n) ls)) findings
-  counts : q.counts ≡ plus p.counts (tally (judged_lines p.lines (map (short_line n) ls)) findings)
+record WasReported (n : ℕ) (p : Linting) (ls : List (List ℕ)) (text : List ℕ) (q : Linting) : Type 0 where
+  violations : List (List LineViolation)
+  found : AreAllViolations p.setting (judged_lines p.lines (map (short_line n) ls)) violations
+  lines : text ≡ lines_text p.setting (p.lines + 1) p.is_first (judged_lines p.lines (map (short_line n) ls)) violations
+  counts : q.counts ≡ plus p.counts (tally (judged_lines p.lines (map (short_line n) ls)) violations)
 
-was_told : (n : ℕ) (p q : Linting) (ls : List (List ℕ)) (text : List ℕ) → Reported Says n p ls text q
-    → WasTold n p ls text q
-was_told n p q [] text all = record {
-  findings = [];
+was_reported : (n : ℕ) (p q : Linting) (ls : List (List ℕ)) (text : List ℕ) → Reported Says n p ls text q
+    → WasReported n p ls text q
+was_reported n p q [] text all = record {
+  violations = [];
   found = tt {0};
   lines = all.0;
   counts = ap (λ r. r.counts) all.1 ∙ plus-no_lines p.counts;
 }
-was_told n p q (l ∷ ls) text all =
+was_reported n p q (l ∷ ls) text all =
     let rest = all.1 in
     let says = all.3 in
     let line = judged_line p.lines (short_line n l) in
-    let more : WasTold n (with_line p line says.findings) ls rest q =
-    subst (λ s. WasTold n s ls rest q) says.left (was_told n all.2 q ls rest all.4) in
+    let more : WasReported n (with_line p line says.violations) ls rest q =
+    subst (λ s. WasReported n s ls rest q) says.left (was_reported n all.2 q ls rest all.4) in
     record {
-      findings = says.findings ∷ more.findings;
+      violations = says.violations ∷ more.violations;
       found = (says.found, more.found);
       lines = all.5 ∙ ap (λ t. t ++ rest) says.written
-          ∙ ap (λ t. line_text p.setting (p.lines + 1) line p.is_first says.findings ++ t) more.lines;
-      counts = more.counts ∙ plus-counted p.counts line says.findings
-          (judged_lines (p.lines + 1) (map (short_line n) ls)) more.findings;
+          ∙ ap (λ t. line_text p.setting (p.lines + 1) line p.is_first says.violations ++ t) more.lines;
+      counts = more.counts ∙ plus-counted p.counts line says.violations
+          (judged_lines (p.lines + 1) (map (short_line n) ls)) more.violations;
     }
 
 -- ---- from a run over lines to the report
@@ -97,14 +97,14 @@ pub is_report : (s : FileSetting) (n : ℕ) (is_first : Bool) (begin end : List 
     (ls : List (List ℕ)) (text : List ℕ) → p ≡ fresh s is_first → begin ≡ begin_of s → end ≡ end_of s
     → Framed Says n begin (λ _. end) p ls text q → IsReport s n is_first ls text q.counts
 is_report s n is_first begin end p q ls text starts begins ends framed =
-    let told = was_told n (fresh s is_first) q ls framed.said
+    let reported = was_reported n (fresh s is_first) q ls framed.said
     (subst (λ start. Reported Says n start ls framed.said q) starts framed.reported) in
     record {
-      findings = told.findings;
-      found = told.found;
+      violations = reported.violations;
+      found = reported.found;
       whole = framed.whole ∙ ap (λ t. t ++ (framed.said ++ end)) begins
-          ∙ ap (λ t. begin_of s ++ (framed.said ++ t)) ends ∙ ap (λ t. begin_of s ++ (t ++ end_of s)) told.lines;
-      counts_are = told.counts ∙ plus-none (tally (lines_within n ls) told.findings);
+          ∙ ap (λ t. begin_of s ++ (framed.said ++ t)) ends ∙ ap (λ t. begin_of s ++ (t ++ end_of s)) reported.lines;
+      counts_are = reported.counts ∙ plus-none (tally (lines_within n ls) reported.violations);
     }
 
 -- ---- the answer

@@ -1,8 +1,8 @@
 pub mod Located
 pub mod LocatedViews
-pub mod Findings
+pub mod LineViolations
 pub mod Report
-pub mod Told
+pub mod ReportedView
 pub mod Reporting
 pub mod Run
 pub mod ReportRows

@@ -3,13 +3,13 @@ use Rattle.std.specs.Prelude.{◌≡◌, ℕ, ◌++◌, true, List, [], ◌∷�
 use Rattle.uv_model.specs.declared.extent.Extent.TheVariants.{First}
 use Rattle.uv_model.specs.declared.profile.Profile.TheVariants.{Standard}
 use Rattle.uv_model.specs.declared.rule.Rule.TheVariants.{NoScheme, CodePoint}
-use Rattle.uv_report.specs.declared.finding.Finding.{Finding}
-use Rattle.uv_report.specs.declared.finding.Finding.TheVariants.{Refused, NotUtf8, TooLong, NotLocated}
+use Rattle.uv_report.specs.declared.line_violation.LineViolation.{LineViolation}
+use Rattle.uv_report.specs.declared.line_violation.LineViolation.TheVariants.{Refused, NotUtf8, TooLong, NotLocated}
 use Rattle.uv_report.specs.declared.format.Format.{Format}
 use Rattle.uv_report.specs.declared.format.Format.TheVariants.{Gnu, Checkstyle}
 use Rattle.uv_lines.specs.Lines.{lines_of}
 use Rattle.uv_lint.specs.declared.setting.LineForm.TheVariants.{Located}
-use Rattle.uv_lint.specs.Findings.{FileSetting}
+use Rattle.uv_lint.specs.LineViolations.{FileSetting}
 use Rattle.uv_lint.specs.Located.{LocatedLink, located}
 use Rattle.uv_lint.specs.Report.{lines_text, lines_within}
 
@@ -54,11 +54,12 @@ located_setting format = record {
 -- form, and one of more than 24 bytes
 abbrev pub located_list : List ℕ
 located_list =
-    codes "a.html:3:10:urn:a b\na.html:4:1:urn:a\nb:c:7:8:\na.html:5:2:" ++ (255 ∷ codes "\nurn:a\nabcdefghijklmnopqrstuvwxyz")
+    codes "a.html:3:10:urn:a b\na.html:4:1:urn:a\nb:c:7:8:\na.html:5:2:"
+    ++ (255 ∷ codes "\nurn:a\nabcdefghijklmnopqrstuvwxyz")
 
 -- what is found with them
-abbrev pub located_findings : List (List Finding)
-located_findings =
+abbrev pub located_violations : List (List LineViolation)
+located_violations =
     (Refused (record { place = 5; rule = CodePoint }) ∷ [])
     ∷ []
     ∷ (Refused (record { place = 0; rule = NoScheme }) ∷ [])
@@ -69,7 +70,7 @@ located_findings =
 
 -- the diagnostics on it
 pub record LocatedReportRows : Type 0 where
-  pub gnu : lines_text (located_setting Gnu) 1 true (lines_within 24 (lines_of located_list)) located_findings
+  pub gnu : lines_text (located_setting Gnu) 1 true (lines_within 24 (lines_of located_list)) located_violations
       ≡ codes "a.html:3:15: error: U+0020 SPACE may not stand in a URL [code-point]\n"
       ++ (codes "b:c:7:8: error: there is no scheme and no base [no-scheme]\n"
       ++ (codes "a.html:5:2: error: this line isn't UTF-8 [not-utf8]\n"

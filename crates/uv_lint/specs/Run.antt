@@ -6,11 +6,11 @@ use Rattle.uv_lines.specs.declared.fault.LineFault.{LineFault}
 use Rattle.uv_lines.specs.declared.fault.LineFault.TheVariants as stopped
 use Rattle.uv_lines.specs.declared.limits.LineLimits.{LineLimits}
 use Rattle.uv_lines.specs.Lines.{closed_lines, lines_of}
-use Rattle.uv_lines.specs.Run.{WroteAll, WroteFirst, WroteFront, WroteLines}
+use Rattle.uv_lines.specs.Run.{WroteAll, WroteFirst, WrotePrefix, WroteLines}
 use Rattle.uv_lint.specs.declared.counts.LintCounts.{LintCounts}
 use Rattle.uv_lint.specs.declared.fault.LintFault.{LintFault}
 use Rattle.uv_lint.specs.declared.fault.LintFault.TheVariants.{Memory, Read, Write, TooManyLines, Endless}
-use Rattle.uv_lint.specs.Findings.{FileSetting}
+use Rattle.uv_lint.specs.LineViolations.{FileSetting}
 use Rattle.uv_lint.specs.Report.{IsReport, none_counted}
 
 -- how many bytes a line may have, and how many lines may come
@@ -35,7 +35,7 @@ pub record WroteNothing (old : Option (List ℕ)) (read : List ℕ) (counts : Li
   pub none : counts ≡ none_counted
 
 -- What a fault of a run leaves, when these bytes were read. What was written is the report on some of the first lines
--- with its end, or a front of that behind a failed write.
+-- with its end, or a prefix of that behind a failed write.
 abbrev pub Leaves : LintFault → FileSetting → LineLimits → Bool → Option (List ℕ) → List ℕ → Type 0 → LintCounts
     → Option (List ℕ) → Type 0
 Leaves Memory setting limits is_first old read at_end counts new =
@@ -44,7 +44,7 @@ Leaves Memory setting limits is_first old read at_end counts new =
 Leaves Read setting limits is_first old read at_end counts new =
     WroteFirst (IsReportWithin setting limits is_first) old read (length (closed_lines read)) counts new
 Leaves Write setting limits is_first old read at_end counts new =
-    WroteFront (IsReportWithin setting limits is_first) old read counts new
+    WrotePrefix (IsReportWithin setting limits is_first) old read counts new
 Leaves TooManyLines setting limits is_first old read at_end counts new =
     WroteFirst (IsReportWithin setting limits is_first) old read limits.lines counts new
     × (limits.lines < length (lines_of read))

@@ -3,13 +3,13 @@
 
 mod counts;
 mod fault;
-mod findings;
 pub mod laws;
+mod line_violations;
 mod located;
+mod reported_line;
 mod reporter;
 mod run;
 mod setting;
-mod told_line;
 
 pub use counts::LintCounts;
 pub use fault::LintFault;

@@ -3,7 +3,7 @@ ghost use Rattle.std.specs.Prelude.{◌≡◌, option_copied, option_map, true};
 ghost use Rattle.std.specs.Char.{is_ascii_digit};
 ghost use Rattle.std.specs.List.{list_all};
 ghost use Rattle.std.specs.Str.Parse.{digits_value};
-ghost use Rattle.uv_lint.specs.Findings as findings;
+ghost use Rattle.uv_lint.specs.LineViolations as violations;
 ghost use Rattle.uv_lint.specs.Located as spec;
 ghost use Rattle.uv_lint.specs.LocatedViews.{link_view, number_view, run_view};
 
@@ -40,7 +40,7 @@ struct Run<'l> {
 
 /// The link of a line that says where it stands, where lines are to say it.
 pub(crate) fn link_of(form: LineForm, line: Option<&[u8]>) -> Option<LocatedLink<'_>>
-    ensures { option_map link_view result ≡ findings.link_of form (option_copied line.entry) }
+    ensures { option_map link_view result ≡ violations.link_of form (option_copied line.entry) }
 {
     match form {
         LineForm::Plain => None,

@@ -1,19 +1,20 @@
 //! What reports on the lines of a file.
-ghost use Rattle.std.specs.Prelude.{◌≡◌, ◌+◌, ◌-◌, ◌^◌, ◌<◌, ◌++◌, [], IfOk, OnErr, OnOk, if◌then◌else◌, option_copied, string_bytes};
-ghost use Rattle.uv_lint.specs.Findings.{file_setting};
+ghost use Rattle.std.specs.Prelude.{◌≡◌, ◌+◌, ◌-◌, ◌^◌, ◌<◌, ◌++◌, [], IfOk, OnErr, OnOk, if◌then◌else◌, option_copied};
+ghost use Rattle.std.specs.Prelude.{string_bytes};
+ghost use Rattle.uv_lint.specs.LineViolations.{file_setting};
 ghost use Rattle.uv_lint.specs.Report.{judged_of, line_text, none_counted};
 ghost use Rattle.uv_lint.specs.Report as spec;
 ghost use Rattle.uv_lint.specs.Reporting.{with_line};
 
 use crate::counts::LintCounts;
 use crate::located::link_of;
+use crate::reported_line::{Place, ReportedLine, shown_text};
 use crate::setting::{LineForm, LintSetting};
-use crate::told_line::{Place, ToldLine, shown_text};
 use std::alloc::{AllocError, Global};
 use std::marker::Model;
 use uv_lines::Reporter;
 use uv_model::{Extent, Profile, Record};
-use uv_report::Finding;
+use uv_report::LineViolation;
 
 /// What reports on the lines of a file: what they are judged by, whether no diagnostic of the report was written yet,
 /// and the counts of the lines before.
@@ -26,12 +27,12 @@ pub(crate) struct LintReporter<'a> {
     lines: u64,
     counts: LintCounts,
     // The diagnostics on a line, whose memory is kept for the next one.
-    told: String,
+    reported: String,
 }
 
 impl<'a> Model for LintReporter<'a> {
     ghost use Rattle.std.specs.Prelude.{◌≤◌};
-    ghost use Rattle.uv_lint.specs.Findings.{file_setting};
+    ghost use Rattle.uv_lint.specs.LineViolations.{file_setting};
     ghost use Rattle.uv_lint.specs.Reporting.{Linting};
 
     ghost Value = { Linting };
@@ -47,7 +48,7 @@ impl<'a> Model for LintReporter<'a> {
 }
 
 impl<'a> LintReporter<'a> {
-    /// What reports on a file before its first line. It is told whether no diagnostic of the report was written yet.
+    /// What reports on a file before its first line. It is given whether no diagnostic of the report was written yet.
     pub(crate) fn new(
         alloc: Global,
         file: &'a str,
@@ -70,7 +71,7 @@ impl<'a> LintReporter<'a> {
                 lines: 0,
                 refused: 0,
             },
-            told: String::new(alloc),
+            reported: String::new(alloc),
         }
     }
 
@@ -110,43 +111,49 @@ impl<'a> LintReporter<'a> {
     }
 
     // Appends the diagnostics on the next line.
-    fn tell(
+    fn report_line(
         &mut self,
         alloc: Global,
         line: Option<&[u8]>,
-        findings: &[Finding],
+        violations: &[LineViolation],
         text: &mut Vec<u8>,
     ) -> Result<(), AllocError>
         requires { self.old.lines < 2 ^ 64 - 1 }
         ensures text { OnOk result (text.new.items ≡ text.old.items ++ line_text self.old.setting (self.old.lines + 1)
-            (option_copied line.entry) self.old.is_first findings.now) }
+            (option_copied line.entry) self.old.is_first violations.now) }
         ensures none { OnErr result (text.new.items ≡ text.old.items) }
         ensures same { self.new ≡ self.old }
     {
         let link = link_of(self.setting.form, line);
         let place = Place::of(self.file, self.lines + 1, line, link);
         let shown = shown_text(alloc, place.bytes)?;
-        let told_line = ToldLine {
+        let reported_line = ReportedLine {
             file: place.file,
             line: place.line,
             start: place.start,
             text: shown.as_str(),
         };
-        self.told.clear();
-        told_line.push(alloc, &mut self.told, self.setting, self.is_first, findings)?;
-        text.extend_from_slice(self.told.as_bytes())
+        self.reported.clear();
+        reported_line.push(
+            alloc,
+            &mut self.reported,
+            self.setting,
+            self.is_first,
+            violations,
+        )?;
+        text.extend_from_slice(self.reported.as_bytes())
     }
 
     // Counts a line of which this was found.
-    fn count(&mut self, line: Option<&[u8]>, findings: &[Finding])
+    fn count(&mut self, line: Option<&[u8]>, violations: &[LineViolation])
         requires { self.old.lines < 2 ^ 64 - 1 }
-        ensures { self.new ≡ with_line self.old (option_copied line.entry) findings.now }
+        ensures { self.new ≡ with_line self.old (option_copied line.entry) violations.now }
     {
         self.lines += 1;
         if is_judged(line) {
             self.counts.lines += 1;
         }
-        if !findings.is_empty() {
+        if !violations.is_empty() {
             self.counts.refused += 1;
             self.is_first = false;
         }
@@ -169,11 +176,11 @@ impl<'a> Reporter for LintReporter<'a> {
         text: &mut Vec<u8>,
     ) -> Result<(), AllocError> {
         let line = judged_line(self.lines, line);
-        let findings = self.findings(alloc, line)?;
-        if !findings.is_empty() {
-            self.tell(alloc, line, findings.as_slice(), text)?;
+        let violations = self.violations(alloc, line)?;
+        if !violations.is_empty() {
+            self.report_line(alloc, line, violations.as_slice(), text)?;
         }
-        self.count(line, findings.as_slice());
+        self.count(line, violations.as_slice());
         Ok(())
     }
 

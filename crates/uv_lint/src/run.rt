@@ -1,7 +1,7 @@
 //! A run over a file.
 ghost use Rattle.std.specs.Prelude.{◌≡◌, ℕ, ◌+◌, ◌-◌, ◌^◌, ◌<◌, ◌≤◌, List, IfErr, IfOk, OnOk, string_bytes};
 ghost use Rattle.std.specs.Io.KnownBytes.{Consumes, IsAtEnd};
-ghost use Rattle.uv_lint.specs.Findings.{file_setting};
+ghost use Rattle.uv_lint.specs.LineViolations.{file_setting};
 ghost use Rattle.uv_lint.specs.Report.{list_begin_text, list_end_text};
 ghost use Rattle.uv_lint.specs.Run.{FailsReads, Leaves, Reports, line_limits, writes_failed};
 
@@ -21,12 +21,12 @@ const LINE_LIMITS: LineLimits = LineLimits {
 };
 
 /// Reports on one file: judges each of its lines and writes what stands before the file's diagnostics, a diagnostic for
-/// each finding, and what stands behind them. It is told the name by which diagnostics tell the file, and whether no
+/// each violation, and what stands behind them. It is given the name by which diagnostics name the file, and whether no
 /// diagnostic of the report was written yet.
 ///
 /// A located line is `FILE:LINE:COLUMN:LINK`, where FILE is all before the first `:digits:digits:`. Its link is judged,
-/// also an empty one, and told by that file and line and from that column on. What isn't of this form is told by the name
-/// and number of the list's line. What stands round a file's diagnostics then stands round each diagnostic.
+/// also an empty one, and reported by that file and line and from that column on. What isn't of this form is reported
+/// by the name and number of the list's line. What stands round a file's diagnostics then stands round each diagnostic.
 ///
 /// A line ends with LF, and one CR before that is no part of it; a last part without LF is a line where it isn't empty.
 /// A byte order mark at the file's start is no part of the first line, though it is among the bytes that this may have.

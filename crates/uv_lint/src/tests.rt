@@ -2,7 +2,7 @@
 //! formats.
 ghost use Rattle.std.specs.Prelude.{◌≤◌};
 
-mod devices;
+mod streams;
 
 use super::*;
 use crate::run::run_within;
@@ -52,7 +52,7 @@ fn reports(
 
 // An empty line, a CR before LF, a byte that isn't UTF-8, a last line without LF, and a CR that stays.
 #[test]
-fn tells_each_line_by_its_number(rt: HostRuntime) {
+fn reports_each_line_by_its_number(rt: HostRuntime) {
     let list = b"http://h/\n\nhttp://x_y/\r\n\xff\n\r\nb";
     let report = "list:3:8: error: the host that begins here is no valid domain [host-domain]\n\
         list:4:1: error: this line isn't UTF-8 [not-utf8]\n\
@@ -134,7 +134,7 @@ fn judges_by_the_profile_and_the_base(rt: HostRuntime) -> Result<(), Fail> {
 }
 
 #[test]
-fn tells_the_least_complaint_or_all(rt: HostRuntime) {
+fn reports_the_least_violation_or_all(rt: HostRuntime) {
     let list = b"http://h/a b%zz\nhttp://u@h/a b\n";
     let first = "list:1:11: error: U+0020 SPACE may not stand in a URL [code-point]\n\
         list:2:8: error: a URL string has no credentials: no user name, password or @ before its host \
@@ -207,12 +207,13 @@ fn sarif_result(alloc: Global, line: u64, column: u64, link: &str) -> Result<Str
 
 // Links that say where they stand, and lines that don't: the first run of two numbers ends the file's name.
 #[test]
-fn tells_located_links_where_they_stand(rt: HostRuntime) {
+fn reports_located_links_where_they_stand(rt: HostRuntime) {
     let located = LintSetting {
         form: LineForm::Located,
         ..PLAIN
     };
-    let list = b"a.html:3:10:http://h/a b\n\nC:\\x.html:3:4:http://h/\nC:\\y.html:3:4:b\na:1:2:3:4:x\n\
+    let list =
+        b"a.html:3:10:http://h/a b\n\nC:\\x.html:3:4:http://h/\nC:\\y.html:3:4:b\na:1:2:3:4:x\n\
         a:1:2:\na:1:0:x\na:1:4294967296:x\na:007:08:x\n:1:2:x\nhttp://h/\na:1:2:\xff\n\xff:1:2:x\n";
     let report = "a.html:3:20: error: U+0020 SPACE may not stand in a URL [code-point]\n\
         C:\\y.html:3:4: error: there is no scheme and no base [no-scheme]\n\
@@ -234,7 +235,13 @@ fn tells_located_links_where_they_stand(rt: HostRuntime) {
         message=\"there is no scheme and no base\" source=\"urlcheck.no-scheme\"/>\n</file>\n\
         <file name=\"list\">\n<error line=\"3\" column=\"1\" severity=\"error\" \
         message=\"this line isn't FILE:LINE:COLUMN:LINK\" source=\"urlcheck.not-located\"/>\n</file>\n";
-    reports(&rt, b"a:1:2:b\nb:1:2:urn:a\nurn:a\n", checkstyle, elements, (3, 2));
+    reports(
+        &rt,
+        b"a:1:2:b\nb:1:2:urn:a\nurn:a\n",
+        checkstyle,
+        elements,
+        (3, 2),
+    );
     reports(&rt, b"", checkstyle, "", (0, 0));
 }
 

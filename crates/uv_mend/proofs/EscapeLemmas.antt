@@ -13,11 +13,12 @@ use Rattle.uv_model.specs.Ascii.{number_sign, slash}
 use Rattle.uv_model.specs.Cut.{starts_with_two_slashes}
 use Rattle.uv_model.specs.Units.{is_unit_at}
 use Rattle.uv_model.specs.Valid.{starts_with_scheme}
-use Rattle.uv_mend.specs.declared.fronts.Stop.{Stop}
-use Rattle.uv_mend.specs.declared.fronts.Stop.TheVariants.{Scheme, Authority}
+use Rattle.uv_mend.specs.declared.prefixes.Stop.{Stop}
+use Rattle.uv_mend.specs.declared.prefixes.Stop.TheVariants.{Scheme, Authority}
 use Rattle.uv_mend.specs.CodePoints.{behind_one, first_alone}
 use Rattle.uv_mend.specs.Escapes.{IsEscapingOf, as_unit, as_units, escape, escaped, escaped_behind}
-use Rattle.uv_mend.specs.Fronts.{authority_front, before, behind_authority, behind_scheme, onward, scheme_front, stops}
+use Rattle.uv_mend.specs.Prefixes.{authority_prefix, before, behind_authority, behind_scheme, onward, scheme_prefix}
+use Rattle.uv_mend.specs.Prefixes.{stops}
 
 -- an escape's code points are below 128
 escape_ascii : (b : ℕ) → IsEscapeByte b → b < 128
@@ -29,34 +30,34 @@ chars-escape b =
     chars-IsAscii (percent_encode_byte b) (IsAscii-from_all (percent_encode_byte b)
     (All-weaker IsEscapeByte (λ c. c < 128) escape_ascii (percent_encode_byte b) (All-percent_encode_byte b)))
 
--- ---- the fronts and what stands behind them are the text
+-- ---- the prefixes and what stands behind them are the text
 
-front_parts : (stop : Stop) (text : List ℕ) → before stop text ++ onward stop text ≡ text
-front_parts stop [] = refl
-front_parts stop (c ∷ rest) =
-    ⊎_elim (λ e. rw e refl) (λ e. rw e (ap (λ t. c ∷ t) (front_parts stop rest))) (cases_Bool (stops stop c))
+prefix_parts : (stop : Stop) (text : List ℕ) → before stop text ++ onward stop text ≡ text
+prefix_parts stop [] = refl
+prefix_parts stop (c ∷ rest) =
+    ⊎_elim (λ e. rw e refl) (λ e. rw e (ap (λ t. c ∷ t) (prefix_parts stop rest))) (cases_Bool (stops stop c))
 
 first_parts : (text : List ℕ) → first_alone text ++ behind_one text ≡ text
 first_parts [] = refl
 first_parts (c ∷ rest) = refl
 
 -- the scheme with its `:`
-pub scheme_parts : (text : List ℕ) → scheme_front text ++ behind_scheme text ≡ text
-unfolding scheme_front behind_scheme
+pub scheme_parts : (text : List ℕ) → scheme_prefix text ++ behind_scheme text ≡ text
+unfolding scheme_prefix behind_scheme
 scheme_parts text =
     ⊎_elim
     (λ e. rw e (append_assoc (before Scheme text) (first_alone (onward Scheme text)) (behind_one (onward Scheme text))
-    ∙ ap (λ t. before Scheme text ++ t) (first_parts (onward Scheme text)) ∙ front_parts Scheme text))
+    ∙ ap (λ t. before Scheme text ++ t) (first_parts (onward Scheme text)) ∙ prefix_parts Scheme text))
     (λ e. rw e refl) (cases_Bool (starts_with_scheme text))
 
 -- `//` and the authority
-pub authority_parts : (text : List ℕ) → authority_front text ++ behind_authority text ≡ text
-unfolding authority_front behind_authority
+pub authority_parts : (text : List ℕ) → authority_prefix text ++ behind_authority text ≡ text
+unfolding authority_prefix behind_authority
 authority_parts [] = refl
 authority_parts (c ∷ []) = refl
 authority_parts (c ∷ d ∷ rest) =
     ⊎_elim
-    (λ e. rw e (ap (λ t. slash ∷ slash ∷ t) (front_parts Authority rest) ∙ slashes c d rest e))
+    (λ e. rw e (ap (λ t. slash ∷ slash ∷ t) (prefix_parts Authority rest) ∙ slashes c d rest e))
     (λ e. rw e refl) (cases_Bool ((c == slash) && (d == slash)))
   where
     slashes : (c d : ℕ) (rest : List ℕ) → ((c == slash) && (d == slash)) ≡ true
@@ -65,10 +66,11 @@ authority_parts (c ∷ d ∷ rest) =
 
 -- ---- escapings
 
--- a front may be kept
-escaping_behind : (front rest other : List ℕ) → IsEscapingOf rest other → IsEscapingOf (front ++ rest) (front ++ other)
+-- a prefix may be kept
+escaping_behind : (prefix rest other : List ℕ) → IsEscapingOf rest other
+    → IsEscapingOf (prefix ++ rest) (prefix ++ other)
 escaping_behind [] rest other is = is
-escaping_behind (c ∷ front) rest other is = (front ++ other, inl refl, escaping_behind front rest other is)
+escaping_behind (c ∷ prefix) rest other is = (prefix ++ other, inl refl, escaping_behind prefix rest other is)
 
 -- a code point stays or is written as its escapes
 unit_cases : (in_fragment : Bool) (c : ℕ) (rest : List ℕ)
@@ -102,7 +104,7 @@ escaped_escaping text =
     let behind = behind_scheme text in
     let inner : IsEscapingOf behind (escaped_behind behind) =
     subst (λ t. IsEscapingOf t (escaped_behind behind)) (authority_parts behind)
-    (escaping_behind (authority_front behind) (behind_authority behind) (as_units false (behind_authority behind))
+    (escaping_behind (authority_prefix behind) (behind_authority behind) (as_units false (behind_authority behind))
     (units_escaping false (behind_authority behind))) in
-    subst (λ t. IsEscapingOf t (scheme_front text ++ escaped_behind behind)) (scheme_parts text)
-    (escaping_behind (scheme_front text) behind (escaped_behind behind) inner)
+    subst (λ t. IsEscapingOf t (scheme_prefix text ++ escaped_behind behind)) (scheme_parts text)
+    (escaping_behind (scheme_prefix text) behind (escaped_behind behind) inner)

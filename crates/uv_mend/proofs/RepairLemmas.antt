@@ -2,21 +2,21 @@
 use Rattle.std.proofs.Common.{◌≡◌, ℕ, suc, List, Option, Some, None, refl}
 use Rattle.uv_model.specs.declared.profile.Profile.{Profile}
 use Rattle.uv_model.specs.declared.rule.Refusal.{Refusal}
-use Rattle.uv_model.specs.Complaints.Complaint.{Complaint}
-use Rattle.uv_model.specs.Complaints.Refusal.{IsLeast}
+use Rattle.uv_model.specs.Violations.Violation.{Violation}
+use Rattle.uv_model.specs.Violations.Refusal.{IsLeast}
 use Rattle.uv_model.specs.Records.Url.{Url}
 use Rattle.uv_mend.specs.Edits.{edit_of}
 use Rattle.uv_mend.specs.Repairs.{Repairs}
 
 -- what further edits make of its edit
 pub repairs-edited : (edits : ℕ) (profile : Profile) (base : Option Url) (text next : List ℕ)
-    (answer : Option (List ℕ)) (refusal : Refusal) → IsLeast (Complaint profile base text) (Some refusal)
+    (answer : Option (List ℕ)) (refusal : Refusal) → IsLeast (Violation profile base text) (Some refusal)
     → edit_of base text refusal ≡ Some next → Repairs edits profile base next answer
     → Repairs (suc edits) profile base text answer
 repairs-edited edits profile base text next answer refusal least is more = (Some refusal, least, rw is more)
 
 -- there is none
 pub repairs-stuck : (edits : ℕ) (profile : Profile) (base : Option Url) (text : List ℕ)
-    (refusal : Refusal) → IsLeast (Complaint profile base text) (Some refusal)
+    (refusal : Refusal) → IsLeast (Violation profile base text) (Some refusal)
     → edit_of base text refusal ≡ None → Repairs (suc edits) profile base text None
 repairs-stuck edits profile base text refusal least is = (Some refusal, least, rw is refl)

@@ -5,7 +5,7 @@ use Rattle.std.specs.Char.{encode_utf8}
 use Rattle.percent_encoding.specs.Percent.{percent_encode_byte}
 use Rattle.uv_model.specs.Ascii.{number_sign}
 use Rattle.uv_model.specs.Units.{is_unit_at}
-use Rattle.uv_mend.specs.Fronts.{authority_front, behind_authority, behind_scheme, scheme_front}
+use Rattle.uv_mend.specs.Prefixes.{authority_prefix, behind_authority, behind_scheme, scheme_prefix}
 
 -- the escapes of a code point's UTF-8, as `%25` of `%`
 unfoldable pub escape : ℕ → List ℕ
@@ -25,11 +25,11 @@ as_units in_fragment (c ∷ rest) =
 
 -- the text behind a scheme: its authority stays
 abbrev pub escaped_behind : List ℕ → List ℕ
-escaped_behind text = authority_front text ++ as_units false (behind_authority text)
+escaped_behind text = authority_prefix text ++ as_units false (behind_authority text)
 
 -- the text with each code point of the path, the query and the fragment that is no unit written as escapes
 unfoldable pub escaped : List ℕ → List ℕ
-escaped text = scheme_front text ++ escaped_behind (behind_scheme text)
+escaped text = scheme_prefix text ++ escaped_behind (behind_scheme text)
 
 -- ---- what such a text is
 

@@ -8,9 +8,9 @@ use Rattle.uv_model.specs.declared.scheme.Class.TheVariants.{Special, File, Othe
 use Rattle.uv_model.specs.Ascii.{slash}
 use Rattle.uv_model.specs.Cut.{is_port_mark, is_within}
 use Rattle.uv_model.specs.Records.Url.{Url}
-use Rattle.uv_mend.specs.declared.fronts.Stop.TheVariants.{Authority}
+use Rattle.uv_mend.specs.declared.prefixes.Stop.TheVariants.{Authority}
 use Rattle.uv_mend.specs.CodePoints.{behind_one}
-use Rattle.uv_mend.specs.Fronts.{behind_scheme, class_against, scheme_front, stops}
+use Rattle.uv_mend.specs.Prefixes.{behind_scheme, class_against, scheme_prefix, stops}
 use Rattle.uv_mend.specs.Second.{reading}
 
 -- the host of a URL that has one, and no user name and no password
@@ -36,7 +36,7 @@ behind_host class within (c ∷ rest) =
 -- the text of this class, which has an authority, with this host in place of its own
 unfoldable pub with_host : Class → List ℕ → List ℕ → List ℕ
 with_host class text host =
-    scheme_front text ++ (slash ∷ slash ∷ (host
+    scheme_prefix text ++ (slash ∷ slash ∷ (host
     ++ behind_host class false (behind_one (behind_one (behind_scheme text)))))
 
 -- the text with the host of what the second parser reads

@@ -1,6 +1,6 @@
 -- The definitions, in the order in which to read them.
 pub mod CodePoints
-pub mod Fronts
+pub mod Prefixes
 pub mod Escapes
 pub mod Prepared
 pub mod Slashes

@@ -3,8 +3,8 @@ use Rattle.std.specs.Prelude.{◌≡◌, ℕ, zero, suc, List, Option, Some, Non
 use Rattle.std.specs.declared.alloc.Global.{Global}
 use Rattle.uv_model.specs.declared.profile.Profile.{Profile}
 use Rattle.uv_model.specs.declared.rule.Refusal.{Refusal}
-use Rattle.uv_model.specs.Complaints.Complaint.{Complaint}
-use Rattle.uv_model.specs.Complaints.Refusal.{IsLeast}
+use Rattle.uv_model.specs.Violations.Violation.{Violation}
+use Rattle.uv_model.specs.Violations.Refusal.{IsLeast}
 use Rattle.uv_model.specs.Parts.{Parts}
 use Rattle.uv_model.specs.Records.Url.{Url}
 use Rattle.uv_model.specs.Valid.{Valid}
@@ -30,10 +30,10 @@ EditsTo (Some next) more answer = more next
 -- before left: the first text with which nothing is wrong, or none where an edit is wanting.
 abbrev pub Repairs : ℕ → Profile → Option Url → List ℕ → Option (List ℕ) → Type 0
 Repairs zero profile base text answer =
-    (refusal : Option Refusal) × IsLeast (Complaint profile base text) refusal
+    (refusal : Option Refusal) × IsLeast (Violation profile base text) refusal
     × GoesOn refusal text (λ _. answer ≡ None) answer
 Repairs (suc edits) profile base text answer =
-    (refusal : Option Refusal) × IsLeast (Complaint profile base text) refusal
+    (refusal : Option Refusal) × IsLeast (Violation profile base text) refusal
     × GoesOn refusal text
     (λ least. EditsTo (edit_of base text least) (λ next. Repairs edits profile base next answer) answer) answer
 
@@ -44,9 +44,9 @@ decoded text = chars (string_bytes text)
 -- what the text is, and what its edit makes of it
 abbrev pub IsTried : Profile → Option Url → List ℕ → Tried → Type 0
 IsTried profile base text (tried.Valid same) =
-    IsLeast (Complaint profile base text) None × IsValid profile base text × (decoded same ≡ text)
+    IsLeast (Violation profile base text) None × IsValid profile base text × (decoded same ≡ text)
 IsTried profile base text (tried.Edited next) =
-    (refusal : Refusal) × IsLeast (Complaint profile base text) (Some refusal)
+    (refusal : Refusal) × IsLeast (Violation profile base text) (Some refusal)
     × (edit_of base text refusal ≡ Some next.items)
 IsTried profile base text tried.Stuck =
-    (refusal : Refusal) × IsLeast (Complaint profile base text) (Some refusal) × (edit_of base text refusal ≡ None)
+    (refusal : Refusal) × IsLeast (Violation profile base text) (Some refusal) × (edit_of base text refusal ≡ None)

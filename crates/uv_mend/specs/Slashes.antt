@@ -7,8 +7,8 @@ use Rattle.uv_model.specs.declared.scheme.Class.TheVariants.{Special, File, Othe
 use Rattle.uv_model.specs.Ascii.{slash, backslash}
 use Rattle.uv_model.specs.Records.Url.{Url}
 use Rattle.uv_model.specs.Valid.{starts_with_scheme}
-use Rattle.uv_mend.specs.declared.fronts.Stop.TheVariants.{Start}
-use Rattle.uv_mend.specs.Fronts.{behind_scheme, class_against, scheme_front, stops}
+use Rattle.uv_mend.specs.declared.prefixes.Stop.TheVariants.{Start}
+use Rattle.uv_mend.specs.Prefixes.{behind_scheme, class_against, scheme_prefix, stops}
 
 -- `/` or `\`
 abbrev pub is_slash_mark : ℕ → Bool
@@ -56,4 +56,4 @@ slashed_behind class has_scheme text =
 -- the text with its slashes as they are read
 abbrev pub slashed : Option Url → List ℕ → List ℕ
 slashed base text =
-    scheme_front text ++ slashed_behind (class_against base text) (starts_with_scheme text) (behind_scheme text)
+    scheme_prefix text ++ slashed_behind (class_against base text) (starts_with_scheme text) (behind_scheme text)

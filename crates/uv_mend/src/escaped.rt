@@ -3,7 +3,7 @@ ghost use Rattle.std.specs.Prelude.{◌≡◌, IfOk};
 ghost use Rattle.uv_mend.specs.Escapes.{escaped};
 
 use crate::escapes::push_units;
-use crate::fronts::{push_authority, push_scheme};
+use crate::prefixes::{push_authority, push_scheme};
 use std::alloc::{AllocError, Global};
 
 /// The text with each code point of the path, the query and the fragment that is no unit written as escapes. The scheme

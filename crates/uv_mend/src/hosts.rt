@@ -4,7 +4,7 @@ ghost use Rattle.uv_model.specs.Cut.{is_port_mark, is_within};
 ghost use Rattle.uv_mend.specs.Hosts as spec;
 
 use crate::code_points::{first_of, push_all, push_one, push_text, text_of};
-use crate::fronts::{Stop, behind_two, class_against, push_scheme};
+use crate::prefixes::{Stop, behind_two, class_against, push_scheme};
 use crate::second::reading;
 use std::alloc::{AllocError, Global};
 use url::Url;

@@ -1,7 +1,7 @@
 //! A text edited until it is valid, or no edit is left.
 ghost use Rattle.std.specs.Prelude.{◌≤◌, IfNone, IfOk, IfSome, chars, length, option_copied, option_map};
-ghost use Rattle.uv_model.specs.Complaints.Complaint.{Complaint};
-ghost use Rattle.uv_model.specs.Complaints.Refusal.{IsLeast};
+ghost use Rattle.uv_model.specs.Violations.Violation.{Violation};
+ghost use Rattle.uv_model.specs.Violations.Refusal.{IsLeast};
 ghost use Rattle.uv_mend.specs.Repairs.{IsTried, IsValid, Repairs, decoded};
 
 use crate::code_points::text_of;
@@ -105,7 +105,7 @@ fn least(
     base: Option<&Record>,
     profile: Profile,
 ) -> Result<Option<Refusal>, AllocError>
-    ensures least { IfOk result (IsLeast (Complaint profile (option_copied base.entry) (chars text.now))) }
+    ensures least { IfOk result (IsLeast (Violation profile (option_copied base.entry) (chars text.now))) }
     ensures valid { IfOk result (λ refusal.
         IfNone refusal (IsValid profile (option_copied base.entry) (chars text.now))) }
     ensures within { IfOk result (λ refusal.

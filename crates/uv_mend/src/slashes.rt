@@ -4,7 +4,7 @@ ghost use Rattle.uv_mend.specs.Slashes as spec;
 ghost use Rattle.uv_mend.specs.Slashes.{as_slash, new_slashes, renews_slashes, slashed_behind, with_slashes};
 
 use crate::code_points::{first_of, push_all, push_one};
-use crate::fronts::{Stop, class_against, push_scheme, starts_with_scheme};
+use crate::prefixes::{Stop, class_against, push_scheme, starts_with_scheme};
 use std::alloc::{AllocError, Global};
 use uv_model::{Class, Record};
 

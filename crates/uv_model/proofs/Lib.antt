@@ -4,5 +4,5 @@ pub mod Addresses
 pub mod Hosts
 pub mod Paths
 pub mod Cuts
-pub mod Complaints
+pub mod Violations
 pub mod Records

@@ -47,12 +47,12 @@ abbrev pub written_start : Cut → List ℕ
 written_start cut = written_scheme cut.scheme ++ written_middle cut
 
 -- what stands before the fragment
-abbrev pub written_front : Cut → List ℕ
-written_front cut = written_start cut ++ written_behind question_mark cut.query
+abbrev pub written_prefix : Cut → List ℕ
+written_prefix cut = written_start cut ++ written_behind question_mark cut.query
 
 -- the whole text
 abbrev pub written_cut : Cut → List ℕ
-written_cut cut = written_front cut ++ written_behind number_sign cut.fragment
+written_cut cut = written_prefix cut ++ written_behind number_sign cut.fragment
 
 -- ---- the places of the parts, each a number of code points before the part
 
@@ -78,7 +78,7 @@ query_place cut = length (written_start cut) + 1
 
 -- of the fragment, which is behind `#`
 abbrev pub fragment_place : Cut → ℕ
-fragment_place cut = length (written_front cut) + 1
+fragment_place cut = length (written_prefix cut) + 1
 
 -- ---- brackets in an authority
 
@@ -109,7 +109,7 @@ IsSchemeCut None middle = starts_with_scheme middle ≡ false
 
 -- each `:` of the host text has `[` as the nearest bracket before it, and a port's `:` hasn't
 pub record EndsAtPort (host_text : List ℕ) (port_text : Option (List ℕ)) : Type 0 where
-  pub none_before : (front rest : List ℕ) → host_text ≡ front ++ colon ∷ rest → ends_within front ≡ true
+  pub none_before : (prefix rest : List ℕ) → host_text ≡ prefix ++ colon ∷ rest → ends_within prefix ≡ true
   pub ends : IsSome port_text → ends_within host_text ≡ false
 
 -- the host is the whole authority in class File, and else it ends at the `:` of a port
@@ -128,7 +128,7 @@ IsAuthorityCut class (Some host_text) port_text path_text =
 -- the text, against the base, is cut into these texts
 pub record IsCut (base : Option Url) (text : List ℕ) (cut : Cut) : Type 0 where
   pub whole : text ≡ written_cut cut
-  pub front : is_without number_sign (written_front cut) ≡ true
+  pub prefix : is_without number_sign (written_prefix cut) ≡ true
   pub start : is_without question_mark (written_start cut) ≡ true
   pub scheme : IsSchemeCut cut.scheme (written_middle cut)
   pub authority : IsAuthorityCut (class_in base cut.scheme) cut.host_text cut.port_text cut.path_text
@@ -210,5 +210,5 @@ start_cut base start query fragment =
 -- the cut of the text against the base
 unfoldable pub cut_of : Option Url → List ℕ → Cut
 cut_of base text =
-    let front = text_before number_sign text in
-    start_cut base (text_before question_mark front) (text_behind question_mark front) (text_behind number_sign text)
+    let prefix = text_before number_sign text in
+    start_cut base (text_before question_mark prefix) (text_behind question_mark prefix) (text_behind number_sign text)

@@ -11,7 +11,7 @@ pub mod ProfileName
 pub mod Setting
 pub mod Valid
 pub mod Cut
-pub mod Complaints
+pub mod Violations
 pub mod Records
-pub mod Devices
+pub mod Streams
 pub mod Laws

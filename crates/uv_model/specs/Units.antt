@@ -47,7 +47,7 @@ pub record IsUnits (text : List ℕ) : Type 0 where
 unfoldable pub is_unit_at : ℕ → List ℕ → Bool
 is_unit_at c rest = if c == percent_sign then starts_with_two_hex rest else is_url_code_point c
 
--- from code point to code point no fault of units: what a concatenation of URL units is, told without its cuts
+-- from code point to code point no fault of units: what a concatenation of URL units is, said without its cuts
 abbrev pub is_faultless : List ℕ → Bool
 is_faultless [] = true
 is_faultless (c ∷ rest) = is_unit_at c rest && is_faultless rest

@@ -39,7 +39,7 @@ fn without_root(text: &[u8]) -> &[u8]
     ensures { result.now ≡ spec.without_root text.now }
 {
     match text {
-        [front @ .., b'.'] => front,
+        [prefix @ .., b'.'] => prefix,
         _ => text,
     }
 }
@@ -88,7 +88,7 @@ mod tests {
 
     /// By hand from the ends-in-a-number checker (URL Standard, section 3.5), with `0x` in lower case as a form has it.
     #[test]
-    fn tells_numbers(rt: HostRuntime) {
+    fn finds_numbers(rt: HostRuntime) {
         for (text, ends) in [
             ("1.2.3", true),
             ("a.1.", true),

@@ -2,8 +2,10 @@
 ghost use Rattle.uv_model.specs.Hosts.Address.{AreLibraryTexts};
 ghost use Rattle.uv_model.specs.Hosts.Domain.{StandardDomainsAreWide};
 ghost use Rattle.uv_model.specs.Laws.Addresses.{AddressesAreReadBack};
-ghost use Rattle.uv_model.specs.Laws.CutRows.{CutAndComplaintRows};
-ghost use Rattle.uv_model.specs.Laws.Cuts.{EveryTextHasOneCut, NearestBracketsDecide, PartsAreUnique, TextsWithAComplaintHaveNoParts, TextsWithASchemeIgnoreTheBase, ValidTextsAreCutIntoTheirParts};
+ghost use Rattle.uv_model.specs.Laws.CutRows.{CutAndViolationRows};
+ghost use Rattle.uv_model.specs.Laws.Cuts.{EveryTextHasOneCut, NearestBracketsDecide, PartsAreUnique};
+ghost use Rattle.uv_model.specs.Laws.Cuts.{TextsWithAViolationHaveNoParts, TextsWithASchemeIgnoreTheBase};
+ghost use Rattle.uv_model.specs.Laws.Cuts.{ValidTextsAreCutIntoTheirParts};
 ghost use Rattle.uv_model.specs.Laws.Wholes.{DenotedRecordsAreWellFormed, UnitsAreFaultless, StandardTextsAreWide};
 ghost use Rattle.uv_model.specs.Records.WellFormed.{StandardRecordsAreWide};
 
@@ -28,7 +30,7 @@ pub fn valid_texts_are_cut_into_their_parts()
 {}
 
 /// A text that begins with a scheme and `:` has against every base the same cut, and in each profile the same valid
-/// parts and complaints.
+/// parts and violations.
 pub fn texts_with_a_scheme_ignore_the_base()
     ensures { TextsWithASchemeIgnoreTheBase }
 {}
@@ -39,14 +41,14 @@ pub fn parts_of_a_valid_text_are_unique()
     ensures { PartsAreUnique }
 {}
 
-/// Cuts of texts that are written out, and complaints of texts that are refused, each at its place.
-pub fn cut_and_complaint_rows()
-    ensures { CutAndComplaintRows }
+/// Cuts of texts that are written out, and violations of texts that are refused, each at its place.
+pub fn cut_and_violation_rows()
+    ensures { CutAndViolationRows }
 {}
 
-/// A text with a complaint of a profile has no valid parts in it.
-pub fn texts_with_a_complaint_have_no_parts()
-    ensures { TextsWithAComplaintHaveNoParts }
+/// A text with a violation of a profile has no valid parts in it.
+pub fn texts_with_a_violation_have_no_parts()
+    ensures { TextsWithAViolationHaveNoParts }
 {}
 
 /// The texts of IPv4 and IPv6 addresses are those of the standard library's grammar, with the same values (URL

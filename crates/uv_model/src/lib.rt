@@ -1,9 +1,8 @@
-//! The definitions of valid URL strings and of the URL parser, the records, and the devices.
+//! The definitions of valid URL strings and of the URL parser, the records, and the readers and writers.
 #![tactic(auto)]
 
 mod ascii_units;
 mod code_points;
-mod devices;
 mod domain;
 mod extent;
 mod host;
@@ -16,6 +15,7 @@ mod rule;
 mod scheme;
 mod segments;
 mod serializer;
+mod streams;
 mod text;
 mod units;
 mod url_hosts;
@@ -23,9 +23,6 @@ mod url_paths;
 mod well_formedness;
 
 pub use code_points::{behind_code_points, first_code_point, starts_with_two_hex};
-pub use devices::{
-    DeviceFault, FromReader, ScriptSink, ScriptSource, Sink, Source, ToWriter, write_whole,
-};
 pub use domain::{ends_in_number, is_domain_mark};
 pub use extent::Extent;
 pub use host::Host;
@@ -36,6 +33,9 @@ pub use record::Record;
 pub use rule::{Refusal, Rule};
 pub use scheme::{Class, class_of, default_port, is_name};
 pub use segments::{is_double_dot, is_drive_letter, is_normalized_drive_letter, is_single_dot};
+pub use streams::{
+    DeviceFault, FromReader, ScriptSink, ScriptSource, Sink, Source, ToWriter, write_whole,
+};
 pub use text::{Text, TextList};
 pub use units::is_url_code_point;
 pub use well_formedness::well_formed;

@@ -1,6 +1,7 @@
 //! The rules that a text can violate, and refusals.
 ghost use Rattle.std.specs.Prelude.{◌≡◌, MatchOption};
-ghost use Rattle.uv_model.specs.Complaints.Rule.{IsNoName, named_rule, rule_name, rule_number, rule_sentence, rules_in_order};
+ghost use Rattle.uv_model.specs.Violations.Rule.{IsNoName, named_rule, rule_name, rule_number, rule_sentence};
+ghost use Rattle.uv_model.specs.Violations.Rule.{rules_in_order};
 
 /// A rule of valid URL strings (URL Standard, sections 3.4 and 4.3) that a text violates, by number.
 #[derive(Clone, Copy, Debug, PartialEq, Eq)]

@@ -1,7 +1,9 @@
 //! The URL serializer: a record written as text.
-ghost use Rattle.std.specs.Prelude.{◌≡◌, ◌<◌, ◌∷◌, ◌++◌, OnOk, OnErr, IfOk, Option, Some, None, codes, option_copied, string_bytes};
+ghost use Rattle.std.specs.Prelude.{◌≡◌, ◌<◌, ◌∷◌, ◌++◌, OnOk, OnErr, IfOk, Option, Some, None, codes, option_copied};
+ghost use Rattle.std.specs.Prelude.{string_bytes};
 ghost use Rattle.std.specs.Io.{StartsWith};
-ghost use Rattle.uv_model.specs.Records.Serialize.{serial, serial_authority, serial_host, serial_path, serial_port, serial_segments};
+ghost use Rattle.uv_model.specs.Records.Serialize.{serial, serial_authority, serial_host, serial_path, serial_port};
+ghost use Rattle.uv_model.specs.Records.Serialize.{serial_segments};
 ghost use Rattle.uv_model.specs.Ascii.{colon, question_mark, number_sign};
 ghost use Rattle.uv_model.specs.Parts.{written_behind};
 
@@ -74,12 +76,12 @@ fn push_authority(
             push_host(alloc, out, host)?;
             push_port(alloc, out, port)
         }
-        None => out.push_str(dot_front(path)),
+        None => out.push_str(dot_prefix(path)),
     }
 }
 
 // `/.` before a path that would begin with `//`, which would be read as an authority.
-fn dot_front(path: &UrlPath) -> &'static str
+fn dot_prefix(path: &UrlPath) -> &'static str
     ensures { result.now ≡ serial_authority None None path.now }
 {
     match path {

@@ -4,7 +4,8 @@ ghost use Rattle.std.specs.Prelude.{◌≡◌, ◌↔◌, IsTrue, not, option_co
 ghost use Rattle.uv_model.specs.Hosts.Address.{IsAddress};
 ghost use Rattle.uv_model.specs.Hosts.Domain.{is_form_code_point};
 ghost use Rattle.uv_model.specs.Hosts.OpaqueHost.{is_forbidden_host};
-ghost use Rattle.uv_model.specs.Records.WellFormed.{IsFileHost, IsOtherHost, IsSpecialHost, IsUrlDomain, IsUrlHost, IsUrlOpaqueHost};
+ghost use Rattle.uv_model.specs.Records.WellFormed.{IsFileHost, IsOtherHost, IsSpecialHost, IsUrlDomain, IsUrlHost};
+ghost use Rattle.uv_model.specs.Records.WellFormed.{IsUrlOpaqueHost};
 
 use crate::ascii_units::is_ascii_units;
 use crate::domain::{ends_in_number, is_domain_mark};

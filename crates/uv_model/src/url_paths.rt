@@ -1,7 +1,8 @@
 //! Whether a path may stand in a record, by the class of the scheme and the host (URL Standard, section 4.1).
 ghost use Rattle.std.specs.Prelude.{◌≡◌, ◌↔◌, IsTrue, option_copied, true};
 ghost use Rattle.uv_model.specs.Path.{IsSegment, starts_with_slash};
-ghost use Rattle.uv_model.specs.Records.WellFormed.{AreUrlSegments, IsUrlOpaquePath, IsUrlPath, IsUrlSegment, is_ascii_text, may_be_empty};
+ghost use Rattle.uv_model.specs.Records.WellFormed.{AreUrlSegments, IsUrlOpaquePath, IsUrlPath, IsUrlSegment};
+ghost use Rattle.uv_model.specs.Records.WellFormed.{is_ascii_text, may_be_empty};
 
 use crate::ascii_units::{is_ascii_units, is_without};
 use crate::host::Host;

@@ -4,7 +4,8 @@ ghost use Rattle.std.specs.List.{list_all};
 ghost use Rattle.std.specs.Prelude.{◌≡◌, ◌↔◌, IsTrue, Option, not, option_copied};
 ghost use Rattle.uv_model.specs.Scheme.{default_port, is_scheme, is_scheme_code_point, scheme_class};
 ghost use Rattle.uv_model.specs.Valid.{is_default_port};
-ghost use Rattle.uv_model.specs.Records.WellFormed.{IsUrlFragment, IsUrlPort, IsUrlQuery, IsUrlScheme, WellFormed, takes_port};
+ghost use Rattle.uv_model.specs.Records.WellFormed.{IsUrlFragment, IsUrlPort, IsUrlQuery, IsUrlScheme, WellFormed};
+ghost use Rattle.uv_model.specs.Records.WellFormed.{takes_port};
 
 use crate::ascii_units::{is_ascii_units, is_without};
 use crate::host::Host;

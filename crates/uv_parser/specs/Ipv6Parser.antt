@@ -51,9 +51,9 @@ read_dotted zero seen pieces i (c ∷ text) = None
 read_dotted (suc turns) seen pieces i (c ∷ text) =
     let after = if seen == 1 || seen == 3 then i + 1 else i in
     option_and_then
-    (λ front. option_and_then
+    (λ prefix. option_and_then
     (λ (n, rest). read_dotted turns (seen + 1) (add_number pieces i n) after rest)
-    (read_digits None front))
+    (read_digits None prefix))
     (after_dot seen c text)
 
 -- ---- the main loop

@@ -1,5 +1,7 @@
 //! Laws over the URL parser, each as the clause of a function that does nothing.
-ghost use Rattle.uv_parser.specs.HostParser.{DomainsAreParsed, EmptyHostIsParsed, Ipv4HostsAreParsed, Ipv6HostsAreParsed, OpaqueHostsAreParsed, OtherHostsAreTaken, SpecialHostsAreTaken};
+ghost use Rattle.uv_parser.specs.HostParser.{DomainsAreParsed, EmptyHostIsParsed, Ipv4HostsAreParsed};
+ghost use Rattle.uv_parser.specs.HostParser.{Ipv6HostsAreParsed, OpaqueHostsAreParsed, OtherHostsAreTaken};
+ghost use Rattle.uv_parser.specs.HostParser.{SpecialHostsAreTaken};
 ghost use Rattle.uv_parser.specs.Ipv4Parser.{Ipv4ParserTakesNumbers, Ipv4TextsAreParsed};
 ghost use Rattle.uv_parser.specs.Ipv6Parser.{Ipv6ParserTakesIpv6Texts, Ipv6TextsAreParsed};
 ghost use Rattle.uv_parser.specs.Laws.OtherHosts.{SilentOtherHostsAreValid};
@@ -138,7 +140,7 @@ pub fn reference_rows()
 {}
 
 /// What the parser machine does on fifteen texts without a scheme against each of nine bases (URL Standard, section
-/// 4.4), and the complaints of those that are refused.
+/// 4.4), and the violations of those that are refused.
 pub fn reference_matrix_rows()
     ensures { ReferenceMatrixRows }
 {}
@@ -154,14 +156,14 @@ pub fn denotation_rows()
     ensures { DenotationRows }
 {}
 
-/// Valid parts, well-formed URLs and complaints of hosts that are written out, and parts and URLs that are none (URL
+/// Valid parts, well-formed URLs and violations of hosts that are written out, and parts and URLs that are none (URL
 /// Standard, sections 3.4, 4.1 and 4.3).
 pub fn definition_rows()
     ensures { DefinitionRows }
 {}
 
 /// Texts by which the profiles differ, and some on which they agree: valid parts, the URL that they denote, and
-/// complaints.
+/// violations.
 pub fn profile_rows()
     ensures { ProfileRows }
 {}

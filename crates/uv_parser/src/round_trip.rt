@@ -1,6 +1,7 @@
 //! The laws of the round trip: what the URL serializer writes of a URL is parsed as that URL. Each function does
 //! nothing: the law is its clause.
-ghost use Rattle.uv_parser.specs.Laws.RoundTrip.{DenotedUrlsAreReadBack, ParsedUrlsAreReadBack, ReadableUrlsAreReadBack, StableUrlsAreReadBack};
+ghost use Rattle.uv_parser.specs.Laws.RoundTrip.{DenotedUrlsAreReadBack, ParsedUrlsAreReadBack};
+ghost use Rattle.uv_parser.specs.Laws.RoundTrip.{ReadableUrlsAreReadBack, StableUrlsAreReadBack};
 
 /// Of the serialized text of every readable URL the parser, without a base, makes exactly that URL, within the bound on
 /// its steps and without a validation error (URL Standard, sections 4.4 and 4.5). A URL is readable where it is well

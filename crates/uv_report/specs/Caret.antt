@@ -6,7 +6,7 @@ use Rattle.unicode_width.specs.Width.{char_width}
 use Rattle.uv_report.specs.declared.diagnostic.Diagnostic.{Diagnostic}
 use Rattle.uv_report.specs.declared.escapes.Escapes.TheVariants.{Shown}
 use Rattle.uv_report.specs.Escapes.{escaped, is_hidden}
-use Rattle.uv_report.specs.Finding.{finding_place}
+use Rattle.uv_report.specs.LineViolation.{violation_place}
 use Rattle.uv_report.specs.Gnu.{gnu_text}
 use Rattle.uv_report.specs.Window.{window, window_place}
 
@@ -33,4 +33,4 @@ window_lines line place = caret_lines (window line place) (window_place line pla
 -- the line of the format `gnu`, and these two
 unfoldable pub caret_text : Diagnostic → List ℕ
 caret_text diagnostic =
-    gnu_text diagnostic ++ window_lines diagnostic.text.now (finding_place diagnostic.finding)
+    gnu_text diagnostic ++ window_lines diagnostic.text.now (violation_place diagnostic.violation)

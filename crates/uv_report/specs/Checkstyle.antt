@@ -2,10 +2,10 @@
 use Rattle.std.specs.Prelude.{ℕ, List, ◌++◌, codes, decimal}
 use Rattle.uv_report.specs.declared.diagnostic.Diagnostic.{Diagnostic}
 use Rattle.uv_report.specs.declared.escapes.Escapes.TheVariants.{Attribute}
-use Rattle.uv_report.specs.declared.finding.Finding.{Finding}
+use Rattle.uv_report.specs.declared.line_violation.LineViolation.{LineViolation}
 use Rattle.uv_report.specs.Escapes.{escaped}
 use Rattle.uv_report.specs.Column.{column}
-use Rattle.uv_report.specs.Finding.{finding_name}
+use Rattle.uv_report.specs.LineViolation.{violation_name}
 use Rattle.uv_report.specs.Message.{message}
 
 -- what a document begins with
@@ -31,11 +31,11 @@ error_place diagnostic =
     ++ (decimal (column diagnostic) ++ codes "\" severity=\"error\" message=\"")))
 
 -- its message and what it comes from
-unfoldable pub error_text : List ℕ → Finding → List ℕ
-error_text line finding =
-    escaped Attribute (message line finding) ++ (codes "\" source=\"urlcheck."
-    ++ (escaped Attribute (finding_name finding) ++ codes "\"/>\n"))
+unfoldable pub error_text : List ℕ → LineViolation → List ℕ
+error_text line violation =
+    escaped Attribute (message line violation) ++ (codes "\" source=\"urlcheck."
+    ++ (escaped Attribute (violation_name violation) ++ codes "\"/>\n"))
 
 -- the element of a diagnostic
 unfoldable pub checkstyle_text : Diagnostic → List ℕ
-checkstyle_text diagnostic = error_place diagnostic ++ error_text diagnostic.text.now diagnostic.finding
+checkstyle_text diagnostic = error_place diagnostic ++ error_text diagnostic.text.now diagnostic.violation

@@ -2,11 +2,11 @@
 use Rattle.std.specs.Prelude.{ℕ, List, ◌++◌, codes, decimal}
 use Rattle.uv_report.specs.declared.diagnostic.Diagnostic.{Diagnostic}
 use Rattle.uv_report.specs.declared.escapes.Escapes.TheVariants.{Message, Property}
-use Rattle.uv_report.specs.declared.finding.Finding.{Finding}
+use Rattle.uv_report.specs.declared.line_violation.LineViolation.{LineViolation}
 use Rattle.uv_report.specs.Escapes.{escaped}
 use Rattle.uv_report.specs.Column.{column}
-use Rattle.uv_report.specs.Finding.{finding_name}
-use Rattle.uv_report.specs.Message as told
+use Rattle.uv_report.specs.LineViolation.{violation_name}
+use Rattle.uv_report.specs.Message as reported
 
 -- `::error file=FILE,line=LINE,col=COLUMN`
 unfoldable pub command_place : Diagnostic → List ℕ
@@ -15,11 +15,11 @@ command_place diagnostic =
     ++ (codes ",col=" ++ decimal (column diagnostic)))))
 
 -- `,title=RULE::SENTENCE` and a line feed
-unfoldable pub command_text : List ℕ → Finding → List ℕ
-command_text line finding =
-    codes ",title=" ++ (escaped Property (finding_name finding) ++ (codes "::"
-    ++ (escaped Message (told.message line finding) ++ codes "\n")))
+unfoldable pub command_text : List ℕ → LineViolation → List ℕ
+command_text line violation =
+    codes ",title=" ++ (escaped Property (violation_name violation) ++ (codes "::"
+    ++ (escaped Message (reported.message line violation) ++ codes "\n")))
 
 -- the whole command
 unfoldable pub github_text : Diagnostic → List ℕ
-github_text diagnostic = command_place diagnostic ++ command_text diagnostic.text.now diagnostic.finding
+github_text diagnostic = command_place diagnostic ++ command_text diagnostic.text.now diagnostic.violation

@@ -2,10 +2,10 @@
 use Rattle.std.specs.Prelude.{ℕ, List, ◌++◌, codes, decimal}
 use Rattle.uv_report.specs.declared.diagnostic.Diagnostic.{Diagnostic}
 use Rattle.uv_report.specs.declared.escapes.Escapes.TheVariants.{Shown}
-use Rattle.uv_report.specs.declared.finding.Finding.{Finding}
+use Rattle.uv_report.specs.declared.line_violation.LineViolation.{LineViolation}
 use Rattle.uv_report.specs.Escapes.{escaped}
 use Rattle.uv_report.specs.Column.{column}
-use Rattle.uv_report.specs.Finding.{finding_name}
+use Rattle.uv_report.specs.LineViolation.{violation_name}
 use Rattle.uv_report.specs.Message.{message}
 
 -- `FILE:LINE:COLUMN`
@@ -15,10 +15,10 @@ gnu_position diagnostic =
     ++ decimal (column diagnostic))))
 
 -- `: error: SENTENCE [RULE]` and a line feed
-unfoldable pub gnu_words : List ℕ → Finding → List ℕ
-gnu_words line finding =
-    codes ": error: " ++ (message line finding ++ (codes " [" ++ (finding_name finding ++ codes "]\n")))
+unfoldable pub gnu_words : List ℕ → LineViolation → List ℕ
+gnu_words line violation =
+    codes ": error: " ++ (message line violation ++ (codes " [" ++ (violation_name violation ++ codes "]\n")))
 
 -- `FILE:LINE:COLUMN: error: SENTENCE [RULE]` and a line feed
 unfoldable pub gnu_text : Diagnostic → List ℕ
-gnu_text diagnostic = gnu_position diagnostic ++ gnu_words diagnostic.text.now diagnostic.finding
+gnu_text diagnostic = gnu_position diagnostic ++ gnu_words diagnostic.text.now diagnostic.violation

@@ -4,7 +4,7 @@ use Rattle.serde_json.specs.Data.{Data, boolean, number, unsigned, string, objec
 use Rattle.serde_json.specs.Written.{compact_text}
 use Rattle.uv_report.specs.declared.diagnostic.Diagnostic.{Diagnostic}
 use Rattle.uv_report.specs.Column.{column}
-use Rattle.uv_report.specs.Finding.{finding_name, finding_place}
+use Rattle.uv_report.specs.LineViolation.{violation_name, violation_place}
 use Rattle.uv_report.specs.Message.{message}
 use Rattle.uv_report.specs.Window.{carried, is_cut}
 
@@ -15,9 +15,9 @@ json_value diagnostic =
     (member (codes "cut") (boolean (is_cut diagnostic.text.now))
     (member (codes "file") (string diagnostic.file.now)
     (member (codes "line") (number (unsigned diagnostic.line))
-    (member (codes "message") (string (message diagnostic.text.now diagnostic.finding))
-    (member (codes "rule") (string (finding_name diagnostic.finding))
-    (member (codes "text") (string (carried diagnostic.text.now (finding_place diagnostic.finding)))
+    (member (codes "message") (string (message diagnostic.text.now diagnostic.violation))
+    (member (codes "rule") (string (violation_name diagnostic.violation))
+    (member (codes "text") (string (carried diagnostic.text.now (violation_place diagnostic.violation)))
     no_members)))))))
 
 -- its text without spaces, and a line feed

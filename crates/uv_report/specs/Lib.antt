@@ -1,6 +1,6 @@
 -- The definitions, in the order in which to read them.
 pub mod Explanation
-pub mod Finding
+pub mod LineViolation
 pub mod Column
 pub mod Escapes
 pub mod CodePoint

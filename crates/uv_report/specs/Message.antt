@@ -1,5 +1,5 @@
--- What is told of a line: a sentence that names the code point at the place, where the rule is about one, or that says
--- that a URL string has no credentials.
+-- What is reported of a line: a sentence that names the code point at the place, where the rule is about one, or that
+-- says that a URL string has no credentials.
 use Rattle.std.specs.Prelude.{ℕ, Bool, true, false, ◌&&◌, ◌||◌, ◌==◌, List, ◌++◌, codes, drop, find, if◌then◌else◌}
 use Rattle.std.specs.Prelude.{Option, Some, None, slice_get}
 use Rattle.std.specs.Str.{chars}
@@ -7,11 +7,11 @@ use Rattle.uv_model.specs.declared.rule.Refusal.{Refusal}
 use Rattle.uv_model.specs.declared.rule.Rule.{Rule}
 use Rattle.uv_model.specs.declared.rule.Rule.TheVariants.{HostMissing, HostDomain, HostNumber, HostIpv6}
 use Rattle.uv_model.specs.declared.rule.Rule.TheVariants.{HostCodePoint, PortDigit, PortRange, CodePoint, Percent}
-use Rattle.uv_model.specs.Complaints.Rule.{rule_sentence}
+use Rattle.uv_model.specs.Violations.Rule.{rule_sentence}
 use Rattle.uv_report.specs.CodePoint.{point_text}
-use Rattle.uv_report.specs.Finding.{finding_sentence}
-use Rattle.uv_report.specs.declared.finding.Finding.{Finding}
-use Rattle.uv_report.specs.declared.finding.Finding.TheVariants.{Refused, NotUtf8, TooLong, NotLocated}
+use Rattle.uv_report.specs.LineViolation.{violation_sentence}
+use Rattle.uv_report.specs.declared.line_violation.LineViolation.{LineViolation}
+use Rattle.uv_report.specs.declared.line_violation.LineViolation.TheVariants.{Refused, NotUtf8, TooLong, NotLocated}
 
 -- ---- a code point that violates a rule
 
@@ -64,15 +64,15 @@ credentials_sentence = codes "a URL string has no credentials: no user name, pas
 
 -- ---- a line
 
--- what is told of a refused line
+-- what is reported of a refused line
 unfoldable pub refusal_message : List ℕ → Refusal → List ℕ
 refusal_message line refusal =
     if is_of_authority refusal.rule && has_credentials line refusal.place then credentials_sentence
     else point_sentence refusal.rule (said_of_point refusal.rule) (slice_get (chars line) refusal.place)
 
--- what is told of a line
-abbrev pub message : List ℕ → Finding → List ℕ
+-- what is reported of a line
+abbrev pub message : List ℕ → LineViolation → List ℕ
 message line (Refused refusal) = refusal_message line refusal
-message line NotUtf8 = finding_sentence NotUtf8
-message line TooLong = finding_sentence TooLong
-message line NotLocated = finding_sentence NotLocated
+message line NotUtf8 = violation_sentence NotUtf8
+message line TooLong = violation_sentence TooLong
+message line NotLocated = violation_sentence NotLocated

@@ -1,7 +1,7 @@
 -- Code points that are named, messages and windows, written out.
 use Rattle.std.specs.Prelude.{◌≡◌, ℕ, Bool, true, false, List, [], ◌∷◌, ◌++◌, codes, replicate}
 use Rattle.uv_model.specs.declared.rule.Rule.TheVariants.{HostDomain, PortDigit, CodePoint}
-use Rattle.uv_report.specs.declared.finding.Finding.TheVariants.{Refused}
+use Rattle.uv_report.specs.declared.line_violation.LineViolation.TheVariants.{Refused}
 use Rattle.uv_report.specs.CodePoint.{point_text}
 use Rattle.uv_report.specs.Message.{credentials_sentence, has_credentials, message}
 use Rattle.uv_report.specs.Uri.{uri_path}

@@ -4,14 +4,14 @@ use Rattle.serde_json.specs.Data.{Data, boolean, number, unsigned, string, array
 use Rattle.serde_json.specs.Data.{no_members}
 use Rattle.serde_json.specs.Written.{compact_text}
 use Rattle.uv_model.specs.declared.rule.Rule.{Rule}
-use Rattle.uv_model.specs.Complaints.Rule.{rules_in_order}
+use Rattle.uv_model.specs.Violations.Rule.{rules_in_order}
 use Rattle.uv_report.specs.declared.diagnostic.Diagnostic.{Diagnostic}
-use Rattle.uv_report.specs.declared.finding.Finding.{Finding}
-use Rattle.uv_report.specs.declared.finding.Finding.TheVariants.{Refused, NotUtf8, TooLong, NotLocated}
+use Rattle.uv_report.specs.declared.line_violation.LineViolation.{LineViolation}
+use Rattle.uv_report.specs.declared.line_violation.LineViolation.TheVariants.{Refused, NotUtf8, TooLong, NotLocated}
 use Rattle.uv_report.specs.Column.{column}
-use Rattle.uv_report.specs.Finding.{finding_help, finding_index, finding_name, finding_place}
-use Rattle.uv_report.specs.Finding.{finding_sentence, finding_uri}
-use Rattle.uv_report.specs.Message as told
+use Rattle.uv_report.specs.LineViolation.{violation_help, violation_index, violation_name, violation_place}
+use Rattle.uv_report.specs.LineViolation.{violation_sentence, violation_uri}
+use Rattle.uv_report.specs.Message as reported
 use Rattle.uv_report.specs.Uri.{uri_path}
 use Rattle.uv_report.specs.Window.{carried, is_cut}
 
@@ -21,18 +21,18 @@ message text = object (member (codes "text") (string text) no_members)
 
 -- ---- the rules (section 3.49)
 
--- the rule of a finding
-abbrev pub rule_value : Finding → Data
-rule_value finding =
-    object (member (codes "fullDescription") (message (finding_help finding))
-    (member (codes "help") (message (finding_help finding))
-    (member (codes "helpUri") (string (finding_uri finding))
-    (member (codes "id") (string (finding_name finding))
-    (member (codes "shortDescription") (message (finding_sentence finding)) no_members)))))
+-- the rule of a violation
+abbrev pub rule_value : LineViolation → Data
+rule_value violation =
+    object (member (codes "fullDescription") (message (violation_help violation))
+    (member (codes "help") (message (violation_help violation))
+    (member (codes "helpUri") (string (violation_uri violation))
+    (member (codes "id") (string (violation_name violation))
+    (member (codes "shortDescription") (message (violation_sentence violation)) no_members)))))
 
 -- its text
-unfoldable pub rule_text : Finding → List ℕ
-rule_text finding = compact_text (rule_value finding)
+unfoldable pub rule_text : LineViolation → List ℕ
+rule_text violation = compact_text (rule_value violation)
 
 -- a rule of valid URL strings behind a comma
 unfoldable pub next_rule : Rule → List ℕ
@@ -88,17 +88,17 @@ location_value diagnostic = object (member (codes "physicalLocation") (physical_
 abbrev pub link_value : Diagnostic → Data
 link_value diagnostic =
     object (member (codes "cut") (boolean (is_cut diagnostic.text.now))
-    (member (codes "text") (string (carried diagnostic.text.now (finding_place diagnostic.finding))) no_members))
+    (member (codes "text") (string (carried diagnostic.text.now (violation_place diagnostic.violation))) no_members))
 
 -- the result of a diagnostic
 abbrev pub result_value : Diagnostic → Data
 result_value diagnostic =
     object (member (codes "level") (string (codes "error"))
     (member (codes "locations") (single (location_value diagnostic))
-    (member (codes "message") (message (told.message diagnostic.text.now diagnostic.finding))
+    (member (codes "message") (message (reported.message diagnostic.text.now diagnostic.violation))
     (member (codes "properties") (link_value diagnostic)
-    (member (codes "ruleId") (string (finding_name diagnostic.finding))
-    (member (codes "ruleIndex") (number (unsigned (finding_index diagnostic.finding))) no_members))))))
+    (member (codes "ruleId") (string (violation_name diagnostic.violation))
+    (member (codes "ruleIndex") (number (unsigned (violation_index diagnostic.violation))) no_members))))))
 
 -- a comma before each result but the first
 abbrev pub separator : Bool → List ℕ

@@ -21,7 +21,7 @@ pub(crate) fn push_caret(
     ensures { OnOk result (string_bytes text.new ≡ string_bytes text.old ++ caret_text diagnostic.now) }
 {
     push_gnu(alloc, text, diagnostic)?;
-    push_window(alloc, text, diagnostic.text, diagnostic.finding.place())?;
+    push_window(alloc, text, diagnostic.text, diagnostic.violation.place())?;
     Ok(())
 }
 

@@ -4,8 +4,8 @@ ghost use Rattle.uv_report.specs.Checkstyle.{checkstyle_text, error_place, error
 
 use crate::diagnostic::Diagnostic;
 use crate::escapes::{Escapes, push_escaped};
-use crate::finding::Finding;
 use crate::gnu::push_number;
+use crate::line_violation::LineViolation;
 use crate::message::push_escaped_message;
 use std::alloc::{AllocError, Global};
 
@@ -30,7 +30,7 @@ pub(crate) fn push_checkstyle(
     ensures { OnOk result (string_bytes text.new ≡ string_bytes text.old ++ checkstyle_text diagnostic.now) }
 {
     push_place(text, diagnostic)?;
-    push_message(alloc, text, diagnostic.text, diagnostic.finding)?;
+    push_message(alloc, text, diagnostic.text, diagnostic.violation)?;
     Ok(())
 }
 
@@ -47,19 +47,19 @@ fn push_place(text: &mut String, diagnostic: &Diagnostic<'_>) -> Result<(), Allo
     Ok(())
 }
 
-// Pushes what is told of the line, and the finding's name.
+// Pushes what is reported of the line, and the violation's name.
 #[tactic(auto, unfolding(crate::specs::Checkstyle::error_text))]
 fn push_message(
     alloc: Global,
     text: &mut String,
     line: &str,
-    finding: Finding,
+    violation: LineViolation,
 ) -> Result<(), AllocError>
-    ensures { OnOk result (string_bytes text.new ≡ string_bytes text.old ++ error_text line.now finding) }
+    ensures { OnOk result (string_bytes text.new ≡ string_bytes text.old ++ error_text line.now violation) }
 {
-    push_escaped_message(alloc, text, line, finding, Escapes::Attribute)?;
+    push_escaped_message(alloc, text, line, violation, Escapes::Attribute)?;
     text.push_str("\" source=\"urlcheck.")?;
-    push_escaped(text, finding.name(), Escapes::Attribute)?;
+    push_escaped(text, violation.name(), Escapes::Attribute)?;
     text.push_str("\"/>\n")?;
     Ok(())
 }

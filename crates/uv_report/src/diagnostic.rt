@@ -1,8 +1,8 @@
-//! What is told of a line.
+//! The message on a line.
 ghost use Rattle.std.specs.Prelude.{◌≡◌};
 ghost use Rattle.uv_report.specs.Column.{column};
 
-use crate::finding::Finding;
+use crate::line_violation::LineViolation;
 
 /// What is wrong with a line of a file, or with a text that is a part of one.
 #[derive(Clone, Copy)]
@@ -14,7 +14,7 @@ pub struct Diagnostic<'a> {
     /// The column of the text's first code point in that line, from 1.
     pub start: u64,
     /// What is wrong with the text.
-    pub finding: Finding,
+    pub violation: LineViolation,
     /// The text, without the line's end. Where it isn't UTF-8, U+FFFD stands for what can't be read.
     pub text: &'a str,
 }
@@ -24,6 +24,6 @@ impl<'a> Diagnostic<'a> {
     pub fn column(&self) -> u64
         ensures { result ≡ column self.now }
     {
-        self.start.saturating_add(self.finding.place() as u64)
+        self.start.saturating_add(self.violation.place() as u64)
     }
 }

@@ -20,14 +20,14 @@ pub(crate) enum Escapes {
 }
 
 /// Pushes a text as a terminal may show it: U+FFFD stands for each control but the tab, and for what ends a line or
-/// turns the direction of a text. Where a growth is refused, a front of it was pushed.
+/// turns the direction of a text. Where an allocation fails, a prefix of it was pushed.
 pub fn push_shown(text: &mut String, source: &str) -> Result<(), AllocError>
     ensures { OnOk result (string_bytes text.new ≡ string_bytes text.old ++ shown_text source.now) }
 {
     push_escaped(text, source, Escapes::Shown)
 }
 
-/// Pushes a text with its escapes. Where a growth is refused, a front of it was pushed.
+/// Pushes a text with its escapes. Where an allocation fails, a prefix of it was pushed.
 #[tactic(auto, unfolding(crate::specs::Escapes::escaped))]
 pub(crate) fn push_escaped(
     text: &mut String,

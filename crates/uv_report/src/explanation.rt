@@ -1,7 +1,8 @@
 //! What each rule asks, with a text that violates it and that text mended.
 ghost use Rattle.std.specs.Prelude.{◌≡◌};
 ghost use Rattle.std.specs.Option.{option_copied};
-ghost use Rattle.uv_report.specs.Explanation.{rule_asks, rule_base, rule_mended, rule_place, rule_section, rule_uri, rule_wrong};
+ghost use Rattle.uv_report.specs.Explanation.{rule_asks, rule_base, rule_mended, rule_place, rule_section, rule_uri};
+ghost use Rattle.uv_report.specs.Explanation.{rule_wrong};
 
 use uv_model::Rule;
 

@@ -4,8 +4,8 @@ ghost use Rattle.uv_report.specs.Github.{command_place, command_text, github_tex
 
 use crate::diagnostic::Diagnostic;
 use crate::escapes::{Escapes, push_escaped};
-use crate::finding::Finding;
 use crate::gnu::push_number;
+use crate::line_violation::LineViolation;
 use crate::message::push_escaped_message;
 use std::alloc::{AllocError, Global};
 
@@ -19,7 +19,7 @@ pub(crate) fn push_github(
     ensures { OnOk result (string_bytes text.new ≡ string_bytes text.old ++ github_text diagnostic.now) }
 {
     push_place(text, diagnostic)?;
-    push_message(alloc, text, diagnostic.text, diagnostic.finding)?;
+    push_message(alloc, text, diagnostic.text, diagnostic.violation)?;
     Ok(())
 }
 
@@ -37,20 +37,20 @@ fn push_place(text: &mut String, diagnostic: &Diagnostic<'_>) -> Result<(), Allo
     Ok(())
 }
 
-// Pushes the finding's name as the title, and what is told of the line as the message.
+// Pushes the violation's name as the title, and what is reported of the line as the message.
 #[tactic(auto, unfolding(crate::specs::Github::command_text))]
 fn push_message(
     alloc: Global,
     text: &mut String,
     line: &str,
-    finding: Finding,
+    violation: LineViolation,
 ) -> Result<(), AllocError>
-    ensures { OnOk result (string_bytes text.new ≡ string_bytes text.old ++ command_text line.now finding) }
+    ensures { OnOk result (string_bytes text.new ≡ string_bytes text.old ++ command_text line.now violation) }
 {
     text.push_str(",title=")?;
-    push_escaped(text, finding.name(), Escapes::Property)?;
+    push_escaped(text, violation.name(), Escapes::Property)?;
     text.push_str("::")?;
-    push_escaped_message(alloc, text, line, finding, Escapes::Message)?;
+    push_escaped_message(alloc, text, line, violation, Escapes::Message)?;
     text.push_str("\n")?;
     Ok(())
 }

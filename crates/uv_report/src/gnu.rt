@@ -4,7 +4,7 @@ ghost use Rattle.uv_report.specs.Gnu.{gnu_position, gnu_text, gnu_words};
 
 use crate::diagnostic::Diagnostic;
 use crate::escapes::{Escapes, push_escaped};
-use crate::finding::Finding;
+use crate::line_violation::LineViolation;
 use crate::message::message;
 use itoa::Buffer;
 use std::alloc::{AllocError, Global};
@@ -19,7 +19,7 @@ pub(crate) fn push_gnu(
     ensures { OnOk result (string_bytes text.new ≡ string_bytes text.old ++ gnu_text diagnostic.now) }
 {
     push_position(text, diagnostic)?;
-    push_words(alloc, text, diagnostic.text, diagnostic.finding)?;
+    push_words(alloc, text, diagnostic.text, diagnostic.violation)?;
     Ok(())
 }
 
@@ -36,20 +36,20 @@ fn push_position(text: &mut String, diagnostic: &Diagnostic<'_>) -> Result<(), A
     Ok(())
 }
 
-// Pushes what is told of a line, and the name of the finding.
+// Pushes what is reported of a line, and the name of the violation.
 #[tactic(auto, unfolding(crate::specs::Gnu::gnu_words))]
 fn push_words(
     alloc: Global,
     text: &mut String,
     line: &str,
-    finding: Finding,
+    violation: LineViolation,
 ) -> Result<(), AllocError>
-    ensures { OnOk result (string_bytes text.new ≡ string_bytes text.old ++ gnu_words line.now finding) }
+    ensures { OnOk result (string_bytes text.new ≡ string_bytes text.old ++ gnu_words line.now violation) }
 {
     text.push_str(": error: ")?;
-    text.push_str(message(alloc, line, finding)?.as_str())?;
+    text.push_str(message(alloc, line, violation)?.as_str())?;
     text.push_str(" [")?;
-    text.push_str(finding.name())?;
+    text.push_str(violation.name())?;
     text.push_str("]\n")?;
     Ok(())
 }

@@ -28,15 +28,15 @@ pub(crate) fn push_json(
 fn object(alloc: Global, diagnostic: &Diagnostic<'_>) -> Result<Value, AllocError>
     ensures { IfOk result (λ value. view value ≡ json_value diagnostic.now) }
 {
-    let message = message(alloc, diagnostic.text, diagnostic.finding)?;
-    let text = carried(alloc, diagnostic.text, diagnostic.finding.place())?;
+    let message = message(alloc, diagnostic.text, diagnostic.violation)?;
+    let text = carried(alloc, diagnostic.text, diagnostic.violation.place())?;
     json!(in alloc; {
         "column": diagnostic.column(),
         "cut": is_cut(diagnostic.text),
         "file": diagnostic.file,
         "line": diagnostic.line,
         "message": message.as_str(),
-        "rule": diagnostic.finding.name(),
+        "rule": diagnostic.violation.name(),
         "text": text.as_str()
     })
 }

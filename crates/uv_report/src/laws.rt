@@ -1,4 +1,4 @@
-//! Laws over what is told, each as the clause of a function that does nothing.
+//! Laws over what is reported, each as the clause of a function that does nothing.
 ghost use Rattle.uv_report.specs.Rows.{MessageRows, PointRows, UriRows, WindowRows};
 
 /// Code points by name.

@@ -8,12 +8,12 @@ mod code_point;
 mod diagnostic;
 mod escapes;
 mod explanation;
-mod finding;
 mod format;
 mod github;
 mod gnu;
 mod json;
 pub mod laws;
+mod line_violation;
 mod message;
 mod report;
 mod sarif;
@@ -23,8 +23,8 @@ mod window;
 pub use diagnostic::Diagnostic;
 pub use escapes::push_shown;
 pub use explanation::{Explanation, explain};
-pub use finding::Finding;
 pub use format::Format;
+pub use line_violation::LineViolation;
 pub use report::{push_begin, push_diagnostic, push_end, push_file_begin, push_file_end};
 
 #[cfg(test)]

@@ -1,12 +1,12 @@
-//! What is told of a line: a sentence that names the code point at the place, where the rule is about one, or that says
-//! that a URL string has no credentials.
+//! What is reported of a line: a sentence that names the code point at the place, where the rule is about one, or that
+//! says that a URL string has no credentials.
 ghost use Rattle.std.specs.Prelude.{◌≡◌, ◌++◌, IfOk, OnOk, option_copied, string_bytes};
 ghost use Rattle.uv_report.specs.Escapes.{escaped};
 ghost use Rattle.uv_report.specs.Message as spec;
 
 use crate::code_point::point_text;
 use crate::escapes::{Escapes, push_escaped};
-use crate::finding::Finding;
+use crate::line_violation::LineViolation;
 use crate::window::point_at;
 use std::alloc::{AllocError, Global};
 use uv_model::{Refusal, Rule};
@@ -14,34 +14,38 @@ use uv_model::{Refusal, Rule};
 const CREDENTIALS: &str =
     "a URL string has no credentials: no user name, password or @ before its host";
 
-/// What is told of a line, in a sentence without its end.
-pub(crate) fn message(alloc: Global, line: &str, finding: Finding) -> Result<String, AllocError>
-    ensures { IfOk result (λ text. string_bytes text ≡ spec.message line.now finding) }
+/// What is reported of a line, in a sentence without its end.
+pub(crate) fn message(
+    alloc: Global,
+    line: &str,
+    violation: LineViolation,
+) -> Result<String, AllocError>
+    ensures { IfOk result (λ text. string_bytes text ≡ spec.message line.now violation) }
 {
-    match finding {
-        Finding::Refused(refusal) => refusal_message(alloc, line, refusal),
-        Finding::NotUtf8 | Finding::TooLong | Finding::NotLocated => {
-            String::from_str(alloc, finding.sentence())
+    match violation {
+        LineViolation::Refused(refusal) => refusal_message(alloc, line, refusal),
+        LineViolation::NotUtf8 | LineViolation::TooLong | LineViolation::NotLocated => {
+            String::from_str(alloc, violation.sentence())
         }
     }
 }
 
-/// Pushes what is told of a line, with escapes.
+/// Pushes what is reported of a line, with escapes.
 pub(crate) fn push_escaped_message(
     alloc: Global,
     text: &mut String,
     line: &str,
-    finding: Finding,
+    violation: LineViolation,
     escapes: Escapes,
 ) -> Result<(), AllocError>
     ensures { OnOk result (string_bytes text.new
-        ≡ string_bytes text.old ++ escaped escapes (spec.message line.now finding)) }
+        ≡ string_bytes text.old ++ escaped escapes (spec.message line.now violation)) }
 {
-    let message = message(alloc, line, finding)?;
+    let message = message(alloc, line, violation)?;
     push_escaped(text, message.as_str(), escapes)
 }
 
-// What is told of a refused line.
+// What is reported of a refused line.
 #[tactic(auto, unfolding(crate::specs::Message::refusal_message))]
 fn refusal_message(alloc: Global, line: &str, refusal: Refusal) -> Result<String, AllocError>
     ensures { IfOk result (λ text. string_bytes text ≡ spec.refusal_message line.now refusal) }

@@ -13,7 +13,7 @@ use crate::json::push_json;
 use crate::sarif::{push_sarif, push_sarif_begin};
 use std::alloc::{AllocError, Global};
 
-/// Pushes what a report begins with. Where a growth is refused, the text stays as it was.
+/// Pushes what a report begins with. Where an allocation fails, the text stays as it was.
 pub fn push_begin(alloc: Global, text: &mut String, format: Format) -> Result<(), AllocError>
     ensures ok { OnOk result (string_bytes text.new ≡ string_bytes text.old ++ begin_text format) }
     ensures err { OnErr result (string_bytes text.new ≡ string_bytes text.old) }
@@ -40,7 +40,7 @@ fn begin_of(alloc: Global, format: Format) -> Result<String, AllocError>
 }
 
 /// Pushes what stands before the diagnostics of a file: a start tag in Checkstyle's format, and nothing in another.
-/// Where a growth is refused, the text stays as it was.
+/// Where an allocation fails, the text stays as it was.
 pub fn push_file_begin(
     alloc: Global,
     text: &mut String,
@@ -57,7 +57,7 @@ pub fn push_file_begin(
     text.push_str(begin.as_str())
 }
 
-/// Pushes a diagnostic. In SARIF a comma stands before each but the first one of the report. Where a growth is refused,
+/// Pushes a diagnostic. In SARIF a comma stands before each but the first one of the report. Where an allocation fails,
 /// the text stays as it was.
 pub fn push_diagnostic(
     alloc: Global,
@@ -70,8 +70,8 @@ pub fn push_diagnostic(
         ≡ string_bytes text.old ++ diagnostic_text format is_first diagnostic.now) }
     ensures err { OnErr result (string_bytes text.new ≡ string_bytes text.old) }
 {
-    let told = text_of(alloc, format, diagnostic, is_first)?;
-    text.push_str(told.as_str())
+    let reported = text_of(alloc, format, diagnostic, is_first)?;
+    text.push_str(reported.as_str())
 }
 
 // The text of a diagnostic.
@@ -81,22 +81,22 @@ fn text_of(
     diagnostic: &Diagnostic<'_>,
     is_first: bool,
 ) -> Result<String, AllocError>
-    ensures { IfOk result (λ told. string_bytes told ≡ diagnostic_text format is_first diagnostic.now) }
+    ensures { IfOk result (λ reported. string_bytes reported ≡ diagnostic_text format is_first diagnostic.now) }
 {
-    let mut told = String::new(alloc);
+    let mut reported = String::new(alloc);
     match format {
-        Format::Gnu => push_gnu(alloc, &mut told, diagnostic)?,
-        Format::Caret => push_caret(alloc, &mut told, diagnostic)?,
-        Format::Json => push_json(alloc, &mut told, diagnostic)?,
-        Format::Github => push_github(alloc, &mut told, diagnostic)?,
-        Format::Sarif => push_sarif(alloc, &mut told, diagnostic, is_first)?,
-        Format::Checkstyle => push_checkstyle(alloc, &mut told, diagnostic)?,
+        Format::Gnu => push_gnu(alloc, &mut reported, diagnostic)?,
+        Format::Caret => push_caret(alloc, &mut reported, diagnostic)?,
+        Format::Json => push_json(alloc, &mut reported, diagnostic)?,
+        Format::Github => push_github(alloc, &mut reported, diagnostic)?,
+        Format::Sarif => push_sarif(alloc, &mut reported, diagnostic, is_first)?,
+        Format::Checkstyle => push_checkstyle(alloc, &mut reported, diagnostic)?,
     }
-    Ok(told)
+    Ok(reported)
 }
 
 /// Pushes what stands behind the diagnostics of a file: an end tag in the format of Checkstyle, and nothing in another.
-/// Where a growth is refused, the text stays as it was.
+/// Where an allocation fails, the text stays as it was.
 pub fn push_file_end(text: &mut String, format: Format) -> Result<(), AllocError>
     ensures ok { OnOk result (string_bytes text.new ≡ string_bytes text.old ++ file_end_text format) }
     ensures err { OnErr result (string_bytes text.new ≡ string_bytes text.old) }
@@ -107,7 +107,7 @@ pub fn push_file_end(text: &mut String, format: Format) -> Result<(), AllocError
     })
 }
 
-/// Pushes what a report ends with. Where a growth is refused, the text stays as it was.
+/// Pushes what a report ends with. Where an allocation fails, the text stays as it was.
 pub fn push_end(text: &mut String, format: Format) -> Result<(), AllocError>
     ensures ok { OnOk result (string_bytes text.new ≡ string_bytes text.old ++ end_text format) }
     ensures err { OnErr result (string_bytes text.new ≡ string_bytes text.old) }

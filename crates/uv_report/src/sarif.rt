@@ -4,7 +4,7 @@ ghost use Rattle.serde_json.specs.View.{view};
 ghost use Rattle.uv_report.specs.Sarif as spec;
 
 use crate::diagnostic::Diagnostic;
-use crate::finding::Finding;
+use crate::line_violation::LineViolation;
 use crate::message::message;
 use crate::uri::push_uri_path;
 use crate::window::{carried, is_cut};
@@ -27,16 +27,16 @@ pub(crate) fn push_sarif_begin(alloc: Global, text: &mut String) -> Result<(), A
     Ok(())
 }
 
-// Pushes the rules, behind the three findings that are no refusal.
+// Pushes the rules, behind the three violations that are no refusal.
 #[tactic(auto, unfolding(crate::specs::Sarif::all_rules))]
 fn push_rules(alloc: Global, text: &mut String) -> Result<(), AllocError>
     ensures { OnOk result (string_bytes text.new ≡ string_bytes text.old ++ spec.all_rules) }
 {
-    push_rule(alloc, text, Finding::NotUtf8)?;
+    push_rule(alloc, text, LineViolation::NotUtf8)?;
     text.push_str(",")?;
-    push_rule(alloc, text, Finding::TooLong)?;
+    push_rule(alloc, text, LineViolation::TooLong)?;
     text.push_str(",")?;
-    push_rule(alloc, text, Finding::NotLocated)?;
+    push_rule(alloc, text, LineViolation::NotLocated)?;
     push_uri_rules(alloc, text, Rule::in_order().as_slice())?;
     Ok(())
 }
@@ -57,30 +57,34 @@ fn push_next_rule(alloc: Global, text: &mut String, rule: Rule) -> Result<(), Al
     ensures { OnOk result (string_bytes text.new ≡ string_bytes text.old ++ spec.next_rule rule) }
 {
     text.push_str(",")?;
-    push_rule(alloc, text, Finding::Refused(Refusal { place: 0, rule }))?;
+    push_rule(
+        alloc,
+        text,
+        LineViolation::Refused(Refusal { place: 0, rule }),
+    )?;
     Ok(())
 }
 
-// Pushes what the document says of a finding's rule.
+// Pushes what the document says of a violation's rule.
 #[tactic(auto, unfolding(crate::specs::Sarif::rule_text))]
-fn push_rule(alloc: Global, text: &mut String, finding: Finding) -> Result<(), AllocError>
-    ensures { OnOk result (string_bytes text.new ≡ string_bytes text.old ++ spec.rule_text finding) }
+fn push_rule(alloc: Global, text: &mut String, violation: LineViolation) -> Result<(), AllocError>
+    ensures { OnOk result (string_bytes text.new ≡ string_bytes text.old ++ spec.rule_text violation) }
 {
-    let rule = rule_object(alloc, finding)?.to_string(alloc)?;
+    let rule = rule_object(alloc, violation)?.to_string(alloc)?;
     text.push_str(rule.as_str())?;
     Ok(())
 }
 
 // A rule, with what is wrong where it is violated, and what it asks.
-fn rule_object(alloc: Global, finding: Finding) -> Result<Value, AllocError>
-    ensures { IfOk result (λ value. view value ≡ spec.rule_value finding) }
+fn rule_object(alloc: Global, violation: LineViolation) -> Result<Value, AllocError>
+    ensures { IfOk result (λ value. view value ≡ spec.rule_value violation) }
 {
     json!(in alloc; {
-        "fullDescription": {"text": finding.help()},
-        "help": {"text": finding.help()},
-        "helpUri": finding.uri(),
-        "id": finding.name(),
-        "shortDescription": {"text": finding.sentence()}
+        "fullDescription": {"text": violation.help()},
+        "help": {"text": violation.help()},
+        "helpUri": violation.uri(),
+        "id": violation.name(),
+        "shortDescription": {"text": violation.sentence()}
     })
 }
 
@@ -108,15 +112,15 @@ fn result_object(alloc: Global, diagnostic: &Diagnostic<'_>) -> Result<Value, Al
     ensures { IfOk result (λ value. view value ≡ spec.result_value diagnostic.now) }
 {
     let location = location_object(alloc, diagnostic)?;
-    let message = message(alloc, diagnostic.text, diagnostic.finding)?;
+    let message = message(alloc, diagnostic.text, diagnostic.violation)?;
     let link = link_object(alloc, diagnostic)?;
     json!(in alloc; {
         "level": "error",
         "locations": [location],
         "message": {"text": message.as_str()},
         "properties": link,
-        "ruleId": diagnostic.finding.name(),
-        "ruleIndex": diagnostic.finding.index()
+        "ruleId": diagnostic.violation.name(),
+        "ruleIndex": diagnostic.violation.index()
     })
 }
 
@@ -160,6 +164,6 @@ fn region_object(alloc: Global, diagnostic: &Diagnostic<'_>) -> Result<Value, Al
 fn link_object(alloc: Global, diagnostic: &Diagnostic<'_>) -> Result<Value, AllocError>
     ensures { IfOk result (λ value. view value ≡ spec.link_value diagnostic.now) }
 {
-    let text = carried(alloc, diagnostic.text, diagnostic.finding.place())?;
+    let text = carried(alloc, diagnostic.text, diagnostic.violation.place())?;
     json!(in alloc; {"cut": is_cut(diagnostic.text), "text": text.as_str()})
 }

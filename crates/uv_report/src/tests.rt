@@ -1,7 +1,7 @@
 //! Diagnostics in each format, written out by hand from the documents of the formats.
 
 use crate::{
-    Diagnostic, Finding, Format, push_begin, push_diagnostic, push_end, push_file_begin,
+    Diagnostic, Format, LineViolation, push_begin, push_diagnostic, push_end, push_file_begin,
     push_file_end,
 };
 use serde_json::Value;
@@ -15,7 +15,7 @@ fn refused<'a>(file: &'a str, rule: Rule, place: usize, text: &'a str) -> Diagno
         file,
         line: 3,
         start: 1,
-        finding: Finding::Refused(Refusal { place, rule }),
+        violation: LineViolation::Refused(Refusal { place, rule }),
         text,
     }
 }
@@ -46,7 +46,7 @@ fn writes_a_line_as_compilers_do(rt: HostRuntime) -> Result<(), Fail> {
         file: "-",
         line: 1,
         start: 1,
-        finding: Finding::NotUtf8,
+        violation: LineViolation::NotUtf8,
         text: "\u{FFFD}",
     };
     assert_eq!(rt;
@@ -56,7 +56,7 @@ fn writes_a_line_as_compilers_do(rt: HostRuntime) -> Result<(), Fail> {
     Ok(())
 }
 
-// A text from the 40th column of its line on: the column is told in the line, and the caret stands below the text.
+// A text from the 40th column of its line on: the column is reported in the line, and the caret stands below the text.
 #[test]
 fn counts_columns_from_where_the_text_begins(rt: HostRuntime) -> Result<(), Fail> {
     let found = Diagnostic {
@@ -69,9 +69,17 @@ fn counts_columns_from_where_the_text_begins(rt: HostRuntime) -> Result<(), Fail
         (Format::Json, "{\"column\":50,"),
         (Format::Github, "::error file=page.html,line=3,col=50,"),
         (Format::Checkstyle, "<error line=\"3\" column=\"50\" "),
-        (Format::Sarif, "\"region\":{\"startColumn\":50,\"startLine\":3}"),
+        (
+            Format::Sarif,
+            "\"region\":{\"startColumn\":50,\"startLine\":3}",
+        ),
     ] {
-        assert!(rt; report(rt.alloc(), format, &found)?.as_str().contains(column), "{column}");
+        assert!(rt;
+            report(rt.alloc(), format, &found)?
+                .as_str()
+                .contains(column),
+            "{column}"
+        );
     }
     let caret = report(rt.alloc(), Format::Caret, &found)?;
     assert!(rt; caret.as_str().ends_with("\nhttp://h/a b\n          ^\n"));

@@ -5,8 +5,8 @@ ghost use Rattle.uv_report.specs.Window as spec;
 
 use std::alloc::{AllocError, Global};
 
-/// What is shown of a line of which a place is told: the line, where it has at most 200 code points, else a window of
-/// it, with `…` on each side that is cut.
+/// What is shown of a line of which a place is reported: the line, where it has at most 200 code points, else a window
+/// of it, with `…` on each side that is cut.
 #[tactic(auto, unfolding(crate::specs::Window::window))]
 pub(crate) fn window(alloc: Global, line: &str, place: usize) -> Result<String, AllocError>
     ensures { IfOk result (λ shown. string_bytes shown ≡ spec.window line.now place) }
@@ -30,7 +30,7 @@ pub(crate) fn window_place(line: &str, place: usize) -> usize
     }
 }
 
-/// What a report carries of a link of which a place is told: the link, where it has at most 2,000 code points, else
+/// What a report carries of a link of which a place is reported: the link, where it has at most 2,000 code points, else
 /// what is shown of it.
 #[tactic(auto, unfolding(crate::specs::Window::carried))]
 pub(crate) fn carried(alloc: Global, line: &str, place: usize) -> Result<String, AllocError>

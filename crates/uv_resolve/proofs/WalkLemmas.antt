@@ -43,7 +43,7 @@ unfolding walk
 walk-continued class path [] = refl
 walk-continued class path (segment ∷ rest) = continued-some class path false segment rest
 
--- the list without its last segment is the front that is one shorter
+-- the list without its last segment is the prefix that is one shorter
 pub without_last-take : (xs : List (List ℕ)) → without_last xs ≡ take (length xs - 1) xs
 without_last-take [] = refl
 without_last-take (first ∷ []) = refl

@@ -23,7 +23,7 @@ abbrev pub IsBaseRefused : Profile → Option (Bor (List ℕ)) → Refusal → T
 IsBaseRefused profile None refusal = ⊥
 IsBaseRefused profile (Some text) refusal = IsRefused profile None (chars text.now) refusal
 
--- the base, or why it is refused; of want of memory it is said that there is a text
+-- the base, or why it is refused; out of memory is said of a text alone
 abbrev pub IsBaseResolved : Profile → Option (Bor (List ℕ)) → Result (Option Url) ResolveFault → Type 0
 IsBaseResolved profile text (Ok base) = IsBase profile text base
 IsBaseResolved profile text (Err (Refused refusal)) = IsBaseRefused profile text refusal

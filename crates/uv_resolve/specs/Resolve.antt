@@ -4,7 +4,6 @@ use Rattle.std.specs.Str.{chars}
 use Rattle.uv_model.specs.declared.profile.Profile.{Profile}
 use Rattle.uv_model.specs.declared.profile.Profile.TheVariants.{Wide}
 use Rattle.uv_model.specs.declared.rule.Refusal.{Refusal}
-use Rattle.uv_model.specs.Cut.{cut_of}
 use Rattle.uv_model.specs.Records.Denote.{denote}
 use Rattle.uv_model.specs.Parts.{Parts}
 use Rattle.uv_parser.specs.Laws.Silence.{RunsSilently}
@@ -12,10 +11,9 @@ use Rattle.uv_parser.specs.Laws.StepCounts.{least_step_bound}
 use Rattle.uv_parser.specs.Run.{Done, run}
 use Rattle.uv_model.specs.Records.Serialize.{serial}
 use Rattle.uv_model.specs.Records.Url.{Url}
-use Rattle.uv_model.specs.Setting.{setting_of}
 use Rattle.uv_model.specs.Valid.{Valid}
 use Rattle.uv_model.specs.Records.WellFormed.{MayBeWellFormed, WellFormed}
-use Rattle.uv_grammar.specs.NoMemory.{TakesNoMemory}
+use Rattle.uv_grammar.specs.NoMemory.{TakesNoMemoryAgainst}
 use Rattle.uv_grammar.specs.Verdict.{IsRefused}
 use Rattle.uv_resolve.specs.declared.fault.ResolveFault.{ResolveFault}
 use Rattle.uv_resolve.specs.declared.fault.ResolveFault.TheVariants.{Refused, Memory}
@@ -32,22 +30,17 @@ DenotesText profile base bytes text = (url : Url) × Denotes profile base (chars
 abbrev pub HaveValidText : Option Url → Parts → Type 0
 HaveValidText base parts = (profile : Profile) × (text : List ℕ) × Valid profile base text parts
 
--- the record that a valid text denotes, or the least complaint of a text that is valid with no parts; of want of memory
+-- the record that a valid text denotes, or the least violation of a text that is valid with no parts; of out of memory
 -- nothing is said
 abbrev pub IsResolved : Profile → Option Url → List ℕ → Result Url ResolveFault → Type 0
 IsResolved profile base text (Ok url) = Denotes profile base text url
 IsResolved profile base text (Err (Refused refusal)) = IsRefused profile base text refusal
 IsResolved profile base text (Err (Memory error)) = Unit {0}
 
--- the text is judged without memory, against the base
-abbrev pub IsJudgedWithoutMemory : Profile → Option Url → List ℕ → Type 0
-IsJudgedWithoutMemory profile base text =
-    let cut = cut_of base text in TakesNoMemory (setting_of profile base cut.scheme) text cut
-
 -- a text that is valid with no parts and is judged without memory is answered by a refusal, whatever memory there is
 abbrev pub RefusesWithoutMemory : Profile → Option Url → List ℕ → Result Url ResolveFault → Type 0
 RefusesWithoutMemory profile base text result =
-    IsJudgedWithoutMemory profile base text → ((parts : Parts) → ¬ (Valid profile base text parts))
+    TakesNoMemoryAgainst profile base text → ((parts : Parts) → ¬ (Valid profile base text parts))
     → (refusal : Refusal) × (result ≡ Err (Refused refusal))
 
 -- The parser runs on the text to its end with no validation error and no failure, within the bound on its steps and

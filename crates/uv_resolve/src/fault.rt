@@ -10,10 +10,10 @@ use uv_model::Refusal;
 #[derive(Clone, Copy, Debug, PartialEq, Eq, Error)]
 pub enum ResolveFault {
     /// The text isn't a valid URL string: the least place at which it violates a rule, and there the rule of the least
-    /// number. No growth was tried for the record.
+    /// number. No allocation was tried for the record.
     #[error("refused {} {}", .0.place, .0.rule.name())]
     Refused(Refusal),
-    /// A growth was refused. The text and the base are as they were.
+    /// An allocation failed. The text and the base are as they were.
     #[error("memory")]
     Memory(AllocError),
 }

@@ -12,7 +12,7 @@ use uv_model::{Profile, Record};
 
 /// The record that a text denotes by the profile, alone or against a base (URL Standard, sections 4.3 and 4.4).
 ///
-/// A text that isn't a valid URL string of the profile is refused before any growth for the record.
+/// A text that isn't a valid URL string of the profile is refused before any allocation for the record.
 pub fn resolve(
     alloc: Global,
     text: &str,

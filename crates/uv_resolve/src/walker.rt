@@ -28,7 +28,7 @@ pub(crate) fn walk(
     Ok(path)
 }
 
-// One segment of a walk, where it is left open whether it is the last. The answer tells a dot segment.
+// One segment of a walk, where it is left open whether it is the last. The answer says whether it is a dot segment.
 fn step(
     alloc: Global,
     class: Class,

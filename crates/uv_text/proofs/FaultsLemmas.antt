@@ -1,4 +1,4 @@
--- The first fault that is found from code point to code point is the least complaint of units.
+-- The first fault that is found from code point to code point is the least violation of units.
 use Rattle.std.proofs.Common.{◌≡◌, ℕ, zero, suc, ◌+◌, ◌≤◌, ◌==◌, Bool, true, false, ◌&&◌, ◌||◌, List, [], ◌∷◌, drop}
 use Rattle.std.proofs.Common.{Option, Some, None, refl, sym, ap, ◌∙◌, subst, inl, inr, arith, lt-ltb, le-ltb, ne_eqb}
 use Rattle.std.specs.Prelude.{IsNone, ◌↔◌, nat_le}
@@ -7,30 +7,30 @@ use Rattle.std.proofs.lemmas.Bool.{cases_Bool, cases_eq, cases_lt, false≢true}
 use Rattle.std.proofs.lemmas.Bool.Decides.{nat_tests}
 use Rattle.uv_model.specs.declared.rule.Rule.{Rule}
 use Rattle.uv_model.specs.declared.rule.Refusal.{Refusal}
-use Rattle.uv_model.specs.Complaints.Complaint.{Behind}
-use Rattle.uv_model.specs.Complaints.Refusal.{IsLeast}
-use Rattle.uv_model.specs.Complaints.Rule.{rule_number}
-use Rattle.uv_model.specs.Complaints.UnitComplaint.{UnitComplaint, unit_rule}
+use Rattle.uv_model.specs.Violations.Violation.{Behind}
+use Rattle.uv_model.specs.Violations.Refusal.{IsLeast}
+use Rattle.uv_model.specs.Violations.Rule.{rule_number}
+use Rattle.uv_model.specs.Violations.UnitViolation.{UnitViolation, unit_rule}
 use Rattle.uv_model.specs.Ascii.{percent_sign}
 use Rattle.uv_model.specs.Units.{IsUnits, is_unit_at, is_url_code_point}
-use Rattle.uv_model.proofs.Complaints.RefusalLemmas.{IsLeast-like}
-use Rattle.uv_model.proofs.Complaints.UnitComplaintLemmas.{UnitComplaint-earlier, UnitComplaint-here}
-use Rattle.uv_model.proofs.Complaints.UnitComplaintLemmas.{UnitComplaint-later, UnitComplaint-nil, UnitComplaint-said}
-use Rattle.uv_model.proofs.Complaints.UnitComplaintLemmas.{no_complaint-units, units_uncomplained}
+use Rattle.uv_model.proofs.Violations.RefusalLemmas.{IsLeast-like}
+use Rattle.uv_model.proofs.Violations.UnitViolationLemmas.{UnitViolation-earlier, UnitViolation-here}
+use Rattle.uv_model.proofs.Violations.UnitViolationLemmas.{UnitViolation-later, UnitViolation-nil, UnitViolation-said}
+use Rattle.uv_model.proofs.Violations.UnitViolationLemmas.{no_violation-units, units_without_violation}
 use Rattle.uv_text.specs.Class.{HoldsUrlBytes}
 use Rattle.uv_text.specs.Faults.{fault_from}
 use Rattle.uv_text.specs.Splits.{begins_unit, unit_length}
 
 -- the faults of a text whose first code point stands at the place
 abbrev From : ℕ → List ℕ → ℕ → Rule → Type 0
-From start text place rule = Behind start (UnitComplaint text) place rule
+From start text place rule = Behind start (UnitViolation text) place rule
 
 -- the first code point is the least fault where it is one
 least_here : (start c : ℕ) (rest : List ℕ) → is_unit_at c rest ≡ false
     → IsLeast (From start (c ∷ rest)) (Some (record { place = start; rule = unit_rule c }))
 least_here start c rest fault =
     record {
-      stands = record { inner = 0; moved = omega arith; holds = UnitComplaint-here c rest fault };
+      stands = record { inner = 0; moved = omega arith; holds = UnitViolation-here c rest fault };
       first = λ place rule h. let moved = h.moved in omega arith;
       lowest = λ rule h. one_rule rule h;
     }
@@ -39,30 +39,30 @@ least_here start c rest fault =
     one_rule rule h =
         let moved = h.moved in
         let here : h.inner ≡ 0 = omega arith in
-        let complaint = subst (λ n. UnitComplaint (c ∷ rest) n rule) here h.holds in
-        rw (UnitComplaint-said c rest rule complaint).1 (omega arith)
+        let violation = subst (λ n. UnitViolation (c ∷ rest) n rule) here h.holds in
+        rw (UnitViolation-said c rest rule violation).1 (omega arith)
 
 -- a fault behind a first code point that is none
 to_whole : (start c : ℕ) (rest : List ℕ) (place : ℕ) (rule : Rule) → From (suc start) rest place rule
     → From start (c ∷ rest) place rule
 to_whole start c rest place rule h =
     let moved = h.moved in
-    record { inner = suc h.inner; moved = omega arith; holds = UnitComplaint-later c rest h.inner rule h.holds }
+    record { inner = suc h.inner; moved = omega arith; holds = UnitViolation-later c rest h.inner rule h.holds }
 
 -- and back
 to_rest : (start c : ℕ) (rest : List ℕ) → is_unit_at c rest ≡ true → (place : ℕ) (rule : Rule)
     → From start (c ∷ rest) place rule → From (suc start) rest place rule
 to_rest start c rest unit place rule h = at_inner h.inner h.moved h.holds
   where
-    at_inner : (inner : ℕ) → place ≡ start + inner → UnitComplaint (c ∷ rest) inner rule
+    at_inner : (inner : ℕ) → place ≡ start + inner → UnitViolation (c ∷ rest) inner rule
         → From (suc start) rest place rule
-    at_inner zero moved holds = absurd (false≢true (sym (UnitComplaint-said c rest rule holds).0 ∙ unit))
+    at_inner zero moved holds = absurd (false≢true (sym (UnitViolation-said c rest rule holds).0 ∙ unit))
     at_inner (suc inner) moved holds =
-        record { inner = inner; moved = omega arith; holds = UnitComplaint-earlier c rest inner rule holds }
+        record { inner = inner; moved = omega arith; holds = UnitViolation-earlier c rest inner rule holds }
 
 -- the fault that is found is the least
 pub least_from : (start : ℕ) (text : List ℕ) → IsLeast (From start text) (fault_from start text)
-least_from start [] = λ place rule h. UnitComplaint-nil h.inner rule h.holds
+least_from start [] = λ place rule h. UnitViolation-nil h.inner rule h.holds
 least_from start (c ∷ rest) =
     elim (cases_Bool (is_unit_at c rest)) [
       | inl unit ↦
@@ -72,27 +72,27 @@ least_from start (c ∷ rest) =
       | inr fault ↦ rw fault (least_here start c rest fault)
     ]
 
--- the first fault of a text is the least of its complaints
-pub least_fault : (text : List ℕ) → IsLeast (UnitComplaint text) (fault_from 0 text)
+-- the first fault of a text is the least of its violations
+pub least_fault : (text : List ℕ) → IsLeast (UnitViolation text) (fault_from 0 text)
 least_fault text =
-    IsLeast-like (From 0 text) (UnitComplaint text) to_text from_text (fault_from 0 text) (least_from 0 text)
+    IsLeast-like (From 0 text) (UnitViolation text) to_text from_text (fault_from 0 text) (least_from 0 text)
   where
-    to_text : (place : ℕ) (rule : Rule) → From 0 text place rule → UnitComplaint text place rule
+    to_text : (place : ℕ) (rule : Rule) → From 0 text place rule → UnitViolation text place rule
     to_text place rule h =
         let moved = h.moved in
         let same : h.inner ≡ place = omega arith in
-        subst (λ n. UnitComplaint text n rule) same h.holds
+        subst (λ n. UnitViolation text n rule) same h.holds
 
-    from_text : (place : ℕ) (rule : Rule) → UnitComplaint text place rule → From 0 text place rule
+    from_text : (place : ℕ) (rule : Rule) → UnitViolation text place rule → From 0 text place rule
     from_text place rule h = record { inner = place; moved = omega arith; holds = h }
 
 -- none is found exactly in units
-pub none_in_units : (text : List ℕ) → (least : Option Refusal) → IsLeast (UnitComplaint text) least
+pub none_in_units : (text : List ℕ) → (least : Option Refusal) → IsLeast (UnitViolation text) least
     → IsNone least ↔ IsUnits text
-none_in_units text None none = (λ same. units_uncomplained text none, λ units. refl)
+none_in_units text None none = (λ same. units_without_violation text none, λ units. refl)
 none_in_units text (Some refusal) is = (
   λ same. absurd (false≢true (sym same)),
-  λ units. absurd (no_complaint-units text units refusal.place refusal.rule is.stands),
+  λ units. absurd (no_violation-units text units refusal.place refusal.rule is.stands),
 )
 
 -- ---- the cut behind the units

@@ -69,38 +69,38 @@ inside_is f g v rows bits long row bit =
     ∙ ap (λ l. mask_l (map (λ x. not (eqb x 0)) l)) joined
     ∙ ap mask_l (map-map (λ x. not (eqb x 0)) (λ b. bit_and (f b) (g b)) v)
 
--- ---- the longest front, a piece at a time
+-- ---- the longest prefix, a piece at a time
 
 module _ (p : ℕ → Bool) where
-  -- a whole piece passes, and the front goes on behind it
-  pub front_past : (n : ℕ) (xs : List ℕ) → n ≤ length xs → prefix_len p (take n xs) ≡ n
+  -- a whole piece passes, and the prefix goes on behind it
+  pub prefix_past : (n : ℕ) (xs : List ℕ) → n ≤ length xs → prefix_len p (take n xs) ≡ n
       → prefix_len p xs ≡ n + prefix_len p (drop n xs)
-  front_past zero xs room all = omega arith
-  front_past (suc n) [] room all = absurd (omega arith)
-  front_past (suc n) (x ∷ xs) room all =
+  prefix_past zero xs room all = omega arith
+  prefix_past (suc n) [] room all = absurd (omega arith)
+  prefix_past (suc n) (x ∷ xs) room all =
       elim (cases_Bool (p x)) [
         | inl passes ↦
             let whole : 1 + prefix_len p (take n xs) ≡ suc n = rw passes at all in
-            rw passes (omega (arith, front_past n xs (omega arith) (omega (arith, whole))))
+            rw passes (omega (arith, prefix_past n xs (omega arith) (omega (arith, whole))))
         | inr fails ↦
             let none : 0 ≡ suc n = rw fails at all in
             absurd (omega (arith, none))
       ]
 
-  -- a piece that doesn't pass whole has the front
-  pub front_in : (n : ℕ) (xs : List ℕ) → n ≤ length xs → prefix_len p (take n xs) < n
+  -- a piece that doesn't pass whole has the prefix
+  pub prefix_in : (n : ℕ) (xs : List ℕ) → n ≤ length xs → prefix_len p (take n xs) < n
       → prefix_len p xs ≡ prefix_len p (take n xs)
-  front_in zero xs room some = absurd (omega arith)
-  front_in (suc n) [] room some = absurd (omega arith)
-  front_in (suc n) (x ∷ xs) room some =
+  prefix_in zero xs room some = absurd (omega arith)
+  prefix_in (suc n) [] room some = absurd (omega arith)
+  prefix_in (suc n) (x ∷ xs) room some =
       elim (cases_Bool (p x)) [
         | inl passes ↦
             let less : 1 + prefix_len p (take n xs) < suc n = rw passes at some in
-            rw passes (ap (λ k. 1 + k) (front_in n xs (omega arith) (omega (arith, less))))
+            rw passes (ap (λ k. 1 + k) (prefix_in n xs (omega arith) (omega (arith, less))))
         | inr fails ↦ rw fails refl
       ]
 
-  -- what is behind the front adds nothing
-  pub front_before : (xs ys : List ℕ) → prefix_len p ys ≡ 0 → prefix_len p (xs ++ ys) ≡ prefix_len p xs
-  front_before [] ys none = none
-  front_before (x ∷ xs) ys none = ap (λ k. cond (p x) (1 + k) 0) (front_before xs ys none)
+  -- what is behind the prefix adds nothing
+  pub prefix_before : (xs ys : List ℕ) → prefix_len p ys ≡ 0 → prefix_len p (xs ++ ys) ≡ prefix_len p xs
+  prefix_before [] ys none = none
+  prefix_before (x ∷ xs) ys none = ap (λ k. cond (p x) (1 + k) 0) (prefix_before xs ys none)

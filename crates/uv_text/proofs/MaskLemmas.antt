@@ -33,7 +33,7 @@ half : (m : Bool) (x : ℕ) → (cond m 1 0 + 2 * x) / 2 ≡ x
 half true x = omega arith
 half false x = omega arith
 
--- the bits behind the first so many, which a shift brings to the front
+-- the bits behind the first so many, which a shift brings to the prefix
 mask-drop : (k : ℕ) (ms : List Bool) → mask_l (drop k ms) ≡ mask_l ms / 2 ^ k
 mask-drop zero ms = omega arith
 mask-drop (suc k) [] = sym (zero-div (2 ^ suc k))
@@ -99,10 +99,10 @@ mask-small p xs few =
     let same = mask_l-mod (map p xs) 32 (omega arith) in
     omega arith
 
--- the set bits below the first that isn't are the longest front that passes
-pub front-bits : (p : ℕ → Bool) (xs : List ℕ) → length xs ≤ 32
+-- the set bits below the first that isn't are the longest prefix that passes
+pub prefix-bits : (p : ℕ → Bool) (xs : List ℕ) → length xs ≤ 32
     → trailing_ones w64 (mask_l (map p xs)) ≡ prefix_len p xs
-front-bits p xs few =
+prefix-bits p xs few =
     let small = mask-small p xs few in
     let ones = bit_at-trailing_ones w64 (mask_l (map p xs)) (omega arith) in
     let n = trailing_ones w64 (mask_l (map p xs)) in

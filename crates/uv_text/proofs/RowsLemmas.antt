@@ -162,7 +162,7 @@ module _ (ranges : List (ℕ × ℕ)) where
         | inr beyond ↦ held_beyond rows narrow b beyond small
       ]
 
--- the front by rows that hold a class is that of the class
+-- the prefix by rows that hold a class is that of the class
 pub run_held : (held : ℕ → Bool) (rows bytes : List ℕ) → HoldClass rows held
     → ((k : ℕ) → Fits w8 (get_or bytes k 0)) → prefix_len (is_in_rows rows) bytes ≡ prefix_len held bytes
 run_held held rows [] hold fits = refl

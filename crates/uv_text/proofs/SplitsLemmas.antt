@@ -1,4 +1,5 @@
--- Fronts of URL units: parts of them by runs, by escapes and by code points beyond ASCII, and the cut behind the whole.
+-- Prefixes of URL units: parts of them by runs, by escapes and by code points beyond ASCII, and the cut behind the
+-- whole.
 use Rattle.std.proofs.Common.{◌≡◌, ◌≢◌, ℕ, Bool, get_or, zero, suc, ◌+◌, ◌-◌, ◌<◌, ◌≤◌, ◌==◌, true, false, List, []}
 use Rattle.std.proofs.Common.{◌∷◌, ◌++◌, length, take, drop, refl, sym, ap, ◌∙◌, subst, inl, inr, arith, lit<, ne_eqb}
 use Rattle.std.specs.Prelude.{nat_le, slice_range}
@@ -22,7 +23,7 @@ use Rattle.uv_text.specs.Tails.{EndsWith}
 use Rattle.uv_text.specs.Splits.{PassesMarks, PassesUnits, class_has, begins_mark, begins_unit, starts_in}
 use Rattle.uv_text.specs.Splits.{starts_with_mark, unit_length}
 
--- ---- parts of a front
+-- ---- parts of a prefix
 
 module _ (held : ℕ → Bool) where
   -- nothing is a part
@@ -57,7 +58,7 @@ module _ (held : ℕ → Bool) where
   unit_length-stop [] class mark = refl
   unit_length-stop (c ∷ rest) class mark = rw (class, mark) refl
 
-  -- a part behind which no more comes is the whole front
+  -- a part behind which no more comes is the whole prefix
   pub passes_all : (text rest : List ℕ) → PassesUnits held text rest → starts_in held rest ≡ false
       → starts_with_mark rest ≡ false → rest ≡ drop (unit_length held text) text
   passes_all text rest part class mark =
@@ -65,7 +66,7 @@ module _ (held : ℕ → Bool) where
       let whole : part.passed ≡ unit_length held text = omega (arith, part.further, none) in
       part.is_rest ∙ ap (λ n. drop n text) whole
 
-  -- the front is a part of the text
+  -- the prefix is a part of the text
   pub unit_length-le : (text : List ℕ) → unit_length held text ≤ length text
   unit_length-le [] = omega arith
   unit_length-le (c ∷ rest) =
@@ -82,7 +83,7 @@ module _ (held : ℕ → Bool) where
         | inr other ↦ rw (other, mark) refl
       ]
 
-  -- a code point of the class is in the front
+  -- a code point of the class is in the prefix
   class_begins : (c : ℕ) (rest : List ℕ) → held c ≡ true → begins_unit held c rest ≡ true
   class_begins c rest here = rw here refl
 
@@ -131,7 +132,7 @@ module _ (held : ℕ → Bool) (ascii : (byte : ℕ) → held byte ≡ true → 
           rw (← same, here) refl in
           omega (arith, one, none)
 
-  -- the longest front of the class passes as units
+  -- the longest prefix of the class passes as units
   pub run_passes : (bytes : List ℕ) (run : ℕ) → IsUtf8 bytes → run ≡ prefix_len held bytes
       → PassesRun held bytes run
   run_passes bytes zero u is = record {
@@ -205,41 +206,41 @@ escape_passes bytes (high ∷ low ∷ rest) u first hex =
 -- ---- the cut
 
 -- a slice from the start
-pub front_slice : (bytes : List ℕ) (n : ℕ) → slice_range bytes 0 n ≡ take n bytes
-front_slice bytes n = ap (λ k. take k bytes) (omega arith)
+pub prefix_slice : (bytes : List ℕ) (n : ℕ) → slice_range bytes 0 n ≡ take n bytes
+prefix_slice bytes n = ap (λ k. take k bytes) (omega arith)
 
 -- the slices behind and before the cut
 pub record IsByteSplit (bytes rest : List ℕ) (n : ℕ) : Type 0 where
   pub inside : length rest ≤ length bytes
   pub boundary : IsCharBoundary bytes (length bytes - length rest)
-  pub front : chars (take (length bytes - length rest) bytes) ≡ take n (chars bytes)
+  pub prefix : chars (take (length bytes - length rest) bytes) ≡ take n (chars bytes)
   pub ends : EndsWith bytes rest
 
 -- code points left over are bytes left over
 pub split_bytes : (bytes rest : List ℕ) (n : ℕ) → IsUtf8 bytes → IsUtf8 rest → chars rest ≡ drop n (chars bytes)
     → IsByteSplit bytes rest n
 split_bytes bytes rest n u v is =
-    let front = encodes (take n (chars bytes)) in
-    let spelled : bytes ≡ front ++ rest =
+    let prefix = encodes (take n (chars bytes)) in
+    let spelled : bytes ≡ prefix ++ rest =
     sym (encodes-chars bytes u)
     ∙ ap encodes (sym (take-append-drop n (chars bytes)))
     ∙ encodes-append (take n (chars bytes)) (drop n (chars bytes))
-    ∙ ap (λ s. front ++ encodes s) (sym is)
-    ∙ ap (λ s. front ++ s) (encodes-chars rest v) in
-    let long : length bytes ≡ length front + length rest = ap length spelled ∙ length-append front rest in
-    let end : length bytes - length rest ≡ length front = omega (arith, long) in
-    let seam : IsCharBoundary bytes (length front) = IsCharBoundary-at_seam bytes front rest spelled v in
-    let cut : take (length front) bytes ≡ front = ap (take (length front)) spelled ∙ take-append_seam front rest in
-    let text : IsUtf8 front = subst IsUtf8 cut (IsUtf8-take bytes (length front) u seam) in
+    ∙ ap (λ s. prefix ++ encodes s) (sym is)
+    ∙ ap (λ s. prefix ++ s) (encodes-chars rest v) in
+    let long : length bytes ≡ length prefix + length rest = ap length spelled ∙ length-append prefix rest in
+    let end : length bytes - length rest ≡ length prefix = omega (arith, long) in
+    let seam : IsCharBoundary bytes (length prefix) = IsCharBoundary-at_seam bytes prefix rest spelled v in
+    let cut : take (length prefix) bytes ≡ prefix = ap (take (length prefix)) spelled ∙ take-append_seam prefix rest in
+    let text : IsUtf8 prefix = subst IsUtf8 cut (IsUtf8-take bytes (length prefix) u seam) in
     record {
       inside = omega (arith, long);
       boundary = subst (IsCharBoundary bytes) (sym end) seam;
-      front =
+      prefix =
           ap (λ k. chars (take k bytes)) end ∙ ap chars cut
-          ∙ sym (chars_from_encodes (take n (chars bytes)) front text refl);
+          ∙ sym (chars_from_encodes (take n (chars bytes)) prefix text refl);
       ends = record {
         shorter = omega (arith, long);
-        is_rest = ap (λ k. drop k bytes) end ∙ ap (drop (length front)) spelled ∙ drop-append_seam front rest;
+        is_rest = ap (λ k. drop k bytes) end ∙ ap (drop (length prefix)) spelled ∙ drop-append_seam prefix rest;
       };
     }
 

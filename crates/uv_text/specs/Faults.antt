@@ -1,7 +1,7 @@
 -- The first fault of a text that should be URL units, found from code point to code point.
 use Rattle.std.specs.Prelude.{ℕ, suc, List, [], ◌∷◌, Option, Some, None, if◌then◌else◌}
 use Rattle.uv_model.specs.declared.rule.Refusal.{Refusal}
-use Rattle.uv_model.specs.Complaints.UnitComplaint.{unit_rule}
+use Rattle.uv_model.specs.Violations.UnitViolation.{unit_rule}
 use Rattle.uv_model.specs.Units.{is_unit_at}
 
 -- the first fault of a text whose first code point stands at the place

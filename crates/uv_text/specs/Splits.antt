@@ -1,4 +1,4 @@
--- The front of a text that is URL units whose ASCII code points are of a class, after the URL Standard, section 4.3.
+-- The prefix of a text that is URL units whose ASCII code points are of a class, after the URL Standard, section 4.3.
 use Rattle.std.specs.Prelude.{◌≡◌, ℕ, suc, ◌+◌, ◌≤◌, Bool, false, not, ◌&&◌, ◌||◌, List, [], ◌∷◌, ◌==◌, nat_le}
 use Rattle.std.specs.Prelude.{length, take, drop, if◌then◌else◌}
 use Rattle.std.specs.Char.{is_ascii}
@@ -28,17 +28,17 @@ starts_with_mark (c ∷ rest) = begins_mark c rest
 abbrev pub begins_unit : (ℕ → Bool) → ℕ → List ℕ → Bool
 begins_unit held c rest = held c || begins_mark c rest
 
--- how many code points the longest front has in which each begins a unit or is of the class
+-- how many code points the longest prefix has in which each begins a unit or is of the class
 abbrev pub unit_length : (ℕ → Bool) → List ℕ → ℕ
 unit_length held [] = 0
 unit_length held (c ∷ rest) = if begins_unit held c rest then suc (unit_length held rest) else 0
 
--- the text is cut behind that front
-pub record IsUnitSplit (held : ℕ → Bool) (text front rest : List ℕ) : Type 0 where
-  pub is_front : front ≡ take (unit_length held text) text
+-- the text is cut behind that prefix
+pub record IsUnitSplit (held : ℕ → Bool) (text prefix rest : List ℕ) : Type 0 where
+  pub is_prefix : prefix ≡ take (unit_length held text) text
   pub is_rest : rest ≡ drop (unit_length held text) text
 
--- the rest stands behind a part of that front
+-- the rest stands behind a part of that prefix
 pub record PassesUnits (held : ℕ → Bool) (text rest : List ℕ) : Type 0 where
   pub passed : ℕ
   pub inside : passed ≤ length text

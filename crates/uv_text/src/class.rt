@@ -1,7 +1,8 @@
-//! Classes of ASCII bytes, and the run of a class at the front of a text.
+//! Classes of ASCII bytes, and the run of a class at the start of a text.
 ghost use Rattle.std.specs.List.{list_any, prefix_len};
 ghost use Rattle.std.specs.Prelude.{◌≡◌, ◌+◌, ◌<◌, ◌≤◌, ℕ, IfSome, IsTrue, false, if◌then◌else◌, is_none, length, true};
-ghost use Rattle.uv_text.specs.Class.{HasHexDigits, HoldsOpaqueHostBytes, HoldsPathBytes, HoldsUrlBytes, in_class, is_refused, is_wide, within};
+ghost use Rattle.uv_text.specs.Class.{HasHexDigits, HoldsOpaqueHostBytes, HoldsPathBytes, HoldsUrlBytes, in_class};
+ghost use Rattle.uv_text.specs.Class.{is_refused, is_wide, within};
 ghost use Rattle.uv_text.specs.Rows.{HoldClass, row_holding};
 
 use crate::lanes::row_end;
@@ -218,7 +219,7 @@ fn bit_holding(ranges: &[(u8, u8)], byte: u8, bit: u8) -> u8
     if is_in(ranges, byte) { bit } else { 0 }
 }
 
-/// The length of the longest front whose bytes are all in the class, which are ASCII. It is found 32 bytes a turn.
+/// The length of the longest prefix whose bytes are all in the class, which are ASCII. It is found 32 bytes a turn.
 #[inline]
 pub fn unit_run(bytes: &[u8], class: &ByteClass) -> usize
     ensures run { result ≡ prefix_len (in_class class.now) bytes.now }
@@ -261,7 +262,7 @@ mod tests {
     }
 
     #[test]
-    fn counts_the_front_in_the_class(rt: HostRuntime) {
+    fn counts_the_prefix_in_the_class(rt: HostRuntime) {
         let url = ByteClass::url();
         assert_eq!(rt; unit_run(b"", &url), 0);
         assert_eq!(rt; unit_run(b"a/b?c:d@e f", &url), 9);
@@ -274,7 +275,7 @@ mod tests {
         }
     }
 
-    // Checks the run against a plain count, with each byte at each place of a front of so many bytes.
+    // Checks the run against a plain count, with each byte at each place of a prefix of so many bytes.
     fn counts_plainly(rt: &impl Abort, class: &ByteClass, held: &[bool; 256], length: usize)
         requires { length ≤ 97 }
     {
@@ -282,10 +283,10 @@ mod tests {
         for place in 0..length {
             for byte in 0..=255u8 {
                 bytes[place] = byte;
-                let front = &bytes[..length];
-                let plain = front.iter().take_while(|b| held[**b as usize]).count();
+                let prefix = &bytes[..length];
+                let plain = prefix.iter().take_while(|b| held[**b as usize]).count();
                 assert_eq!(rt;
-                    unit_run(front, class),
+                    unit_run(prefix, class),
                     plain,
                     "of {byte} at {place} of {length}"
                 );

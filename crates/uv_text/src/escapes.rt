@@ -13,7 +13,7 @@ const BEYOND_ASCII: AsciiSet = ascii_set!(AsciiSet::EMPTY);
 const SPECIAL_QUERY: AsciiSet = ascii_set!(AsciiSet::EMPTY.add(b'\''));
 
 /// The text with each code point beyond ASCII as the escapes of its UTF-8 bytes, and with `quote` also `'` as `%27`
-/// (URL Standard, section 1.3). All else stays, escapes too. An error is want of memory.
+/// (URL Standard, section 1.3). All else stays, escapes too. An error is out of memory.
 pub fn encode(alloc: Global, text: &str, quote: bool) -> Result<String, AllocError>
     ensures text { IfOk result (λ out. string_bytes out ≡ encoded quote (chars text.now)) }
     ensures ascii { IfOk result (λ out. IsAscii (string_bytes out)) }

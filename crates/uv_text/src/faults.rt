@@ -1,9 +1,9 @@
 //! The first fault of a text that should be URL units.
 ghost use Rattle.std.specs.Prelude.{◌≡◌, ◌↔◌, IsNone};
 ghost use Rattle.std.specs.Str.{chars};
-ghost use Rattle.uv_model.specs.Complaints.Refusal.{IsLeast, StandsWithin};
-ghost use Rattle.uv_model.specs.Complaints.UnitComplaint as spec;
-ghost use Rattle.uv_model.specs.Complaints.UnitComplaint.{UnitComplaint};
+ghost use Rattle.uv_model.specs.Violations.Refusal.{IsLeast, StandsWithin};
+ghost use Rattle.uv_model.specs.Violations.UnitViolation as spec;
+ghost use Rattle.uv_model.specs.Violations.UnitViolation.{UnitViolation};
 ghost use Rattle.uv_model.specs.Units.{IsUnits};
 
 use crate::splits::{count_code_points, split_units};
@@ -14,14 +14,14 @@ use uv_model::{Refusal, Rule, first_code_point};
 /// the rule that it violates: `CodePoint`, or at a `%` `Percent`. `None` where the text is URL units. The place is in
 /// code points from the text's start.
 pub fn first_fault(text: &str) -> Option<Refusal>
-    ensures least { IsLeast (UnitComplaint (chars text.now)) result }
+    ensures least { IsLeast (UnitViolation (chars text.now)) result }
     ensures within { StandsWithin (chars text.now) result }
     ensures none { IsNone result ↔ IsUnits (chars text.now) }
 {
-    let (front, rest) = split_units(text, UnitClass::Url);
+    let (prefix, rest) = split_units(text, UnitClass::Url);
     match first_code_point(rest) {
         Some((c, _)) => Some(Refusal {
-            place: count_code_points(front),
+            place: count_code_points(prefix),
             rule: unit_rule(c),
         }),
         None => None,
@@ -119,7 +119,7 @@ mod tests {
     }
 
     #[test]
-    fn counts_the_place_behind_a_long_front(rt: HostRuntime) -> Result<(), Fail> {
+    fn counts_the_place_behind_a_long_prefix(rt: HostRuntime) -> Result<(), Fail> {
         let mut text = "a".repeat(rt.alloc(), 100)?;
         text.push_str(" ")?;
         assert_eq!(rt; first_fault(text.as_str()), at(100, Rule::CodePoint));
@@ -127,7 +127,7 @@ mod tests {
     }
 
     #[test]
-    fn counts_the_place_behind_a_long_front_beyond_ascii(rt: HostRuntime) -> Result<(), Fail> {
+    fn counts_the_place_behind_a_long_prefix_beyond_ascii(rt: HostRuntime) -> Result<(), Fail> {
         let mut text = "\u{E9}".repeat(rt.alloc(), 40)?;
         text.push_str("%4")?;
         assert_eq!(rt; first_fault(text.as_str()), at(40, Rule::Percent));

@@ -1,4 +1,4 @@
-//! Fronts of bytes by lanes, 32 bytes a turn: the longest whose bytes are all in a class.
+//! Prefixes of bytes by lanes, 32 bytes a turn: the longest whose bytes are all in a class.
 ghost use Rattle.std.specs.Prelude.{◌≡◌, ◌+◌, ◌≤◌, drop, length, map, take};
 ghost use Rattle.std.specs.Simd.Lanes.{mask_l};
 ghost use Rattle.std.specs.List.{prefix_len};
@@ -60,8 +60,8 @@ fn short_bits(bytes: &[u8], rows: &[u8; 16]) -> u64
 }
 
 /// At each of the 32 bytes from a place on a bit, the first the lowest, which is set where the byte is in the rows;
-/// behind the last byte there is none. Where fewer than 32 bytes are left, the load begins before the place, since what is
-/// copied into a block and loaded at once has to be waited for.
+/// behind the last byte there is none. Where fewer than 32 bytes are left, the load begins before the place, since what
+/// is copied into a block and loaded at once has to be waited for.
 #[inline(always)]
 pub(crate) fn row_bits(bytes: &[u8], place: usize, rows: &[u8; 16]) -> u64
     requires { place ≤ length bytes.now }
@@ -76,7 +76,7 @@ pub(crate) fn row_bits(bytes: &[u8], place: usize, rows: &[u8; 16]) -> u64
 
 // How many of the 32 bytes from a place on are in the rows before one that isn't.
 #[inline(always)]
-fn row_front(bytes: &[u8], place: usize, rows: &[u8; 16]) -> usize
+fn row_prefix(bytes: &[u8], place: usize, rows: &[u8; 16]) -> usize
     requires { place ≤ length bytes.now }
     ensures { result ≡ prefix_len (is_in_rows rows.now) (take 32 (drop place bytes.now)) }
 {
@@ -90,10 +90,10 @@ pub(crate) fn row_end(bytes: &[u8], place: usize, rows: &[u8; 16]) -> usize
     ensures { result ≡ place + prefix_len (is_in_rows rows.now) (drop place bytes.now) }
 {
     let mut end = place;
-    let mut ahead = row_front(bytes, end, rows);
+    let mut ahead = row_prefix(bytes, end, rows);
     while ahead == 32 {
         end += ahead;
-        ahead = row_front(bytes, end, rows);
+        ahead = row_prefix(bytes, end, rows);
     }
     end + ahead
 }

@@ -1,20 +1,21 @@
-//! A text cut behind its longest front of URL units, by lanes where it is ASCII.
+//! A text cut behind its longest prefix of URL units, by lanes where it is ASCII.
 ghost use Rattle.std.specs.Prelude.{◌≡◌, ◌<◌, IfSome, MatchOption, drop, false, length};
 ghost use Rattle.std.specs.Str.{chars};
 ghost use Rattle.uv_model.specs.Units as units;
-ghost use Rattle.uv_text.specs.Splits.{IsUnitSplit, PassesMarks, PassesUnits, class_has, starts_in, starts_with_mark, unit_length};
+ghost use Rattle.uv_text.specs.Splits.{IsUnitSplit, PassesMarks, PassesUnits, class_has, starts_in, starts_with_mark};
+ghost use Rattle.uv_text.specs.Splits.{unit_length};
 
 use crate::tail::Tail;
 use crate::units::UnitClass;
 use uv_model::{first_code_point, is_url_code_point};
 
-/// The longest front in which each code point is of the class, begins a percent-encoded byte or is a URL code point
+/// The longest prefix in which each code point is of the class, begins a percent-encoded byte or is a URL code point
 /// beyond ASCII (URL Standard, section 4.3), and what follows it.
 pub fn split_units<'t>(text: &'t str, class: UnitClass) -> (&'t str, &'t str)
     ensures { IsUnitSplit (class_has class) (chars text.now) (chars result.0.now) (chars result.1.now) }
 {
-    let (front, rest) = split_tail(&Tail::of(text), class);
-    (front, rest.as_str())
+    let (prefix, rest) = split_tail(&Tail::of(text), class);
+    (prefix, rest.as_str())
 }
 
 /// The same of a tail.
@@ -27,7 +28,7 @@ pub fn split_tail<'t>(text: &Tail<'t>, class: UnitClass) -> (&'t str, Tail<'t>)
     (&whole[..whole.len() - rest.as_str().len()], rest)
 }
 
-// What follows the front. Most texts have no escape and no code point beyond ASCII.
+// What follows the prefix. Most texts have no escape and no code point beyond ASCII.
 #[inline(always)]
 fn behind_units<'t>(text: &Tail<'t>, class: UnitClass) -> Tail<'t>
     ensures { chars result ≡ drop (unit_length (class_has class) (chars text.now)) (chars text.now) }
@@ -51,7 +52,7 @@ fn may_begin_mark(bytes: &[u8]) -> bool
     }
 }
 
-// What follows the front of a text that begins with no byte of the class.
+// What follows the prefix of a text that begins with no byte of the class.
 fn behind_rest<'t>(text: Tail<'t>, class: UnitClass) -> Tail<'t>
     requires { starts_in (class_has class) (chars text) ≡ false }
     ensures { chars result ≡ drop (unit_length (class_has class) (chars text.entry)) (chars text.entry) }
@@ -63,7 +64,7 @@ fn behind_rest<'t>(text: Tail<'t>, class: UnitClass) -> Tail<'t>
     rest
 }
 
-// What stands behind the longest front of bytes of the class.
+// What stands behind the longest prefix of bytes of the class.
 #[inline(always)]
 fn behind_run<'t>(text: &Tail<'t>, class: UnitClass) -> Tail<'t>
     ensures passes { PassesUnits (class_has class) (chars text.now) (chars result) }
@@ -128,10 +129,10 @@ pub fn count_code_points(text: &str) -> usize
 mod tests {
     use super::*;
 
-    // How many bytes the front of a text has.
-    fn front_length(text: &str, class: UnitClass) -> usize {
-        let (front, _) = split_units(text, class);
-        front.len()
+    // How many bytes the prefix of a text has.
+    fn prefix_length(text: &str, class: UnitClass) -> usize {
+        let (prefix, _) = split_units(text, class);
+        prefix.len()
     }
 
     #[test]
@@ -144,8 +145,8 @@ mod tests {
             ("/a b", 2, 2),
             ("/\u{E9}\u{20AC}%C3%A9?\u{FFFE}", 12, 13),
         ] {
-            assert!(rt; front_length(text, UnitClass::Path) == path, "{text}");
-            assert!(rt; front_length(text, UnitClass::Url) == query, "{text}");
+            assert!(rt; prefix_length(text, UnitClass::Path) == path, "{text}");
+            assert!(rt; prefix_length(text, UnitClass::Url) == query, "{text}");
         }
     }
 }

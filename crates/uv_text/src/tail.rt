@@ -54,7 +54,7 @@ impl<'t> Tail<'t> {
     #[inline(always)]
     pub fn split_at(&self, end: usize) -> (&'t str, Tail<'t>)
         requires { IsUtf8 self.now → IsCharBoundary self.now end }
-        ensures front { result.0.now ≡ take end self.now }
+        ensures prefix { result.0.now ≡ take end self.now }
         ensures rest { result.1 ≡ drop end self.now }
     {
         let place = self.place + end;

@@ -21,7 +21,7 @@ pub list_of-items_of : (values : List Data) → list_of (items_of values) ≡ va
 list_of-items_of [] = refl
 list_of-items_of (value ∷ values) = ap (λ rest. value ∷ rest) (list_of-items_of values)
 
--- how many pass from the front on, before and after a mapping
+-- how many pass from the prefix on, before and after a mapping
 prefix_len-map : {X Y : Type 0} (p : Y → Bool) (f : X → Y) (xs : List X)
     → prefix_len (λ x. p (f x)) xs ≡ prefix_len p (map f xs)
 prefix_len-map p f [] = refl

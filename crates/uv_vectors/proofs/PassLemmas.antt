@@ -11,8 +11,8 @@ use Rattle.uv_model.specs.declared.rule.Rule.{Rule}
 use Rattle.uv_model.specs.declared.rule.Rule.TheVariants.{NoScheme, OpaqueBase, TwoSlashes, HostMissing, HostDomain}
 use Rattle.uv_model.specs.declared.rule.Rule.TheVariants.{HostNumber, HostIpv6, HostCodePoint, PortDigit, PortRange}
 use Rattle.uv_model.specs.declared.rule.Rule.TheVariants.{FirstSegmentEmpty, DriveAfterHost, CodePoint, Percent}
-use Rattle.uv_model.specs.Complaints.Refusal.{IsLeastRefusal}
-use Rattle.uv_model.specs.Complaints.Rule.{rule_number, rules_in_order}
+use Rattle.uv_model.specs.Violations.Refusal.{IsLeastRefusal}
+use Rattle.uv_model.specs.Violations.Rule.{rule_number, rules_in_order}
 use Rattle.uv_model.specs.Records.Denote.{denote}
 use Rattle.uv_model.specs.Records.Url.{Url}
 use Rattle.uv_model.proofs.Cuts.UniqueParts.{parts_are_unique}
@@ -53,16 +53,16 @@ numbered_rule Percent = refl
 abbrev refusal_at : ℕ → Rule → Refusal
 refusal_at place rule = record { place = place; rule = rule }
 
--- of two least complaints neither stands before the other
-least_is_one : (complaint : ℕ → Rule → Type 0) (refusal other : Refusal) → IsLeastRefusal complaint refusal
-    → IsLeastRefusal complaint other → refusal ≡ other
-least_is_one complaint refusal other one two =
+-- of two least violations neither stands before the other
+least_is_one : (violation : ℕ → Rule → Type 0) (refusal other : Refusal) → IsLeastRefusal violation refusal
+    → IsLeastRefusal violation other → refusal ≡ other
+least_is_one violation refusal other one two =
     let place : refusal.place ≡ other.place = le_antisymm (one.first other.place other.rule two.stands)
     (two.first refusal.place refusal.rule one.stands) in
     let up : rule_number refusal.rule ≤ rule_number other.rule =
-    one.lowest other.rule (subst (λ p. complaint p other.rule) (sym place) two.stands) in
+    one.lowest other.rule (subst (λ p. violation p other.rule) (sym place) two.stands) in
     let down : rule_number other.rule ≤ rule_number refusal.rule =
-    two.lowest refusal.rule (subst (λ p. complaint p refusal.rule) place one.stands) in
+    two.lowest refusal.rule (subst (λ p. violation p refusal.rule) place one.stands) in
     let rule : refusal.rule ≡ other.rule = sym (numbered_rule refusal.rule)
     ∙ ap (λ n. get_or rules_in_order (n - 1) NoScheme) (le_antisymm up down) ∙ numbered_rule other.rule in
     same refusal.place other.place refusal.rule other.rule place rule

@@ -6,7 +6,7 @@ use Rattle.serde_json.specs.Data.{Data, null, string, Items, no_items, item, Mem
 use Rattle.serde_json.specs.Find.{get, as_number, as_object, as_str, as_u64}
 use Rattle.uv_model.specs.declared.rule.Refusal.{Refusal}
 use Rattle.uv_model.specs.declared.rule.Rule.{Rule}
-use Rattle.uv_model.specs.Complaints.Rule.{named_rule}
+use Rattle.uv_model.specs.Violations.Rule.{named_rule}
 
 -- what a case expects: a record with this text, or this refusal
 pub data Expectation : Type 0 where

@@ -87,8 +87,8 @@ WritesVectors bytes ends.AllPass old new = WritesReport bytes ends.AllPass old n
 WritesVectors bytes ends.SomeFail old new = WritesReport bytes ends.SomeFail old new
 WritesVectors bytes end old new = EndsUnjudged bytes end
 
--- a front of the report was written
-abbrev pub WritesVectorsFront : List ℕ → Option (List ℕ) → Option (List ℕ) → Type 0
-WritesVectorsFront bytes old new =
+-- a prefix of the report was written
+abbrev pub WritesVectorsPrefix : List ℕ → Option (List ℕ) → Option (List ℕ) → Type 0
+WritesVectorsPrefix bytes old new =
     (end : VectorEnd) × (text : List ℕ) × IsFileReport bytes end text
     × ((count : ℕ) × Appends old new (take count text))

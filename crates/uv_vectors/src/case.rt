@@ -1,12 +1,14 @@
 //! One case of a vector file.
-ghost use Rattle.std.specs.Prelude.{◌≡◌, Bool, Decides, IfOk, List, Option, chars, option_copied, option_map, string_bytes};
+ghost use Rattle.std.specs.Prelude.{◌≡◌, Bool, Decides, IfOk, List, Option, chars, option_copied, option_map};
+ghost use Rattle.std.specs.Prelude.{string_bytes};
 ghost use Rattle.std.specs.BTreeMap.{keys};
 ghost use Rattle.std.specs.List.{list_all};
 ghost use Rattle.serde_json.specs.Data.{Data};
 ghost use Rattle.serde_json.specs.View.{members_view, view};
 ghost use Rattle.uv_grammar.specs.Verdict.{IsRefused};
 ghost use Rattle.uv_resolve.specs.Resolve.{DenotesText};
-ghost use Rattle.uv_vectors.specs.Case.{Expectation, Vector, base_of, expected_of, has_known_keys, is_known, refusal_of, vector_of};
+ghost use Rattle.uv_vectors.specs.Case.{Expectation, Vector, base_of, expected_of, has_known_keys, is_known};
+ghost use Rattle.uv_vectors.specs.Case.{refusal_of, vector_of};
 ghost use Rattle.uv_vectors.specs.Passes.{IsAsExpected, Judges, Passes};
 ghost use Rattle.uv_vectors.specs.Views.{expected_view, value_view};
 
@@ -66,7 +68,7 @@ impl<'v> VectorCase<'v> {
         })
     }
 
-    /// Whether the case passes, by the standard profile. The error is want of memory.
+    /// Whether the case passes, by the standard profile. The error is out of memory.
     pub(crate) fn passes(&self, alloc: Global) -> Result<bool, AllocError>
         ensures { IfOk result (λ passed. Decides passed (Passes self.now)) }
     {
@@ -89,7 +91,7 @@ impl<'v> VectorCase<'v> {
     }
 }
 
-/// Whether a value is a case that passes. The error is want of memory.
+/// Whether a value is a case that passes. The error is out of memory.
 pub(crate) fn passes(alloc: Global, value: &Value) -> Result<bool, AllocError>
     ensures { IfOk result (Judges (view value.now)) }
 {

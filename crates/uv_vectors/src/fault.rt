@@ -8,7 +8,7 @@ use thiserror::Error;
 /// Why a command's output is not whole.
 #[derive(Clone, Copy, Debug, PartialEq, Eq, Error)]
 pub enum CliFault {
-    /// A growth was refused. Nothing of the output was written.
+    /// An allocation failed. Nothing of the output was written.
     #[error("memory")]
     Memory,
     /// A write failed. A beginning of the output was written.

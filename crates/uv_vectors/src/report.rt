@@ -9,7 +9,7 @@ use crate::run::VectorEnd;
 use serde_json::Value;
 use std::alloc::{AllocError, Global};
 
-/// The report on values, and how a run ends that writes it. The error is want of memory.
+/// The report on values, and how a run ends that writes it. The error is out of memory.
 pub(crate) fn report_on(alloc: Global, values: &[Value]) -> Result<(VectorEnd, String), AllocError>
     ensures { IfOk result (λ r. IsReportOn (list_of (items_view values.now)) r.0 (string_bytes r.1)) }
 {

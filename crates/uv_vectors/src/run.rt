@@ -1,8 +1,9 @@
 //! The run over the bytes of a file of vectors.
-ghost use Rattle.std.specs.Prelude.{◌≡◌, ◌+◌, ◌-◌, ◌^◌, ◌<◌, IfOk, IfSome, OnOk, Option, None, false, is_none, length, position, string_bytes};
+ghost use Rattle.std.specs.Prelude.{◌≡◌, ◌+◌, ◌-◌, ◌^◌, ◌<◌, IfOk, IfSome, OnOk, Option, None, false, is_none, length};
+ghost use Rattle.std.specs.Prelude.{position, string_bytes};
 ghost use Rattle.serde_json.specs.View.{items_view, view};
 ghost use Rattle.uv_vectors.specs.Case.{is_malformed, list_of};
-ghost use Rattle.uv_vectors.specs.Run.{IsReport, EndsBytes, EndsValue, WritesVectors, WritesVectorsFront, is_judged};
+ghost use Rattle.uv_vectors.specs.Run.{IsReport, EndsBytes, EndsValue, WritesVectors, WritesVectorsPrefix, is_judged};
 
 use crate::case::VectorCase;
 use crate::fault::CliFault;
@@ -52,8 +53,8 @@ pub fn run_vectors<S: Sink>(alloc: Global, bytes: &[u8], out: &mut S) -> Result<
     ensures unjudged { IfOk result (λ end. is_judged end ≡ false → out.new ≡ out.old) }
     ensures quiet { OnOk result (S.failed out.new ≡ S.failed out.old) }
     ensures memory { result ≡ Err CliFault.Memory → out.new ≡ out.old }
-    ensures front { result ≡ Err CliFault.Write →
-        WritesVectorsFront bytes.now (S.contents out.old) (S.contents out.new) }
+    ensures prefix { result ≡ Err CliFault.Write →
+        WritesVectorsPrefix bytes.now (S.contents out.old) (S.contents out.new) }
     ensures failed { result ≡ Err CliFault.Write → S.failed out.new ≡ S.failed out.old + 1 }
 {
     match ending_of_bytes(alloc, bytes)? {

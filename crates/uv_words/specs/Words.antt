@@ -1,4 +1,4 @@
--- What the arguments of the command line ask for, by `clap`'s definition of the words that a command takes.
+-- What the arguments of the command line ask for, by `clap`'s definition of the arguments that a command takes.
 use Rattle.std.specs.Prelude.{◌≡◌, ◌≢◌, Bool, List, Option, Some, None, true, false, String, codes, map}
 use Rattle.std.specs.Prelude.{option_and_then, option_map, string_bytes, if◌then◌else◌}
 use Rattle.std.specs.Option.{option_map_or}
@@ -129,7 +129,7 @@ request_in name rows =
     else (if bytes_eq name (codes "explain") then Some (explain (first_of (codes "RULE") rows))
     else profiled_in name rows (wanted_in rows))
 
--- the same of the command that `clap`'s definition finds in the words, if it finds one
+-- the same of the command that `clap`'s definition finds in the arguments, if it finds one
 abbrev pub request_of : Option (Text × List Row) → Option Request
 request_of found = option_and_then (λ p. request_in p.0 p.1) found
 
@@ -168,12 +168,12 @@ wanted_view (asked.Unknown name) = unknown name.now
 
 -- ---- why there is none
 
--- the error has a kind that `clap`'s definition gives for the words
+-- the error has a kind that `clap`'s definition gives for the arguments
 abbrev pub IsFaultOf : List Text → WordsFault → Type 0
 IsFaultOf words (fault.Words error) = IsAmong (kind_of error) (fault_of urlcheck words)
 IsFaultOf words fault.Memory = Unit {0}
 
--- the error itself, or want of memory
+-- the error itself, or out of memory
 abbrev pub IsFrom : Error → WordsFault → Type 0
 IsFrom error (fault.Words e) = (e ≡ error) × (kind_of error ≢ OutOfMemory)
 IsFrom error fault.Memory = kind_of error ≡ OutOfMemory

@@ -1,8 +1,10 @@
 //! The commands of the program, with their help.
 ghost use Rattle.std.specs.Prelude.{◌≡◌, IfOk, codes, false};
 ghost use Rattle.clap.specs.Words.{App, Rule, app_of, new_app, rule_of, with_rule, with_subcommand};
-ghost use Rattle.uv_words.specs.Commands.{check_command, explain_command, links_command, lint_command, mend_command, vectors_command};
-ghost use Rattle.uv_words.specs.Commands.{file_rule, files_rule, flag_rule, name_rule, option_rule, quiet_rule, text_rule};
+ghost use Rattle.uv_words.specs.Commands.{check_command, explain_command, links_command, lint_command, mend_command};
+ghost use Rattle.uv_words.specs.Commands.{vectors_command};
+ghost use Rattle.uv_words.specs.Commands.{file_rule, files_rule, flag_rule, name_rule, option_rule, quiet_rule};
+ghost use Rattle.uv_words.specs.Commands.{text_rule};
 ghost use Rattle.uv_words.specs.Commands.{urlcheck, IsApp};
 
 use clap::{Arg, ArgAction, Command};
@@ -12,7 +14,7 @@ const STATUSES: &str = "Exit statuses:
   0  the text is valid, each line is ok, each vector passes, or a rule is explained
   1  the text is refused, a line isn't ok, or a vector fails
   2  the arguments, the base or the vector file are refused, or a file of lint can't be read
-  3  memory ran out, or a file or a device failed
+  3  memory ran out, or an I/O error occurred
 
 Example:
   urlcheck check 'http://h/a b'";
@@ -106,7 +108,7 @@ pub(crate) fn urlcheck<'a>(alloc: Global) -> Result<Command<'a>, AllocError>
     and_command(program, explain(alloc))
 }
 
-// The command with one subcommand more, where no growth was refused.
+// The command with one subcommand more, where no allocation failed.
 fn and_command<'a>(
     command: Result<Command<'a>, AllocError>,
     other: Result<Command<'a>, AllocError>,
@@ -117,7 +119,7 @@ fn and_command<'a>(
     command?.subcommand(other?)
 }
 
-// The command with one argument more, where no growth was refused.
+// The command with one argument more, where no allocation failed.
 fn and_arg<'a>(
     command: Result<Command<'a>, AllocError>,
     arg: Arg<'a>,

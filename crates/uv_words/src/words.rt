@@ -1,8 +1,10 @@
 //! What the arguments of the command line ask for.
 ghost use Rattle.std.specs.Prelude.{◌≡◌, IfOk, IfErr, codes, map, option_map, string_bytes, true};
-ghost use Rattle.clap.specs.Words.{all_of, first_of, found_of, kind_of, rows_of, subcommand_of, subcommand_rows_of, takes};
+ghost use Rattle.clap.specs.Words.{all_of, first_of, found_of, kind_of, rows_of, subcommand_of, subcommand_rows_of};
+ghost use Rattle.clap.specs.Words.{takes};
 ghost use Rattle.uv_words.specs.Commands.{urlcheck};
-ghost use Rattle.uv_words.specs.Words.{asked_by, asks_to_show, check_in, extent_in, has_flag, judged_in, lint_in, mend_in};
+ghost use Rattle.uv_words.specs.Words.{asked_by, asks_to_show, check_in, extent_in, has_flag, judged_in, lint_in};
+ghost use Rattle.uv_words.specs.Words.{mend_in};
 ghost use Rattle.uv_words.specs.Words.{request_in, request_of, vectors, wanted_in, wanted_view, IsFaultOf, IsFrom};
 
 use crate::commands::urlcheck;
@@ -80,17 +82,17 @@ pub struct LintJob {
     pub quiet: bool,
 }
 
-/// Why the words give no job.
+/// Why the arguments give no job.
 #[derive(Debug, Drop)]
 pub enum WordsFault {
-    /// The words are refused, or ask for help or the version. The error has the text to show.
+    /// The arguments are refused, or ask for help or the version. The error has the text to show.
     Words(Error),
-    /// A growth was refused.
+    /// An allocation failed.
     Memory,
 }
 
 impl WordsFault {
-    /// Whether the words ask for help or the version. Then the error's text is no refusal.
+    /// Whether the arguments ask for help or the version. Then the error's text is no refusal.
     pub fn asks_to_show(&self) -> bool
         ensures { result ≡ asks_to_show self.now }
     {

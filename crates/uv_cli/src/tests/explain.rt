@@ -110,7 +110,7 @@ fn knows_no_other_names(rt: HostRuntime) -> Result<(), Fail> {
 }
 
 // Behind these short writes a write fails: a beginning is written.
-fn tells_a_failed_write(
+fn reports_a_failed_write(
     rt: &(impl Abort + AllocGlobal),
     writes: &[Result<usize, DeviceFault>],
 ) -> Result<(), Fail> {
@@ -124,10 +124,10 @@ fn tells_a_failed_write(
 
 // Each write behind so many short ones fails in turn.
 #[test]
-fn tells_each_failed_write(rt: HostRuntime) -> Result<(), Fail> {
+fn reports_each_failed_write(rt: HostRuntime) -> Result<(), Fail> {
     let mut writes: Vec<Result<usize, DeviceFault>> = Vec::new(rt.alloc());
     for _ in 0..HOST_MISSING.len() / 7 {
-        tells_a_failed_write(&rt, writes.as_slice())?;
+        reports_a_failed_write(&rt, writes.as_slice())?;
         writes.push(Ok(7))?;
     }
     Ok(())

@@ -103,7 +103,7 @@ fn reports_on_the_input(rt: HostRuntime) -> Result<(), Fail> {
     ends(&rt, &based, &text, &[], want)
 }
 
-// A failed read of the input is told, and what was read before it is reported.
+// A failed read of the input is reported, and what was read before it is reported.
 #[test]
 fn goes_on_behind_a_failed_read(rt: HostRuntime) -> Result<(), Fail> {
     let job = job(rt.alloc(), &["-"], None, None)?;
@@ -122,7 +122,7 @@ fn goes_on_behind_a_failed_read(rt: HostRuntime) -> Result<(), Fail> {
     )
 }
 
-// A write that fails stops the lint: what was counted is told, and the write.
+// A write that fails stops the lint: what was counted is reported, and the write.
 #[test]
 fn stops_at_a_failed_write(rt: HostRuntime) -> Result<(), Fail> {
     let job = job(rt.alloc(), &["-", "no/such/file"], None, None)?;

@@ -4,15 +4,15 @@ use super::*;
 
 const LONG: usize = 100_000;
 
-// A front, a piece so many times, and an end.
+// A prefix, a piece so many times, and an end.
 fn repeated(
     alloc: Global,
-    front: &str,
+    prefix: &str,
     piece: &str,
     count: usize,
     end: &str,
 ) -> Result<String, Fail> {
-    let mut text = String::from_str(alloc, front)?;
+    let mut text = String::from_str(alloc, prefix)?;
     for _ in 0..count {
         text.push_str(piece)?;
     }
@@ -56,15 +56,15 @@ fn checks_long_texts(rt: HostRuntime) -> Result<(), Fail> {
         ),
         ("http://h", "/a", host, "segment a\n", ""),
     ];
-    for (front, piece, before, printed, end) in rows {
-        let text = repeated(rt.alloc(), front, piece, LONG, "")?;
+    for (prefix, piece, before, printed, end) in rows {
+        let text = repeated(rt.alloc(), prefix, piece, LONG, "")?;
         let want = repeated(rt.alloc(), before, printed, LONG, end)?;
         let (_, lines) = written(rt.alloc(), text.as_str(), None)?;
-        assert!(rt; lines.as_slice() == want.as_bytes(), "behind {front}");
+        assert!(rt; lines.as_slice() == want.as_bytes(), "behind {prefix}");
         let (_, lines) = written(rt.alloc(), text.as_str(), Some("urn:a"))?;
         assert!(rt;
             lines.as_slice() == want.as_bytes(),
-            "against a base, behind {front}"
+            "against a base, behind {prefix}"
         );
         let (_, lines) = written(rt.alloc(), "urn:a", Some(text.as_str()))?;
         assert_eq!(rt;

@@ -1,4 +1,5 @@
-//! What the program's edge does with its devices: a flush that fails, a pipe that is closed, and names that none has.
+//! What the program's edge does with its readers and writers: a flush that fails, a pipe that is closed, and names that
+//! none has.
 
 use super::holds;
 use crate::ends::{End, status};
@@ -30,9 +31,9 @@ impl Write for Held {
     }
 }
 
-// A flush that fails is told, with the status of a write; of a closed pipe nothing is said.
+// A flush that fails is reported, with the status of a write; of a closed pipe nothing is said.
 #[test]
-fn tells_a_failed_flush(rt: HostRuntime) {
+fn reports_a_failed_flush(rt: HostRuntime) {
     let whole = finished(End::Valid, Watched::new(Held { fails: None }));
     assert!(rt; whole.end == End::Valid && !whole.is_closed);
     let fails = Some(ErrorKind::StorageFull);
@@ -72,7 +73,7 @@ fn names_the_nearest(rt: HostRuntime) -> Result<(), Fail> {
 
 // Each line of a message stands behind the program's name, without controls.
 #[test]
-fn tells_lines(rt: HostRuntime) -> Result<(), Fail> {
+fn reports_lines(rt: HostRuntime) -> Result<(), Fail> {
     let lines = message_lines(rt.alloc(), "error: a\u{7}b\n\n  [c]\n")?;
     assert!(rt; lines.as_str() == "urlcheck: a\u{FFFD}b\nurlcheck:   [c]\n");
     Ok(())

@@ -20,7 +20,7 @@ use Rattle.uv_model.proofs.Texts.MarkLemmas.{is_without-before, text_before-none
 -- Each `:` of the host text stands within brackets, and a port's `:` doesn't; `within` says whether the text's start
 -- stands within brackets.
 pub record EndsFrom (within : Bool) (host_text : List ℕ) (port_text : Option (List ℕ)) : Type 0 where
-  pub none_before : (front rest : List ℕ) → host_text ≡ front ++ colon ∷ rest → is_within_at_end within front ≡ true
+  pub none_before : (prefix rest : List ℕ) → host_text ≡ prefix ++ colon ∷ rest → is_within_at_end within prefix ≡ true
   pub ends : IsSome port_text → is_within_at_end within host_text ≡ false
 
 -- the first code point of such a host text is no `:` of a port
@@ -37,7 +37,7 @@ pub rest_ends : (within : Bool) (c : ℕ) (rest : List ℕ) (port_text : Option 
     → EndsFrom within (c ∷ rest) port_text
     → EndsFrom (is_within within c) rest port_text
 rest_ends within c rest port_text e = record {
-  none_before = λ front later same. e.none_before (c ∷ front) later (ap (λ xs. c ∷ xs) same);
+  none_before = λ prefix later same. e.none_before (c ∷ prefix) later (ap (λ xs. c ∷ xs) same);
   ends = e.ends;
 }
 
@@ -71,9 +71,9 @@ written_host within (c ∷ rest) = elim (cases_Bool (is_port_mark within c)) [
 ]
 
 -- nothing stands round a code point in the empty text
-pub nil_holds_none : (front rest : List ℕ) → [] ≡ front ++ colon ∷ rest → ⊥
+pub nil_holds_none : (prefix rest : List ℕ) → [] ≡ prefix ++ colon ∷ rest → ⊥
 nil_holds_none [] rest same = cc
-nil_holds_none (c ∷ front) rest same = cc
+nil_holds_none (c ∷ prefix) rest same = cc
 
 -- a `:` that isn't a port's stands within brackets
 within_at_colon : (within : Bool) (c : ℕ) → is_port_mark within c ≡ false → c ≡ colon → within ≡ true
@@ -81,29 +81,29 @@ within_at_colon within c other same =
     let test : not within ≡ false = rw (eq-eqb c colon same) at other in
     not-false within test
 
--- a host text with one more code point in front that isn't the `:` of a port
+-- a host text with one more code point before it that isn't the `:` of a port
 ends_with_more : (within : Bool) (c : ℕ) (rest : List ℕ) (port_text : Option (List ℕ)) → is_port_mark within c ≡ false
     → EndsFrom (is_within within c) rest port_text → EndsFrom within (c ∷ rest) port_text
 ends_with_more within c rest port_text other e = record { none_before = before; ends = e.ends }
   where
-    before : (front later : List ℕ) → (c ∷ rest) ≡ front ++ colon ∷ later → is_within_at_end within front ≡ true
+    before : (prefix later : List ℕ) → (c ∷ rest) ≡ prefix ++ colon ∷ later → is_within_at_end within prefix ≡ true
     before [] later same = within_at_colon within c other cc
-    before (x ∷ front) later same =
+    before (x ∷ prefix) later same =
         let first : c ≡ x = cc in
-        let tail : rest ≡ front ++ colon ∷ later = cc in
-        rw (← first) (e.none_before front later tail)
+        let tail : rest ≡ prefix ++ colon ∷ later = cc in
+        rw (← first) (e.none_before prefix later tail)
 
 -- the computed host ends where it should
 host_before-ends : (within : Bool) (authority : List ℕ)
     → EndsFrom within (host_before within authority) (port_behind within authority)
 host_before-ends within [] =
     record {
-      none_before = λ front rest same. absurd (nil_holds_none front rest same);
+      none_before = λ prefix rest same. absurd (nil_holds_none prefix rest same);
       ends = λ some. absurd (false≢true some);
     }
 host_before-ends within (c ∷ rest) = elim (cases_Bool (is_port_mark within c)) [
   | inl mark ↦ rw mark (record {
-    none_before = λ front later same. absurd (nil_holds_none front later same);
+    none_before = λ prefix later same. absurd (nil_holds_none prefix later same);
     ends = λ some. not-true within (and_parts (c == colon) (not within) mark).1;
   })
   | inr other ↦ rw other (ends_with_more within c _ _ other (host_before-ends (is_within within c) rest))

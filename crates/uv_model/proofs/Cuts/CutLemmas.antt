@@ -5,7 +5,7 @@ use Rattle.uv_model.specs.Parts.{written_scheme, written_behind}
 use Rattle.uv_model.specs.Path.{is_without}
 use Rattle.uv_model.specs.Records.Url.{Url}
 use Rattle.uv_model.specs.Cut.{Cut, IsCut, IsSchemeCut, IsAuthorityCut, class_in, cut_of, start_cut, scheme_cut}
-use Rattle.uv_model.specs.Cut.{behind_scheme, text_before, text_behind, written_middle, written_start, written_front}
+use Rattle.uv_model.specs.Cut.{behind_scheme, text_before, text_behind, written_middle, written_start, written_prefix}
 use Rattle.uv_model.proofs.Texts.MarkLemmas.{is_without-before, before_written, behind_written, written_mark}
 use Rattle.uv_model.specs.Laws.Cuts.{EveryTextHasOneCut}
 use Rattle.uv_model.proofs.Cuts.SchemeCutLemmas.{scheme_cut-written, behind_scheme-written, written_scheme_cut}
@@ -30,33 +30,34 @@ start_cut-written base cut scheme authority =
 pub cut_is_computed : (base : Option Url) (text : List ℕ) (cut : Cut) → IsCut base text cut → cut ≡ cut_of base text
 unfolding cut_of
 cut_is_computed base text cut is =
-    let front : text_before number_sign text ≡ written_front cut
-    = ap (text_before number_sign) is.whole ∙ before_written number_sign (written_front cut) cut.fragment is.front in
+    let prefix : text_before number_sign text ≡ written_prefix cut
+    = ap (text_before number_sign) is.whole ∙ before_written number_sign (written_prefix cut) cut.fragment is.prefix in
     let fragment : text_behind number_sign text ≡ cut.fragment
-    = ap (text_behind number_sign) is.whole ∙ behind_written number_sign (written_front cut) cut.fragment is.front in
+    = ap (text_behind number_sign) is.whole ∙ behind_written number_sign (written_prefix cut) cut.fragment is.prefix in
     let start = before_written question_mark (written_start cut) cut.query is.start in
     let query = behind_written question_mark (written_start cut) cut.query is.start in
-    sym (rw (front, fragment, start, query) (start_cut-written base cut is.scheme is.authority))
+    sym (rw (prefix, fragment, start, query) (start_cut-written base cut is.scheme is.authority))
 
 -- the computed cut is a cut of the text
 pub computed_is_cut : (base : Option Url) (text : List ℕ) → IsCut base text (cut_of base text)
 unfolding cut_of
 computed_is_cut base text =
-    let front = text_before number_sign text in
-    let start = text_before question_mark front in
+    let prefix = text_before number_sign text in
+    let start = text_before question_mark prefix in
     let middle = behind_scheme start in
     let cut = cut_of base text in
     let same_middle : middle ≡ written_middle cut = written_middle_cut (class_in base (scheme_cut start)) middle in
     let same_start : start ≡ written_start cut
     = written_scheme_cut start ∙ ap (λ xs. written_scheme (scheme_cut start) ++ xs) same_middle in
-    let same_front : front ≡ written_front cut
-    = written_mark question_mark front ∙ ap (λ xs. xs ++ written_behind question_mark cut.query) same_start in
+    let same_prefix : prefix ≡ written_prefix cut
+    = written_mark question_mark prefix ∙ ap (λ xs. xs ++ written_behind question_mark cut.query) same_start in
     record {
-      whole = written_mark number_sign text ∙ ap (λ xs. xs ++ written_behind number_sign cut.fragment) same_front;
-      front = subst (λ (xs : List ℕ). is_without number_sign xs ≡ true) same_front (is_without-before number_sign text);
+      whole = written_mark number_sign text ∙ ap (λ xs. xs ++ written_behind number_sign cut.fragment) same_prefix;
+      prefix = subst (λ (xs : List ℕ). is_without number_sign xs ≡ true) same_prefix
+          (is_without-before number_sign text);
       start =
           subst (λ (xs : List ℕ). is_without question_mark xs ≡ true) same_start
-          (is_without-before question_mark front);
+          (is_without-before question_mark prefix);
       scheme = subst (λ (xs : List ℕ). IsSchemeCut (scheme_cut start) xs) same_middle (scheme_cut-is start);
       authority = authority_cut-is (class_in base (scheme_cut start)) middle;
     }

@@ -106,8 +106,8 @@ word_passes test s q n c b text each =
       no_number_sign = is_without-passes test number_sign text n each;
       ends = λ port_text. record {
         none_before =
-            λ front rest same. absurd
-            (false≢true (sym (has_mark colon front rest) ∙ (ap (is_without colon) (sym same) ∙ no_colon)));
+            λ prefix rest same. absurd
+            (false≢true (sym (has_mark colon prefix rest) ∙ (ap (is_without colon) (sym same) ∙ no_colon)));
         ends = λ some. without_bracket text (is_without-passes test left_bracket text b each);
       };
     }
@@ -208,33 +208,33 @@ stays_within : (c : ℕ) → is_address_code_point c ≡ true → is_within true
 stays_within c h = grind (arith, nat_tests)
 
 -- what stands before a `:` of an address in brackets is within them
-within_address : (inner front rest : List ℕ) → list_all is_address_code_point inner ≡ true
-    → inner ++ right_bracket ∷ [] ≡ front ++ colon ∷ rest → is_within_at_end true front ≡ true
+within_address : (inner prefix rest : List ℕ) → list_all is_address_code_point inner ≡ true
+    → inner ++ right_bracket ∷ [] ≡ prefix ++ colon ∷ rest → is_within_at_end true prefix ≡ true
 within_address inner [] rest each same = refl
-within_address [] (x ∷ front) rest each same =
-    let behind : [] ≡ front ++ colon ∷ rest = cc in
-    absurd (nil_holds_none front rest behind)
-within_address (c ∷ inner) (x ∷ front) rest each same =
+within_address [] (x ∷ prefix) rest each same =
+    let behind : [] ≡ prefix ++ colon ∷ rest = cc in
+    absurd (nil_holds_none prefix rest behind)
+within_address (c ∷ inner) (x ∷ prefix) rest each same =
     let parts = and_parts (is_address_code_point c) (list_all is_address_code_point inner) each in
     let first : c ≡ x = cc in
-    let behind : inner ++ right_bracket ∷ [] ≡ front ++ colon ∷ rest = cc in
-    rw (← first, stays_within c parts.0) (within_address inner front rest parts.1 behind)
+    let behind : inner ++ right_bracket ∷ [] ≡ prefix ++ colon ∷ rest = cc in
+    rw (← first, stays_within c parts.0) (within_address inner prefix rest parts.1 behind)
 
 -- each `:` behind an opening bracket has it as the nearest bracket before it
-within_opened : (opening : ℕ) (inner front rest : List ℕ) → is_within false opening ≡ true → opening ≢ colon
-    → list_all is_address_code_point inner ≡ true → opening ∷ (inner ++ right_bracket ∷ []) ≡ front ++ colon ∷ rest
-    → ends_within front ≡ true
+within_opened : (opening : ℕ) (inner prefix rest : List ℕ) → is_within false opening ≡ true → opening ≢ colon
+    → list_all is_address_code_point inner ≡ true → opening ∷ (inner ++ right_bracket ∷ []) ≡ prefix ++ colon ∷ rest
+    → ends_within prefix ≡ true
 within_opened opening inner [] rest opens other each same = absurd (other cc)
-within_opened opening inner (x ∷ front) rest opens other each same =
+within_opened opening inner (x ∷ prefix) rest opens other each same =
     let first : opening ≡ x = cc in
-    let behind : inner ++ right_bracket ∷ [] ≡ front ++ colon ∷ rest = cc in
-    rw (← first, opens) (within_address inner front rest each behind)
+    let behind : inner ++ right_bracket ∷ [] ≡ prefix ++ colon ∷ rest = cc in
+    rw (← first, opens) (within_address inner prefix rest each behind)
 
 -- each `:` of an address in brackets has `[` as the nearest bracket before it
-within_brackets : (inner front rest : List ℕ) → list_all is_address_code_point inner ≡ true
-    → left_bracket ∷ (inner ++ right_bracket ∷ []) ≡ front ++ colon ∷ rest → ends_within front ≡ true
-within_brackets inner front rest each same =
-    within_opened left_bracket inner front rest refl (λ e. omega (arith, e)) each same
+within_brackets : (inner prefix rest : List ℕ) → list_all is_address_code_point inner ≡ true
+    → left_bracket ∷ (inner ++ right_bracket ∷ []) ≡ prefix ++ colon ∷ rest → ends_within prefix ≡ true
+within_brackets inner prefix rest each same =
+    within_opened left_bracket inner prefix rest refl (λ e. omega (arith, e)) each same
 
 -- an address or a bracket
 abbrev is_bracketed_code_point : ℕ → Bool
@@ -257,7 +257,7 @@ word_of_ipv6 text pieces (inner, spelled, is) =
       no_question_mark = is_without-passes is_bracketed_code_point question_mark whole refl passes;
       no_number_sign = is_without-passes is_bracketed_code_point number_sign whole refl passes;
       ends = λ port_text. record {
-        none_before = λ front rest same. within_brackets inner front rest each same;
+        none_before = λ prefix rest same. within_brackets inner prefix rest each same;
         ends = λ some. closed true inner;
       };
     })

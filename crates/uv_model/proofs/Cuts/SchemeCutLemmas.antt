@@ -52,21 +52,21 @@ starts_with_written_scheme (c ∷ scheme) rest is =
 
 -- what stands before the first `:` of such a text
 record Before (text : List ℕ) : Type 0 where
-  front : List ℕ
+  prefix : List ℕ
   rest : List ℕ
-  joined : text ≡ front ++ colon ∷ rest
-  each : list_all is_scheme_code_point front ≡ true
+  joined : text ≡ prefix ++ colon ∷ rest
+  each : list_all is_scheme_code_point prefix ≡ true
 
 before_colon : (text : List ℕ) → goes_on_to_colon text ≡ true → Before text
 before_colon [] goes = absurd (false≢true goes)
 before_colon (c ∷ rest) goes =
     elim (or_cases (c == colon) (is_scheme_code_point c && goes_on_to_colon rest) goes) [
-      | inl same ↦ record { front = []; rest = rest; joined = ap (λ x. x ∷ rest) (eqb-true c colon same); each = refl }
+      | inl same ↦ record { prefix = []; rest = rest; joined = ap (λ x. x ∷ rest) (eqb-true c colon same); each = refl }
       | inr later ↦
           let parts = and_parts (is_scheme_code_point c) (goes_on_to_colon rest) later in
           let more = before_colon rest parts.1 in
           record {
-            front = c ∷ more.front;
+            prefix = c ∷ more.prefix;
             rest = more.rest;
             joined = ap (λ xs. c ∷ xs) more.joined;
             each = and_from _ _ parts.0 more.each;
@@ -87,7 +87,7 @@ splits_at_scheme (c ∷ rest) starts =
     let parts = and_parts (is_ascii_alphabetic c) (goes_on_to_colon rest) starts in
     let more = before_colon rest parts.1 in
     record {
-      scheme = c ∷ more.front;
+      scheme = c ∷ more.prefix;
       rest = more.rest;
       joined = ap (λ xs. c ∷ xs) more.joined;
       is = and_from _ _ parts.0 more.each;

@@ -22,13 +22,13 @@ use Rattle.uv_model.specs.Valid.{starts_with_scheme}
 use Rattle.uv_model.specs.Cut.{Cut, cut_of, class_in, scheme_cut, behind_scheme, text_before, text_behind}
 use Rattle.uv_model.specs.Cut.{host_text_cut, port_text_cut, path_text_cut}
 use Rattle.uv_model.specs.Laws.Cuts.{TextsWithASchemeIgnoreTheBase}
-use Rattle.uv_model.specs.Complaints.Complaint.{StartComplaint, PathStartComplaint, HostPartComplaint}
-use Rattle.uv_model.specs.Complaints.Complaint.{JudgedComplaint, HasHost, ComplaintOf, Complaint}
+use Rattle.uv_model.specs.Violations.Violation.{StartViolation, PathStartViolation, HostPartViolation}
+use Rattle.uv_model.specs.Violations.Violation.{JudgedViolation, HasHost, ViolationOf, Violation}
 use Rattle.uv_model.proofs.Texts.MarkLemmas.{is_without-cons, text_before-other}
 use Rattle.uv_model.proofs.Cuts.SchemeCutLemmas.{splits_at_scheme, starts_with_written_scheme}
 use Rattle.uv_model.proofs.Cuts.ValidCutLemmas.{scheme_without, valid_texts}
-use Rattle.uv_model.proofs.Complaints.ComplaintLemmas.{cut_with}
-use Rattle.uv_model.proofs.Complaints.ComplaintsExcludeParts.{class_with_scheme}
+use Rattle.uv_model.proofs.Violations.ViolationLemmas.{cut_with}
+use Rattle.uv_model.proofs.Violations.ViolationsExcludeParts.{class_with_scheme}
 
 -- ---- a text with a scheme has it before its first `?` and `#`
 
@@ -48,10 +48,10 @@ starts_before mark text other letter differs starts =
     let none = scheme_without mark split.scheme other letter differs split.is in
     let whole : text ≡ (split.scheme ++ colon ∷ []) ++ split.rest
     = split.joined ∙ sym (append_assoc split.scheme (colon ∷ []) split.rest) in
-    let front : text_before mark text ≡ split.scheme ++ colon ∷ text_before mark split.rest
+    let prefix : text_before mark text ≡ split.scheme ++ colon ∷ text_before mark split.rest
     = ap (text_before mark) whole ∙ (text_before-behind mark (split.scheme ++ colon ∷ []) split.rest none
     ∙ append_assoc split.scheme (colon ∷ []) (text_before mark split.rest)) in
-    ap starts_with_scheme front ∙ starts_with_written_scheme split.scheme (text_before mark split.rest) split.is
+    ap starts_with_scheme prefix ∙ starts_with_written_scheme split.scheme (text_before mark split.rest) split.is
 
 -- what stands before the query begins with the scheme
 start_with_scheme : (text : List ℕ) → starts_with_scheme text ≡ true
@@ -76,8 +76,8 @@ same_cut : (base other : Option Url) (text : List ℕ) → starts_with_scheme te
     → cut_of base text ≡ cut_of other text
 unfolding cut_of
 same_cut base other text starts =
-    let front = text_before number_sign text in
-    let start = text_before question_mark front in
+    let prefix = text_before number_sign text in
+    let start = text_before question_mark prefix in
     let some = cut_with_scheme base text starts in
     ap (λ (class : Class). with_class class start) (same_class base other (scheme_cut start) some)
   where
@@ -164,12 +164,12 @@ same_valid profile base other text parts starts valid =
       fragment = valid.fragment;
     }
 
--- ---- complaints
+-- ---- violations
 
 same_start : (profile : Profile) (base other : Option Url) (text : List ℕ) (cut : Cut) → IsSome cut.scheme
     → (place : ℕ) (rule : Rule)
-    → StartComplaint (setting_of profile base cut.scheme) text cut place rule
-    → StartComplaint (setting_of profile other cut.scheme) text cut place rule
+    → StartViolation (setting_of profile base cut.scheme) text cut place rule
+    → StartViolation (setting_of profile other cut.scheme) text cut place rule
 same_start profile base other text cut some place NoScheme h = absurd (no_scheme cut.scheme some h.0)
 same_start profile base other text cut some place OpaqueBase h = absurd (no_scheme cut.scheme some h.0)
 same_start profile base other text cut some place TwoSlashes ((has, class, none), at) =
@@ -177,15 +177,15 @@ same_start profile base other text cut some place TwoSlashes ((has, class, none)
 same_start profile base other text cut some place _ h = absurd h
 
 same_host : (profile : Profile) (base other : Option Url) (cut : Cut) → IsSome cut.scheme → (place : ℕ) (rule : Rule)
-    → HostPartComplaint (setting_of profile base cut.scheme) cut place rule
-    → HostPartComplaint (setting_of profile other cut.scheme) cut place rule
+    → HostPartViolation (setting_of profile base cut.scheme) cut place rule
+    → HostPartViolation (setting_of profile other cut.scheme) cut place rule
 same_host profile base other cut = go cut.scheme cut.host_text cut.port_text cut.path_text cut.query cut.fragment
   where
     go : (scheme host_text port_text : Option (List ℕ)) (path_text : List ℕ) (query fragment : Option (List ℕ))
         → IsSome scheme → (place : ℕ) (rule : Rule)
-        → HostPartComplaint (setting_of profile base scheme)
+        → HostPartViolation (setting_of profile base scheme)
         (cut_with scheme host_text port_text path_text query fragment) place rule
-        → HostPartComplaint (setting_of profile other scheme)
+        → HostPartViolation (setting_of profile other scheme)
         (cut_with scheme host_text port_text path_text query fragment) place rule
     go None host_text port_text path_text query fragment some place rule h = absurd (false≢true some)
     go (Some scheme) None port_text path_text query fragment some place rule h = h
@@ -202,8 +202,8 @@ same_has_host (Some url) other (Some scheme) None some h = absurd h
 
 same_path_start : (profile : Profile) (base other : Option Url) (cut : Cut) → IsSome cut.scheme
     → (place : ℕ) (rule : Rule)
-    → PathStartComplaint (setting_of profile base cut.scheme) cut place rule
-    → PathStartComplaint (setting_of profile other cut.scheme) cut place rule
+    → PathStartViolation (setting_of profile base cut.scheme) cut place rule
+    → PathStartViolation (setting_of profile other cut.scheme) cut place rule
 same_path_start profile base other cut some place FirstSegmentEmpty h = h
 same_path_start profile base other cut some place DriveAfterHost (class, host, drive, at) =
     let same = same_class other base cut.scheme some in
@@ -211,8 +211,8 @@ same_path_start profile base other cut some place DriveAfterHost (class, host, d
 same_path_start profile base other cut some place _ h = absurd h
 
 same_judged : (profile : Profile) (base other : Option Url) (cut : Cut) → IsSome cut.scheme → (place : ℕ) (rule : Rule)
-    → JudgedComplaint (setting_of profile base cut.scheme) cut place rule
-    → JudgedComplaint (setting_of profile other cut.scheme) cut place rule
+    → JudgedViolation (setting_of profile base cut.scheme) cut place rule
+    → JudgedViolation (setting_of profile other cut.scheme) cut place rule
 same_judged profile base other cut some place rule (inl h) = inl (same_host profile base other cut some place rule h)
 same_judged profile base other cut some place rule (inr (inl h)) = inr (inl h)
 same_judged profile base other cut some place rule (inr (inr h)) =
@@ -222,33 +222,33 @@ same_judged profile base other cut some place rule (inr (inr h)) =
       holds = same_path_start profile base other cut some h.inner rule h.holds;
     }))
 
-same_complaint_of : (profile : Profile) (base other : Option Url) (text : List ℕ) (cut : Cut) → IsSome cut.scheme
+same_violation_of : (profile : Profile) (base other : Option Url) (text : List ℕ) (cut : Cut) → IsSome cut.scheme
     → (place : ℕ) (rule : Rule)
-    → ComplaintOf (setting_of profile base cut.scheme) text cut place rule
-    → ComplaintOf (setting_of profile other cut.scheme) text cut place rule
-same_complaint_of profile base other text cut some place rule (inl h) =
+    → ViolationOf (setting_of profile base cut.scheme) text cut place rule
+    → ViolationOf (setting_of profile other cut.scheme) text cut place rule
+same_violation_of profile base other text cut some place rule (inl h) =
     inl (same_start profile base other text cut some place rule h)
-same_complaint_of profile base other text cut some place rule (inr (inl (started, h))) =
+same_violation_of profile base other text cut some place rule (inr (inl (started, h))) =
     inr (inl (
       (λ p r s. started p r
           (same_start profile other base text cut some p r s)),
       same_judged profile base other cut some place rule h,
     ))
-same_complaint_of profile base other text cut some place rule (inr (inr h)) = inr (inr h)
+same_violation_of profile base other text cut some place rule (inr (inr h)) = inr (inr h)
 
-same_complaint : (profile : Profile) (base other : Option Url) (text : List ℕ) → starts_with_scheme text ≡ true
+same_violation : (profile : Profile) (base other : Option Url) (text : List ℕ) → starts_with_scheme text ≡ true
     → (place : ℕ) (rule : Rule)
-    → Complaint profile base text place rule → Complaint profile other text place rule
-unfolding Complaint
-same_complaint profile base other text starts place rule h =
-    subst (λ (cut : Cut). ComplaintOf (setting_of profile other cut.scheme) text cut place rule)
+    → Violation profile base text place rule → Violation profile other text place rule
+unfolding Violation
+same_violation profile base other text starts place rule h =
+    subst (λ (cut : Cut). ViolationOf (setting_of profile other cut.scheme) text cut place rule)
     (same_cut base other text starts)
-    (same_complaint_of profile base other text (cut_of base text) (cut_with_scheme base text starts) place rule h)
+    (same_violation_of profile base other text (cut_of base text) (cut_with_scheme base text starts) place rule h)
 
 -- a text with a scheme ignores the base
 pub ignores_the_base : TextsWithASchemeIgnoreTheBase
 ignores_the_base text starts = record {
   cut = λ base other. same_cut base other text starts;
   valid = λ profile base other parts. same_valid profile base other text parts starts;
-  complaint = λ profile base other. same_complaint profile base other text starts;
+  violation = λ profile base other. same_violation profile base other text starts;
 }

@@ -328,7 +328,7 @@ cut_of_parts base text parts has whole scheme free middle query =
     let cut = texts_of parts in
     record {
       whole = whole ∙ written_as_cut parts;
-      front =
+      prefix =
           is_without-append number_sign (written_start cut) (written_behind question_mark parts.query)
           (is_without-append number_sign (written_scheme parts.scheme) (written_middle cut) no_number
           middle.no_number_sign)

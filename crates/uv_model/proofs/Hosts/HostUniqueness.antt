@@ -13,8 +13,8 @@ use Rattle.uv_model.specs.Valid.{IsHostText, IsFileHostText, IsOpaqueHostText}
 use Rattle.uv_model.proofs.Addresses.AddressUniqueness.{ipv4_unique, bracketed_unique, ipv4_no_bracket}
 use Rattle.uv_model.proofs.Addresses.AddressUniqueness.{bracketed_bracket}
 use Rattle.uv_model.proofs.Hosts.DomainLemmas.{domain_unique}
-use Rattle.uv_model.proofs.Complaints.FaultlessHosts.{form_no_bracket, host_not_empty, file_host_is_host}
-use Rattle.uv_model.proofs.Complaints.FaultlessHosts.{opaque_no_bracket}
+use Rattle.uv_model.proofs.Violations.FaultlessHosts.{form_no_bracket, host_not_empty, file_host_is_host}
+use Rattle.uv_model.proofs.Violations.FaultlessHosts.{opaque_no_bracket}
 use Rattle.uv_model.proofs.Hosts.Ipv4Domains.{ipv4_no_domain}
 
 -- ---- by the kind of host

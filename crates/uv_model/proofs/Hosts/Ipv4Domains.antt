@@ -85,18 +85,19 @@ no_stop-decimal : (n : ℕ) → n < 256 → HasNoStop (decimal n)
 no_stop-decimal n fits = stops_list (decimal n) (decimal_is_IsNumeral n (omega arith)).0.1
 
 -- a decimal number behind a full stop ends a text in a number
-pub ends_in_number-decimal : (front : List ℕ) (n : ℕ) → n < 256 → ends_in_number (front ++ full_stop ∷ decimal n) ≡ true
+pub ends_in_number-decimal : (prefix : List ℕ) (n : ℕ) → n < 256
+    → ends_in_number (prefix ++ full_stop ∷ decimal n) ≡ true
 unfolding ends_in_number
-ends_in_number-decimal front n fits =
+ends_in_number-decimal prefix n fits =
     let (numeral, value) = decimal_is_IsNumeral n (omega arith) in
-    rw (last_label-behind front (decimal n) (no_stop-decimal n fits) numeral.0, digits_alone n fits) refl
+    rw (last_label-behind prefix (decimal n) (no_stop-decimal n fits) numeral.0, digits_alone n fits) refl
 
 -- an IPv4 text ends in a number
 pub ends_in_number-ipv4 : (text : List ℕ) (value : ℕ) → IsIpv4 text value → ends_in_number text ≡ true
 ends_in_number-ipv4 text value (a, b, c, d, is, e) =
-    let front = decimal a ++ codes "." ++ decimal b ++ codes "." ++ decimal c in
-    let shown : text ≡ front ++ full_stop ∷ decimal d = is.spelled ∙ append_assoc front (codes ".") (decimal d) in
-    ap ends_in_number shown ∙ ends_in_number-decimal front d is.fit.3
+    let prefix = decimal a ++ codes "." ++ decimal b ++ codes "." ++ decimal c in
+    let shown : text ≡ prefix ++ full_stop ∷ decimal d = is.spelled ∙ append_assoc prefix (codes ".") (decimal d) in
+    ap ends_in_number shown ∙ ends_in_number-decimal prefix d is.fit.3
 
 -- the parser's form of an IPv4 text is the text
 pub parser_form-ipv4 : (text : List ℕ) (value : ℕ) → IsIpv4 text value → parser_form text ≡ Some text

@@ -33,61 +33,61 @@ after_last_none label none =
     ap (λ n. drop n label) here
 
 -- behind the last full stop stands what follows it
-pub after_last_stop : (front label : List ℕ) → HasNoStop label →
-    after_last is_full_stop (front ++ full_stop ∷ label) ≡ label
-after_last_stop front label none =
-    let before = front ++ full_stop ∷ [] in
+pub after_last_stop : (prefix label : List ℕ) → HasNoStop label →
+    after_last is_full_stop (prefix ++ full_stop ∷ label) ≡ label
+after_last_stop prefix label none =
+    let before = prefix ++ full_stop ∷ [] in
     let text = before ++ label in
-    let shown : front ++ full_stop ∷ label ≡ text = sym (append_assoc front (full_stop ∷ []) label) in
+    let shown : prefix ++ full_stop ∷ label ≡ text = sym (append_assoc prefix (full_stop ∷ []) label) in
     let whole : length text ≡ length before + length label = length-append before label in
     let later : (k : ℕ) → length before ≤ k → k < length text → not (is_full_stop (get_or text k 0)) ≡ true =
     λ k after within.
     rw (get_or-append_right before label (length before) k 0 refl after, none (k - length before) 0 (omega arith))
     refl in
     let stops : 0 < length before → not (is_full_stop (get_or text (length before - 1) 0)) ≡ false =
-    λ _. rw (mark_at front label) refl in
+    λ _. rw (mark_at prefix label) refl in
     let count = suffix_len_is (λ b. not (is_full_stop b)) text (length before) 0 (omega arith) later stops in
     let here : length text - (length text - length before) ≡ length before = omega arith in
     rw (shown, count, here) (drop_at before label (length before) refl)
   where
-    mark_at : (front label : List ℕ) →
-        get_or ((front ++ full_stop ∷ []) ++ label) (length (front ++ full_stop ∷ []) - 1) 0 ≡ full_stop
-    mark_at front label =
-        let at : length (front ++ full_stop ∷ []) - 1 ≡ length front =
-        omega (arith, length-append front (full_stop ∷ [])) in
-        rw (at, append_assoc) (get_or-append_seam front full_stop label 0)
+    mark_at : (prefix label : List ℕ) →
+        get_or ((prefix ++ full_stop ∷ []) ++ label) (length (prefix ++ full_stop ∷ []) - 1) 0 ≡ full_stop
+    mark_at prefix label =
+        let at : length (prefix ++ full_stop ∷ []) - 1 ≡ length prefix =
+        omega (arith, length-append prefix (full_stop ∷ [])) in
+        rw (at, append_assoc) (get_or-append_seam prefix full_stop label 0)
 
 -- the code point at the end of a text
-pub last_of : (front : List ℕ) (c : ℕ) → slice_index (front ++ c ∷ []) (length (front ++ c ∷ []) - 1) ≡ c
-last_of front c =
-    let at : length (front ++ c ∷ []) - 1 ≡ length front = omega (arith, length-append front (c ∷ [])) in
-    rw at (get_or-append_seam front c [] 0)
+pub last_of : (prefix : List ℕ) (c : ℕ) → slice_index (prefix ++ c ∷ []) (length (prefix ++ c ∷ []) - 1) ≡ c
+last_of prefix c =
+    let at : length (prefix ++ c ∷ []) - 1 ≡ length prefix = omega (arith, length-append prefix (c ∷ [])) in
+    rw at (get_or-append_seam prefix c [] 0)
 
 -- a full stop at the end is dropped
-pub without_root-stop : (front : List ℕ) → without_root (front ++ full_stop ∷ []) ≡ front
-without_root-stop front =
-    let at : length (front ++ full_stop ∷ []) - 1 ≡ length front =
-    omega (arith, length-append front (full_stop ∷ [])) in
-    rw (last_of front full_stop, at) (take_at front (full_stop ∷ []) (length front) refl)
+pub without_root-stop : (prefix : List ℕ) → without_root (prefix ++ full_stop ∷ []) ≡ prefix
+without_root-stop prefix =
+    let at : length (prefix ++ full_stop ∷ []) - 1 ≡ length prefix =
+    omega (arith, length-append prefix (full_stop ∷ [])) in
+    rw (last_of prefix full_stop, at) (take_at prefix (full_stop ∷ []) (length prefix) refl)
 
 -- another code point at the end stays
-pub without_root-other : (front : List ℕ) (c : ℕ) → is_full_stop c ≡ false →
-    without_root (front ++ c ∷ []) ≡ front ++ c ∷ []
-without_root-other front c other = rw (last_of front c, other) refl
+pub without_root-other : (prefix : List ℕ) (c : ℕ) → is_full_stop c ≡ false →
+    without_root (prefix ++ c ∷ []) ≡ prefix ++ c ∷ []
+without_root-other prefix c other = rw (last_of prefix c, other) refl
 
 -- a text is empty, or has a last code point
-pub from_end : (text : List ℕ) → (text ≡ []) ⊎ ((front : List ℕ) × (c : ℕ) × (text ≡ front ++ c ∷ []))
+pub from_end : (text : List ℕ) → (text ≡ []) ⊎ ((prefix : List ℕ) × (c : ℕ) × (text ≡ prefix ++ c ∷ []))
 from_end [] = inl refl
 from_end (c ∷ text) =
     elim (from_end text) [
       | inl none ↦ inr ([], c, ap (λ rest. c ∷ rest) none)
-      | inr (front, last, shown) ↦ inr (c ∷ front, last, ap (λ rest. c ∷ rest) shown)
+      | inr (prefix, last, shown) ↦ inr (c ∷ prefix, last, ap (λ rest. c ∷ rest) shown)
     ]
 
 -- the label behind the last full stop, where it isn't empty
-pub last_label-behind : (front label : List ℕ) → HasNoStop label → 0 < length label →
-    last_label (front ++ full_stop ∷ label) ≡ label
-last_label-behind front label none some =
+pub last_label-behind : (prefix label : List ℕ) → HasNoStop label → 0 < length label →
+    last_label (prefix ++ full_stop ∷ label) ≡ label
+last_label-behind prefix label none some =
     elim (from_end label) [
       | inl empty ↦ absurd (omega (arith, ap length empty))
       | inr (others, c, shown) ↦
@@ -95,25 +95,25 @@ last_label-behind front label none some =
           let within : length others < length label =
           omega (arith, ap length shown, length-append others (c ∷ [])) in
           let other : is_full_stop c ≡ false = rw at at (none (length others) 0 within) in
-          let split : front ++ full_stop ∷ label ≡ (front ++ full_stop ∷ others) ++ c ∷ [] =
-          ap (λ l. front ++ full_stop ∷ l) shown ∙ sym (append_assoc front (full_stop ∷ others) (c ∷ [])) in
-          let kept : without_root (front ++ full_stop ∷ label) ≡ front ++ full_stop ∷ label =
-          ap without_root split ∙ without_root-other (front ++ full_stop ∷ others) c other ∙ sym split in
-          ap (after_last is_full_stop) kept ∙ after_last_stop front label none
+          let split : prefix ++ full_stop ∷ label ≡ (prefix ++ full_stop ∷ others) ++ c ∷ [] =
+          ap (λ l. prefix ++ full_stop ∷ l) shown ∙ sym (append_assoc prefix (full_stop ∷ others) (c ∷ [])) in
+          let kept : without_root (prefix ++ full_stop ∷ label) ≡ prefix ++ full_stop ∷ label =
+          ap without_root split ∙ without_root-other (prefix ++ full_stop ∷ others) c other ∙ sym split in
+          ap (after_last is_full_stop) kept ∙ after_last_stop prefix label none
     ]
 
 -- a text has no full stop, or a last one
 at_last_stop : (text : List ℕ) →
-    HasNoStop text ⊎ ((front label : List ℕ) × (text ≡ front ++ full_stop ∷ label) × HasNoStop label)
+    HasNoStop text ⊎ ((prefix label : List ℕ) × (text ≡ prefix ++ full_stop ∷ label) × HasNoStop label)
 at_last_stop [] = inl (All-nil (λ c. is_full_stop c ≡ false))
 at_last_stop (c ∷ text) =
     elim (at_last_stop text) [
-      | inr (front, label, shown, none) ↦ inr (c ∷ front, label, ap (λ rest. c ∷ rest) shown, none)
+      | inr (prefix, label, shown, none) ↦ inr (c ∷ prefix, label, ap (λ rest. c ∷ rest) shown, none)
       | inl none ↦ first c text none
     ]
   where
     first : (c : ℕ) (text : List ℕ) → HasNoStop text →
-        HasNoStop (c ∷ text) ⊎ ((front label : List ℕ) × (c ∷ text ≡ front ++ full_stop ∷ label) × HasNoStop label)
+        HasNoStop (c ∷ text) ⊎ ((prefix label : List ℕ) × (c ∷ text ≡ prefix ++ full_stop ∷ label) × HasNoStop label)
     first c text none =
         elim (cases_Bool (is_full_stop c)) [
           | inl stop ↦ inr ([], text, ap (λ x. x ∷ text) (eqb-true c full_stop stop), none)
@@ -128,9 +128,9 @@ record IsHigh (bytes : List ℕ) : Type 0 where
   rest : List ℕ
   begins : bytes ≡ first ∷ rest
   first_high : 128 ≤ first
-  front : List ℕ
+  prefix : List ℕ
   last : ℕ
-  ends : bytes ≡ front ++ last ∷ []
+  ends : bytes ≡ prefix ++ last ∷ []
   last_high : 128 ≤ last
   high : All (λ b. 128 ≤ b) bytes
 
@@ -145,7 +145,7 @@ IsHigh-two a b ha hb = record {
   rest = b ∷ [];
   begins = refl;
   first_high = ha;
-  front = a ∷ [];
+  prefix = a ∷ [];
   last = b;
   ends = refl;
   last_high = hb;
@@ -159,7 +159,7 @@ IsHigh-more a bytes ha h = record {
   rest = bytes;
   begins = refl;
   first_high = ha;
-  front = a ∷ h.front;
+  prefix = a ∷ h.prefix;
   last = h.last;
   ends = ap (λ bs. a ∷ bs) h.ends;
   last_high = h.last_high;
@@ -220,37 +220,37 @@ no_stop-encoded : (text : List ℕ) → HasNoStop text → HasNoStop (encode_utf
 no_stop-encoded text none = All-encoded (λ c. is_full_stop c ≡ false) not_stop text none
 
 -- another code point than a full stop at the end stays
-whole : (front : List ℕ) (c : ℕ) → is_full_stop c ≡ false →
-    encode_utf8_all (without_root (front ++ c ∷ [])) ≡ encode_utf8_all front ++ encode_utf8 c
-whole front c other =
-    ap encode_utf8_all (without_root-other front c other) ∙ encodes-append front (c ∷ [])
-    ∙ ap (λ bs. encode_utf8_all front ++ bs) (append-nil (encode_utf8 c))
+whole : (prefix : List ℕ) (c : ℕ) → is_full_stop c ≡ false →
+    encode_utf8_all (without_root (prefix ++ c ∷ [])) ≡ encode_utf8_all prefix ++ encode_utf8 c
+whole prefix c other =
+    ap encode_utf8_all (without_root-other prefix c other) ∙ encodes-append prefix (c ∷ [])
+    ∙ ap (λ bs. encode_utf8_all prefix ++ bs) (append-nil (encode_utf8 c))
 
 -- a full stop at the end is dropped before and after UTF-8
-at_stop : (front : List ℕ) (c : ℕ) → c ≡ full_stop →
-    without_root (encode_utf8_all front ++ c ∷ []) ≡ encode_utf8_all (without_root (front ++ c ∷ []))
-at_stop front c e =
-    ap (λ x. without_root (encode_utf8_all front ++ x ∷ [])) e ∙ without_root-stop (encode_utf8_all front)
-    ∙ ap encode_utf8_all (sym (without_root-stop front) ∙ ap (λ x. without_root (front ++ x ∷ [])) (sym e))
+at_stop : (prefix : List ℕ) (c : ℕ) → c ≡ full_stop →
+    without_root (encode_utf8_all prefix ++ c ∷ []) ≡ encode_utf8_all (without_root (prefix ++ c ∷ []))
+at_stop prefix c e =
+    ap (λ x. without_root (encode_utf8_all prefix ++ x ∷ [])) e ∙ without_root-stop (encode_utf8_all prefix)
+    ∙ ap encode_utf8_all (sym (without_root-stop prefix) ∙ ap (λ x. without_root (prefix ++ x ∷ [])) (sym e))
 
 -- UTF-8 and one full stop less at the end, of a text with a last code point
-at_end : (front : List ℕ) (c : ℕ) →
-    without_root (encode_utf8_all front ++ encode_utf8 c) ≡ encode_utf8_all (without_root (front ++ c ∷ []))
-at_end front c =
+at_end : (prefix : List ℕ) (c : ℕ) →
+    without_root (encode_utf8_all prefix ++ encode_utf8 c) ≡ encode_utf8_all (without_root (prefix ++ c ∷ []))
+at_end prefix c =
     elim (encoded_cases c) [
       | inl (small, same) ↦ rw same (elim (cases_Bool (is_full_stop c)) [
-        | inl stop ↦ at_stop front c (eqb-true c full_stop stop)
+        | inl stop ↦ at_stop prefix c (eqb-true c full_stop stop)
         | inr other ↦
-            without_root-other (encode_utf8_all front) c other
-            ∙ ap (λ bs. encode_utf8_all front ++ bs) (sym same) ∙ sym (whole front c other)
+            without_root-other (encode_utf8_all prefix) c other
+            ∙ ap (λ bs. encode_utf8_all prefix ++ bs) (sym same) ∙ sym (whole prefix c other)
       ])
       | inr (high, is) ↦
-          ap (λ bs. without_root (encode_utf8_all front ++ bs)) is.ends
-          ∙ ap without_root (sym (append_assoc (encode_utf8_all front) is.front (is.last ∷ [])))
-          ∙ without_root-other (encode_utf8_all front ++ is.front) is.last (not_stop is.last is.last_high)
-          ∙ append_assoc (encode_utf8_all front) is.front (is.last ∷ [])
-          ∙ ap (λ bs. encode_utf8_all front ++ bs) (sym is.ends)
-          ∙ sym (whole front c (not_stop c high))
+          ap (λ bs. without_root (encode_utf8_all prefix ++ bs)) is.ends
+          ∙ ap without_root (sym (append_assoc (encode_utf8_all prefix) is.prefix (is.last ∷ [])))
+          ∙ without_root-other (encode_utf8_all prefix ++ is.prefix) is.last (not_stop is.last is.last_high)
+          ∙ append_assoc (encode_utf8_all prefix) is.prefix (is.last ∷ [])
+          ∙ ap (λ bs. encode_utf8_all prefix ++ bs) (sym is.ends)
+          ∙ sym (whole prefix c (not_stop c high))
     ]
 
 -- UTF-8 and one full stop less at the end
@@ -258,7 +258,8 @@ without_root-encoded : (text : List ℕ) → without_root (encode_utf8_all text)
 without_root-encoded text =
     elim (from_end text) [
       | inl none ↦ rw none refl
-      | inr (front, c, shown) ↦ rw (shown, encodes-append front (c ∷ []), append-nil (encode_utf8 c)) (at_end front c)
+      | inr (prefix, c, shown) ↦ rw (shown, encodes-append prefix (c ∷ []), append-nil (encode_utf8 c))
+          (at_end prefix c)
     ]
 
 -- UTF-8 and what is behind the last full stop
@@ -270,10 +271,10 @@ after_last-encoded text =
       | inl none ↦
           after_last_none (encode_utf8_all text) (no_stop-encoded text none)
           ∙ ap encode_utf8_all (sym (after_last_none text none))
-      | inr (front, label, shown, none) ↦
-          ap (after_last is_full_stop) (ap encode_utf8_all shown ∙ encodes-append front (full_stop ∷ label))
-          ∙ after_last_stop (encode_utf8_all front) (encode_utf8_all label) (no_stop-encoded label none)
-          ∙ ap encode_utf8_all (sym (after_last_stop front label none) ∙ ap (after_last is_full_stop) (sym shown))
+      | inr (prefix, label, shown, none) ↦
+          ap (after_last is_full_stop) (ap encode_utf8_all shown ∙ encodes-append prefix (full_stop ∷ label))
+          ∙ after_last_stop (encode_utf8_all prefix) (encode_utf8_all label) (no_stop-encoded label none)
+          ∙ ap encode_utf8_all (sym (after_last_stop prefix label none) ∙ ap (after_last is_full_stop) (sym shown))
     ]
 
 -- a code point beyond ASCII is no digit

@@ -214,7 +214,7 @@ IsUnits-encoded quote text is = rw is.joined (each is.units is.each)
         (IsUnits-append (encoded quote unit) (encoded quote (concat units)) (IsUnits-unit_encoded quote unit parts.0)
         (each units parts.1))
 
--- ---- the front of an encoded text
+-- ---- the prefix of an encoded text
 
 -- a code point beyond ASCII has two bytes or more, of which the second goes on with the first
 encode_beyond : (c : ℕ) → is_ascii c ≡ false

@@ -1,4 +1,4 @@
--- Cuts of texts that are written out, and complaints of texts that are refused, each at its place.
+-- Cuts of texts that are written out, and violations of texts that are refused, each at its place.
 use Rattle.std.specs.Prelude.{◌≡◌, ℕ, List, [], ◌∷◌, codes, Option, Some, None}
 use Rattle.uv_model.specs.declared.host.Host.TheVariants.{Empty}
 use Rattle.uv_model.specs.declared.host.Host.TheVariants as host
@@ -7,7 +7,7 @@ use Rattle.uv_model.specs.declared.profile.Profile.TheVariants.{Standard}
 use Rattle.uv_model.specs.declared.rule.Rule.TheVariants.{NoScheme, OpaqueBase, TwoSlashes, HostMissing}
 use Rattle.uv_model.specs.declared.rule.Rule.TheVariants.{HostCodePoint, PortDigit, PortRange, FirstSegmentEmpty}
 use Rattle.uv_model.specs.declared.rule.Rule.TheVariants.{DriveAfterHost, CodePoint, Percent}
-use Rattle.uv_model.specs.Complaints.Complaint.{Complaint}
+use Rattle.uv_model.specs.Violations.Violation.{Violation}
 use Rattle.uv_model.specs.Cut.{Cut, cut_of}
 use Rattle.uv_model.specs.Records.Url.{Url}
 
@@ -87,35 +87,35 @@ pub record CutRows : Type 0 where
       cut_of None []
       ≡ cut_into None None None [] None None
 
--- a complaint of each rule whose violation computes, at its place
-pub record ComplaintRows : Type 0 where
-  pub no_scheme : Complaint Standard None (codes " http://h/") 0 NoScheme
-  pub no_scheme_nothing : Complaint Standard None [] 0 NoScheme
-  pub no_scheme_path : Complaint Standard None (codes "//h^/a b") 6 CodePoint
-  pub more_than_fragment : Complaint Standard urn_base (codes "x") 0 OpaqueBase
-  pub no_fragment : Complaint Standard urn_base [] 0 OpaqueBase
-  pub no_slashes : Complaint Standard None (codes "http:") 5 TwoSlashes
-  pub one_slash : Complaint Standard None (codes "http:/") 6 TwoSlashes
-  pub file_one_slash : Complaint Standard file_host_base (codes "file:/C:/x") 6 TwoSlashes
-  pub special_host_missing : Complaint Standard None (codes "http://") 7 HostMissing
-  pub file_host_missing : Complaint Standard None (codes "file://") 7 HostMissing
-  pub other_host_missing : Complaint Standard None (codes "foo://:80") 6 HostMissing
-  pub host_code_point : Complaint Standard None (codes "foo://u@h/") 7 HostCodePoint
-  pub host_bracket : Complaint Standard None (codes "foo://a[:b/") 7 HostCodePoint
-  pub host_colon : Complaint Standard None (codes "foo://a[:b/") 8 HostCodePoint
-  pub port_digit : Complaint Standard None (codes "http://h:8a/") 10 PortDigit
-  pub port_password : Complaint Standard None (codes "http://user:pw@h/") 12 PortDigit
-  pub port_range : Complaint Standard None (codes "http://h:65536/") 9 PortRange
-  pub first_segment : Complaint Standard None (codes "https://example.com//a") 20 FirstSegmentEmpty
-  pub file_first_segment : Complaint Standard None (codes "file:////a") 8 FirstSegmentEmpty
-  pub drive : Complaint Standard None (codes "file://h/C:/x") 8 DriveAfterHost
-  pub localhost_drive : Complaint Standard None (codes "file://localhost/C:/x") 16 DriveAfterHost
-  pub base_drive : Complaint Standard file_host_base (codes "/C:/x") 0 DriveAfterHost
-  pub path_percent : Complaint Standard None (codes "http://h/%4?a") 9 Percent
-  pub path_space : Complaint Standard None (codes "http://h/a b") 10 CodePoint
-  pub fragment_sign : Complaint Standard None (codes "http://h/#a#b") 11 CodePoint
+-- a violation of each rule whose violation computes, at its place
+pub record ViolationRows : Type 0 where
+  pub no_scheme : Violation Standard None (codes " http://h/") 0 NoScheme
+  pub no_scheme_nothing : Violation Standard None [] 0 NoScheme
+  pub no_scheme_path : Violation Standard None (codes "//h^/a b") 6 CodePoint
+  pub more_than_fragment : Violation Standard urn_base (codes "x") 0 OpaqueBase
+  pub no_fragment : Violation Standard urn_base [] 0 OpaqueBase
+  pub no_slashes : Violation Standard None (codes "http:") 5 TwoSlashes
+  pub one_slash : Violation Standard None (codes "http:/") 6 TwoSlashes
+  pub file_one_slash : Violation Standard file_host_base (codes "file:/C:/x") 6 TwoSlashes
+  pub special_host_missing : Violation Standard None (codes "http://") 7 HostMissing
+  pub file_host_missing : Violation Standard None (codes "file://") 7 HostMissing
+  pub other_host_missing : Violation Standard None (codes "foo://:80") 6 HostMissing
+  pub host_code_point : Violation Standard None (codes "foo://u@h/") 7 HostCodePoint
+  pub host_bracket : Violation Standard None (codes "foo://a[:b/") 7 HostCodePoint
+  pub host_colon : Violation Standard None (codes "foo://a[:b/") 8 HostCodePoint
+  pub port_digit : Violation Standard None (codes "http://h:8a/") 10 PortDigit
+  pub port_password : Violation Standard None (codes "http://user:pw@h/") 12 PortDigit
+  pub port_range : Violation Standard None (codes "http://h:65536/") 9 PortRange
+  pub first_segment : Violation Standard None (codes "https://example.com//a") 20 FirstSegmentEmpty
+  pub file_first_segment : Violation Standard None (codes "file:////a") 8 FirstSegmentEmpty
+  pub drive : Violation Standard None (codes "file://h/C:/x") 8 DriveAfterHost
+  pub localhost_drive : Violation Standard None (codes "file://localhost/C:/x") 16 DriveAfterHost
+  pub base_drive : Violation Standard file_host_base (codes "/C:/x") 0 DriveAfterHost
+  pub path_percent : Violation Standard None (codes "http://h/%4?a") 9 Percent
+  pub path_space : Violation Standard None (codes "http://h/a b") 10 CodePoint
+  pub fragment_sign : Violation Standard None (codes "http://h/#a#b") 11 CodePoint
 
 -- the rows of both
-pub record CutAndComplaintRows : Type 0 where
+pub record CutAndViolationRows : Type 0 where
   pub cuts : CutRows
-  pub complaints : ComplaintRows
+  pub violations : ViolationRows

@@ -1,11 +1,11 @@
--- The laws of cuts and of complaints, each over every base and every text.
+-- The laws of cuts and of violations, each over every base and every text.
 use Rattle.std.specs.Prelude.{◌≡◌, ◌↔◌, ℕ, true, List, ◌∷◌, ◌++◌, Option}
 use Rattle.uv_model.specs.declared.profile.Profile.{Profile}
 use Rattle.uv_model.specs.Records.Url.{Url}
 use Rattle.uv_model.specs.Parts.{Parts}
 use Rattle.uv_model.specs.Valid.{Valid, starts_with_scheme}
 use Rattle.uv_model.specs.declared.rule.Rule.{Rule}
-use Rattle.uv_model.specs.Complaints.Complaint.{Complaint}
+use Rattle.uv_model.specs.Violations.Violation.{Violation}
 use Rattle.uv_model.specs.Ascii.{left_bracket, right_bracket}
 use Rattle.uv_model.specs.Cut.{Cut, IsCut, cut_of, ends_within, texts_of}
 use Rattle.uv_model.specs.Path.{is_without}
@@ -25,25 +25,25 @@ ValidTextsAreCutIntoTheirParts =
     (profile : Profile) (base : Option Url) (text : List ℕ) (parts : Parts) → Valid profile base text parts
     → IsCut base text (texts_of parts)
 
--- the text has the same cut, the same valid parts and the same complaints against every base
+-- the text has the same cut, the same valid parts and the same violations against every base
 pub record IgnoresTheBase (text : List ℕ) : Type 0 where
   pub cut : (base other : Option Url) → cut_of base text ≡ cut_of other text
   pub valid :
       (profile : Profile) (base other : Option Url) (parts : Parts)
       → Valid profile base text parts → Valid profile other text parts
-  pub complaint :
+  pub violation :
       (profile : Profile) (base other : Option Url) (place : ℕ) (rule : Rule)
-      → Complaint profile base text place rule → Complaint profile other text place rule
+      → Violation profile base text place rule → Violation profile other text place rule
 
 -- a text with a scheme is judged without looking at the base
 abbrev pub TextsWithASchemeIgnoreTheBase : Type 0
 TextsWithASchemeIgnoreTheBase = (text : List ℕ) → starts_with_scheme text ≡ true → IgnoresTheBase text
 
--- a text with a complaint has no valid parts
-abbrev pub TextsWithAComplaintHaveNoParts : Type 0
-TextsWithAComplaintHaveNoParts =
+-- a text with a violation has no valid parts
+abbrev pub TextsWithAViolationHaveNoParts : Type 0
+TextsWithAViolationHaveNoParts =
     (profile : Profile) (base : Option Url) (text : List ℕ) (place : ℕ) (rule : Rule)
-    → Complaint profile base text place rule → (parts : Parts) → ¬ (Valid profile base text parts)
+    → Violation profile base text place rule → (parts : Parts) → ¬ (Valid profile base text parts)
 
 -- the parts of a valid text are unique
 abbrev pub PartsAreUnique : Type 0

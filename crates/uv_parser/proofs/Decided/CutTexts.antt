@@ -6,7 +6,7 @@ use Rattle.uv_model.specs.Cut.{Cut, IsCut, written_start, written_middle}
 use Rattle.uv_model.specs.Parts.{written_authority, written_behind, written_scheme}
 use Rattle.uv_model.specs.Path.{is_without}
 use Rattle.uv_model.specs.Records.Url.{Url}
-use Rattle.uv_model.proofs.Complaints.ComplaintLemmas.{cut_with}
+use Rattle.uv_model.proofs.Violations.ViolationLemmas.{cut_with}
 use Rattle.uv_model.proofs.Texts.MarkLemmas.{is_without-parts}
 use Rattle.uv_parser.proofs.Loops.Tails.{tail}
 use Rattle.uv_parser.proofs.Decided.TailsDecided.{MayBeWithoutNumberSign}
@@ -34,8 +34,8 @@ module _ (base : Option Url) (text : List ℕ) (scheme host_text port_text : Opt
     pub marks : HasMarks (written_authority host_text port_text) path query
     unfolding cut
     marks =
-        let front = is_without-parts number_sign (written_start cut) (written_behind question_mark query) is.front in
-        let number = is_without-parts number_sign (written_scheme scheme) (written_middle cut) front.0 in
+        let prefix = is_without-parts number_sign (written_start cut) (written_behind question_mark query) is.prefix in
+        let number = is_without-parts number_sign (written_scheme scheme) (written_middle cut) prefix.0 in
         let question = is_without-parts question_mark (written_scheme scheme) (written_middle cut) is.start in
         let numbers = is_without-parts number_sign (written_authority host_text port_text) path number.1 in
         let questions = is_without-parts question_mark (written_authority host_text port_text) path question.1 in
@@ -44,7 +44,7 @@ module _ (base : Option Url) (text : List ℕ) (scheme host_text port_text : Opt
           authority_number_sign = numbers.0;
           path_question_mark = questions.1;
           path_number_sign = numbers.1;
-          query = query_marks query front.1;
+          query = query_marks query prefix.1;
         }
 
     -- the text, with a scheme or without one

@@ -16,7 +16,7 @@ use Rattle.uv_parser.specs.Removed.{first_removed}
 use Rattle.uv_model.specs.Scheme.{lowercase, scheme_class}
 use Rattle.uv_model.specs.Records.Url.{Url}
 use Rattle.uv_model.specs.Valid.{FitsBase}
-use Rattle.uv_model.proofs.Complaints.ComplaintLemmas.{cut_with}
+use Rattle.uv_model.proofs.Violations.ViolationLemmas.{cut_with}
 use Rattle.uv_parser.proofs.Decided.CutTexts.{HasMarks, marks, scheme_text}
 use Rattle.uv_parser.proofs.Decided.AuthorityTexts.{SilentOrStops, authority_parts, authority_silent_or_stops}
 use Rattle.uv_parser.proofs.Decided.AuthorityTexts.{class_cases, slashed_path}

@@ -10,7 +10,7 @@ use Rattle.uv_model.specs.declared.rule.Rule.TheVariants.{DriveAfterHost, FirstS
 use Rattle.uv_model.specs.declared.scheme.Class.{Class}
 use Rattle.uv_model.specs.declared.scheme.Class.TheVariants.{Special, File, Other}
 use Rattle.uv_model.specs.Ascii.{slash}
-use Rattle.uv_model.specs.Complaints.Complaint.{HasHost}
+use Rattle.uv_model.specs.Violations.Violation.{HasHost}
 use Rattle.uv_model.specs.Cut.{class_in, starts_with_two_slashes}
 use Rattle.uv_parser.specs.SilentTexts.{IsTakenFileHost, Silent, Takes, TakesFile, TakesForm, TakesHostText}
 use Rattle.uv_model.specs.Parts.{Form, SchemeAuthority, SchemePath, SchemeOpaque, Authority, PathAbsolute, PathRelative}
@@ -24,8 +24,8 @@ use Rattle.uv_model.specs.Records.Url.{Url}
 use Rattle.uv_model.specs.Valid.{FitsAuthority, FitsDrive, FitsForm, FitsHostText, FitsScheme, IsFileHostText}
 use Rattle.uv_model.specs.Valid.{IsHostText, MayBePathBehind, Valid, scheme_in}
 use Rattle.uv_model.proofs.Hosts.FileHosts.{file_host_fits}
-use Rattle.uv_model.proofs.Complaints.FaultlessHosts.{file_host_is_host, host_not_empty}
-use Rattle.uv_model.proofs.Complaints.ComplaintsExcludeParts.{faultless_form}
+use Rattle.uv_model.proofs.Violations.FaultlessHosts.{file_host_is_host, host_not_empty}
+use Rattle.uv_model.proofs.Violations.ViolationsExcludeParts.{faultless_form}
 use Rattle.uv_parser.proofs.Differences.HostDifferences.{host_not_differs, host_or_differs}
 use Rattle.uv_parser.proofs.HostParsing.HostsParsed.{host_taken, parsed_not_empty}
 use Rattle.uv_parser.proofs.Silence.SilentParts.{silent_parts_are_unique}

@@ -42,7 +42,7 @@ use Rattle.uv_model.proofs.Hosts.LastLabelLemmas.{All-encoded, last_of}
 use Rattle.uv_model.proofs.Texts.UnitsLemmas.{is_faultless-units}
 use Rattle.uv_model.proofs.Hosts.Ipv4Domains.{form_byte, no_percent, ascii_byte, all_simple, ends_in_number-ipv4}
 use Rattle.uv_model.proofs.Hosts.Ipv4Domains.{parser_form-ipv4}
-use Rattle.uv_model.proofs.Complaints.FaultlessHosts.{form_not_empty}
+use Rattle.uv_model.proofs.Violations.FaultlessHosts.{form_not_empty}
 
 -- ---- percent-decoding
 
@@ -197,9 +197,9 @@ ipv6_hosts_are_parsed special text pieces (inner, shown, is) =
 -- an IPv4 text isn't empty
 some-ipv4 : (text : List ℕ) (value : ℕ) → IsIpv4 text value → 0 < length text
 some-ipv4 text value (a, b, c, d, is, e) =
-    let front = decimal a ++ codes "." ++ decimal b ++ codes "." ++ decimal c in
-    let shown : text ≡ front ++ full_stop ∷ decimal d = is.spelled ∙ append_assoc front (codes ".") (decimal d) in
-    omega (arith, ap length shown, length-append front (full_stop ∷ decimal d))
+    let prefix = decimal a ++ codes "." ++ decimal b ++ codes "." ++ decimal c in
+    let shown : text ≡ prefix ++ full_stop ∷ decimal d = is.spelled ∙ append_assoc prefix (codes ".") (decimal d) in
+    omega (arith, ap length shown, length-append prefix (full_stop ∷ decimal d))
 
 -- an IPv4 text is read by the parser of domains as its address
 parse_domain-ipv4 : (text : List ℕ) (value : ℕ) → IsIpv4 text value → parse_domain text ≡ Some (V4 value)

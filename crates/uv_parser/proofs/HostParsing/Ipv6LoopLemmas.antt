@@ -56,13 +56,13 @@ first_number turns pieces i [] rest n some read = absurd (omega arith)
 first_number turns pieces i (c ∷ text) rest n some read = rw read
 
 -- each other number has one
-next_number : (turns seen : ℕ) (pieces : List ℕ) (i : ℕ) (front rest : List ℕ) (n : ℕ) → (seen == 0) ≡ false
-    → read_digits None front ≡ Some (n, rest)
-    → read_dotted (suc turns) seen pieces i (full_stop ∷ front)
+next_number : (turns seen : ℕ) (pieces : List ℕ) (i : ℕ) (prefix rest : List ℕ) (n : ℕ) → (seen == 0) ≡ false
+    → read_digits None prefix ≡ Some (n, rest)
+    → read_dotted (suc turns) seen pieces i (full_stop ∷ prefix)
     ≡ read_dotted turns (seen + 1) (slice_set pieces i (slice_index pieces i * 256 + n))
     (if seen == 1 || seen == 3 then i + 1 else i) rest
 unfolding read_dotted
-next_number turns seen pieces i front rest n later read = rw (later, read)
+next_number turns seen pieces i prefix rest n later read = rw (later, read)
 
 -- a number into a fresh piece
 high_byte : (done : List ℕ) (i v : ℕ) → i ≡ length done → i < 8

@@ -165,12 +165,12 @@ record TakesNumber (turns seen i : ℕ) (text : List ℕ) (r : List ℕ × ℕ) 
   further : read_dotted turns (seen + 1) pieces (if seen == 1 || seen == 3 then i + 1 else i) rest ≡ Some r
 
 -- what stands before a number is read
-dot_taken : (seen c : ℕ) (text front : List ℕ) → after_dot seen c text ≡ Some front → c ∷ text ≡ lead seen ++ front
-dot_taken seen c text front e = elim (cases_Bool (seen == 0)) [
+dot_taken : (seen c : ℕ) (text prefix : List ℕ) → after_dot seen c text ≡ Some prefix → c ∷ text ≡ lead seen ++ prefix
+dot_taken seen c text prefix e = elim (cases_Bool (seen == 0)) [
   | inl first ↦ rw first (same_Some _ _ (rw first at e))
   | inr later ↦
       let dot = fails_where_false (c == full_stop) (rw later at e) in
-      rw later (ap (λ cs. c ∷ cs) (same_Some _ _ dot.1) ∙ ap (λ d. d ∷ front) (eqb-true c full_stop dot.0))
+      rw later (ap (λ cs. c ∷ cs) (same_Some _ _ dot.1) ∙ ap (λ d. d ∷ prefix) (eqb-true c full_stop dot.0))
 ]
 
 -- a number is read where four aren't yet
@@ -180,13 +180,13 @@ unfolding read_dotted
 turn_taken turns seen pieces i [] r few e = absurd (none-some r (rw few at e))
 turn_taken turns seen pieces i (c ∷ text) r few e =
     option_and_then_some _ (after_dot seen c text) r e
-    (λ front begins read. option_and_then_some _ (read_digits None front) r read
+    (λ prefix begins read. option_and_then_some _ (read_digits None prefix) r read
     (λ (n, rest) number further.
-    let is = number_taken front n rest number in
+    let is = number_taken prefix n rest number in
     record {
       number = n;
       rest = rest;
-      split = dot_taken seen c text front begins ∙ ap (λ cs. lead seen ++ cs) is.0;
+      split = dot_taken seen c text prefix begins ∙ ap (λ cs. lead seen ++ cs) is.0;
       small = is.1;
       pieces = add_number pieces i n;
       further = further;

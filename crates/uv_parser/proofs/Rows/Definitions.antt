@@ -10,8 +10,8 @@ use Rattle.uv_model.specs.declared.host.Host.TheVariants as host
 use Rattle.uv_model.specs.declared.profile.Profile.TheVariants.{Standard, Wide}
 use Rattle.uv_model.specs.declared.rule.Rule.TheVariants.{HostDomain, HostIpv6, HostMissing, HostNumber}
 use Rattle.uv_model.specs.Ascii.{slash}
-use Rattle.uv_model.specs.Complaints.Complaint.{Complaint}
-use Rattle.uv_model.specs.Complaints.OpaqueHostComplaint.{IsBadIpv6}
+use Rattle.uv_model.specs.Violations.Violation.{Violation}
+use Rattle.uv_model.specs.Violations.OpaqueHostViolation.{IsBadIpv6}
 use Rattle.uv_model.specs.Cut.{cut_of}
 use Rattle.uv_model.specs.Hosts.Domain.{IsDomain, IsNumberText, has_permitted, is_form_code_point}
 use Rattle.uv_model.specs.Parts.{written}
@@ -22,14 +22,14 @@ use Rattle.uv_model.specs.Valid.{IsHostText, MayBePortText, Valid, port_given}
 use Rattle.uv_parser.specs.Rows.{domain, empty_host, ipv4, ipv6, listed, opaque}
 use Rattle.uv_parser.specs.Rows.Definitions.{DefinitionRows, ValidRows, WellFormedRows, default_parts, http_url}
 use Rattle.uv_parser.specs.Rows.Definitions.{port_parts, root_parts}
-use Rattle.uv_model.proofs.Complaints.ComplaintsExcludeParts.{faultless}
-use Rattle.uv_model.proofs.Cuts.CutRowsLemmas.{cut_and_complaint_rows, judged_row}
+use Rattle.uv_model.proofs.Violations.ViolationsExcludeParts.{faultless}
+use Rattle.uv_model.proofs.Cuts.CutRowsLemmas.{cut_and_violation_rows, judged_row}
 use Rattle.uv_model.proofs.Hosts.DomainLemmas.{not_permitted}
 use Rattle.uv_model.proofs.Records.WellFormedLemmas.{IsUrlSegment-nil}
 use Rattle.uv_model.proofs.Texts.UnitsLemmas.{IsUnits-faultless}
 use Rattle.uv_parser.proofs.HostParsing.HostParserLemmas.{ipv6_hosts_are_parsed}
 use Rattle.uv_parser.proofs.Rows.Computing.{parser}
-use Rattle.uv_parser.proofs.Rows.Profiles.{domain_complaint, segment, should_be_domain}
+use Rattle.uv_parser.proofs.Rows.Profiles.{domain_violation, segment, should_be_domain}
 
 -- ---- valid parts
 
@@ -125,7 +125,7 @@ valid_rows = record {
   not_its_port = not_its_port_row;
   not_its_host = not_its_host_row;
   no_parts = faultless Standard None
-      (codes "http://") 7 HostMissing cut_and_complaint_rows.complaints.special_host_missing;
+      (codes "http://") 7 HostMissing cut_and_violation_rows.violations.special_host_missing;
 }
 
 -- ---- well-formed URLs
@@ -237,12 +237,12 @@ well_formed_rows = record {
   code_point = code_point_row;
 }
 
--- ---- complaints of hosts
+-- ---- violations of hosts
 
-domain_row : Complaint Standard None (codes "http://a=b/") 7 HostDomain
+domain_row : Violation Standard None (codes "http://a=b/") 7 HostDomain
 unfolding parser cut_of has_permitted
 domain_row =
-    domain_complaint Standard (codes "a=b") (codes "http://a=b/")
+    domain_violation Standard (codes "a=b") (codes "http://a=b/")
     (should_be_domain (codes "a=b") (λ same. cc) refl refl, not_permitted Standard (codes "a=b") refl) refl
 
 -- `1.2.3` is the form of itself, and a number
@@ -260,7 +260,7 @@ number_text = (
   refl,
 )
 
-number_row : Complaint Standard None (codes "http://1.2.3/") 7 HostNumber
+number_row : Violation Standard None (codes "http://1.2.3/") 7 HostNumber
 unfolding parser cut_of
 number_row =
     judged_row Standard None (codes "http://1.2.3/") 7 HostNumber refl refl
@@ -279,13 +279,13 @@ bad_ipv6 = record {
       none-some (host.V6 pieces) (ipv6_hosts_are_parsed true (codes "[1::2::3]") pieces is);
 }
 
-ipv6_row : Complaint Standard None (codes "http://[1::2::3]/") 7 HostIpv6
+ipv6_row : Violation Standard None (codes "http://[1::2::3]/") 7 HostIpv6
 unfolding parser cut_of
 ipv6_row =
     judged_row Standard None (codes "http://[1::2::3]/") 7 HostIpv6 refl refl
     (inl (record { inner = 0; moved = refl; holds = (bad_ipv6, refl) }))
 
-opaque_ipv6_row : Complaint Standard None (codes "foo://[1::2::3]/") 6 HostIpv6
+opaque_ipv6_row : Violation Standard None (codes "foo://[1::2::3]/") 6 HostIpv6
 unfolding parser cut_of
 opaque_ipv6_row =
     judged_row Standard None (codes "foo://[1::2::3]/") 6 HostIpv6 refl refl

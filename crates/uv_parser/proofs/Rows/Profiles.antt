@@ -9,7 +9,7 @@ use Rattle.uv_model.specs.declared.profile.Profile.{Profile}
 use Rattle.uv_model.specs.declared.profile.Profile.TheVariants.{Standard, Wide}
 use Rattle.uv_model.specs.declared.rule.Rule.TheVariants.{HostDomain, HostNumber, FirstSegmentEmpty, DriveAfterHost}
 use Rattle.uv_model.specs.Ascii.{slash, question_mark}
-use Rattle.uv_model.specs.Complaints.Complaint.{Complaint, ComplaintOf, HostTextComplaint, ShouldBeDomain}
+use Rattle.uv_model.specs.Violations.Violation.{Violation, ViolationOf, HostTextViolation, ShouldBeDomain}
 use Rattle.uv_model.specs.Cut.{Cut, cut_of}
 use Rattle.uv_model.specs.Hosts.Domain.{IsDomain, IsNumberText, HasNoForm, has_lengths, has_permitted}
 use Rattle.uv_model.specs.Hosts.Domain.{is_form_code_point, parser_form, ends_in_number}
@@ -212,7 +212,7 @@ reference_row = record {
   denoted = refl;
 }
 
--- ---- complaints
+-- ---- violations
 
 -- the cut of `http://`, a host and `/`
 abbrev http_cut : List ℕ → Cut
@@ -242,38 +242,38 @@ should_be_domain text some no_bracket refused = record {
 }
 
 -- `http://`, a host without a form, and `/`
-pub domain_complaint : (profile : Profile) (host_text text : List ℕ) → HostTextComplaint profile host_text HostDomain
-    → cut_of None text ≡ http_cut host_text → Complaint profile None text 7 HostDomain
-unfolding Complaint scheme_class default_port
-domain_complaint profile host_text text h cut =
-    subst (λ (c : Cut). ComplaintOf (setting_of profile None c.scheme) text c 7 HostDomain) (sym cut)
+pub domain_violation : (profile : Profile) (host_text text : List ℕ) → HostTextViolation profile host_text HostDomain
+    → cut_of None text ≡ http_cut host_text → Violation profile None text 7 HostDomain
+unfolding Violation scheme_class default_port
+domain_violation profile host_text text h cut =
+    subst (λ (c : Cut). ViolationOf (setting_of profile None c.scheme) text c 7 HostDomain) (sym cut)
     (inr (inl (
       started (setting_of profile None (Some (codes "http"))) text (http_cut host_text) refl refl,
       inl (record { inner = 0; moved = refl; holds = (h, refl) }),
     )))
 
-underscore_refused_row : Complaint Standard None (codes "http://a_b/") 7 HostDomain
+underscore_refused_row : Violation Standard None (codes "http://a_b/") 7 HostDomain
 unfolding parser cut_of has_permitted
 underscore_refused_row =
-    domain_complaint Standard (codes "a_b") (codes "http://a_b/")
+    domain_violation Standard (codes "a_b") (codes "http://a_b/")
     (should_be_domain (codes "a_b") (λ same. cc) refl refl, not_permitted Standard (codes "a_b") refl) refl
 
-first_hyphen_refused_row : Complaint Standard None (codes "http://-a/") 7 HostDomain
+first_hyphen_refused_row : Violation Standard None (codes "http://-a/") 7 HostDomain
 unfolding parser cut_of
 first_hyphen_refused_row =
-    domain_complaint Standard (codes "-a") (codes "http://-a/")
+    domain_violation Standard (codes "-a") (codes "http://-a/")
     (should_be_domain (codes "-a") (λ same. cc) refl refl, not_strict (codes "-a") refl) refl
 
-hyphens_refused_row : Complaint Standard None (codes "http://ab--c/") 7 HostDomain
+hyphens_refused_row : Violation Standard None (codes "http://ab--c/") 7 HostDomain
 unfolding parser cut_of
 hyphens_refused_row =
-    domain_complaint Standard (codes "ab--c") (codes "http://ab--c/")
+    domain_violation Standard (codes "ab--c") (codes "http://ab--c/")
     (should_be_domain (codes "ab--c") (λ same. cc) refl refl, not_strict (codes "ab--c") refl) refl
 
-escape_row : Complaint Wide None (codes "http://a%62/") 7 HostDomain
+escape_row : Violation Wide None (codes "http://a%62/") 7 HostDomain
 unfolding parser cut_of has_permitted
 escape_row =
-    domain_complaint Wide (codes "a%62") (codes "http://a%62/")
+    domain_violation Wide (codes "a%62") (codes "http://a%62/")
     (should_be_domain (codes "a%62") (λ same. cc) refl refl, not_permitted Wide (codes "a%62") refl) refl
 
 -- U+00AD is removed, and no code point is left
@@ -281,10 +281,10 @@ no_soft_hyphen : HasNoForm Wide (codes "\u{ad}")
 unfolding parser
 no_soft_hyphen = no_parsed_lengths Wide (codes "\u{ad}") [] refl refl
 
-nothing_left_row : Complaint Wide None (codes "http://\u{ad}/") 7 HostDomain
+nothing_left_row : Violation Wide None (codes "http://\u{ad}/") 7 HostDomain
 unfolding parser cut_of
 nothing_left_row =
-    domain_complaint Wide (codes "\u{ad}") (codes "http://\u{ad}/")
+    domain_violation Wide (codes "\u{ad}") (codes "http://\u{ad}/")
     (should_be_domain (codes "\u{ad}") (λ same. cc) refl refl, no_soft_hyphen) refl
 
 -- `1.2.3` is the form of itself, and a number
@@ -302,7 +302,7 @@ number_text = (
   refl,
 )
 
-number_row : Complaint Wide None (codes "http://1.2.3/") 7 HostNumber
+number_row : Violation Wide None (codes "http://1.2.3/") 7 HostNumber
 unfolding parser cut_of
 number_row =
     judged_row Wide None (codes "http://1.2.3/") 7 HostNumber refl refl
@@ -312,31 +312,31 @@ number_row =
       holds = ((should_be_domain (codes "1.2.3") (λ same. cc) refl refl, number_text), refl);
     }))
 
-removed_refused_row : Complaint Standard None (codes "http://h//..") 9 FirstSegmentEmpty
+removed_refused_row : Violation Standard None (codes "http://h//..") 9 FirstSegmentEmpty
 unfolding cut_of scheme_class default_port
 removed_refused_row =
     judged_row Standard None (codes "http://h//..") 9 FirstSegmentEmpty refl refl
     (inr (inr (record { inner = 1; moved = refl; holds = (refl, refl) })))
 
-first_refused_row : Complaint Standard None (codes "http://h//a") 9 FirstSegmentEmpty
+first_refused_row : Violation Standard None (codes "http://h//a") 9 FirstSegmentEmpty
 unfolding cut_of scheme_class default_port
 first_refused_row =
     judged_row Standard None (codes "http://h//a") 9 FirstSegmentEmpty refl refl
     (inr (inr (record { inner = 1; moved = refl; holds = (refl, refl) })))
 
-file_refused_row : Complaint Standard None (codes "file:////a") 8 FirstSegmentEmpty
+file_refused_row : Violation Standard None (codes "file:////a") 8 FirstSegmentEmpty
 unfolding cut_of scheme_class default_port
 file_refused_row =
     judged_row Standard None (codes "file:////a") 8 FirstSegmentEmpty refl refl
     (inr (inr (record { inner = 1; moved = refl; holds = (refl, refl) })))
 
-file_drive_refused_row : Complaint Standard None (codes "file:////C:/..") 8 FirstSegmentEmpty
+file_drive_refused_row : Violation Standard None (codes "file:////C:/..") 8 FirstSegmentEmpty
 unfolding cut_of scheme_class default_port
 file_drive_refused_row =
     judged_row Standard None (codes "file:////C:/..") 8 FirstSegmentEmpty refl refl
     (inr (inr (record { inner = 1; moved = refl; holds = (refl, refl) })))
 
-drive_row : Complaint Wide None (codes "file://h/C:/x") 8 DriveAfterHost
+drive_row : Violation Wide None (codes "file://h/C:/x") 8 DriveAfterHost
 unfolding cut_of scheme_class default_port
 drive_row =
     judged_row Wide None (codes "file://h/C:/x") 8 DriveAfterHost refl refl

@@ -1,11 +1,11 @@
--- The rows and the complaints of specs/Rows/ReferenceMatrix hold, by computation.
+-- The rows and the violations of specs/Rows/ReferenceMatrix hold, by computation.
 use Rattle.std.proofs.Common.{◌≡◌, ℕ, List, [], ◌∷◌, Option, Some, None, false, true, refl, inl, inr, subst, codes}
 use Prim.Native.String.{String as Literal}
 use Rattle.std.specs.Prelude.{IsSome}
 use Rattle.std.proofs.lemmas.Bool.{false≢true}
 use Rattle.uv_model.specs.declared.profile.Profile.TheVariants.{Standard}
 use Rattle.uv_model.specs.declared.rule.Rule.TheVariants.{NoScheme, OpaqueBase, TwoSlashes, DriveAfterHost}
-use Rattle.uv_model.specs.Complaints.Complaint.{Complaint, IsStarted, starts_with_number_sign}
+use Rattle.uv_model.specs.Violations.Violation.{Violation, IsStarted, starts_with_number_sign}
 use Rattle.uv_model.specs.Cut.{Cut, cut_of}
 use Rattle.uv_parser.specs.Rows.{Agree, AllHold}
 use Rattle.uv_parser.specs.Rows.References.{file_host_base, urn_base, opaque_base}
@@ -69,8 +69,8 @@ started base text cut listed bare place TwoSlashes h =
 started base text cut listed bare place _ h = h
 
 -- `/C:/x` has a drive letter behind the base's host
-behind_host : Complaint Standard (Some file_host_base) (codes "/C:/x") 0 DriveAfterHost
-unfolding Complaint cut_of scheme_class default_port
+behind_host : Violation Standard (Some file_host_base) (codes "/C:/x") 0 DriveAfterHost
+unfolding Violation cut_of scheme_class default_port
 behind_host =
     inr (inl (
       started file_host_base (codes "/C:/x") (cut_of (Some file_host_base) (codes "/C:/x")) refl refl,
@@ -78,8 +78,8 @@ behind_host =
     ))
 
 -- `/C:/x` has a drive letter behind the base's host
-behind_host_and_drive : Complaint Standard (Some host_drive_base) (codes "/C:/x") 0 DriveAfterHost
-unfolding Complaint cut_of scheme_class default_port
+behind_host_and_drive : Violation Standard (Some host_drive_base) (codes "/C:/x") 0 DriveAfterHost
+unfolding Violation cut_of scheme_class default_port
 behind_host_and_drive =
     inr (inl (
       started host_drive_base (codes "/C:/x") (cut_of (Some host_drive_base) (codes "/C:/x")) refl refl,
@@ -90,7 +90,7 @@ behind_host_and_drive =
 all_violate : (base : Url) → is_opaque base.path ≡ true → (texts : List Literal)
     → Agree (λ text. (cut_of (Some base) (codes text)).scheme) (λ text. None) texts
     → Agree (λ text. starts_with_number_sign (codes text)) (λ text. false) texts → AllViolate base OpaqueBase texts
-unfolding Complaint
+unfolding Violation
 all_violate base opaque [] schemes marks = tt
 all_violate base opaque (text ∷ texts) schemes marks =
     (inl (schemes.0, opaque, marks.0, refl), all_violate base opaque texts schemes.1 marks.1)
@@ -111,7 +111,7 @@ opaque_query_refused =
     (agree (λ text. (cut_of (Some opaque_base) (codes text)).scheme) (λ text. None) other_texts refl)
     (agree (λ text. starts_with_number_sign (codes text)) (λ text. false) other_texts refl)
 
--- the complaints of all refused pairs
+-- the violations of all refused pairs
 refused_pairs : RefusedPairs
 refused_pairs = record {
   drive_behind_host = behind_host;
@@ -120,7 +120,7 @@ refused_pairs = record {
   opaque_path_and_query = opaque_query_refused;
 }
 
--- each table, and the complaints
+-- each table, and the violations
 pub reference_matrix_rows_hold : ReferenceMatrixRows
 reference_matrix_rows_hold = record {
   bases = base_rows_hold;

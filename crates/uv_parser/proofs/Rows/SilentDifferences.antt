@@ -12,7 +12,7 @@ use Rattle.uv_model.specs.declared.host.Host.{Host}
 use Rattle.uv_model.specs.declared.host.Host.TheVariants as host
 use Rattle.uv_model.specs.declared.scheme.Class.{Class}
 use Rattle.uv_model.specs.declared.scheme.Class.TheVariants.{Special, File, Other}
-use Rattle.uv_model.specs.Complaints.Complaint.{HasHost}
+use Rattle.uv_model.specs.Violations.Violation.{HasHost}
 use Rattle.uv_model.specs.Cut.{Cut, class_in, cut_of, starts_with_two_slashes, texts_of}
 use Rattle.uv_model.specs.Hosts.Domain.{has_lengths, has_permitted, strict_form}
 use Rattle.uv_parser.specs.HostParser.{parse_host}

@@ -6,7 +6,7 @@ use Rattle.uv_model.specs.declared.host.Host.{Host}
 use Rattle.uv_model.specs.declared.host.Host.TheVariants.{Domain, V4}
 use Rattle.uv_model.specs.declared.scheme.Class.TheVariants.{File, Other}
 use Rattle.uv_model.specs.Ascii.{space}
-use Rattle.uv_model.specs.Complaints.Complaint.{HasHost}
+use Rattle.uv_model.specs.Violations.Violation.{HasHost}
 use Rattle.uv_model.specs.Cut.{class_in, starts_with_two_slashes}
 use Rattle.uv_model.specs.Hosts.Domain.{has_lengths, has_permitted, strict_form}
 use Rattle.uv_model.specs.Hosts.ParserHost.{AreNumbers, IsNumbersText, IsParserHost}

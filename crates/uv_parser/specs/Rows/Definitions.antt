@@ -1,11 +1,11 @@
--- Valid parts, well-formed URLs and complaints of hosts, written out, with some parts that aren't valid and some URLs
+-- Valid parts, well-formed URLs and violations of hosts, written out, with some parts that aren't valid and some URLs
 -- that aren't well formed (URL Standard, sections 3.4, 4.1 and 4.3).
 use Rattle.std.specs.Prelude.{ℕ, [], ◌∷◌, codes, Option, Some, None}
 use Rattle.uv_model.specs.declared.host.Host.{Host}
 use Rattle.uv_model.specs.declared.host.Host.TheVariants as host
 use Rattle.uv_model.specs.declared.profile.Profile.TheVariants.{Standard, Wide}
 use Rattle.uv_model.specs.declared.rule.Rule.TheVariants.{HostDomain, HostIpv6, HostNumber}
-use Rattle.uv_model.specs.Complaints.Complaint.{Complaint}
+use Rattle.uv_model.specs.Violations.Violation.{Violation}
 use Rattle.uv_model.specs.Parts.{Parts}
 use Rattle.uv_model.specs.Records.Url.{Url}
 use Rattle.uv_model.specs.Records.WellFormed.{WellFormed}
@@ -57,14 +57,14 @@ pub record WellFormedRows : Type 0 where
   pub code_point : ¬ (WellFormed Wide (http_url (domain "é") None))
 
 -- hosts that are no domain, that are a number, and that aren't an IPv6 text
-pub record HostComplaintRows : Type 0 where
-  pub domain : Complaint Standard None (codes "http://a=b/") 7 HostDomain
-  pub number : Complaint Standard None (codes "http://1.2.3/") 7 HostNumber
-  pub ipv6 : Complaint Standard None (codes "http://[1::2::3]/") 7 HostIpv6
-  pub opaque_ipv6 : Complaint Standard None (codes "foo://[1::2::3]/") 6 HostIpv6
+pub record HostViolationRows : Type 0 where
+  pub domain : Violation Standard None (codes "http://a=b/") 7 HostDomain
+  pub number : Violation Standard None (codes "http://1.2.3/") 7 HostNumber
+  pub ipv6 : Violation Standard None (codes "http://[1::2::3]/") 7 HostIpv6
+  pub opaque_ipv6 : Violation Standard None (codes "foo://[1::2::3]/") 6 HostIpv6
 
 -- each row
 pub record DefinitionRows : Type 0 where
   pub valid : ValidRows
   pub well_formed : WellFormedRows
-  pub hosts : HostComplaintRows
+  pub hosts : HostViolationRows

@@ -1,11 +1,11 @@
 -- Texts by which the profiles differ, and some on which they agree: valid parts, the URL that they denote, and
--- complaints.
+-- violations.
 use Rattle.std.specs.Prelude.{◌≡◌, ℕ, List, [], ◌∷◌, codes, Some, None}
 use Rattle.uv_model.specs.declared.host.Host.{Host}
 use Rattle.uv_model.specs.declared.host.Host.TheVariants as host
 use Rattle.uv_model.specs.declared.profile.Profile.TheVariants.{Standard, Wide}
 use Rattle.uv_model.specs.declared.rule.Rule.TheVariants.{HostDomain, HostNumber, FirstSegmentEmpty, DriveAfterHost}
-use Rattle.uv_model.specs.Complaints.Complaint.{Complaint}
+use Rattle.uv_model.specs.Violations.Violation.{Violation}
 use Rattle.uv_model.specs.Records.Denote.{denote}
 use Rattle.uv_model.specs.Parts.{SchemeAuthority, Authority, Parts}
 use Rattle.uv_parser.specs.Rows.{listed}
@@ -52,10 +52,10 @@ pub record WidePathRows : Type 0 where
   pub file_drive_removed :
       IsWide (codes "file:////C:/..") (file_parts (codes "//C:/..") ([] ∷ codes "C:" ∷ codes ".." ∷ []))
       (codes "file:////")
-  pub refused : Complaint Standard None (codes "http://h//a") 9 FirstSegmentEmpty
-  pub removed_refused : Complaint Standard None (codes "http://h//..") 9 FirstSegmentEmpty
-  pub file_refused : Complaint Standard None (codes "file:////a") 8 FirstSegmentEmpty
-  pub file_drive_refused : Complaint Standard None (codes "file:////C:/..") 8 FirstSegmentEmpty
+  pub refused : Violation Standard None (codes "http://h//a") 9 FirstSegmentEmpty
+  pub removed_refused : Violation Standard None (codes "http://h//..") 9 FirstSegmentEmpty
+  pub file_refused : Violation Standard None (codes "file:////a") 8 FirstSegmentEmpty
+  pub file_drive_refused : Violation Standard None (codes "file:////C:/..") 8 FirstSegmentEmpty
 
 -- domains that the parser's settings take
 pub record WideDomainRows : Type 0 where
@@ -63,16 +63,16 @@ pub record WideDomainRows : Type 0 where
   pub first_hyphen : IsWide (codes "http://-a/") (http_parts (codes "-a") (codes "/") ([] ∷ [])) (codes "http://-a/")
   pub hyphens :
       IsWide (codes "http://ab--c/") (http_parts (codes "ab--c") (codes "/") ([] ∷ [])) (codes "http://ab--c/")
-  pub underscore_refused : Complaint Standard None (codes "http://a_b/") 7 HostDomain
-  pub first_hyphen_refused : Complaint Standard None (codes "http://-a/") 7 HostDomain
-  pub hyphens_refused : Complaint Standard None (codes "http://ab--c/") 7 HostDomain
+  pub underscore_refused : Violation Standard None (codes "http://a_b/") 7 HostDomain
+  pub first_hyphen_refused : Violation Standard None (codes "http://-a/") 7 HostDomain
+  pub hyphens_refused : Violation Standard None (codes "http://ab--c/") 7 HostDomain
 
 -- what both profiles refuse
 pub record WideRefusalRows : Type 0 where
-  pub number : Complaint Wide None (codes "http://1.2.3/") 7 HostNumber
-  pub nothing_left : Complaint Wide None (codes "http://\u{ad}/") 7 HostDomain
-  pub escape : Complaint Wide None (codes "http://a%62/") 7 HostDomain
-  pub drive : Complaint Wide None (codes "file://h/C:/x") 8 DriveAfterHost
+  pub number : Violation Wide None (codes "http://1.2.3/") 7 HostNumber
+  pub nothing_left : Violation Wide None (codes "http://\u{ad}/") 7 HostDomain
+  pub escape : Violation Wide None (codes "http://a%62/") 7 HostDomain
+  pub drive : Violation Wide None (codes "file://h/C:/x") 8 DriveAfterHost
 
 -- the parts of the reference `//h`: `//` begins an authority in each profile, not a path
 abbrev pub reference_parts : Parts

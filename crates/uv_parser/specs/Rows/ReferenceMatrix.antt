@@ -1,12 +1,12 @@
 -- Texts without a scheme, each against each of nine bases (URL Standard, section 4.4): what the parser machine gives,
--- and the complaints of those pairs that the standard profile refuses.
+-- and the violations of those pairs that the standard profile refuses.
 use Rattle.std.specs.Prelude.{List, [], ◌∷◌, codes, Option, Some, None}
 use Prim.Native.String.{String as Literal}
 use Rattle.uv_model.specs.declared.host.Host.{Host}
 use Rattle.uv_model.specs.declared.profile.Profile.TheVariants.{Standard}
 use Rattle.uv_model.specs.declared.rule.Rule.{Rule}
 use Rattle.uv_model.specs.declared.rule.Rule.TheVariants.{OpaqueBase, DriveAfterHost}
-use Rattle.uv_model.specs.Complaints.Complaint.{Complaint}
+use Rattle.uv_model.specs.Violations.Violation.{Violation}
 use Rattle.uv_parser.specs.Rows.{Row, AllHold, done, stops, against, listed, opaque, with_query, with_fragment}
 use Rattle.uv_parser.specs.Rows.{domain, opaque_host, empty_host}
 use Rattle.uv_parser.specs.Rows.References.{http_base, root_base, drive_base, file_host_base, other_host_base}
@@ -237,12 +237,12 @@ opaque_query_rows =
     ∷ against opaque_base (stops "./a:b" 0)
     ∷ []
 
--- ---- complaints of the refused pairs
+-- ---- violations of the refused pairs
 
 -- each of the texts violates the rule at its first place against the base
 abbrev pub AllViolate : Url → Rule → List Literal → Type 0
 AllViolate base rule [] = Unit {0}
-AllViolate base rule (text ∷ texts) = Complaint Standard (Some base) (codes text) 0 rule × AllViolate base rule texts
+AllViolate base rule (text ∷ texts) = Violation Standard (Some base) (codes text) 0 rule × AllViolate base rule texts
 
 -- the texts that aren't a fragment alone
 abbrev pub other_texts : List Literal
@@ -251,8 +251,8 @@ other_texts =
 
 -- A drive letter may not follow the host of a file base, and only a fragment may follow an opaque path.
 pub record RefusedPairs : Type 0 where
-  pub drive_behind_host : Complaint Standard (Some file_host_base) (codes "/C:/x") 0 DriveAfterHost
-  pub drive_behind_host_and_drive : Complaint Standard (Some host_drive_base) (codes "/C:/x") 0 DriveAfterHost
+  pub drive_behind_host : Violation Standard (Some file_host_base) (codes "/C:/x") 0 DriveAfterHost
+  pub drive_behind_host_and_drive : Violation Standard (Some host_drive_base) (codes "/C:/x") 0 DriveAfterHost
   pub opaque_path : AllViolate urn_base OpaqueBase other_texts
   pub opaque_path_and_query : AllViolate opaque_base OpaqueBase other_texts
 

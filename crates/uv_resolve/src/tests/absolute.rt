@@ -109,7 +109,7 @@ fn resolves_paths_of_special_texts(rt: HostRuntime) -> Result<(), ResolveFault> 
     )
 }
 
-// The fronts of a special text, and a text that begins with a space.
+// The prefixes of a special text, and a text that begins with a space.
 #[test]
 fn refuses_texts_that_are_cut_short(rt: HostRuntime) -> Result<(), ResolveFault> {
     answers_alone(

@@ -1,4 +1,4 @@
-//! The fields of records where the text alone doesn't tell them apart.
+//! The fields of records where the text alone doesn't distinguish them.
 
 use super::*;
 
@@ -120,7 +120,7 @@ const ENDS: [Ends; 4] = [
 
 // An absent query or fragment isn't an empty one.
 #[test]
-fn tells_empty_from_absent(rt: HostRuntime) -> Result<(), ResolveFault> {
+fn distinguishes_empty_from_absent(rt: HostRuntime) -> Result<(), ResolveFault> {
     for (text, query, fragment) in ENDS.iter() {
         let record = record_of(rt.alloc(), *text)?;
         assert!(rt; has_ends(&record, *query, *fragment), "{text}");

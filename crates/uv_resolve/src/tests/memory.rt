@@ -12,25 +12,25 @@ fn push_often(text: &mut String, piece: &str, count: usize) -> Result<(), AllocE
     Ok(())
 }
 
-// A front, and then a piece so many times.
-fn repeated(alloc: Global, front: &str, piece: &str, count: usize) -> Result<String, AllocError> {
-    let mut text = String::from_str(alloc, front)?;
+// A prefix, and then a piece so many times.
+fn repeated(alloc: Global, prefix: &str, piece: &str, count: usize) -> Result<String, AllocError> {
+    let mut text = String::from_str(alloc, prefix)?;
     push_often(&mut text, piece, count)?;
     Ok(text)
 }
 
-// Whether long opaque paths, segments, queries and fragments behind a front are encoded, each code point as six.
-fn encodes_behind(alloc: Global, front: &str) -> Result<bool, ResolveFault> {
-    let text = repeated(alloc, front, "\u{E9}", LONG)?;
-    let want = repeated(alloc, front, "%C3%A9", LONG)?;
+// Whether long opaque paths, segments, queries and fragments behind a prefix are encoded, each code point as six.
+fn encodes_behind(alloc: Global, prefix: &str) -> Result<bool, ResolveFault> {
+    let text = repeated(alloc, prefix, "\u{E9}", LONG)?;
+    let want = repeated(alloc, prefix, "%C3%A9", LONG)?;
     is_answer(alloc, text.as_str(), None, &Answer::Url(want.as_str()))
 }
 
 #[test]
 fn resolves_long_texts(rt: HostRuntime) -> Result<(), ResolveFault> {
-    for front in ["urn:", "http://h/", "http://h/?", "http://h/#", "foo://"] {
-        let found = encodes_behind(rt.alloc(), front)?;
-        assert!(rt; found, "{front}");
+    for prefix in ["urn:", "http://h/", "http://h/?", "http://h/#", "foo://"] {
+        let found = encodes_behind(rt.alloc(), prefix)?;
+        assert!(rt; found, "{prefix}");
     }
     Ok(())
 }
@@ -160,7 +160,7 @@ fn take_all(alloc: Global, held: &mut Vec<Vec<u8>>) {
 }
 
 // Whether memory is wanted for a text.
-fn wants_memory(alloc: Global, text: &str) -> bool {
+fn runs_out_of_memory(alloc: Global, text: &str) -> bool {
     matches!(
         resolve(alloc, text, None, Profile::Standard),
         Err(ResolveFault::Memory(_))
@@ -180,7 +180,7 @@ fn is_refused(alloc: Global, text: &str, place: usize, rule: Rule) -> bool {
 fn refuses_without_memory(rt: HostRuntime) -> Result<(), AllocError> {
     let mut held = Vec::with_capacity(rt.alloc(), 400_000)?;
     take_all(rt.alloc(), &mut held);
-    let upper = wants_memory(rt.alloc(), "http://EXAMPLE.com/");
+    let upper = runs_out_of_memory(rt.alloc(), "http://EXAMPLE.com/");
     let slashes = is_refused(rt.alloc(), "http:x", 5, Rule::TwoSlashes);
     let underscore = is_refused(rt.alloc(), "http://a_b/", 7, Rule::HostDomain);
     drop(held);

@@ -14,9 +14,9 @@ loop-at-preserved c =
     record {
       utf8 = c.behind_passed-left.utf8;
       behind = c.behind_passed-left.ensures;
-      front =
+      prefix =
           written_more (fault_of c.args.text.now) c.args.found.now c.loop-at.out c.loop-at.at other _
-          c.loop-at-test.true room c.loop-at.invariant.front
+          c.loop-at-test.true room c.loop-at.invariant.prefix
           (rw (c.from.ensures, c.number.ensures, c.bytes_before.ensures) refl);
       rest = kept_more c.args.out.now c.loop-at.out c.loop-at.at _ room c.loop-at.invariant.rest;
       long = length-set c.loop-at.out c.loop-at.at _ ∙ c.loop-at.invariant.long;

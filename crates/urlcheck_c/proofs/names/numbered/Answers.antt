@@ -2,7 +2,7 @@
 use Rattle.std.proofs.Common.{◌∙◌, ◌==◌, rules, tests}
 use Rattle.std.proofs.lemmas.Iterator.{YieldsList-from_slice}
 use Rattle.std.proofs.lemmas.Iterator.Search.{find_from_yields_List}
-use Rattle.uv_model.specs.Complaints.Rule.{rule_number}
+use Rattle.uv_model.specs.Violations.Rule.{rule_number}
 use Rattle.urlcheck_c.proofs.names.numbered.Goals as goal
 
 pub returns : goal.returns

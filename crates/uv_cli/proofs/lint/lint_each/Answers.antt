@@ -1,6 +1,6 @@
 -- A file more.
 use Rattle.std.proofs.Common.{◌∙◌, arith, string_bytes}
-use Rattle.uv_lint.specs.Findings.{file_setting}
+use Rattle.uv_lint.specs.LineViolations.{file_setting}
 use Rattle.uv_cli.specs.Lint.{LintsNext}
 use Rattle.uv_cli.specs.Linted.{is_stopped}
 use Rattle.uv_cli.proofs.LintLemmas.{all_more, files_all, files_more, next_quiet}

@@ -1,6 +1,6 @@
 -- The files so far.
 use Rattle.std.proofs.Common.{◌≡◌, map, take, string_bytes, true}
-use Rattle.uv_lint.specs.Findings.{file_setting}
+use Rattle.uv_lint.specs.LineViolations.{file_setting}
 use Rattle.uv_cli.specs.Lint.{LintsAll}
 use Rattle.uv_cli.specs.Linted.{is_writable}
 use Rattle.uv_cli.proofs.lint.lint_each.Given as goal

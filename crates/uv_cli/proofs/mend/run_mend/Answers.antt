@@ -19,10 +19,10 @@ returns-in-Ok-clause-written g c =
     mending_against c.args.profile c.args.base url c.args.text.now _ _ end base written)
     c.mend_against.ensures.written
 
-pub returns-in-Ok-clause-front : goal.returns-in-Ok-clause-front
-returns-in-Ok-clause-front g c = λ failed. (
+pub returns-in-Ok-clause-prefix : goal.returns-in-Ok-clause-prefix
+returns-in-Ok-clause-prefix g c = λ failed. (
   option_copied c.as_ref.result,
   subst (λ u. IsBase c.args.profile c.args.base u) (sym c.as_ref.ensures.value)
       (rw c.in-Ok.is at c.resolve_base.ensures),
-  c.mend_against.ensures.front failed,
+  c.mend_against.ensures.prefix failed,
 )

@@ -1,8 +1,8 @@
--- The complaints against a base of the kind are those against each.
+-- The violations against a base of the kind are those against each.
 use Rattle.std.specs.Prelude.{Some}
 use Rattle.std.specs.Str.{chars}
 use Rattle.std.proofs.lemmas.Result.{IfOk-weaker}
-use Rattle.uv_model.specs.Complaints.AllComplaints.{AreFaults}
+use Rattle.uv_model.specs.Violations.AllViolations.{AreFaults}
 use Rattle.uv_grammar.specs.Bases.{url_of_kind}
 use Rattle.uv_grammar.proofs.KindLemmas.{faults_alike, kind_alike}
 use Rattle.uv_grammar.proofs.all_faults.faults_of_kind.Goals as goal

@@ -7,7 +7,7 @@ use Rattle.uv_grammar.specs.HostValues.{is_scanned}
 use Rattle.uv_grammar.proofs.HostLemmas.{no_chars, some_chars}
 use Rattle.uv_grammar.proofs.all_faults.is_scanned.Goals as goal
 
--- a host that isn't empty is told by its bracket
+-- a host that isn't empty is known by its bracket
 by_bracket : (text : List ℕ) → text ≢ [] → not (starts_with_bracket text) ≡ is_scanned Other text
 by_bracket [] some = absurd (some refl)
 by_bracket (c ∷ rest) some = refl

@@ -1,13 +1,13 @@
--- The faults of the host are all of its complaints.
+-- The faults of the host are all of its violations.
 use Rattle.std.proofs.Common.{◌∙◌, ap, sym, subst, ℕ}
 use Rattle.std.specs.Str.{chars}
 use Rattle.std.proofs.lemmas.Result.{on_ok_weaker}
-use Rattle.uv_model.specs.Complaints.Complaint.{Behind, HostPartComplaint}
+use Rattle.uv_model.specs.Violations.Violation.{Behind, HostPartViolation}
 use Rattle.uv_model.specs.Cut.{Cut}
-use Rattle.uv_grammar.specs.Faults.{AddsComplaints}
+use Rattle.uv_grammar.specs.Faults.{AddsViolations}
 use Rattle.uv_grammar.specs.PartsHost.{FitsPartsHost}
 use Rattle.uv_grammar.specs.PartValues.{FitsHostPart}
-use Rattle.uv_grammar.specs.Scan.{HostUnitComplaint}
+use Rattle.uv_grammar.specs.Scan.{HostUnitViolation}
 use Rattle.uv_grammar.specs.Slices.{chars_of_option}
 use Rattle.uv_model.specs.Setting.{Setting}
 use Rattle.uv_grammar.proofs.PartFaultLemmas.{host_fault_adds, host_scan_adds, judged_least}
@@ -21,7 +21,7 @@ returns-then-is_scanned c =
     (ap (λ (cut : Cut). cut.host_text) (sym c.cut.view_is) ∙ ap chars_of_option c.in-Some.is)
     (ap (λ (s : Setting). s.class) c.setting.view_is)
     (sym c.is_scanned.ensures ∙ c.if-is_scanned.true)
-    (subst (λ (n : ℕ). AddsComplaints (Behind n (HostUnitComplaint (chars c.in-Some.host_text.now)))
+    (subst (λ (n : ℕ). AddsViolations (Behind n (HostUnitViolation (chars c.in-Some.host_text.now)))
     c.args.found.now.items c.push_scan.new.found.items) c.host_place.ensures adds))
     c.push_scan.ensures
 
@@ -34,7 +34,7 @@ returns c =
     (ap (λ (s : Setting). s.class) c.setting.view_is)
     (sym c.is_scanned.ensures ∙ c.if-is_scanned.false)
     (rw c.into_refusal.ensures (judged_least (FitsPartsHost (FitsHostPart c.args.setting.now c.args.cut.now))
-    (HostPartComplaint c.args.setting.now c.args.cut.now)
+    (HostPartViolation c.args.setting.now c.args.cut.now)
     c.in_ok-judge_host_part.field-0 c.in_ok-judge_host_part.ensures.answer))
     joined)
     c.push_fault.ensures

@@ -1,6 +1,6 @@
 -- The host, the port and the path's start, one after another.
 use Rattle.std.proofs.lemmas.Result.{on_ok_weaker}
-use Rattle.uv_grammar.specs.PartComplaints.{OfPathStart}
+use Rattle.uv_grammar.specs.PartViolations.{OfPathStart}
 use Rattle.uv_grammar.proofs.PartFaultLemmas.{judged_adds, path_start_one_at_most}
 use Rattle.uv_grammar.proofs.ScanLemmas.{adds_fault}
 use Rattle.uv_grammar.proofs.all_faults.push_judged_faults.Goals as goal

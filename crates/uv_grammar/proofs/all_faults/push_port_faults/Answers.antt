@@ -1,12 +1,12 @@
--- The faults of the port are all of its complaints.
+-- The faults of the port are all of its violations.
 use Rattle.std.proofs.Common.{◌∙◌, ap, sym, subst, ℕ}
 use Rattle.std.specs.Str.{chars}
 use Rattle.std.proofs.lemmas.Result.{on_ok_weaker}
-use Rattle.uv_model.specs.Complaints.Complaint.{Behind, PortPartComplaint}
+use Rattle.uv_model.specs.Violations.Violation.{Behind, PortPartViolation}
 use Rattle.uv_model.specs.Cut.{Cut}
-use Rattle.uv_grammar.specs.Faults.{AddsComplaints}
+use Rattle.uv_grammar.specs.Faults.{AddsViolations}
 use Rattle.uv_grammar.specs.PartValues.{FitsPortPart}
-use Rattle.uv_grammar.specs.Scan.{DigitComplaint}
+use Rattle.uv_grammar.specs.Scan.{DigitViolation}
 use Rattle.uv_grammar.specs.Slices.{chars_of_option}
 use Rattle.uv_grammar.proofs.PartFaultLemmas.{judged_least, port_fault_adds, port_scan_adds}
 use Rattle.uv_grammar.proofs.all_faults.push_port_faults.Goals as goal
@@ -19,7 +19,7 @@ returns-then-not-are_digits c =
     (ap (λ (cut : Cut). cut.host_text) (sym c.cut.view_is) ∙ ap chars_of_option c.in-Some.is)
     (ap (λ (cut : Cut). cut.port_text) (sym c.cut.view_is) ∙ ap chars_of_option c.in-Some-port_text.is)
     (sym c.are_digits.ensures ∙ c.if-not-are_digits.true)
-    (subst (λ (n : ℕ). AddsComplaints (Behind n (DigitComplaint (chars c.in-Some-port_text.port_text.now)))
+    (subst (λ (n : ℕ). AddsViolations (Behind n (DigitViolation (chars c.in-Some-port_text.port_text.now)))
     c.args.found.now.items c.push_scan.new.found.items) c.port_place.ensures adds))
     c.push_scan.ensures
 
@@ -32,6 +32,6 @@ returns c =
     (ap (λ (cut : Cut). cut.port_text) (sym c.cut.view_is) ∙ ap chars_of_option c.in-Some-port_text.is)
     (sym c.are_digits.ensures ∙ c.if-not-are_digits.false)
     (rw c.into_refusal.ensures (judged_least (FitsPortPart c.args.setting.now c.args.cut.now)
-    (PortPartComplaint c.args.cut.now) c.judge_port_part.result c.judge_port_part.ensures))
+    (PortPartViolation c.args.cut.now) c.judge_port_part.result c.judge_port_part.ensures))
     joined)
     c.push_fault.ensures

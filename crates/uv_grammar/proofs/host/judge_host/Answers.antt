@@ -3,7 +3,7 @@ use Rattle.std.proofs.Common.{◌∙◌, sym}
 use Rattle.std.specs.Str.{chars}
 use Rattle.std.proofs.lemmas.Result.{IfOk-weaker}
 use Rattle.uv_model.specs.declared.scheme.Class.TheVariants.{Special, File, Other}
-use Rattle.uv_model.specs.Complaints.Complaint.{HostContentComplaint, HostComplaint}
+use Rattle.uv_model.specs.Violations.Violation.{HostContentViolation, HostViolation}
 use Rattle.uv_grammar.specs.PartsHost.{FitsPartsHost}
 use Rattle.uv_grammar.specs.HostValues.{FitsHost, FitsSomeHost}
 use Rattle.uv_grammar.specs.Judged.{IsJudged}
@@ -25,10 +25,10 @@ returns-in-Special-clause-answer c =
     let some = some_chars c.args.host_text.now c.utf8.host_text (sym c.is_empty.ensures ∙ c.if-is_empty.false) in
     rw c.in-Special.is (IfOk-weaker c.judge_special_host.result
     (IsJudged (FitsPartsHost (FitsSomeHost c.args.profile Special (chars c.args.host_text.now)))
-    (HostContentComplaint c.args.profile Special (chars c.args.host_text.now)))
+    (HostContentViolation c.args.profile Special (chars c.args.host_text.now)))
     (IsJudged (FitsPartsHost (FitsHost c.args.profile Special (chars c.args.host_text.now)
     (chars_of_option c.args.port_text) (chars c.args.path_text.now)))
-    (HostComplaint c.args.profile Special (chars c.args.host_text.now) (chars_of_option c.args.port_text)
+    (HostViolation c.args.profile Special (chars c.args.host_text.now) (chars_of_option c.args.port_text)
     (chars c.args.path_text.now)))
     (content_answer c.args.profile Special (chars c.args.host_text.now) (chars_of_option c.args.port_text)
     (chars c.args.path_text.now) some)
@@ -43,10 +43,10 @@ returns-in-File-clause-answer c =
     let some = some_chars c.args.host_text.now c.utf8.host_text (sym c.is_empty.ensures ∙ c.if-is_empty.false) in
     rw c.in-File.is (IfOk-weaker c.judge_file_host.result
     (IsJudged (FitsPartsHost (FitsSomeHost c.args.profile File (chars c.args.host_text.now)))
-    (HostContentComplaint c.args.profile File (chars c.args.host_text.now)))
+    (HostContentViolation c.args.profile File (chars c.args.host_text.now)))
     (IsJudged (FitsPartsHost (FitsHost c.args.profile File (chars c.args.host_text.now)
     (chars_of_option c.args.port_text) (chars c.args.path_text.now)))
-    (HostComplaint c.args.profile File (chars c.args.host_text.now) (chars_of_option c.args.port_text)
+    (HostViolation c.args.profile File (chars c.args.host_text.now) (chars_of_option c.args.port_text)
     (chars c.args.path_text.now)))
     (content_answer c.args.profile File (chars c.args.host_text.now) (chars_of_option c.args.port_text)
     (chars c.args.path_text.now) some)

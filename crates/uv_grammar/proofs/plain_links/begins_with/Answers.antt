@@ -1,6 +1,6 @@
 -- A byte and a rest.
 use Rattle.std.proofs.Common.{eqb-true}
-use Rattle.uv_grammar.proofs.PlainFrontLemmas.{first_byte}
+use Rattle.uv_grammar.proofs.PlainPrefixLemmas.{first_byte}
 use Rattle.uv_grammar.proofs.plain_links.begins_with.Goals as goal
 
 pub returns-in-len1-up : goal.returns-in-len1-up

@@ -2,7 +2,7 @@
 use Rattle.std.proofs.Common.{◌∙◌, sym}
 use Rattle.std.specs.Str.{chars}
 use Rattle.uv_grammar.specs.Slices.{chars_of}
-use Rattle.uv_grammar.proofs.PlainFrontLemmas.{scheme_cut}
+use Rattle.uv_grammar.proofs.PlainPrefixLemmas.{scheme_cut}
 use Rattle.uv_grammar.proofs.plain_links.split_upper.Goals as goal
 
 pub returns-in-Special : goal.returns-in-Special

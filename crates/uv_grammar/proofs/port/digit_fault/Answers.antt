@@ -10,4 +10,5 @@ returns-then-are_digits-clause-least c =
 
 pub returns-clause-least : goal.returns-clause-least
 returns-clause-least c =
-    rw c.digits_front.ensures (foreign_least (chars c.args.text.now) (sym c.are_digits.ensures ∙ c.if-are_digits.false))
+    rw c.digits_prefix.ensures
+    (foreign_least (chars c.args.text.now) (sym c.are_digits.ensures ∙ c.if-are_digits.false))

@@ -1,4 +1,4 @@
--- A code point that isn't a digit is the least complaint of the port.
+-- A code point that isn't a digit is the least violation of the port.
 use Rattle.std.specs.Str.{chars}
 use Rattle.uv_grammar.proofs.PortLemmas.{port_least}
 use Rattle.uv_grammar.proofs.port.judge_port.Goals as goal

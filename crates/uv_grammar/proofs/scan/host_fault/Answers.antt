@@ -1,4 +1,4 @@
--- Without a bracket the complaints are those of an opaque host.
+-- Without a bracket the violations are those of an opaque host.
 use Rattle.std.proofs.Common.{◌∙◌, sym}
 use Rattle.std.specs.Str.{chars}
 use Rattle.uv_grammar.proofs.ScanLemmas.{host_least}

@@ -1,7 +1,7 @@
 -- The first fault of the parts in the order of their places.
 use Rattle.std.proofs.Common.{Some}
-use Rattle.uv_model.proofs.Complaints.RefusedLemmas.{path_passes, path_refuses, path_start_passes, path_start_refuses}
-use Rattle.uv_model.proofs.Complaints.RefusedLemmas.{query_passes, query_refuses}
+use Rattle.uv_model.proofs.Violations.RefusedLemmas.{path_passes, path_refuses, path_start_passes, path_start_refuses}
+use Rattle.uv_model.proofs.Violations.RefusedLemmas.{query_passes, query_refuses}
 use Rattle.uv_grammar.proofs.unit_faults.fault_behind_authority.Goals as goal
 
 pub returns-in-Some : goal.returns-in-Some

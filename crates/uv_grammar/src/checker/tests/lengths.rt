@@ -1,5 +1,5 @@
-//! Verdicts on names of each length up to the limits of a label, 63 code points, and of a whole name, 253 (URL Standard,
-//! section 3.3), in lower and in upper case: those that are read 32 bytes at a time and those that are not.
+//! Verdicts on names of each length up to the limits of a label, 63 code points, and of a whole name, 253 (URL
+//! Standard, section 3.3), in lower and in upper case: those that are read 32 bytes at a time and those that are not.
 
 use super::*;
 

@@ -64,7 +64,7 @@ fn take_all(alloc: Global, held: &mut Vec<Vec<u8>>) {
     }
 }
 
-// What `check` answers: none for want of memory, and else the refusal, where there is one.
+// What `check` answers: none where memory ran out, and else the refusal, where there is one.
 fn answer(alloc: Global, text: &str, base: Option<&Record>) -> Option<Option<(usize, Rule)>> {
     match check(alloc, text, base, Profile::Standard) {
         Ok(Verdict::Yes(_)) => Some(None),

@@ -62,7 +62,7 @@ fn refuses_what_is_nearly_plain(rt: HostRuntime) -> Result<(), AllocError> {
 }
 
 #[test]
-fn tells_numbers_from_words(rt: HostRuntime) -> Result<(), AllocError> {
+fn distinguishes_numbers_from_words(rt: HostRuntime) -> Result<(), AllocError> {
     are_lines(
         &rt,
         None,
@@ -92,15 +92,15 @@ fn tells_numbers_from_words(rt: HostRuntime) -> Result<(), AllocError> {
     )
 }
 
-// A front, a piece so many times, and an end.
+// A prefix, a piece so many times, and an end.
 fn long_text(
     alloc: Global,
-    front: &str,
+    prefix: &str,
     piece: &str,
     count: usize,
     end: &str,
 ) -> Result<String, AllocError> {
-    let mut text = String::from_str(alloc, front)?;
+    let mut text = String::from_str(alloc, prefix)?;
     for _ in 0..count {
         text.push_str(piece)?;
     }
@@ -109,7 +109,7 @@ fn long_text(
 }
 
 #[test]
-fn names_places_behind_long_fronts(rt: HostRuntime) -> Result<(), AllocError> {
+fn names_places_behind_long_prefixes(rt: HostRuntime) -> Result<(), AllocError> {
     let letters = long_text(rt.alloc(), "http://h/", "a", 100, " ")?;
     are_lines(
         &rt,
@@ -120,7 +120,7 @@ fn names_places_behind_long_fronts(rt: HostRuntime) -> Result<(), AllocError> {
 }
 
 #[test]
-fn names_places_behind_long_fronts_beyond_ascii(rt: HostRuntime) -> Result<(), AllocError> {
+fn names_places_behind_long_prefixes_beyond_ascii(rt: HostRuntime) -> Result<(), AllocError> {
     let accents = long_text(rt.alloc(), "http://h/", "\u{E9}", 40, "%4")?;
     are_lines(
         &rt,

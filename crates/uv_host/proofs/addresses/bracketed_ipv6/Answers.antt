@@ -7,22 +7,22 @@ use Rattle.uv_host.proofs.addresses.bracketed_ipv6.Goals as goal
 
 pub returns-in-Some-strip_suffix : goal.returns-in-Some-strip_suffix
 returns-in-Some-strip_suffix c =
-    let front =
+    let prefix =
     strip_prefix_char left_bracket c.args.text.now (Some c.in-Some.behind) c.in-Some.ensures.cases (lit< tt) in
     let end =
     strip_suffix_char right_bracket c.in-Some.behind.now
     (Some c.in-Some-strip_suffix.inner) c.in-Some-strip_suffix.ensures.cases (lit< tt) in
     reads_enclosed c.args.text.now c.in-Some-strip_suffix.inner.now c.ipv6.result c.utf8.text
-    (front ∙ ap (λ b. left_bracket ∷ b) end)
+    (prefix ∙ ap (λ b. left_bracket ∷ b) end)
     c.ipv6.ensures
 
 pub returns-in-None-strip_suffix : goal.returns-in-None-strip_suffix
 returns-in-None-strip_suffix c =
-    let front =
+    let prefix =
     strip_prefix_char left_bracket c.args.text.now (Some c.in-Some.behind) c.in-Some.ensures.cases (lit< tt) in
     let none =
     strip_suffix_char right_bracket c.in-Some.behind.now None c.in-None-strip_suffix.ensures.cases (lit< tt) in
-    not_enclosed c.args.text.now c.utf8.text (λ inner same. none inner (let both = sym front ∙ same in cc))
+    not_enclosed c.args.text.now c.utf8.text (λ inner same. none inner (let both = sym prefix ∙ same in cc))
 
 pub returns-in-None : goal.returns-in-None
 returns-in-None c =

@@ -1,6 +1,6 @@
--- The fault of an opaque host is the least of its complaints.
+-- The fault of an opaque host is the least of its violations.
 use Rattle.std.proofs.Common.{chars, sym, ◌∙◌}
-use Rattle.uv_model.proofs.Complaints.ComplaintLemmas.{least_opaque_fault_within}
+use Rattle.uv_model.proofs.Violations.ViolationLemmas.{least_opaque_fault_within}
 use Rattle.uv_host.proofs.OpaqueHostLemmas.{unbracketed_least, unbracketed_silent}
 use Rattle.uv_host.proofs.opaque_hosts.opaque_fault.Goals as goal
 

@@ -6,7 +6,7 @@ use Rattle.uv_host.proofs.plain_names.chain_end.Given as goal
 
 abbrev pub invariant-loop-ahead : goal.invariant-loop-ahead
 invariant-loop-ahead l = record {
-  front : IsJoined false l.text l.end;
+  prefix : IsJoined false l.text l.end;
   more : IsJoined (signed_before false l.text l.end) (drop l.end l.text) l.ahead;
   behind : l.ahead ≡ 32 → l.signed ≡ is_sign (slice_index (drop l.end l.text) 31);
 }

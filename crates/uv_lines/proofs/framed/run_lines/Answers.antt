@@ -40,12 +40,12 @@ write_end-answer-requires g c =
 -- where the first write failed
 pub returns-in-Err-clause-fault : goal.returns-in-Err-clause-fault
 returns-in-Err-clause-fault g c =
-    let front = c.in-Err.ensures.front in (
+    let prefix = c.in-Err.ensures.prefix in (
       [],
       Consumes-nil (g.R.Source.remaining c.args.reader.now),
       inl (begin_cut g.T.Reporter.reports c.args.limits.line_bytes c.args.frame.begin.now (λ _. c.args.frame.end.now)
-          c.args.reporter (g.W.Sink.contents c.args.writer.now) (g.W.Sink.contents c.write_whole.new.out) front.0
-          front.1),
+          c.args.reporter (g.W.Sink.contents c.args.writer.now) (g.W.Sink.contents c.write_whole.new.out) prefix.0
+          prefix.1),
     )
 
 pub returns-in-Err-clause-failed : goal.returns-in-Err-clause-failed

@@ -14,5 +14,5 @@ pub returns-in-Err : goal.returns-in-Err
 returns-in-Err g c = λ u.
     follows_cut c.args.last.now c.args.end.now (Ok u) (g.W.Sink.contents c.args.writer.now)
     (g.W.Sink.contents c.write_some.new.writer) (g.W.Sink.failed c.args.writer.now)
-    (g.W.Sink.failed c.write_some.new.writer) c.in-Err.ensures.front.0 c.in-Err.ensures.some c.in-Err.ensures.front.1
+    (g.W.Sink.failed c.write_some.new.writer) c.in-Err.ensures.prefix.0 c.in-Err.ensures.some c.in-Err.ensures.prefix.1
     c.in-Err.ensures.failed

@@ -6,7 +6,7 @@ use Rattle.uv_lines.specs.Framed as framed
 use Rattle.uv_lines.specs.Framed.{Framed, LeavesPart}
 use Rattle.uv_lines.specs.Run as run
 use Rattle.uv_lines.proofs.FramedLemmas.{LeavesPart-map, Wrote-map}
-use Rattle.uv_lint.specs.Findings.{file_setting}
+use Rattle.uv_lint.specs.LineViolations.{file_setting}
 use Rattle.uv_lint.specs.Reporting.{Says}
 use Rattle.uv_lint.specs.Run.{FailsReads, IsReportWithin, Leaves, Reports, writes_failed}
 use Rattle.uv_lint.proofs.RunLemmas.{answers_err, answers_ok, failed, is_report, left}

@@ -6,10 +6,10 @@ use Rattle.std.specs.Str.{chars}
 use Rattle.std.proofs.lemmas.List.{length-take-le}
 use Rattle.uv_model.specs.declared.rule.Rule.{Rule}
 use Rattle.uv_model.specs.declared.rule.Refusal.{Refusal}
-use Rattle.uv_model.specs.Complaints.Refusal.{IsLeast, StandsWithin}
-use Rattle.uv_model.specs.Complaints.UnitComplaint.{UnitComplaint, unit_rule}
+use Rattle.uv_model.specs.Violations.Refusal.{IsLeast, StandsWithin}
+use Rattle.uv_model.specs.Violations.UnitViolation.{UnitViolation, unit_rule}
 use Rattle.uv_model.specs.Units.{IsUnits}
-use Rattle.uv_model.proofs.Complaints.ComplaintLemmas.{least_unit_fault_within}
+use Rattle.uv_model.proofs.Violations.ViolationLemmas.{least_unit_fault_within}
 use Rattle.uv_text.specs.Class.{HoldsUrlBytes}
 use Rattle.uv_text.specs.Splits.{IsUnitSplit, class_has, unit_length}
 use Rattle.uv_text.specs.declared.units.UnitClass.TheVariants.{Url}
@@ -19,7 +19,7 @@ use Rattle.uv_text.proofs.faults.first_fault.Goals as goal
 
 -- what the function ensures of its answer
 record Answers (bytes : List ℕ) (answer : Option Refusal) : Type 0 where
-  least : IsLeast (UnitComplaint (chars bytes)) answer
+  least : IsLeast (UnitViolation (chars bytes)) answer
   within : StandsWithin (chars bytes) answer
   none : IsNone answer ↔ IsUnits (chars bytes)
 
@@ -31,7 +31,7 @@ answers held bytes answer holds is =
     let text = chars bytes in
     let n = unit_length held text in
     let found = fault_behind held holds 0 text ∙ ap (λ p. fault_at p (drop n text)) (omega arith) in
-    let least = subst (λ a. IsLeast (UnitComplaint text) a) (found ∙ sym is) (least_fault text) in
+    let least = subst (λ a. IsLeast (UnitViolation text) a) (found ∙ sym is) (least_fault text) in
     record {
       least = least;
       within = least_unit_fault_within text answer least;
@@ -39,20 +39,20 @@ answers held bytes answer holds is =
     }
 
 -- a code point behind the units
-fault_found : (held : ℕ → Bool) (bytes front rest : List ℕ) (c : ℕ) (more : List ℕ) (place : ℕ) (rule : Rule)
-    → HoldsUrlBytes held → IsUnitSplit held (chars bytes) (chars front) (chars rest) → chars rest ≡ c ∷ more
-    → place ≡ length (chars front) → rule ≡ unit_rule c → Answers bytes (Some (record { place = place; rule = rule }))
-fault_found held bytes front rest c more place rule holds cut first counted named =
+fault_found : (held : ℕ → Bool) (bytes prefix rest : List ℕ) (c : ℕ) (more : List ℕ) (place : ℕ) (rule : Rule)
+    → HoldsUrlBytes held → IsUnitSplit held (chars bytes) (chars prefix) (chars rest) → chars rest ≡ c ∷ more
+    → place ≡ length (chars prefix) → rule ≡ unit_rule c → Answers bytes (Some (record { place = place; rule = rule }))
+fault_found held bytes prefix rest c more place rule holds cut first counted named =
     let text = chars bytes in
     let n = unit_length held text in
-    let here : place ≡ n = counted ∙ ap length cut.is_front ∙ length-take-le n text (unit_length-le held text) in
+    let here : place ≡ n = counted ∙ ap length cut.is_prefix ∙ length-take-le n text (unit_length-le held text) in
     answers held bytes (Some (record { place = place; rule = rule })) holds
     (rw (here, named) (ap (fault_at n) (sym first ∙ cut.is_rest)))
 
 -- none behind them
-no_fault : (held : ℕ → Bool) (bytes front rest : List ℕ) → HoldsUrlBytes held
-    → IsUnitSplit held (chars bytes) (chars front) (chars rest) → chars rest ≡ [] → Answers bytes None
-no_fault held bytes front rest holds cut none =
+no_fault : (held : ℕ → Bool) (bytes prefix rest : List ℕ) → HoldsUrlBytes held
+    → IsUnitSplit held (chars bytes) (chars prefix) (chars rest) → chars rest ≡ [] → Answers bytes None
+no_fault held bytes prefix rest holds cut none =
     answers held bytes None holds (ap (fault_at (unit_length held (chars bytes))) (sym none ∙ cut.is_rest))
 
 pub returns-in-Some-clause-least : goal.returns-in-Some-clause-least

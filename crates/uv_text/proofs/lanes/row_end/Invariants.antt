@@ -9,7 +9,7 @@ invariant-loop-ahead l = record {
   in_bounds : l.end ≤ length l.bytes;
   passed : l.place + prefix_len (is_in_rows l.rows) (drop l.place l.bytes)
       ≡ l.end + prefix_len (is_in_rows l.rows) (drop l.end l.bytes);
-  front : l.ahead ≡ prefix_len (is_in_rows l.rows) (take 32 (drop l.end l.bytes));
+  prefix : l.ahead ≡ prefix_len (is_in_rows l.rows) (take 32 (drop l.end l.bytes));
 }
 
 abbrev pub decreases-loop-ahead : goal.decreases-loop-ahead

@@ -11,6 +11,6 @@ returns c =
     let bytes = c.args.bytes.now in
     let here = is_in_rows c.args.rows.now in
     c.lane_bits.ensures
-    ∙ ap (λ (front : List ℕ). mask_l (map here (front ++ drop (length bytes) (replicate 32 128))))
+    ∙ ap (λ (prefix : List ℕ). mask_l (map here (prefix ++ drop (length bytes) (replicate 32 128))))
     c.copy_from_slice.ensures.after
     ∙ mask-filled here 128 32 (length bytes) bytes (no_row c.args.rows.now)

@@ -1,4 +1,4 @@
--- Marks and a run more, and in the end the whole front.
+-- Marks and a run more, and in the end the whole prefix.
 use Rattle.std.proofs.Common.{ℕ, List, rules, subst}
 use Rattle.std.specs.Str.{chars, IsUtf8}
 use Rattle.uv_text.specs.Splits.{PassesUnits, class_has}

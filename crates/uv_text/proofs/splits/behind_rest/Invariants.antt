@@ -1,4 +1,4 @@
--- What is left stands behind a part of the front, and begins with no code point of the class.
+-- What is left stands behind a part of the prefix, and begins with no code point of the class.
 use Rattle.std.proofs.Common.{◌≡◌, false, length}
 use Rattle.std.specs.Str.{chars}
 use Rattle.uv_text.specs.Splits.{PassesUnits, class_has, starts_in}

@@ -1,4 +1,4 @@
--- A run of bytes of the class is a part of the front, and ends on a border of code points.
+-- A run of bytes of the class is a part of the prefix, and ends on a border of code points.
 use Rattle.std.proofs.lemmas.Str.{IsCharBoundary-from_drop}
 use Rattle.uv_text.specs.Splits.{class_has}
 use Rattle.uv_text.proofs.SplitsLemmas.{class_ascii, run_passes}

@@ -2,7 +2,7 @@
 use Rattle.std.proofs.Common.{ℕ, List, ap, ◌∙◌, length, take, ◌-◌}
 use Rattle.std.specs.Str.{chars}
 use Rattle.uv_text.specs.Splits.{class_has, unit_length}
-use Rattle.uv_text.proofs.SplitsLemmas.{front_slice, split_bytes}
+use Rattle.uv_text.proofs.SplitsLemmas.{prefix_slice, split_bytes}
 use Rattle.uv_text.proofs.splits.split_tail.Goals as goal
 
 pub overflow_sub-whole : goal.overflow_sub-whole
@@ -24,9 +24,9 @@ returns c =
     split_bytes whole c.as_str.result.now (unit_length (class_has c.args.class) (chars whole)) c.as_str-whole.utf8
     c.as_str.utf8 (rw (c.as_str.ensures, c.as_str-whole.ensures) c.behind_units-rest.ensures) in
     record {
-      is_front =
-          ap chars (c.range.ensures.value ∙ front_slice whole (length whole - length c.as_str.result.now))
-          ∙ split.front
+      is_prefix =
+          ap chars (c.range.ensures.value ∙ prefix_slice whole (length whole - length c.as_str.result.now))
+          ∙ split.prefix
           ∙ ap (λ (s : List ℕ). take (unit_length (class_has c.args.class) (chars s)) (chars s)) c.as_str-whole.ensures;
       is_rest = c.behind_units-rest.ensures;
     }

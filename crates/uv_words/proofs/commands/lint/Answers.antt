@@ -12,5 +12,6 @@ returns c =
     (c.and_arg-command-2.ensures _ _
     (c.and_arg-command.ensures _ _ c.bare-command.ensures c.base.ensures.rule c.base.ensures.local) c.all.ensures.rule
     c.all.ensures.local) c.profile.ensures.rule c.profile.ensures.local) c.wide.ensures.rule c.wide.ensures.local)
-    c.format.ensures.rule c.format.ensures.local) c.located.ensures.rule c.located.ensures.local) c.quiet.ensures.rule c.quiet.ensures.local) c.files.ensures.rule
+    c.format.ensures.rule c.format.ensures.local)
+    c.located.ensures.rule c.located.ensures.local) c.quiet.ensures.rule c.quiet.ensures.local) c.files.ensures.rule
     c.files.ensures.local

@@ -1,5 +1,5 @@
--- The job that the words ask for, and why there is none: the kind that `clap`'s definition gives for the words, or want
--- of memory.
+-- The job that the arguments ask for, and why there is none: the kind that `clap`'s definition gives for the arguments,
+-- or want of memory.
 use Rattle.std.proofs.Common.{ap, refl, ◌≡◌, ◌∙◌, true, map, List, inl, inr}
 use Rattle.std.proofs.Common.{subst, sym}
 use Rattle.clap.specs.Words.{Text, HasKind, IsAmong, fault_of, is_simple, is_simple_and_free, kind_of, subcommand_of}

@@ -11,7 +11,8 @@ returns-in-Err-clause-fault g c = λ start written read rest h.
     let q = c.keep.new.self in
     let same = c.keep.ensures.rest in
     room-left g.R.Reporter.reports g.R.Reporter.lines p.limits.line_bytes start written read
-    (c.args.front.now ++ line_feed ∷ rest) p.reporter q.reporter p.begun.items p.text.items q.text.items h same.0 same.2
+    (c.args.prefix.now ++ line_feed ∷ rest) p.reporter q.reporter p.begun.items p.text.items q.text.items
+    h same.0 same.2
 
 pub returns-in-Ok-clause-stands : goal.returns-in-Ok-clause-stands
 returns-in-Ok-clause-stands g c = λ start written read h.
@@ -22,7 +23,7 @@ returns-in-Ok-clause-stands g c = λ start written read h.
     let adds : Adds g.R.Reporter.reports g.R.Reporter.lines p.reporter p.text.items
     (short_line p.limits.line_bytes (ended true k.begun.items)) q.reporter q.text.items =
     rw (← same.0, ← same.1, ← same.2) c.in-Ok.ensures.added in
-    Stands-kept g.R.Reporter.reports g.R.Reporter.lines p.limits.line_bytes start written read c.args.front.now
+    Stands-kept g.R.Reporter.reports g.R.Reporter.lines p.limits.line_bytes start written read c.args.prefix.now
     p.reporter q.reporter p.begun.items k.begun.items q.begun.items p.text.items q.text.items c.requires.line h
     c.in_default.ensures.kept adds c.in-Ok.ensures.begun
 
@@ -33,5 +34,5 @@ returns-in-Err-report_begun-clause-fault g c = λ start written read rest h.
     let same = c.keep.ensures.rest in
     let none = c.in-Err-report_begun.ensures.none in
     room-left g.R.Reporter.reports g.R.Reporter.lines p.limits.line_bytes start written read
-    (c.args.front.now ++ line_feed ∷ rest) p.reporter q.reporter p.begun.items p.text.items q.text.items h
+    (c.args.prefix.now ++ line_feed ∷ rest) p.reporter q.reporter p.begun.items p.text.items q.text.items h
     (none.0 ∙ same.0) (none.1 ∙ same.2)

@@ -28,11 +28,11 @@ returns-in-Err-clause-fault g c = λ start old read at.
       | Err e ↦ λ ends fault. fault start at.waits.written read at.waits.stands
     ]
     c.take_end-ended.ensures.ends c.take_end-ended.ensures.fault in
-    let front = c.in-Err.ensures.front in
+    let prefix = c.in-Err.ensures.prefix in
     let r = c.write_out.new.self in (
       write-left reports p.limits start old (g.W.Sink.contents c.args.writer.now)
-          (g.W.Sink.contents c.write_out.new.writer) at.waits.written read q.text.items q.reporter r.reporter front.0
-          at.waits.wrote waits c.in-Err.ensures.rest.0 front.1,
+          (g.W.Sink.contents c.write_out.new.writer) at.waits.written read q.text.items q.reporter r.reporter prefix.0
+          at.waits.wrote waits c.in-Err.ensures.rest.0 prefix.1,
       c.in-Err.ensures.failed,
     )
 

@@ -18,7 +18,8 @@ returns-then-not-may_write-clause-fault g c = λ start old read at.
     let now = g.W.Sink.contents c.take_piece-taken.new.writer in
     let none : may_write c.take_piece-taken.result ≡ false =
     sym c.may_write.ensures ∙ c.if-not-may_write.true in
-    let taken : Taken reports lines p.limits start c.take_piece-taken.result old all q.reporter q.begun.items q.text.items
+    let taken : Taken reports lines p.limits start c.take_piece-taken.result old all q.reporter q.begun.items
+    q.text.items
     now =
     elim c.take_piece-taken.result as (λ r.
     OnOk r ((start : g.row.R.Denot) (old : Option (List ℕ)) (read : List ℕ)
@@ -50,7 +51,8 @@ returns-in-Err-clause-fault g c = λ start old read at.
     let now = g.W.Sink.contents c.take_piece-taken.new.writer in
     let may : may_write c.take_piece-taken.result ≡ true =
     sym c.may_write.ensures ∙ c.if-not-may_write.false in
-    let taken : Taken reports lines p.limits start c.take_piece-taken.result old all q.reporter q.begun.items q.text.items
+    let taken : Taken reports lines p.limits start c.take_piece-taken.result old all q.reporter q.begun.items
+    q.text.items
     now =
     elim c.take_piece-taken.result as (λ r.
     OnOk r ((start : g.row.R.Denot) (old : Option (List ℕ)) (read : List ℕ)
@@ -67,9 +69,9 @@ returns-in-Err-clause-fault g c = λ start old read at.
     ] c.take_piece-taken.ensures.waits c.take_piece-taken.ensures.fault in
     let waits = taken_waits reports lines p.limits start c.take_piece-taken.result old all q.reporter q.begun.items
     q.text.items now may taken in
-    let front = c.in-Err.ensures.front in (
+    let prefix = c.in-Err.ensures.prefix in (
       write-left reports p.limits start old now (g.W.Sink.contents c.write_out.new.writer) waits.0 all q.text.items
-          q.reporter r.reporter front.0 waits.1 waits.2 c.in-Err.ensures.rest.0 front.1,
+          q.reporter r.reporter prefix.0 waits.1 waits.2 c.in-Err.ensures.rest.0 prefix.1,
       c.in-Err.ensures.failed ∙ ap (λ n. n + 1) (c.take_piece-taken.ensures.quiet may),
     )
 
@@ -83,7 +85,8 @@ returns-in-Ok-clause-at g c = λ start old read at.
       waits = Waits-written g.R.Reporter.reports g.R.Reporter.lines p.limits.line_bytes start old
           (g.W.Sink.contents c.take_piece-taken.new.writer) (g.W.Sink.contents c.write_out.new.writer)
           (read ++ c.args.piece.now) q.reporter r.reporter q.begun.items q.text.items r.begun.items r.text.items
-          ((rw c.in-Ok.is at c.take_piece-taken.ensures.waits) start old read at.waits) c.in_default.ensures.whole same.0 same.2
+          ((rw c.in-Ok.is at c.take_piece-taken.ensures.waits) start old read at.waits)
+          c.in_default.ensures.whole same.0 same.2
           c.in_default.ensures.none;
       none = c.in_default.ensures.none;
     }

@@ -5,8 +5,8 @@ use Rattle.std.proofs.lemmas.List.{take-append-drop}
 use Rattle.uv_lines.specs.Lines.{line_feed}
 use Rattle.uv_lines.specs.Progress.{Stands, TakeFault}
 use Rattle.uv_lines.specs.Reported.{Reported}
-use Rattle.uv_lines.specs.Run.{Waits, WroteFront}
-use Rattle.uv_lines.proofs.LineLemmas.{front_is, piece_joined, piece_taken, rest_is}
+use Rattle.uv_lines.specs.Run.{Waits, WrotePrefix}
+use Rattle.uv_lines.proofs.LineLemmas.{prefix_is, piece_joined, piece_taken, rest_is}
 use Rattle.uv_lines.proofs.PassLemmas.{waits-left, write-cut}
 use Rattle.uv_lines.proofs.progress.Progress.take_piece.Goals as goal
 
@@ -23,7 +23,7 @@ returns-in-Err-clause-fault g c = λ first old read h.
     (subst (λ all. TakeFault g.R.Reporter.reports c.args.self.now.limits first c.in-Err.fault all q.reporter
     (waits.written ++ q.text.items))
     (ap (λ l. (read ++ take start piece) ++ (l ++ line_feed ∷ drop (size + 1) (drop start piece)))
-    (front_is piece start size) ∙ piece_joined read piece start size
+    (prefix_is piece start size) ∙ piece_joined read piece start size
     (subst (λ l. drop size l ≡ line_feed ∷ drop (size + 1) l) (rest_is piece start) c.in-Some.ensures.some.2))
     (rw (← i.limits) (c.in-Err.ensures.fault first waits.written (read ++ take start piece)
     (drop (size + 1) (drop start piece)) (rw i.limits waits.stands))))
@@ -44,21 +44,21 @@ returns-in-Err-write_much-clause-fault g c = λ first old read h.
       wrote = waits.wrote;
       stands = subst (λ all. Stands g.R.Reporter.reports g.R.Reporter.lines c.args.self.now.limits.line_bytes first
           waits.written all k.reporter k.begun.items k.text.items)
-          (ap (λ l. (read ++ take start piece) ++ (l ++ line_feed ∷ [])) (front_is piece start size)
+          (ap (λ l. (read ++ take start piece) ++ (l ++ line_feed ∷ [])) (prefix_is piece start size)
           ∙ piece_taken read piece start size
           (subst (λ l. drop size l ≡ line_feed ∷ drop (size + 1) l) (rest_is piece start) c.in-Some.ensures.some.2))
           (rw (← i.limits) (c.in_default-close_line.ensures.stands first waits.written (read ++ take start piece)
           (rw i.limits waits.stands)));
     } in
-    let front = c.in-Err-write_much.ensures.front in
-    subst (λ all. WroteFront (Reported g.R.Reporter.reports c.args.self.now.limits.line_bytes first) old all q.reporter
+    let prefix = c.in-Err-write_much.ensures.prefix in
+    subst (λ all. WrotePrefix (Reported g.R.Reporter.reports c.args.self.now.limits.line_bytes first) old all q.reporter
     (g.W.Sink.contents c.write_much.new.writer))
     (append_assoc read (take (start + (size + 1)) piece) (drop (start + (size + 1)) piece)
     ∙ ap (λ l. read ++ l) (take-append-drop (start + (size + 1)) piece))
     (write-cut g.R.Reporter.reports g.R.Reporter.lines c.args.self.now.limits.line_bytes first old
     (g.W.Sink.contents c.loop-length.writer) (g.W.Sink.contents c.write_much.new.writer)
     (read ++ take (start + (size + 1)) piece) (drop (start + (size + 1)) piece) k.reporter q.reporter k.begun.items
-    k.text.items front.0 closed c.in-Err-write_much.ensures.rest.0 front.1)
+    k.text.items prefix.0 closed c.in-Err-write_much.ensures.rest.0 prefix.1)
 
 pub loop-length-preserved : goal.loop-length-preserved
 loop-length-preserved g c =
@@ -84,7 +84,7 @@ loop-length-preserved g c =
             wrote = waits.wrote;
             stands = subst (λ all. Stands g.R.Reporter.reports g.R.Reporter.lines c.args.self.now.limits.line_bytes
                 first waits.written all k.reporter k.begun.items k.text.items)
-                (ap (λ l. (read ++ take start piece) ++ (l ++ line_feed ∷ [])) (front_is piece start size)
+                (ap (λ l. (read ++ take start piece) ++ (l ++ line_feed ∷ [])) (prefix_is piece start size)
                 ∙ piece_taken read piece start size
                 (subst (λ l. drop size l ≡ line_feed ∷ drop (size + 1) l) (rest_is piece start)
                 c.in-Some.ensures.some.2))
@@ -104,7 +104,8 @@ returns-in-Err-begin_line-clause-fault g c = λ first old read h.
     let q = c.begin_line.new.self in
     let i = c.loop-length.invariant in
     let waits = i.waits first old read h in
-    waits-left g.R.Reporter.reports c.args.self.now.limits first c.in-Err-begin_line.fault old (read ++ piece) q.reporter
+    waits-left g.R.Reporter.reports c.args.self.now.limits first c.in-Err-begin_line.fault old (read ++ piece)
+    q.reporter
     q.text.items (g.W.Sink.contents c.loop-length.writer) waits.written c.in-Err-begin_line.ensures.kind waits.wrote
     (subst (λ all. TakeFault g.R.Reporter.reports c.args.self.now.limits first c.in-Err-begin_line.fault all q.reporter
     (waits.written ++ q.text.items))

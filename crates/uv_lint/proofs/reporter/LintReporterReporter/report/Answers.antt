@@ -13,13 +13,13 @@ returns-clause-added c =
     elim c.if-not-is_empty.branch [
       | then-not-is_empty+in_ok-tell w ↦
           adds_line before c.if-not-is_empty.self c.count.new.self _ _ judged _ _ _ _ _ lines c.judged_line-line.ensures
-          c.in_ok-findings.ensures w.as_slice.ensures.value
+          c.in_ok-violations.ensures w.as_slice.ensures.value
           (ap (λ t. t.items) w.text-is ∙ w.in_ok-tell.ensures.text) (w.self-is ∙ w.in_ok-tell.ensures.same)
           c.as_slice-2.ensures.value c.count.ensures
       | else-not-is_empty w ↦
           adds_line before c.if-not-is_empty.self c.count.new.self _ _ judged _ _ _ _ _ lines c.judged_line-line.ensures
-          c.in_ok-findings.ensures
-          (none_found c.in_ok-findings.findings.items (ap (λ n. n == 0) (sym c.in_ok-findings.findings.ok.0)
+          c.in_ok-violations.ensures
+          (none_found c.in_ok-violations.violations.items (ap (λ n. n == 0) (sym c.in_ok-violations.violations.ok.0)
           ∙ sym c.is_empty.ensures ∙ w.if-not-is_empty.false))
           (ap (λ t. t.items) w.text-is ∙ sym (append-nil c.args.text.now.items)) w.self-is
           c.as_slice-2.ensures.value c.count.ensures

@@ -1,0 +1,183 @@
+#!/usr/bin/env python3
+"""Has each allocation of each call refused in turn, and compares what it finds with docs/ALLOCATIONS.md.
+
+    bench/failed_allocations.py            compares the record, and fails where it differs
+    bench/failed_allocations.py --write    writes it
+
+It runs the crate `failed_allocations` by `rt try --fail-alloc 200 --cases`, once for each call, each profile, each text and each n
+from 1: the 200th allocation of the process fails, and the driver makes 200 - n allocations before the call, so it is the call's
+nth. A run without memory ends with the status 3 and has written whole lines of the answer or nothing; from the first n
+on at which no allocation is refused, each run gives the answer that is written here.
+"""
+import pathlib
+import re
+import subprocess
+import sys
+import tempfile
+
+FAILS = 200
+# A call makes at most so many allocations; one that stands in the record is tried with so many more than are written there.
+MOST = {"domain": 10, "check": 12, "faults": 14, "resolve": 16, "run_check": 20, "run_faults": 20, "run_links": 60,
+        "run_vectors": 50}
+MORE = 2
+ROOT = pathlib.Path(__file__).resolve().parent.parent
+RECORD = ROOT / "docs" / "ALLOCATIONS.md"
+
+PROFILES = "standard", "wide"
+BOTH = PROFILES
+STANDARD, WIDE = PROFILES[:1], PROFILES[1:]
+
+# Texts with a base and the profiles, what a check prints of their record, or of their faults, and their path text.
+LONG = "https://EXAMPLE.com:443/a/../b?x='y'#\u00e9"
+FILE = "file:///C:/d/f"
+TEXTS = [
+    (BOTH, LONG, "", "scheme https\nhost domain example.com\nsegment b\nquery x=%27y%27\nfragment %C3%A9\n", "/a/../b"),
+    (BOTH, "/x", FILE, "scheme file\nhost empty\nsegment C:\nsegment x\n", "/x"),
+    (BOTH, "/D:?q", FILE, "scheme file\nhost empty\nsegment D:\nquery q\n", "/D:"),
+    (BOTH, "/..", FILE, "scheme file\nhost empty\nsegment C:\nsegment \n", "/.."),
+    (BOTH, "C:/x", FILE, "scheme c\nsegment x\n", "/x"),
+    (BOTH, "https://b\u00fccher.example/", "",
+     "scheme https\nhost domain xn--bcher-kva.example\nsegment \n", "/"),
+    (BOTH, "http://example.com./", "", "scheme http\nhost domain example.com.\nsegment \n", "/"),
+    (BOTH, "http://\u00ad/", "", "refused 7 host-domain\n", None),
+    (BOTH, "a", "http://h/", "scheme http\nhost domain h\nsegment a\n", "a"),
+    (STANDARD, "http://x_y/", "http://h/", "refused 7 host-domain\n", None),
+    (WIDE, "http://x_y/", "http://h/", "scheme http\nhost domain x_y\nsegment \n", "/"),
+    (WIDE, "a", "http://a_b/", "scheme http\nhost domain a_b\nsegment a\n", "a"),
+    (STANDARD, "http://h//a", "", "refused 9 first-segment-empty\n", None),
+    (WIDE, "http://h//a", "", "scheme http\nhost domain h\nsegment \nsegment a\n", "//a"),
+    (WIDE, "b", "http://h//a", "scheme http\nhost domain h\nsegment \nsegment b\n", "b"),
+    (WIDE, "..", "http://h//a", "scheme http\nhost domain h\nsegment \n", ".."),
+    (STANDARD, "http://a_b//c d", "",
+     "refused 7 host-domain\nrefused 11 first-segment-empty\nrefused 13 code-point\n", None),
+    (WIDE, "http://a_b//c d", "", "refused 13 code-point\n", None),
+    (BOTH, "urn:a", "", "scheme urn\nopaque a\n", "a"),
+    (BOTH, "x", "", "refused 0 no-scheme\n", None),
+    (BOTH, "http://h:65536/", "", "refused 9 port-range\n", None),
+    (BOTH, "http://h/a b", "", "refused 10 code-point\n", None),
+]
+DOMAINS = [
+    (BOTH, "EXAMPLE.com", "example.com\n"),
+    (BOTH, "b\u00fccher.example", "xn--bcher-kva.example\n"),
+    (BOTH, "example.com.", "example.com.\n"),
+    (BOTH, "\u00ad", "no domain\n"),
+    (STANDARD, "A_b", "no domain\n"),
+    (WIDE, "A_b", "a_b\n"),
+]
+LISTS = [
+    (STANDARD, "a\n\nhttp://x_y/\n", "http://h/",
+     "1 ok http://h/a\n2 ok http://h/\n3 bad 7 host-domain\nlinks 3 ok 2 bad 1 differs 0\n"),
+    (WIDE, "a\n\nhttp://x_y/\n", "http://h/",
+     "1 ok http://h/a\n2 ok http://h/\n3 ok http://x_y/\nlinks 3 ok 3 bad 0 differs 0\n"),
+    (WIDE, "a\nhttp://h//a\nx y\n", "http://a_b/",
+     "1 ok http://a_b/a\n2 ok http://h//a\n3 bad 1 code-point\nlinks 3 ok 2 bad 1 differs 0\n"),
+    (WIDE, "b\n..\n", "http://h//a", "1 ok http://h//b\n2 ok http://h/\nlinks 2 ok 2 bad 0 differs 0\n"),
+    (BOTH, LONG + "\nhttps://b\u00fccher.example/\n", "",
+     "1 ok https://example.com/b?x=%27y%27#%C3%A9\n2 ok https://xn--bcher-kva.example/\n"
+     "links 2 ok 2 bad 0 differs 0\n"),
+    (BOTH, "/x\n/D:?q\n/..\nC:/x\n", FILE,
+     "1 ok file:///C:/x\n2 ok file:///D:?q\n3 ok file:///C:/\n4 ok c:/x\nlinks 4 ok 4 bad 0 differs 0\n"),
+]
+VECTORS = [
+    ('[{"input":"urn:a","text":"urn:a"},{"input":"x","place":0,"rule":"no-scheme"},'
+     '{"input":"http://h:65536/","text":"http://h/"}]', "fail 3\nvectors 3 pass 2 fail 1\n"),
+]
+
+
+def calls():
+    """Each call with its profile, its base, its text and its answer."""
+    for profiles, text, want in DOMAINS:
+        for profile in profiles:
+            yield "domain", profile, "", text, want
+    for profiles, text, base, lines, path in TEXTS:
+        for profile in profiles:
+            for call, want in answers(lines, path):
+                yield call, profile, base, text, want
+    for profiles, text, base, want in LISTS:
+        for profile in profiles:
+            yield "run_links", profile, base, text, want
+    for text, want in VECTORS:
+        yield "run_vectors", "standard", "", text, want
+
+
+def answers(lines, path):
+    """What each call prints of a text, by what a check prints, and by the path's text where the text is valid."""
+    if path is None:
+        least = lines[:lines.index("\n") + 1]
+        return [("check", least), ("faults", lines), ("resolve", least), ("run_check", least), ("run_faults", lines)]
+    whole = "valid\n" + lines
+    return [("check", f"valid, with the path {path}\n"), ("faults", "no fault\n"), ("resolve", lines),
+            ("run_check", whole), ("run_faults", whole)]
+
+
+def tried(cases):
+    """The status and the output of the run of each case, by its name."""
+    with tempfile.TemporaryDirectory() as room:
+        for name, text in cases.items():
+            (pathlib.Path(room) / name).write_text(text)
+        ran = subprocess.run(
+            ["rt", "try", "--fail-alloc", str(FAILS), "--cases", room],
+            cwd=ROOT / "crates" / "failed_allocations", capture_output=True, text=True)
+    outputs = dict(re.findall(r"^== (\S+)\n(.*?)(?=^== |\Z)", ran.stdout, re.M | re.S))
+    statuses = re.findall(r"^case=(\S+) run=ended status=(\d+) ", ran.stderr, re.M)
+    found = {name: (int(status), outputs.get(name, "")) for name, status in statuses}
+    if len(found) != len(cases):
+        sys.exit(f"failed_allocations: {len(found)} of {len(cases)} runs ended\n{ran.stdout[-2000:]}{ran.stderr[-2000:]}")
+    return found
+
+
+def allocations_of(runs, want, what):
+    """How many allocations a call makes: the runs up to there want memory, and the others give its answer."""
+    count = next((n for n, (status, _) in enumerate(runs) if status != 3), None)
+    if count is None:
+        sys.exit(f"failed_allocations: {what} makes more than {len(runs)} allocations")
+    for n, (status, output) in enumerate(runs, 1):
+        whole = want.startswith(output) and output == output[:output.rfind("\n") + 1]
+        if (status, output) != (0, want) if n > count else status != 3 or not whole:
+            sys.exit(f"failed_allocations: {what}, allocation {n} refused: status {status}, {output!r}, and not {want!r}")
+    return count
+
+
+def main():
+    asked = list(calls())
+    written = recorded()
+    tries = [range(1, written.get(cells(*it[:4]), MOST[it[0]]) + MORE + 1) for it in asked]
+    cases = {f"{k:03}.{n:03}": f"{FAILS - n}\n{call}\n{profile}\n{base}\n{text}"
+             for k, (call, profile, base, text, _) in enumerate(asked) for n in tries[k]}
+    found = tried(cases)
+    counts = {}
+    lines = [RECORD.read_text().split("\n| Call |")[0].rstrip("\n"), "",
+             "| Call | Profile | Base | Text | Allocations | Answer |", "|---|---|---|---|---|---|"]
+    for k, (call, profile, base, text, want) in enumerate(asked):
+        runs = [found[f"{k:03}.{n:03}"] for n in tries[k]]
+        count = counts[call, profile, text] = allocations_of(runs, want, f"{call} of {text!r}, {profile}")
+        lines.append(f"| {cells(call, profile, base, text)} | {count} | {json_like(want)} |")
+    for profile in PROFILES:
+        if counts["resolve", profile, "http://h/a b"] != counts["check", profile, "http://h/a b"]:
+            sys.exit("failed_allocations: resolve makes allocations of its own for a refused text")
+    record = "\n".join(lines) + "\n"
+    if "--write" in sys.argv[1:]:
+        RECORD.write_text(record)
+    elif record != RECORD.read_text():
+        sys.exit("failed_allocations: docs/ALLOCATIONS.md differs: bench/failed_allocations.py --write writes it anew")
+    print(f"failed_allocations: {len(asked)} calls, {len(cases)} runs")
+
+
+def recorded():
+    """The number of allocations of each call in the record, by the call's cells."""
+    rows = re.findall(r"^\| (`\w+` \| .*) \| (\d+) \| .* \|$", RECORD.read_text(), re.M)
+    return {row: int(count) for row, count in rows}
+
+
+def cells(call, profile, base, text):
+    """The cells of the table that name a call."""
+    return f"`{call}` | {profile} | {json_like(base)} | {json_like(text)}"
+
+
+def json_like(text):
+    """A text in one cell of a table."""
+    text = text.rstrip("\n").replace("\u00ad", "U+00AD").replace("|", "\\|")
+    return " / ".join(f"`{line}`" if line else "empty" for line in text.split("\n")) if text else ""
+
+
+main()

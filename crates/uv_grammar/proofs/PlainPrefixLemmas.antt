@@ -1,0 +1,198 @@
+-- The prefixes of a plain link: its scheme, its name, its port and what follows a mark.
+use Rattle.std.proofs.Common.{get_or, ◌≤◌, ◌≡◌, ℕ, ◌<◌, Bool, true, List, [], ◌∷◌, ◌++◌, length, take, drop, Option}
+use Rattle.std.proofs.Common.{Some, None, refl, sym, ap, ◌∙◌, inl, inr, arith, append_assoc, lt-ltb}
+use Rattle.std.specs.Prelude.{◌+◌, suc, codes}
+use Rattle.std.specs.Char.{is_ascii, is_ascii_digit}
+use Rattle.std.specs.List.{prefix_len}
+use Rattle.std.specs.Str.{chars, IsUtf8, IsCharBoundary}
+use Rattle.std.proofs.lemmas.Bool.{and_from, cases_Bool}
+use Rattle.std.proofs.lemmas.Bool.Decides.{nat_tests}
+use Rattle.std.proofs.lemmas.List.{length-append, take-append-drop}
+use Rattle.std.proofs.lemmas.Str.{chars-append, chars-IsAscii, IsUtf8-from_ascii, IsCharBoundary-from_take}
+use Rattle.std.proofs.Math.Seq.{take-append_seam, drop-append_seam}
+use Rattle.uv_model.specs.declared.profile.Profile.TheVariants.{Standard}
+use Rattle.uv_model.specs.declared.scheme.Class.TheVariants.{Special}
+use Rattle.uv_model.specs.Ascii.{slash, colon}
+use Rattle.uv_model.specs.Hosts.Domain.{is_form_code_point}
+use Rattle.uv_model.specs.Scheme.{default_port, is_scheme, scheme_class}
+use Rattle.uv_model.proofs.Texts.AsciiLemmas.{IsAscii-from_test}
+use Rattle.uv_model.proofs.SchemeLemmas.{is_ascii-scheme}
+use Rattle.uv_text.specs.Class.{HoldsUrlBytes, HasHexDigits}
+use Rattle.uv_text.specs.Splits.{IsUnitSplit}
+use Rattle.uv_grammar.specs.PartValues.{FitsPort, without_default}
+use Rattle.uv_grammar.specs.PlainLinks.{HasAsciiPrefix, IsPrefixCut, IsPartCut, IsPortCut, IsSpecialCut}
+use Rattle.uv_grammar.specs.PlainLinks.{IsSpecialPrefix}
+use Rattle.uv_grammar.specs.TextSplits.{SplitsScheme}
+use Rattle.uv_grammar.proofs.PlainUnitLemmas.{split_joined, url_units}
+use Rattle.uv_grammar.proofs.PartLemmas.{given_number}
+use Rattle.uv_host.specs.PlainNames.{IsChainPrefix}
+use Rattle.uv_host.proofs.ChainLemmas.{rooted_form}
+use Rattle.uv_model.proofs.Cuts.HostCutLemmas.{passes-weaker}
+
+-- the end of an ASCII prefix is a boundary
+pub prefix_boundary : (bytes : List ℕ) (end : ℕ) → IsUtf8 bytes → HasAsciiPrefix bytes end → IsCharBoundary bytes end
+prefix_boundary bytes end utf8 prefix =
+    IsCharBoundary-from_take bytes end utf8 prefix.0
+    (IsUtf8-from_ascii (take end bytes) (IsAscii-from_test (take end bytes) prefix.1))
+
+-- the two sides of the cut behind an ASCII prefix
+pub prefix_cut : (bytes prefix rest : List ℕ) (end : ℕ) → HasAsciiPrefix bytes end → prefix ≡ take end bytes → rest
+    ≡ drop end bytes
+    → IsPrefixCut bytes end prefix rest
+prefix_cut bytes prefix rest end has is_prefix is_rest =
+    let ascii = IsAscii-from_test (take end bytes) has.1 in
+    let same = chars-IsAscii (take end bytes) ascii in
+    record {
+      is_prefix = is_prefix;
+      is_rest = is_rest;
+      code_points = ap chars is_prefix ∙ same;
+      joined =
+          ap chars (sym (take-append-drop end bytes))
+          ∙ chars-append (take end bytes) (drop end bytes) (IsUtf8-from_ascii (take end bytes) ascii)
+          ∙ (ap (λ s. s ++ chars (drop end bytes)) same ∙ ap (λ s. take end bytes ++ chars s) (sym is_rest));
+    }
+
+-- the special schemes but `file`, each by its name
+pub https_special : scheme_class (codes "https") ≡ Special
+unfolding scheme_class default_port
+https_special = refl
+
+pub http_special : scheme_class (codes "http") ≡ Special
+unfolding scheme_class default_port
+http_special = refl
+
+pub ftp_special : scheme_class (codes "ftp") ≡ Special
+unfolding scheme_class default_port
+ftp_special = refl
+
+pub wss_special : scheme_class (codes "wss") ≡ Special
+unfolding scheme_class default_port
+wss_special = refl
+
+pub ws_special : scheme_class (codes "ws") ≡ Special
+unfolding scheme_class default_port
+ws_special = refl
+
+-- a special scheme in the bytes
+pub special_prefix : (bytes name behind : List ℕ) → bytes ≡ name ++ colon ∷ slash ∷ slash ∷ behind → is_scheme name
+    ≡ true
+    → scheme_class name ≡ Special → IsSpecialPrefix bytes (length name)
+special_prefix bytes name behind same is special =
+    let prefix : take (length name) bytes ≡ name = ap (take (length name)) same ∙ take-append_seam name
+    (colon ∷ slash ∷ slash ∷ behind) in
+    record {
+      inside = omega (arith, ap length same, length-append name (colon ∷ slash ∷ slash ∷ behind));
+      scheme = ap is_scheme prefix ∙ is;
+      special = ap scheme_class prefix ∙ special;
+      behind = behind;
+      mark = ap (drop (length name)) same ∙ drop-append_seam name (colon ∷ slash ∷ slash ∷ behind);
+    }
+
+-- behind it stands `://`
+pub mark_ascii : (bytes behind : List ℕ) (end : ℕ) → IsSpecialPrefix bytes end → behind ≡ drop end bytes
+    → HasAsciiPrefix behind 3
+mark_ascii bytes behind end is same = rw (same, is.mark) (omega arith, refl)
+
+-- the cut behind a special scheme
+pub special_cut : (bytes scheme behind none rest : List ℕ) (end : ℕ) → IsSpecialPrefix bytes end
+    → IsPrefixCut bytes end scheme behind
+    → IsPrefixCut behind 3 none rest → IsSpecialCut (chars bytes) (chars scheme) (chars rest)
+special_cut bytes scheme behind none rest end is a b =
+    let three : take 3 behind ≡ colon ∷ slash ∷ slash ∷ [] = ap (take 3) (a.is_rest ∙ is.mark) in
+    record {
+      joined =
+          a.joined
+          ∙ ap (λ s. take end bytes ++ s) (b.joined ∙ ap (λ s. s ++ chars rest) three)
+          ∙ ap (λ s. s ++ colon ∷ slash ∷ slash ∷ chars rest) (sym a.code_points);
+      named = ap is_scheme a.code_points ∙ is.scheme;
+      special = ap scheme_class a.code_points ∙ is.special;
+    }
+
+-- a special scheme in any case
+pub scheme_cut : (text scheme rest behind : List ℕ) → SplitsScheme text (Some scheme) rest → rest
+    ≡ slash ∷ slash ∷ behind
+    → scheme_class scheme ≡ Special → IsSpecialCut text scheme behind
+scheme_cut text scheme rest behind split slashes special = record {
+  joined =
+      split.joined ∙ append_assoc scheme (colon ∷ []) rest ∙ ap (λ (s : List ℕ). scheme ++ colon ∷ s) slashes;
+  named = split.scheme;
+  special = special;
+}
+
+-- the cut behind a prefix
+pub cut_joined : (bytes prefix rest : List ℕ) (end : ℕ) → IsPrefixCut bytes end prefix rest → chars bytes
+    ≡ chars prefix ++ chars rest
+cut_joined bytes prefix rest end cut = cut.joined ∙ ap (λ s. s ++ chars rest) (sym cut.code_points)
+
+-- a list that begins with a number is it and a rest
+pub first_byte : (mark : ℕ) (bytes : List ℕ) → 1 ≤ length bytes → get_or bytes 0 0 ≡ mark → bytes ≡ mark ∷ drop 1 bytes
+first_byte mark [] some first = absurd (omega arith)
+first_byte mark (b ∷ bytes) some first = ap (λ n. n ∷ bytes) first
+
+-- a text that doesn't begin with a mark, and one that does
+pub no_part : (mark : ℕ) (text : List ℕ) → IsPartCut mark text None text
+no_part mark text = record { joined = refl; units = tt }
+
+-- one ASCII byte is an ASCII prefix
+pub byte_ascii : (mark : ℕ) (bytes : List ℕ) → mark < 128 → bytes ≡ mark ∷ drop 1 bytes → HasAsciiPrefix bytes 1
+byte_ascii mark bytes small same = rw same (omega arith, rw (lt-ltb mark 128 small) refl)
+
+-- a text that begins with the mark has a part of units behind it
+pub some_part : (mark : ℕ) (bytes none behind prefix rest : List ℕ) (held : ℕ → Bool) → bytes ≡ mark ∷ drop 1 bytes
+    → IsPrefixCut bytes 1 none behind → HoldsUrlBytes held → HasHexDigits held
+    → IsUnitSplit held (chars behind) (chars prefix) (chars rest)
+    → IsPartCut mark (chars bytes) (Some (chars prefix)) (chars rest)
+some_part mark bytes none behind prefix rest held same a holds digits cut = record {
+  joined =
+      a.joined
+      ∙ ap (λ s. s ++ chars behind) (ap (take 1) same)
+      ∙ ap (λ s. mark ∷ s) (split_joined held (chars behind) (chars prefix) (chars rest) cut);
+  units = url_units held (chars behind) (chars prefix) (chars rest) holds digits cut;
+}
+
+-- the bytes of a scheme are ASCII
+pub scheme_ascii : (bytes : List ℕ) (end : ℕ) → IsSpecialPrefix bytes end → HasAsciiPrefix bytes end
+scheme_ascii bytes end is = (is.inside, is_ascii-scheme (take end bytes) is.scheme)
+
+-- the bytes of a plain name are ASCII
+pub name_ascii : (bytes : List ℕ) (end : ℕ) → IsChainPrefix bytes end → HasAsciiPrefix bytes end
+name_ascii bytes end is = (
+  is.0,
+  passes-weaker (is_form_code_point Standard) is_ascii small (take end bytes) (rooted_form
+      (take end bytes) is.1),
+)
+  where
+    small : (c : ℕ) → is_form_code_point Standard c ≡ true → is_ascii c ≡ true
+    small c h = grind (arith, nat_tests)
+
+-- ---- ports
+
+-- a text without a port
+pub no_port : (default : Option ℕ) (text : List ℕ) → IsPortCut default text None None text
+no_port default text = record { joined = refl; valid = tt; given = refl }
+
+-- and one with a port
+pub some_port : (default : Option ℕ) (bytes none behind port rest : List ℕ) (end : ℕ) (number value : Option ℕ)
+    → bytes ≡ colon ∷ drop 1 bytes → IsPrefixCut bytes 1 none behind → IsPrefixCut behind end port rest
+    → FitsPort (chars port) number → value ≡ without_default default number
+    → IsPortCut default (chars bytes) (Some (chars port)) value (chars rest)
+some_port default bytes none behind port rest end number value same a b fits given = record {
+  joined =
+      a.joined ∙ ap (λ s. s ++ chars behind) (ap (take 1) same)
+      ∙ ap (λ s. colon ∷ s) (cut_joined behind port rest end b);
+  valid = fits.0;
+  given = given ∙ (ap (without_default default) fits.1 ∙ given_number default (chars port));
+}
+
+-- the digits at the start are ASCII
+pub digits_ascii : (bytes : List ℕ) → HasAsciiPrefix bytes (prefix_len is_ascii_digit bytes)
+digits_ascii [] = (omega arith, refl)
+digits_ascii (b ∷ bytes) = elim (cases_Bool (is_ascii_digit b)) [
+  | inl digit ↦
+      let more = digits_ascii bytes in
+      let inside = more.0 in
+      let small : is_ascii b ≡ true = grind (arith, nat_tests) in
+      let next : 1 + prefix_len is_ascii_digit bytes ≡ suc (prefix_len is_ascii_digit bytes) = omega arith in
+      rw digit (rw next (omega arith, and_from _ _ small more.1))
+  | inr other ↦ rw other (omega arith, refl)
+]

@@ -1,0 +1,31 @@
+-- The violations of the parts of a cut text, after the order of URL Standard, section 4.3.
+use Rattle.std.specs.Prelude.{ℕ, ◌<◌, ◌^◌, ◌⊎◌, length}
+use Rattle.uv_model.specs.declared.rule.Rule.{Rule}
+use Rattle.uv_model.specs.Violations.Violation.{Behind, ContentViolation, MayBeUnitViolation, PathStartViolation}
+use Rattle.uv_model.specs.Cut.{Cut, fragment_place, path_place, query_place, written_cut}
+use Rattle.uv_model.specs.Violations.UnitViolation.{UnitViolation}
+use Rattle.uv_model.specs.Setting.{Setting}
+
+-- those of the path's start
+abbrev pub OfPathStart : Setting → Cut → ℕ → Rule → Type 0
+OfPathStart setting cut = Behind (path_place cut) (PathStartViolation setting cut)
+
+-- those of what the path holds
+abbrev pub OfPath : Cut → ℕ → Rule → Type 0
+OfPath cut = Behind (path_place cut) (UnitViolation cut.path_text)
+
+-- those of the query
+abbrev pub OfQuery : Cut → ℕ → Rule → Type 0
+OfQuery cut = MayBeUnitViolation (query_place cut) cut.query
+
+-- those of the fragment
+abbrev pub OfFragment : Cut → ℕ → Rule → Type 0
+OfFragment cut = MayBeUnitViolation (fragment_place cut) cut.fragment
+
+-- those of what stands behind the authority: the path's start, and what the path, the query and the fragment hold
+abbrev pub BehindAuthority : Setting → Cut → ℕ → Rule → Type 0
+BehindAuthority setting cut place rule = OfPathStart setting cut place rule ⊎ ContentViolation cut place rule
+
+-- the text of the cut has fewer code points than a place can count
+abbrev pub IsCountable : Cut → Type 0
+IsCountable cut = length (written_cut cut) < 2 ^ 64

@@ -1,0 +1,134 @@
+//! What is found with a line.
+ghost use Rattle.std.specs.Prelude.{◌≡◌, [], ◌∷◌, IfOk, None, map, option_copied};
+ghost use Rattle.std.specs.Str.{chars};
+ghost use Rattle.uv_grammar.specs.Verdict.{IsRefused};
+ghost use Rattle.uv_lint.specs.LineViolations.{AreBytesViolations, AreViolations, AreViolationsBy, AreStrayViolations};
+ghost use Rattle.uv_lint.specs.LineViolations.{AreTextViolations, AreWholeViolations};
+ghost use Rattle.uv_report.specs.declared.line_violation.LineViolation.TheVariants.{Refused};
+
+use crate::located::link_of;
+use crate::reporter::LintReporter;
+use crate::setting::LineForm;
+use std::alloc::{AllocError, Global};
+use std::str::from_utf8;
+use uv_grammar::{Verdict, check, faults};
+use uv_model::{Extent, Refusal};
+use uv_report::LineViolation;
+
+impl<'a> LintReporter<'a> {
+    /// What is found with a line, or with its link: nothing with an empty line or a valid text. None stands for a line
+    /// that is too long. No memory is asked for a valid line but where a domain's form is made.
+    pub(crate) fn violations(
+        &self,
+        alloc: Global,
+        line: Option<&[u8]>,
+    ) -> Result<Vec<LineViolation>, AllocError>
+        ensures { IfOk result (λ found. AreViolations self.now.setting (option_copied line.entry) found.items) }
+    {
+        match link_of(self.form(), line) {
+            Some(link) => self.bytes_violations(alloc, link.link),
+            None => self.line_violations(alloc, line),
+        }
+    }
+
+    // What is found with a line that has no link.
+    fn line_violations(
+        &self,
+        alloc: Global,
+        line: Option<&[u8]>,
+    ) -> Result<Vec<LineViolation>, AllocError>
+        ensures { IfOk result (λ found. AreViolationsBy self.now.setting None (option_copied line.entry) found.items) }
+    {
+        let Some(line) = line else {
+            return alone(alloc, LineViolation::TooLong);
+        };
+        if line.is_empty() {
+            return Ok(Vec::new(alloc));
+        }
+        self.whole_violations(alloc, line)
+    }
+
+    // What is found with a line that isn't empty and has no link.
+    fn whole_violations(&self, alloc: Global, line: &[u8]) -> Result<Vec<LineViolation>, AllocError>
+        ensures { IfOk result (λ found.
+            AreWholeViolations self.now.setting.form self.now.setting line.now found.items) }
+    {
+        match self.form() {
+            LineForm::Plain => self.bytes_violations(alloc, line),
+            LineForm::Located => stray_violations(alloc, line),
+        }
+    }
+
+    // What is found with bytes.
+    fn bytes_violations(
+        &self,
+        alloc: Global,
+        bytes: &[u8],
+    ) -> Result<Vec<LineViolation>, AllocError>
+        ensures { IfOk result (λ found. AreBytesViolations self.now.setting bytes.now found.items) }
+    {
+        match from_utf8(bytes) {
+            Ok(text) => self.text_violations(alloc, text),
+            Err(_) => alone(alloc, LineViolation::NotUtf8),
+        }
+    }
+
+    // What is found with a text.
+    fn text_violations(&self, alloc: Global, text: &str) -> Result<Vec<LineViolation>, AllocError>
+        ensures { IfOk result (λ found. AreTextViolations self.now.setting (chars text.now) found.items) }
+    {
+        match check(alloc, text, self.base(), self.profile())? {
+            Verdict::Yes(_) => Ok(Vec::new(alloc)),
+            Verdict::No(refusal) => self.refused_violations(alloc, text, refusal),
+        }
+    }
+
+    // What is found with a text that is refused so.
+    fn refused_violations(
+        &self,
+        alloc: Global,
+        text: &str,
+        refusal: Refusal,
+    ) -> Result<Vec<LineViolation>, AllocError>
+        requires { IsRefused self.now.setting.profile self.now.setting.base (chars text.now) refusal }
+        ensures { IfOk result (λ found. AreTextViolations self.now.setting (chars text.now) found.items) }
+    {
+        match self.extent() {
+            Extent::First => alone(alloc, LineViolation::Refused(refusal)),
+            Extent::All => {
+                let refusals = faults(alloc, text, self.base(), self.profile())?;
+                each_refused(alloc, refusals.as_slice())
+            }
+        }
+    }
+}
+
+// What is found with a line that is to say where its link stands, and doesn't.
+fn stray_violations(alloc: Global, line: &[u8]) -> Result<Vec<LineViolation>, AllocError>
+    ensures { IfOk result (λ found. AreStrayViolations line.now found.items) }
+{
+    match from_utf8(line) {
+        Ok(_) => alone(alloc, LineViolation::NotLocated),
+        Err(_) => alone(alloc, LineViolation::NotUtf8),
+    }
+}
+
+// One violation.
+fn alone(alloc: Global, violation: LineViolation) -> Result<Vec<LineViolation>, AllocError>
+    ensures { IfOk result (λ found. found.items ≡ violation ∷ []) }
+{
+    let mut found = Vec::new(alloc);
+    found.push(violation)?;
+    Ok(found)
+}
+
+// The violation of each refusal, in their order.
+fn each_refused(alloc: Global, refusals: &[Refusal]) -> Result<Vec<LineViolation>, AllocError>
+    ensures { IfOk result (λ found. found.items ≡ map Refused refusals.now) }
+{
+    let mut found = Vec::new(alloc);
+    for refusal in refusals {
+        found.push(LineViolation::Refused(*refusal))?;
+    }
+    Ok(found)
+}

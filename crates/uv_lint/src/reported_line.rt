@@ -1,0 +1,127 @@
+//! The diagnostics on a line.
+ghost use Rattle.std.specs.Prelude.{◌≡◌, ◌++◌, IfOk, OnOk, option_copied, option_map, string_bytes};
+ghost use Rattle.uv_report.specs.Report.{diagnostic_text};
+ghost use Rattle.uv_lint.specs.LocatedViews.{link_view};
+ghost use Rattle.uv_lint.specs.Report.{diagnostics_text, framed_text, shown, reported_by};
+ghost use Rattle.uv_lint.specs.ReportedView.{place_view, reported_view};
+
+use crate::located::LocatedLink;
+use crate::setting::{LineForm, LintSetting};
+use std::alloc::{AllocError, Global};
+use uv_report::{Diagnostic, LineViolation, push_diagnostic, push_file_begin, push_file_end};
+
+/// A line, or the link of one, with the place where it stands.
+#[derive(Clone, Copy)]
+pub(crate) struct Place<'l> {
+    /// The name of the file.
+    pub(crate) file: &'l str,
+    /// The number of the line, from 1.
+    pub(crate) line: u64,
+    /// The column of the text's beginning, from 1.
+    pub(crate) start: u64,
+    /// The bytes of the text; none stand for a line that is too long.
+    pub(crate) bytes: Option<&'l [u8]>,
+}
+
+impl<'l> Place<'l> {
+    /// Where a line with this number stands in a file, or its link, where it says where that stands.
+    pub(crate) fn of(
+        file: &'l str,
+        number: u64,
+        line: Option<&'l [u8]>,
+        link: Option<LocatedLink<'l>>,
+    ) -> Place<'l>
+        ensures { place_view result
+            ≡ reported_by file.entry.now number (option_copied line.entry) (option_map link_view link.entry) }
+    {
+        match link {
+            Some(link) => Place {
+                file: link.file,
+                line: u64::from(link.line),
+                start: u64::from(link.column),
+                bytes: Some(link.link),
+            },
+            None => Place {
+                file,
+                line: number,
+                start: 1,
+                bytes: line,
+            },
+        }
+    }
+}
+
+/// A text as diagnostics tell it: the file's name, the number of the line and the column where it begins, both from 1,
+/// and what is shown of it.
+#[derive(Clone, Copy)]
+pub(crate) struct ReportedLine<'l> {
+    pub(crate) file: &'l str,
+    pub(crate) line: u64,
+    pub(crate) start: u64,
+    pub(crate) text: &'l str,
+}
+
+impl<'l> ReportedLine<'l> {
+    /// Pushes a diagnostic for each violation. It is given whether the first of them is the first one of the report.
+    pub(crate) fn push(
+        &self,
+        alloc: Global,
+        reported: &mut String,
+        setting: LintSetting<'_>,
+        is_first: bool,
+        violations: &[LineViolation],
+    ) -> Result<(), AllocError>
+        ensures { OnOk result (string_bytes reported.new ≡ string_bytes reported.old
+            ++ diagnostics_text setting.entry.form setting.entry.format
+            (reported_view self.now) is_first violations.now) }
+    {
+        let mut is_first = is_first;
+        for violation in violations {
+            let diagnostic = Diagnostic {
+                file: self.file,
+                line: self.line,
+                start: self.start,
+                violation: *violation,
+                text: self.text,
+            };
+            push_framed(alloc, reported, setting, &diagnostic, is_first)?;
+            is_first = false;
+        }
+        Ok(())
+    }
+}
+
+// Pushes a diagnostic. Where lines say where their links stand, what stands round the diagnostics of its file stands
+// round it.
+fn push_framed(
+    alloc: Global,
+    reported: &mut String,
+    setting: LintSetting<'_>,
+    diagnostic: &Diagnostic<'_>,
+    is_first: bool,
+) -> Result<(), AllocError>
+    ensures { OnOk result (string_bytes reported.new ≡ string_bytes reported.old ++ framed_text setting.entry.form
+        setting.entry.format diagnostic.now.file.now
+        (diagnostic_text setting.entry.format is_first diagnostic.now)) }
+{
+    let format = setting.format;
+    match setting.form {
+        LineForm::Plain => push_diagnostic(alloc, reported, format, diagnostic, is_first),
+        LineForm::Located => {
+            push_file_begin(alloc, reported, format, diagnostic.file)?;
+            push_diagnostic(alloc, reported, format, diagnostic, is_first)?;
+            push_file_end(reported, format)
+        }
+    }
+}
+
+/// The text of a line that is shown: U+FFFD stands for what isn't UTF-8, and of a line that is too long nothing is
+/// shown.
+pub(crate) fn shown_text(alloc: Global, line: Option<&[u8]>) -> Result<String, AllocError>
+    ensures { IfOk result (λ text. string_bytes text ≡ shown (option_copied line.entry)) }
+{
+    match line {
+        Some(line) => String::from_utf8_lossy(alloc, line),
+        None => Ok(String::new(alloc)),
+    }
+}

@@ -1,0 +1,188 @@
+//! The prefixes of a text: its scheme with `:`, and `//` with the authority.
+ghost use Rattle.std.specs.Prelude.{◌≡◌, ◌++◌, IfOk, OnOk, option_copied};
+ghost use Rattle.uv_model.specs.Cut.{starts_with_two_slashes};
+ghost use Rattle.uv_model.specs.Scheme.{is_scheme_code_point};
+ghost use Rattle.uv_model.specs.Valid as valid;
+ghost use Rattle.uv_mend.specs.CodePoints.{behind_one};
+ghost use Rattle.uv_mend.specs.Prefixes as spec;
+ghost use Rattle.uv_mend.specs.Prefixes.{authority_prefix, before, behind_authority, behind_scheme, class_against};
+ghost use Rattle.uv_mend.specs.Prefixes.{onward, scheme_prefix, stops};
+
+use crate::code_points::{first_of, push_one, push_text, text_of};
+use std::alloc::{AllocError, Global};
+use uv_model::{Class, Record, class_of};
+
+/// Where a prefix of a text ends.
+#[derive(Clone, Copy, Debug, PartialEq, Eq)]
+pub(crate) enum Stop {
+    /// At the `:` behind a scheme.
+    Scheme,
+    /// At the `?` of a query or the `#` of a fragment.
+    Start,
+    /// There, or at the `/` of a path.
+    Authority,
+}
+
+impl Stop {
+    /// Whether a code point ends the prefix.
+    pub(crate) fn is_at(self, c: char) -> bool
+        ensures { result ≡ stops self c }
+    {
+        match self {
+            Stop::Scheme => c == ':',
+            Stop::Start => c == '?' || c == '#',
+            Stop::Authority => c == '/' || c == '?' || c == '#',
+        }
+    }
+}
+
+/// Appends what stands before the first code point that ends the prefix, and gives the rest. The error is out of
+/// memory.
+pub(crate) fn push_before<'t>(
+    out: &mut Vec<char>,
+    text: &'t [char],
+    stop: Stop,
+) -> Result<&'t [char], AllocError>
+    ensures pushed { OnOk result (out.new.items ≡ out.old.items ++ before stop text.now) }
+    ensures rest { IfOk result (λ rest. rest.now ≡ onward stop text.now) }
+{
+    let mut rest = text;
+    while let Some((c, behind)) = first_of(rest) {
+        if stop.is_at(c) {
+            return Ok(rest);
+        }
+        push_one(out, c)?;
+        rest = behind;
+    }
+    Ok(rest)
+}
+
+/// Appends the scheme and its `:`, where the text begins with them, and gives the rest. The error is out of memory.
+#[tactic(auto, unfolding(crate::specs::Prefixes::scheme_prefix, crate::specs::Prefixes::behind_scheme))]
+pub(crate) fn push_scheme<'t>(
+    out: &mut Vec<char>,
+    text: &'t [char],
+) -> Result<&'t [char], AllocError>
+    ensures pushed { OnOk result (out.new.items ≡ out.old.items ++ scheme_prefix text.now) }
+    ensures rest { IfOk result (λ rest. rest.now ≡ behind_scheme text.now) }
+{
+    if !starts_with_scheme(text) {
+        return Ok(text);
+    }
+    let rest = push_before(out, text, Stop::Scheme)?;
+    match first_of(rest) {
+        Some((c, behind)) => {
+            push_one(out, c)?;
+            Ok(behind)
+        }
+        None => Ok(rest),
+    }
+}
+
+/// Appends `//` and the authority, where the text begins with them, and gives the rest. The error is out of memory.
+#[tactic(auto, unfolding(crate::specs::Prefixes::authority_prefix, crate::specs::Prefixes::behind_authority))]
+pub(crate) fn push_authority<'t>(
+    out: &mut Vec<char>,
+    text: &'t [char],
+) -> Result<&'t [char], AllocError>
+    ensures pushed { OnOk result (out.new.items ≡ out.old.items ++ authority_prefix text.now) }
+    ensures rest { IfOk result (λ rest. rest.now ≡ behind_authority text.now) }
+{
+    if !starts_with_two_slashes(text) {
+        return Ok(text);
+    }
+    push_one(out, '/')?;
+    push_one(out, '/')?;
+    push_before(out, behind_two(text), Stop::Authority)
+}
+
+/// Whether a text begins with `//`.
+pub(crate) fn starts_with_two_slashes(text: &[char]) -> bool
+    ensures { result ≡ starts_with_two_slashes text.now }
+{
+    match first_of(text) {
+        Some((first, rest)) => match first_of(rest) {
+            Some((second, _)) => first == '/' && second == '/',
+            None => false,
+        },
+        None => false,
+    }
+}
+
+/// What stands behind the first two code points.
+pub(crate) fn behind_two(text: &[char]) -> &[char]
+    ensures { result.now ≡ behind_one (behind_one text.now) }
+{
+    behind_first(behind_first(text))
+}
+
+// What stands behind the first code point.
+fn behind_first(text: &[char]) -> &[char]
+    ensures { result.now ≡ behind_one text.now }
+{
+    match first_of(text) {
+        Some((_, rest)) => rest,
+        None => text,
+    }
+}
+
+/// Whether a text begins with a URL-scheme string and `:`.
+pub(crate) fn starts_with_scheme(text: &[char]) -> bool
+    ensures { result ≡ valid.starts_with_scheme text.now }
+{
+    match first_of(text) {
+        Some((first, rest)) => first.is_ascii_alphabetic() && goes_on_to_colon(rest),
+        None => false,
+    }
+}
+
+// Whether code points of a scheme come, and then `:`.
+fn goes_on_to_colon(text: &[char]) -> bool
+    ensures { result ≡ valid.goes_on_to_colon text.now }
+{
+    let mut rest = text;
+    while let Some((c, behind)) = first_of(rest) {
+        if c == ':' {
+            return true;
+        }
+        if !is_scheme_code_point(c) {
+            return false;
+        }
+        rest = behind;
+    }
+    false
+}
+
+// Whether a code point may stand in a scheme behind its first.
+fn is_scheme_code_point(c: char) -> bool
+    ensures { result ≡ is_scheme_code_point c }
+{
+    c.is_ascii_alphanumeric() || c == '+' || c == '-' || c == '.'
+}
+
+/// The class of the text's scheme, else of the base's, else `Other`. The error is out of memory.
+pub(crate) fn class_against(
+    alloc: Global,
+    text: &[char],
+    base: Option<&Record>,
+) -> Result<Class, AllocError>
+    ensures { IfOk result (λ class. class ≡ class_against (option_copied base.entry) text.now) }
+{
+    if !starts_with_scheme(text) {
+        return Ok(class_of_base(base));
+    }
+    let mut scheme = Vec::new(alloc);
+    push_before(&mut scheme, text, Stop::Scheme)?;
+    let scheme = text_of(alloc, &scheme)?;
+    Ok(class_of(scheme.as_str()))
+}
+
+// The class of the base's scheme, or `Other` where there is no base.
+fn class_of_base(base: Option<&Record>) -> Class
+    ensures { result ≡ spec.class_of_base (option_copied base.entry) }
+{
+    match base {
+        Some(record) => class_of(record.scheme()),
+        None => class_of(""),
+    }
+}

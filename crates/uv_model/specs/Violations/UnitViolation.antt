@@ -1,0 +1,30 @@
+-- The faults of a text that should be URL units, after the URL Standard, section 4.3.
+use Rattle.std.specs.Prelude.{◌≡◌, ◌≢◌, ℕ, false, List, ◌∷◌, drop, ◌==◌, if◌then◌else◌}
+use Rattle.uv_model.specs.declared.rule.Rule.{Rule}
+use Rattle.uv_model.specs.declared.rule.Rule.TheVariants.{CodePoint, Percent}
+use Rattle.uv_model.specs.Ascii.{percent_sign}
+use Rattle.uv_model.specs.Units.{is_url_code_point, starts_with_two_hex}
+
+-- at the place stands `%`, and two hex digits don't follow it
+pub record HasBarePercent (text : List ℕ) (place : ℕ) : Type 0 where
+  pub rest : List ℕ
+  pub here : drop place text ≡ percent_sign ∷ rest
+  pub bare : starts_with_two_hex rest ≡ false
+
+-- at the place stands neither a URL code point nor `%`
+pub record HasForeignCodePoint (text : List ℕ) (place : ℕ) : Type 0 where
+  pub code_point : ℕ
+  pub rest : List ℕ
+  pub here : drop place text ≡ code_point ∷ rest
+  pub foreign : is_url_code_point code_point ≡ false
+  pub no_escape : code_point ≢ percent_sign
+
+-- the rules that a path, a query or a fragment can violate by what it holds
+abbrev pub UnitViolation : List ℕ → ℕ → Rule → Type 0
+UnitViolation text place CodePoint = HasForeignCodePoint text place
+UnitViolation text place Percent = HasBarePercent text place
+UnitViolation text place _ = ⊥
+
+-- the rule that a code point violates where it and what follows it are no unit
+abbrev pub unit_rule : ℕ → Rule
+unit_rule c = if c == percent_sign then Percent else CodePoint

@@ -1,0 +1,107 @@
+//! What is wrong with a line.
+ghost use Rattle.std.specs.Prelude.{◌≡◌};
+ghost use Rattle.uv_report.specs.LineViolation.{violation_help, violation_index, violation_name, violation_place};
+ghost use Rattle.uv_report.specs.LineViolation.{violation_sentence, violation_uri, named_violation};
+
+use crate::explanation::{explain, section_uri};
+use uv_model::Refusal;
+
+/// What is wrong with a line of a file: as a text it is refused, or it is no text that is judged.
+#[derive(Clone, Copy, PartialEq, Eq)]
+pub enum LineViolation {
+    /// The line violates a rule of valid URL strings at a place.
+    Refused(Refusal),
+    /// The line isn't UTF-8.
+    NotUtf8,
+    /// The line has more than 65,536 bytes.
+    TooLong,
+    /// The line doesn't say where its link stands, as `FILE:LINE:COLUMN:LINK` does.
+    NotLocated,
+}
+
+impl LineViolation {
+    /// The name of the violated rule, else `not-utf8`, `line-too-long` or `not-located`.
+    pub fn name(self) -> &'static str
+        ensures { result.now ≡ violation_name self }
+    {
+        match self {
+            LineViolation::Refused(refusal) => refusal.rule.name(),
+            LineViolation::NotUtf8 => "not-utf8",
+            LineViolation::TooLong => "line-too-long",
+            LineViolation::NotLocated => "not-located",
+        }
+    }
+
+    /// The violation with this name that is about no refusal, or `None` where none has it.
+    pub fn of_name(name: &str) -> Option<LineViolation>
+        ensures { result ≡ named_violation name.now }
+    {
+        match name {
+            "not-utf8" => Some(LineViolation::NotUtf8),
+            "line-too-long" => Some(LineViolation::TooLong),
+            "not-located" => Some(LineViolation::NotLocated),
+            _ => None,
+        }
+    }
+
+    /// What is wrong, in a sentence without its end.
+    pub fn sentence(self) -> &'static str
+        ensures { result.now ≡ violation_sentence self }
+    {
+        match self {
+            LineViolation::Refused(refusal) => refusal.rule.sentence(),
+            LineViolation::NotUtf8 => "this line isn't UTF-8",
+            LineViolation::TooLong => "this line has more than 65536 bytes",
+            LineViolation::NotLocated => "this line isn't FILE:LINE:COLUMN:LINK",
+        }
+    }
+
+    /// What a line is asked, in a sentence or two.
+    pub fn help(self) -> &'static str
+        ensures { result.now ≡ violation_help self }
+    {
+        match self {
+            LineViolation::Refused(refusal) => explain(refusal.rule).asks,
+            LineViolation::NotUtf8 => "A line is a text in UTF-8.",
+            LineViolation::TooLong => "A line has at most 65536 bytes.",
+            LineViolation::NotLocated => {
+                "A located line is FILE:LINE:COLUMN:LINK. FILE isn't empty; LINE and COLUMN are from 1 to 4294967295."
+            }
+        }
+    }
+
+    /// Where that stands in the URL Standard: the section of the rule, or what a valid URL string is.
+    pub(crate) fn uri(self) -> &'static str
+        ensures { result.now ≡ violation_uri self }
+    {
+        match self {
+            LineViolation::Refused(refusal) => section_uri(refusal.rule),
+            LineViolation::NotUtf8 | LineViolation::TooLong | LineViolation::NotLocated => {
+                "https://url.spec.whatwg.org/#valid-url-string"
+            }
+        }
+    }
+
+    /// Where its rule stands among all that can be wrong, from 0: the three that are no refusal come first.
+    pub(crate) fn index(self) -> u64
+        ensures { result ≡ violation_index self }
+    {
+        match self {
+            LineViolation::Refused(refusal) => u64::from(refusal.rule.number()) + 2,
+            LineViolation::NotUtf8 => 0,
+            LineViolation::TooLong => 1,
+            LineViolation::NotLocated => 2,
+        }
+    }
+
+    /// The place at which it is wrong: a number of code points from the line's start, from 0. It is 0 for a line that
+    /// isn't judged.
+    pub fn place(self) -> usize
+        ensures { result ≡ violation_place self }
+    {
+        match self {
+            LineViolation::Refused(refusal) => refusal.place,
+            LineViolation::NotUtf8 | LineViolation::TooLong | LineViolation::NotLocated => 0,
+        }
+    }
+}

@@ -1,0 +1,53 @@
+# Streams that fail: outputs that take nothing, end early or are closed, and inputs that can't be read or end early.
+
+printf 'urn:a\nurn:b\n' >"$room/list"
+for words in 'check urn:a' 'check x' 'links'; do
+    "$program" $words <"$room/list" >/dev/full 2>"$room/err"
+    ends_with 3 $? 'write\n' "$words to a full device"
+    "$program" $words <"$room/list" >&- 2>"$room/err"
+    ends_with 3 $? 'write\n' "$words with standard output closed"
+    # A pipe without a reader, of which nothing is said, with the signal SIGPIPE at its default, and ignored.
+    (sleep 0.2; "$program" $words <"$room/list" 2>"$room/err"; echo $? >"$room/status") | true
+    ends_with 3 "$(cat "$room/status")" '' "$words to a closed pipe"
+    (trap '' PIPE; sleep 0.2; "$program" $words <"$room/list" 2>"$room/err"; echo $? >"$room/status") | true
+    ends_with 3 "$(cat "$room/status")" '' "$words to a closed pipe, SIGPIPE ignored"
+done
+
+# Help and the version, into a full device and to a closed pipe.
+for words in '--help' 'help' 'check --help' 'help lint' '--version'; do
+    "$program" $words >/dev/full 2>"$room/err"
+    ends_with 3 $? 'write\n' "$words to a full device"
+    (sleep 0.2; "$program" $words 2>"$room/err"; echo $? >"$room/status") | true
+    ends_with 3 "$(cat "$room/status")" '' "$words to a closed pipe"
+done
+
+# A pipe that is closed behind one line: the line is whole, and the list, which is longer than a pipe holds, isn't read
+# to its end.
+awk 'BEGIN { for (n = 1; n <= 100000; n++) print "urn:isbn:" n }' >"$room/long"
+("$program" links <"$room/long" 2>"$room/err"; echo $? >"$room/status") | head -n 1 >"$room/out"
+ends_with 3 "$(cat "$room/status")" '' 'links to a pipe closed behind one line'
+[ "$(cat "$room/out")" = '1 ok urn:isbn:1' ] || fail "a pipe closed behind one line: it wrote $(cat "$room/out")"
+
+# Inputs: closed, open for writing alone, a folder; and a list that ends within a line, a code point and a scheme.
+"$program" links <&- >"$room/out" 2>"$room/err"
+ends_with 3 $? 'read\n' 'links with standard input closed'
+"$program" links 0>"$room/written" >"$room/out" 2>"$room/err"
+ends_with 3 $? 'read\n' 'links on an input for writing'
+"$program" links <"$room" >"$room/out" 2>"$room/err"
+ends_with 3 $? 'read\n' 'links on a folder'
+[ ! -s "$room/out" ] || fail "links on a folder: it wrote $(head -c 40 "$room/out")"
+
+# ends_early BYTES REPORT : the report on the first bytes of the list, which then ends
+ends_early() {
+    printf 'urn:a\nhttp://h/\303\251\n' | head -c "$1" | "$program" links >"$room/out" 2>"$room/err"
+    ends_with "$2" $? '' "a list that ends after $1 bytes"
+    printf '%b' "$3" | cmp -s - "$room/out" || fail "a list that ends after $1 bytes: it wrote $(cat "$room/out")"
+}
+ends_early 3 1 '1 bad 0 no-scheme\nlinks 1 ok 0 bad 1 differs 0\n'
+ends_early 5 0 '1 ok urn:a\nlinks 1 ok 1 bad 0 differs 0\n'
+ends_early 6 0 '1 ok urn:a\nlinks 1 ok 1 bad 0 differs 0\n'
+ends_early 13 1 '1 ok urn:a\n2 bad 7 host-missing\nlinks 2 ok 1 bad 1 differs 0\n'
+ends_early 16 1 '1 ok urn:a\n2 bad 0 not-utf8\nlinks 2 ok 1 bad 1 differs 0\n'
+ends_early 17 0 '1 ok urn:a\n2 ok http://h/%C3%A9\nlinks 2 ok 2 bad 0 differs 0\n'
+
+all_cases 32
