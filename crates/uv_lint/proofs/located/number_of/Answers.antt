@@ -9,4 +9,4 @@ split_at-requires c = rw c.digit_count-count.ensures (prefix_len-le-length is_as
 
 pub value_of-value-requires : goal.value_of-value-requires
 value_of-value-requires c =
-    rw (c.split_at.ensures.prefix, c.digit_count-count.ensures) (leading_digits c.in_ok-behind.behind.now)
+    rw (c.split_at.ensures.front, c.digit_count-count.ensures) (leading_digits c.in_ok-behind.behind.now)
