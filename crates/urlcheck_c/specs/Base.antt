@@ -14,7 +14,6 @@ use Rattle.urlcheck_c.specs.declared.bases.Base.{Base}
 use Rattle.urlcheck_c.specs.declared.bases.HeldRequest.{HeldRequest}
 use Rattle.urlcheck_c.specs.declared.finding.Finding.{Finding}
 use Rattle.urlcheck_c.specs.declared.finding.CallOutcome.TheVariants.{NoProfile, Valid as valid_outcome}
-use Rattle.urlcheck_c.specs.Answer.{IsJudgedInPlace}
 use Rattle.urlcheck_c.specs.Finding.{plain_finding, profile_of}
 use Rattle.urlcheck_c.specs.Request.{IsBase, IsNoBase, IsRequest, IsUnjudged}
 

@@ -6,14 +6,14 @@ use Rattle.uv_model.specs.Parts.{Parts}
 use Rattle.uv_model.specs.Records.Url.{Url}
 use Rattle.uv_model.specs.Valid.{Valid}
 use Rattle.urlcheck_c.specs.declared.finding.Finding.{Finding}
-use Rattle.urlcheck_c.specs.Answer.{IsJudgedInPlace}
+use Rattle.uv_grammar.specs.NoMemory.{TakesNoMemoryAgainst}
 use Rattle.urlcheck_c.specs.Request.{IsRequest, IsUnjudged}
 
 -- the text is valid against the base; or it is not, or memory ran out of a text that isn't judged without it
 abbrev pub IsKnownValid : Profile → Option Url → List ℕ → Bool → Type 0
 IsKnownValid profile base bytes true = (parts : Parts) × Valid profile base (chars bytes) parts
 IsKnownValid profile base bytes false =
-    ((parts : Parts) → ¬ (Valid profile base (chars bytes) parts)) ⊎ ¬ (IsJudgedInPlace profile base (chars bytes))
+    ((parts : Parts) → ¬ (Valid profile base (chars bytes) parts)) ⊎ ¬ (TakesNoMemoryAgainst profile base (chars bytes))
 
 -- the text isn't judged, which is said as no; or it is judged against the base, if one is given
 abbrev pub IsValidityAnswer : ℕ → Option (List ℕ) → List ℕ → Bool → Type 0
