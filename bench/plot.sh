@@ -2,7 +2,8 @@
 # Draws docs/speed.svg, a bar plot of what bench/verdicts.sh gave by instructions: a bar a list for this checker and one
 # for Ada's can_parse. The outputs are stored in bench/verdicts/KIND.txt, as the script printed them.
 #   bench/plot.sh                     draws from the stored outputs, on standard output
-#   bench/plot.sh --measure FOLDER    makes the outputs anew first, by Ada in FOLDER; it takes some minutes
+#   bench/plot.sh --measure [FOLDER]  makes the outputs anew first, by Ada in FOLDER, else beside what Ada took when it
+#                                     was measured (bench/verdicts/ada.stored); it takes some minutes
 # It fails where an output is missing, or lacks a figure.
 set -euo pipefail
 top=$(dirname "$(dirname "$(realpath "$0")")")
@@ -12,17 +13,18 @@ declare -A named=([mixed]='mixed, as in documents' [plain]='plain' [root_dot]='w
     [beyond_ascii]='path beyond ASCII' [ipv4]='IPv4 address' [upper]='upper case')
 
 if [ "${1:-}" = --measure ]; then
-    [ $# = 2 ] && [ -d "$2" ] || { echo 'usage: bench/plot.sh --measure FOLDER' >&2; exit 2; }
+    [ $# = 1 ] || [ -d "$2" ] || { echo 'usage: bench/plot.sh --measure [FOLDER]' >&2; exit 2; }
     mkdir -p "$stored"
     for kind in "${kinds[@]}"; do
-        words=(--ada "$2" --by instructions --count 100000)
+        words=(--by instructions --count 100000)
+        [ $# = 1 ] || words+=(--ada "$2")
         [ "$kind" = mixed ] || words+=(--kind "$kind")
         bash "$top/bench/verdicts.sh" "${words[@]}" >"$stored/$kind.txt"
         echo "$kind: $(grep '^ours: ' "$stored/$kind.txt")" >&2
     done
-    shift 2
+    shift $#
 fi
-[ $# = 0 ] || { echo 'usage: bench/plot.sh [--measure FOLDER]' >&2; exit 2; }
+[ $# = 0 ] || { echo 'usage: bench/plot.sh [--measure [FOLDER]]' >&2; exit 2; }
 
 for kind in "${kinds[@]}"; do
     [ -s "$stored/$kind.txt" ] || { echo "bench/plot.sh: bench/verdicts/$kind.txt is missing" >&2; exit 1; }

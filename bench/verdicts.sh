@@ -1,11 +1,12 @@
 #!/usr/bin/env bash
-# Verdicts on a million mixed links: this checker, Ada's can_parse and Rust's crate `url`, whichever are at hand, a run
-# of each in turn for so many rounds. It prints the least processor time a link, or its instructions by callgrind,
+# Verdicts on a million mixed links: this checker, with the parts and alone, Ada's can_parse and Rust's crate `url`,
+# whichever are at hand, a run of each in turn for so many rounds. It prints the least processor time a link, or its instructions by callgrind,
 # reading taken off, the ratios to Ada, and how many verdicts differ from ours: the others say whether a text parses, and
 # this checker whether it is valid. It fails where a figure is missing or below the floor, and where a list that it made
-# has other counts than it was made with.
+# has other counts than it was made with, or a verdict alone on plain links costs more than 0.75 of a check.
 # Usage: bench/verdicts.sh [--ada FOLDER] [--links FILE | --seed SEED] [--count COUNT] [--kind KIND] [--rounds ROUNDS]
 #        [--by time|instructions]
+# Without Ada, 100,000 links of seed 1 are compared by instructions with those that it took when they were measured.
 set -euo pipefail
 top=$(dirname "$(dirname "$(realpath "$0")")")
 ada='' links='' seed=1 count=1000000 kind='' rounds=5 by='time' wanted=''
@@ -26,11 +27,15 @@ lines=$(grep -c . "$links")
 
 declare -A program
 program[ours]=$driver
-names=(ours)
+program[alone]=$driver
+names=(ours alone)
 if [ -n "$ada" ] && command -v g++ >/dev/null; then
     g++ -std=c++20 -O2 -I"$ada/include" -I"$ada/src" -o "$room/ada" "$top/bench/peers/ada.cpp" "$ada/src/ada.cpp"
     program[ada]=$room/ada
     names+=(ada)
+elif [ "$by $count $seed $links" = "instructions 100000 1 $room/links" ]; then
+    adas=$(awk -v kind="${kind:-mixed}" '$1 == kind { print $2 }' "$top/bench/verdicts/ada.stored")
+    [ -z "$adas" ] || echo "ada: $adas instructions a link, as they were measured once"
 else
     echo 'without Ada: give the folder of a release by --ada, and have g++'
 fi
@@ -69,10 +74,15 @@ spent() {
     fi
 }
 
+# mode NAME : what a program is asked for
+mode() {
+    if [ "$1" = alone ]; then echo valid; else echo check; fi
+}
+
 declare -A whole reading
 for ((round = 0; round < rounds; round++)); do
     for name in "${names[@]}"; do
-        spent=$(spent "${program[$name]}" check)
+        spent=$(spent "${program[$name]}" "$(mode "$name")")
         read=$(spent "${program[$name]}" read)
         [ -n "$spent" ] && [ -n "$read" ] || { echo "FAILED: $name gave no figure"; exit 1; }
         if [ -z "${whole[$name]:-}" ] || ((spent < whole[$name])); then whole[$name]=$spent; fi
@@ -87,6 +97,12 @@ for name in "${names[@]}"; do
     line="$name: $cost $unit a link"
     if [ "$name" = ada ]; then adas=$cost; fi
     costs+=("$name $cost")
+    if [ "$name" = alone ]; then
+        known=$("$driver" valid 1 <"$links" | sed 's/.*, \(.*\) valid/\1/')
+        [ "$known" = "$valid" ] || { echo "FAILED: alone, $known links are valid, and not $valid"; exit 1; }
+        echo "$line"
+        continue
+    fi
     "${program[$name]}" verdicts <"$links" | tr -d '\n' | fold -w 1 >"$room/$name.verdicts"
     [ "$(grep -c . "$room/$name.verdicts")" = "$lines" ] || { echo "$name gave no verdict on some links"; exit 1; }
     if [ "$name" = ours ]; then
@@ -99,6 +115,10 @@ for name in "${names[@]}"; do
     fi
     echo "$line"
 done
+share=$(awk -v o="${costs[0]#* }" -v a="${costs[1]#* }" 'BEGIN { printf "%.2f", a / o }')
+echo "alone to ours: $share"
+[ "$by" != instructions ] || [ "$kind" != plain ] || awk -v s="$share" 'BEGIN { exit s > 0.75 }' ||
+    { echo "FAILED: a verdict alone costs $share of a check, and at most 0.75 is wanted"; exit 1; }
 if [ -n "${adas:-}" ]; then
     for cost in "${costs[@]}"; do
         awk -v n="${cost% *}" -v c="${cost#* }" -v a="$adas" 'BEGIN { printf "%s to Ada: %.2f\n", n, c / a }'
