@@ -255,18 +255,26 @@ count=$((count + 1))
 readers=(python3 "$here/lint_readers.py" "$room" "${hostile[@]}")
 "${readers[@]}" >"$room/out" 2>&1 || fail "readers of diagnostics: $(cat "$room/out")"
 
-# They see a report that says something else.
-for spoiled in 'gnu s/:1: error/:2: error/' 'caret s/^ \( *\)^$/\1^/' 'json s/"column":1,/"column":2,/' \
-    'github s/col=1,/col=2,/' 'sarif s/"startColumn":1,/"startColumn":2,/' 'checkstyle s/column="1"/column="2"/'; do
-    format=${spoiled%% *}
-    mv "$room/hostile.$format" "$room/whole"
-    LC_ALL=C sed "${spoiled#* }" "$room/whole" >"$room/hostile.$format"
-    count=$((count + 1))
-    if "${readers[@]}" >"$room/out" 2>&1 || ! grep -q "^$format: " "$room/out"; then
-        fail "readers of diagnostics: spoiled $format: $(cat "$room/out")"
-    fi
-    mv "$room/whole" "$room/hostile.$format"
-done
+# sees_spoiled WHAT FILES READERS EDIT.. : with each edit of the report FILES.FORMAT the readers, an array of that name,
+# say that this format is wrong. An edit is the format and what sed makes of the report.
+sees_spoiled() {
+    local what=$1 files=$2 spoiled format
+    local -n reading=$3
+    shift 3
+    for spoiled in "$@"; do
+        format=${spoiled%% *}
+        mv "$room/$files.$format" "$room/whole"
+        LC_ALL=C sed "${spoiled#* }" "$room/whole" >"$room/$files.$format"
+        count=$((count + 1))
+        if "${reading[@]}" >"$room/out" 2>&1 || ! grep -q "^$format: " "$room/out"; then
+            fail "readers of $what: spoiled $format: $(cat "$room/out")"
+        fi
+        mv "$room/whole" "$room/$files.$format"
+    done
+}
+sees_spoiled diagnostics hostile readers 'gnu s/:1: error/:2: error/' 'caret s/^ \( *\)^$/\1^/' \
+    'json s/"column":1,/"column":2,/' 'github s/col=1,/col=2,/' 'sarif s/"startColumn":1,/"startColumn":2,/' \
+    'checkstyle s/column="1"/column="2"/'
 
 # Lines that say where their links stand: FILE is all before the first run of two numbers, which are from 1 to 2^32 - 1; an
 # empty link is judged, an empty line isn't. What isn't of the form is reported by the list's own name and line.
@@ -302,17 +310,9 @@ done
 count=$((count + 1))
 located_readers=(python3 "$here/located_readers.py" "$room" read)
 "${located_readers[@]}" >"$room/out" 2>&1 || fail "readers of located links: $(cat "$room/out")"
-for spoiled in 'gnu s/:12:34: error/:12:35: error/' 'caret s/^ \( *\)^$/\1^/' 'json s/"column":34,/"column":35,/' \
-    'github s/col=34,/col=35,/' 'sarif s/"startColumn":34,/"startColumn":35,/' 'checkstyle s/column="34"/column="35"/'; do
-    format=${spoiled%% *}
-    mv "$room/located.$format" "$room/whole"
-    LC_ALL=C sed "${spoiled#* }" "$room/whole" >"$room/located.$format"
-    count=$((count + 1))
-    if "${located_readers[@]}" >"$room/out" 2>&1 || ! grep -q "^$format: " "$room/out"; then
-        fail "readers of located links: spoiled $format: $(cat "$room/out")"
-    fi
-    mv "$room/whole" "$room/located.$format"
-done
+sees_spoiled 'located links' located located_readers 'gnu s/:12:34: error/:12:35: error/' 'caret s/^ \( *\)^$/\1^/' \
+    'json s/"column":34,/"column":35,/' 'github s/col=34,/col=35,/' 'sarif s/"startColumn":34,/"startColumn":35,/' \
+    'checkstyle s/column="34"/column="35"/'
 rm -f "$room"/located* "$room"/alone.*
 
 # Memory is flat: a million lines, of which each hundredth is wrong, in an address space of 10 MB.

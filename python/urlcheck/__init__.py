@@ -129,12 +129,10 @@ def check(text: str, base: AnyBase = None, profile: Profile = Profile.STANDARD) 
     profile has the number, and ``MemoryError``.
     """
     data, below, number = _given(text, base, profile)
-    if below is None:
-        answer = LIBRARY.urlcheck_check(data, len(data), number)
-    elif isinstance(below, Base):
-        answer = LIBRARY.urlcheck_check_with(data, len(data), below._held)
-    else:
+    if isinstance(below, bytes):
         answer = LIBRARY.urlcheck_check_against(data, len(data), below, len(below), number)
+    else:
+        answer = _judged("urlcheck_check", data, below, number)
     _stop_unless_judged(answer.found)
     if answer.found.verdict == _REFUSED:
         return Refused(_name(answer.found.rule), answer.found.place)
@@ -149,14 +147,9 @@ def is_valid(text: str, base: AnyBase = None, profile: Profile = Profile.STANDAR
     Raises what ``check`` raises.
     """
     data, below, number = _given(text, base, profile)
-    if below is None:
-        valid = LIBRARY.urlcheck_is_valid(data, len(data), number)
-    elif isinstance(below, Base):
-        valid = LIBRARY.urlcheck_is_valid_with(data, len(data), below._held)
-    else:
-        valid = False
+    is_known = not isinstance(below, bytes) and _judged("urlcheck_is_valid", data, below, number)
     # The library says no also where there is no memory, which the check tells apart.
-    return bool(valid) or bool(check(text, base, profile))
+    return bool(is_known) or bool(check(text, base, profile))
 
 
 def check_each(
@@ -240,6 +233,13 @@ def _given(text: str, base: AnyBase, profile: Profile) -> Tuple[bytes, Union[byt
             raise ValueError("the base is judged by another profile: {}".format(base.profile.name))
         return text.encode(), base, base.profile
     return text.encode(), None if base is None else base.encode(), judged_by
+
+
+def _judged(name: str, data: bytes, held: Optional[Base], number: Profile) -> Any:
+    """The answer of a function that judges a text, alone or against a base that is held."""
+    if held is None:
+        return getattr(LIBRARY, name)(data, len(data), number)
+    return getattr(LIBRARY, name + "_with")(data, len(data), held._held)
 
 
 def _called(name: str, text: str, base: AnyBase, profile: Profile, out: Any, room: int) -> Any:
