@@ -16,8 +16,8 @@ use Rattle.uv_links.specs.declared.counts.Counts.{Counts}
 use Rattle.uv_links.specs.declared.fault.LinkFault.{LinkFault}
 use Rattle.uv_links.specs.declared.fault.LinkFault.TheVariants.{Memory, Read, Write, Overflow, BaseDiffers}
 use Rattle.uv_links.specs.declared.fault.LinkFault.TheVariants.{TooManyLines, Endless}
-use Rattle.uv_links.specs.declared.fault.RoomFault.{RoomFault}
-use Rattle.uv_links.specs.declared.fault.RoomFault.TheVariants as room
+use Rattle.uv_second.specs.declared.fault.RoomFault.{RoomFault}
+use Rattle.uv_second.specs.declared.fault.RoomFault.TheVariants as room
 use Rattle.uv_links.specs.Fault.{IsBaseFault}
 use Rattle.uv_links.specs.Report.{ListSetting, Said, TooLong, IsSaid, AreSaid, IsReport, IsReportOfFirst, report_line}
 use Rattle.uv_links.specs.Report.{report_lines, count_line, counted, tally, ok_of, bad_of, differs_of}

@@ -3,9 +3,9 @@ use Rattle.std.specs.Prelude.{Option}
 use Rattle.uv_model.specs.Records.Url.{Url}
 use Rattle.uv_links.specs.declared.fault.LinkFault.{LinkFault}
 use Rattle.uv_links.specs.declared.fault.LinkFault.TheVariants.{Memory, Overflow, BaseDiffers}
-use Rattle.uv_links.specs.declared.fault.RoomFault.{RoomFault}
-use Rattle.uv_links.specs.declared.fault.RoomFault.TheVariants as room
-use Rattle.uv_links.specs.Second.{AgreesOnBase}
+use Rattle.uv_second.specs.declared.fault.RoomFault.{RoomFault}
+use Rattle.uv_second.specs.declared.fault.RoomFault.TheVariants as room
+use Rattle.uv_second.specs.Second.{AgreesOnBase}
 
 -- the fault of a run that wants the same room
 abbrev pub fault_of_room : RoomFault → LinkFault

@@ -2,7 +2,7 @@
 use Rattle.uv_links.specs.declared.judgement.Judgement.{Judgement}
 use Rattle.uv_links.specs.declared.judgement.Judgement.TheVariants as judged
 use Rattle.uv_links.specs.Report.{Said, Same, Refused, NotUtf8, TooLong, Differs}
-use Rattle.uv_links.specs.Second.{second_serial}
+use Rattle.uv_second.specs.Second.{second_serial}
 
 -- the same text is that of the second parser's URL
 abbrev pub judged_said : Judgement → Said

@@ -7,4 +7,3 @@ pub mod Report
 pub mod ReportRows
 pub mod Reporting
 pub mod Run
-pub mod Second

@@ -11,7 +11,7 @@ use Rattle.uv_grammar.specs.Verdict.{IsRefused}
 use Rattle.uv_resolve.specs.Resolve.{DenotesText}
 use Rattle.uv_links.specs.declared.counts.Counts.{Counts}
 use Rattle.uv_lines.specs.Lines.{lines_of}
-use Rattle.uv_links.specs.Second.{second_text}
+use Rattle.uv_second.specs.Second.{second_text}
 
 -- what the lines are judged against: the profile, the base, and how many bytes a line may have
 pub record ListSetting : Type 0 where

@@ -1,11 +1,11 @@
 //! Why a run over a list of links stopped.
 ghost use Rattle.std.specs.Prelude.{◌≡◌};
 ghost use Rattle.uv_links.specs.declared.fault.LinkFault.TheVariants as fault;
-ghost use Rattle.uv_links.specs.declared.fault.RoomFault.TheVariants as room;
 ghost use Rattle.uv_links.specs.Fault as spec;
 
 use std::alloc::AllocError;
 use thiserror::Error;
+use uv_second::RoomFault;
 
 /// Why a run over a list of links stopped, and what it had written by then. How far the reader was read is open.
 #[derive(Clone, Copy, Debug, PartialEq, Eq, Error)]
@@ -39,23 +39,6 @@ impl From<AllocError> for LinkFault {
 
     fn from(_error: AllocError) -> LinkFault {
         LinkFault::Memory
-    }
-}
-
-/// Why nothing is said of a line.
-#[derive(Clone, Copy, Debug, PartialEq, Eq)]
-pub(crate) enum RoomFault {
-    /// An allocation failed.
-    Memory,
-    /// A text is longer than the second parser's can be.
-    Overflow,
-}
-
-impl From<AllocError> for RoomFault {
-    ghost from_gives = { λ _ given. given ≡ room.Memory };
-
-    fn from(_error: AllocError) -> RoomFault {
-        RoomFault::Memory
     }
 }
 

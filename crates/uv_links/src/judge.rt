@@ -6,12 +6,11 @@ ghost use Rattle.uv_links.specs.Fault.{IsBaseFault};
 ghost use Rattle.uv_links.specs.Judgement.{judged_said};
 ghost use Rattle.uv_links.specs.Report.{IsSaid};
 ghost use Rattle.uv_resolve.specs.Resolve.{DenotesText};
-ghost use Rattle.uv_links.specs.Second.{AgreesOnBase, IsReadAs, second_base};
+ghost use Rattle.uv_second.specs.Second.{AgreesOnBase, IsReadAs, second_base};
 
-use crate::fault::{LinkFault, RoomFault, fault_of_room};
+use crate::fault::{LinkFault, fault_of_room};
 use crate::judgement::Judgement;
 use crate::own_text::{is_own_root, is_own_text};
-use crate::second::read_as;
 use std::alloc::{AllocError, Global};
 use std::marker::Model;
 use std::str::from_utf8;
@@ -19,6 +18,7 @@ use url::Url;
 use uv_grammar::{Verdict, check};
 use uv_model::{Profile, Record};
 use uv_resolve::{ResolveFault, resolve};
+use uv_second::{RoomFault, read_as};
 
 /// What the lines are judged against: the profile, the base, the base as the second parser reads it, and how many bytes
 /// a line may have.
@@ -33,7 +33,7 @@ pub(crate) struct Judge<'b> {
 impl<'b> Model for Judge<'b> {
     ghost use Rattle.std.specs.Prelude.{◌≡◌, ◌≤◌, option_copied};
     ghost use Rattle.uv_links.specs.Report.{ListSetting};
-    ghost use Rattle.uv_links.specs.Second.{second_base};
+    ghost use Rattle.uv_second.specs.Second.{second_base};
 
     ghost Value = { ListSetting };
 

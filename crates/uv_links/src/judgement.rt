@@ -24,7 +24,7 @@ pub(crate) enum Judgement {
 
 impl Judgement {
     /// The same as an outcome.
-    #[tactic(auto, unfolding(crate::specs::Second::second_serial))]
+    #[tactic(auto, unfolding(uv_second::specs::Second::second_serial))]
     pub(crate) fn outcome(&self) -> Outcome<'_>
         ensures { said_of result ≡ judged_said self.now }
     {

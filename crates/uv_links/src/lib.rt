@@ -11,7 +11,6 @@ mod outcome;
 mod own_text;
 mod reporter;
 mod run;
-mod second;
 
 pub use counts::Counts;
 pub use fault::LinkFault;

@@ -6,13 +6,13 @@ ghost use Rattle.uv_links.specs.Report.{counted, report_line};
 ghost use Rattle.uv_links.specs.Reporting.{IsSaidOf, Says, none_counted};
 
 use crate::counts::{Counts, count_text};
-use crate::fault::RoomFault;
 use crate::judge::Judge;
 use crate::judgement::Judgement;
 use crate::outcome::push_line;
 use std::alloc::{AllocError, Global};
 use std::marker::Model;
 use uv_lines::Reporter;
+use uv_second::RoomFault;
 
 /// What reports on a list of links: the judge of its lines, and the counts of the lines before.
 #[derive(Drop)]

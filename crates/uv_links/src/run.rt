@@ -3,16 +3,17 @@ ghost use Rattle.std.specs.Prelude.{◌≡◌, ℕ, ◌+◌, ◌-◌, ◌^◌, �
 ghost use Rattle.std.specs.Io.KnownBytes.{Consumes, IsAtEnd};
 ghost use Rattle.uv_links.specs.Run as spec;
 ghost use Rattle.uv_links.specs.Run.{Leaves, Reports, reads_failed, writes_failed};
-ghost use Rattle.uv_links.specs.Second.{AgreesOnBase};
+ghost use Rattle.uv_second.specs.Second.{AgreesOnBase};
 
 use crate::counts::Counts;
-use crate::fault::{LinkFault, RoomFault, fault_of_room};
+use crate::fault::{LinkFault, fault_of_room};
 use crate::judge::Judge;
 use crate::limits::LinkLimits;
 use crate::reporter::LinkReporter;
 use std::alloc::Global;
 use uv_lines::{Frame, LineFault, LineLimits, run_lines};
 use uv_model::{Profile, Record, Sink, Source};
+use uv_second::RoomFault;
 
 /// Reports on a list of links: each of its lines is judged by the profile, against the base where there is one, and
 /// each accepted line compared with the crate `url`.

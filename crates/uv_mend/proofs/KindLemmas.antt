@@ -2,9 +2,9 @@
 use Rattle.std.proofs.Common.{◌≡◌, ℕ, List, Option, Some, ap, sym, ◌∙◌, chars, encode_utf8_all, IsUtf8, option_map}
 use Rattle.std.proofs.lemmas.Str.{encodes-chars}
 use Rattle.url.specs.Parts.{Parts}
-use Rattle.uv_links.specs.Second.{second_serial}
+use Rattle.uv_second.specs.Second.{second_serial}
 use Rattle.uv_model.specs.Records.Url.{Url}
-use Rattle.uv_mend.specs.Second.{ReadsSame, reading}
+use Rattle.uv_second.specs.Second.{ReadsSame, reading}
 
 -- two URLs of one text
 pub reads_same : (base : Option Url) (text other : List ℕ) (first second : Parts) → Some first ≡ reading base text

@@ -2,4 +2,3 @@ pub mod EscapeLemmas
 pub mod KindLemmas
 pub mod PreparedLemmas
 pub mod RepairLemmas
-pub mod SecondLemmas

@@ -4,7 +4,7 @@ use Rattle.uv_model.specs.Records.Url.{Url}
 use Rattle.uv_mend.specs.declared.answer.MendKind.{MendKind}
 use Rattle.uv_mend.specs.declared.answer.MendKind.TheVariants.{Same, Escaped, Changed}
 use Rattle.uv_mend.specs.Escapes.{IsEscapingOf, escaped}
-use Rattle.uv_mend.specs.Second.{ReadsSame}
+use Rattle.uv_second.specs.Second.{ReadsSame}
 
 -- the name of a kind
 abbrev pub kind_name : MendKind → List ℕ

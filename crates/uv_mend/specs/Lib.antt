@@ -4,7 +4,6 @@ pub mod Prefixes
 pub mod Escapes
 pub mod Prepared
 pub mod Slashes
-pub mod Second
 pub mod Hosts
 pub mod Edits
 pub mod Repairs

@@ -1,6 +1,6 @@
 -- Both are read, and their texts are compared.
 use Rattle.std.proofs.Common.{◌≡◌, Some, option_copied, sym, ◌∙◌}
-use Rattle.uv_mend.specs.Second.{reading}
+use Rattle.uv_second.specs.Second.{reading}
 use Rattle.uv_mend.proofs.KindLemmas.{reads_same, same_serial}
 use Rattle.uv_mend.proofs.kinds.reads_same.Goals as goal
 

@@ -1,15 +1,16 @@
-//! The second parser: what the crate `url` makes of a text.
+//! The second parser's answer on a text, alone or against a URL of its own.
 ghost use Rattle.std.specs.Prelude.{◌≡◌, IfOk, option_copied};
 ghost use Rattle.url.specs.Parser.{Gives, parse_url};
-ghost use Rattle.uv_links.specs.Second.{IsReadAs, parsed, room_fault};
+ghost use Rattle.uv_second.specs.Second.{IsReadAs, parsed, room_fault, second_serial};
 
 use crate::fault::RoomFault;
 use std::alloc::Global;
 use url::{ParseError, ParseResult, Url};
 
-/// The URL that the second parser makes of a text, alone or against a base, where the URL's text is the written one.
+/// The URL that the second parser makes of a text, alone or against a base, where the URL's text is the written one;
+/// none where it makes another one, or refuses the text.
 #[tactic(auto, unfolding(crate::specs::Second::second_serial, crate::specs::Second::text_against))]
-pub(crate) fn read_as(
+pub fn read_as(
     alloc: Global,
     base: Option<&Url>,
     text: &str,
@@ -27,8 +28,12 @@ pub(crate) fn read_as(
     }
 }
 
-// The URL that the second parser makes of a text, alone or against a base; none where it refuses the text.
-fn second_url(alloc: Global, base: Option<&Url>, text: &str) -> Result<Option<Url>, RoomFault>
+/// The URL that the second parser makes of a text, alone or against a base; none where it refuses the text.
+pub(crate) fn second_url(
+    alloc: Global,
+    base: Option<&Url>,
+    text: &str,
+) -> Result<Option<Url>, RoomFault>
     ensures { IfOk result (λ url. url ≡ parsed (parse_url (option_copied base.entry) text.now)) }
 {
     match parse(alloc, base, text) {
@@ -59,4 +64,12 @@ fn parse(alloc: Global, base: Option<&Url>, text: &str) -> ParseResult<Url>
         Some(base) => base.join(text),
         None => Url::parse(alloc, text),
     }
+}
+
+/// The URL's text.
+#[tactic(auto, unfolding(crate::specs::Second::second_serial))]
+pub fn serial(url: &Url) -> &str
+    ensures { result.now ≡ second_serial url.now }
+{
+    url.as_str()
 }

@@ -4,8 +4,8 @@ use Rattle.url.specs.Parser.{parse_url}
 use Rattle.url.specs.Parts.{Parts, serialize}
 use Rattle.url.specs.declared.error.ParseError.{ParseError}
 use Rattle.url.specs.declared.error.ParseError.TheVariants as error
-use Rattle.uv_links.specs.declared.fault.RoomFault.{RoomFault}
-use Rattle.uv_links.specs.declared.fault.RoomFault.TheVariants as fault
+use Rattle.uv_second.specs.declared.fault.RoomFault.{RoomFault}
+use Rattle.uv_second.specs.declared.fault.RoomFault.TheVariants as fault
 use Rattle.uv_model.specs.Records.Serialize.{serial}
 use Rattle.uv_model.specs.Records.Url.{Url}
 
@@ -48,3 +48,21 @@ abbrev pub room_fault : ParseError → Option RoomFault
 room_fault error.OutOfMemory = Some fault.Memory
 room_fault error.Overflow = Some fault.Overflow
 room_fault _ = None
+
+-- ---- against a base's text
+
+-- the URL that it reads, against a base that it has read, where it has
+abbrev pub read_against : Option Parts → List ℕ → Option Parts
+read_against None text = None
+read_against (Some base) text = parsed (parse_url (Some base) text)
+
+-- the URL that it reads of the bytes of a text; the base it reads by its text
+unfoldable pub reading : Option Url → List ℕ → Option Parts
+reading None text = parsed (parse_url None text)
+reading (Some base) text = read_against (parsed (parse_url None (serial base))) text
+
+-- it reads both texts, as URLs of one text
+pub record ReadsSame (base : Option Url) (text other : List ℕ) : Type 0 where
+  pub url : List ℕ
+  pub first : option_map second_serial (reading base text) ≡ Some url
+  pub second : option_map second_serial (reading base other) ≡ Some url

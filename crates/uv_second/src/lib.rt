@@ -1,0 +1,13 @@
+//! What a second parser, the crate `url`, makes of a text.
+#![tactic(auto)]
+
+mod answer;
+mod fault;
+mod readings;
+
+pub use answer::{read_as, serial};
+pub use fault::RoomFault;
+pub use readings::reading;
+
+#[cfg(test)]
+mod tests;
