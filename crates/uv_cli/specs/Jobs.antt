@@ -11,7 +11,7 @@ use Rattle.uv_links.specs.declared.counts.Counts.{Counts}
 use Rattle.uv_links.specs.declared.fault.LinkFault.{LinkFault}
 use Rattle.uv_links.specs.Report.{ListSetting}
 use Rattle.uv_links.specs.Run.{Leaves, Reports, reads_failed, writes_failed}
-use Rattle.uv_links.specs.Second.{AgreesOnBase}
+use Rattle.uv_second.specs.Second.{AgreesOnBase}
 use Rattle.uv_resolve.specs.Base.{IsBase, IsBaseRefused}
 use Rattle.uv_vectors.specs.Run.{WritesVectors, WritesVectorsPrefix, is_judged}
 use Rattle.uv_words.specs.declared.words.Job.{Job}
