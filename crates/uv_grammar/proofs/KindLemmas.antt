@@ -4,7 +4,6 @@ use Rattle.std.proofs.Common.{◌∙◌, ap, subst, inl, inr}
 use Rattle.std.specs.Prelude.{IsTrue, if◌then◌else◌}
 use Rattle.std.proofs.lemmas.Bool.{false≢true}
 use Rattle.std.proofs.lemmas.Option.{none-some}
-use Rattle.uv_model.specs.declared.host.Host.{Host}
 use Rattle.uv_model.specs.declared.host.Host.TheVariants.{Empty}
 use Rattle.uv_model.specs.declared.path.UrlPath.TheVariants.{Opaque, Segments}
 use Rattle.uv_model.specs.declared.profile.Profile.{Profile}
@@ -15,9 +14,9 @@ use Rattle.uv_model.specs.declared.rule.Rule.TheVariants.{FirstSegmentEmpty, Dri
 use Rattle.uv_model.specs.declared.scheme.Class.{Class}
 use Rattle.uv_model.specs.declared.scheme.Class.TheVariants as classes
 use Rattle.uv_model.specs.Ascii.{number_sign, question_mark}
-use Rattle.uv_model.specs.Violations.AllViolations.{AreFaults, ListsViolations}
+use Rattle.uv_model.specs.Violations.AllViolations.{AreFaults}
 use Rattle.uv_model.specs.Violations.Violation.{Violation, ViolationOf, HasHost, HostPartViolation, JudgedViolation}
-use Rattle.uv_model.specs.Violations.Violation.{Behind, PathStartViolation, StartViolation}
+use Rattle.uv_model.specs.Violations.Violation.{PathStartViolation, StartViolation}
 use Rattle.uv_model.specs.Violations.Refusal.{IsLeast}
 use Rattle.uv_model.specs.Cut.{Cut, behind_scheme, class_in, cut_of, host_text_cut, path_text_cut, port_text_cut}
 use Rattle.uv_model.specs.Cut.{scheme_cut, text_before, text_behind}
@@ -32,7 +31,7 @@ use Rattle.uv_grammar.specs.declared.checker.Verdict.{Verdict}
 use Rattle.uv_grammar.specs.declared.checker.Verdict.TheVariants.{Yes, No}
 use Rattle.uv_grammar.specs.Bases.{IsOfKind, url_of_kind}
 use Rattle.uv_grammar.specs.NoMemory.{HostPartTakesNoMemory, TakesNoMemory, TakesNoMemoryAgainst}
-use Rattle.uv_grammar.specs.Verdict.{IsAccepted, IsRefused, IsValidity, IsVerdict}
+use Rattle.uv_grammar.specs.Verdict.{IsValidity, IsVerdict}
 
 -- ---- two bases of one kind
 

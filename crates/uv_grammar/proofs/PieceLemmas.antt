@@ -1,17 +1,8 @@
 -- Lemmas on the texts between the slashes of a path, of its bytes and of its code points.
-use Rattle.std.proofs.Common.{◌≡◌, ◌≢◌, ℕ, Option, Some, None, List, [], ◌∷◌, ◌++◌, true, false, map, refl, sym, ap}
-use Rattle.std.proofs.Common.{◌∙◌, arith, inl, inr, ne_eqb}
-use Rattle.std.specs.Prelude.{◌==◌}
-use Rattle.std.specs.List.{slice_split, onto_first}
-use Rattle.std.specs.Borrow.{Bor}
-use Rattle.std.specs.Str.{chars, IsUtf8}
-use Rattle.uv_grammar.specs.Slices.{chars_of_each}
-use Rattle.std.proofs.lemmas.Bool.{and_parts, cases_Bool, cases_lt}
-use Rattle.std.proofs.lemmas.Str.{encode_ascii, encodes-chars, chars-encodes, scalars-chars}
-use Rattle.std.proofs.Math.Utf8.{encodes, encode, scalars, scalar}
+use Rattle.std.proofs.Common.{◌≡◌, ◌≢◌, ℕ, Option, Some, None, List, [], ◌∷◌, ◌++◌, true, false, refl, ap}
+use Rattle.std.proofs.Common.{◌∙◌}
 use Rattle.uv_model.specs.Ascii.{slash}
 use Rattle.uv_model.specs.Path.{is_without, starts_with_slash}
-use Rattle.uv_model.proofs.Texts.AsciiLemmas.{AreBeyond, AreBeyond-encode}
 use Rattle.uv_model.proofs.Texts.MarkLemmas.{is_without-cons}
 use Rattle.uv_model.specs.Parts.{PathRelative, written_behind}
 use Rattle.uv_grammar.specs.Built.{form_with, left_segments, pieces, segments_of}

@@ -24,7 +24,6 @@ use Rattle.uv_model.specs.Cut.{written_start, starts_with_two_slashes}
 use Rattle.uv_model.specs.Hosts.Domain.{IsDomain, is_form_code_point}
 use Rattle.uv_model.specs.Parts.{written_behind}
 use Rattle.uv_model.specs.Path.{is_without}
-use Rattle.uv_model.specs.Scheme.{default_port}
 use Rattle.uv_model.specs.Records.Url.{Url}
 use Rattle.uv_model.specs.Setting.{Setting, setting_of}
 use Rattle.uv_model.proofs.Hosts.DomainLemmas.{IsAscii-form}
@@ -35,8 +34,8 @@ use Rattle.uv_model.proofs.Violations.UnitViolationLemmas.{no_violation-faultles
 use Rattle.uv_grammar.specs.Built.{built}
 use Rattle.uv_grammar.specs.PartViolations.{BehindAuthority}
 use Rattle.uv_grammar.specs.PartValues.{FitsHostPart, FitsPortPart}
-use Rattle.uv_grammar.specs.PlainLinks.{IsNameCut, IsPartCut, IsPathCut, IsPlainLink, IsPortCut}
-use Rattle.uv_grammar.specs.PlainLinks.{IsSpecialCut, MayBeUnits}
+use Rattle.uv_grammar.specs.PlainLinks.{IsPlainLink, IsPortCut}
+use Rattle.uv_grammar.specs.PlainLinks.{MayBeUnits}
 use Rattle.uv_grammar.specs.Verdict.{IsAccepted}
 use Rattle.uv_grammar.proofs.VerdictLemmas.{accepted}
 use Rattle.uv_model.proofs.Violations.ViolationsExcludeParts.{one_slash_start}

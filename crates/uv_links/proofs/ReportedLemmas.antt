@@ -22,7 +22,7 @@ use Rattle.uv_links.specs.Fault.{IsBaseFault}
 use Rattle.uv_links.specs.Report.{ListSetting, Said, TooLong, IsSaid, AreSaid, IsReport, IsReportOfFirst, report_line}
 use Rattle.uv_links.specs.Report.{report_lines, count_line, counted, tally, ok_of, bad_of, differs_of}
 use Rattle.uv_links.specs.Reporting.{Reporting, IsSaidOf, Says, none_counted}
-use Rattle.uv_links.specs.Run.{WroteFirst, WrotePrefix, WroteLines, Reports, Leaves, fault_of_run, reads_failed}
+use Rattle.uv_links.specs.Run.{WroteFirst, WroteLines, Reports, Leaves, fault_of_run, reads_failed}
 use Rattle.uv_links.specs.Run.{writes_failed}
 
 -- ---- what is said of each line

@@ -10,7 +10,7 @@ use Rattle.uv_lines.specs.declared.fault.LineFault.{LineFault}
 use Rattle.uv_lines.specs.declared.fault.LineFault.TheVariants as stopped
 use Rattle.uv_second.specs.declared.fault.RoomFault.{RoomFault}
 use Rattle.uv_links.specs.Fault.{fault_of_room}
-use Rattle.uv_links.specs.Report.{ListSetting, IsReport, IsReportOfFirst, count_line}
+use Rattle.uv_links.specs.Report.{ListSetting, IsReport, IsReportOfFirst}
 use Rattle.uv_second.specs.Second.{AgreesOnBase}
 
 -- the whole report on the bytes was written, on no more lines than may come, and these are its counts

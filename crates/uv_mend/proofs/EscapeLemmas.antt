@@ -1,6 +1,6 @@
 -- Escapes are ASCII, and a text with escapes is an escaping of the text.
 use Rattle.std.proofs.Common.{◌≡◌, ◌⊎◌, inl, inr, ℕ, ◌<◌, Bool, true, false, not, ◌&&◌, ◌||◌, List, [], ◌∷◌, ◌++◌}
-use Rattle.std.proofs.Common.{refl, sym, ap, ◌∙◌, chars, append_assoc, subst, arith, ⊎_elim}
+use Rattle.std.proofs.Common.{refl, ap, ◌∙◌, chars, append_assoc, subst, arith, ⊎_elim}
 use Rattle.std.specs.Prelude.{◌==◌}
 use Rattle.std.proofs.lemmas.Bool.{cases_Bool}
 use Rattle.std.proofs.lemmas.Bool.Decides.{nat_tests}
@@ -10,7 +10,6 @@ use Rattle.std.proofs.lemmas.Str.Ascii.{IsAscii-from_all}
 use Rattle.percent_encoding.specs.Percent.{percent_encode_byte}
 use Rattle.percent_encoding.proofs.PercentLemmas.{All-percent_encode_byte, IsEscapeByte}
 use Rattle.uv_model.specs.Ascii.{number_sign, slash}
-use Rattle.uv_model.specs.Cut.{starts_with_two_slashes}
 use Rattle.uv_model.specs.Units.{is_unit_at}
 use Rattle.uv_model.specs.Valid.{starts_with_scheme}
 use Rattle.uv_mend.specs.declared.prefixes.Stop.{Stop}

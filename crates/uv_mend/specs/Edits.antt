@@ -1,5 +1,5 @@
 -- The edits of a text by what the URL parser passes over, and those by the rule that a text then still violates.
-use Rattle.std.specs.Prelude.{ℕ, ◌-◌, List, [], ◌∷◌, ◌++◌, take, drop, Option, Some, None}
+use Rattle.std.specs.Prelude.{ℕ, ◌-◌, List, ◌∷◌, ◌++◌, take, drop, Option, Some, None}
 use Rattle.uv_model.specs.declared.rule.Refusal.{Refusal}
 use Rattle.uv_model.specs.declared.rule.Rule.{Rule}
 use Rattle.uv_model.specs.declared.rule.Rule.TheVariants.{HostDomain, HostNumber, HostIpv6, HostCodePoint}

@@ -1,10 +1,10 @@
 -- The host of a text, written as the crate `url` writes it.
-use Rattle.std.specs.Prelude.{ℕ, Bool, true, false, not, ◌&&◌, ◌||◌, ◌==◌, List, [], ◌∷◌, ◌++◌, chars, encode_utf8_all}
+use Rattle.std.specs.Prelude.{ℕ, Bool, false, ◌||◌, List, [], ◌∷◌, ◌++◌, chars, encode_utf8_all}
 use Rattle.std.specs.Prelude.{Option, Some, None, option_map, if◌then◌else◌}
 use Rattle.url.specs.Host.{host_text}
 use Rattle.url.specs.Parts.{Parts, has_credentials, nonempty_host}
 use Rattle.uv_model.specs.declared.scheme.Class.{Class}
-use Rattle.uv_model.specs.declared.scheme.Class.TheVariants.{Special, File, Other}
+use Rattle.uv_model.specs.declared.scheme.Class.TheVariants.{File}
 use Rattle.uv_model.specs.Ascii.{slash}
 use Rattle.uv_model.specs.Cut.{is_port_mark, is_within}
 use Rattle.uv_model.specs.Records.Url.{Url}

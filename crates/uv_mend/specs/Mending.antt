@@ -1,7 +1,6 @@
 -- What is answered of a text that is to be mended.
 use Rattle.std.specs.Prelude.{ℕ, List, Option, Some, None, chars, string_bytes}
 use Rattle.uv_model.specs.declared.profile.Profile.{Profile}
-use Rattle.uv_model.specs.declared.rule.Refusal.{Refusal}
 use Rattle.uv_model.specs.Records.Url.{Url}
 use Rattle.uv_grammar.specs.Verdict.{IsRefused}
 use Rattle.uv_mend.specs.declared.answer.Mending.{Mending}

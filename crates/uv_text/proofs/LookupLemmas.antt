@@ -1,6 +1,6 @@
 -- Look-ups by the halves of bytes, lane by lane.
 use Rattle.std.proofs.Common.{◌≡◌, ℕ, zero, suc, Bool, inl, inr, not, ◌+◌, ◌*◌, ◌/◌, ◌^◌, ◌%◌, ◌<◌, ◌≤◌, eqb, cond}
-use Rattle.std.proofs.Common.{false, [], ◌∷◌, List, length, map, get_or, take, drop, ◌++◌, replicate, bit_and, refl}
+use Rattle.std.proofs.Common.{[], ◌∷◌, List, length, map, get_or, take, drop, ◌++◌, replicate, bit_and, refl}
 use Rattle.std.proofs.Common.{sym, ap, ◌∙◌, arith, w8, Fits}
 use Rattle.std.proofs.lemmas.List.{get_or-map, length-map, ext_get_or}
 use Rattle.std.proofs.lemmas.Nat.{and_le_r}

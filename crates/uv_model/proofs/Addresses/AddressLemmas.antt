@@ -15,7 +15,7 @@ use Rattle.std.proofs.lemmas.Str.Ascii.{IsAscii-nil, IsAscii-cons}
 use Rattle.uv_model.proofs.Texts.AsciiLemmas.{IsAscii-from_test}
 use Rattle.std.proofs.lemmas.Bool.Decides.{nat_tests}
 use Rattle.uv_model.specs.Ascii.{colon}
-use Rattle.uv_model.specs.Hosts.Address.{IsFourNumbers, IsGroup, IsGroupList, IsSide, IsCompressed, IsIpv4, IsIpv6}
+use Rattle.uv_model.specs.Hosts.Address.{IsFourNumbers, IsGroup, IsGroupList, IsSide, IsCompressed, IsIpv6}
 use Rattle.uv_model.specs.Hosts.Address.{AreLibraryTexts}
 
 -- ---- IPv4

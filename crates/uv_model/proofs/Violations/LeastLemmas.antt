@@ -5,7 +5,7 @@ use Rattle.uv_model.specs.declared.rule.Rule.{Rule}
 use Rattle.uv_model.specs.declared.rule.Refusal.{Refusal}
 use Rattle.uv_model.specs.Violations.Refusal.{IsLeast, IsLeastRefusal}
 use Rattle.uv_model.specs.Violations.Rule.{rule_number}
-use Rattle.uv_model.specs.Violations.Violation.{Behind, fault_behind, fault_or}
+use Rattle.uv_model.specs.Violations.Violation.{Behind, fault_behind}
 
 -- a violation of either kind
 abbrev pub Either : (ℕ → Rule → Type 0) → (ℕ → Rule → Type 0) → ℕ → Rule → Type 0

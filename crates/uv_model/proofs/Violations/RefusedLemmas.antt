@@ -11,9 +11,9 @@ use Rattle.uv_model.specs.Path.{starts_with_slash}
 use Rattle.uv_model.specs.Violations.UnitViolation.{UnitViolation}
 use Rattle.uv_model.specs.Setting.{Setting, setting_of}
 use Rattle.uv_model.specs.Records.Url.{Url}
-use Rattle.uv_model.specs.Cut.{Cut, IsCut, host_place, port_place, path_place, query_place, fragment_place}
+use Rattle.uv_model.specs.Cut.{Cut, IsCut, port_place, path_place, query_place, fragment_place}
 use Rattle.uv_model.specs.Cut.{starts_with_two_slashes}
-use Rattle.uv_model.specs.Violations.Violation.{Behind, StartViolation, HostViolation, PortViolation}
+use Rattle.uv_model.specs.Violations.Violation.{Behind, StartViolation, PortViolation}
 use Rattle.uv_model.specs.Violations.Violation.{PathStartViolation, HostPartViolation, PortPartViolation}
 use Rattle.uv_model.specs.Violations.Violation.{MayBeUnitViolation, JudgedViolation, ContentViolation, IsStarted}
 use Rattle.uv_model.specs.Violations.Violation.{ViolationOf, Violation, slashes_place, fault_behind}

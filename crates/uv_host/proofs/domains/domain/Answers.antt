@@ -1,8 +1,6 @@
 -- A plain name holds permitted code points, and a lower case that is a form is ASCII.
 use Rattle.std.proofs.Common.{sym, ◌∙◌}
 use Rattle.std.proofs.lemmas.Bool.{false≢true}
-use Rattle.std.specs.String.{string_bytes}
-use Rattle.uv_host.specs.Domains.{HasFormByLengths}
 use Rattle.uv_host.proofs.PlainLemmas.{permitted_plain}
 use Rattle.uv_host.proofs.domains.domain.Goals as goal
 

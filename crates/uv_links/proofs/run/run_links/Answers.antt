@@ -1,13 +1,13 @@
 -- The base's text first, then the lines, and the line of counts.
-use Rattle.std.proofs.Common.{◌≡◌, ◌+◌, ◌∙◌, [], ◌++◌, List, ℕ, option_copied, sym, ap, subst, add-zero}
+use Rattle.std.proofs.Common.{◌≡◌, ◌+◌, ◌∙◌, [], ◌++◌, option_copied, sym, ap, subst, add-zero}
 use Rattle.std.proofs.KnownBytes.{Consumes-nil}
 use Rattle.std.specs.Io.KnownBytes.{IsAtEnd}
 use Rattle.uv_lines.specs.declared.limits.LineLimits.{LineLimits}
 use Rattle.uv_lines.specs.Framed.{Framed, LeavesPart}
 use Rattle.uv_lines.specs.Run as run
 use Rattle.uv_links.specs.Report.{ListSetting, count_line}
-use Rattle.uv_links.specs.Reporting.{Reporting, Says}
-use Rattle.uv_links.specs.Run.{Leaves, Reports, reads_failed, writes_failed}
+use Rattle.uv_links.specs.Reporting.{Says}
+use Rattle.uv_links.specs.Run.{Leaves, Reports}
 use Rattle.uv_links.proofs.ReportedLemmas.{Lines, Whole, base-left, fresh, run-failed, run-left, run-reports}
 use Rattle.uv_links.proofs.run.run_links.Goals as goal
 

@@ -1,6 +1,4 @@
 -- An escape is ASCII.
-use Rattle.std.proofs.Common.{ap, ◌∙◌}
-use Rattle.std.specs.Str.{chars}
 use Rattle.uv_mend.proofs.EscapeLemmas.{chars-escape}
 use Rattle.uv_mend.proofs.escapes.push_byte.Goals as goal
 

@@ -1,5 +1,5 @@
 -- What the edits give is valid, and its kind was looked at.
-use Rattle.std.proofs.Common.{◌≡◌, Some, None, ap, chars, option_copied, string_bytes, subst, sym, ◌∙◌, IfSome}
+use Rattle.std.proofs.Common.{◌≡◌, Some, chars, option_copied, string_bytes, subst, ◌∙◌}
 use Rattle.uv_mend.specs.Edits.{cleaned}
 use Rattle.uv_mend.specs.Kinds.{IsKind}
 use Rattle.uv_mend.specs.Repairs.{Repairs}

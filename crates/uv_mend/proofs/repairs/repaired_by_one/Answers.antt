@@ -1,5 +1,5 @@
 -- A refused text with its edit, and without one.
-use Rattle.std.proofs.Common.{List, ℕ, Option, Some, None, option_copied, option_map, ◌∙◌, ap, sym, subst}
+use Rattle.std.proofs.Common.{Some, option_copied, option_map, ◌∙◌, ap, sym}
 use Rattle.std.proofs.lemmas.Result.{IfOk-weaker}
 use Rattle.uv_mend.specs.Repairs.{Repairs, decoded}
 use Rattle.uv_mend.proofs.RepairLemmas.{repairs-edited, repairs-stuck}

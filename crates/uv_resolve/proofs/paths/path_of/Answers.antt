@@ -1,5 +1,5 @@
 -- The path of a text with an opaque one.
-use Rattle.std.proofs.Common.{◌≡◌, false, IfOk, ap, chars, option_copied, subst, sym, ◌∙◌}
+use Rattle.std.proofs.Common.{◌≡◌, false, IfOk, ap, option_copied, subst, sym, ◌∙◌}
 use Rattle.uv_grammar.specs.Form.{seen_form}
 use Rattle.uv_model.specs.declared.path.UrlPath.{UrlPath}
 use Rattle.uv_model.specs.declared.path.UrlPath.TheVariants.{Opaque}
