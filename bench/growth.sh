@@ -1,10 +1,10 @@
 #!/usr/bin/env bash
-# Shows that the cost of a check, of all faults (`check --all`) and of a line of a list (`links`) grows with the text
-# and no faster: instructions by callgrind for each shape, the reading of the same text taken off. Ten times the length
-# costs at most eleven times: checks and faults at 10 thousand, 100 thousand and a million code points, a line at a
-# hundredth, a tenth and the whole of the length that it may have. It fails where a figure is missing or below one
-# instruction for 32 bytes, and where an answer isn't the wanted one. It needs valgrind.
-# Usage: bench/growth.sh [--only check|faults|links] [COUNT..]
+# Shows that the cost of a check, of all faults (`check --all`), of a mended text (`mend`) and of a line of a list
+# (`links`) grows with the text and no faster: instructions by callgrind for each shape, the reading of the same text
+# taken off. Ten times the length costs at most eleven times: a line at a hundredth, a tenth and the whole of the length
+# that it may have, all else at 10 thousand, 100 thousand and a million code points. It fails where a figure is missing
+# or below one instruction for 32 bytes, and where an answer isn't the wanted one. It needs valgrind.
+# Usage: bench/growth.sh [--only check|faults|mend|links] [COUNT..]
 set -euo pipefail
 export LC_ALL=C.UTF-8
 top=$(dirname "$(dirname "$(realpath "$0")")")
@@ -122,6 +122,22 @@ wanted() {
     esac
 }
 
+# mended SHAPE COUNT : the line that `mend` writes first of a text of that shape, and the mended text where there is one
+mended() {
+    local count=$2 times
+    times=$((count / $(length "${1#*+}")))
+    case $1 in
+        bad_end) echo 'mended same'; shaped path "$count" ;;
+        bad_end_beyond_ascii) echo 'mended same'; shaped beyond_ascii "$count" ;;
+        bad_query_end) echo 'mended escaped'; shaped query "$count"; printf '%%254' ;;
+        path+/) echo 'mended same'; printf 'http://h/.'; repeated $((times + 1)) / ;;
+        port+/) echo 'mended same'; printf 'http://h:/.'; repeated $((times + 1)) / ;;
+        path+% | query+% | reference+%) echo 'mended escaped'; filled "${1%\%}%25" $((times * 3)) ;;
+        'path+[' | 'query+[' | 'reference+[') echo 'mended escaped'; filled "${1%[}%5B" $((times * 3)) ;;
+        *) if [ "$(wanted "$1" "$count")" = valid ]; then echo valid; else echo none; fi ;;
+    esac
+}
+
 # ---- runs
 
 # From some length on the C library copies and fills bytes by one instruction that callgrind counts once a byte. So that
@@ -155,6 +171,20 @@ of_faults() {
     said=$(head -n 1 "$room/said")
     if [ "$said" != valid ]; then said="$(wc -l <"$room/said") faults, $said, $(tail -n 1 "$room/said")"; fi
     right=$(wanted "$1" "$2")
+}
+
+# of_mend SHAPE COUNT : the cost of mending the text, and whether what is written is the mended text
+of_mend() {
+    local base
+    base=$(base_of "$1")
+    reading=$(instructions "$room/text" "$output" read ${base:+"$base"})
+    whole=$(instructions "$room/text" "$output" mend ${base:+"$base"})
+    mended "$1" "$2" >"$room/mended"
+    right=$(head -n 1 "$room/mended")
+    said=$(head -n 1 "$room/said")
+    case $said in
+        mended*) diff -q <(cat "$room/mended"; echo) "$room/said" >/dev/null || said+=', but another text' ;;
+    esac
 }
 
 # of_links SHAPE COUNT : the cost of the text as a line of a list, the run over an empty list taken off
@@ -205,13 +235,13 @@ line_counts() {
     esac
 }
 
-for what in check faults links; do
+for what in check faults mend links; do
     if [ -n "$only" ] && [ "$only" != "$what" ]; then continue; fi
     for shape in "${shapes[@]}"; do
         case $what in
             # a reference is judged with its base, which the driver of checks doesn't take
             check) [ -n "$(base_of "$shape")" ] || grows check "$shape" "${counts[@]}" ;;
-            faults) grows faults "$shape" "${counts[@]}" ;;
+            faults | mend) grows "$what" "$shape" "${counts[@]}" ;;
             links) grows links "$shape" $(line_counts "$shape") ;;
         esac
     done

@@ -1,11 +1,11 @@
 //! Writes what the commands say of standard input, which is one text: the driver of bench/growth.sh. Its arguments are
 //! a mode and a base, if any. `faults` writes what `urlcheck check --all` writes, `check` what `urlcheck check` writes,
-//! and `read` reads the text and does no more.
+//! `mend` what `urlcheck mend` writes, and `read` reads the text and does no more.
 #![tactic(auto)]
 
 use std::io::{self, Error, ErrorKind, Read};
 use std::{env, str};
-use uv_cli::{CheckEnd, run_check, run_faults};
+use uv_cli::{CheckEnd, run_check, run_faults, run_mend};
 use uv_model::{Profile, ToWriter};
 
 fn main(rt: HostRuntime) -> io::Result<()> {
@@ -24,6 +24,7 @@ fn main(rt: HostRuntime) -> io::Result<()> {
     let end = match mode {
         "faults" => run_faults(rt.alloc(), text, base, Profile::Standard, &mut out),
         "check" => run_check(rt.alloc(), text, base, Profile::Standard, &mut out),
+        "mend" => run_mend(rt.alloc(), text, base, Profile::Standard, &mut out),
         _ => Ok(CheckEnd::Valid),
     };
     match end {
