@@ -44,7 +44,7 @@ places=$("$program" check --all 'http://a b:x/ %' | awk '{ print "1:" $2 + 1 " [
 expect 2 '' 'base refused 7 host-domain\n' lint --base 'http://h a/' links.txt
 expect 2 '' 'base refused 0 no-scheme\n' lint --base '' missing.txt
 formats='urlcheck: the formats: gnu caret json github sarif checkstyle\nwords\n'
-for name in GNU gnu, jsan checkstle; do
+for name in GNU gnu, gn jsan checkstle; do
     near=gnu
     case $name in j*) near=json ;; c*) near=checkstyle ;; esac
     expect 2 '' "urlcheck: no format is named '$name'; the nearest is $near\\n$formats" \
@@ -324,4 +324,4 @@ ends_with 1 $? 'urlcheck: 1000000 lines, 10000 refused\n' 'lint of a million lin
 grep -qxF "$room/million:1000000:11: error: U+0020 SPACE may not stand in a URL [code-point]" "$room/out" ||
     fail "lint of a million lines: it ends with $(tail -n 1 "$room/out")"
 rm -f "$room/million" "$room"/hostile.* "$room"/none.*
-all_cases 128
+all_cases 129

@@ -127,8 +127,8 @@ fn push_names(text: &mut String, noun: &str, names: &[&str]) -> Result<(), Alloc
     text.push_str("\n")
 }
 
-// The nearest of the names, where no more than a third of the word's letters have to be changed, taken away or added,
-// whatever their case.
+// The nearest of the names, where no more than a third of the word's letters, or one of a shorter word, have to be
+// changed, taken away or added, whatever their case.
 fn nearest<'n>(
     alloc: Global,
     word: &str,
@@ -136,7 +136,7 @@ fn nearest<'n>(
 ) -> Result<Option<&'n str>, AllocError> {
     let word = word.to_ascii_lowercase(alloc)?;
     let mut near = None;
-    let mut least = word.len() / 3;
+    let mut least = (word.len() / 3).max(1);
     for name in names {
         let edits = levenshtein(alloc, word.as_str(), name)?;
         if edits <= least && (near.is_none() || edits < least) {
