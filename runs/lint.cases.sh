@@ -126,6 +126,19 @@ $room/ab
 /%2F$room/ab" ] || fail "names as paths: $uris"
 rm -f "$room/long".* "$room/a:b.txt" "$room/a#b" "$room/a?b" "$room/a%41" "$room/https:" "$room/ab"
 
+# SARIF says whether every file was read to its end, and if not, that standard error has the name.
+printf 'x\n' >"$room/one.txt"
+(cd "$room" && "$program" lint --quiet --format sarif missing one.txt) >"$room/out" 2>"$room/err"
+ends_with 2 $? "urlcheck: missing: can't be read: there is no such file\n" 'SARIF of a file that is missing'
+invocations=$(python3 -c 'import json, sys
+(run,) = json.load(sys.stdin)["runs"]
+(invocation,) = run["invocations"]
+(notification,) = invocation["toolExecutionNotifications"]
+print(len(run["results"]), invocation["executionSuccessful"], notification["level"], notification["message"]["text"])
+' <"$room/out")
+[ "$invocations" = "1 False error a file can't be read, which standard error names" ] ||
+    fail "SARIF of a file that is missing: $invocations"
+
 # Standard input is the file named `-`, alone and among others; at its end there is no more of it.
 # of_input STATUS STDOUT STDERR TEXT WORD.. : a lint with these words, of a standard input with this text, ends so
 of_input() {
@@ -324,4 +337,4 @@ ends_with 1 $? 'urlcheck: 1000000 lines, 10000 refused\n' 'lint of a million lin
 grep -qxF "$room/million:1000000:11: error: U+0020 SPACE may not stand in a URL [code-point]" "$room/out" ||
     fail "lint of a million lines: it ends with $(tail -n 1 "$room/out")"
 rm -f "$room/million" "$room"/hostile.* "$room"/none.*
-all_cases 129
+all_cases 130

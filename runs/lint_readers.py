@@ -129,6 +129,7 @@ def sarif(text):
     log = json.loads(text)
     want(log["version"] == "2.1.0" and log["$schema"].endswith("sarif-2.1.0.json"), "sarif: the version")
     (run,) = log["runs"]
+    want(run["invocations"] == [{"executionSuccessful": True}], "sarif: the invocation")
     driver = run["tool"]["driver"]
     want(driver["name"] == "urlcheck" and run["columnKind"] == "unicodeCodePoints", "sarif: the driver")
     ids = [rule["id"] for rule in driver["rules"]]

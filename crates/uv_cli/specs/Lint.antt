@@ -25,7 +25,7 @@ use Rattle.uv_cli.specs.declared.ends.End.TheVariants as end
 use Rattle.uv_vectors.specs.declared.fault.CliFault.TheVariants as cli
 use Rattle.uv_cli.specs.declared.linted.Linted.{Linted}
 use Rattle.uv_cli.specs.Stream.{Stream}
-use Rattle.uv_cli.specs.Linted.{is_clean, is_stopped, is_writable, no_file, with_fault, with_file}
+use Rattle.uv_cli.specs.Linted.{completion_of, is_clean, is_stopped, is_writable, no_file, with_fault, with_file}
 
 -- ---- what the job asks for
 
@@ -160,7 +160,7 @@ pub record IsLinted (setting : List ℕ → FileSetting) (format : Format) (file
   pub ended : Stream
   pub begins : WritesPiece true (begin_text format) (no_file is_quiet) first old begun
   pub all : LintsAll setting files first last input rest begun ended
-  pub ends : WritesPiece (is_writable last.stopped) (end_text format) last linted ended new
+  pub ends : WritesPiece (is_writable last.stopped) (end_text format (completion_of last)) last linted ended new
 
 -- what was read and written of the files against a URL as base
 abbrev pub HasLintedAgainst : LintJob → Option Url → Format → End → Stream → Stream → Stream → Stream → Type 0

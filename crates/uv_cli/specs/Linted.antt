@@ -5,6 +5,8 @@ use Rattle.uv_lint.specs.declared.counts.LintCounts.{LintCounts}
 use Rattle.uv_lint.specs.declared.fault.LintFault.{LintFault}
 use Rattle.uv_lint.specs.declared.fault.LintFault.TheVariants.{Memory, Read, Write, TooManyLines, Endless}
 use Rattle.uv_lint.specs.Report.{none_counted}
+use Rattle.uv_report.specs.declared.completion.Completion.{Completion}
+use Rattle.uv_report.specs.declared.completion.Completion.TheVariants.{Whole, Unread, Stopped}
 use Rattle.uv_cli.specs.declared.linted.Linted.{Linted}
 
 -- before the first file
@@ -48,6 +50,10 @@ is_writable _ = true
 -- nothing was found
 abbrev pub is_clean : Linted → Bool
 is_clean linted = linted.counts.refused == 0
+
+-- how the run over the files has ended
+abbrev pub completion_of : Linted → Completion
+completion_of linted = if is_stopped linted then Stopped else if linted.is_unread then Unread else Whole
 
 -- the exit status
 abbrev pub lint_status : Linted → ℕ

@@ -2,7 +2,7 @@
 ghost use Rattle.std.specs.Prelude.{◌≡◌, ◌-◌, ◌^◌, ◌<◌, ◌⊎◌, IfOk, codes, map, option_copied, string_bytes, true};
 ghost use Rattle.std.specs.Str.{bytes_eq};
 ghost use Rattle.uv_lint.specs.LineViolations.{file_setting};
-ghost use Rattle.uv_report.specs.Report.{begin_text, end_text};
+ghost use Rattle.uv_report.specs.Report.{begin_text};
 ghost use Rattle.uv_cli.specs.Lint.{HasLinted, HasLintedAgainst, LintsAll, LintsNamed, LintsNext, LintsNothing};
 ghost use Rattle.uv_cli.specs.Lint.{LintsOpened, IsUnopened, WritesPiece, form_of, format_of};
 ghost use Rattle.uv_cli.specs.Linted.{is_stopped, is_writable};
@@ -19,7 +19,7 @@ use std::fs::Files;
 use std::io::ErrorKind;
 use uv_lint::{LineForm, LintCounts, LintFault, LintSetting, run_lint};
 use uv_model::{DeviceFault, FromReader, Record, Sink, Source, write_whole};
-use uv_report::{Format, push_begin, push_end};
+use uv_report::{Format, end_of, push_begin};
 use uv_resolve::{ResolveFault, resolve_base};
 use uv_vectors::CliFault;
 use uv_words::LintJob;
@@ -107,24 +107,21 @@ fn lint_against<R: Files + Eprint + AllocGlobal, I: Source, S: Sink>(
         format,
         form: form_of(job.located),
     };
-    let Ok((begin, end)) = begin_and_end(rt.alloc(), format) else {
+    let Ok(begin) = begin_of(rt.alloc(), format) else {
         return End::Fault(CliFault::Memory);
     };
     let linted = write_piece(out, begin.as_str(), Linted::new(job.quiet));
     let linted = lint_each(rt, job.files.as_slice(), setting, linted, input, out);
-    End::Linted(write_piece(out, end.as_str(), linted))
+    End::Linted(write_piece(out, end_of(format, linted.completion()), linted))
 }
 
-// What a report begins with, and what it ends with.
-fn begin_and_end(alloc: Global, format: Format) -> Result<(String, String), AllocError>
-    ensures { IfOk result (λ r.
-        (string_bytes r.0 ≡ begin_text format) × (string_bytes r.1 ≡ end_text format)) }
+// What a report begins with.
+fn begin_of(alloc: Global, format: Format) -> Result<String, AllocError>
+    ensures { IfOk result (λ begin. string_bytes begin ≡ begin_text format) }
 {
     let mut begin = String::new(alloc);
     push_begin(alloc, &mut begin, format)?;
-    let mut end = String::new(alloc);
-    push_end(&mut end, format)?;
-    Ok((begin, end))
+    Ok(begin)
 }
 
 // Writes a piece of the report, unless a write has failed before.

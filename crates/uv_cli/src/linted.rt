@@ -1,10 +1,11 @@
 //! What a lint of files has come to.
 ghost use Rattle.std.specs.Prelude.{◌≡◌, IfOk, string_bytes};
 ghost use Rattle.uv_cli.specs.Linted as spec;
-ghost use Rattle.uv_cli.specs.Linted.{counts_text, is_writable, lint_status, linted_text};
+ghost use Rattle.uv_cli.specs.Linted.{completion_of, counts_text, is_writable, lint_status, linted_text};
 
 use std::alloc::{AllocError, Global};
 use uv_lint::{LintCounts, LintFault};
+use uv_report::Completion;
 
 /// What a lint of files has come to: what was counted, and what went wrong.
 #[derive(Clone, Copy, PartialEq, Eq)]
@@ -91,6 +92,19 @@ impl Linted {
         ensures { result ≡ spec.is_clean self }
     {
         self.counts.refused == 0
+    }
+
+    /// How the run over the files has ended.
+    pub(crate) fn completion(self) -> Completion
+        ensures { result ≡ completion_of self }
+    {
+        if self.is_stopped() {
+            Completion::Stopped
+        } else if self.is_unread {
+            Completion::Unread
+        } else {
+            Completion::Whole
+        }
     }
 
     /// The exit status: 3 where something stopped the lint; else 2 where a file wasn't read; else 1 where something was

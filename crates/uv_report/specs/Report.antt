@@ -1,6 +1,7 @@
 -- What a report is made of, in each format: a beginning, for each file a beginning of its own, its diagnostics and an
 -- end, and then an end.
 use Rattle.std.specs.Prelude.{ℕ, Bool, List, []}
+use Rattle.uv_report.specs.declared.completion.Completion.{Completion}
 use Rattle.uv_report.specs.declared.diagnostic.Diagnostic.{Diagnostic}
 use Rattle.uv_report.specs.declared.format.Format.{Format}
 use Rattle.uv_report.specs.declared.format.Format.TheVariants.{Gnu, Caret, Json, Github, Sarif, Checkstyle}
@@ -36,8 +37,8 @@ abbrev pub file_end_text : Format → List ℕ
 file_end_text Checkstyle = file_end
 file_end_text _ = []
 
--- what a report ends with
-abbrev pub end_text : Format → List ℕ
-end_text Sarif = sarif_end
-end_text Checkstyle = document_end
-end_text _ = []
+-- what a report ends with, by how the run over its files has ended
+abbrev pub end_text : Format → Completion → List ℕ
+end_text Sarif completion = sarif_end completion
+end_text Checkstyle completion = document_end
+end_text _ completion = []

@@ -5,6 +5,8 @@ use Rattle.serde_json.specs.Data.{no_members}
 use Rattle.serde_json.specs.Written.{compact_text}
 use Rattle.uv_model.specs.declared.rule.Rule.{Rule}
 use Rattle.uv_model.specs.Violations.Rule.{rules_in_order}
+use Rattle.uv_report.specs.declared.completion.Completion.{Completion}
+use Rattle.uv_report.specs.declared.completion.Completion.TheVariants.{Whole, Unread, Stopped}
 use Rattle.uv_report.specs.declared.diagnostic.Diagnostic.{Diagnostic}
 use Rattle.uv_report.specs.declared.line_violation.LineViolation.{LineViolation}
 use Rattle.uv_report.specs.declared.line_violation.LineViolation.TheVariants.{Refused, NotUtf8, TooLong, NotLocated}
@@ -54,9 +56,22 @@ sarif_begin =
     ++ (codes "\"name\":\"urlcheck\",\"version\":\"0.2.0\",\"rules\":["
     ++ (all_rules ++ codes "]}},\"results\":[\n")))
 
+-- a message to the one who reads how the run went
+abbrev pub notification : List ℕ → List ℕ
+notification message =
+    codes "\"toolExecutionNotifications\":[{\"level\":\"error\",\"message\":{\"text\":\"" ++ (message ++ codes "\"}}]")
+
+-- how the run went: whether every file was read to its end, and if not, what was in the way
+abbrev pub invocation : Completion → List ℕ
+invocation Whole = codes "\"executionSuccessful\":true"
+invocation Unread =
+    codes "\"executionSuccessful\":false," ++ notification (codes "a file can't be read, which standard error names")
+invocation Stopped =
+    codes "\"executionSuccessful\":false," ++ notification (codes "the run stopped, and standard error says why")
+
 -- what it ends with
-abbrev pub sarif_end : List ℕ
-sarif_end = codes "]}]}\n"
+abbrev pub sarif_end : Completion → List ℕ
+sarif_end completion = codes "],\"invocations\":[{" ++ (invocation completion ++ codes "}]}]}\n")
 
 -- ---- the results
 

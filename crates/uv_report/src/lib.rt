@@ -5,6 +5,7 @@
 mod caret;
 mod checkstyle;
 mod code_point;
+mod completion;
 mod diagnostic;
 mod escapes;
 mod explanation;
@@ -20,12 +21,13 @@ mod sarif;
 mod uri;
 mod window;
 
+pub use completion::Completion;
 pub use diagnostic::Diagnostic;
 pub use escapes::push_shown;
 pub use explanation::{Explanation, explain};
 pub use format::Format;
 pub use line_violation::LineViolation;
-pub use report::{push_begin, push_diagnostic, push_end, push_file_begin, push_file_end};
+pub use report::{end_of, push_begin, push_diagnostic, push_file_begin, push_file_end};
 
 #[cfg(test)]
 mod tests;

@@ -5,12 +5,13 @@ ghost use Rattle.uv_report.specs.Report.{begin_text, diagnostic_text, end_text, 
 
 use crate::caret::push_caret;
 use crate::checkstyle::{push_checkstyle, push_checkstyle_file};
+use crate::completion::Completion;
 use crate::diagnostic::Diagnostic;
 use crate::format::Format;
 use crate::github::push_github;
 use crate::gnu::push_gnu;
 use crate::json::push_json;
-use crate::sarif::{push_sarif, push_sarif_begin};
+use crate::sarif::{push_sarif, push_sarif_begin, sarif_end};
 use std::alloc::{AllocError, Global};
 
 /// Pushes what a report begins with. Where an allocation fails, the text stays as it was.
@@ -107,14 +108,14 @@ pub fn push_file_end(text: &mut String, format: Format) -> Result<(), AllocError
     })
 }
 
-/// Pushes what a report ends with. Where an allocation fails, the text stays as it was.
-pub fn push_end(text: &mut String, format: Format) -> Result<(), AllocError>
-    ensures ok { OnOk result (string_bytes text.new ≡ string_bytes text.old ++ end_text format) }
-    ensures err { OnErr result (string_bytes text.new ≡ string_bytes text.old) }
+/// What a report ends with, by how the run over its files has ended. It takes no memory, so that a report which has
+/// begun can always be ended.
+pub fn end_of(format: Format, completion: Completion) -> &'static str
+    ensures { result.now ≡ end_text format completion }
 {
-    text.push_str(match format {
-        Format::Sarif => "]}]}\n",
+    match format {
+        Format::Sarif => sarif_end(completion),
         Format::Checkstyle => "</checkstyle>\n",
         Format::Gnu | Format::Caret | Format::Json | Format::Github => "",
-    })
+    }
 }

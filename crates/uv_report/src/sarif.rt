@@ -3,6 +3,7 @@ ghost use Rattle.std.specs.Prelude.{◌≡◌, ◌++◌, IfOk, OnOk, flat_map, s
 ghost use Rattle.serde_json.specs.View.{view};
 ghost use Rattle.uv_report.specs.Sarif as spec;
 
+use crate::completion::Completion;
 use crate::diagnostic::Diagnostic;
 use crate::line_violation::LineViolation;
 use crate::message::message;
@@ -25,6 +26,24 @@ pub(crate) fn push_sarif_begin(alloc: Global, text: &mut String) -> Result<(), A
     push_rules(alloc, text)?;
     text.push_str("]}},\"results\":[\n")?;
     Ok(())
+}
+
+/// What the document ends with behind its results: the run's invocation, which says whether every file was read to its
+/// end (SARIF 2.1.0, 3.20).
+pub(crate) fn sarif_end(completion: Completion) -> &'static str
+    ensures { result.now ≡ spec.sarif_end completion }
+{
+    match completion {
+        Completion::Whole => "],\"invocations\":[{\"executionSuccessful\":true}]}]}\n",
+        Completion::Unread => {
+            "],\"invocations\":[{\"executionSuccessful\":false,\"toolExecutionNotifications\":\
+            [{\"level\":\"error\",\"message\":{\"text\":\"a file can't be read, which standard error names\"}}]}]}]}\n"
+        }
+        Completion::Stopped => {
+            "],\"invocations\":[{\"executionSuccessful\":false,\"toolExecutionNotifications\":\
+            [{\"level\":\"error\",\"message\":{\"text\":\"the run stopped, and standard error says why\"}}]}]}]}\n"
+        }
+    }
 }
 
 // Pushes the rules, behind the three violations that are no refusal.

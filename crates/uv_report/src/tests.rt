@@ -1,8 +1,8 @@
 //! Diagnostics in each format, written out by hand from the documents of the formats.
 
 use crate::{
-    Diagnostic, Format, LineViolation, push_begin, push_diagnostic, push_end, push_file_begin,
-    push_file_end,
+    Completion, Diagnostic, Format, LineViolation, end_of, push_begin, push_diagnostic,
+    push_file_begin, push_file_end,
 };
 use serde_json::Value;
 use std::alloc::{AllocError, Global};
@@ -31,7 +31,7 @@ fn report(
     push_file_begin(alloc, &mut text, format, diagnostic.file)?;
     push_diagnostic(alloc, &mut text, format, diagnostic, true)?;
     push_file_end(&mut text, format)?;
-    push_end(&mut text, format)?;
+    text.push_str(end_of(format, Completion::Whole))?;
     Ok(text)
 }
 
@@ -166,7 +166,7 @@ fn writes_a_document_of_sarif(rt: HostRuntime) -> Result<(), Fail> {
     push_begin(alloc, &mut text, Format::Sarif)?;
     push_diagnostic(alloc, &mut text, Format::Sarif, &found, true)?;
     push_diagnostic(alloc, &mut text, Format::Sarif, &found, false)?;
-    push_end(&mut text, Format::Sarif)?;
+    text.push_str(end_of(Format::Sarif, Completion::Whole))?;
     let document = Value::from_str(alloc, text.as_str())?;
     for (pointer, wanted) in [
         ("/version", "2.1.0"),
@@ -215,6 +215,35 @@ fn writes_a_document_of_sarif(rt: HostRuntime) -> Result<(), Fail> {
             Some(wanted),
             "at {pointer}"
         );
+    }
+    Ok(())
+}
+
+// The document of a run without results says whether every file was read, and else what was in the way.
+#[test]
+fn says_in_sarif_how_the_run_has_ended(rt: HostRuntime) -> Result<(), Fail> {
+    let alloc = rt.alloc();
+    for (completion, is_successful, reported) in [
+        (Completion::Whole, true, None),
+        (
+            Completion::Unread,
+            false,
+            Some("a file can't be read, which standard error names"),
+        ),
+        (
+            Completion::Stopped,
+            false,
+            Some("the run stopped, and standard error says why"),
+        ),
+    ] {
+        let mut text = String::new(alloc);
+        push_begin(alloc, &mut text, Format::Sarif)?;
+        text.push_str(end_of(Format::Sarif, completion))?;
+        let document = Value::from_str(alloc, text.as_str())?;
+        let successful = document.pointer("/runs/0/invocations/0/executionSuccessful");
+        assert_eq!(rt; successful.and_then(Value::as_bool), Some(is_successful));
+        let notification = "/runs/0/invocations/0/toolExecutionNotifications/0/message/text";
+        assert_eq!(rt; text_at(&document, notification), reported);
     }
     Ok(())
 }

@@ -18,7 +18,7 @@ returns g c = record {
   };
   begins =
       begins_with _ _ c.args.job.now.quiet c.new.result c.write_piece-linted.result _ _ c.new.ensures
-      (c.as_str.ensures.value ∙ c.in-Ok.ensures.0) c.write_piece-linted.ensures;
+      (c.as_str.ensures.value ∙ c.in-Ok.ensures) c.write_piece-linted.ensures;
   all =
       lints_files (record {
         base = c.args.base;
@@ -29,5 +29,5 @@ returns g c = record {
       })
       _ _ _ _ _ _ _ _ (ap (map string_bytes) c.as_slice.ensures.value)
       (rw c.form_of.ensures at c.lint_each-linted.ensures.all);
-  ends = rw (← c.in-Ok.ensures.1, ← c.as_str-2.ensures.value) c.write_piece.ensures;
+  ends = rw (← c.completion.ensures, ← c.end_of.ensures) c.write_piece.ensures;
 }
