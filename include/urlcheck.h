@@ -50,7 +50,8 @@ enum urlcheck_outcome {
     URLCHECK_BASE_NO_UTF8 = 4, /* the base is no UTF-8; nothing is said of the text */
     URLCHECK_MEMORY = 5,       /* malloc gave no memory; nothing is said of the text */
     URLCHECK_NO_PROFILE = 6,   /* no profile has the number that was given */
-    URLCHECK_NO_BASE = 7       /* the base that was given is none that urlcheck_prepare made */
+    URLCHECK_NO_BASE = 7,      /* the base that was given is none that urlcheck_prepare made */
+    URLCHECK_MENDED = 8        /* the text violates a rule, and urlcheck_mend gives a valid one in its place */
 };
 
 /* The rules that a text can violate. A refusal names the rule of the least number at the least place. */
@@ -108,6 +109,20 @@ typedef struct urlcheck_resolved {
     urlcheck_finding found;
     size_t length;
 } urlcheck_resolved;
+
+/* How a mended text stands to the refused one. */
+enum urlcheck_mend_kind {
+    URLCHECK_SAME = 1,    /* a second parser reads both as the same URL */
+    URLCHECK_ESCAPED = 2, /* not so; some code points of the refused text are percent-encoded, and nothing else */
+    URLCHECK_CHANGED = 3  /* neither: its author has to look */
+};
+
+/* The answer of urlcheck_mend: where a mended text is given its kind and its length in bytes, else 0. */
+typedef struct urlcheck_mended {
+    urlcheck_finding found;
+    uint32_t kind; /* one of urlcheck_mend_kind, or 0 */
+    size_t length;
+} urlcheck_mended;
 
 /* A rule that a text violates at a place, in code points and in bytes. */
 typedef struct urlcheck_fault {
@@ -173,6 +188,18 @@ urlcheck_resolved urlcheck_resolve_against(const uint8_t *text, size_t length, c
                                            size_t base_length, uint32_t profile, uint8_t *out, size_t room);
 
 /*
+ * Writes a valid URL string in place of a refused text, made of it by local edits, to the start of `out`, as
+ * urlcheck_resolve writes its text. The verdict is URLCHECK_VALID where the text is valid itself, URLCHECK_MENDED where
+ * a mended text is given, and URLCHECK_REFUSED, with the text's rule and place, where the edits give none. It is
+ * URLCHECK_MEMORY also where a second parser would make a text of 4 GiB or more.
+ */
+urlcheck_mended urlcheck_mend(const uint8_t *text, size_t length, uint32_t profile, uint8_t *out, size_t room);
+
+/* The same against a base, which is judged alone by the same profile. */
+urlcheck_mended urlcheck_mend_against(const uint8_t *text, size_t length, const uint8_t *base, size_t base_length,
+                                      uint32_t profile, uint8_t *out, size_t room);
+
+/*
  * Writes all that is wrong with the text to the start of `out`, by place and at one place by the rule's number: as many
  * faults as `room` elements hold. The count is of all of them, and may be larger than `room`; it is 0 exactly where the
  * verdict isn't URLCHECK_REFUSED. Elements behind the last one written stay as they are.
@@ -230,6 +257,8 @@ URLCHECK_HOLDS(sizeof(urlcheck_answer) == 168 && offsetof(urlcheck_answer, found
 URLCHECK_HOLDS(offsetof(urlcheck_answer, parts) == 24);
 URLCHECK_HOLDS(sizeof(urlcheck_resolved) == 32 && offsetof(urlcheck_resolved, found) == 0);
 URLCHECK_HOLDS(offsetof(urlcheck_resolved, length) == 24);
+URLCHECK_HOLDS(sizeof(urlcheck_mended) == 40 && offsetof(urlcheck_mended, found) == 0);
+URLCHECK_HOLDS(offsetof(urlcheck_mended, kind) == 24 && offsetof(urlcheck_mended, length) == 32);
 URLCHECK_HOLDS(sizeof(urlcheck_fault) == 24 && offsetof(urlcheck_fault, rule) == 0);
 URLCHECK_HOLDS(offsetof(urlcheck_fault, place) == 8 && offsetof(urlcheck_fault, byte_place) == 16);
 URLCHECK_HOLDS(sizeof(urlcheck_fault_count) == 32 && offsetof(urlcheck_fault_count, found) == 0);

@@ -20,6 +20,9 @@
     urlcheck_resolved urlcheck_resolve_##build(const uint8_t *, size_t, uint32_t, uint8_t *, size_t);                  \
     urlcheck_resolved urlcheck_resolve_against_##build(const uint8_t *, size_t, const uint8_t *, size_t, uint32_t,     \
                                                        uint8_t *, size_t);                                             \
+    urlcheck_mended urlcheck_mend_##build(const uint8_t *, size_t, uint32_t, uint8_t *, size_t);                       \
+    urlcheck_mended urlcheck_mend_against_##build(const uint8_t *, size_t, const uint8_t *, size_t, uint32_t,          \
+                                                  uint8_t *, size_t);                                                  \
     urlcheck_fault_count urlcheck_faults_##build(const uint8_t *, size_t, uint32_t, urlcheck_fault *, size_t);         \
     urlcheck_fault_count urlcheck_faults_against_##build(const uint8_t *, size_t, const uint8_t *, size_t, uint32_t,   \
                                                          urlcheck_fault *, size_t);                                    \
@@ -91,6 +94,16 @@ EXPORT urlcheck_resolved urlcheck_resolve(const uint8_t *text, size_t length, ui
 EXPORT urlcheck_resolved urlcheck_resolve_against(const uint8_t *text, size_t length, const uint8_t *base,
                                                   size_t base_length, uint32_t profile, uint8_t *out, size_t room) {
     return CALL(urlcheck_resolve_against, read_from(text), length, read_from(base), base_length, profile,
+                written_to(out), room);
+}
+
+EXPORT urlcheck_mended urlcheck_mend(const uint8_t *text, size_t length, uint32_t profile, uint8_t *out, size_t room) {
+    return CALL(urlcheck_mend, read_from(text), length, profile, written_to(out), room);
+}
+
+EXPORT urlcheck_mended urlcheck_mend_against(const uint8_t *text, size_t length, const uint8_t *base,
+                                             size_t base_length, uint32_t profile, uint8_t *out, size_t room) {
+    return CALL(urlcheck_mend_against, read_from(text), length, read_from(base), base_length, profile,
                 written_to(out), room);
 }
 

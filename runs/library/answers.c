@@ -1,7 +1,7 @@
 /*
  * Answers each case of a file of cases (see cases.py) by the library, in both profiles, a line each. With the word
- * `places` behind the file a line has where the parts of a valid text stand, and is empty for each other text. No bytes
- * are handed in by a null pointer.
+ * `places` behind the file a line has where the parts of a valid text stand, and is empty for each other text; with
+ * `mended` it says what `urlcheck mend` says. No bytes are handed in by a null pointer.
  */
 #include "urlcheck.h"
 
@@ -202,9 +202,47 @@ static void place(const text *given, const text *base, uint32_t profile) {
     putchar('\n');
 }
 
+static urlcheck_mended mend(const text *given, const text *base, uint32_t profile, uint8_t *out, size_t room) {
+    if (base->length == NONE) return urlcheck_mend(given->bytes, given->length, profile, out, room);
+    return urlcheck_mend_against(given->bytes, given->length, base->bytes, base->length, profile, out, room);
+}
+
+/* The mended text, asked for with no room, and then with exactly the room that it needs, in memory of its own. */
+static void print_mended(const text *given, const text *base, uint32_t profile, urlcheck_mended asked) {
+    static const char *const kinds[] = {"", "same", "escaped", "changed"};
+    uint8_t *out = malloc(asked.length ? asked.length : 1);
+    if (!out) fail("memory");
+    urlcheck_mended written = mend(given, base, profile, out, asked.length);
+    if (!is_same(written.found, asked.found) || written.length != asked.length) fail("two mended texts of one");
+    if (written.kind != asked.kind || asked.kind < 1 || asked.kind > 3) fail("a kind of a mended text");
+    printf("mended %s\t", kinds[asked.kind]);
+    print_bytes(out, asked.length);
+    free(out);
+}
+
+static void mended(const text *given, const text *base, uint32_t profile) {
+    uint8_t small = 'x';
+    urlcheck_mended asked = mend(given, base, profile, &small, 0);
+    if (small != 'x') fail("more was written than fits");
+    if (mend(given, base, profile, NULL, 0).length != asked.length) fail("a null buffer changes a length");
+    if (asked.found.verdict == URLCHECK_MENDED) {
+        print_mended(given, base, profile, asked);
+    } else {
+        if (asked.length != 0 || asked.kind != 0) fail("a length or a kind without a mended text");
+        if (!is_same(asked.found, check(given, base, profile).found)) fail("mend and check differ");
+        if (asked.found.verdict == URLCHECK_VALID) printf("valid");
+        if (asked.found.verdict == URLCHECK_REFUSED) printf("none\trefused %zu ", asked.found.place);
+        if (asked.found.verdict == URLCHECK_BASE_REFUSED) printf("base refused %zu ", asked.found.place);
+        if (asked.found.rule) print_rule(asked.found.rule);
+    }
+    putchar('\n');
+}
+
 int main(int count, char **words) {
     int is_place = count == 3 && strcmp(words[2], "places") == 0;
-    if (count != 2 + is_place) fail("usage: answers CASES [places]");
+    int is_mended = count == 3 && strcmp(words[2], "mended") == 0;
+    void (*say)(const text *, const text *, uint32_t) = is_place ? place : is_mended ? mended : answer;
+    if (count != 2 + is_place + is_mended) fail("usage: answers CASES [places|mended]");
     if (urlcheck_rule_name(URLCHECK_PERCENT, NULL, 0) != 7) fail("a null buffer changes the length of a name");
     refuse_stray_bases();
     FILE *file = fopen(words[1], "rb");
@@ -212,8 +250,8 @@ int main(int count, char **words) {
     text given, base;
     while (read_text(file, &given)) {
         if (!read_text(file, &base)) fail("a case is cut off");
-        (is_place ? place : answer)(&given, &base, URLCHECK_STANDARD);
-        (is_place ? place : answer)(&given, &base, URLCHECK_WIDE);
+        say(&given, &base, URLCHECK_STANDARD);
+        say(&given, &base, URLCHECK_WIDE);
         free(given.bytes);
         free(base.bytes);
     }

@@ -2,6 +2,7 @@
 
     cases.py pack CASES VECTORS..          writes the cases of the vectors
     cases.py compare PROGRAM ANSWERS VECTORS..   compares the answers of the library with the program's and the vectors'
+    cases.py mended PROGRAM MENDED VECTORS..     compares what the library mends with what `urlcheck mend` does
     cases.py places PLACES VECTORS..       compares where the parts of the valid cases stand with their delimiters
 
 A file of cases has for each case the text and the base, each behind its length in four bytes, lowest first; an absent
@@ -141,6 +142,27 @@ def compare(program, answers, paths):
     return 0 if not bad and len(lines) == len(asked) else 1
 
 
+def mended(program, case, wide):
+    """What the program says of mending a case, in a line."""
+    text, base, _ = case
+    words = [program, "mend"] + ["--wide"] * wide + ([] if base is None else ["--base=" + base]) + ["--", text]
+    run = subprocess.run(words, capture_output=True, timeout=60)
+    return (run.stdout if run.returncode < 2 else run.stderr).decode().rstrip("\n").replace("\n", "\t")
+
+
+def compare_mended(program, answers, paths):
+    lines = open(answers, encoding="utf-8", newline="\n").read().split("\n")[:-1]
+    asked = [(case, wide) for case in cases_of(paths) for wide in (False, True)]
+    with concurrent.futures.ThreadPoolExecutor() as pool:
+        wanted = list(pool.map(lambda one: mended(program, *one), asked))
+    bad = [(one, line, word) for one, line, word in zip(asked, lines, wanted) if line != word]
+    for one in bad[:20]:
+        print("FAILED:", one)
+    kinds = {line.partition("\t")[0] for line in lines}
+    print("library: {} texts mended, {} otherwise than by `urlcheck mend`".format(len(lines), len(bad)))
+    return 0 if not bad and len(lines) == len(asked) and {"valid", "none", "mended same"} <= kinds else 1
+
+
 def places_of(text):
     """Where the parts of a valid text stand in its bytes: each with its name, its start and its length."""
     found = DELIMITED.fullmatch(text.encode())
@@ -161,6 +183,8 @@ def compare_places(answers, paths):
 
 
 if __name__ == "__main__":
+    if sys.argv[1] == "mended":
+        sys.exit(compare_mended(sys.argv[2], sys.argv[3], sys.argv[4:]))
     if sys.argv[1] == "places":
         sys.exit(compare_places(sys.argv[2], sys.argv[3:]))
     if sys.argv[1] == "pack":

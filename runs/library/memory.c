@@ -47,12 +47,15 @@ static void expect(int holds, const char *what) {
 
 static const char TEXT[] = "http://FA\xc3\x9f.de:81/a/../\xe6\x97\xa5?\xc3\xa9#x";
 static const char WRONG[] = "http://x_y:z/ ^%";
+static const char MENDABLE[] = "//fa\xc3\x9f.de/a b%";
 static const char BASE[] = "http://B\xc3\xbc" "cher.de/d/e";
 
 /* One call of each kind that allocates; the verdict. */
 static uint32_t call(int kind, uint8_t *out, size_t room) {
     const uint8_t *text = (const uint8_t *)TEXT, *wrong = (const uint8_t *)WRONG, *base = (const uint8_t *)BASE;
+    const uint8_t *mendable = (const uint8_t *)MENDABLE;
     size_t length = sizeof TEXT - 1, wrong_length = sizeof WRONG - 1, base_length = sizeof BASE - 1;
+    size_t mendable_length = sizeof MENDABLE - 1;
     urlcheck_fault faults[8];
     switch (kind) {
     case 0: return urlcheck_check(text, length, URLCHECK_STANDARD).found.verdict;
@@ -60,9 +63,18 @@ static uint32_t call(int kind, uint8_t *out, size_t room) {
     case 2: return urlcheck_resolve(text, length, URLCHECK_WIDE, out, room).found.verdict;
     case 3: return urlcheck_resolve_against(text, 0, base, base_length, URLCHECK_STANDARD, out, room).found.verdict;
     case 4: return urlcheck_faults(wrong, wrong_length, URLCHECK_STANDARD, faults, 8).found.verdict;
-    default:
+    case 5:
         return urlcheck_faults_against(wrong, wrong_length, base, base_length, URLCHECK_WIDE, faults, 8).found.verdict;
+    default:
+        return urlcheck_mend_against(mendable, mendable_length, base, base_length, URLCHECK_WIDE, out, room)
+            .found.verdict;
     }
+}
+
+/* The verdict of a call with all memory. */
+static uint32_t wanted(int kind) {
+    if (kind < 4) return URLCHECK_VALID;
+    return kind < 6 ? URLCHECK_REFUSED : URLCHECK_MENDED;
 }
 
 static void refuse_each(int kind) {
@@ -77,7 +89,7 @@ static void refuse_each(int kind) {
         expect(held == before, "a call kept memory");
         if (!was_refused) {
             expect(nth > 0, "no allocation was seen");
-            expect(verdict == (kind < 4 ? URLCHECK_VALID : URLCHECK_REFUSED), "another verdict with all memory");
+            expect(verdict == wanted(kind), "another verdict with all memory");
             printf("library: call %d, %ld allocations refused in turn\n", kind, nth);
             return;
         }
@@ -111,7 +123,7 @@ static void judge_100_mb(void) {
 }
 
 int main(void) {
-    for (int kind = 0; kind < 6; kind++) refuse_each(kind);
+    for (int kind = 0; kind < 7; kind++) refuse_each(kind);
     judge_100_mb();
     return failed;
 }

@@ -9,7 +9,7 @@ use Rattle.uv_model.specs.Violations.Rule.{rule_number}
 use Rattle.urlcheck_c.specs.declared.finding.Finding.{Finding}
 use Rattle.urlcheck_c.specs.declared.finding.CallOutcome.{CallOutcome}
 use Rattle.urlcheck_c.specs.declared.finding.CallOutcome.TheVariants.{Valid, Refused, NoUtf8, BaseRefused, BaseNoUtf8}
-use Rattle.urlcheck_c.specs.declared.finding.CallOutcome.TheVariants.{Memory, NoProfile, NoBase}
+use Rattle.urlcheck_c.specs.declared.finding.CallOutcome.TheVariants.{Memory, NoProfile, NoBase, Mended}
 
 -- the number of an outcome
 abbrev pub outcome_number : CallOutcome → ℕ
@@ -21,6 +21,7 @@ outcome_number BaseNoUtf8 = 4
 outcome_number Memory = 5
 outcome_number NoProfile = 6
 outcome_number NoBase = 7
+outcome_number Mended = 8
 
 -- the profile with a number
 abbrev pub profile_of : ℕ → Option Profile

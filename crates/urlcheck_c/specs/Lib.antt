@@ -4,6 +4,7 @@ pub mod Buffer
 pub mod Faults
 pub mod Finding
 pub mod Laws
+pub mod Mended
 pub mod Names
 pub mod Request
 pub mod Resolved

@@ -14,7 +14,8 @@ use uv_text::count_code_points;
 #[derive(Clone, Copy)]
 pub struct Finding {
     /// The number of the outcome: 0 valid, 1 refused, 2 no UTF-8, 3 the base is refused alone, 4 the base is no UTF-8,
-    /// 5 out of memory, 6 no profile has the number, 7 no base was prepared.
+    /// 5 out of memory, 6 no profile has the number, 7 no base was prepared, 8 the text violates a rule and a
+    /// mended text is given.
     pub verdict: u32,
     /// The number of the violated rule, from 1 to 14, where the text or the base is refused, else 0.
     pub rule: u32,
@@ -43,6 +44,8 @@ pub(crate) enum CallOutcome {
     NoProfile,
     /// What was given as a base is none that was prepared.
     NoBase,
+    /// The text violates a rule, and a mended text is given.
+    Mended,
 }
 
 impl CallOutcome {
@@ -59,6 +62,7 @@ impl CallOutcome {
             CallOutcome::Memory => 5,
             CallOutcome::NoProfile => 6,
             CallOutcome::NoBase => 7,
+            CallOutcome::Mended => 8,
         }
     }
 }

@@ -5,6 +5,7 @@ use crate::bases::Base;
 use crate::checks::Answer;
 use crate::fault_lists::{Fault, FaultCount};
 use crate::finding::Finding;
+use crate::mended::Mended;
 use crate::records::Resolved;
 use crate::spans::{Span, Spans};
 
@@ -19,6 +20,8 @@ const _: () = prove!(size_of::<Spans>() == 144);
 const _: () = prove!(size_of::<Answer>() == 168);
 
 const _: () = prove!(size_of::<Resolved>() == 32);
+
+const _: () = prove!(size_of::<Mended>() == 40);
 
 const _: () = prove!(size_of::<Fault>() == 24);
 

@@ -10,6 +10,7 @@ mod fault_lists;
 mod finding;
 pub mod laws;
 mod layout;
+mod mended;
 mod names;
 mod places;
 mod records;
@@ -21,6 +22,7 @@ pub use bases::Base;
 pub use checks::Answer;
 pub use fault_lists::{Fault, FaultCount};
 pub use finding::Finding;
+pub use mended::Mended;
 pub use records::Resolved;
 pub use spans::{Span, Spans};
 

@@ -4,6 +4,7 @@ use crate::bases::{Base, urlcheck_prepare};
 use crate::checks::{urlcheck_check, urlcheck_check_against, urlcheck_check_with};
 use crate::fault_lists::{Fault, urlcheck_faults, urlcheck_faults_against};
 use crate::finding::Finding;
+use crate::mended::{urlcheck_mend, urlcheck_mend_against};
 use crate::names::{urlcheck_rule_name, urlcheck_rule_sentence};
 use crate::records::{urlcheck_resolve, urlcheck_resolve_against};
 use crate::spans::Span;
@@ -176,6 +177,27 @@ fn writes_a_record_where_it_fits(rt: HostRuntime) {
     finds(&rt, full.found, (0, 0, 0, 0));
     assert_eq!(rt; full.length, 10);
     assert!(rt; out[..] == b"http://h/x.."[..]);
+}
+
+#[test]
+fn writes_a_mended_text_where_it_fits(rt: HostRuntime) {
+    let mut out = [b'.'; 14];
+    let short = urlcheck_mend(rt.alloc(), b"http://h/a b", 0, &mut out[..13]);
+    finds(&rt, short.found, (8, 0, 0, 0));
+    assert_eq!(rt; short.length, 14);
+    assert_eq!(rt; out[0], b'.');
+    let full = urlcheck_mend(rt.alloc(), b"http://h/a b", 0, &mut out);
+    assert_eq!(rt; full.kind, 1);
+    assert!(rt; out[..] == b"http://h/a%20b"[..]);
+    let text = b"a b";
+    let against = urlcheck_mend_against(rt.alloc(), text, b"http://h/", 0, &mut out);
+    finds(&rt, against.found, (8, 0, 0, 0));
+    assert_eq!(rt; against.length, 5);
+    let valid = urlcheck_mend(rt.alloc(), b"http://h/", 0, &mut out);
+    finds(&rt, valid.found, (0, 0, 0, 0));
+    assert_eq!(rt; (valid.kind, valid.length), (0, 0));
+    let none = urlcheck_mend(rt.alloc(), b"a", 0, &mut out);
+    finds(&rt, none.found, (1, 1, 0, 0));
 }
 
 #[test]
