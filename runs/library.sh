@@ -39,6 +39,7 @@ if python3 -c 'import urlcheck.liburlcheck' 2>"$room/said" || ! grep -q ModuleNo
     exit 1
 fi
 cmp "$room/c" "$room/python"
+python3 answers.py "$room/cases" mended | cmp "$room/mended"
 if command -v g++ >/dev/null; then
     g++ -std=c++11 "${strict[@]}" "${sanitized[@]}" -I "$include" answers.cpp "$archive" -o "$room/answers_cpp"
     "$room/answers_cpp" "$room/cases" >"$room/cpp"

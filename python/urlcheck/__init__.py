@@ -8,6 +8,8 @@
 Refused(rule='code-point', place=10)
 >>> urlcheck.resolve("../x", "http://h/a/b")
 'http://h/x'
+>>> urlcheck.mend("http://h/a b")
+Mended(text='http://h/a%20b', kind=<MendKind.SAME: 'same'>)
 
 The functions keep no state and may be called from any thread.
 """
@@ -24,6 +26,8 @@ __all__ = [
     "Base",
     "BaseRefused",
     "Fault",
+    "MendKind",
+    "Mended",
     "Profile",
     "RULES",
     "Refused",
@@ -33,12 +37,14 @@ __all__ = [
     "check_each",
     "faults",
     "is_valid",
+    "mend",
     "resolve",
     "sentence",
     "version",
 ]
 
 _VALID, _REFUSED, _NO_UTF8, _BASE_REFUSED, _BASE_NO_UTF8, _MEMORY = range(6)
+_MENDED = 8
 
 
 class Profile(enum.IntEnum):
@@ -74,6 +80,25 @@ class Refused:
 
     def __bool__(self) -> Literal[False]:
         return False
+
+
+class MendKind(enum.Enum):
+    """How a mended text stands to the refused one."""
+
+    SAME = "same"
+    """A second parser reads both as the same URL."""
+    ESCAPED = "escaped"
+    """Not so; some code points of the refused text are percent-encoded, and nothing else."""
+    CHANGED = "changed"
+    """Neither: its author has to look."""
+
+
+@dataclass(frozen=True)
+class Mended:
+    """A valid URL string in place of a refused text."""
+
+    text: str
+    kind: MendKind
 
 
 @dataclass(frozen=True)
@@ -196,6 +221,25 @@ def resolve(text: str, base: AnyBase = None, profile: Profile = Profile.STANDARD
         room = answer.length
 
 
+def mend(
+    text: str, base: AnyBase = None, profile: Profile = Profile.STANDARD
+) -> Union[Mended, Refused, None]:
+    """What to write in place of a refused text: a valid one made of it by local edits, which keep all else.
+
+    ``None`` where the text is valid, and its refusal where the edits give no valid text. Raises what ``check`` raises.
+    """
+    room = 256
+    while True:
+        out = ctypes.create_string_buffer(room)
+        answer = _called("urlcheck_mend", text, base, profile, out, room)
+        if answer.found.verdict != _MENDED:
+            _stop_unless_judged(answer.found)
+            return None if answer.found.verdict == _VALID else Refused(_name(answer.found.rule), answer.found.place)
+        if answer.length <= room:
+            return Mended(out.raw[: answer.length].decode(), _MEND_KINDS[answer.kind])
+        room = answer.length
+
+
 def sentence(rule: str) -> str:
     """What is wrong at the place of a refusal by this rule. Raises ``KeyError`` where no rule has the name."""
     return _SENTENCES[rule]
@@ -282,6 +326,7 @@ def _read(function: Callable[..., int], rule: int) -> str:
     return out.raw[:room].decode("ascii")
 
 
+_MEND_KINDS = dict(enumerate(MendKind, 1))
 _NAMES = [_read(LIBRARY.urlcheck_rule_name, rule) for rule in range(15)]
 _SENTENCES = {_NAMES[rule]: _read(LIBRARY.urlcheck_rule_sentence, rule) for rule in range(1, 15)}
 

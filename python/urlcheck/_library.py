@@ -40,6 +40,12 @@ class Resolved(ctypes.Structure):
     _fields_ = [("found", Finding), ("length", SIZE)]
 
 
+class Mended(ctypes.Structure):
+    """The answer of mending: the kind and the length in bytes of the mended text, where there is one."""
+
+    _fields_ = [("found", Finding), ("kind", NUMBER), ("length", SIZE)]
+
+
 class Fault(ctypes.Structure):
     """A rule that a text violates at a place."""
 
@@ -87,6 +93,8 @@ def _load() -> ctypes.CDLL:
         ("urlcheck_faults_with", FaultCount, text + held + faults[1:]),
         ("urlcheck_resolve", Resolved, text + [NUMBER] + out),
         ("urlcheck_resolve_against", Resolved, text + text + [NUMBER] + out),
+        ("urlcheck_mend", Mended, text + [NUMBER] + out),
+        ("urlcheck_mend_against", Mended, text + text + [NUMBER] + out),
         ("urlcheck_faults", FaultCount, text + faults),
         ("urlcheck_faults_against", FaultCount, text + text + faults),
         ("urlcheck_rule_name", SIZE, [NUMBER] + out),

@@ -1,4 +1,7 @@
-"""Answers each case of a file of cases (see cases.py) by the package, in both profiles, a line each: as answers.c."""
+"""Answers each case of a file of cases (see cases.py) by the package, in both profiles, a line each: as answers.c.
+
+    answers.py CASES [mended]
+"""
 
 import sys
 
@@ -36,6 +39,21 @@ def line(text, base, profile):
     return "\t".join(["0"] + shown + [resolved] + [at(text, fault) for fault in faults])
 
 
+def mended(text, base, profile):
+    try:
+        answer = urlcheck.mend(text, base, profile)
+        held = None if base is None else urlcheck.Base(base, profile)
+    except urlcheck.BaseRefused as refused:
+        return "base refused {} {}".format(refused.place, refused.rule)
+    assert urlcheck.mend(text, held, profile) == answer
+    if answer is None:
+        return "valid"
+    if isinstance(answer, urlcheck.Refused):
+        return "none\trefused {} {}".format(answer.place, answer.rule)
+    return "mended {}\t{}".format(answer.kind.value, answer.text)
+
+
+say = mended if sys.argv[2:] == ["mended"] else line
 for text, base in unpacked(sys.argv[1]):
     for profile in (urlcheck.Profile.STANDARD, urlcheck.Profile.WIDE):
-        sys.stdout.buffer.write(line(text, base, profile).encode() + b"\n")
+        sys.stdout.buffer.write(say(text, base, profile).encode() + b"\n")

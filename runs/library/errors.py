@@ -31,7 +31,7 @@ class Errors(unittest.TestCase):
             (("x", None, "wide"), TypeError, "a profile is a urlcheck.Profile, not str"),
             (("x\ud800",), UnicodeEncodeError, "surrogates not allowed"),
         ):
-            for function in (urlcheck.check, urlcheck.faults, urlcheck.resolve):
+            for function in (urlcheck.check, urlcheck.faults, urlcheck.resolve, urlcheck.mend):
                 with self.subTest(words), self.assertRaisesRegex(error, said):
                     function(*words)
 
@@ -47,9 +47,17 @@ class Errors(unittest.TestCase):
             urlcheck.Base("http://h_/a")
         self.assertEqual((refused.exception.rule, refused.exception.place), ("host-domain", 7))
         narrow = urlcheck.Base("http://h/")
-        for function in (urlcheck.check, urlcheck.faults, urlcheck.resolve, urlcheck.is_valid):
+        for function in (urlcheck.check, urlcheck.faults, urlcheck.resolve, urlcheck.is_valid, urlcheck.mend):
             with self.assertRaisesRegex(ValueError, "another profile: STANDARD"):
                 function("x", narrow, urlcheck.Profile.WIDE)
+
+    def test_a_text_is_mended(self):
+        mended = urlcheck.mend("http://h/" + 300 * " " + "x")
+        self.assertEqual(mended, urlcheck.Mended("http://h/" + 300 * "%20" + "x", urlcheck.MendKind.SAME))
+        for other in (pickle.loads(pickle.dumps(mended)), copy.copy(mended), copy.deepcopy(mended)):
+            self.assertEqual(other, mended)
+        self.assertIsNone(urlcheck.mend("../x", urlcheck.Base("http://h/a")))
+        self.assertEqual(urlcheck.mend("http://h:x/"), urlcheck.Refused("port-digit", 9))
 
     def test_several_texts(self):
         answers = list(urlcheck.check_each(["../x", "http://h:x/", ""], "http://h/a"))
