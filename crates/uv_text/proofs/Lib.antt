@@ -5,3 +5,4 @@ pub mod LookupLemmas
 pub mod MaskLemmas
 pub mod RowsLemmas
 pub mod SplitsLemmas
+pub mod UnitBitsLemmas

@@ -34,7 +34,7 @@ half true x = omega arith
 half false x = omega arith
 
 -- the bits behind the first so many, which a shift brings to the prefix
-mask-drop : (k : ℕ) (ms : List Bool) → mask_l (drop k ms) ≡ mask_l ms / 2 ^ k
+pub mask-drop : (k : ℕ) (ms : List Bool) → mask_l (drop k ms) ≡ mask_l ms / 2 ^ k
 mask-drop zero ms = omega arith
 mask-drop (suc k) [] = sym (zero-div (2 ^ suc k))
 mask-drop (suc k) (m ∷ ms) =

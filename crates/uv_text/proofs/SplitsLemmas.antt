@@ -1,14 +1,13 @@
--- Prefixes of URL units: parts of them by runs, by escapes and by code points beyond ASCII, and the cut behind the
--- whole.
-use Rattle.std.proofs.Common.{◌≡◌, ◌≢◌, ℕ, Bool, get_or, zero, suc, ◌+◌, ◌-◌, ◌<◌, ◌≤◌, ◌==◌, true, false, List, []}
+-- Prefixes of URL units: parts of them by runs of bytes and by code points beyond ASCII, and the cut behind the whole.
+use Rattle.std.proofs.Common.{◌≡◌, ◌≢◌, ℕ, Bool, get_or, zero, suc, ◌+◌, ◌-◌, ◌<◌, ◌≤◌, ◌==◌, ◌&&◌, ◌||◌, true, false, List, []}
 use Rattle.std.proofs.Common.{◌∷◌, ◌++◌, length, take, drop, refl, sym, ap, ◌∙◌, subst, inl, inr, arith, lit<, ne_eqb}
 use Rattle.std.specs.Prelude.{nat_le, slice_range}
-use Rattle.std.specs.Char.{is_ascii, is_ascii_hexdigit}
+use Rattle.std.specs.Char.{is_ascii}
 use Rattle.std.specs.List.{prefix_len}
 use Rattle.std.specs.Str.{chars, IsUtf8, IsCharBoundary}
 use Rattle.std.proofs.Math.Seq.{drop-append_seam, take-append_seam}
 use Rattle.std.proofs.Math.Utf8.{encodes}
-use Rattle.std.proofs.lemmas.Bool.{and_parts, cases_Bool, false≢true}
+use Rattle.std.proofs.lemmas.Bool.{and_parts, cases_Bool, false≢true, or_parts}
 use Rattle.std.proofs.lemmas.Bool.Decides.{nat_tests}
 use Rattle.std.proofs.lemmas.List.{drop-drop, length-append, length-drop, take-append-drop}
 use Rattle.std.proofs.lemmas.Str.{chars-append, chars-IsAscii, chars-nil, chars_from_encodes, encode_ascii}
@@ -17,11 +16,12 @@ use Rattle.std.proofs.lemmas.Str.{IsUtf8-drop, IsUtf8-from_ascii, IsUtf8-take}
 use Rattle.std.proofs.lemmas.Str.Ascii.{IsAscii-cons}
 use Rattle.uv_model.specs.Ascii.{percent_sign}
 use Rattle.uv_model.specs.Units.{starts_with_two_hex}
+use Rattle.uv_model.proofs.Texts.UnitsLemmas.{starts_with_two_hex-chars}
 use Rattle.uv_text.specs.declared.units.UnitClass.{UnitClass}
 use Rattle.uv_text.specs.declared.units.UnitClass.TheVariants.{Url, Path, OpaqueHost}
 use Rattle.uv_text.specs.Tails.{EndsWith}
-use Rattle.uv_text.specs.Splits.{PassesMarks, PassesUnits, class_has, begins_mark, begins_unit, starts_in}
-use Rattle.uv_text.specs.Splits.{starts_with_mark, unit_length}
+use Rattle.uv_text.specs.Splits.{PassesUnits, ascii_unit_length, begins_ascii_unit, begins_mark, begins_unit}
+use Rattle.uv_text.specs.Splits.{class_has, starts_beyond_ascii, starts_in, starts_with_mark, unit_length}
 
 -- ---- parts of a prefix
 
@@ -87,7 +87,7 @@ module _ (held : ℕ → Bool) where
   class_begins : (c : ℕ) (rest : List ℕ) → held c ≡ true → begins_unit held c rest ≡ true
   class_begins c rest here = rw here refl
 
--- ---- a run of bytes of the class
+-- ---- a run of bytes of the class and of percent-encoded bytes
 
 -- the code points of a text that begins with an ASCII byte
 pub chars-ascii_first : (c : ℕ) (ys : List ℕ) → c < 128 → chars (c ∷ ys) ≡ c ∷ chars ys
@@ -104,16 +104,21 @@ no_mark (b ∷ bytes) some small other =
     let below : nat_le 128 b ≡ false = grind (arith, nat_tests, small) in
     rw (chars-ascii_first b bytes small, no_percent, below) refl
 
--- behind so many bytes of the class the text goes on with none
+-- so many bytes pass, each a code point
+pub record PassesBytes (held : ℕ → Bool) (bytes : List ℕ) (n : ℕ) : Type 0 where
+  pub inside : n ≤ length bytes
+  pub utf8 : IsUtf8 (drop n bytes)
+  pub passes : PassesUnits held (chars bytes) (chars (drop n bytes))
+  pub counted : length (chars bytes) ≡ n + length (chars (drop n bytes))
+
+-- and the text goes on with no code point of the class
 pub record PassesRun (held : ℕ → Bool) (bytes : List ℕ) (run : ℕ) : Type 0 where
-  pub inside : run ≤ length bytes
-  pub utf8 : IsUtf8 (drop run bytes)
-  pub passes : PassesUnits held (chars bytes) (chars (drop run bytes))
+  pub part : PassesBytes held bytes run
   pub stops : starts_in held (chars (drop run bytes)) ≡ false
 
 module _ (held : ℕ → Bool) (ascii : (byte : ℕ) → held byte ≡ true → byte < 128) where
   -- a text whose first byte isn't in the class begins with no code point of it
-  starts_in-chars : (bytes : List ℕ) → IsUtf8 bytes → prefix_len held bytes ≡ 0
+  pub starts_in-chars : (bytes : List ℕ) → IsUtf8 bytes → starts_in held bytes ≡ false
       → starts_in held (chars bytes) ≡ false
   starts_in-chars [] u none = rw chars-nil refl
   starts_in-chars (b ∷ bytes) u none =
@@ -128,80 +133,134 @@ module _ (held : ℕ → Bool) (ascii : (byte : ℕ) → held byte ≡ true → 
           let small = ascii c here in
           let first : encodes (c ∷ rest) ≡ c ∷ encodes rest = ap (λ s. s ++ encodes rest) (encode_ascii c small) in
           let same : c ≡ b = cc (first, spelled) in
-          let one : prefix_len held (b ∷ bytes) ≡ 1 + prefix_len held bytes =
-          rw (← same, here) refl in
-          omega (arith, one, none)
+          false≢true (sym none ∙ ap held (sym same) ∙ here)
+
+  -- a byte that begins a unit is ASCII, and begins one among the code points
+  begins_ascii : (b : ℕ) (bytes : List ℕ) → begins_ascii_unit held b bytes ≡ true
+      → (b < 128) × (IsUtf8 bytes → begins_unit held b (chars bytes) ≡ true)
+  begins_ascii b bytes begins =
+      elim (cases_Bool (held b)) [
+        | inl here ↦ (ascii b here, λ u. class_begins held b (chars bytes) here)
+        | inr other ↦
+            let both : ((b == percent_sign) && starts_with_two_hex bytes) ≡ true = rw other at begins in
+            let parts = and_parts (b == percent_sign) (starts_with_two_hex bytes) both in
+            let small : b < 128 = grind (arith, nat_tests, parts.0) in (
+              small,
+              λ u. mark_begins held b (chars bytes)
+                  (rw parts.0 (sym (starts_with_two_hex-chars bytes u) ∙ parts.1)),
+            )
+      ]
+
+  -- a part of the longest prefix of bytes that begin units
+  pub bytes_pass : (bytes : List ℕ) (n : ℕ) → IsUtf8 bytes → n ≤ ascii_unit_length held bytes
+      → PassesBytes held bytes n
+  bytes_pass bytes zero u part = record {
+    inside = omega arith;
+    utf8 = u;
+    passes = passes_nothing held (chars bytes);
+    counted = omega arith;
+  }
+  bytes_pass [] (suc n) u part = absurd (omega (arith, part))
+  bytes_pass (b ∷ bytes) (suc n) u part =
+      elim (cases_Bool (begins_ascii_unit held b bytes)) [
+        | inl begins ↦
+            let first = begins_ascii b bytes begins in
+            let tail : IsUtf8 bytes = IsUtf8-drop (b ∷ bytes) 1 u
+            (IsCharBoundary-after_ascii (b ∷ bytes) 0 u (omega arith) first.0) in
+            let less : suc n ≤ suc (ascii_unit_length held bytes) = rw begins at part in
+            let more = bytes_pass bytes n tail (omega (arith, less)) in
+            record {
+              inside = omega (arith, more.inside);
+              utf8 = more.utf8;
+              passes = rw (chars-ascii_first b bytes first.0)
+                  (passes_one held b (chars bytes) (chars (drop n bytes)) (first.1 tail) more.passes);
+              counted = rw (chars-ascii_first b bytes first.0) (omega (arith, more.counted));
+            }
+        | inr stops ↦
+            let none : suc n ≤ 0 = rw stops at part in
+            absurd (omega (arith, none))
+      ]
+
+  -- bytes of the class are such a part
+  prefix_len-part : (bytes : List ℕ) → prefix_len held bytes ≤ ascii_unit_length held bytes
+  prefix_len-part [] = omega arith
+  prefix_len-part (b ∷ bytes) =
+      elim (cases_Bool (held b)) [
+        | inl here ↦ rw here (omega (arith, prefix_len-part bytes))
+        | inr other ↦ rw other (omega arith)
+      ]
+
+  -- behind the longest run of them comes none
+  prefix_len-stops : (bytes : List ℕ) → starts_in held (drop (prefix_len held bytes) bytes) ≡ false
+  prefix_len-stops [] = refl
+  prefix_len-stops (b ∷ bytes) =
+      elim (cases_Bool (held b)) [
+        | inl here ↦
+            let step : 1 + prefix_len held bytes ≡ suc (prefix_len held bytes) = omega arith in
+            rw (here, step) (prefix_len-stops bytes)
+        | inr other ↦ rw other other
+      ]
+
+  -- and so it is behind the longest run of bytes that begin units
+  ascii_unit_length-stops : (bytes : List ℕ) → starts_in held (drop (ascii_unit_length held bytes) bytes) ≡ false
+  ascii_unit_length-stops [] = refl
+  ascii_unit_length-stops (b ∷ bytes) =
+      elim (cases_Bool (begins_ascii_unit held b bytes)) [
+        | inl begins ↦ rw begins (ascii_unit_length-stops bytes)
+        | inr stops ↦ rw stops (or_parts (held b) _ stops).0
+      ]
 
   -- the longest prefix of the class passes as units
   pub run_passes : (bytes : List ℕ) (run : ℕ) → IsUtf8 bytes → run ≡ prefix_len held bytes
       → PassesRun held bytes run
-  run_passes bytes zero u is = record {
-    inside = omega arith;
-    utf8 = u;
-    passes = passes_nothing held (chars bytes);
-    stops = starts_in-chars bytes u (sym is);
-  }
-  run_passes [] (suc run) u is = absurd (omega (arith, is))
-  run_passes (b ∷ bytes) (suc run) u is =
-      elim (cases_Bool (held b)) [
-        | inl here ↦
-            let small = ascii b here in
-            let tail : IsUtf8 bytes = IsUtf8-drop (b ∷ bytes) 1 u
-            (IsCharBoundary-after_ascii (b ∷ bytes) 0 u (omega arith) small) in
-            let less : suc run ≡ 1 + prefix_len held bytes = rw here at is in
-            let more = run_passes bytes run tail (omega (arith, less)) in
-            record {
-              inside = omega (arith, more.inside);
-              utf8 = more.utf8;
-              passes = rw (chars-ascii_first b bytes small)
-                  (passes_one held b (chars bytes) (chars (drop run bytes))
-                  (class_begins held b (chars bytes) here) more.passes);
-              stops = more.stops;
-            }
-        | inr other ↦
-            let none : suc run ≡ 0 = rw other at is in
-            absurd (omega (arith, none))
-      ]
+  run_passes bytes run u is =
+      let part = bytes_pass bytes run u (omega (arith, is, prefix_len-part bytes)) in
+      let none = prefix_len-stops bytes in
+      let stops = rw (← is) at none in
+      record { part = part; stops = starts_in-chars (drop run bytes) part.utf8 stops }
 
--- ---- one escape, or one code point beyond ASCII
+  -- and so does the longest prefix of the class and of percent-encoded bytes
+  pub units_pass : (bytes : List ℕ) (run : ℕ) → IsUtf8 bytes → run ≡ ascii_unit_length held bytes
+      → PassesRun held bytes run
+  units_pass bytes run u is =
+      let part = bytes_pass bytes run u (omega (arith, is)) in
+      let none = ascii_unit_length-stops bytes in
+      let stops = rw (← is) at none in
+      record { part = part; stops = starts_in-chars (drop run bytes) part.utf8 stops }
 
--- what stands behind an escape
-pub record PassesEscape (bytes rest : List ℕ) : Type 0 where
-  pub inside : 2 ≤ length rest
-  pub utf8 : IsUtf8 (drop 2 rest)
-  pub passes : PassesMarks (chars bytes) (chars (drop 2 rest))
-  pub shorter : length (chars (drop 2 rest)) < length (chars bytes)
+-- ---- a text that goes on with no unit
 
--- `%` and two hex digits are passed, and less is left
-pub escape_passes : (bytes rest : List ℕ) → IsUtf8 rest → chars bytes ≡ percent_sign ∷ chars rest
-    → starts_with_two_hex rest ≡ true → PassesEscape bytes rest
-escape_passes bytes [] u first hex = absurd (false≢true hex)
-escape_passes bytes (high ∷ []) u first hex = absurd (false≢true hex)
-escape_passes bytes (high ∷ low ∷ rest) u first hex =
-    let both = and_parts (is_ascii_hexdigit high) (is_ascii_hexdigit low) hex in
-    let small_high : high < 128 = grind (arith, nat_tests, both.0) in
-    let small_low : low < 128 = grind (arith, nat_tests, both.1) in
-    let one : IsUtf8 (low ∷ rest) =
-    IsUtf8-drop (high ∷ low ∷ rest) 1 u
-    (IsCharBoundary-after_ascii (high ∷ low ∷ rest) 0 u (omega arith) small_high) in
-    let two : IsUtf8 rest = IsUtf8-drop (low ∷ rest) 1 one
-    (IsCharBoundary-after_ascii (low ∷ rest) 0 one (omega arith) small_low) in
-    let text : chars bytes ≡ percent_sign ∷ high ∷ low ∷ chars rest =
-    first
-    ∙ ap (λ s. percent_sign ∷ s) (chars-ascii_first high (low ∷ rest) small_high
-    ∙ ap (λ s. high ∷ s) (chars-ascii_first low rest small_low)) in
-    record {
-      inside = omega arith;
-      utf8 = two;
-      passes = λ held digits. rw text
-          (passes_one held percent_sign (high ∷ low ∷ chars rest) (chars rest)
-          (mark_begins held percent_sign (high ∷ low ∷ chars rest) hex)
-          (passes_one held high (low ∷ chars rest) (chars rest)
-          (class_begins held high (low ∷ chars rest) (digits high both.0))
-          (passes_one held low (chars rest) (chars rest) (class_begins held low (chars rest) (digits low both.1))
-          (passes_nothing held (chars rest)))));
-      shorter = rw text (omega arith);
-    }
+-- `%` at the start of a text that begins with no unit begins no percent-encoded byte
+pub no_escape : (held : ℕ → Bool) (bytes : List ℕ) → IsUtf8 bytes → starts_in (λ b. b == percent_sign) bytes ≡ true
+    → ascii_unit_length held bytes ≡ 0 → starts_with_mark (chars bytes) ≡ false
+no_escape held [] u percent none = absurd (false≢true percent)
+no_escape held (b ∷ bytes) u percent none =
+    let small : b < 128 = grind (arith, nat_tests, percent) in
+    let tail : IsUtf8 bytes = IsUtf8-drop (b ∷ bytes) 1 u
+    (IsCharBoundary-after_ascii (b ∷ bytes) 0 u (omega arith) small) in
+    elim (cases_Bool (begins_ascii_unit held b bytes)) [
+      | inl begins ↦
+          let one : suc (ascii_unit_length held bytes) ≡ 0 = rw begins at none in
+          absurd (omega (arith, one))
+      | inr stops ↦
+          let neither : (held b || starts_with_two_hex bytes) ≡ false = rw percent at stops in
+          let no_digits = (or_parts (held b) (starts_with_two_hex bytes) neither).1 in
+          rw (chars-ascii_first b bytes small, percent) (sym (starts_with_two_hex-chars bytes tail) ∙ no_digits)
+    ]
+
+-- a text begins with no mark where it begins neither with `%` nor with a URL code point beyond ASCII
+pub no_other_mark : (bytes : List ℕ) → IsUtf8 bytes → starts_in (λ b. b == percent_sign) bytes ≡ false
+    → starts_beyond_ascii (chars bytes) ≡ false → starts_with_mark (chars bytes) ≡ false
+no_other_mark bytes u percent beyond =
+    neither (chars bytes) (starts_in-chars (λ b. b == percent_sign) small bytes u percent) beyond
+  where
+    small : (b : ℕ) → (b == percent_sign) ≡ true → b < 128
+    small b is = grind (arith, nat_tests, is)
+
+    neither : (text : List ℕ) → starts_in (λ c. c == percent_sign) text ≡ false → starts_beyond_ascii text ≡ false
+        → starts_with_mark text ≡ false
+    neither [] percent beyond = refl
+    neither (c ∷ rest) percent beyond = rw percent beyond
 
 -- ---- the cut
 

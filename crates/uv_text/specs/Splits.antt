@@ -5,7 +5,6 @@ use Rattle.std.specs.Char.{is_ascii}
 use Rattle.uv_model.specs.Ascii.{percent_sign, question_mark}
 use Rattle.uv_model.specs.Hosts.OpaqueHost.{is_forbidden_host}
 use Rattle.uv_model.specs.Units.{is_url_code_point, starts_with_two_hex}
-use Rattle.uv_text.specs.Class.{HasHexDigits}
 use Rattle.uv_text.specs.declared.units.UnitClass.{UnitClass}
 use Rattle.uv_text.specs.declared.units.UnitClass.TheVariants.{Url, Path, OpaqueHost}
 
@@ -33,7 +32,16 @@ abbrev pub unit_length : (ℕ → Bool) → List ℕ → ℕ
 unit_length held [] = 0
 unit_length held (c ∷ rest) = if begins_unit held c rest then suc (unit_length held rest) else 0
 
--- the text is cut behind that prefix
+-- the byte with what follows it is of the class, or begins a percent-encoded byte
+abbrev pub begins_ascii_unit : (ℕ → Bool) → ℕ → List ℕ → Bool
+begins_ascii_unit held b rest = held b || ((b == percent_sign) && starts_with_two_hex rest)
+
+-- how many bytes the longest prefix has in which each is of the class or begins a percent-encoded byte
+abbrev pub ascii_unit_length : (ℕ → Bool) → List ℕ → ℕ
+ascii_unit_length held [] = 0
+ascii_unit_length held (b ∷ rest) = if begins_ascii_unit held b rest then suc (ascii_unit_length held rest) else 0
+
+-- the text is cut behind the longest prefix of units
 pub record IsUnitSplit (held : ℕ → Bool) (text prefix rest : List ℕ) : Type 0 where
   pub is_prefix : prefix ≡ take (unit_length held text) text
   pub is_rest : rest ≡ drop (unit_length held text) text
@@ -47,7 +55,12 @@ pub record PassesUnits (held : ℕ → Bool) (text rest : List ℕ) : Type 0 whe
 
 -- whatever the class, the rest stands behind units that need none
 abbrev pub PassesMarks : List ℕ → List ℕ → Type 0
-PassesMarks text rest = (held : ℕ → Bool) → HasHexDigits held → PassesUnits held text rest
+PassesMarks text rest = (held : ℕ → Bool) → PassesUnits held text rest
+
+-- the text begins with a URL code point beyond ASCII
+abbrev pub starts_beyond_ascii : List ℕ → Bool
+starts_beyond_ascii [] = false
+starts_beyond_ascii (c ∷ rest) = nat_le 128 c && is_url_code_point c
 
 -- the text begins with a code point of the class
 abbrev pub starts_in : (ℕ → Bool) → List ℕ → Bool

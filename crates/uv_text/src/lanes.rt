@@ -1,13 +1,21 @@
-//! Prefixes of bytes by lanes, 32 bytes a turn: the longest whose bytes are all in a class.
+//! Prefixes of bytes by lanes, 32 bytes a turn: the longest whose bytes are all in a class, and the longest of a class
+//! and of percent-encoded bytes.
 ghost use Rattle.std.specs.Prelude.{◌≡◌, ◌+◌, ◌≤◌, drop, length, map, take};
 ghost use Rattle.std.specs.Simd.Lanes.{mask_l};
 ghost use Rattle.std.specs.List.{prefix_len};
 ghost use Rattle.uv_text.specs.Rows.{StandsTwice, high_bit, is_in_rows, row_at};
+ghost use Rattle.uv_text.specs.Splits.{ascii_unit_length};
 
 use std::simd::prelude::*;
 
 // At the high half of a byte, its bit in a row.
 const HIGH_BITS: [u8; 16] = [1, 2, 4, 8, 16, 32, 64, 128, 0, 0, 0, 0, 0, 0, 0, 0];
+
+// `%`, by the low half of a byte: a bit for each high half.
+const PERCENT_ROWS: [u8; 16] = [0, 0, 0, 0, 0, 4, 0, 0, 0, 0, 0, 0, 0, 0, 0, 0];
+
+// The hex digits.
+const HEX_ROWS: [u8; 16] = [8, 88, 88, 88, 88, 88, 88, 8, 8, 8, 0, 0, 0, 0, 0, 0];
 
 // A byte that no class of ASCII bytes has.
 const BEYOND_ASCII: u8 = 128;
@@ -96,4 +104,33 @@ pub(crate) fn row_end(bytes: &[u8], place: usize, rows: &[u8; 16]) -> usize
         ahead = row_prefix(bytes, end, rows);
     }
     end + ahead
+}
+
+// How many of the 32 bytes from a place on are in the rows, or `%` with two hex digits behind it among the 32, before
+// one that is neither.
+#[inline(always)]
+fn unit_prefix(bytes: &[u8], place: usize, rows: &[u8; 16]) -> usize
+    requires { place ≤ length bytes.now }
+    ensures { result ≡ ascii_unit_length (is_in_rows rows.now) (take 32 (drop place bytes.now)) }
+{
+    let held = row_bits(bytes, place, rows);
+    let percents = row_bits(bytes, place, &PERCENT_ROWS);
+    let digits = row_bits(bytes, place, &HEX_ROWS);
+    let units = held | percents & digits >> 1 & digits >> 2;
+    units.trailing_ones() as usize
+}
+
+/// The place behind the longest run of bytes in the rows and of percent-encoded bytes that begins at a place. What a
+/// `%` begins as the last but one or the last of 32 bytes isn't seen before the next turn.
+pub(crate) fn unit_end(bytes: &[u8], place: usize, rows: &[u8; 16]) -> usize
+    requires { place ≤ length bytes.now }
+    ensures { result ≡ place + ascii_unit_length (is_in_rows rows.now) (drop place bytes.now) }
+{
+    let mut end = place;
+    let mut run = unit_prefix(bytes, end, rows);
+    while run >= 30 {
+        end += run;
+        run = unit_prefix(bytes, end, rows);
+    }
+    end + run
 }

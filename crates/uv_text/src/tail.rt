@@ -4,7 +4,7 @@ ghost use Rattle.std.specs.List.{prefix_len};
 ghost use Rattle.std.specs.Simd.Lanes.{mask_l};
 ghost use Rattle.std.specs.Str.{IsCharBoundary, IsUtf8};
 ghost use Rattle.uv_text.specs.Rows.{is_in_rows};
-ghost use Rattle.uv_text.specs.Splits.{class_has};
+ghost use Rattle.uv_text.specs.Splits.{ascii_unit_length, class_has};
 ghost use Rattle.uv_text.specs.Tails.{EndsWith};
 
 use crate::lanes::row_bits;
@@ -95,6 +95,14 @@ impl<'t> Tail<'t> {
         ensures text { IsUtf8 self.now }
     {
         class.run_end(self.whole.as_bytes(), self.place) - self.place
+    }
+
+    // How many bytes it begins with that are in the class or of percent-encoded bytes.
+    pub(crate) fn unit_run(&self, class: UnitClass) -> usize
+        ensures run { result ≡ ascii_unit_length (class_has class) self.now }
+        ensures text { IsUtf8 self.now }
+    {
+        class.unit_end(self.whole.as_bytes(), self.place) - self.place
     }
 }
 

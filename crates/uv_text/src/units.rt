@@ -2,10 +2,10 @@
 ghost use Rattle.std.specs.Prelude.{◌≡◌, ◌+◌, ◌≤◌, drop, length};
 ghost use Rattle.std.specs.List.{prefix_len};
 ghost use Rattle.uv_text.specs.Rows.{HoldClass};
-ghost use Rattle.uv_text.specs.Splits.{class_has};
+ghost use Rattle.uv_text.specs.Splits.{ascii_unit_length, class_has};
 
 use crate::class::{OPAQUE_HOST_ROWS, PATH_ROWS, URL_ROWS};
-use crate::lanes::row_end;
+use crate::lanes::{row_end, unit_end};
 
 /// The units that a part of a text may consist of, by their ASCII code points (URL Standard, section 4.3).
 #[derive(Clone, Copy, PartialEq, Eq)]
@@ -38,5 +38,13 @@ impl UnitClass {
         ensures { result ≡ place + prefix_len (class_has self) (drop place bytes.now) }
     {
         row_end(bytes, place, self.rows())
+    }
+
+    // The place behind the longest run of bytes of the class and of percent-encoded bytes that begins at a place.
+    pub(crate) fn unit_end(self, bytes: &[u8], place: usize) -> usize
+        requires { place ≤ length bytes.now }
+        ensures { result ≡ place + ascii_unit_length (class_has self) (drop place bytes.now) }
+    {
+        unit_end(bytes, place, self.rows())
     }
 }

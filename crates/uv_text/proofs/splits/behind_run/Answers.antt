@@ -8,13 +8,13 @@ pub split_at-rest-requires : goal.split_at-rest-requires
 split_at-rest-requires c = λ text.
     let run = run_passes (class_has c.args.class) (class_ascii c.args.class) c.args.text.now c.class_run.result text
     c.class_run.ensures.run in
-    IsCharBoundary-from_drop c.args.text.now c.class_run.result run.inside run.utf8
+    IsCharBoundary-from_drop c.args.text.now c.class_run.result run.part.inside run.part.utf8
 
 pub returns-clause-passes : goal.returns-clause-passes
 returns-clause-passes c =
     let run = run_passes (class_has c.args.class) (class_ascii c.args.class) c.args.text.now c.class_run.result
     c.class_run.ensures.text c.class_run.ensures.run in
-    rw c.split_at-rest.ensures.rest run.passes
+    rw c.split_at-rest.ensures.rest run.part.passes
 
 pub returns-clause-stops : goal.returns-clause-stops
 returns-clause-stops c =

@@ -4,7 +4,7 @@ use denote.Text.{Utf8}
 use denote.Shadow.{shadow}
 use Rattle.std.specs.Str.{chars}
 use Rattle.uv_text.specs.Splits.{PassesMarks}
-use Rattle.uv_text.proofs.splits.behind_marks.Given as goal
+use Rattle.uv_text.proofs.splits.behind_beyond_ascii.Given as goal
 
 abbrev pub invariant-loop-behind : goal.invariant-loop-behind
 invariant-loop-behind l = record {
