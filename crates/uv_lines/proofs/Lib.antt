@@ -1,4 +1,4 @@
-mod LineLemmas
+pub mod LineLemmas
 mod ReportedLemmas
 mod StandsLemmas
 mod PassLemmas

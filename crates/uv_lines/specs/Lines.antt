@@ -1,6 +1,8 @@
 -- The lines of a list. A line ends with LF, and one CR before that LF is no part of it; what follows the last
 -- LF is a line where it isn't empty, and a CR at its end stays.
-use Rattle.std.specs.Prelude.{ℕ, List, [], ◌∷◌, ◌++◌, Option, Some, None, length, map, nat_le, if◌then◌else◌, ◌==◌}
+use Rattle.std.specs.Prelude.{ℕ, List, [], ◌∷◌, ◌++◌, Option, Some, None, drop, length, map, nat_le, take, ◌==◌}
+use Rattle.std.specs.Prelude.{if◌then◌else◌}
+use Rattle.std.specs.Str.{bytes_eq}
 use Rattle.std.specs.Str.Lines.{strip_carriage_return}
 
 -- LF, U+000A
@@ -34,3 +36,11 @@ lines_of bytes = closed_lines bytes ++ open_lines (split bytes).1
 -- the line, where it has at most as many bytes as a line may have
 abbrev pub short_line : ℕ → List ℕ → Option (List ℕ)
 short_line line_bytes line = if nat_le (length line) line_bytes then Some line else None
+
+-- U+FEFF in UTF-8
+abbrev pub byte_order_mark : List ℕ
+byte_order_mark = 0xEF ∷ 0xBB ∷ 0xBF ∷ []
+
+-- the text of a list's first line without a mark before it
+abbrev pub without_mark : List ℕ → List ℕ
+without_mark line = if bytes_eq (take 3 line) byte_order_mark then drop 3 line else line

@@ -5,6 +5,7 @@ mod ending;
 mod fault;
 mod framed;
 mod limits;
+mod line_parts;
 mod passing;
 mod progress;
 mod reporter;
@@ -14,6 +15,7 @@ mod taking;
 pub use fault::LineFault;
 pub use framed::{Frame, run_lines};
 pub use limits::LineLimits;
+pub use line_parts::{line_end, line_text, without_mark};
 pub use reporter::Reporter;
 
 #[cfg(test)]

@@ -8,9 +8,9 @@ ghost use Rattle.uv_lines.specs.Progress.{Adds, Stands, TakeFault, ended};
 ghost use Rattle.uv_lines.specs.Run.{WaitFault, Waits};
 
 use crate::fault::LineFault;
+use crate::line_parts::{line_end, line_text, without_return};
 use crate::progress::Progress;
 use crate::reporter::Reporter;
-use memchr::memchr;
 use std::alloc::{AllocError, Global};
 use uv_model::{DeviceFault, Sink};
 
@@ -187,7 +187,7 @@ impl<R: Reporter> Progress<R> {
             × (self.new.text.items ≡ self.old.text.items)) }
     {
         let line_bytes = self.limits.line_bytes;
-        let line = line_ended(self.begun.as_slice(), is_closed);
+        let line = line_text(self.begun.as_slice(), is_closed);
         match report_on(alloc, &mut self.reporter, line_bytes, line, &mut self.text) {
             Ok(()) => {
                 self.begun.clear();
@@ -215,35 +215,5 @@ fn report_on<R: Reporter>(
         reporter.report(alloc, Some(line), text)
     } else {
         reporter.report(alloc, None, text)
-    }
-}
-
-// How many bytes stand before the next LF, where there is one.
-fn line_end(rest: &[u8]) -> Option<usize>
-    ensures some { IfSome result (λ at. (at < length rest.now) × (split (take at rest.now) ≡ ([], take at rest.now))
-        × (drop at rest.now ≡ line_feed ∷ drop (at + 1) rest.now)) }
-    ensures none { result ≡ None → split rest.now ≡ ([], rest.now) }
-{
-    memchr(b'\n', rest)
-}
-
-// A line as its end leaves it.
-fn line_ended(line: &[u8], is_closed: bool) -> &[u8]
-    ensures { result.now ≡ ended is_closed line.now }
-{
-    if is_closed {
-        without_return(line)
-    } else {
-        line
-    }
-}
-
-// A line without the one CR at its end, if it has one.
-fn without_return(line: &[u8]) -> &[u8]
-    ensures { result.now ≡ strip_carriage_return line.now }
-{
-    match line.split_last() {
-        Some((b'\r', prefix)) => prefix,
-        _ => line,
     }
 }

@@ -3,7 +3,7 @@ use Rattle.std.proofs.Common.{◌≡◌, ◌+◌, ◌<◌, [], ◌∷◌, length
 use Rattle.memchr.specs.Find.{IsFirstByte, is_byte}
 use Rattle.uv_lines.specs.Lines.{line_feed, split}
 use Rattle.uv_lines.proofs.LineLemmas.{no_line_feed, prefix_line_feed, from_line_feed}
-use Rattle.uv_lines.proofs.taking.line_end.Goals as goal
+use Rattle.uv_lines.proofs.line_parts.line_end.Goals as goal
 
 pub returns-clause-some : goal.returns-clause-some
 returns-clause-some c =
