@@ -5,7 +5,6 @@ use Rattle.std.specs.Borrow.{Bor}
 use Rattle.std.specs.Prelude.{Decides}
 use Rattle.std.proofs.lemmas.Bool.{false≢true}
 use Rattle.uv_model.specs.declared.profile.Profile.{Profile}
-use Rattle.uv_model.specs.declared.profile.Profile.TheVariants.{Standard}
 use Rattle.uv_model.specs.declared.rule.Refusal.{Refusal}
 use Rattle.uv_model.specs.declared.rule.Rule.{Rule}
 use Rattle.uv_model.specs.declared.rule.Rule.TheVariants.{NoScheme, OpaqueBase, TwoSlashes, HostMissing, HostDomain}
@@ -74,56 +73,58 @@ least_is_one violation refusal other one two =
 -- ---- the answers
 
 -- a valid text has no refusal
-pub denoted_is_not_refused : (base : Option Url) (text : List ℕ) (url : Url) (refusal : Refusal)
-    → Denotes Standard base text url → IsRefused Standard base text refusal → ⊥
-denoted_is_not_refused base text url refusal denotes refused =
+pub denoted_is_not_refused : (profile : Profile) (base : Option Url) (text : List ℕ) (url : Url) (refusal : Refusal)
+    → Denotes profile base text url → IsRefused profile base text refusal → ⊥
+denoted_is_not_refused profile base text url refusal denotes refused =
     let (parts, valid, is) = denotes in
     refused.none parts valid
 
 -- a text has one refusal
-pub refusal_is_one : (base : Option Url) (text : List ℕ) (refusal other : Refusal)
-    → IsRefused Standard base text refusal → IsRefused Standard base text other → refusal ≡ other
-refusal_is_one base text refusal other one two = least_is_one _ refusal other one.least two.least
+pub refusal_is_one : (profile : Profile) (base : Option Url) (text : List ℕ) (refusal other : Refusal)
+    → IsRefused profile base text refusal → IsRefused profile base text other → refusal ≡ other
+refusal_is_one profile base text refusal other one two = least_is_one _ refusal other one.least two.least
 
 -- whether the refusal that a text has is this one
-pub decides_refusal : (base : Option Url) (text : List ℕ) (found refusal : Refusal) (answer : Bool)
-    → IsRefused Standard base text found → Decides answer (found ≡ refusal)
-    → Decides answer (IsRefused Standard base text refusal)
-decides_refusal base text found refusal answer is decides = (
-  λ yes. subst (λ r. IsRefused Standard base text r) (decides.0 yes) is,
-  λ refused. decides.1 (refusal_is_one base text found refusal is refused),
+pub decides_refusal : (profile : Profile) (base : Option Url) (text : List ℕ) (found refusal : Refusal) (answer : Bool)
+    → IsRefused profile base text found → Decides answer (found ≡ refusal)
+    → Decides answer (IsRefused profile base text refusal)
+decides_refusal profile base text found refusal answer is decides = (
+  λ yes. subst (λ r. IsRefused profile base text r) (decides.0 yes) is,
+  λ refused. decides.1 (refusal_is_one profile base text found refusal is refused),
 )
 
 -- a text that has a URL doesn't have the refusal
-pub decides_no_refusal : (base : Option Url) (text : List ℕ) (url : Url) (refusal : Refusal)
-    → Denotes Standard base text url → Decides false (IsRefused Standard base text refusal)
-decides_no_refusal base text url refusal denotes = (
+pub decides_no_refusal : (profile : Profile) (base : Option Url) (text : List ℕ) (url : Url) (refusal : Refusal)
+    → Denotes profile base text url → Decides false (IsRefused profile base text refusal)
+decides_no_refusal profile base text url refusal denotes = (
   λ yes. absurd (false≢true yes),
-  λ refused. absurd (denoted_is_not_refused base text url refusal denotes refused),
+  λ refused. absurd (denoted_is_not_refused profile base text url refusal denotes refused),
 )
 
 -- ---- the case against its base
 
 -- what is as expected against the URL of the base is what passes against the base's text
-pub decides_against : (base : Option (Bor (List ℕ))) (url : Option Url) (input : List ℕ) (expected : Expectation)
-    (answer : Bool) → IsBase Standard base url → Decides answer (IsAsExpected url input expected)
-    → Decides answer (PassesAgainst (option_copied base) input expected)
-decides_against None url input expected answer is decides =
-    subst (λ u. Decides answer (IsAsExpected u input expected)) is decides
-decides_against (Some base) url input expected answer (parts, valid, is) decides =
-    let denotes : Denotes Standard None (chars base.now) (denote None parts) = (parts, valid, refl) in
-    let here = subst (λ u. Decides answer (IsAsExpected u input expected)) is decides in (
+pub decides_against : (profile : Profile) (base : Option (Bor (List ℕ))) (url : Option Url) (input : List ℕ)
+    (expected : Expectation) (answer : Bool) → IsBase profile base url
+    → Decides answer (IsAsExpected profile url input expected)
+    → Decides answer (PassesAgainst profile (option_copied base) input expected)
+decides_against profile None url input expected answer is decides =
+    subst (λ u. Decides answer (IsAsExpected profile u input expected)) is decides
+decides_against profile (Some base) url input expected answer (parts, valid, is) decides =
+    let denotes : Denotes profile None (chars base.now) (denote None parts) = (parts, valid, refl) in
+    let here = subst (λ u. Decides answer (IsAsExpected profile u input expected)) is decides in (
       λ yes. (denote None parts, denotes, here.0 yes),
       λ passes. let (other, again, as_expected) = passes in
-          here.1 (subst (λ u. IsAsExpected (Some u) input expected)
-          (denoted_is_one Standard None (chars base.now) other (denote None parts) again denotes) as_expected),
+          here.1 (subst (λ u. IsAsExpected profile (Some u) input expected)
+          (denoted_is_one profile None (chars base.now) other (denote None parts) again denotes) as_expected),
     )
 
 -- against a base that is refused no case passes
-pub decides_no_base : (base : Option (Bor (List ℕ))) (refusal : Refusal) (input : List ℕ) (expected : Expectation)
-    → IsBaseRefused Standard base refusal → Decides false (PassesAgainst (option_copied base) input expected)
-decides_no_base None refusal input expected refused = absurd refused
-decides_no_base (Some base) refusal input expected refused = (
+pub decides_no_base : (profile : Profile) (base : Option (Bor (List ℕ))) (refusal : Refusal) (input : List ℕ)
+    (expected : Expectation) → IsBaseRefused profile base refusal
+    → Decides false (PassesAgainst profile (option_copied base) input expected)
+decides_no_base profile None refusal input expected refused = absurd refused
+decides_no_base profile (Some base) refusal input expected refused = (
   λ yes. absurd (false≢true yes),
-  λ passes. absurd (denoted_is_not_refused None (chars base.now) passes.0 refusal passes.1 refused),
+  λ passes. absurd (denoted_is_not_refused profile None (chars base.now) passes.0 refusal passes.1 refused),
 )

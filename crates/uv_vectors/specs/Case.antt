@@ -4,8 +4,11 @@ use Rattle.std.specs.Prelude.{option_and_then, option_map, if◌then◌else◌}
 use Rattle.std.specs.Str.{bytes_eq}
 use Rattle.serde_json.specs.Data.{Data, null, string, Items, no_items, item, Members, no_members, member}
 use Rattle.serde_json.specs.Find.{get, as_number, as_object, as_str, as_u64}
+use Rattle.uv_model.specs.declared.profile.Profile.{Profile}
+use Rattle.uv_model.specs.declared.profile.Profile.TheVariants.{Standard}
 use Rattle.uv_model.specs.declared.rule.Refusal.{Refusal}
 use Rattle.uv_model.specs.declared.rule.Rule.{Rule}
+use Rattle.uv_model.specs.ProfileName.{named_profile}
 use Rattle.uv_model.specs.Violations.Rule.{named_rule}
 
 -- what a case expects: a record with this text, or this refusal
@@ -17,6 +20,7 @@ pub data Expectation : Type 0 where
 pub record Vector : Type 0 where
   pub input : List ℕ
   pub base : Option (List ℕ)
+  pub profile : Profile
   pub expected : Expectation
 
 -- ---- the keys
@@ -25,7 +29,7 @@ pub record Vector : Type 0 where
 abbrev pub is_known : List ℕ → Bool
 is_known key =
     bytes_eq key (codes "input") || (bytes_eq key (codes "base") || (bytes_eq key (codes "text")
-    || (bytes_eq key (codes "place") || bytes_eq key (codes "rule"))))
+    || (bytes_eq key (codes "place") || (bytes_eq key (codes "rule") || bytes_eq key (codes "profile")))))
 
 -- there is no other key
 abbrev pub has_known_keys : Members → Bool
@@ -40,6 +44,11 @@ base_of None = Some None
 base_of (Some null) = Some None
 base_of (Some (string text)) = Some (Some text)
 base_of (Some _) = None
+
+-- the standard profile, where the key is absent; or the profile with that name
+abbrev pub profile_of : Option Data → Option Profile
+profile_of None = Some Standard
+profile_of (Some value) = option_and_then named_profile (as_str value)
 
 -- a place: a number in digits alone, below 2^64
 abbrev pub place_of : Data → Option ℕ
@@ -63,15 +72,18 @@ expected_of _ _ _ = None
 -- ---- the case
 
 -- the case of these parts
-abbrev pub case_of : List ℕ → Option (List ℕ) → Expectation → Vector
-case_of input base expected = record { input = input; base = base; expected = expected }
+abbrev pub case_of : List ℕ → Option (List ℕ) → Profile → Expectation → Vector
+case_of input base profile expected =
+    record { input = input; base = base; profile = profile; expected = expected }
 
 -- the case that a value is, where it is one
 abbrev pub vector_of : Data → Option Vector
 vector_of value =
     option_and_then (λ members. if has_known_keys members
-    then option_and_then (λ input. option_and_then (λ base. option_map (case_of input base)
+    then option_and_then (λ input. option_and_then (λ base. option_and_then (λ profile.
+    option_map (case_of input base profile)
     (expected_of (get (codes "text") value) (get (codes "place") value) (get (codes "rule") value)))
+    (profile_of (get (codes "profile") value)))
     (base_of (get (codes "base") value)))
     (option_and_then as_str (get (codes "input") value))
     else None) (as_object value)

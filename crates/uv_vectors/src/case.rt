@@ -8,7 +8,7 @@ ghost use Rattle.serde_json.specs.View.{members_view, view};
 ghost use Rattle.uv_grammar.specs.Verdict.{IsRefused};
 ghost use Rattle.uv_resolve.specs.Resolve.{DenotesText};
 ghost use Rattle.uv_vectors.specs.Case.{Expectation, Vector, base_of, expected_of, has_known_keys, is_known};
-ghost use Rattle.uv_vectors.specs.Case.{refusal_of, vector_of};
+ghost use Rattle.uv_vectors.specs.Case.{profile_of, refusal_of, vector_of};
 ghost use Rattle.uv_vectors.specs.Passes.{IsAsExpected, Judges, Passes};
 ghost use Rattle.uv_vectors.specs.Views.{expected_view, value_view};
 
@@ -32,6 +32,7 @@ pub(crate) enum Expected<'v> {
 pub(crate) struct VectorCase<'v> {
     input: &'v str,
     base: Option<&'v str>,
+    profile: Profile,
     expected: Expected<'v>,
 }
 
@@ -45,6 +46,7 @@ impl<'v> Model for VectorCase<'v> {
     ghost view = { λ c. record {
       input = c.input.now;
       base = option_copied c.base;
+      profile = c.profile;
       expected = expected_view c.expected;
     } };
 }
@@ -60,19 +62,21 @@ impl<'v> VectorCase<'v> {
         }
         let input = value.get("input")?.as_str()?;
         let base = base_in(value.get("base"))?;
+        let profile = profile_in(value.get("profile"))?;
         let expected = expected_in(value.get("text"), value.get("place"), value.get("rule"))?;
         Some(VectorCase {
             input,
             base,
+            profile,
             expected,
         })
     }
 
-    /// Whether the case passes, by the standard profile. The error is out of memory.
+    /// Whether the case passes, by its profile. The error is out of memory.
     pub(crate) fn passes(&self, alloc: Global) -> Result<bool, AllocError>
         ensures { IfOk result (λ passed. Decides passed (Passes self.now)) }
     {
-        match resolve_base(alloc, self.base, Profile::Standard) {
+        match resolve_base(alloc, self.base, self.profile) {
             Ok(base) => self.is_as_expected(alloc, base.as_ref()),
             Err(ResolveFault::Refused(_)) => Ok(false),
             Err(ResolveFault::Memory(error)) => Err(error),
@@ -82,11 +86,13 @@ impl<'v> VectorCase<'v> {
     // Whether the input against a record as base is as expected.
     fn is_as_expected(&self, alloc: Global, base: Option<&Record>) -> Result<bool, AllocError>
         ensures { IfOk result (λ is.
-            Decides is (IsAsExpected (option_copied base.entry) self.now.input self.now.expected)) }
+            Decides is (IsAsExpected self.now.profile (option_copied base.entry) self.now.input self.now.expected)) }
     {
         match self.expected {
-            Expected::Text(text) => denotes(alloc, self.input, base, text),
-            Expected::Refusal(refusal) => is_refused(alloc, self.input, base, refusal),
+            Expected::Text(text) => denotes(alloc, self.input, base, self.profile, text),
+            Expected::Refusal(refusal) => {
+                is_refused(alloc, self.input, base, self.profile, refusal)
+            }
         }
     }
 }
@@ -106,12 +112,13 @@ fn denotes(
     alloc: Global,
     input: &str,
     base: Option<&Record>,
+    profile: Profile,
     text: &str,
 ) -> Result<bool, AllocError>
     ensures { IfOk result (λ does.
-        Decides does (DenotesText Profile.Standard (option_copied base.entry) input.now text.now)) }
+        Decides does (DenotesText profile (option_copied base.entry) input.now text.now)) }
 {
-    match resolve(alloc, input, base, Profile::Standard) {
+    match resolve(alloc, input, base, profile) {
         Ok(url) => Ok(url.text(alloc)?.as_str() == text),
         Err(ResolveFault::Refused(_)) => Ok(false),
         Err(ResolveFault::Memory(error)) => Err(error),
@@ -123,12 +130,13 @@ fn is_refused(
     alloc: Global,
     input: &str,
     base: Option<&Record>,
+    profile: Profile,
     refusal: Refusal,
 ) -> Result<bool, AllocError>
     ensures { IfOk result (λ is.
-        Decides is (IsRefused Profile.Standard (option_copied base.entry) (chars input.now) refusal)) }
+        Decides is (IsRefused profile (option_copied base.entry) (chars input.now) refusal)) }
 {
-    match resolve(alloc, input, base, Profile::Standard) {
+    match resolve(alloc, input, base, profile) {
         Ok(_) => Ok(false),
         Err(ResolveFault::Refused(found)) => Ok(is_same(found, refusal)),
         Err(ResolveFault::Memory(error)) => Err(error),
@@ -144,7 +152,10 @@ fn is_same(found: Refusal, refusal: Refusal) -> bool
 fn is_known_key(key: &str) -> bool
     ensures { result ≡ is_known key.now }
 {
-    matches!(key, "input" | "base" | "text" | "place" | "rule")
+    matches!(
+        key,
+        "input" | "base" | "text" | "place" | "rule" | "profile"
+    )
 }
 
 fn has_only_known_keys(members: &Map<String, Value>) -> bool
@@ -170,6 +181,16 @@ fn base_in<'v>(found: Option<&'v Value>) -> Option<Option<&'v str>>
             Value::String(text) => Some(Some(text.as_str())),
             _ => None,
         },
+    }
+}
+
+// The profile: the standard one where the key is absent. Nothing where the value is no profile's name.
+fn profile_in<'v>(found: Option<&'v Value>) -> Option<Profile>
+    ensures { result ≡ profile_of (value_view found.entry) }
+{
+    match found {
+        None => Some(Profile::Standard),
+        Some(value) => Profile::of_name(value.as_str()?),
     }
 }
 

@@ -40,8 +40,8 @@ enum Ending {
     Report(VectorEnd, String),
 }
 
-/// Runs the cases of a vector file by the standard profile, and writes the report: `fail N` for each case that fails,
-/// in order and numbered from 1, and `vectors L pass P fail F`.
+/// Runs the cases of a vector file, each by the profile that it names or the standard one, and writes the report:
+/// `fail N` for each case that fails, in order and numbered from 1, and `vectors L pass P fail F`.
 ///
 /// A case passes where its base, if it has one, is valid alone, and where its input against it has the record's text,
 /// or the refusal, that the case expects. No case is judged before all of them have been read. A fault of memory leaves

@@ -89,7 +89,7 @@ fn names_the_cases_that_fail(rt: HostRuntime) -> Result<(), Fail> {
     )
 }
 
-// The standard profile judges, the base too.
+// The standard profile judges where a case names none, the base too.
 #[test]
 fn judges_by_the_standard_profile(rt: HostRuntime) -> Result<(), Fail> {
     ends(
@@ -99,6 +99,23 @@ fn judges_by_the_standard_profile(rt: HostRuntime) -> Result<(), Fail> {
             {"input":"#f","base":"http://x_y/","text":"http://x_y/#f"}]"##,
             VectorEnd::SomeFail,
             "fail 2\nvectors 2 pass 1 fail 1\n",
+        )],
+    )
+}
+
+// The profile that a case names judges, the base too.
+#[test]
+fn judges_by_the_named_profile(rt: HostRuntime) -> Result<(), Fail> {
+    ends(
+        &rt,
+        &[(
+            r##"[{"input":"http://x_y/","profile":"wide","text":"http://x_y/"},
+            {"input":"#f","base":"http://x_y/","profile":"wide","text":"http://x_y/#f"},
+            {"input":"http://x_y/","profile":"standard","place":7,"rule":"host-domain"},
+            {"input":"#f","base":"http://x_y/","profile":"standard","text":"http://x_y/#f"},
+            {"input":"http://x_y/","profile":"wide","place":7,"rule":"host-domain"}]"##,
+            VectorEnd::SomeFail,
+            "fail 4\nfail 5\nvectors 5 pass 3 fail 2\n",
         )],
     )
 }
@@ -137,7 +154,8 @@ fn names_the_first_malformed_case(rt: HostRuntime) -> Result<(), Fail> {
     )
 }
 
-// What a case may not be: other keys, values of another kind, a place that isn't in digits alone, no rule's name.
+// What a case may not be: other keys, values of another kind, a place that isn't in digits alone, no rule's or
+// profile's name.
 #[test]
 fn refuses_malformed_cases(rt: HostRuntime) -> Result<(), Fail> {
     let malformed = VectorEnd::Malformed(1);
@@ -159,6 +177,11 @@ fn refuses_malformed_cases(rt: HostRuntime) -> Result<(), Fail> {
             (r##"[{"input":1,"text":"x"}]"##, malformed),
             (r##"[{"input":"x","text":null}]"##, malformed),
             (r##"[{"input":"x","text":"x","base":1}]"##, malformed),
+            (
+                r##"[{"input":"x","text":"x","profile":"Wide"}]"##,
+                malformed,
+            ),
+            (r##"[{"input":"x","text":"x","profile":null}]"##, malformed),
             (r##"[{"input":"x","text":"x","comment":"x"}]"##, malformed),
             (
                 r##"[{"input":"x","place":"0","rule":"no-scheme"}]"##,

@@ -11,19 +11,21 @@ pub returns-in-Ok : goal.returns-in-Ok
 returns-in-Ok c =
     let case = c.args.self.now in
     let text : case.base ≡ option_copied c.self.inside.base = sym (ap (λ (v : Vector). v.base) c.self.view_is) in
-    let base = rw c.in-Ok.is at c.resolve_base.ensures in
-    subst (λ b. IfOk c.is_as_expected.result (λ answer. Decides answer (PassesAgainst b case.input case.expected)))
+    let by : c.self.inside.profile ≡ case.profile = ap (λ (v : Vector). v.profile) c.self.view_is in
+    let base = rw (c.in-Ok.is, by) at c.resolve_base.ensures in
+    subst (λ b. IfOk c.is_as_expected.result (λ answer. Decides answer (PassesAgainst case.profile b case.input case.expected)))
     (sym text)
     (IfOk-weaker c.is_as_expected.result
-    (λ answer. Decides answer (IsAsExpected (option_copied c.as_ref.result) case.input case.expected)) _
-    (λ answer decides. decides_against c.self.inside.base c.in-Ok.base case.input case.expected answer base
-    (subst (λ u. Decides answer (IsAsExpected u case.input case.expected)) c.as_ref.ensures.value decides))
+    (λ answer. Decides answer (IsAsExpected case.profile (option_copied c.as_ref.result) case.input case.expected)) _
+    (λ answer decides. decides_against case.profile c.self.inside.base c.in-Ok.base case.input case.expected answer base
+    (subst (λ u. Decides answer (IsAsExpected case.profile u case.input case.expected)) c.as_ref.ensures.value decides))
     c.is_as_expected.ensures)
 
 pub returns-in-Err-Refused : goal.returns-in-Err-Refused
 returns-in-Err-Refused c =
     let case = c.args.self.now in
     let text : case.base ≡ option_copied c.self.inside.base = sym (ap (λ (v : Vector). v.base) c.self.view_is) in
-    let refused = rw (c.in-Err-Refused.is, c.in-Err-Refused.field-0-is) at c.resolve_base.ensures in
-    subst (λ b. Decides false (PassesAgainst b case.input case.expected)) (sym text)
-    (decides_no_base c.self.inside.base c.in-Err-Refused.field-0-0 case.input case.expected refused)
+    let by : c.self.inside.profile ≡ case.profile = ap (λ (v : Vector). v.profile) c.self.view_is in
+    let refused = rw (c.in-Err-Refused.is, c.in-Err-Refused.field-0-is, by) at c.resolve_base.ensures in
+    subst (λ b. Decides false (PassesAgainst case.profile b case.input case.expected)) (sym text)
+    (decides_no_base case.profile c.self.inside.base c.in-Err-Refused.field-0-0 case.input case.expected refused)
