@@ -44,4 +44,10 @@ unfolding run_of gnu_position gnu_text gnu_words refusal_message point_text poin
     sign_names digit_names capital_names mark_names small_names last_names escaped digits padded_integral char_count
     chars
     is_utf8 utf8_lossy utf8_valid_len utf8_error_len encode_utf8 checkstyle_text error_place error_text file_begin
-located_report_rows = record { gnu = refl; checkstyle = refl }
+located_report_rows = record {
+  gnu = refl;
+  checkstyle = refl;
+  points = refl;
+  bytes = refl;
+  utf16 = refl;
+}

@@ -3,7 +3,6 @@ use Rattle.std.proofs.Common.{◌≡◌, ℕ, ◌+◌, Bool, List, [], ◌∷◌
 use Rattle.std.proofs.Common.{◌∙◌, subst, arith, sum_by, inl, inr, zero-add}
 use Rattle.std.proofs.lemmas.List.Sums.{sum_by-append}
 use Rattle.std.specs.declared.alloc.AllocError.{AllocError}
-use Rattle.uv_report.specs.declared.line_violation.LineViolation.{LineViolation}
 use Rattle.uv_lines.specs.declared.fault.LineFault.{LineFault}
 use Rattle.uv_lines.specs.declared.fault.LineFault.TheVariants as stopped
 use Rattle.uv_lines.specs.declared.limits.LineLimits.{LineLimits}
@@ -14,9 +13,10 @@ use Rattle.uv_lines.specs.Reported.{Reported}
 use Rattle.uv_lines.specs.Run as run
 use Rattle.uv_lint.specs.declared.counts.LintCounts.{LintCounts}
 use Rattle.uv_lint.specs.declared.fault.LintFault.{LintFault}
-use Rattle.uv_lint.specs.LineViolations.{AreAllViolations, FileSetting}
+use Rattle.uv_lint.specs.Findings.{AreAllFindings, Findings}
+use Rattle.uv_lint.specs.LineViolations.{FileSetting}
 use Rattle.uv_lint.specs.Report.{IsReport, counted, judged_line, judged_lines, judged_of, line_text, lines_text}
-use Rattle.uv_lint.specs.Report.{lines_within, list_begin_text, list_end_text, none_counted, refused_of, tally}
+use Rattle.uv_lint.specs.Report.{lines_within, list_begin_text, list_end_text, none_counted, refused_in, tally}
 use Rattle.uv_lint.specs.Reporting.{Linting, Says, with_line}
 use Rattle.uv_lint.specs.Run.{FailsReads, IsReportWithin, Leaves, answer_of_run, fault_of_run, writes_failed}
 
@@ -33,14 +33,14 @@ counts_of a b = record { lines = a; refused = b }
 same_counts : (a a' b b' : ℕ) → a ≡ a' → b ≡ b' → counts_of a b ≡ counts_of a' b'
 same_counts a a' b b' p q = ap (λ n. counts_of n b) p ∙ ap (λ n. counts_of a' n) q
 
-plus-counted : (c : LintCounts) (line : Option (List ℕ)) (found : List LineViolation) (lines : List (Option (List ℕ)))
-    (rest : List (List LineViolation))
-    → plus (counted c line found) (tally lines rest) ≡ plus c (tally (line ∷ lines) (found ∷ rest))
+plus-counted : (c : LintCounts) (line : Option (List ℕ)) (found : Findings) (lines : List (Option (List ℕ)))
+    (rest : List Findings)
+    → plus (counted c line found.violations) (tally lines rest) ≡ plus c (tally (line ∷ lines) (found ∷ rest))
 plus-counted c line found lines rest =
     let judged = sum_by-append judged_of (line ∷ []) lines in
-    let refused = sum_by-append refused_of (found ∷ []) rest in
+    let refused = sum_by-append refused_in (found ∷ []) rest in
     same_counts (c.lines + judged_of line + sum_by judged_of lines) (c.lines + sum_by judged_of (line ∷ lines))
-    (c.refused + refused_of found + sum_by refused_of rest) (c.refused + sum_by refused_of (found ∷ rest))
+    (c.refused + refused_in found + sum_by refused_in rest) (c.refused + sum_by refused_in (found ∷ rest))
     (omega (arith, judged)) (omega (arith, refused))
 
 plus-none : (d : LintCounts) → plus none_counted d ≡ d
@@ -51,15 +51,15 @@ plus-no_lines c = same_counts c.lines (c.lines + 0) c.refused (c.refused + 0) (o
 
 -- what was said of lines, one after the other
 record WasReported (n : ℕ) (p : Linting) (ls : List (List ℕ)) (text : List ℕ) (q : Linting) : Type 0 where
-  violations : List (List LineViolation)
-  found : AreAllViolations p.setting (judged_lines p.lines (map (short_line n) ls)) violations
-  lines : text ≡ lines_text p.setting (p.lines + 1) p.is_first (judged_lines p.lines (map (short_line n) ls)) violations
-  counts : q.counts ≡ plus p.counts (tally (judged_lines p.lines (map (short_line n) ls)) violations)
+  findings : List Findings
+  found : AreAllFindings p.setting (judged_lines p.lines (map (short_line n) ls)) findings
+  lines : text ≡ lines_text p.setting (p.lines + 1) p.is_first (judged_lines p.lines (map (short_line n) ls)) findings
+  counts : q.counts ≡ plus p.counts (tally (judged_lines p.lines (map (short_line n) ls)) findings)
 
 was_reported : (n : ℕ) (p q : Linting) (ls : List (List ℕ)) (text : List ℕ) → Reported Says n p ls text q
     → WasReported n p ls text q
 was_reported n p q [] text all = record {
-  violations = [];
+  findings = [];
   found = tt {0};
   lines = all.0;
   counts = ap (λ r. r.counts) all.1 ∙ plus-no_lines p.counts;
@@ -68,15 +68,15 @@ was_reported n p q (l ∷ ls) text all =
     let rest = all.1 in
     let says = all.3 in
     let line = judged_line p.lines (short_line n l) in
-    let more : WasReported n (with_line p line says.violations) ls rest q =
+    let more : WasReported n (with_line p line says.findings.violations) ls rest q =
     subst (λ s. WasReported n s ls rest q) says.left (was_reported n all.2 q ls rest all.4) in
     record {
-      violations = says.violations ∷ more.violations;
+      findings = says.findings ∷ more.findings;
       found = (says.found, more.found);
       lines = all.5 ∙ ap (λ t. t ++ rest) says.written
-          ∙ ap (λ t. line_text p.setting (p.lines + 1) line p.is_first says.violations ++ t) more.lines;
-      counts = more.counts ∙ plus-counted p.counts line says.violations
-          (judged_lines (p.lines + 1) (map (short_line n) ls)) more.violations;
+          ∙ ap (λ t. line_text p.setting (p.lines + 1) line p.is_first says.findings ++ t) more.lines;
+      counts = more.counts ∙ plus-counted p.counts line says.findings
+          (judged_lines (p.lines + 1) (map (short_line n) ls)) more.findings;
     }
 
 -- ---- from a run over lines to the report
@@ -100,11 +100,11 @@ is_report s n is_first begin end p q ls text starts begins ends framed =
     let reported = was_reported n (fresh s is_first) q ls framed.said
     (subst (λ start. Reported Says n start ls framed.said q) starts framed.reported) in
     record {
-      violations = reported.violations;
+      findings = reported.findings;
       found = reported.found;
       whole = framed.whole ∙ ap (λ t. t ++ (framed.said ++ end)) begins
           ∙ ap (λ t. begin_of s ++ (framed.said ++ t)) ends ∙ ap (λ t. begin_of s ++ (t ++ end_of s)) reported.lines;
-      counts_are = reported.counts ∙ plus-none (tally (lines_within n ls) reported.violations);
+      counts_are = reported.counts ∙ plus-none (tally (lines_within n ls) reported.findings);
     }
 
 -- ---- the answer

@@ -1,6 +1,7 @@
 pub mod Located
 pub mod LocatedViews
 pub mod LineViolations
+pub mod Findings
 pub mod Report
 pub mod ReportedView
 pub mod Reporting

@@ -10,6 +10,7 @@ use Rattle.uv_model.specs.Parts.{Parts}
 use Rattle.uv_model.specs.Records.Url.{Url}
 use Rattle.uv_model.specs.Valid.{Valid}
 use Rattle.uv_grammar.specs.Verdict.{IsRefused}
+use Rattle.uv_report.specs.declared.column.Columns.{Columns}
 use Rattle.uv_report.specs.declared.line_violation.LineViolation.{LineViolation}
 use Rattle.uv_report.specs.declared.line_violation.LineViolation.TheVariants.{Refused, NotUtf8, TooLong, NotLocated}
 use Rattle.uv_report.specs.declared.format.Format.{Format}
@@ -18,13 +19,14 @@ use Rattle.uv_lint.specs.declared.setting.LineForm.TheVariants.{Plain, Located}
 use Rattle.uv_lint.specs.declared.setting.LintSetting.{LintSetting}
 use Rattle.uv_lint.specs.Located.{LocatedLink, located}
 
--- a file's name, what its lines are judged by, how what is found is written, and what a line is
+-- a file's name, what its lines are judged by, how what is found is written, what columns count, and what a line is
 pub record FileSetting : Type 0 where
   pub file : List ℕ
   pub base : Option Url
   pub profile : Profile
   pub extent : Extent
   pub format : Format
+  pub columns : Columns
   pub form : LineForm
 
 -- the setting of a file with this name
@@ -35,6 +37,7 @@ file_setting file setting = record {
   profile = setting.profile;
   extent = setting.extent;
   format = setting.format;
+  columns = setting.columns;
   form = setting.form;
 }
 
@@ -92,10 +95,3 @@ AreViolationsBy setting None (Some (x ∷ xs)) violations = AreWholeViolations s
 -- the same by what a line of the file is
 abbrev pub AreViolations : FileSetting → Option (List ℕ) → List LineViolation → Type 0
 AreViolations setting line violations = AreViolationsBy setting (link_of setting.form line) line violations
-
--- what is found with each of the lines
-abbrev pub AreAllViolations : FileSetting → List (Option (List ℕ)) → List (List LineViolation) → Type 0
-AreAllViolations setting [] [] = Unit {0}
-AreAllViolations setting (line ∷ lines) (violations ∷ rest) =
-    AreViolations setting line violations × AreAllViolations setting lines rest
-AreAllViolations setting _ _ = ⊥

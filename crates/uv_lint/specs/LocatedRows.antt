@@ -1,14 +1,17 @@
 -- Located lines that are written out: where their links stand, and the diagnostics on a list of them.
-use Rattle.std.specs.Prelude.{◌≡◌, ℕ, ◌++◌, true, List, [], ◌∷◌, Option, Some, None, codes}
+use Rattle.std.specs.Prelude.{◌≡◌, ℕ, ◌++◌, true, List, [], ◌∷◌, Option, Some, None, codes, map}
 use Rattle.uv_model.specs.declared.extent.Extent.TheVariants.{First}
 use Rattle.uv_model.specs.declared.profile.Profile.TheVariants.{Standard}
 use Rattle.uv_model.specs.declared.rule.Rule.TheVariants.{NoScheme, CodePoint}
+use Rattle.uv_report.specs.declared.column.Columns.{Columns}
+use Rattle.uv_report.specs.declared.column.Columns.TheVariants.{CodePoints, Bytes, Utf16}
 use Rattle.uv_report.specs.declared.line_violation.LineViolation.{LineViolation}
 use Rattle.uv_report.specs.declared.line_violation.LineViolation.TheVariants.{Refused, NotUtf8, TooLong, NotLocated}
 use Rattle.uv_report.specs.declared.format.Format.{Format}
 use Rattle.uv_report.specs.declared.format.Format.TheVariants.{Gnu, Checkstyle}
 use Rattle.uv_lines.specs.Lines.{lines_of}
 use Rattle.uv_lint.specs.declared.setting.LineForm.TheVariants.{Located}
+use Rattle.uv_lint.specs.Findings.{Findings, unmended}
 use Rattle.uv_lint.specs.LineViolations.{FileSetting}
 use Rattle.uv_lint.specs.Located.{LocatedLink, located}
 use Rattle.uv_lint.specs.Report.{lines_text, lines_within}
@@ -40,13 +43,14 @@ pub record LocatedRows : Type 0 where
   pub no_utf8 : located (255 ∷ codes ":1:2:x") ≡ None
 
 -- the setting of a list of located lines
-abbrev pub located_setting : Format → FileSetting
-located_setting format = record {
+abbrev pub located_setting : Format → Columns → FileSetting
+located_setting format columns = record {
   file = codes "list";
   base = None;
   profile = Standard;
   extent = First;
   format = format;
+  columns = columns;
   form = Located;
 }
 
@@ -68,15 +72,34 @@ located_violations =
     ∷ (TooLong ∷ [])
     ∷ []
 
--- the diagnostics on it
+-- the same, with nothing to write in place of a link
+abbrev pub located_findings : List Findings
+located_findings = map unmended located_violations
+
+-- a link that stands in the column 10, with U+1F600 before a fault
+abbrev pub wide_list : List ℕ
+wide_list = codes "a:3:10:urn:" ++ (0xF0 ∷ 0x9F ∷ 0x98 ∷ 0x80 ∷ codes " b")
+
+-- the diagnostics on it, in a unit
+abbrev pub wide_text : Columns → List ℕ
+wide_text columns =
+    lines_text (located_setting Gnu columns) 1 true (lines_within 24 (lines_of wide_list))
+    (unmended (Refused (record { place = 5; rule = CodePoint }) ∷ []) ∷ [])
+
+-- the diagnostics on both
 pub record LocatedReportRows : Type 0 where
-  pub gnu : lines_text (located_setting Gnu) 1 true (lines_within 24 (lines_of located_list)) located_violations
+  pub gnu : lines_text (located_setting Gnu CodePoints) 1 true (lines_within 24 (lines_of located_list))
+      located_findings
       ≡ codes "a.html:3:15: error: U+0020 SPACE may not stand in a URL [code-point]\n"
       ++ (codes "b:c:7:8: error: there is no scheme and no base [no-scheme]\n"
       ++ (codes "a.html:5:2: error: this line isn't UTF-8 [not-utf8]\n"
       ++ (codes "list:5:1: error: this line isn't FILE:LINE:COLUMN:LINK [not-located]\n"
       ++ codes "list:6:1: error: this line has more than 65536 bytes [line-too-long]\n")))
-  pub checkstyle : lines_text (located_setting Checkstyle) 3 true (lines_within 24 (lines_of (codes "b:7:8:\n")))
-      ((Refused (record { place = 0; rule = NoScheme }) ∷ []) ∷ [])
+  pub checkstyle : lines_text (located_setting Checkstyle CodePoints) 3 true
+      (lines_within 24 (lines_of (codes "b:7:8:\n")))
+      (unmended (Refused (record { place = 0; rule = NoScheme }) ∷ []) ∷ [])
       ≡ codes "<file name=\"b\">\n<error line=\"7\" column=\"8\" severity=\"error\" "
       ++ codes "message=\"there is no scheme and no base\" source=\"urlcheck.no-scheme\"/>\n</file>\n"
+  pub points : wide_text CodePoints ≡ codes "a:3:15: error: U+0020 SPACE may not stand in a URL [code-point]\n"
+  pub bytes : wide_text Bytes ≡ codes "a:3:18: error: U+0020 SPACE may not stand in a URL [code-point]\n"
+  pub utf16 : wide_text Utf16 ≡ codes "a:3:16: error: U+0020 SPACE may not stand in a URL [code-point]\n"

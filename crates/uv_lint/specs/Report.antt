@@ -1,19 +1,23 @@
 -- The report on a file: what stands before its diagnostics, the diagnostics on each line, in order and numbered from 1,
 -- and what stands behind them.
-use Rattle.std.specs.Prelude.{◌≡◌, ℕ, ◌+◌, ◌==◌, Bool, false, List, [], ◌∷◌, ◌++◌, Option, Some, None, drop}
-use Rattle.std.specs.Prelude.{if◌then◌else◌, map, option_map, sum_by, take}
+use Rattle.std.specs.Prelude.{◌≡◌, ℕ, ◌+◌, ◌-◌, ◌^◌, ◌==◌, Bool, false, List, [], ◌∷◌, ◌++◌, Option, Some, None, drop}
+use Rattle.std.specs.Prelude.{if◌then◌else◌, length, map, min, option_map, sum_by, take}
 use Rattle.std.specs.Borrow.{Bor}
-use Rattle.std.specs.Str.{bytes_eq}
-use Rattle.std.specs.Str.Lossy.{utf8_lossy}
+use Rattle.std.specs.Str.{bytes_eq, chars}
+use Rattle.uv_report.specs.declared.column.Columns.{Columns}
 use Rattle.uv_report.specs.declared.diagnostic.Diagnostic.{Diagnostic}
 use Rattle.uv_report.specs.declared.line_violation.LineViolation.{LineViolation}
 use Rattle.uv_report.specs.declared.format.Format.{Format}
+use Rattle.uv_report.specs.declared.mended.Mended.{Mended}
+use Rattle.uv_report.specs.Column.{column_at}
+use Rattle.uv_report.specs.LineViolation.{violation_place}
 use Rattle.uv_report.specs.Report.{diagnostic_text, file_begin_text, file_end_text}
 use Rattle.uv_lines.specs.Lines.{short_line}
 use Rattle.uv_lint.specs.declared.counts.LintCounts.{LintCounts}
 use Rattle.uv_lint.specs.declared.setting.LineForm.{LineForm}
 use Rattle.uv_lint.specs.declared.setting.LineForm.TheVariants.{Plain, Located}
-use Rattle.uv_lint.specs.LineViolations.{AreAllViolations, FileSetting, link_of}
+use Rattle.uv_lint.specs.Findings.{AreAllFindings, Findings, MendedText, shown}
+use Rattle.uv_lint.specs.LineViolations.{FileSetting, link_of}
 use Rattle.uv_lint.specs.Located.{LocatedLink}
 
 -- ---- the diagnostics
@@ -44,28 +48,45 @@ pub record ReportedText : Type 0 where
   pub start : ℕ
   pub text : List ℕ
 
--- a diagnostic on it
-abbrev pub diagnostic_on : ReportedText → LineViolation → Diagnostic
-diagnostic_on reported violation = record {
+-- the column behind a text that begins in this one
+abbrev pub end_column : Columns → ℕ → List ℕ → ℕ
+end_column columns start text = column_at columns start text (length (chars text))
+
+-- a mended text in place of a text that begins in this column
+abbrev pub mended_at : Columns → ℕ → List ℕ → MendedText → Mended
+mended_at columns start text mended =
+    record { text = lent mended.text; kind = mended.kind; start = start; end = end_column columns start text }
+
+-- what a diagnostic carries of it
+abbrev pub mended_on : Columns → ReportedText → Option MendedText → Option Mended
+mended_on columns reported mended = option_map (mended_at columns reported.start reported.text) mended
+
+-- a diagnostic on a text: its column is that of the violation's place
+abbrev pub diagnostic_on : Columns → ReportedText → Option Mended → LineViolation → Diagnostic
+diagnostic_on columns reported mended violation = record {
   file = lent reported.file;
   line = reported.line;
-  start = reported.start;
+  column = column_at columns reported.start reported.text (violation_place violation);
   violation = violation;
   text = lent reported.text;
+  mended = mended;
 }
 
--- a diagnostic for each violation; the first of them is the first one of the report, or isn't
-abbrev pub diagnostics_text : LineForm → Format → ReportedText → Bool → List LineViolation → List ℕ
-diagnostics_text form format reported is_first [] = []
-diagnostics_text form format reported is_first (violation ∷ rest) =
-    framed_text form format reported.file (diagnostic_text format is_first (diagnostic_on reported violation))
-    ++ diagnostics_text form format reported false rest
+-- A diagnostic for each violation; the first of them is the first one of the report, or isn't, and it alone says what
+-- to write in place of the text.
+abbrev pub diagnostics_text : LineForm → Format → Columns → ReportedText → Bool → Option Mended → List LineViolation
+    → List ℕ
+diagnostics_text form format columns reported is_first mended [] = []
+diagnostics_text form format columns reported is_first mended (violation ∷ rest) =
+    framed_text form format reported.file
+    (diagnostic_text format is_first (diagnostic_on columns reported mended violation))
+    ++ diagnostics_text form format columns reported false None rest
 
--- What is shown of a line: its text, where U+FFFD stands for what isn't UTF-8; and nothing of one that has more bytes
--- than a line may have, for which none stands.
-abbrev pub shown : Option (List ℕ) → List ℕ
-shown None = []
-shown (Some line) = utf8_lossy line
+-- the diagnostics on a text of which this was found
+abbrev pub text_diagnostics : FileSetting → ReportedText → Bool → Findings → List ℕ
+text_diagnostics setting reported is_first findings =
+    diagnostics_text setting.form setting.format setting.columns reported is_first
+    (mended_on setting.columns reported findings.mended) findings.violations
 
 -- what the diagnostics on a line tell: its link, where the line says that it stands, else the line with this number
 abbrev pub reported_by : List ℕ → ℕ → Option (List ℕ) → Option LocatedLink → ReportedText
@@ -74,10 +95,9 @@ reported_by file number line (Some link) =
 reported_by file number line None = record { file = file; line = number; start = 1; text = shown line }
 
 -- the diagnostics on a line with this number
-abbrev pub line_text : FileSetting → ℕ → Option (List ℕ) → Bool → List LineViolation → List ℕ
-line_text setting number line is_first violations =
-    diagnostics_text setting.form setting.format (reported_by setting.file number line (link_of setting.form line))
-    is_first violations
+abbrev pub line_text : FileSetting → ℕ → Option (List ℕ) → Bool → Findings → List ℕ
+line_text setting number line is_first findings =
+    text_diagnostics setting (reported_by setting.file number line (link_of setting.form line)) is_first findings
 
 -- no diagnostic was written yet, nor for these violations
 abbrev pub is_still_first : Bool → List LineViolation → Bool
@@ -85,10 +105,10 @@ is_still_first is_first [] = is_first
 is_still_first is_first (violation ∷ rest) = false
 
 -- the diagnostics on lines, from a number on
-abbrev pub lines_text : FileSetting → ℕ → Bool → List (Option (List ℕ)) → List (List LineViolation) → List ℕ
-lines_text setting number is_first (line ∷ lines) (violations ∷ rest) =
-    line_text setting number line is_first violations
-    ++ lines_text setting (number + 1) (is_still_first is_first violations) lines rest
+abbrev pub lines_text : FileSetting → ℕ → Bool → List (Option (List ℕ)) → List Findings → List ℕ
+lines_text setting number is_first (line ∷ lines) (findings ∷ rest) =
+    line_text setting number line is_first findings
+    ++ lines_text setting (number + 1) (is_still_first is_first findings.violations) lines rest
 lines_text setting number is_first _ _ = []
 
 -- ---- the lines as they are judged
@@ -127,6 +147,10 @@ abbrev pub refused_of : List LineViolation → ℕ
 refused_of [] = 0
 refused_of (violation ∷ rest) = 1
 
+-- the same of what was found
+abbrev pub refused_in : Findings → ℕ
+refused_in findings = refused_of findings.violations
+
 -- no line was counted yet
 abbrev pub none_counted : LintCounts
 none_counted = record { lines = 0; refused = 0 }
@@ -139,8 +163,8 @@ counted counts line violations = record {
 }
 
 -- the counts of lines
-abbrev pub tally : List (Option (List ℕ)) → List (List LineViolation) → LintCounts
-tally lines violations = record { lines = sum_by judged_of lines; refused = sum_by refused_of violations }
+abbrev pub tally : List (Option (List ℕ)) → List Findings → LintCounts
+tally lines findings = record { lines = sum_by judged_of lines; refused = sum_by refused_in findings }
 
 -- ---- the report
 
@@ -148,10 +172,10 @@ tally lines violations = record { lines = sum_by judged_of lines; refused = sum_
 -- diagnostic is the first one of the whole report, or isn't.
 pub record IsReport (setting : FileSetting) (line_bytes : ℕ) (is_first : Bool) (lines : List (List ℕ))
     (text : List ℕ) (counts : LintCounts) : Type 0 where
-  pub violations : List (List LineViolation)
-  pub found : AreAllViolations setting (lines_within line_bytes lines) violations
+  pub findings : List Findings
+  pub found : AreAllFindings setting (lines_within line_bytes lines) findings
   pub whole : text
       ≡ list_begin_text setting.form setting.format setting.file
-      ++ (lines_text setting 1 is_first (lines_within line_bytes lines) violations
+      ++ (lines_text setting 1 is_first (lines_within line_bytes lines) findings
       ++ list_end_text setting.form setting.format)
-  pub counts_are : counts ≡ tally (lines_within line_bytes lines) violations
+  pub counts_are : counts ≡ tally (lines_within line_bytes lines) findings

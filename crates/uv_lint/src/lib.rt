@@ -6,6 +6,7 @@ mod fault;
 pub mod laws;
 mod line_violations;
 mod located;
+mod mended_line;
 mod reported_line;
 mod reporter;
 mod run;

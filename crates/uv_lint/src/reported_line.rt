@@ -2,13 +2,17 @@
 ghost use Rattle.std.specs.Prelude.{◌≡◌, ◌++◌, IfOk, OnOk, option_copied, option_map, string_bytes};
 ghost use Rattle.uv_report.specs.Report.{diagnostic_text};
 ghost use Rattle.uv_lint.specs.LocatedViews.{link_view};
-ghost use Rattle.uv_lint.specs.Report.{diagnostics_text, framed_text, shown, reported_by};
-ghost use Rattle.uv_lint.specs.ReportedView.{place_view, reported_view};
+ghost use Rattle.uv_lint.specs.Findings.{shown};
+ghost use Rattle.uv_lint.specs.Report.{diagnostics_text, framed_text, mended_on, reported_by};
+ghost use Rattle.uv_lint.specs.ReportedView.{mended_line_view, place_view, reported_view};
 
 use crate::located::LocatedLink;
+use crate::mended_line::{MendedLine, mended_in_place};
 use crate::setting::{LineForm, LintSetting};
 use std::alloc::{AllocError, Global};
-use uv_report::{Diagnostic, LineViolation, push_diagnostic, push_file_begin, push_file_end};
+use uv_report::{
+    ColumnCounter, Diagnostic, LineViolation, push_diagnostic, push_file_begin, push_file_end,
+};
 
 /// A line, or the link of one, with the place where it stands.
 #[derive(Clone, Copy)]
@@ -62,30 +66,37 @@ pub(crate) struct ReportedLine<'l> {
 }
 
 impl<'l> ReportedLine<'l> {
-    /// Pushes a diagnostic for each violation. It is given whether the first of them is the first one of the report.
+    /// Pushes a diagnostic for each violation, the first of which says what to write. It is given whether the first of
+    /// them is the first one of the report.
     pub(crate) fn push(
         &self,
         alloc: Global,
         reported: &mut String,
         setting: LintSetting<'_>,
         is_first: bool,
+        mended: &'l Option<MendedLine>,
         violations: &[LineViolation],
     ) -> Result<(), AllocError>
         ensures { OnOk result (string_bytes reported.new ≡ string_bytes reported.old
-            ++ diagnostics_text setting.entry.form setting.entry.format
-            (reported_view self.now) is_first violations.now) }
+            ++ diagnostics_text setting.entry.form setting.entry.format setting.entry.columns
+            (reported_view self.now) is_first (mended_on setting.entry.columns (reported_view self.now)
+            (option_map mended_line_view mended.entry.now)) violations.now) }
     {
+        let mut counter = ColumnCounter::new(setting.columns, self.start, self.text);
         let mut is_first = is_first;
+        let mut told = mended_in_place(mended, setting.columns, self.start, self.text);
         for violation in violations {
             let diagnostic = Diagnostic {
                 file: self.file,
                 line: self.line,
-                start: self.start,
+                column: counter.column(violation.place()),
                 violation: *violation,
                 text: self.text,
+                mended: told,
             };
             push_framed(alloc, reported, setting, &diagnostic, is_first)?;
             is_first = false;
+            told = None;
         }
         Ok(())
     }

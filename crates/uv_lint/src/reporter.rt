@@ -2,12 +2,14 @@
 ghost use Rattle.std.specs.Prelude.{◌≡◌, ◌+◌, ◌-◌, ◌^◌, ◌<◌, ◌++◌, [], IfOk, OnErr, OnOk, if◌then◌else◌, option_copied};
 ghost use Rattle.std.specs.Prelude.{string_bytes};
 ghost use Rattle.uv_lint.specs.LineViolations.{file_setting};
-ghost use Rattle.uv_lint.specs.Report.{judged_of, line_text, none_counted};
+ghost use Rattle.uv_lint.specs.Report.{judged_of, none_counted};
 ghost use Rattle.uv_lint.specs.Report as spec;
-ghost use Rattle.uv_lint.specs.Reporting.{with_line};
+ghost use Rattle.uv_lint.specs.ReportedView.{shown_at};
+ghost use Rattle.uv_lint.specs.Reporting.{HasReported, HasReportedLine, with_line};
 
 use crate::counts::LintCounts;
 use crate::located::link_of;
+use crate::mended_line::mended_line;
 use crate::reported_line::{Place, ReportedLine, shown_text};
 use crate::setting::{LineForm, LintSetting};
 use std::alloc::{AllocError, Global};
@@ -119,19 +121,37 @@ impl<'a> LintReporter<'a> {
         text: &mut Vec<u8>,
     ) -> Result<(), AllocError>
         requires { self.old.lines < 2 ^ 64 - 1 }
-        ensures text { OnOk result (text.new.items ≡ text.old.items ++ line_text self.old.setting (self.old.lines + 1)
-            (option_copied line.entry) self.old.is_first violations.now) }
+        ensures text { OnOk result (HasReportedLine self.old (option_copied line.entry) violations.now
+            text.old.items text.new.items) }
         ensures none { OnErr result (text.new.items ≡ text.old.items) }
         ensures same { self.new ≡ self.old }
     {
         let link = link_of(self.setting.form, line);
         let place = Place::of(self.file, self.lines + 1, line, link);
         let shown = shown_text(alloc, place.bytes)?;
+        self.report_text(alloc, place, shown.as_str(), violations, text)
+    }
+
+    // Appends the diagnostics on what is shown of a text that stands there, with what to write in its place.
+    fn report_text<'x>(
+        &mut self,
+        alloc: Global,
+        place: Place<'x>,
+        shown: &'x str,
+        violations: &[LineViolation],
+        text: &mut Vec<u8>,
+    ) -> Result<(), AllocError>
+        ensures text { OnOk result (HasReported self.old (shown_at place.entry shown.entry.now) violations.now
+            text.old.items text.new.items) }
+        ensures none { OnErr result (text.new.items ≡ text.old.items) }
+        ensures same { self.new ≡ self.old }
+    {
+        let mended = mended_line(alloc, self.setting, violations, shown)?;
         let reported_line = ReportedLine {
             file: place.file,
             line: place.line,
             start: place.start,
-            text: shown.as_str(),
+            text: shown,
         };
         self.reported.clear();
         reported_line.push(
@@ -139,6 +159,7 @@ impl<'a> LintReporter<'a> {
             &mut self.reported,
             self.setting,
             self.is_first,
+            &mended,
             violations,
         )?;
         text.extend_from_slice(self.reported.as_bytes())

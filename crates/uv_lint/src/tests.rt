@@ -13,7 +13,7 @@ use uv_lines::LineLimits;
 use uv_model::{
     Extent, FromReader, Host, Profile, Record, Text, TextList, ToWriter, UrlPath, well_formed,
 };
-use uv_report::Format;
+use uv_report::{Columns, Format};
 
 // The standard profile, no base, the first violation, and lines as compilers write them.
 const PLAIN: LintSetting<'static> = LintSetting {
@@ -21,6 +21,7 @@ const PLAIN: LintSetting<'static> = LintSetting {
     profile: Profile::Standard,
     extent: Extent::First,
     format: Format::Gnu,
+    columns: Columns::CodePoints,
     form: LineForm::Plain,
 };
 
@@ -193,15 +194,81 @@ fn writes_each_format(rt: HostRuntime) {
     }
 }
 
-// A result of SARIF on a link, without the comma before it.
-fn sarif_result(alloc: Global, line: u64, column: u64, link: &str) -> Result<String, Fail> {
+// What to write in place of a refused link, by the base and the profile: at the first diagnostic of its line, and only
+// where the format says it.
+#[test]
+fn says_what_to_write(rt: HostRuntime) {
+    let all = LintSetting {
+        extent: Extent::All,
+        format: Format::Caret,
+        ..PLAIN
+    };
+    let report =
+        "list:1:6: error: U+0020 SPACE may not stand in a URL [code-point]\nurn:a b c\n     ^\n\
+        help: write urn:a%20b%20c\n\
+        list:1:8: error: U+0020 SPACE may not stand in a URL [code-point]\nurn:a b c\n       ^\n\
+        list:2:8: error: the host that begins here is no valid domain [host-domain]\nhttp://x_y/\n       ^\n";
+    reports(&rt, b"urn:a b c\nhttp://x_y/\n", all, report, (2, 2));
+    let located = LintSetting {
+        form: LineForm::Located,
+        ..all
+    };
+    let report =
+        "a:3:9: error: // has to follow this scheme [two-slashes]\nhttp:b\n     ^\nhelp: write http://b\n";
+    reports(&rt, b"a:3:4:http:b\n", located, report, (1, 1));
+}
+
+#[test]
+fn says_what_to_write_against_a_base(rt: HostRuntime) -> Result<(), Fail> {
+    let base = base_of(rt.alloc())?;
+    assert!(rt; base.is_some());
+    let json = LintSetting {
+        base: base.as_ref(),
+        profile: Profile::Wide,
+        format: Format::Json,
+        ..PLAIN
+    };
+    let report = "{\"column\":12,\"cut\":false,\"file\":\"list\",\"kind\":\"same\",\"line\":1,\
+        \"mended\":\"http://x_y/%20c\",\"message\":\"U+0020 SPACE may not stand in a URL\",\
+        \"rule\":\"code-point\",\"text\":\"http://x_y/ c\"}\n\
+        {\"column\":6,\"cut\":false,\"file\":\"list\",\"kind\":\"changed\",\"line\":2,\
+        \"mended\":\"http://a\",\"message\":\"// has to follow this scheme\",\
+        \"rule\":\"two-slashes\",\"text\":\"http:a\"}\n";
+    reports(&rt, b"http://x_y/ c\nhttp:a\n", json, report, (2, 2));
+    Ok(())
+}
+
+// A result of SARIF on a link, without the comma before it, with these members before the others.
+fn sarif_result(
+    alloc: Global,
+    fixes: &str,
+    line: u64,
+    column: u64,
+    link: &str,
+) -> Result<String, Fail> {
     Ok(format!(in alloc;
-        "{{\"level\":\"error\",\"locations\":[{{\"physicalLocation\":\
+        "{{{fixes}\"level\":\"error\",\"locations\":[{{\"physicalLocation\":\
         {{\"artifactLocation\":{{\"uri\":\"list\"}},\"region\":\
         {{\"startColumn\":{column},\"startLine\":{line}}}}}}}],\"message\":\
         {{\"text\":\"U+0020 SPACE may not stand in a URL\"}},\
         \"properties\":{{\"cut\":false,\"text\":\"{link}\"}},\
         \"ruleId\":\"code-point\",\"ruleIndex\":15}}\n"
+    )?)
+}
+
+// The fix of a link that is the line with this number, and has so many code points.
+fn sarif_fix(
+    alloc: Global,
+    line: u64,
+    count: u64,
+    written: &str,
+    does: &str,
+) -> Result<String, Fail> {
+    let end = count.saturating_add(1);
+    Ok(format!(in alloc;
+        "\"fixes\":[{{\"artifactChanges\":[{{\"artifactLocation\":{{\"uri\":\"list\"}},\"replacements\":\
+        [{{\"deletedRegion\":{{\"endColumn\":{end},\"startColumn\":1,\"startLine\":{line}}},\
+        \"insertedContent\":{{\"text\":\"{written}\"}}}}]}}],\"description\":{{\"text\":\"{does}\"}}}}],"
     )?)
 }
 
@@ -245,6 +312,45 @@ fn reports_located_links_where_they_stand(rt: HostRuntime) {
     reports(&rt, b"", checkstyle, "", (0, 0));
 }
 
+// Behind a combining mark, a wide code point and one beyond U+FFFF a space, a tab and another space: their columns in
+// each unit, in a line and in a link from the 100th column on.
+#[test]
+fn reports_columns_in_each_unit(rt: HostRuntime) -> Result<(), Fail> {
+    for (columns, plain, located) in [
+        (Columns::CodePoints, [9, 10, 12], [108, 109, 111]),
+        (Columns::Bytes, [15, 16, 18], [114, 115, 117]),
+        (Columns::Utf16, [10, 11, 13], [109, 110, 112]),
+        (Columns::Screen, [10, 11, 18], [109, 110, 114]),
+    ] {
+        let setting = LintSetting {
+            extent: Extent::All,
+            columns,
+            ..PLAIN
+        };
+        let link = "urn:e\u{301}\u{65E5}\u{1F600} \tb ";
+        let report = report_of_spaces(rt.alloc(), "list", plain)?;
+        reports(&rt, link.as_bytes(), setting, report.as_str(), (1, 1));
+        let line = format!(in rt.alloc(); "a:1:100:{link}")?;
+        let report = report_of_spaces(rt.alloc(), "a", located)?;
+        let in_file = LintSetting {
+            form: LineForm::Located,
+            ..setting
+        };
+        reports(&rt, line.as_bytes(), in_file, report.as_str(), (1, 1));
+    }
+    Ok(())
+}
+
+// The diagnostics on a space, a tab and a space in these columns of the first line of a file.
+fn report_of_spaces(alloc: Global, file: &str, columns: [u64; 3]) -> Result<String, Fail> {
+    let [first, tab, last] = columns;
+    Ok(format!(in alloc;
+        "{file}:1:{first}: error: U+0020 SPACE may not stand in a URL [code-point]\n\
+        {file}:1:{tab}: error: U+0009 CHARACTER TABULATION may not stand in a URL [code-point]\n\
+        {file}:1:{last}: error: U+0020 SPACE may not stand in a URL [code-point]\n"
+    )?)
+}
+
 // In SARIF a comma stands before each result but the first one of the whole report.
 #[test]
 fn puts_commas_between_results(rt: HostRuntime) -> Result<(), Fail> {
@@ -253,9 +359,13 @@ fn puts_commas_between_results(rt: HostRuntime) -> Result<(), Fail> {
         format: Format::Sarif,
         ..PLAIN
     };
-    let one = sarif_result(rt.alloc(), 2, 6, "urn:a b c")?;
-    let two = sarif_result(rt.alloc(), 2, 8, "urn:a b c")?;
-    let three = sarif_result(rt.alloc(), 3, 5, "urn: ")?;
+    let encodes = "percent-encode what may not stand in a URL string";
+    let escaped = sarif_fix(rt.alloc(), 2, 9, "urn:a%20b%20c", encodes)?;
+    let keeps = "write the same URL as a valid URL string";
+    let same = sarif_fix(rt.alloc(), 3, 5, "urn:", keeps)?;
+    let one = sarif_result(rt.alloc(), escaped.as_str(), 2, 6, "urn:a b c")?;
+    let two = sarif_result(rt.alloc(), "", 2, 8, "urn:a b c")?;
+    let three = sarif_result(rt.alloc(), same.as_str(), 3, 5, "urn: ")?;
     let report = format!(in rt.alloc(); "{one},{two},{three}")?;
     let list = b"urn:a\nurn:a b c\nurn: \n";
     reports(&rt, list, sarif, report.as_str(), (3, 2));
@@ -296,6 +406,7 @@ fn judges_the_longest_line(rt: HostRuntime) -> Result<(), Fail> {
     let (window, below) = (window.as_str(), below.as_str());
     let shown = format!(in rt.alloc();
         "list:2:65536: error: U+0020 SPACE may not stand in a URL [code-point]\n…{window} \n {below}^\n\
+        help: write …{window}\n\
         list:3:1: error: this line has more than 65536 bytes [line-too-long]\n\n^\n\
         list:4:1: error: this line has more than 65536 bytes [line-too-long]\n\n^\n"
     )?;

@@ -1,6 +1,6 @@
 //! What is answered of a text that is to be mended.
 ghost use Rattle.std.specs.Prelude.{◌≡◌};
-ghost use Rattle.uv_mend.specs.Kinds.{kind_name};
+ghost use Rattle.uv_mend.specs.Kinds.{kind_name, named_kind};
 
 use uv_model::Refusal;
 
@@ -24,6 +24,18 @@ impl MendKind {
             MendKind::Same => "same",
             MendKind::Escaped => "escaped",
             MendKind::Changed => "changed",
+        }
+    }
+
+    /// The kind with this name, or `None` where no kind has it.
+    pub fn of_name(name: &str) -> Option<MendKind>
+        ensures { result ≡ named_kind name.now }
+    {
+        match name {
+            "same" => Some(MendKind::Same),
+            "escaped" => Some(MendKind::Escaped),
+            "changed" => Some(MendKind::Changed),
+            _ => None,
         }
     }
 }

@@ -1,4 +1,5 @@
 pub mod PieceLemmas
+mod ColumnLemmas
 mod PlaceLemmas
 mod RowsLemmas
 mod UriLemmas

@@ -4,10 +4,11 @@ use Rattle.std.specs.Fmt.{char_count, digits, padded_integral}
 use Rattle.std.specs.Char.{encode_utf8}
 use Rattle.std.specs.Str.{chars}
 use Rattle.percent_encoding.specs.Percent.{percent_encode_byte}
+use Rattle.unicode_width.specs.Width.{char_width}
 use Rattle.uv_report.specs.CodePoint.{ascii_names, capital_names, control_names, digit_names, last_names, mark_names}
 use Rattle.uv_report.specs.CodePoint.{point_name, point_text, sign_names, small_names}
 use Rattle.uv_report.specs.Message.{refusal_message}
-use Rattle.uv_report.specs.Rows.{MessageRows, PointRows, UriRows, WindowRows}
+use Rattle.uv_report.specs.Rows.{ColumnRows, MessageRows, PointRows, UriRows, WindowRows}
 use Rattle.uv_report.specs.Uri.{uri_part, uri_path}
 use Rattle.uv_report.specs.Window.{cut_out, window, window_place, window_points}
 
@@ -23,6 +24,21 @@ point_rows = record {
   beyond = refl;
   hidden = refl;
   digits = refl;
+}
+
+-- columns
+pub column_rows : ColumnRows
+unfolding chars encode_utf8 char_width
+column_rows = record {
+  points = refl;
+  bytes = refl;
+  utf16 = refl;
+  screen = refl;
+  before_stop = refl;
+  on_stop = refl;
+  behind_stop = refl;
+  first = refl;
+  second = refl;
 }
 
 -- messages

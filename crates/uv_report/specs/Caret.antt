@@ -1,22 +1,19 @@
--- A diagnostic with the line that it is about, and a caret below the place.
-use Rattle.std.specs.Prelude.{ℕ, ◌==◌, List, ◌++◌, codes, false, if◌then◌else◌, replicate, take, unwrap_or}
+-- A diagnostic with the line that it is about, a caret below the place, and what to write in place of the line.
+use Rattle.std.specs.Prelude.{ℕ, ◌==◌, List, [], ◌++◌, codes, if◌then◌else◌, replicate, take, Option, Some, None}
 use Rattle.std.specs.List.{flat_map}
 use Rattle.std.specs.Str.{chars}
-use Rattle.unicode_width.specs.Width.{char_width}
 use Rattle.uv_report.specs.declared.diagnostic.Diagnostic.{Diagnostic}
 use Rattle.uv_report.specs.declared.escapes.Escapes.TheVariants.{Shown}
-use Rattle.uv_report.specs.Escapes.{escaped, is_hidden}
+use Rattle.uv_report.specs.declared.mended.Mended.{Mended}
+use Rattle.uv_report.specs.Column.{shown_width}
+use Rattle.uv_report.specs.Escapes.{escaped}
 use Rattle.uv_report.specs.LineViolation.{violation_place}
 use Rattle.uv_report.specs.Gnu.{gnu_text}
 use Rattle.uv_report.specs.Window.{window, window_place}
 
--- how many columns a code point takes as it is shown
-abbrev pub columns : ℕ → ℕ
-columns c = unwrap_or (char_width false (if is_hidden c then 0xFFFD else c)) 0
-
 -- what stands below a code point: a tab below a tab, else spaces
 abbrev pub below : ℕ → List ℕ
-below c = if c == 9 then codes "\t" else replicate (columns c) 32
+below c = if c == 9 then codes "\t" else replicate (shown_width c) 32
 
 -- what stands below a text
 abbrev pub padding : List ℕ → List ℕ
@@ -30,7 +27,17 @@ caret_lines line place = escaped Shown line ++ (codes "\n" ++ (padding (take pla
 unfoldable pub window_lines : List ℕ → ℕ → List ℕ
 window_lines line place = caret_lines (window line place) (window_place line place)
 
--- the line of the format `gnu`, and these two
+-- `help: write TEXT`, of a mended text what is shown of it around a place
+unfoldable pub help_line : ℕ → List ℕ → List ℕ
+help_line place mended = codes "help: write " ++ (escaped Shown (window mended place) ++ codes "\n")
+
+-- this line, where there is a mended text
+abbrev pub help_text : ℕ → Option Mended → List ℕ
+help_text place None = []
+help_text place (Some mended) = help_line place mended.text.now
+
+-- the line of the format `gnu`, these two, and that one
 unfoldable pub caret_text : Diagnostic → List ℕ
 caret_text diagnostic =
-    gnu_text diagnostic ++ window_lines diagnostic.text.now (violation_place diagnostic.violation)
+    gnu_text diagnostic ++ (window_lines diagnostic.text.now (violation_place diagnostic.violation)
+    ++ help_text (violation_place diagnostic.violation) diagnostic.mended)

@@ -4,7 +4,6 @@ use Rattle.uv_report.specs.declared.diagnostic.Diagnostic.{Diagnostic}
 use Rattle.uv_report.specs.declared.escapes.Escapes.TheVariants.{Attribute}
 use Rattle.uv_report.specs.declared.line_violation.LineViolation.{LineViolation}
 use Rattle.uv_report.specs.Escapes.{escaped}
-use Rattle.uv_report.specs.Column.{column}
 use Rattle.uv_report.specs.LineViolation.{violation_name}
 use Rattle.uv_report.specs.Message.{message}
 
@@ -28,7 +27,7 @@ file_end = codes "</file>\n"
 unfoldable pub error_place : Diagnostic → List ℕ
 error_place diagnostic =
     codes "<error line=\"" ++ (decimal diagnostic.line ++ (codes "\" column=\""
-    ++ (decimal (column diagnostic) ++ codes "\" severity=\"error\" message=\"")))
+    ++ (decimal diagnostic.column ++ codes "\" severity=\"error\" message=\"")))
 
 -- its message and what it comes from
 unfoldable pub error_text : List ℕ → LineViolation → List ℕ

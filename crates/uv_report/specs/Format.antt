@@ -1,6 +1,8 @@
--- The formats by their names.
-use Rattle.std.specs.Prelude.{ℕ, List, [], ◌∷◌, codes, Option, find}
+-- The formats by their names, the columns that they take, and which of them say what to write in place of a text.
+use Rattle.std.specs.Prelude.{ℕ, Bool, true, false, List, [], ◌∷◌, codes, Option, find}
 use Rattle.std.specs.Str.{bytes_eq}
+use Rattle.uv_report.specs.declared.column.Columns.{Columns}
+use Rattle.uv_report.specs.declared.column.Columns.TheVariants.{CodePoints, Utf16}
 use Rattle.uv_report.specs.declared.format.Format.{Format}
 use Rattle.uv_report.specs.declared.format.Format.TheVariants.{Gnu, Caret, Json, Github, Sarif, Checkstyle}
 
@@ -17,3 +19,20 @@ format_name Checkstyle = codes "checkstyle"
 abbrev pub named_format : List ℕ → Option Format
 named_format name =
     find (λ format. bytes_eq name (format_name format)) (Gnu ∷ Caret ∷ Json ∷ Github ∷ Sarif ∷ Checkstyle ∷ [])
+
+-- the format takes columns that count this: SARIF has words for code points and for code units of UTF-16 alone (SARIF
+-- 2.1.0, section 3.14), and the others leave it open
+abbrev pub takes_columns : Format → Columns → Bool
+takes_columns Sarif CodePoints = true
+takes_columns Sarif Utf16 = true
+takes_columns Sarif _ = false
+takes_columns _ columns = true
+
+-- a diagnostic says in this format what to write in place of its text
+abbrev pub shows_mended : Format → Bool
+shows_mended Gnu = false
+shows_mended Caret = true
+shows_mended Json = true
+shows_mended Github = false
+shows_mended Sarif = true
+shows_mended Checkstyle = false

@@ -4,7 +4,6 @@ use Rattle.uv_report.specs.declared.diagnostic.Diagnostic.{Diagnostic}
 use Rattle.uv_report.specs.declared.escapes.Escapes.TheVariants.{Message, Property}
 use Rattle.uv_report.specs.declared.line_violation.LineViolation.{LineViolation}
 use Rattle.uv_report.specs.Escapes.{escaped}
-use Rattle.uv_report.specs.Column.{column}
 use Rattle.uv_report.specs.LineViolation.{violation_name}
 use Rattle.uv_report.specs.Message as reported
 
@@ -12,7 +11,7 @@ use Rattle.uv_report.specs.Message as reported
 unfoldable pub command_place : Diagnostic → List ℕ
 command_place diagnostic =
     codes "::error file=" ++ (escaped Property diagnostic.file.now ++ (codes ",line=" ++ (decimal diagnostic.line
-    ++ (codes ",col=" ++ decimal (column diagnostic)))))
+    ++ (codes ",col=" ++ decimal diagnostic.column))))
 
 -- `,title=RULE::SENTENCE` and a line feed
 unfoldable pub command_text : List ℕ → LineViolation → List ℕ

@@ -4,7 +4,6 @@ use Rattle.uv_report.specs.declared.diagnostic.Diagnostic.{Diagnostic}
 use Rattle.uv_report.specs.declared.escapes.Escapes.TheVariants.{Shown}
 use Rattle.uv_report.specs.declared.line_violation.LineViolation.{LineViolation}
 use Rattle.uv_report.specs.Escapes.{escaped}
-use Rattle.uv_report.specs.Column.{column}
 use Rattle.uv_report.specs.LineViolation.{violation_name}
 use Rattle.uv_report.specs.Message.{message}
 
@@ -12,7 +11,7 @@ use Rattle.uv_report.specs.Message.{message}
 unfoldable pub gnu_position : Diagnostic → List ℕ
 gnu_position diagnostic =
     escaped Shown diagnostic.file.now ++ (codes ":" ++ (decimal diagnostic.line ++ (codes ":"
-    ++ decimal (column diagnostic))))
+    ++ decimal diagnostic.column)))
 
 -- `: error: SENTENCE [RULE]` and a line feed
 unfoldable pub gnu_words : List ℕ → LineViolation → List ℕ

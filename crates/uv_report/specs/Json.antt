@@ -1,24 +1,40 @@
 -- A diagnostic as an object of JSON.
-use Rattle.std.specs.Prelude.{ℕ, List, ◌++◌, codes}
-use Rattle.serde_json.specs.Data.{Data, boolean, number, unsigned, string, object, member, no_members}
+use Rattle.std.specs.Prelude.{ℕ, List, ◌++◌, codes, Option, Some, None}
+use Rattle.serde_json.specs.Data.{Data, Members, boolean, number, unsigned, string, object, member, no_members, put}
 use Rattle.serde_json.specs.Written.{compact_text}
+use Rattle.uv_mend.specs.Kinds.{kind_name}
 use Rattle.uv_report.specs.declared.diagnostic.Diagnostic.{Diagnostic}
-use Rattle.uv_report.specs.Column.{column}
+use Rattle.uv_report.specs.declared.mended.Mended.{Mended}
 use Rattle.uv_report.specs.LineViolation.{violation_name, violation_place}
 use Rattle.uv_report.specs.Message.{message}
 use Rattle.uv_report.specs.Window.{carried, is_cut}
 
--- the object of a diagnostic, its members by their names' order; a text is escaped by JSON alone
-abbrev pub json_value : Diagnostic → Data
-json_value diagnostic =
-    object (member (codes "column") (number (unsigned (column diagnostic)))
+-- the members of a diagnostic, by their names' order; a text is escaped by JSON alone
+abbrev pub plain_members : Diagnostic → Members
+plain_members diagnostic =
+    member (codes "column") (number (unsigned diagnostic.column))
     (member (codes "cut") (boolean (is_cut diagnostic.text.now))
     (member (codes "file") (string diagnostic.file.now)
     (member (codes "line") (number (unsigned diagnostic.line))
     (member (codes "message") (string (message diagnostic.text.now diagnostic.violation))
     (member (codes "rule") (string (violation_name diagnostic.violation))
     (member (codes "text") (string (carried diagnostic.text.now (violation_place diagnostic.violation)))
-    no_members)))))))
+    no_members))))))
+
+-- these, and in their order how a mended text stands to the refused one, and the mended text, which is whole
+abbrev pub mended_members : Diagnostic → Mended → Members
+mended_members diagnostic mended =
+    put (codes "kind") (string (kind_name mended.kind))
+    (put (codes "mended") (string mended.text.now) (plain_members diagnostic))
+
+-- the members by whether there is a mended text
+abbrev pub json_members : Diagnostic → Option Mended → Members
+json_members diagnostic None = plain_members diagnostic
+json_members diagnostic (Some mended) = mended_members diagnostic mended
+
+-- the object of a diagnostic
+abbrev pub json_value : Diagnostic → Data
+json_value diagnostic = object (json_members diagnostic diagnostic.mended)
 
 -- its text without spaces, and a line feed
 unfoldable pub json_text : Diagnostic → List ℕ

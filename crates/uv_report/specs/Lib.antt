@@ -1,8 +1,9 @@
 -- The definitions, in the order in which to read them.
 pub mod Explanation
 pub mod LineViolation
-pub mod Column
 pub mod Escapes
+pub mod Column
+pub mod ColumnCounter
 pub mod CodePoint
 pub mod Message
 pub mod Window

@@ -1,6 +1,7 @@
 -- What a report is made of, in each format: a beginning, for each file a beginning of its own, its diagnostics and an
 -- end, and then an end.
 use Rattle.std.specs.Prelude.{ℕ, Bool, List, []}
+use Rattle.uv_report.specs.declared.column.Columns.{Columns}
 use Rattle.uv_report.specs.declared.completion.Completion.{Completion}
 use Rattle.uv_report.specs.declared.diagnostic.Diagnostic.{Diagnostic}
 use Rattle.uv_report.specs.declared.format.Format.{Format}
@@ -12,11 +13,11 @@ use Rattle.uv_report.specs.Gnu.{gnu_text}
 use Rattle.uv_report.specs.Json.{json_text}
 use Rattle.uv_report.specs.Sarif.{sarif_begin, sarif_end, sarif_text}
 
--- what a report begins with
-abbrev pub begin_text : Format → List ℕ
-begin_text Sarif = sarif_begin
-begin_text Checkstyle = document_begin
-begin_text _ = []
+-- what a report begins with; in SARIF that says what its columns count
+abbrev pub begin_text : Format → Columns → List ℕ
+begin_text Sarif columns = sarif_begin columns
+begin_text Checkstyle columns = document_begin
+begin_text _ columns = []
 
 -- what stands before the diagnostics of a file
 abbrev pub file_begin_text : Format → List ℕ → List ℕ

@@ -1,8 +1,10 @@
--- Code points that are named, messages and windows, written out.
-use Rattle.std.specs.Prelude.{◌≡◌, ℕ, Bool, true, false, List, [], ◌∷◌, ◌++◌, codes, replicate}
+-- Code points that are named, columns, messages and windows, written out.
+use Rattle.std.specs.Prelude.{◌≡◌, ℕ, true, false, List, [], ◌∷◌, ◌++◌, codes, replicate}
 use Rattle.uv_model.specs.declared.rule.Rule.TheVariants.{HostDomain, PortDigit, CodePoint}
 use Rattle.uv_report.specs.declared.line_violation.LineViolation.TheVariants.{Refused}
+use Rattle.uv_report.specs.declared.column.Columns.TheVariants.{CodePoints, Bytes, Utf16, Screen}
 use Rattle.uv_report.specs.CodePoint.{point_text}
+use Rattle.uv_report.specs.Column.{column_at, width}
 use Rattle.uv_report.specs.Message.{credentials_sentence, has_credentials, message}
 use Rattle.uv_report.specs.Uri.{uri_path}
 use Rattle.uv_report.specs.Window.{cut_mark, is_cut, window, window_place}
@@ -16,6 +18,23 @@ pub record PointRows : Type 0 where
   pub beyond : point_text 0xE9 ≡ codes "U+00E9 " ++ (0xC3 ∷ 0xA9 ∷ [])
   pub hidden : point_text 0x202E ≡ codes "U+202E"
   pub digits : point_text 0x1FFFE ≡ codes "U+1FFFE " ++ (0xF0 ∷ 0x9F ∷ 0xBF ∷ 0xBE ∷ [])
+
+-- `e` with a combining acute accent, a wide code point, one beyond U+FFFF, and a tab
+abbrev pub mixed : List ℕ
+mixed = 0x65 ∷ 0x301 ∷ 0x65E5 ∷ 0x1F600 ∷ 9 ∷ []
+
+-- what these take in each unit but on a screen, and tabs on a screen: behind two letters, before a stop, on one and
+-- behind one
+pub record ColumnRows : Type 0 where
+  pub points : width CodePoints 1 mixed ≡ 5
+  pub bytes : width Bytes 1 mixed ≡ 11
+  pub utf16 : width Utf16 1 mixed ≡ 6
+  pub screen : width Screen 1 (codes "ab\tc") ≡ 9
+  pub before_stop : width Screen 8 (9 ∷ []) ≡ 1
+  pub on_stop : width Screen 9 (9 ∷ []) ≡ 8
+  pub behind_stop : width Screen 10 (9 ∷ 9 ∷ []) ≡ 15
+  pub first : column_at Bytes 40 (codes "ab") 0 ≡ 40
+  pub second : column_at Screen 40 (codes "a\tb") 2 ≡ 49
 
 -- messages: of a code point, and of credentials where an `@` follows in the authority
 pub record MessageRows : Type 0 where

@@ -1,16 +1,20 @@
--- A diagnostic as a result of SARIF 2.1.0 (sections 3.27 to 3.30), and the document round the results.
-use Rattle.std.specs.Prelude.{ℕ, Bool, true, false, List, [], ◌++◌, codes, flat_map}
-use Rattle.serde_json.specs.Data.{Data, boolean, number, unsigned, string, array, no_items, item, object, member}
-use Rattle.serde_json.specs.Data.{no_members}
+-- A diagnostic as a result of SARIF 2.1.0 (sections 3.27 to 3.30, and 3.55 to 3.57), and the document round the results.
+use Rattle.std.specs.Prelude.{ℕ, Bool, true, false, List, [], ◌++◌, codes, flat_map, Option, Some, None}
+use Rattle.serde_json.specs.Data.{Data, Members, boolean, number, unsigned, string, array, no_items, item, object}
+use Rattle.serde_json.specs.Data.{member, no_members}
 use Rattle.serde_json.specs.Written.{compact_text}
+use Rattle.uv_mend.specs.declared.answer.MendKind.{MendKind}
+use Rattle.uv_mend.specs.declared.answer.MendKind.TheVariants.{Same, Escaped, Changed}
 use Rattle.uv_model.specs.declared.rule.Rule.{Rule}
 use Rattle.uv_model.specs.Violations.Rule.{rules_in_order}
+use Rattle.uv_report.specs.declared.column.Columns.{Columns}
+use Rattle.uv_report.specs.declared.column.Columns.TheVariants.{CodePoints, Utf16}
 use Rattle.uv_report.specs.declared.completion.Completion.{Completion}
 use Rattle.uv_report.specs.declared.completion.Completion.TheVariants.{Whole, Unread, Stopped}
 use Rattle.uv_report.specs.declared.diagnostic.Diagnostic.{Diagnostic}
 use Rattle.uv_report.specs.declared.line_violation.LineViolation.{LineViolation}
 use Rattle.uv_report.specs.declared.line_violation.LineViolation.TheVariants.{Refused, NotUtf8, TooLong, NotLocated}
-use Rattle.uv_report.specs.Column.{column}
+use Rattle.uv_report.specs.declared.mended.Mended.{Mended}
 use Rattle.uv_report.specs.LineViolation.{violation_help, violation_index, violation_name, violation_place}
 use Rattle.uv_report.specs.LineViolation.{violation_sentence, violation_uri}
 use Rattle.uv_report.specs.Message as reported
@@ -48,13 +52,19 @@ all_rules =
 
 -- ---- the document
 
+-- what columns count (section 3.14), where SARIF has a word for it
+abbrev pub column_kind : Columns → List ℕ
+column_kind CodePoints = codes "\"columnKind\":\"unicodeCodePoints\","
+column_kind Utf16 = codes "\"columnKind\":\"utf16CodeUnits\","
+column_kind _ = []
+
 -- what it begins with
-unfoldable pub sarif_begin : List ℕ
-sarif_begin =
+unfoldable pub sarif_begin : Columns → List ℕ
+sarif_begin columns =
     codes "{\"$schema\":\"https://json.schemastore.org/sarif-2.1.0.json\",\"version\":\"2.1.0\","
-    ++ (codes "\"runs\":[{\"columnKind\":\"unicodeCodePoints\",\"tool\":{\"driver\":{"
-    ++ (codes "\"name\":\"urlcheck\",\"version\":\"0.2.0\",\"rules\":["
-    ++ (all_rules ++ codes "]}},\"results\":[\n")))
+    ++ (codes "\"runs\":[{" ++ (column_kind columns
+    ++ (codes "\"tool\":{\"driver\":{\"name\":\"urlcheck\",\"version\":\"0.2.0\",\"rules\":["
+    ++ (all_rules ++ codes "]}},\"results\":[\n"))))
 
 -- a message to the one who reads how the run went
 abbrev pub notification : List ℕ → List ℕ
@@ -86,7 +96,7 @@ artifact_value file = object (member (codes "uri") (string (uri_path file)) no_m
 -- the line and the column
 abbrev pub region_value : Diagnostic → Data
 region_value diagnostic =
-    object (member (codes "startColumn") (number (unsigned (column diagnostic)))
+    object (member (codes "startColumn") (number (unsigned diagnostic.column))
     (member (codes "startLine") (number (unsigned diagnostic.line)) no_members))
 
 -- these two
@@ -105,15 +115,58 @@ link_value diagnostic =
     object (member (codes "cut") (boolean (is_cut diagnostic.text.now))
     (member (codes "text") (string (carried diagnostic.text.now (violation_place diagnostic.violation))) no_members))
 
--- the result of a diagnostic
-abbrev pub result_value : Diagnostic → Data
-result_value diagnostic =
-    object (member (codes "level") (string (codes "error"))
+-- ---- the fix of a result (sections 3.55 to 3.57)
+
+-- what it does, by how the mended text stands to the refused one
+abbrev pub fix_sentence : MendKind → List ℕ
+fix_sentence Same = codes "write the same URL as a valid URL string"
+fix_sentence Escaped = codes "percent-encode what may not stand in a URL string"
+fix_sentence Changed = codes "write a valid URL string, which may be another URL"
+
+-- where the replaced text stands: all of it, in the line with this number
+abbrev pub deleted_region_value : ℕ → Mended → Data
+deleted_region_value line mended =
+    object (member (codes "endColumn") (number (unsigned mended.end))
+    (member (codes "startColumn") (number (unsigned mended.start))
+    (member (codes "startLine") (number (unsigned line)) no_members)))
+
+-- the mended text in place of it
+abbrev pub replacement_value : ℕ → Mended → Data
+replacement_value line mended =
+    object (member (codes "deletedRegion") (deleted_region_value line mended)
+    (member (codes "insertedContent") (message mended.text.now) no_members))
+
+-- the same, in the file of the diagnostic
+abbrev pub change_value : Diagnostic → Mended → Data
+change_value diagnostic mended =
+    object (member (codes "artifactLocation") (artifact_value diagnostic.file.now)
+    (member (codes "replacements") (single (replacement_value diagnostic.line mended)) no_members))
+
+-- this change, and what it does
+abbrev pub fix_value : Diagnostic → Mended → Data
+fix_value diagnostic mended =
+    object (member (codes "artifactChanges") (single (change_value diagnostic mended))
+    (member (codes "description") (message (fix_sentence mended.kind)) no_members))
+
+-- this fix before further members; no member where there is no mended text
+abbrev pub fixes_member : Diagnostic → Option Mended → Members → Members
+fixes_member diagnostic None rest = rest
+fixes_member diagnostic (Some mended) rest = member (codes "fixes") (single (fix_value diagnostic mended)) rest
+
+-- the result of a diagnostic, with this mended text
+abbrev pub result_with : Diagnostic → Option Mended → Data
+result_with diagnostic mended =
+    object (fixes_member diagnostic mended
+    (member (codes "level") (string (codes "error"))
     (member (codes "locations") (single (location_value diagnostic))
     (member (codes "message") (message (reported.message diagnostic.text.now diagnostic.violation))
     (member (codes "properties") (link_value diagnostic)
     (member (codes "ruleId") (string (violation_name diagnostic.violation))
-    (member (codes "ruleIndex") (number (unsigned (violation_index diagnostic.violation))) no_members))))))
+    (member (codes "ruleIndex") (number (unsigned (violation_index diagnostic.violation))) no_members)))))))
+
+-- the result of a diagnostic
+abbrev pub result_value : Diagnostic → Data
+result_value diagnostic = result_with diagnostic diagnostic.mended
 
 -- a comma before each result but the first
 abbrev pub separator : Bool → List ℕ

@@ -1,17 +1,19 @@
-//! Diagnostics with the line that they are about, and a caret below the place.
+//! Diagnostics with the line that they are about, a caret below the place, and what to write in place of the line.
 ghost use Rattle.std.specs.Prelude.{◌≡◌, ◌++◌, OnOk, replicate, string_bytes, take};
 ghost use Rattle.std.specs.List.{flat_map};
 ghost use Rattle.std.specs.Str.{chars};
-ghost use Rattle.uv_report.specs.Caret.{below, caret_lines, caret_text, columns, padding, window_lines};
+ghost use Rattle.uv_report.specs.Caret.{below, caret_lines, caret_text, help_line, help_text, padding, window_lines};
 
+use crate::column::shown_width;
 use crate::diagnostic::Diagnostic;
-use crate::escapes::{Escapes, is_hidden, push_escaped};
+use crate::escapes::{Escapes, push_escaped};
 use crate::gnu::push_gnu;
+use crate::mended::Mended;
 use crate::window::{window, window_place};
 use std::alloc::{AllocError, Global};
-use unicode_width::UnicodeWidthChar;
 
-/// Pushes the line of `gnu`, what is shown of the line that it is about, and the line of the caret.
+/// Pushes the line of `gnu`, what is shown of the line that it is about, the line of the caret, and `help: write TEXT`
+/// where there is a mended text.
 #[tactic(auto, unfolding(crate::specs::Caret::caret_text))]
 pub(crate) fn push_caret(
     alloc: Global,
@@ -20,8 +22,10 @@ pub(crate) fn push_caret(
 ) -> Result<(), AllocError>
     ensures { OnOk result (string_bytes text.new ≡ string_bytes text.old ++ caret_text diagnostic.now) }
 {
+    let place = diagnostic.violation.place();
     push_gnu(alloc, text, diagnostic)?;
-    push_window(alloc, text, diagnostic.text, diagnostic.violation.place())?;
+    push_window(alloc, text, diagnostic.text, place)?;
+    push_help(alloc, text, place, diagnostic.mended)?;
     Ok(())
 }
 
@@ -32,6 +36,38 @@ fn push_window(alloc: Global, text: &mut String, line: &str, place: usize) -> Re
 {
     let shown = window(alloc, line, place)?;
     push_lines(text, shown.as_str(), window_place(line, place))
+}
+
+// Pushes what to write in place of a line of which this place is reported, where there is such a text.
+fn push_help(
+    alloc: Global,
+    text: &mut String,
+    place: usize,
+    mended: Option<Mended<'_>>,
+) -> Result<(), AllocError>
+    ensures { OnOk result (string_bytes text.new ≡ string_bytes text.old ++ help_text place mended.entry) }
+{
+    match mended {
+        Some(mended) => push_help_line(alloc, text, place, mended.text),
+        None => Ok(()),
+    }
+}
+
+// Pushes `help: write TEXT`: what is shown of a mended text around a place.
+#[tactic(auto, unfolding(crate::specs::Caret::help_line))]
+fn push_help_line(
+    alloc: Global,
+    text: &mut String,
+    place: usize,
+    mended: &str,
+) -> Result<(), AllocError>
+    ensures { OnOk result (string_bytes text.new ≡ string_bytes text.old ++ help_line place mended.now) }
+{
+    let shown = window(alloc, mended, place)?;
+    text.push_str("help: write ")?;
+    push_escaped(text, shown.as_str(), Escapes::Shown)?;
+    text.push_str("\n")?;
+    Ok(())
 }
 
 // Pushes a line, and a caret below one of its places.
@@ -63,16 +99,8 @@ fn push_below(text: &mut String, c: char) -> Result<(), AllocError>
     if c == '\t' {
         text.push_str("\t")
     } else {
-        push_spaces(text, columns(c))
+        push_spaces(text, shown_width(c))
     }
-}
-
-// How many columns a code point takes as it is shown.
-fn columns(c: char) -> usize
-    ensures { result ≡ columns c }
-{
-    let shown = if is_hidden(c) { '\u{FFFD}' } else { c };
-    shown.width().unwrap_or(0)
 }
 
 // Pushes so many spaces.

@@ -42,7 +42,7 @@ fn push_place(text: &mut String, diagnostic: &Diagnostic<'_>) -> Result<(), Allo
     text.push_str("<error line=\"")?;
     push_number(text, diagnostic.line)?;
     text.push_str("\" column=\"")?;
-    push_number(text, diagnostic.column())?;
+    push_number(text, diagnostic.column)?;
     text.push_str("\" severity=\"error\" message=\"")?;
     Ok(())
 }

@@ -1,8 +1,7 @@
 //! The message on a line.
-ghost use Rattle.std.specs.Prelude.{◌≡◌};
-ghost use Rattle.uv_report.specs.Column.{column};
 
 use crate::line_violation::LineViolation;
+use crate::mended::Mended;
 
 /// What is wrong with a line of a file, or with a text that is a part of one.
 #[derive(Clone, Copy)]
@@ -11,19 +10,13 @@ pub struct Diagnostic<'a> {
     pub file: &'a str,
     /// The line's number, from 1.
     pub line: u64,
-    /// The column of the text's first code point in that line, from 1.
-    pub start: u64,
+    /// The column of the place at which the text is wrong, in its line, from 1: `ColumnCounter::column` tells it.
+    pub column: u64,
     /// What is wrong with the text.
     pub violation: LineViolation,
     /// The text, without the line's end. Where it isn't UTF-8, U+FFFD stands for what can't be read.
     pub text: &'a str,
-}
-
-impl<'a> Diagnostic<'a> {
-    /// The column of the place at which the text is wrong, in its line: columns count from 1.
-    pub fn column(&self) -> u64
-        ensures { result ≡ column self.now }
-    {
-        self.start.saturating_add(self.violation.place() as u64)
-    }
+    /// What to write in place of the text, where that is to be said. A format for which `Format::shows_mended` is false
+    /// leaves it out.
+    pub mended: Option<Mended<'a>>,
 }

@@ -1,6 +1,9 @@
 //! The formats of diagnostics.
 ghost use Rattle.std.specs.Prelude.{◌≡◌};
-ghost use Rattle.uv_report.specs.Format.{format_name, named_format};
+ghost use Rattle.uv_report.specs.Format.{format_name, named_format, takes_columns};
+ghost use Rattle.uv_report.specs.Format as spec;
+
+use crate::column::Columns;
 
 /// How diagnostics are written.
 #[derive(Clone, Copy, Debug, PartialEq, Eq)]
@@ -34,6 +37,16 @@ impl Format {
         }
     }
 
+    /// Whether a diagnostic says in this format what to write in place of its text.
+    pub fn shows_mended(self) -> bool
+        ensures { result ≡ spec.shows_mended self }
+    {
+        match self {
+            Format::Caret | Format::Json | Format::Sarif => true,
+            Format::Gnu | Format::Github | Format::Checkstyle => false,
+        }
+    }
+
     /// The format with this name, or `None` where no format has it.
     pub fn of_name(name: &str) -> Option<Format>
         ensures { result ≡ named_format name.now }
@@ -46,6 +59,17 @@ impl Format {
             "sarif" => Some(Format::Sarif),
             "checkstyle" => Some(Format::Checkstyle),
             _ => None,
+        }
+    }
+
+    /// Whether the format takes columns that count this: SARIF has words for code points and for code units of UTF-16
+    /// alone, and the others leave it open.
+    pub fn takes_columns(self, columns: Columns) -> bool
+        ensures { result ≡ takes_columns self columns }
+    {
+        match (self, columns) {
+            (Format::Sarif, Columns::Bytes | Columns::Screen) => false,
+            (_, _) => true,
         }
     }
 }

@@ -33,7 +33,7 @@ fn push_place(text: &mut String, diagnostic: &Diagnostic<'_>) -> Result<(), Allo
     text.push_str(",line=")?;
     push_number(text, diagnostic.line)?;
     text.push_str(",col=")?;
-    push_number(text, diagnostic.column())?;
+    push_number(text, diagnostic.column)?;
     Ok(())
 }
 

@@ -32,7 +32,7 @@ fn push_position(text: &mut String, diagnostic: &Diagnostic<'_>) -> Result<(), A
     text.push_str(":")?;
     push_number(text, diagnostic.line)?;
     text.push_str(":")?;
-    push_number(text, diagnostic.column())?;
+    push_number(text, diagnostic.column)?;
     Ok(())
 }
 

@@ -1,9 +1,14 @@
 //! Laws over what is reported, each as the clause of a function that does nothing.
-ghost use Rattle.uv_report.specs.Rows.{MessageRows, PointRows, UriRows, WindowRows};
+ghost use Rattle.uv_report.specs.Rows.{ColumnRows, MessageRows, PointRows, UriRows, WindowRows};
 
 /// Code points by name.
 pub fn point_rows()
     ensures { PointRows }
+{}
+
+/// What texts take in each unit of columns.
+pub fn column_rows()
+    ensures { ColumnRows }
 {}
 
 /// Messages that name a code point, or that a URL string has no credentials.

@@ -5,6 +5,8 @@
 mod caret;
 mod checkstyle;
 mod code_point;
+mod column;
+mod column_counter;
 mod completion;
 mod diagnostic;
 mod escapes;
@@ -15,18 +17,22 @@ mod gnu;
 mod json;
 pub mod laws;
 mod line_violation;
+mod mended;
 mod message;
 mod report;
 mod sarif;
 mod uri;
 mod window;
 
+pub use column::Columns;
+pub use column_counter::ColumnCounter;
 pub use completion::Completion;
 pub use diagnostic::Diagnostic;
 pub use escapes::push_shown;
 pub use explanation::{Explanation, explain};
 pub use format::Format;
 pub use line_violation::LineViolation;
+pub use mended::Mended;
 pub use report::{end_of, push_begin, push_diagnostic, push_file_begin, push_file_end};
 
 #[cfg(test)]

@@ -5,6 +5,7 @@ ghost use Rattle.uv_report.specs.Report.{begin_text, diagnostic_text, end_text, 
 
 use crate::caret::push_caret;
 use crate::checkstyle::{push_checkstyle, push_checkstyle_file};
+use crate::column::Columns;
 use crate::completion::Completion;
 use crate::diagnostic::Diagnostic;
 use crate::format::Format;
@@ -14,22 +15,28 @@ use crate::json::push_json;
 use crate::sarif::{push_sarif, push_sarif_begin, sarif_end};
 use std::alloc::{AllocError, Global};
 
-/// Pushes what a report begins with. Where an allocation fails, the text stays as it was.
-pub fn push_begin(alloc: Global, text: &mut String, format: Format) -> Result<(), AllocError>
-    ensures ok { OnOk result (string_bytes text.new ≡ string_bytes text.old ++ begin_text format) }
+/// Pushes what a report begins with. In SARIF that says what columns count, where SARIF has a word for it. Where an
+/// allocation fails, the text stays as it was.
+pub fn push_begin(
+    alloc: Global,
+    text: &mut String,
+    format: Format,
+    columns: Columns,
+) -> Result<(), AllocError>
+    ensures ok { OnOk result (string_bytes text.new ≡ string_bytes text.old ++ begin_text format columns) }
     ensures err { OnErr result (string_bytes text.new ≡ string_bytes text.old) }
 {
-    let begin = begin_of(alloc, format)?;
+    let begin = begin_of(alloc, format, columns)?;
     text.push_str(begin.as_str())
 }
 
 // What a report begins with.
-fn begin_of(alloc: Global, format: Format) -> Result<String, AllocError>
-    ensures { IfOk result (λ begin. string_bytes begin ≡ begin_text format) }
+fn begin_of(alloc: Global, format: Format, columns: Columns) -> Result<String, AllocError>
+    ensures { IfOk result (λ begin. string_bytes begin ≡ begin_text format columns) }
 {
     let mut begin = String::new(alloc);
     match format {
-        Format::Sarif => push_sarif_begin(alloc, &mut begin)?,
+        Format::Sarif => push_sarif_begin(alloc, &mut begin, columns)?,
         Format::Checkstyle => {
             begin.push_str(
                 "<?xml version=\"1.0\" encoding=\"UTF-8\"?>\n<checkstyle version=\"4.3\">\n",

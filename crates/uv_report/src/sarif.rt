@@ -1,31 +1,50 @@
 //! Diagnostics as a document of SARIF 2.1.0, which is written result by result.
-ghost use Rattle.std.specs.Prelude.{◌≡◌, ◌++◌, IfOk, OnOk, flat_map, string_bytes};
+ghost use Rattle.std.specs.Prelude.{◌≡◌, ◌++◌, IfOk, None, OnOk, Some, flat_map, string_bytes};
 ghost use Rattle.serde_json.specs.View.{view};
 ghost use Rattle.uv_report.specs.Sarif as spec;
 
+use crate::column::Columns;
 use crate::completion::Completion;
 use crate::diagnostic::Diagnostic;
 use crate::line_violation::LineViolation;
+use crate::mended::Mended;
 use crate::message::message;
 use crate::uri::push_uri_path;
 use crate::window::{carried, is_cut};
 use serde_json::{Value, json};
 use std::alloc::{AllocError, Global};
+use uv_mend::MendKind;
 use uv_model::{Refusal, Rule};
 
-/// Pushes the document up to its results: the version, the tool and its rules.
+/// Pushes the document up to its results: the version, what columns count, the tool and its rules.
 #[tactic(auto, unfolding(crate::specs::Sarif::sarif_begin))]
-pub(crate) fn push_sarif_begin(alloc: Global, text: &mut String) -> Result<(), AllocError>
-    ensures { OnOk result (string_bytes text.new ≡ string_bytes text.old ++ spec.sarif_begin) }
+pub(crate) fn push_sarif_begin(
+    alloc: Global,
+    text: &mut String,
+    columns: Columns,
+) -> Result<(), AllocError>
+    ensures { OnOk result (string_bytes text.new ≡ string_bytes text.old ++ spec.sarif_begin columns) }
 {
     text.push_str(
         "{\"$schema\":\"https://json.schemastore.org/sarif-2.1.0.json\",\"version\":\"2.1.0\",",
     )?;
-    text.push_str("\"runs\":[{\"columnKind\":\"unicodeCodePoints\",\"tool\":{\"driver\":{")?;
-    text.push_str("\"name\":\"urlcheck\",\"version\":\"0.2.0\",\"rules\":[")?;
+    text.push_str("\"runs\":[{")?;
+    text.push_str(column_kind(columns))?;
+    text.push_str("\"tool\":{\"driver\":{\"name\":\"urlcheck\",\"version\":\"0.2.0\",\"rules\":[")?;
     push_rules(alloc, text)?;
     text.push_str("]}},\"results\":[\n")?;
     Ok(())
+}
+
+// What columns count, where SARIF has a word for it.
+fn column_kind(columns: Columns) -> &'static str
+    ensures { result.now ≡ spec.column_kind columns }
+{
+    match columns {
+        Columns::CodePoints => "\"columnKind\":\"unicodeCodePoints\",",
+        Columns::Utf16 => "\"columnKind\":\"utf16CodeUnits\",",
+        Columns::Bytes | Columns::Screen => "",
+    }
 }
 
 /// What the document ends with behind its results: the run's invocation, which says whether every file was read to its
@@ -126,14 +145,47 @@ pub(crate) fn push_sarif(
     Ok(())
 }
 
-// The result of a diagnostic.
+// The result of a diagnostic, with a fix where there is a mended text.
 fn result_object(alloc: Global, diagnostic: &Diagnostic<'_>) -> Result<Value, AllocError>
     ensures { IfOk result (λ value. view value ≡ spec.result_value diagnostic.now) }
+{
+    match diagnostic.mended {
+        Some(mended) => fixed_result(alloc, diagnostic, mended),
+        None => plain_result(alloc, diagnostic),
+    }
+}
+
+// The result without a fix.
+fn plain_result(alloc: Global, diagnostic: &Diagnostic<'_>) -> Result<Value, AllocError>
+    ensures { IfOk result (λ value. view value ≡ spec.result_with diagnostic.now None) }
 {
     let location = location_object(alloc, diagnostic)?;
     let message = message(alloc, diagnostic.text, diagnostic.violation)?;
     let link = link_object(alloc, diagnostic)?;
     json!(in alloc; {
+        "level": "error",
+        "locations": [location],
+        "message": {"text": message.as_str()},
+        "properties": link,
+        "ruleId": diagnostic.violation.name(),
+        "ruleIndex": diagnostic.violation.index()
+    })
+}
+
+// The result with the fix that writes a mended text.
+fn fixed_result(
+    alloc: Global,
+    diagnostic: &Diagnostic<'_>,
+    mended: Mended<'_>,
+) -> Result<Value, AllocError>
+    ensures { IfOk result (λ value. view value ≡ spec.result_with diagnostic.now (Some mended.entry)) }
+{
+    let fix = fix_object(alloc, diagnostic, mended)?;
+    let location = location_object(alloc, diagnostic)?;
+    let message = message(alloc, diagnostic.text, diagnostic.violation)?;
+    let link = link_object(alloc, diagnostic)?;
+    json!(in alloc; {
+        "fixes": [fix],
         "level": "error",
         "locations": [location],
         "message": {"text": message.as_str()},
@@ -174,7 +226,7 @@ fn region_object(alloc: Global, diagnostic: &Diagnostic<'_>) -> Result<Value, Al
     ensures { IfOk result (λ value. view value ≡ spec.region_value diagnostic.now) }
 {
     json!(in alloc; {
-        "startColumn": diagnostic.column(),
+        "startColumn": diagnostic.column,
         "startLine": diagnostic.line
     })
 }
@@ -185,4 +237,62 @@ fn link_object(alloc: Global, diagnostic: &Diagnostic<'_>) -> Result<Value, Allo
 {
     let text = carried(alloc, diagnostic.text, diagnostic.violation.place())?;
     json!(in alloc; {"cut": is_cut(diagnostic.text), "text": text.as_str()})
+}
+
+// The fix of a diagnostic, and what it does.
+fn fix_object(
+    alloc: Global,
+    diagnostic: &Diagnostic<'_>,
+    mended: Mended<'_>,
+) -> Result<Value, AllocError>
+    ensures { IfOk result (λ value. view value ≡ spec.fix_value diagnostic.now mended.entry) }
+{
+    let change = change_object(alloc, diagnostic, mended)?;
+    json!(in alloc; {
+        "artifactChanges": [change],
+        "description": {"text": fix_sentence(mended.kind)}
+    })
+}
+
+// What a fix does.
+fn fix_sentence(kind: MendKind) -> &'static str
+    ensures { result.now ≡ spec.fix_sentence kind }
+{
+    match kind {
+        MendKind::Same => "write the same URL as a valid URL string",
+        MendKind::Escaped => "percent-encode what may not stand in a URL string",
+        MendKind::Changed => "write a valid URL string, which may be another URL",
+    }
+}
+
+// The change of the diagnostic's file.
+fn change_object(
+    alloc: Global,
+    diagnostic: &Diagnostic<'_>,
+    mended: Mended<'_>,
+) -> Result<Value, AllocError>
+    ensures { IfOk result (λ value. view value ≡ spec.change_value diagnostic.now mended.entry) }
+{
+    let artifact = artifact_object(alloc, diagnostic.file)?;
+    let replacement = replacement_object(alloc, diagnostic.line, mended)?;
+    json!(in alloc; {"artifactLocation": artifact, "replacements": [replacement]})
+}
+
+// The mended text in place of the text that it replaces, in the line with this number.
+fn replacement_object(alloc: Global, line: u64, mended: Mended<'_>) -> Result<Value, AllocError>
+    ensures { IfOk result (λ value. view value ≡ spec.replacement_value line mended.entry) }
+{
+    let region = deleted_region_object(alloc, line, mended)?;
+    json!(in alloc; {"deletedRegion": region, "insertedContent": {"text": mended.text}})
+}
+
+// Where the replaced text stands.
+fn deleted_region_object(alloc: Global, line: u64, mended: Mended<'_>) -> Result<Value, AllocError>
+    ensures { IfOk result (λ value. view value ≡ spec.deleted_region_value line mended.entry) }
+{
+    json!(in alloc; {
+        "endColumn": mended.end,
+        "startColumn": mended.start,
+        "startLine": line
+    })
 }

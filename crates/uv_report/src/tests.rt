@@ -1,12 +1,13 @@
 //! Diagnostics in each format, written out by hand from the documents of the formats.
 
 use crate::{
-    Completion, Diagnostic, Format, LineViolation, end_of, push_begin, push_diagnostic,
-    push_file_begin, push_file_end,
+    ColumnCounter, Columns, Completion, Diagnostic, Format, LineViolation, Mended, end_of,
+    push_begin, push_diagnostic, push_file_begin, push_file_end,
 };
 use serde_json::Value;
 use std::alloc::{AllocError, Global};
 use std::test::Fail;
+use uv_mend::MendKind;
 use uv_model::{Refusal, Rule};
 
 // A diagnostic on the third line of a file.
@@ -14,9 +15,10 @@ fn refused<'a>(file: &'a str, rule: Rule, place: usize, text: &'a str) -> Diagno
     Diagnostic {
         file,
         line: 3,
-        start: 1,
+        column: (place as u64).saturating_add(1),
         violation: LineViolation::Refused(Refusal { place, rule }),
         text,
+        mended: None,
     }
 }
 
@@ -27,7 +29,7 @@ fn report(
     diagnostic: &Diagnostic<'_>,
 ) -> Result<String, AllocError> {
     let mut text = String::new(alloc);
-    push_begin(alloc, &mut text, format)?;
+    push_begin(alloc, &mut text, format, Columns::CodePoints)?;
     push_file_begin(alloc, &mut text, format, diagnostic.file)?;
     push_diagnostic(alloc, &mut text, format, diagnostic, true)?;
     push_file_end(&mut text, format)?;
@@ -45,9 +47,10 @@ fn writes_a_line_as_compilers_do(rt: HostRuntime) -> Result<(), Fail> {
     let unread = Diagnostic {
         file: "-",
         line: 1,
-        start: 1,
+        column: 1,
         violation: LineViolation::NotUtf8,
         text: "\u{FFFD}",
+        mended: None,
     };
     assert_eq!(rt;
         report(rt.alloc(), Format::Gnu, &unread)?.as_str(),
@@ -56,11 +59,11 @@ fn writes_a_line_as_compilers_do(rt: HostRuntime) -> Result<(), Fail> {
     Ok(())
 }
 
-// A text from the 40th column of its line on: the column is reported in the line, and the caret stands below the text.
+// A text that doesn't begin its line: the column is reported in the line, and the caret stands below the text.
 #[test]
-fn counts_columns_from_where_the_text_begins(rt: HostRuntime) -> Result<(), Fail> {
+fn tells_the_column_in_the_line(rt: HostRuntime) -> Result<(), Fail> {
     let found = Diagnostic {
-        start: 40,
+        column: 50,
         ..refused("page.html", Rule::CodePoint, 10, "http://h/a b")
     };
     for (format, column) in [
@@ -163,7 +166,7 @@ fn writes_a_document_of_sarif(rt: HostRuntime) -> Result<(), Fail> {
     let alloc = rt.alloc();
     let found = refused("a b/\u{E9}.md", Rule::HostDomain, 7, "http://a_b/");
     let mut text = String::new(alloc);
-    push_begin(alloc, &mut text, Format::Sarif)?;
+    push_begin(alloc, &mut text, Format::Sarif, Columns::CodePoints)?;
     push_diagnostic(alloc, &mut text, Format::Sarif, &found, true)?;
     push_diagnostic(alloc, &mut text, Format::Sarif, &found, false)?;
     text.push_str(end_of(Format::Sarif, Completion::Whole))?;
@@ -219,6 +222,144 @@ fn writes_a_document_of_sarif(rt: HostRuntime) -> Result<(), Fail> {
     Ok(())
 }
 
+// SARIF has words for two of the units (SARIF 2.1.0, section 3.14), and the document names no other.
+#[test]
+fn says_in_sarif_what_columns_count(rt: HostRuntime) -> Result<(), Fail> {
+    let alloc = rt.alloc();
+    for (columns, kind) in [
+        (Columns::CodePoints, Some("unicodeCodePoints")),
+        (Columns::Bytes, None),
+        (Columns::Utf16, Some("utf16CodeUnits")),
+        (Columns::Screen, None),
+    ] {
+        let mut text = String::new(alloc);
+        push_begin(alloc, &mut text, Format::Sarif, columns)?;
+        text.push_str(end_of(Format::Sarif, Completion::Whole))?;
+        let document = Value::from_str(alloc, text.as_str())?;
+        assert_eq!(rt; text_at(&document, "/runs/0/columnKind"), kind);
+        assert_eq!(rt; Format::Sarif.takes_columns(columns), kind.is_some());
+        assert!(rt; Format::Gnu.takes_columns(columns));
+    }
+    Ok(())
+}
+
+// A diagnostic with what to write in place of its text, which begins in the 40th column of its line.
+fn mended<'a>(text: &'a str, written: &'a str, kind: MendKind, end: u64) -> Diagnostic<'a> {
+    Diagnostic {
+        column: 50,
+        mended: Some(Mended {
+            text: written,
+            kind,
+            start: 40,
+            end,
+        }),
+        ..refused("a b", Rule::CodePoint, 10, text)
+    }
+}
+
+#[test]
+fn says_what_to_write(rt: HostRuntime) -> Result<(), Fail> {
+    let alloc = rt.alloc();
+    let found = mended("http://h/a b", "http://h/a%20b", MendKind::Same, 52);
+    let head = "a b:3:50: error: U+0020 SPACE may not stand in a URL [code-point]\n";
+    let caret = joined(
+        alloc,
+        &[
+            head,
+            "http://h/a b\n          ^\nhelp: write http://h/a%20b\n",
+        ],
+    )?;
+    assert_eq!(rt;
+        report(alloc, Format::Caret, &found)?.as_str(),
+        caret.as_str()
+    );
+    assert_eq!(rt;
+        report(alloc, Format::Json, &found)?.as_str(),
+        "{\"column\":50,\"cut\":false,\"file\":\"a b\",\"kind\":\"same\",\"line\":3,\"mended\":\"http://h/a%20b\",\
+        \"message\":\"U+0020 SPACE may not stand in a URL\",\"rule\":\"code-point\",\"text\":\"http://h/a b\"}\n"
+    );
+    for format in [Format::Gnu, Format::Github, Format::Checkstyle] {
+        let plain = Diagnostic {
+            mended: None,
+            ..found
+        };
+        assert!(rt;
+            report(alloc, format, &found)?.as_str() == report(alloc, format, &plain)?.as_str()
+        );
+    }
+    Ok(())
+}
+
+// What turns the direction of a text isn't shown as it is, and of a long text a window is shown.
+#[test]
+fn shows_a_mended_text_as_a_line(rt: HostRuntime) -> Result<(), Fail> {
+    let alloc = rt.alloc();
+    let found = mended(
+        "urn:aaaaaa \u{202E}",
+        "urn:aaaaaa%20\u{202E}",
+        MendKind::Escaped,
+        52,
+    );
+    assert!(rt;
+        report(alloc, Format::Caret, &found)?
+            .as_str()
+            .ends_with("\nhelp: write urn:aaaaaa%20\u{FFFD}\n")
+    );
+    let more = "a".repeat(alloc, 194)?;
+    let wanted = joined(alloc, &["\nhelp: write urn:", more.as_str(), "…\n"])?;
+    let long = joined(alloc, &["urn:", more.as_str(), more.as_str()])?;
+    let found = mended("urn:aaaaaa b", long.as_str(), MendKind::Changed, 52);
+    assert!(rt;
+        report(alloc, Format::Caret, &found)?
+            .as_str()
+            .ends_with(wanted.as_str())
+    );
+    Ok(())
+}
+
+#[test]
+fn writes_a_fix_in_sarif(rt: HostRuntime) -> Result<(), Fail> {
+    let alloc = rt.alloc();
+    for (kind, sentence) in [
+        (MendKind::Same, "write the same URL as a valid URL string"),
+        (
+            MendKind::Escaped,
+            "percent-encode what may not stand in a URL string",
+        ),
+        (
+            MendKind::Changed,
+            "write a valid URL string, which may be another URL",
+        ),
+    ] {
+        let found = mended("http://h/a b", "http://h/a%20b", kind, 52);
+        let document = Value::from_str(alloc, report(alloc, Format::Sarif, &found)?.as_str())?;
+        let fix = "/runs/0/results/0/fixes/0";
+        let change = "/runs/0/results/0/fixes/0/artifactChanges/0";
+        for (at, pointer, wanted) in [
+            (fix, "/description/text", sentence),
+            (change, "/artifactLocation/uri", "a%20b"),
+            (
+                change,
+                "/replacements/0/insertedContent/text",
+                "http://h/a%20b",
+            ),
+        ] {
+            let pointer = joined(alloc, &[at, pointer])?;
+            assert_eq!(rt; text_at(&document, pointer.as_str()), Some(wanted));
+        }
+        for (member, wanted) in [("startLine", 3), ("startColumn", 40), ("endColumn", 52)] {
+            let pointer = joined(alloc, &[change, "/replacements/0/deletedRegion/", member])?;
+            let found = document.pointer(pointer.as_str()).and_then(Value::as_u64);
+            assert_eq!(rt; found, Some(wanted), "at {member}");
+        }
+    }
+    let plain = refused("f", Rule::CodePoint, 10, "http://h/a b");
+    let document = Value::from_str(alloc, report(alloc, Format::Sarif, &plain)?.as_str())?;
+    assert!(rt; document.pointer("/runs/0/results/0/level").is_some());
+    assert!(rt; document.pointer("/runs/0/results/0/fixes").is_none());
+    Ok(())
+}
+
 // The document of a run without results says whether every file was read, and else what was in the way.
 #[test]
 fn says_in_sarif_how_the_run_has_ended(rt: HostRuntime) -> Result<(), Fail> {
@@ -237,7 +378,7 @@ fn says_in_sarif_how_the_run_has_ended(rt: HostRuntime) -> Result<(), Fail> {
         ),
     ] {
         let mut text = String::new(alloc);
-        push_begin(alloc, &mut text, Format::Sarif)?;
+        push_begin(alloc, &mut text, Format::Sarif, Columns::CodePoints)?;
         text.push_str(end_of(Format::Sarif, completion))?;
         let document = Value::from_str(alloc, text.as_str())?;
         let successful = document.pointer("/runs/0/invocations/0/executionSuccessful");
@@ -368,5 +509,72 @@ fn finds_each_format_by_its_name(rt: HostRuntime) {
     }
     for text in ["", "GNU", "jso", "jsonl", "xml"] {
         assert_eq!(rt; Format::of_name(text), None);
+    }
+}
+
+#[test]
+fn finds_each_unit_by_its_name(rt: HostRuntime) {
+    for name in ["code-points", "bytes", "utf16", "screen"] {
+        match Columns::of_name(name) {
+            Some(columns) => assert_eq!(rt; columns.name(), name),
+            None => panic!(rt; "no unit {name}"),
+        }
+    }
+    for text in ["", "Bytes", "byte", "utf-16", "screens", "code points"] {
+        assert_eq!(rt; Columns::of_name(text), None);
+    }
+}
+
+// A letter, a combining mark (U+0301), a wide code point (U+65E5), a wide one of two UTF-16 code units and four bytes
+// (U+1F600), a tab and a letter: the column of each, and of the end, in each unit.
+#[test]
+fn counts_columns_in_each_unit(rt: HostRuntime) {
+    let text = "e\u{301}\u{65E5}\u{1F600}\ta";
+    for (columns, wanted) in [
+        (Columns::CodePoints, [1, 2, 3, 4, 5, 6, 7]),
+        (Columns::Bytes, [1, 2, 4, 7, 11, 12, 13]),
+        (Columns::Utf16, [1, 2, 3, 4, 6, 7, 8]),
+        (Columns::Screen, [1, 2, 2, 4, 6, 9, 10]),
+    ] {
+        let mut counter = ColumnCounter::new(columns, 1, text);
+        for place in [0, 1, 2, 3, 4, 5, 6, 6, 2, 0, 5] {
+            assert_eq!(rt; counter.column(place), wanted[place], "of {place}");
+        }
+        assert_eq!(rt; counter.column(99), wanted[6]);
+    }
+}
+
+// Tabs go on to the columns 9, 17 and so on of the line, wherever the text begins in it; what isn't shown as it is
+// takes one column.
+#[test]
+fn counts_tabs_and_controls_on_a_screen(rt: HostRuntime) {
+    for (start, text, column) in [
+        (1, "\t", 9),
+        (8, "\t", 9),
+        (9, "\t", 17),
+        (10, "\t\t", 25),
+        (40, "a\t", 49),
+        (1, "\u{1B}\u{202E}", 3),
+        (0, "\t", 8),
+    ] {
+        let mut counter = ColumnCounter::new(Columns::Screen, start, text);
+        assert_eq!(rt; counter.column(text.len()), column, "of {start}");
+    }
+}
+
+// The greatest number of 64 bits stands for each column beyond it.
+#[test]
+fn stops_at_the_greatest_column(rt: HostRuntime) {
+    for columns in [
+        Columns::CodePoints,
+        Columns::Bytes,
+        Columns::Utf16,
+        Columns::Screen,
+    ] {
+        let mut counter = ColumnCounter::new(columns, u64::MAX - 1, "\u{1F600}a\t");
+        assert_eq!(rt; counter.column(0), u64::MAX - 1);
+        for place in 1..4 {
+            assert_eq!(rt; counter.column(place), u64::MAX);
+        }
     }
 }

@@ -26,6 +26,7 @@ const SETTING: LintSetting<'static> = LintSetting {
     profile: Profile::Standard,
     extent: Extent::First,
     format: Format::Checkstyle,
+    columns: Columns::CodePoints,
     form: LineForm::Plain,
 };
 

@@ -1,5 +1,5 @@
 -- The place of the first run.
-use Rattle.std.proofs.Common.{◌≡◌, ◌+◌, ◌∙◌, Bool, drop, is_some, sym, ap, arith, true, false}
+use Rattle.std.proofs.Common.{◌≡◌, ◌+◌, ◌∙◌, drop, is_some, sym, ap, arith, true, false}
 use Rattle.uv_lint.specs.Located.{file_length, run_of}
 use Rattle.uv_lint.specs.LocatedViews.{run_view}
 use Rattle.uv_lint.proofs.LocatedLemmas.{begins_run, behind_none, is_some-view}

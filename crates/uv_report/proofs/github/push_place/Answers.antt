@@ -9,8 +9,7 @@ use Rattle.uv_report.proofs.github.push_place.Goals as goal
 pub returns : goal.returns
 unfolding command_place
 returns c =
-    rw (← c.column.ensures)
-    (six_pieces (string_bytes c.args.text.now) (codes "::error file=") (escaped Property c.args.diagnostic.now.file.now)
-    (codes ",line=") (decimal c.args.diagnostic.now.line) (codes ",col=") (decimal c.column.result)
+    six_pieces (string_bytes c.args.text.now) (codes "::error file=") (escaped Property c.args.diagnostic.now.file.now)
+    (codes ",line=") (decimal c.args.diagnostic.now.line) (codes ",col=") (decimal c.args.diagnostic.now.column)
     c.in_ok-push_str.ensures.bytes c.in_ok-push_escaped.ensures c.in_ok-push_str-2.ensures.bytes
-    c.in_ok-push_number.ensures c.in_ok-push_str-3.ensures.bytes c.in_ok-push_number-2.ensures)
+    c.in_ok-push_number.ensures c.in_ok-push_str-3.ensures.bytes c.in_ok-push_number-2.ensures

@@ -1,0 +1,89 @@
+-- What is found with a line: what is wrong with it, and what to write in place of its text.
+use Rattle.std.specs.Prelude.{◌≡◌, ℕ, Bool, true, false, ◌&&◌, List, [], ◌∷◌, Option, Some, None, string_bytes}
+use Rattle.std.specs.Str.Lossy.{utf8_lossy}
+use Rattle.uv_model.specs.declared.profile.Profile.{Profile}
+use Rattle.uv_model.specs.Records.Url.{Url}
+use Rattle.uv_mend.specs.declared.answer.MendKind.{MendKind}
+use Rattle.uv_mend.specs.declared.answer.Mending.{Mending}
+use Rattle.uv_mend.specs.declared.answer.Mending.TheVariants as answer
+use Rattle.uv_mend.specs.Mending.{IsMending}
+use Rattle.uv_report.specs.declared.format.Format.{Format}
+use Rattle.uv_report.specs.declared.line_violation.LineViolation.{LineViolation}
+use Rattle.uv_report.specs.declared.line_violation.LineViolation.TheVariants.{Refused}
+use Rattle.uv_report.specs.Format.{shows_mended}
+use Rattle.uv_lint.specs.LineViolations.{AreViolations, FileSetting, link_of}
+use Rattle.uv_lint.specs.Located.{LocatedLink}
+
+-- a valid text, and how it stands to the refused one
+pub record MendedText : Type 0 where
+  pub text : List ℕ
+  pub kind : MendKind
+
+-- what is wrong with a line, and what to write in place of its text, where that is to be said
+pub record Findings : Type 0 where
+  pub violations : List LineViolation
+  pub mended : Option MendedText
+
+-- nothing is to be written in place of a line
+abbrev pub unmended : List LineViolation → Findings
+unmended violations = record { violations = violations; mended = None }
+
+-- ---- the text
+
+-- What is shown of a line: its text, where U+FFFD stands for what isn't UTF-8; and nothing of one that has more bytes
+-- than a line may have, for which none stands.
+abbrev pub shown : Option (List ℕ) → List ℕ
+shown None = []
+shown (Some line) = utf8_lossy line
+
+-- the text that a line is judged by: its link's, where the line says where that stands
+abbrev pub text_by : Option LocatedLink → Option (List ℕ) → List ℕ
+text_by (Some link) line = shown (Some link.link)
+text_by None line = shown line
+
+-- the same by what a line of the file is
+abbrev pub text_of : FileSetting → Option (List ℕ) → List ℕ
+text_of setting line = text_by (link_of setting.form line) line
+
+-- ---- what to write in its place
+
+-- the mended text of an answer
+abbrev pub mended_of : Mending → Option MendedText
+mended_of answer.Valid = None
+mended_of (answer.Mended text kind) = Some (record { text = string_bytes text; kind = kind })
+mended_of (answer.Refused refusal) = None
+
+-- what is answered of the text by the profile, alone or against the base
+abbrev pub IsAnswered : Profile → Option Url → List ℕ → Option MendedText → Type 0
+IsAnswered profile base text mended =
+    (answer : Mending) × IsMending profile base text answer × (mended ≡ mended_of answer)
+
+-- a rule of valid URL strings is violated
+abbrev pub is_refused : List LineViolation → Bool
+is_refused (Refused refusal ∷ rest) = true
+is_refused _ = false
+
+-- that, where it is asked for, else nothing
+abbrev pub IsMendedWhere : Bool → Profile → Option Url → List ℕ → Option MendedText → Type 0
+IsMendedWhere true profile base text mended = IsAnswered profile base text mended
+IsMendedWhere false profile base text mended = mended ≡ None
+
+-- what to write in place of a text of which this was found: it is asked for of a refused text, where the format says it
+abbrev pub IsMended : Format → Profile → Option Url → List LineViolation → List ℕ → Option MendedText → Type 0
+IsMended format profile base violations text mended =
+    IsMendedWhere (is_refused violations && shows_mended format) profile base text mended
+
+-- ---- the line
+
+-- what is found with a line
+pub record AreFindings (setting : FileSetting) (line : Option (List ℕ)) (findings : Findings) : Type 0 where
+  pub violations : AreViolations setting line findings.violations
+  pub mended : IsMended setting.format setting.profile setting.base findings.violations (text_of setting line)
+      findings.mended
+
+-- what is found with each of the lines
+abbrev pub AreAllFindings : FileSetting → List (Option (List ℕ)) → List Findings → Type 0
+AreAllFindings setting [] [] = Unit {0}
+AreAllFindings setting (line ∷ lines) (findings ∷ rest) =
+    AreFindings setting line findings × AreAllFindings setting lines rest
+AreAllFindings setting _ _ = ⊥
