@@ -1,0 +1,4 @@
+mod FilteredLemmas
+mod LineLemmas
+mod StandsLemmas
+mod FaultLemmas

@@ -1,0 +1,81 @@
+//! What has become of the lines of a list.
+ghost use Rattle.std.specs.Prelude.{◌≡◌};
+ghost use Rattle.uv_filter.specs.Counts.{counted, more, none_counted, with_kind};
+
+use crate::fate::Fate;
+use uv_mend::MendKind;
+
+/// What has become of the lines that aren't empty. Each number is 2^64 - 1 at most.
+#[derive(Clone, Copy, Debug, PartialEq, Eq)]
+pub struct FilterCounts {
+    /// Lines that aren't empty.
+    pub lines: u64,
+    /// Those that are valid.
+    pub valid: u64,
+    /// Those in whose place a text of kind `same` was written.
+    pub same: u64,
+    /// Those in whose place one of kind `escaped` was.
+    pub escaped: u64,
+    /// Those in whose place one of kind `changed` was.
+    pub changed: u64,
+    /// Those that are refused and stay as they were.
+    pub refused: u64,
+    /// Those that aren't UTF-8.
+    pub not_utf8: u64,
+    /// Those that are too long.
+    pub too_long: u64,
+}
+
+impl FilterCounts {
+    /// No line was counted.
+    pub(crate) fn none() -> FilterCounts
+        ensures { result ≡ none_counted }
+    {
+        FilterCounts {
+            lines: 0,
+            valid: 0,
+            same: 0,
+            escaped: 0,
+            changed: 0,
+            refused: 0,
+            not_utf8: 0,
+            too_long: 0,
+        }
+    }
+
+    /// Counts a further line of which this has become.
+    pub(crate) fn count(&mut self, fate: &Fate)
+        ensures { self.new ≡ counted self.old fate.now }
+    {
+        if matches!(fate, Fate::Empty) {
+            return;
+        }
+        self.lines = with_one(self.lines);
+        match fate {
+            Fate::Empty => (),
+            Fate::Valid => self.valid = with_one(self.valid),
+            Fate::Mended { kind, .. } => self.count_mended(*kind),
+            Fate::Refused => self.refused = with_one(self.refused),
+            Fate::NotUtf8 => self.not_utf8 = with_one(self.not_utf8),
+            Fate::TooLong => self.too_long = with_one(self.too_long),
+        }
+    }
+
+    // Counts a further mended text of this kind.
+    fn count_mended(&mut self, kind: MendKind)
+        ensures { self.new ≡ with_kind self.old kind }
+    {
+        match kind {
+            MendKind::Same => self.same = with_one(self.same),
+            MendKind::Escaped => self.escaped = with_one(self.escaped),
+            MendKind::Changed => self.changed = with_one(self.changed),
+        }
+    }
+}
+
+// One more, as far as the number goes.
+fn with_one(count: u64) -> u64
+    ensures { result ≡ more count }
+{
+    count.saturating_add(1)
+}

@@ -1,0 +1,21 @@
+//! A filter of lists of links: each line mended where there is a text to write in its place, and else as it was.
+#![tactic(auto)]
+
+mod closing;
+mod counts;
+mod fate;
+mod fault;
+mod line_filter;
+mod progress;
+mod run;
+mod setting;
+mod taking;
+mod written;
+
+pub use counts::FilterCounts;
+pub use fault::FilterFault;
+pub use run::run_filter;
+pub use setting::FilterSetting;
+
+#[cfg(test)]
+mod tests;

@@ -1,0 +1,155 @@
+//! What becomes of the lines of a list, one after the other.
+ghost use Rattle.std.specs.Prelude.{◌≡◌, ◌≢◌, ◌++◌, [], IfOk, OnErr, OnOk, option_copied};
+ghost use Rattle.uv_filter.specs.declared.fate.Fate.TheVariants as became;
+ghost use Rattle.uv_filter.specs.Fates.{IsFate, IsTextFate, mender_of};
+ghost use Rattle.uv_filter.specs.Fates as spec;
+ghost use Rattle.uv_filter.specs.Filtered.{starting, with_fate};
+ghost use Rattle.uv_filter.specs.Lines.{line_view};
+ghost use Rattle.uv_filter.specs.Progress.{Adds};
+
+use crate::counts::FilterCounts;
+use crate::fate::Fate;
+use crate::setting::FilterSetting;
+use crate::written::{ListLine, judged, push_written};
+use std::alloc::{AllocError, Global};
+use std::marker::Model;
+use std::str::from_utf8;
+use uv_lines::line_text;
+use uv_mend::{MendKind, Mending, mend};
+
+// How many bytes a line may have, its end not counted.
+const LINE_BYTES: usize = 65_536;
+
+/// What filters the lines of a list: by what they are mended, whether the next line is the first, and the counts of
+/// those before.
+#[derive(Drop)]
+pub(crate) struct LineFilter<'b> {
+    setting: FilterSetting<'b>,
+    is_first: bool,
+    counts: FilterCounts,
+}
+
+impl<'b> Model for LineFilter<'b> {
+    ghost use Rattle.uv_filter.specs.Fates.{mender_of};
+    ghost use Rattle.uv_filter.specs.Filtered.{Filtering};
+
+    ghost Value = { Filtering };
+
+    ghost view = { λ f. record {
+      mender = mender_of f.setting;
+      is_first = f.is_first;
+      counts = f.counts;
+    } };
+}
+
+impl<'b> LineFilter<'b> {
+    /// What filters a list before its first line.
+    pub(crate) fn new(setting: FilterSetting<'b>) -> LineFilter<'b>
+        ensures { result ≡ starting (mender_of setting.entry) }
+    {
+        LineFilter {
+            setting,
+            is_first: true,
+            counts: FilterCounts::none(),
+        }
+    }
+
+    /// The counts of the lines before.
+    pub(crate) fn counts(&self) -> FilterCounts
+        ensures { result ≡ self.now.counts }
+    {
+        self.counts
+    }
+
+    /// Counts a line that is too long, and isn't kept.
+    pub(crate) fn count_long(&mut self)
+        ensures { self.new ≡ with_fate self.old became.TooLong }
+    {
+        self.count(&Fate::TooLong);
+    }
+
+    /// Appends what is written of the next line, and counts it. The error is out of memory: then nothing has changed.
+    pub(crate) fn filter(
+        &mut self,
+        alloc: Global,
+        line: ListLine<'_>,
+        out: &mut Vec<u8>,
+    ) -> Result<(), AllocError>
+        ensures added { OnOk result (Adds self.old (line_view line.entry) out.old.items self.new out.new.items) }
+        ensures none { OnErr result ((self.new ≡ self.old) × (out.new.items ≡ out.old.items)) }
+    {
+        let fate = self.fate(alloc, line)?;
+        let start = out.len();
+        match push_written(out, line, self.is_first, &fate) {
+            Ok(()) => {
+                self.count(&fate);
+                Ok(())
+            }
+            Err(AllocError) => {
+                out.truncate(start);
+                Err(AllocError)
+            }
+        }
+    }
+
+    // Counts a line of which this has become.
+    fn count(&mut self, fate: &Fate)
+        ensures { self.new ≡ with_fate self.old fate.now }
+    {
+        self.is_first = false;
+        self.counts.count(fate);
+    }
+
+    // What becomes of the next line.
+    fn fate(&self, alloc: Global, line: ListLine<'_>) -> Result<Fate, AllocError>
+        ensures { IfOk result (IsFate self.now.mender self.now.is_first (line_view line.entry)) }
+    {
+        let text = line_text(line.bytes, line.is_closed);
+        if text.len() > LINE_BYTES {
+            return Ok(Fate::TooLong);
+        }
+        self.fate_of_text(alloc, judged(text, self.is_first))
+    }
+
+    // What becomes of a text that isn't too long.
+    fn fate_of_text(&self, alloc: Global, text: &[u8]) -> Result<Fate, AllocError>
+        ensures { IfOk result (λ fate. (fate ≢ became.TooLong) × IsTextFate self.now.mender text.now fate) }
+    {
+        if text.is_empty() {
+            return Ok(Fate::Empty);
+        }
+        match from_utf8(text) {
+            Ok(text) => self.mended(alloc, text),
+            Err(_) => Ok(Fate::NotUtf8),
+        }
+    }
+
+    // What becomes of a text that is judged.
+    fn mended(&self, alloc: Global, text: &str) -> Result<Fate, AllocError>
+        requires { text.now ≢ [] }
+        ensures { IfOk result (λ fate. (fate ≢ became.TooLong) × IsTextFate self.now.mender text.now fate) }
+    {
+        let setting = self.setting;
+        match mend(alloc, text, setting.base, setting.profile)? {
+            Mending::Valid => Ok(Fate::Valid),
+            Mending::Mended { text, kind } => {
+                if takes(setting.only, kind) {
+                    Ok(Fate::Mended { text, kind })
+                } else {
+                    Ok(Fate::Refused)
+                }
+            }
+            Mending::Refused(_) => Ok(Fate::Refused),
+        }
+    }
+}
+
+// Whether mended texts of this kind are written.
+fn takes(only: Option<MendKind>, kind: MendKind) -> bool
+    ensures { result ≡ spec.takes only kind }
+{
+    match only {
+        Some(only) => only == kind,
+        None => true,
+    }
+}

@@ -1,0 +1,108 @@
+//! A run of the filter over a list.
+ghost use Rattle.std.specs.Prelude.{◌≡◌, ℕ, ◌+◌, ◌-◌, ◌^◌, ◌<◌, List, [], IfErr, IfOk, OnErr, OnOk, false, length};
+ghost use Rattle.std.specs.Prelude.{vec_len};
+ghost use Rattle.std.specs.Io.KnownBytes.{Consumes, IsAtEnd};
+ghost use Rattle.uv_filter.specs.Fates.{mender_of};
+ghost use Rattle.uv_filter.specs.Filtered.{Filtering, starting};
+ghost use Rattle.uv_filter.specs.Lines.{all_lines};
+ghost use Rattle.uv_filter.specs.Run.{Leaves, Wrote, reads_failed, writes_failed};
+
+use crate::counts::FilterCounts;
+use crate::fault::FilterFault;
+use crate::progress::Progress;
+use crate::setting::FilterSetting;
+use std::alloc::{AllocError, Global};
+use uv_model::{DeviceFault, Sink, Source};
+
+// How many bytes of the list are read at a time.
+const PIECE_BYTES: usize = 65_536;
+
+/// Writes each line of a list: with a mended text in place of a refused one, where there is one of a kind that is
+/// wanted, and else as it was, byte for byte.
+///
+/// A line ends with LF, and one CR before that is part of its end; a last part without LF is a line where it isn't
+/// empty. Each end is kept. A byte order mark at the list's start is no part of the first text, and is kept too. An
+/// empty line isn't judged, nor is one that isn't UTF-8 or has more than 65,536 bytes without its end. What is written
+/// of the lines that a read has ended is written before the next read, and so is all that was read of a line that is
+/// too long: memory doesn't grow with the list. The writer isn't flushed. The counts are those of the lines that were
+/// written, also behind a fault. After a fault nothing is tried again, and how far the reader was read is open.
+pub fn run_filter<R: Source, W: Sink>(
+    alloc: Global,
+    reader: &mut R,
+    writer: &mut W,
+    setting: FilterSetting<'_>,
+) -> (FilterCounts, Result<(), FilterFault>)
+    requires reads { R.failed reader.old < 2 ^ 64 - 1 }
+    requires writes { W.failed writer.old < 2 ^ 64 - 1 }
+    ensures filtered { OnOk result.1 ((read : List ℕ) × (now : Filtering)
+        × Consumes (R.remaining reader.old) (R.remaining reader.new) read × IsAtEnd (R.remaining reader.new)
+        × Wrote (starting (mender_of setting.entry)) (all_lines read) (W.contents writer.old) (W.contents writer.new)
+        now × (result.0 ≡ now.counts)) }
+    ensures fault { IfErr result.1 (λ e. (read : List ℕ) × (now : Filtering)
+        × Consumes (R.remaining reader.old) (R.remaining reader.new) read
+        × Leaves e (starting (mender_of setting.entry)) (W.contents writer.old) read (IsAtEnd (R.remaining reader.new))
+        now (W.contents writer.new) × (result.0 ≡ now.counts)) }
+    ensures failed { IfErr result.1 (λ e. (R.failed reader.new ≡ R.failed reader.old + reads_failed e)
+        × (W.failed writer.new ≡ W.failed writer.old + writes_failed e)) }
+    ensures quiet { OnOk result.1 ((R.failed reader.new ≡ R.failed reader.old)
+        × (W.failed writer.new ≡ W.failed writer.old)) }
+{
+    let mut progress = Progress::new(alloc, setting);
+    let answer = match empty_piece(alloc) {
+        Ok(piece) => {
+            let mut piece = piece;
+            run_pieces(alloc, reader, writer, &mut progress, piece.as_mut_slice())
+        }
+        Err(AllocError) => Err(FilterFault::Memory),
+    };
+    (progress.counts(), answer)
+}
+
+// Room for a piece.
+fn empty_piece(alloc: Global) -> Result<Vec<u8>, AllocError>
+    ensures { IfOk result (λ piece. 0 < vec_len piece) }
+{
+    vec![in alloc; 0; PIECE_BYTES]
+}
+
+// Reads the list piece by piece, and writes its lines.
+#[tactic(none)]
+fn run_pieces<R: Source, W: Sink>(
+    alloc: Global,
+    reader: &mut R,
+    writer: &mut W,
+    progress: &mut Progress<'_>,
+    piece: &mut [u8],
+) -> Result<(), FilterFault>
+    requires reads { R.failed reader.old < 2 ^ 64 - 1 }
+    requires writes { W.failed writer.old < 2 ^ 64 - 1 }
+    requires room { 0 < length piece.old }
+    requires none { (progress.old.begun.items ≡ []) × (progress.old.is_long ≡ false)
+        × (progress.old.text.items ≡ []) }
+    ensures filtered { OnOk result ((read : List ℕ)
+        × Consumes (R.remaining reader.old) (R.remaining reader.new) read × IsAtEnd (R.remaining reader.new)
+        × Wrote progress.old.filter (all_lines read) (W.contents writer.old) (W.contents writer.new)
+        progress.new.filter) }
+    ensures fault { IfErr result (λ e. (read : List ℕ)
+        × Consumes (R.remaining reader.old) (R.remaining reader.new) read
+        × Leaves e progress.old.filter (W.contents writer.old) read (IsAtEnd (R.remaining reader.new))
+        progress.new.filter (W.contents writer.new)
+        × (R.failed reader.new ≡ R.failed reader.old + reads_failed e)
+        × (W.failed writer.new ≡ W.failed writer.old + writes_failed e)) }
+    ensures quiet { OnOk result ((R.failed reader.new ≡ R.failed reader.old)
+        × (W.failed writer.new ≡ W.failed writer.old)) }
+{
+    for _turn in 0..u64::MAX {
+        let count = match reader.read(piece) {
+            Err(DeviceFault) => return Err(FilterFault::Read),
+            Ok(count) => count,
+        };
+        if count == 0 {
+            return progress.finish(alloc, writer);
+        }
+        if let Err(fault) = progress.pass(alloc, writer, &piece[..count]) {
+            return Err(fault);
+        }
+    }
+    Err(FilterFault::Endless)
+}

@@ -1,0 +1,103 @@
+//! What is written of a line.
+ghost use Rattle.std.specs.Prelude.{◌≡◌, ◌≤◌, ◌++◌, OnErr, OnOk, length};
+ghost use Rattle.std.specs.Io.{StartsWith};
+ghost use Rattle.uv_filter.specs.Fates.{written_of};
+ghost use Rattle.uv_filter.specs.Lines as spec;
+ghost use Rattle.uv_filter.specs.Lines.{feed_of, replaced, whole};
+
+use crate::fate::Fate;
+use std::alloc::AllocError;
+use uv_lines::{line_text, without_mark};
+
+/// A line: what stands before its LF, or behind the last one, and whether an LF ends it.
+#[derive(Clone, Copy)]
+pub(crate) struct ListLine<'l> {
+    pub(crate) bytes: &'l [u8],
+    pub(crate) is_closed: bool,
+}
+
+/// What of a line's text is judged: in the first line a byte order mark isn't.
+pub(crate) fn judged(text: &[u8], is_first: bool) -> &[u8]
+    ensures value { result.now ≡ spec.judged_of is_first text.now }
+    ensures within { length result.now ≤ length text.now }
+{
+    if is_first { without_mark(text) } else { text }
+}
+
+/// Appends what is written of a line of which this has become. The error is out of memory: `out` then still begins with
+/// what it held.
+pub(crate) fn push_written(
+    out: &mut Vec<u8>,
+    line: ListLine<'_>,
+    is_first: bool,
+    fate: &Fate,
+) -> Result<(), AllocError>
+    ensures ok { OnOk result (out.new.items
+        ≡ out.old.items ++ written_of is_first (spec.line_view line.entry) fate.now) }
+    ensures err { OnErr result (StartsWith out.new.items out.old.items) }
+{
+    match fate {
+        Fate::Mended { text, .. } => push_replaced(out, line, is_first, text.as_str()),
+        _ => push_whole(out, line),
+    }
+}
+
+// The whole line.
+fn push_whole(out: &mut Vec<u8>, line: ListLine<'_>) -> Result<(), AllocError>
+    ensures ok { OnOk result (out.new.items ≡ out.old.items ++ whole (spec.line_view line.entry)) }
+    ensures err { OnErr result (StartsWith out.new.items out.old.items) }
+{
+    push(out, line.bytes)?;
+    push_feed(out, line.is_closed)
+}
+
+// The line with another text in place of what is judged.
+fn push_replaced(
+    out: &mut Vec<u8>,
+    line: ListLine<'_>,
+    is_first: bool,
+    other: &str,
+) -> Result<(), AllocError>
+    ensures ok { OnOk result (out.new.items
+        ≡ out.old.items ++ replaced is_first (spec.line_view line.entry) other.now) }
+    ensures err { OnErr result (StartsWith out.new.items out.old.items) }
+{
+    let text = line_text(line.bytes, line.is_closed);
+    let judged = judged(text, is_first);
+    let mark = &line.bytes[..text.len() - judged.len()];
+    push_between(out, mark, other.as_bytes(), &line.bytes[text.len()..])?;
+    push_feed(out, line.is_closed)
+}
+
+// A text between two others.
+fn push_between(
+    out: &mut Vec<u8>,
+    before: &[u8],
+    text: &[u8],
+    behind: &[u8],
+) -> Result<(), AllocError>
+    ensures ok { OnOk result (out.new.items ≡ out.old.items ++ (before.now ++ (text.now ++ behind.now))) }
+    ensures err { OnErr result (StartsWith out.new.items out.old.items) }
+{
+    push(out, before)?;
+    push(out, text)?;
+    push(out, behind)
+}
+
+// The LF, where one ends the line.
+fn push_feed(out: &mut Vec<u8>, is_closed: bool) -> Result<(), AllocError>
+    ensures ok { OnOk result (out.new.items ≡ out.old.items ++ feed_of is_closed) }
+    ensures err { OnErr result (StartsWith out.new.items out.old.items) }
+{
+    if is_closed {
+        return push(out, b"\n");
+    }
+    Ok(())
+}
+
+fn push(out: &mut Vec<u8>, bytes: &[u8]) -> Result<(), AllocError>
+    ensures ok { OnOk result (out.new.items ≡ out.old.items ++ bytes.now) }
+    ensures err { OnErr result (out.new.items ≡ out.old.items) }
+{
+    out.extend_from_slice(bytes)
+}
