@@ -19,6 +19,8 @@ TABLE = "pyproject.toml"
 
 def _text(path):
     """What a file says, without its last line feed."""
+    if not os.path.exists(path):
+        raise FileNotFoundError(path + " is missing: run ./build-library DIR, and install DIR/python")
     with open(path, encoding="utf-8") as file:
         return file.read().rstrip("\n")
 
@@ -79,7 +81,7 @@ def _files(tag):
             with open(path, "rb") as file:
                 files[NAME + "/" + name] = file.read()
     if NAME + "/" + LIBRARY not in files:
-        raise FileNotFoundError(LIBRARY + ": run ./build-library DIR, and install DIR/python")
+        raise FileNotFoundError(LIBRARY + " is missing: run ./build-library DIR, and install DIR/python")
     files[_folder() + "/METADATA"] = _metadata().encode()
     for name in _licences():
         files[_folder() + "/licenses/" + name] = (_text(name) + "\n").encode()

@@ -140,7 +140,7 @@ class Base:
         return Base, (self.text, self.profile)
 
     def __repr__(self) -> str:
-        return "Base({!r}, {})".format(self.text, self.profile)
+        return "Base({!r}, Profile.{})".format(self.text, self.profile.name)
 
 
 AnyBase = Union[str, Base, None]

@@ -1,9 +1,9 @@
 """The links of an HTML document: each attribute that the HTML Standard gives a URL, by Python's own ``html.parser``."""
 
 import re
-from html import unescape
+from html.entities import html5
 from html.parser import HTMLParser
-from typing import Dict, Iterator, List, Optional, Set, Tuple
+from typing import Dict, Iterator, List, Match, Optional, Set, Tuple
 
 from ._source import IGNORE, SPACES, Broken, Link, Source, stripped, words_of
 
@@ -34,6 +34,9 @@ _ATTRIBUTE = re.compile(
     r"[ \t\n\f\r/]*(?P<name>[^ \t\n\f\r/>][^ \t\n\f\r/>=]*)"
     r"(?:[ \t\n\f\r]*=[ \t\n\f\r]*"
     r"(?:\"(?P<double>[^\"]*)\"|'(?P<single>[^']*)'|(?P<bare>[^ \t\n\f\r>]*)))?"
+)
+_REFERENCE = re.compile(
+    r"&(?:#(?P<digits>[0-9]+);?|#[xX](?P<hex>[0-9A-Fa-f]+);?|(?P<name>[A-Za-z][A-Za-z0-9]*)(?P<end>[;=]?))"
 )
 _TAG_NAME = re.compile(r"<[A-Za-z][^ \t\n\f\r/>]*")
 _REFRESH = re.compile(r"\s*[0-9.]*\s*[;,]?\s*(?:url\s*=\s*)?(?P<quote>[\"']?)", re.IGNORECASE)
@@ -180,8 +183,35 @@ def _values(raw: str, offset: int) -> Iterator[Tuple[str, str, int, bool]]:
         kind = found.lastgroup or "name"
         if kind == "name":
             continue
-        value = unescape(found[kind])
+        value = unescaped(found[kind])
         yield found["name"].lower(), value, offset + found.start(kind), value == found[kind]
+
+
+def unescaped(value: str) -> str:
+    """An attribute's value with its character references read, as the HTML Standard reads them in attributes: a name
+    that no ``;`` ends stays where ``=``, a letter or a digit follows, as in ``?a=1&lt=2``."""
+    return _REFERENCE.sub(_referred, value) if "&" in value else value
+
+
+def _referred(found: Match[str]) -> str:
+    """What a character reference stands for, or the reference where it is none."""
+    if found["name"] is None:
+        digits, base = (found["digits"], 10) if found["digits"] else (found["hex"], 16)
+        digits = digits.lstrip("0")
+        # (a number of more than seven digits is above all code points)
+        return _numbered(int(digits or "0", base) if len(digits) <= 7 else 0)
+    if found["end"] == "=":
+        return found[0]
+    return html5.get(found["name"] + found["end"], found[0])
+
+
+def _numbered(number: int) -> str:
+    """The code point of a number: those of C1 are read as windows-1252, and what is no code point as U+FFFD."""
+    if 0x80 <= number < 0xA0:
+        return bytes([number]).decode("cp1252", "ignore") or chr(number)
+    if number == 0 or number > 0x10FFFF or 0xD800 <= number < 0xE000:
+        return "\ufffd"
+    return chr(number)
 
 
 def candidates(value: str) -> Iterator[Tuple[str, int]]:

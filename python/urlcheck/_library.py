@@ -69,16 +69,31 @@ NAME = "liburlcheck.so.0"
 
 
 def _path() -> str:
-    """The library: that of ``URLCHECK_LIBRARY``, else the one beside this file, else where the system looks."""
+    """The library: that of ``URLCHECK_LIBRARY``, else the one beside this file, else the one in ``PREFIX/lib`` where
+    the package is in ``PREFIX/lib/PYTHON/site-packages`` or ``dist-packages``, else where the system looks."""
     given = os.environ.get("URLCHECK_LIBRARY")
     if given:
         return given
-    beside = os.path.join(os.path.dirname(os.path.abspath(__file__)), NAME)
-    return beside if os.path.exists(beside) else NAME
+    folder = os.path.dirname(os.path.abspath(__file__))
+    places = [folder]
+    if os.path.dirname(folder).endswith("-packages"):
+        places.append(os.path.abspath(os.path.join(folder, "..", "..", "..")))
+    files = [os.path.join(place, NAME) for place in places]
+    return next(filter(os.path.exists, files), NAME)
+
+
+def _opened() -> ctypes.CDLL:
+    """The library. Raises ``ImportError`` where it isn't found."""
+    try:
+        return ctypes.CDLL(_path())
+    except OSError as error:
+        raise ImportError(
+            "the library for C isn't found: {}; the environment's URLCHECK_LIBRARY may name its file".format(error)
+        ) from None
 
 
 def _load() -> ctypes.CDLL:
-    library = ctypes.CDLL(_path())
+    library = _opened()
     text = [ctypes.c_char_p, SIZE]
     faults = [NUMBER, ctypes.POINTER(Fault), SIZE]
     out = [ctypes.c_char_p, SIZE]

@@ -55,6 +55,9 @@ class _Reader:
 
     def _destination(self, text: str, at: int, end: int) -> Any:
         result = self._parse(text, at, end)
+        if not result.ok and text.startswith(")", at, end):
+            # `[a]()` has an empty destination.
+            result.ok, result.pos, result.str = True, at, ""
         self._last = (text, at, result)
         return result
 

@@ -1,7 +1,6 @@
 """The links of an XML document, by Python's own ``xml.parsers.expat``: sitemaps, RSS, Atom, XHTML, SVG and XLink."""
 
 import re
-from html import unescape
 from typing import Dict, List, Optional, Set, Tuple
 from xml.parsers import expat
 

@@ -15,6 +15,7 @@ from typing import Callable, Dict, Iterator, List, NamedTuple, Optional, Set, Tu
 
 from . import BaseRefused, Profile, check, resolve, sentence, version
 from . import _html_links, _markdown_links, _xml_links
+from ._message import message
 from ._source import Broken, Link, Source
 
 MOST_BYTES = 32 * 1024 * 1024
@@ -43,6 +44,9 @@ KINDS = {
     "markdown": "markdown",
 }
 """The kind of a document by its name's end."""
+
+MARKDOWN = "the package markdown-it-py: pip install markdown-it-py, or Debian's python3-markdown-it"
+"""What reads Markdown, and how to have it."""
 
 Report = Callable[[str], None]
 
@@ -99,14 +103,24 @@ def links_in(data: bytes, kind: str) -> Found:
         source = Source(data.decode("utf-8"))
     except UnicodeDecodeError as error:
         raise Unread("isn't UTF-8 at byte {}".format(error.start)) from None
+    try:
+        return _found(source, data, kind)
+    except ImportError:
+        raise Unread("is Markdown, which needs " + MARKDOWN) from None
+    except (Unread, MemoryError, RecursionError):
+        raise
+    except Exception as error:
+        # (a reader that isn't ours: the other documents are still to be read)
+        raise Unread("its reader failed: {!r}".format(error)) from None
+
+
+def _found(source: Source, data: bytes, kind: str) -> Found:
+    """What is found in a document of that kind. Raises ``ImportError`` where its reader isn't installed."""
     if kind == "xml":
         return Found(source, *_xml_links.links_of(source, data))
     if kind == "html":
         return Found(source, *_html_links.links_of(source))
-    try:
-        return Found(source, *_markdown_links.links_of(source), None)
-    except ImportError:
-        raise Unread("is Markdown, which needs the package markdown-it-py") from None
+    return Found(source, *_markdown_links.links_of(source), None)
 
 
 def located(name: str, source: Source, link: Link) -> str:
@@ -139,7 +153,8 @@ class Judge:
         if answer:
             return None
         offset = link.offset + answer.place if link.is_verbatim else link.offset
-        return "{}:{}:{}: error: {} [{}]".format(name, *source.position(offset), sentence(answer.rule), answer.rule)
+        said = message(link.text, answer)
+        return "{}:{}:{}: error: {} [{}]".format(name, *source.position(offset), said, answer.rule)
 
 
 def read_document(name: str) -> bytes:
@@ -154,14 +169,29 @@ def read_document(name: str) -> bytes:
 
 
 def documents_of(names: List[str]) -> Iterator[str]:
-    """The documents of these names, and those within a folder whose names' ends say a kind, in order."""
+    """The documents of these names, and those within a folder whose names' ends say a kind, in order; then a folder of
+    them that can't be read, and one that has no document in it."""
     for name in names:
         if name == "-" or not os.path.isdir(name):
             yield name
             continue
-        for folder, folders, files in os.walk(name):
+        count = 0
+        closed: List[str] = []
+        for folder, folders, files in os.walk(name, onerror=lambda error: closed.append(error.filename)):
             folders.sort()
-            yield from (os.path.join(folder, file) for file in sorted(files) if kind_of(file))
+            for file in sorted(filter(kind_of, files)):
+                count += 1
+                yield os.path.join(folder, file)
+        yield from closed or [name] * (count == 0)
+
+
+def _no_document(folder: str) -> str:
+    """Why a folder gives no document."""
+    try:
+        os.listdir(folder)
+    except OSError as error:
+        return "can't be read: {}".format(error.strerror)
+    return "has no document: no name in this folder ends in ." + ", .".join(KINDS)
 
 
 class Run:
@@ -189,8 +219,12 @@ class Run:
             self._tell("{}: {}".format(shown, _REASONS.get(type(reason)) or reason))
 
     def _read(self, name: str, shown: str) -> Found:
+        if os.path.isdir(name):
+            raise Unread(_no_document(name))
         kind = self._settings.kind or kind_of(name)
         if kind is None:
+            if name != "-" and not os.path.exists(name):
+                read_document(name)
             raise Unread("its name's end says no kind: give --type html, xml or markdown")
         if self._judge is None and shown != name:
             raise Unread("its name has a control, which no located line can hold")
@@ -238,8 +272,8 @@ def _patterns(name: Optional[str]) -> Tuple["re.Pattern[str]", ...]:
 
 
 def _tell(line: str) -> None:
-    """Writes a line to standard error."""
-    print("urlcheck-documents: " + line, file=sys.stderr)
+    """Writes a line to standard error, in one piece: others may write there at the same time."""
+    sys.stderr.write("urlcheck-documents: " + line + "\n")
 
 
 def _stop(line: str) -> int:
@@ -288,7 +322,8 @@ def run(words: Optional[List[str]] = None) -> int:
         try:
             check("", given.base, profile)
         except BaseRefused as refused:
-            return _stop("base refused {} {}".format(refused.place, refused.rule))
+            wrong = refused.place, sentence(refused.rule), refused.rule
+            return _stop("the base is refused at place {}: {} [{}]".format(*wrong))
     seen = Run(settings, Judge(settings) if given.check else None, _write, _tell)
     signal.signal(signal.SIGALRM, _too_long)
     for name in documents_of(given.files):
