@@ -1,43 +1,80 @@
-// A check from JavaScript beside the engine's own URL.canParse, in one run: the least of so many rounds, each of them
-// some passes over the links of standard input, one a line. It fails where a check takes more than so many times as
-// long, or where a valid link doesn't parse. See bench/browser.sh. Usage: node bench/browser.mjs FOLDER ROUNDS MOST <LINKS,
-// FOLDER being one that ./build-page has made.
+// What calls from JavaScript cost beside the engine's own URL.canParse, in one run: the least of so many rounds, each
+// of them some passes over the links of standard input, one a line, and over what stands behind their authorities,
+// which is judged against a base. It fails where a call takes more than so many times what another one takes, or where
+// a valid text doesn't parse. See bench/browser.sh. Usage: node bench/browser.mjs FOLDER ROUNDS <LINKS, FOLDER being
+// one that ./build-page has made.
 import { readFileSync } from 'node:fs'
 import { resolve } from 'node:path'
 import { pathToFileURL } from 'node:url'
 
-const [folder, rounds, most] = [process.argv[2], Number(process.argv[3]), Number(process.argv[4])]
+const [folder, rounds] = [process.argv[2], Number(process.argv[3])]
 const { load } = await import(pathToFileURL(resolve(folder, 'urlcheck.js')).href)
 const urlcheck = await load()
 const links = readFileSync(0, 'utf8').split('\n').filter(link => link !== '')
+const references = links.map(link => link.replace(/^[^:]*:\/\/[^/?#]*/, '')).filter(reference => reference !== '')
+const base = 'https://example.com/guide/index.html'
+const held = urlcheck.base(base)
 // A pass is short, so that other work of the machine comes between as seldom as can be.
 const PASSES = Math.max(1, Math.round(1_000 / links.length))
 const WARMING = 100
 
-/** The nanoseconds that a judge takes for a link, and how many links it takes. */
-function timed(judge) {
+/** The calls on links, and those on references; in each group all judges say the same of a text. */
+const groups = [
+  [links, {
+    'URL.canParse': text => URL.canParse(text),
+    check: text => urlcheck.check(text).valid,
+    isValid: text => urlcheck.isValid(text)
+  }],
+  [references, {
+    'URL.canParse with a base': text => URL.canParse(text, base),
+    'check with a base that is judged once': text => urlcheck.check(text, { base: held }).valid,
+    'check with its text': text => urlcheck.check(text, { base }).valid
+  }]
+]
+
+/** Which call takes at most so many times what another one takes. */
+const BOUNDS = [
+  ['check', 'URL.canParse', 4],
+  ['isValid', 'check', 0.95],
+  ['check with a base that is judged once', 'URL.canParse with a base', 3],
+  ['check with a base that is judged once', 'check with its text', 0.75]
+]
+
+/** The nanoseconds that a judge takes for a text. */
+function timed(texts, judge) {
   let taken = 0
   const start = process.hrtime.bigint()
-  for (let pass = 0; pass < PASSES; pass++) for (const link of links) if (judge(link)) taken++
-  return { cost: Number(process.hrtime.bigint() - start) / PASSES / links.length, taken: taken / PASSES }
+  for (let pass = 0; pass < PASSES; pass++) for (const text of texts) if (judge(text)) taken++
+  const cost = Number(process.hrtime.bigint() - start) / PASSES / texts.length
+  return taken === 0 ? NaN : cost
 }
 
-const judges = { check: link => urlcheck.check(link).valid, canParse: link => URL.canParse(link) }
-for (const judge of Object.values(judges)) for (let pass = 0; pass < WARMING; pass++) timed(judge)
-const least = { check: Infinity, canParse: Infinity }
-const taken = {}
-for (let round = 0; round < rounds; round++) {
-  for (const name of Object.keys(judges)) {
-    const run = timed(judges[name])
-    least[name] = Math.min(least[name], run.cost)
-    taken[name] = run.taken
+const least = {}
+for (let round = -WARMING; round < rounds; round++) {
+  for (const [texts, judges] of groups) {
+    for (const [name, judge] of Object.entries(judges)) {
+      const cost = timed(texts, judge)
+      if (round >= 0) least[name] = Math.min(least[name] ?? Infinity, cost)
+    }
   }
 }
-const differing = links.filter(link => judges.check(link) && !judges.canParse(link)).length
-const times = least.check / least.canParse
-console.log(`${links.length} links of ${links[0].length} units, least of ${rounds} rounds: ` +
-  `check ${least.check.toFixed(0)} ns, URL.canParse ${least.canParse.toFixed(0)} ns, ${times.toFixed(2)} times; ` +
-  `${taken.check} valid, ${taken.canParse} parse`)
-const isWrong = differing !== 0 || taken.check === 0 || least.canParse < 1 || !(times <= most)
-if (isWrong) console.log(`FAILED: at most ${most} times is wanted, and each valid link parses (${differing} don't)`)
-process.exit(isWrong ? 1 : 0)
+
+let failed = 0
+for (const [texts, judges] of groups) {
+  const [parses, ...ours] = Object.values(judges)
+  const units = texts.reduce((sum, text) => sum + text.length, 0) / texts.length
+  const isWrong = text => new Set(ours.map(judge => judge(text))).size > 1 || (ours[0](text) && !parses(text))
+  const wrong = texts.filter(isWrong)
+  console.log(`${texts.length} texts of ${units.toFixed(0)} units, least of ${rounds} rounds: ` +
+    Object.keys(judges).map(name => `${name} ${least[name].toFixed(0)} ns`).join(', '))
+  if (wrong.length !== 0) console.log(`FAILED: ${wrong.length} texts have two verdicts, or are valid and don't parse`)
+  failed += wrong.length
+}
+for (const [name, other, most] of BOUNDS) {
+  const times = least[name] / least[other]
+  console.log(`${name}: ${times.toFixed(2)} times ${other}`)
+  if (times <= most) continue
+  console.log(`FAILED: at most ${most} times is wanted`)
+  failed++
+}
+process.exit(failed === 0 ? 0 : 1)

@@ -1,6 +1,8 @@
 #!/usr/bin/env bash
-# A check from JavaScript beside the engine's own URL.canParse, for mixed links of 70 code points, under Node: at most 4
-# times, the least of 15 rounds in one run. It needs python3 and node, and builds the module unless a folder is given.
+# What calls from JavaScript cost beside the engine's own URL.canParse, under Node, the least of 15 rounds in one run. A
+# check of a mixed link of 70 code points takes at most 4 times as long, and isValid 0.95 times that. Against a base that
+# is judged once a check of what stands behind the authority takes at most 3 times as long as canParse with the base's
+# text, and 0.75 times a check with it. It needs python3 and node, and builds the module unless a folder is given.
 # Usage: bench/browser.sh [FOLDER [ROUNDS]]
 set -euo pipefail
 top=$(dirname "$(dirname "$(realpath "$0")")")
@@ -13,4 +15,4 @@ folder=${1:-}
 [ -n "$folder" ] || { folder=$room/page && "$top/build-page" "$folder" >&2; }
 python3 "$top/bench/links.py" 40000 1 2>/dev/null | awk 'length($0) == 70' >"$room/links"
 [ -s "$room/links" ] || { echo 'browser: no links'; exit 2; }
-node "$top/bench/browser.mjs" "$folder" "${2:-15}" 4 <"$room/links"
+node "$top/bench/browser.mjs" "$folder" "${2:-15}" <"$room/links"

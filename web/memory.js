@@ -1,5 +1,5 @@
 // The memory of the module: texts go in as UTF-8, and answers come out as words of 32 bits.
-import { ANSWER_WORDS } from './layout.js'
+import { ANSWER_WORDS, HELD_WORDS } from './layout.js'
 
 /**
  * What the module exports.
@@ -8,14 +8,22 @@ import { ANSWER_WORDS } from './layout.js'
  * @property {(textBytes: number, baseBytes: number) => number} make_rooms
  * @property {() => number} text_at
  * @property {() => number} base_at
+ * @property {() => number} held_at
  * @property {() => number} answer_at
  * @property {() => number} out_at
  * @property {(length: number, profile: number) => void} check
  * @property {(length: number, baseLength: number, profile: number) => void} check_against
+ * @property {(baseLength: number, profile: number) => void} prepare
+ * @property {(length: number) => void} check_with
+ * @property {(length: number, profile: number) => number} is_valid
+ * @property {(length: number) => number} is_valid_with
  * @property {(length: number, profile: number) => void} resolve
  * @property {(length: number, baseLength: number, profile: number) => void} resolve_against
+ * @property {(length: number, profile: number) => void} mend
+ * @property {(length: number, baseLength: number, profile: number) => void} mend_against
  * @property {(length: number, profile: number) => void} faults
  * @property {(length: number, baseLength: number, profile: number) => void} faults_against
+ * @property {(length: number) => void} faults_with
  * @property {(rule: number) => number} rule_name
  * @property {(rule: number) => number} rule_sentence
  * @property {() => number} version
@@ -28,7 +36,8 @@ const SMALL_ROOM = 3 * SHORT
 const LARGE_ROOM = 1 << 20
 
 const encoder = new TextEncoder()
-const decoder = new TextDecoder()
+// A mended text may begin with U+FEFF, which is no mark of an order of bytes then.
+const decoder = new TextDecoder('utf-8', { ignoreBOM: true })
 
 /**
  * The length of a text's UTF-8.
@@ -68,10 +77,18 @@ export class Room {
     // An export is looked up once, since each look takes as long as a short call.
     this.check = exports.check
     this.checkAgainst = exports.check_against
+    this.checkWith = exports.check_with
+    this.isValid = exports.is_valid
+    this.isValidWith = exports.is_valid_with
     this.answerAt = exports.answer_at()
+    this.heldAt = exports.held_at()
     this.textRoom = this.baseRoom = 0
     /** The answer, in words of 32 bits. */
     this.answer = new Uint32Array(0)
+    /** Where the module reads a base that is held, and whose words stand there. */
+    this.held = new Uint32Array(0)
+    /** @type {Uint32Array | undefined} */
+    this.heldWords = undefined
     /** The rooms of the text and of the base, and the length of the UTF-8 that stands there. */
     this.text = this.base = new Uint8Array(0)
     this.textLength = this.baseLength = 0
@@ -85,6 +102,7 @@ export class Room {
     const { memory, text_at, base_at } = this.exports
     const buffer = memory.buffer
     this.answer = new Uint32Array(buffer, this.answerAt, ANSWER_WORDS)
+    this.held = new Uint32Array(buffer, this.heldAt, HELD_WORDS)
     this.text = new Uint8Array(buffer, text_at(), this.textRoom)
     this.base = new Uint8Array(buffer, base_at(), this.baseRoom)
   }
@@ -110,17 +128,30 @@ export class Room {
   }
 
   /**
-   * Puts a text, and a base where there is one, into their rooms.
+   * Puts a text into its room, and where there is a base its text, or what is held of it.
    * @param {string} text
    * @param {string | undefined} base
+   * @param {Uint32Array} [held]
    */
-  put(text, base) {
+  put(text, base, held) {
     stopUnlessString(text, 'text')
     if (base !== undefined) stopUnlessString(base, 'base')
-    const isLong = text.length > SHORT || (base !== undefined && base.length > SHORT)
-    if (isLong || this.isLarge) this.makeRoomFor(text, base)
+    this.look()
+    const read = held === undefined ? base : undefined
+    const isLong = text.length > SHORT || (read !== undefined && read.length > SHORT)
+    if (isLong || this.isLarge) this.makeRoomFor(text, read)
     this.textLength = this.written(text, 'text', this.text)
-    if (base !== undefined) this.baseLength = this.written(base, 'base', this.base)
+    if (read !== undefined) this.baseLength = this.written(read, 'base', this.base)
+    if (held !== undefined) this.hold(held)
+  }
+
+  /**
+   * Puts a base alone into its room.
+   * @param {string} base
+   */
+  putBase(base) {
+    stopUnlessString(base, 'base')
+    this.put('', base)
   }
 
   /**
@@ -148,6 +179,29 @@ export class Room {
   }
 
   /**
+   * Judges the base that stands in its room, and gives what is held of it where it is valid.
+   * @param {number} profile
+   * @returns {Uint32Array}
+   */
+  prepared(profile) {
+    this.heldWords = undefined
+    this.exports.prepare(this.baseLength, profile)
+    this.look()
+    this.heldWords = this.held.slice()
+    return this.heldWords
+  }
+
+  /**
+   * Puts what is held of a base where the module reads it.
+   * @param {Uint32Array} words
+   */
+  hold(words) {
+    if (words === this.heldWords) return
+    this.held.set(words)
+    this.heldWords = words
+  }
+
+  /**
    * A word of the answer.
    * @param {number} at
    * @returns {number}
@@ -157,12 +211,12 @@ export class Room {
   }
 
   /**
-   * An ASCII text in the memory.
+   * A text in the memory.
    * @param {number} start
    * @param {number} length
    * @returns {string}
    */
-  ascii(start, length) {
+  read(start, length) {
     return decoder.decode(new Uint8Array(this.exports.memory.buffer, start, length))
   }
 }

@@ -25,6 +25,19 @@ export interface Checker {
   check(text: string, options?: Options): Valid | Refused
 
   /**
+   * Whether a text is a valid URL string, without its parts and what is wrong with it: the fastest call.
+   * @throws what `check` throws
+   */
+  isValid(text: string, options?: Options): boolean
+
+  /**
+   * A base that is judged once, for many texts: the other calls take it in the place of its text, and judge by its
+   * profile.
+   * @throws what `check` throws of its base
+   */
+  base(text: string, options?: BaseOptions): Base
+
+  /**
    * All that is wrong with a text, by place and at one place by the rule's number; nothing where it is valid.
    * @throws what `check` throws
    */
@@ -35,6 +48,13 @@ export interface Checker {
    * @throws what `check` throws
    */
   resolve(text: string, options?: Options): Resolved | Refused
+
+  /**
+   * What to write in place of a refused text: a valid one made of it by local edits, which keep all else. It is null
+   * where the text is valid, and the text's refusal where the edits give no valid text: `'text' in answer` says which.
+   * @throws what `check` throws
+   */
+  mend(text: string, options?: Options): Mended | Refused | null
 
   /**
    * What a rule says and asks, where it stands in the URL Standard, and an example.
@@ -51,10 +71,30 @@ export interface Checker {
 
 /** How a text is judged. */
 export interface Options {
-  /** The base, or none. */
-  base?: string | null | undefined
-  /** By which written grammar the text and the base are judged; without one by the standard grammar. */
+  /** The base, as its text or judged before, or none. */
+  base?: string | Base | null | undefined
+  /**
+   * By which written grammar the text and the base are judged; without one by that of a base that was judged before,
+   * else by the standard grammar. Another one than that of such a base is a `TypeError`.
+   */
   profile?: Profile | undefined
+}
+
+/** How a base is judged. */
+export interface BaseOptions {
+  /** By which written grammar; without one by the standard grammar. */
+  profile?: Profile | undefined
+}
+
+/**
+ * A base that was judged, and is valid; `base` of a checker makes it. It is a value like a string: it keeps nothing in
+ * the memory of the module, so there is nothing to free, it never changes, and any checker takes it.
+ */
+export interface Base {
+  /** The base's text. */
+  readonly text: string
+  /** By which the base was judged, and by which texts are judged against it. */
+  readonly profile: Profile
 }
 
 /**
@@ -127,6 +167,19 @@ export interface Fault {
 export interface Refused extends Fault {
   valid: false
 }
+
+/** A valid URL string in place of a refused text. */
+export interface Mended {
+  text: string
+  kind: MendKind
+}
+
+/**
+ * How a mended text stands to the refused one. `same`: a second parser reads both as the same URL. `escaped`: not so;
+ * some code points of the refused text are percent-encoded, and nothing else. `changed`: neither; its author has to
+ * look.
+ */
+export type MendKind = 'same' | 'escaped' | 'changed'
 
 /** The record that a valid text denotes. */
 export interface Resolved {

@@ -9,22 +9,33 @@
  *
  * @module
  */
+import { HeldBase } from './base.js'
 import { explanations } from './explanations.js'
 import {
-  BASE_REFUSED, BYTE_PLACE, FAULT_BYTE_PLACE, FAULT_COUNT, FAULT_PLACE, FAULT_WORDS, MEMORY, PLACE, REFUSED,
-  RESOLVED_LENGTH, RULE, VERDICT
+  BASE_REFUSED, BYTE_PLACE, FAULT_BYTE_PLACE, FAULT_COUNT, FAULT_PLACE, FAULT_WORDS, MEMORY, MENDED, MENDED_LENGTH,
+  MEND_KIND, PLACE, REFUSED, RESOLVED_LENGTH, RULE, VERDICT
 } from './layout.js'
 import { Room } from './memory.js'
 import { UnitWalker, ValidText, recordOf } from './parts.js'
 
 /** @typedef {import('./urlcheck.js').Options} Options */
+/** @typedef {import('./urlcheck.js').BaseOptions} BaseOptions */
+/** @typedef {import('./urlcheck.js').Base} Base */
 /** @typedef {import('./urlcheck.js').Valid} Valid */
 /** @typedef {import('./urlcheck.js').Refused} Refused */
 /** @typedef {import('./urlcheck.js').Resolved} Resolved */
+/** @typedef {import('./urlcheck.js').Mended} Mended */
+/** @typedef {import('./urlcheck.js').MendKind} MendKind */
 /** @typedef {import('./urlcheck.js').Fault} Fault */
 /** @typedef {import('./urlcheck.js').Explanation} Explanation */
 /** @typedef {import('./urlcheck.js').Source} Source */
 /** @typedef {import('./urlcheck.js').RuleName} RuleName */
+
+/**
+ * How a mended text stands to the refused one, by the numbers of `urlcheck_mend_kind` from 1.
+ * @type {MendKind[]}
+ */
+const MEND_KINDS = ['same', 'escaped', 'changed']
 
 /** The base, judged alone, violates a rule; nothing is said of the text. */
 export class BaseRefused extends Error {
@@ -52,6 +63,23 @@ function profileNumber(profile) {
   throw new TypeError("the profile is neither 'standard' nor 'wide'")
 }
 
+/**
+ * How a text is judged: the text of its base or none, what is held of a base that was judged before, and the number of
+ * the profile.
+ * @param {Options | undefined} options
+ * @returns {{ base: string | undefined, held: Uint32Array | undefined, profile: number }}
+ */
+function readingOf(options) {
+  const base = options?.base ?? undefined
+  const profile = profileNumber(options?.profile)
+  const held = typeof base === 'object' ? HeldBase.wordsOf(base) : undefined
+  if (held === undefined) return { base: /** @type {string | undefined} */ (base), held, profile }
+  const { text, profile: name } = /** @type {Base} */ (base)
+  const number = profileNumber(name)
+  if (options?.profile === undefined || profile === number) return { base: text, held, profile: number }
+  throw new TypeError(`the base is judged by the ${name} profile, and the text by another`)
+}
+
 /** A checker: one instance of the module. Several may stand beside each other. */
 class Checker {
   #room
@@ -67,8 +95,8 @@ class Checker {
     /** @type {RuleName[]} */
     const names = []
     for (let rule = 1, length; (length = exports.rule_name(rule)) !== 0; rule++) {
-      const name = /** @type {RuleName} */ (this.#room.ascii(this.#room.answerAt, length))
-      const sentence = this.#room.ascii(this.#room.answerAt, exports.rule_sentence(rule))
+      const name = /** @type {RuleName} */ (this.#room.read(this.#room.answerAt, length))
+      const sentence = this.#room.read(this.#room.answerAt, exports.rule_sentence(rule))
       names.push(name)
       this.#explained.set(name, Object.freeze({ rule: name, sentence, ...explanations[name] }))
     }
@@ -91,13 +119,47 @@ class Checker {
    */
   check(text, options) {
     const room = this.#room
-    const base = options?.base ?? undefined
-    const profile = profileNumber(options?.profile)
-    room.put(text, base)
-    if (base === undefined) room.check(room.textLength, profile)
+    const { base, held, profile } = readingOf(options)
+    room.put(text, base, held)
+    if (held !== undefined) room.checkWith(room.textLength)
+    else if (base === undefined) room.check(room.textLength, profile)
     else room.checkAgainst(room.textLength, room.baseLength, profile)
     if (this.#isRefused(base)) return this.#refused(text)
     return this.#valid(text)
+  }
+
+  /**
+   * Whether a text is a valid URL string, without its parts: the fastest call.
+   * @param {string} text
+   * @param {Options} [options]
+   * @returns {boolean}
+   * @throws what `check` throws
+   */
+  isValid(text, options) {
+    const room = this.#room
+    const { base, held, profile } = readingOf(options)
+    if (base !== undefined && held === undefined) return this.check(text, options).valid
+    room.put(text, base, held)
+    const known = held === undefined ? room.isValid(room.textLength, profile) : room.isValidWith(room.textLength)
+    // The module says no also where there is no memory, which the check tells apart.
+    return known === 1 || this.check(text, options).valid
+  }
+
+  /**
+   * A base that is judged once, for many texts: the other calls take it in the place of its text.
+   * @param {string} text
+   * @param {BaseOptions} [options]
+   * @returns {Base}
+   * @throws what `check` throws of its base
+   */
+  base(text, options) {
+    const room = this.#room
+    const profile = options?.profile
+    const number = profileNumber(profile)
+    room.putBase(text)
+    const words = room.prepared(number)
+    this.#isRefused(text)
+    return new HeldBase(text, profile ?? 'standard', words)
   }
 
   /**
@@ -109,10 +171,10 @@ class Checker {
    */
   faults(text, options) {
     const room = this.#room
-    const base = options?.base ?? undefined
-    const profile = profileNumber(options?.profile)
-    room.put(text, base)
-    if (base === undefined) room.exports.faults(room.textLength, profile)
+    const { base, held, profile } = readingOf(options)
+    room.put(text, base, held)
+    if (held !== undefined) room.exports.faults_with(room.textLength)
+    else if (base === undefined) room.exports.faults(room.textLength, profile)
     else room.exports.faults_against(room.textLength, room.baseLength, profile)
     return this.#isRefused(base) ? this.#faults(text) : []
   }
@@ -126,14 +188,32 @@ class Checker {
    */
   resolve(text, options) {
     const room = this.#room
-    const base = options?.base ?? undefined
-    const profile = profileNumber(options?.profile)
+    const { base, profile } = readingOf(options)
     room.put(text, base)
     if (base === undefined) room.exports.resolve(room.textLength, profile)
     else room.exports.resolve_against(room.textLength, room.baseLength, profile)
     if (this.#isRefused(base)) return this.#refused(text)
-    const written = room.ascii(room.exports.out_at(), room.word(RESOLVED_LENGTH))
+    const written = room.read(room.exports.out_at(), room.word(RESOLVED_LENGTH))
     return { valid: true, text: written, record: recordOf(written) }
+  }
+
+  /**
+   * What to write in place of a refused text: a valid one made of it by local edits, which keep all else.
+   * @param {string} text
+   * @param {Options} [options]
+   * @returns {Mended | Refused | null} nothing where the text is valid; its refusal where the edits give no valid text
+   * @throws what `check` throws
+   */
+  mend(text, options) {
+    const room = this.#room
+    const { base, profile } = readingOf(options)
+    room.put(text, base)
+    if (base === undefined) room.exports.mend(room.textLength, profile)
+    else room.exports.mend_against(room.textLength, room.baseLength, profile)
+    room.look()
+    if (room.word(VERDICT) !== MENDED) return this.#isRefused(base) ? this.#refused(text) : null
+    const mended = room.read(room.exports.out_at(), room.word(MENDED_LENGTH))
+    return { text: mended, kind: MEND_KINDS[room.word(MEND_KIND) - 1] }
   }
 
   /**

@@ -2,8 +2,8 @@
 
     answers.py PROGRAM CASES VECTORS..   writes the cases, as JSON
 
-A case has its text, its base or null, what the vectors want or null, and for each profile what `check` and
-`check --all` print, with the status and what stands on standard error.
+A case has its text, its base or null, what the vectors want or null, and for each profile what `check`,
+`check --all` and `mend` print, with the status and what stands on standard error.
 """
 
 import concurrent.futures
@@ -25,23 +25,24 @@ MORE = [
     ("http://h/" + "\u00e9\U0001f600%41a" * 500, None),
     ("http://h/" + "a^" * 2000, None),
     ("x" * 3000, "http://h/" + "\u00e9" * 3000),
+    ("\ufeff\u00e9 %", "http://h/"),
 ]
 
 
-def run(program, text, base, wide, every):
-    words = [program, "check"] + ["--wide"] * wide + ["--all"] * every
+def run(program, command, text, base, wide):
+    words = [program, *command] + ["--wide"] * wide
     words += ([] if base is None else ["--base=" + base]) + ["--", text]
     ended = subprocess.run(words, capture_output=True, timeout=60)
     return {"status": ended.returncode, "out": ended.stdout.decode(), "error": ended.stderr.decode()}
 
 
 def said(program, text, base):
-    """What the program says of a text in each profile: alone the first refusal, and then all of them."""
+    """What the program says of a text in each profile: the first refusal, all of them, and what to write instead."""
     answers = {}
     for profile, wide in (("standard", False), ("wide", True)):
-        first = run(program, text, base, wide, False)
-        every = run(program, text, base, wide, True) if first["status"] == 1 else first
-        answers[profile] = {"first": first, "all": every}
+        first = run(program, ["check"], text, base, wide)
+        every = run(program, ["check", "--all"], text, base, wide) if first["status"] == 1 else first
+        answers[profile] = {"first": first, "all": every, "mend": run(program, ["mend"], text, base, wide)}
     return answers
 
 

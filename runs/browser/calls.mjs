@@ -29,6 +29,9 @@ async function withMemory(source) {
   }
 }
 
+/** The calls that judge a text. */
+const CALLS = ['check', 'isValid', 'faults', 'resolve', 'mend']
+
 const tests = {
   async 'each way to give the module'() {
     const compiled = await WebAssembly.compile(bytes)
@@ -64,7 +67,7 @@ const tests = {
   async 'refused arguments'() {
     const urlcheck = await load()
     for (const text of ['\ud800', 'a\udc00b', '\ud800\ud800\udc00', `${'a'.repeat(5000)}\udbff`, '\u00e9\ud83d']) {
-      for (const call of ['check', 'faults', 'resolve']) {
+      for (const call of CALLS) {
         assert.throws(() => urlcheck[call](text), { name: 'TypeError', message: /the text has a lone surrogate at/ })
         assert.throws(() => urlcheck[call]('a', { base: text }), { name: 'TypeError', message: /the base has a lone/ })
       }
@@ -87,13 +90,93 @@ const tests = {
 
   async 'a refused base'() {
     const urlcheck = await load()
-    for (const call of ['check', 'faults', 'resolve']) {
+    for (const call of CALLS) {
       assert.throws(() => urlcheck[call]('x', { base: 'http://h/\u{1f600} ' }), error => {
         assert.ok(error instanceof BaseRefused && error instanceof Error)
         assert.deepEqual([error.rule, error.place, error.index], ['code-point', 10, 11])
         return true
       })
     }
+  },
+
+  async 'a base that is judged once'() {
+    const { urlcheck, memory } = await withMemory(bytes)
+    const [plain, file, opaque] = ['http://h/a/b?q', 'file:///C:/x', 'urn:a'].map(text => urlcheck.base(text))
+    const wide = urlcheck.base('http://a_b/', { profile: 'wide' })
+    assert.deepEqual({ ...plain }, { text: 'http://h/a/b?q', profile: 'standard' })
+    assert.deepEqual({ ...wide }, { text: 'http://a_b/', profile: 'wide' })
+    const answers = checker => {
+      assert.equal(checker.check('x', { base: plain }).path, 'x')
+      assert.equal(checker.check('x', { base: opaque }).rule, 'opaque-base')
+      assert.equal(checker.check('//h:80/', { base: plain }).port, '80')
+      assert.equal(checker.check('//h:80/', { base: file }).valid, false)
+      assert.equal(checker.check('//c_d/', { base: wide }).host, 'c_d')
+      assert.equal(checker.check('//c_d/', { base: wide, profile: 'wide' }).host, 'c_d')
+      assert.equal(checker.check('//c_d/', { base: plain, profile: 'standard' }).rule, 'host-domain')
+      assert.deepEqual(checker.faults('x^', { base: opaque }).map(fault => fault.rule), ['opaque-base', 'code-point'])
+      assert.deepEqual(checker.faults('x^', { base: plain }), [{ rule: 'code-point', place: 1, index: 1 }])
+      assert.equal(checker.resolve('../x', { base: plain }).text, 'http://h/x')
+      assert.equal(checker.resolve('y', { base: wide }).text, 'http://a_b/y')
+      assert.equal(checker.check('x').rule, 'no-scheme')
+    }
+    answers(urlcheck)
+    answers(await load())
+    // Other bases, and a memory that grows, leave it as it is.
+    const before = memory.buffer.byteLength
+    for (let made = 0; made < 20_000; made++) assert.equal(urlcheck.base(`urn:${made}`).text, `urn:${made}`)
+    assert.equal(memory.buffer.byteLength, before)
+    assert.equal(urlcheck.check(`/${'a'.repeat(3_000_000)}\u00e9`, { base: plain }).path.length, 3_000_002)
+    assert.ok(memory.buffer.byteLength > before)
+    answers(urlcheck)
+    const long = urlcheck.base(`http://h/${'b'.repeat(6_000_000)}`)
+    answers(urlcheck)
+    assert.equal(urlcheck.faults(`${' '.repeat(300_000)}`, { base: long }).length, 300_000)
+    answers(urlcheck)
+    assert.equal(urlcheck.resolve('../x', { base: long }).text, 'http://h/x')
+    assert.throws(() => { 'use strict'; plain.text = 'urn:b' }, TypeError)
+  },
+
+  async 'a base that is refused, or is none'() {
+    const urlcheck = await load()
+    const held = urlcheck.base('http://h/')
+    const thrown = call => {
+      try {
+        call()
+      } catch (error) {
+        const { name, message, rule, place, index } = error
+        return { name, message, rule, place, index, is: error instanceof BaseRefused }
+      }
+    }
+    const wrong = ['', 'x', 'http://h/\u{1f600} ', 'http://a_b/', '//h', '\ud800', `${'a'.repeat(5000)}\udbff`, 1, {},
+      new String('urn:a'), ['urn:a'], Symbol('urn:a'), structuredClone(held), Object.create(held)]
+    for (const base of wrong) {
+      const asText = thrown(() => urlcheck.check('x', { base }))
+      assert.ok(asText, String(base))
+      assert.deepEqual(thrown(() => urlcheck.base(base)), asText)
+      assert.equal(urlcheck.check('x', { base: held }).valid, true)
+    }
+    for (const base of [undefined, null, held]) assert.throws(() => urlcheck.base(base), TypeError)
+    assert.throws(() => urlcheck.base('urn:a', { profile: 'Wide' }), TypeError)
+    for (const call of CALLS) {
+      for (const [profile, message] of [['wide', /by the standard profile/], ['Wide', /neither/]]) {
+        assert.throws(() => urlcheck[call]('x', { base: held, profile }), { name: 'TypeError', message })
+      }
+    }
+  },
+
+  async 'what to write instead'() {
+    const urlcheck = await load()
+    const base = urlcheck.base('http://h/a')
+    assert.equal(urlcheck.mend('http://h/'), null)
+    assert.deepEqual(urlcheck.mend('http://h/\u{1f600} b'), { text: 'http://h/\u{1f600}%20b', kind: 'same' })
+    assert.deepEqual(urlcheck.mend('http://h/100%'), { text: 'http://h/100%25', kind: 'escaped' })
+    assert.deepEqual(urlcheck.mend('http:a', { base }), { text: 'http://a', kind: 'changed' })
+    assert.deepEqual(urlcheck.mend('\ufeff b', { base }), { text: '\ufeff%20b', kind: 'same' })
+    assert.deepEqual(urlcheck.mend('\u{1f600}'), { valid: false, rule: 'no-scheme', place: 0, index: 0 })
+    assert.deepEqual(urlcheck.mend('http://\u{1f600}@h:x/'), urlcheck.check('http://\u{1f600}@h:x/'))
+    const long = 'http://h/'.padEnd(100_000, ' ')
+    assert.equal(urlcheck.mend(`${long}x`).text, `http://h/${'%20'.repeat(long.length - 9)}x`)
+    assert.equal(urlcheck.check('http://h/\u00e9').path, '/\u00e9')
   },
 
   async 'what is known of the rules'() {
@@ -116,6 +199,8 @@ const tests = {
     const calls = () => {
       urlcheck.resolve('http://b\u00fccher.example/\u00e9?q', { base: 'http://h/' })
       urlcheck.faults('http://h/ ^ ^ ^')
+      urlcheck.mend('http://b\u00fccher.example/ ^')
+      urlcheck.isValid('http://b\u00fccher.example/')
       urlcheck.check('http://b\u00fccher.example/')
     }
     calls()
@@ -158,15 +243,23 @@ const tests = {
     const form = 'http://xn--bcher-kva.example/'
     const isShort = () => assert.equal(urlcheck.resolve('http://b\u00fccher.example/').text, form)
     const text = `http://h/${'\u00e9'.repeat(20_000)}`
+    const held = urlcheck.base('http://h/\u00e9')
     isShort()
     for (let round = 0; round < 3; round++) {
-      for (const call of ['check', 'faults', 'resolve']) {
+      for (const call of CALLS) {
         const large = 'x'.repeat(1_000_000)
         assert.throws(() => urlcheck[call](large), { name: 'RangeError', message: /out of memory/ })
         isShort()
         assert.throws(() => urlcheck[call]('x', { base: large }), { name: 'RangeError', message: /out of memory/ })
         isShort()
+        assert.throws(() => urlcheck[call](large, { base: held }), { name: 'RangeError', message: /out of memory/ })
+        assert.equal(urlcheck.check('x', { base: held }).path, 'x')
       }
+      assert.throws(() => urlcheck.base('x'.repeat(1_000_000)), { name: 'RangeError', message: /out of memory/ })
+      assert.equal(urlcheck.check('x', { base: held }).path, 'x')
+      // The base has room, but its record hasn't.
+      assert.throws(() => urlcheck.base(text + text), RangeError)
+      assert.equal(urlcheck.check('x', { base: held }).path, 'x')
       // The text has room, but its record hasn't; its faults, of which there are many, haven't either.
       assert.equal(urlcheck.check(text).valid, true)
       assert.throws(() => urlcheck.resolve(text + text), RangeError)
@@ -186,6 +279,12 @@ const tests = {
       }
     }
     assert.throws(() => urlcheck.resolve(`http://h/${'a'.repeat(least)}`), RangeError)
+    isShort()
+    // A domain that needs memory is neither valid nor refused where there is none.
+    assert.equal(urlcheck.isValid(`http://h/${'a'.repeat(least - 50)}`), true)
+    for (const call of CALLS) {
+      assert.throws(() => urlcheck[call](`http://b\u00fccher.example/${'a'.repeat(least - 50)}`), RangeError, call)
+    }
     isShort()
     assert.ok(memory.buffer.byteLength > least)
   },
@@ -212,7 +311,7 @@ const tests = {
   },
 
   async 'no code from texts'() {
-    for (const name of ['urlcheck.js', 'memory.js', 'parts.js', 'layout.js', 'explanations.js']) {
+    for (const name of ['urlcheck.js', 'base.js', 'memory.js', 'parts.js', 'layout.js', 'explanations.js']) {
       const script = readFileSync(join(folder, name), 'utf8')
       assert.doesNotMatch(script, /\beval\b|new Function|innerHTML|document\.write/)
     }

@@ -1,5 +1,5 @@
-// Holds a checker's answers to what the program says of the same cases: see answers.py. Runs under Node and in a
-// browser.
+// Holds a checker's answers to what the program says of the same cases (see answers.py), and its answers against a base
+// that is judged once to those against the base's text. Runs under Node and in a browser.
 
 /** The lines that `urlcheck check` prints of a record. */
 function recordLines({ scheme, host, port, segments, opaquePath, query, fragment }) {
@@ -22,22 +22,30 @@ function refusedLine({ place, rule }) {
   return `refused ${place} ${rule}`
 }
 
-/** What the program would print of the checker's answers, for the first refusal and for all. */
+function mendEnded(mended) {
+  if (mended === null) return ended(0, ['valid'])
+  if ('text' in mended) return ended(0, [`mended ${mended.kind}`, mended.text])
+  return ended(1, ['none', refusedLine(mended)])
+}
+
+/** What the program would print of the checker's answers: for the first refusal, for all, and what to write instead. */
 function answered(urlcheck, text, options) {
   try {
     const resolved = urlcheck.resolve(text, options)
+    const mend = mendEnded(urlcheck.mend(text, options))
     if (resolved.valid) {
       const valid = ended(0, recordLines(resolved.record))
-      return { first: valid, all: valid }
+      return { first: valid, all: valid, mend }
     }
     return {
       first: ended(1, [refusedLine(resolved)]),
-      all: ended(1, urlcheck.faults(text, options).map(refusedLine))
+      all: ended(1, urlcheck.faults(text, options).map(refusedLine)),
+      mend
     }
   } catch (error) {
     if (error.name !== 'BaseRefused') throw error
     const refused = ended(2, [], `base refused ${error.place} ${error.rule}\n`)
-    return { first: refused, all: refused }
+    return { first: refused, all: refused, mend: refused }
   }
 }
 
@@ -50,6 +58,7 @@ function faultOfCheck(urlcheck, text, options) {
     return error.name === 'BaseRefused' ? null : `check throws ${error}`
   }
   const first = urlcheck.faults(text, options)[0]
+  if (urlcheck.isValid(text, options) !== answer.valid) return 'check and isValid differ'
   if (!answer.valid) {
     const index = [...text].slice(0, answer.place).join('').length
     if (answer.index !== index) return `the index ${answer.index} isn't the place ${answer.place}`
@@ -80,7 +89,7 @@ function isWanted(wanted, urlcheck, text, options) {
 function differencesOf(urlcheck, text, options, wanted, said) {
   const found = []
   const ours = answered(urlcheck, text, options)
-  for (const which of ['first', 'all']) {
+  for (const which of ['first', 'all', 'mend']) {
     const [is, wants] = [ours[which], said[which]].map(ending => JSON.stringify(ending))
     if (is !== wants) found.push(`${is.slice(0, 300)}, and not ${wants.slice(0, 300)}`)
   }
@@ -90,21 +99,63 @@ function differencesOf(urlcheck, text, options, wanted, said) {
   return found
 }
 
-/** The first differences between a checker and the program, and how many answers were compared. */
-export function differences(urlcheck, cases) {
+/** The calls of a checker with each base held: it is judged once, and taken again behind calls with other ones. */
+function holding(urlcheck) {
+  const bases = { standard: new Map(), wide: new Map() }
+  const held = ({ base, profile }) => {
+    if (!bases[profile].has(base)) bases[profile].set(base, urlcheck.base(base, { profile }))
+    return { base: bases[profile].get(base) }
+  }
+  return {
+    check: (text, options) => urlcheck.check(text, held(options)),
+    isValid: (text, options) => urlcheck.isValid(text, held(options)),
+    faults: (text, options) => urlcheck.faults(text, held(options)),
+    resolve: (text, options) => urlcheck.resolve(text, held(options)),
+    mend: (text, options) => urlcheck.mend(text, held(options))
+  }
+}
+
+/** Bases of each kind that a verdict tells apart. */
+const BASES = ['ftp://h/', 'http://h/a', 'https://h:1/', 'file:///C:/d', 'file://h/a', 'foo:/a', 'foo://h/a',
+  'foo:///a', 'urn:a']
+
+/** What differs on a text between each of these bases as its text and held. */
+function differencesOfHeld(urlcheck, withHeld, text, profile) {
   const found = []
-  let compared = 0
-  for (const { text, base, wanted, said } of cases) {
-    for (const profile of ['standard', 'wide']) {
-      const where = JSON.stringify({ text, base, profile }).slice(0, 300)
-      compared += 2
-      try {
-        const wrong = differencesOf(urlcheck, text, { base, profile }, wanted, said[profile])
-        found.push(...wrong.map(it => `${where}: ${it}`))
-      } catch (error) {
-        found.push(`${where}: it throws ${error}`)
-      }
+  for (const base of BASES) {
+    for (const call of ['check', 'isValid', 'faults']) {
+      const [is, wants] = [withHeld, urlcheck].map(checker => JSON.stringify(checker[call](text, { base, profile })))
+      if (is !== wants) found.push(`${call} against ${base}: ${is.slice(0, 300)}, and not ${wants.slice(0, 300)}`)
     }
   }
-  return { compared, count: found.length, found: found.slice(0, 10) }
+  return found
+}
+
+/** So many differences are enough. */
+const MOST = 10
+
+/** The first differences between a checker and the program, and how many answers were compared. */
+export function differences(urlcheck, cases) {
+  const withHeld = holding(urlcheck)
+  const found = []
+  let compared = 0
+  const compare = (what, answers, differing) => {
+    if (found.length >= MOST) return
+    const where = JSON.stringify(what).slice(0, 300)
+    compared += answers
+    try {
+      found.push(...differing().map(it => `${where}: ${it}`))
+    } catch (error) {
+      found.push(`${where}: it throws ${error}`)
+    }
+  }
+  for (const { text, base, wanted, said } of cases) {
+    for (const profile of ['standard', 'wide']) {
+      const differing = checker => () => differencesOf(checker, text, { base, profile }, wanted, said[profile])
+      compare({ text, base, profile }, 3, differing(urlcheck))
+      if (base !== null) compare({ text, held: base, profile }, 3, differing(withHeld))
+      compare({ text, profile }, 3 * BASES.length, () => differencesOfHeld(urlcheck, withHeld, text, profile))
+    }
+  }
+  return { compared, count: found.length, found: found.slice(0, MOST) }
 }

@@ -77,12 +77,13 @@ def typing(page, room):
 
 
 def rules_and_bases(page, room):
-    """Each rule's example by its address: the rule, its place in the text, what it asks, and the mended text."""
+    """Each rule's example by its address: the rule, its place in the text, what it asks, and what to write instead."""
     page.open()
     explained = page.browser.execute_async_script(
         "const done = arguments[0]; import('/app/urlcheck.js').then(async ({ load }) => { const it = await load();"
         "done(it.rules.map(rule => it.explain(rule))) })"
     )
+    mended = 0
     for it in explained:
         example = it["example"]
         page.open(view="text", text=example["text"], base=example["base"] or "")
@@ -92,8 +93,19 @@ def rules_and_bases(page, room):
         marked = page.run("return document.querySelector('#drawn .wrong .point').textContent")
         wrong = example["text"][example["place"] :][:1]
         holds(marked == {"": "end", " ": "␣"}.get(wrong, wrong), it["rule"], marked)
-        page.browser.find_elements(By.CSS_SELECTOR, ".try")[1].click()
-        holds(page.verdict()[0] == "Valid", it["rule"], "mended")
+        base = [] if example["base"] is None else ["--base=" + example["base"]]
+        ended = subprocess.run([room.program, "mend", *base, "--", example["text"]], capture_output=True)
+        wanted = ended.stdout.decode().splitlines() if ended.returncode == 0 else None
+        instead = page.run(
+            "const it = document.querySelector('#drawn .instead');"
+            "return it && ['mended ' + it.dataset.kind, it.querySelector('.try').textContent]"
+        )
+        holds(instead == wanted, it["rule"], instead, wanted)
+        mended += wanted is not None
+        for tried in [".instead .try"] * (wanted is not None) + ["#faults .try:nth-of-type(2)"]:
+            page.open(view="text", text=example["text"], base=example["base"] or "")
+            page.browser.find_element(By.CSS_SELECTOR, tried).click()
+            holds(page.verdict()[0] == "Valid", it["rule"], tried)
     page.open(view="text", text="x", base="http://h/ \u00e9")
     holds(page.verdict()[0] == "Base refused" and "at place 9" in page.verdict()[1], page.verdict())
     page.fill("base", "http://h/\u00e9")
@@ -101,7 +113,8 @@ def rules_and_bases(page, room):
     page.open(view="text", text="http://a_b//x")
     page.browser.find_element(By.CSS_SELECTOR, "input[value=wide]").click()
     holds(page.verdict()[0] == "Valid", page.verdict())
-    return "{} rules".format(len(explained))
+    holds(mended > 2, mended)
+    return "{} rules, and what to write instead for {}".format(len(explained), mended)
 
 
 def hostile_texts(page, room):
@@ -347,8 +360,8 @@ def keyboard_and_names(page, room):
             " && getComputedStyle(one).outlineStyle !== 'none')"
         )
         holds(seen, "the focus isn't seen", reached)
-    wanted = ["One text", "A list", "An HTML file", "example", "text", "base", "standard", "http://h/a b"]
-    holds(reached[:8] == wanted, reached)
+    wanted = ["One text", "A list", "An HTML file", "example", "text", "base", "standard", "http://h/a%20b"]
+    holds(reached == [*wanted, "http://h/a b"], reached)
     live = page.run("return ['verdict'].map(it => document.getElementById(it).getAttribute('role'))")
     holds(live == ["status"], live)
     return "{} stops of the tab key".format(len(reached))

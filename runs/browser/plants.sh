@@ -60,6 +60,26 @@ swap='s/textLength, room.baseLength/baseLength, room.textLength/'
 script 'a swapped parameter of check' vectors urlcheck.js "/room.checkAgainst(/$swap"
 script 'a swapped parameter of resolve' vectors urlcheck.js "/resolve_against(/$swap"
 script 'a swapped parameter of faults' vectors urlcheck.js "/faults_against(/$swap"
+script 'a base that is held and ignored by check' vectors urlcheck.js \
+    's/room.checkWith(room.textLength)/room.check(room.textLength, profile)/'
+script 'a base that is held and ignored by faults' vectors urlcheck.js \
+    's/room.exports.faults_with(room.textLength)/room.exports.faults(room.textLength, profile)/'
+script 'a base that is held and ignored by resolve' vectors urlcheck.js \
+    's/base: text, held, profile: number/base: undefined, held, profile: number/'
+script 'a base that stays held where another is given' vectors memory.js \
+    's/if (words === this.heldWords) return/if (this.heldWords) return/'
+script 'a base that is held by half' vectors layout.js 's/^export const HELD_WORDS = 10$/export const HELD_WORDS = 9/'
+script 'a base that is held where the memory was' calls memory.js \
+    '/this.held = new Uint32Array(buffer/s/= new/= this.heldWords ? this.held : new/'
+script 'a base that is judged by another profile' calls urlcheck.js 's/=== undefined || profile === number/!== null/'
+script 'a refused base that is held' calls urlcheck.js '/^    const words = room.prepared/{n;d}'
+script 'no memory taken for a refusal' calls urlcheck.js 's/known === 1 || this.check(text, options).valid/known === 1/'
+script 'a swapped parameter of mend' vectors urlcheck.js "/mend_against(/$swap"
+script 'a wrong offset of the length of a mended text' vectors layout.js \
+    's/^export const MENDED_LENGTH = 8$/export const MENDED_LENGTH = 10/'
+script 'a mended text of the next kind' vectors urlcheck.js \
+    's/MEND_KINDS\[room.word(MEND_KIND) - 1\]/MEND_KINDS[room.word(MEND_KIND)]/'
+script 'a mended text without its first code point' vectors memory.js 's/, { ignoreBOM: true }//'
 script 'a rule with the next number' vectors urlcheck.js \
     's/this.#names\[room.word(RULE) - 1\]/this.#names[room.word(RULE)]/'
 script 'the wide profile read as the standard one' vectors urlcheck.js "/=== 'wide'/s/return 1/return 0/"
@@ -109,6 +129,9 @@ if [ -n "$module" ]; then
         '/^void heap_empty(/s/top = last = bottom/if (!top) top = last = bottom/'
     glue 'a swapped parameter of the glue' vectors glue.c \
         '/ proved_check_against(&/s/heap_text(), length, heap_base()/heap_base(), length, heap_text()/'
+    glue 'a base that the glue holds and ignores' vectors glue.c \
+        '/^    proved_check_with(/s/_with\(.*\)&held/\1held.profile/'
+    glue 'a long mended text that is not written' calls glue.c '/answer.mended.length > room/s/> room/> 9 * room/'
     glue 'a growth that is refused and not seen' calls heap.c 's/return end <= memory_end();/return true;/'
 else
     echo 'browser: the plants of the glue are left out, since no module was given'

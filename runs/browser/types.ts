@@ -1,7 +1,7 @@
 // A caller in TypeScript, as strictly as the compiler can: it is compiled and not run.
 import { BaseRefused, load } from './urlcheck.js'
-import type { Checker, Explanation, Fault, Parts, Profile, Range, Refused, Resolved, RuleName } from './urlcheck.js'
-import type { Valid } from './urlcheck.js'
+import type { Base, Checker, Explanation, Fault, MendKind, Parts, Profile, Range, Refused } from './urlcheck.js'
+import type { Resolved, RuleName, Valid } from './urlcheck.js'
 import type * as Wanted from './urlcheck.js'
 import * as written from './written.js'
 
@@ -29,6 +29,18 @@ const resolved: Resolved | Refused = third.resolve('x', { base: null })
 if (resolved.valid) console.log(resolved.text, resolved.record.host?.kind, resolved.record.segments?.length)
 console.log(faults.map(({ rule, index }) => `${rule} ${index}`), urlcheck.rules.length, urlcheck.version)
 
+const isValid: boolean = urlcheck.isValid('x', { base: 'http://h/' })
+const mended = urlcheck.mend('http://h/a b')
+if (mended !== null && 'text' in mended) {
+  const kind: MendKind = mended.kind
+  console.log(isValid, kind, mended.text)
+} else if (mended !== null) console.log(mended.rule, mended.index)
+
+const base: Base = urlcheck.base('http://h/', { profile })
+const below: Valid | Refused = urlcheck.check('x', { base })
+console.log(base.text, base.profile, below.valid, other.faults('x', { base }).length)
+console.log(third.resolve('x', { base, profile: base.profile }).valid)
+
 try {
   urlcheck.check('x', { base: ':' })
 } catch (error) {
@@ -39,8 +51,14 @@ try {
 urlcheck.check('x', { profile: 'Wide' })
 // @ts-expect-error: a text is a string
 urlcheck.check(1)
+// @ts-expect-error: a base doesn't change
+base.text = 'urn:a'
+// @ts-expect-error: a base has no base of its own
+urlcheck.base('x', { base })
 // @ts-expect-error: no rule has this name
 urlcheck.explain('no-rule')
+// @ts-expect-error: a valid text has nothing to write instead
+urlcheck.mend('x').text
 // @ts-expect-error: a refused text has no parts
 urlcheck.check('x').path
 

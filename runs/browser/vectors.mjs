@@ -10,5 +10,5 @@ const cases = JSON.parse(readFileSync(process.argv[3], 'utf8'))
 const { compared, count, found } = differences(await load(), cases)
 for (const it of found) console.log(`FAILED: ${it}`)
 console.log(`browser: ${cases.length} cases in two profiles under Node ${process.versions.node}, ` +
-  `${compared} answers, ${count} differences from \`urlcheck check\``)
+  `${compared} answers, ${count} differences`)
 process.exit(count === 0 && cases.length > 0 ? 0 : 1)

@@ -2,7 +2,7 @@
 // what the browser's own URL makes of it.
 import { BaseRefused } from '../urlcheck.js'
 import { button, byId, counted, element, plural } from './elements.js'
-import { DRAWN_FAULTS, PARTS, drawnText } from './drawing.js'
+import { DRAWN_FAULTS, PARTS, drawnText, shownText } from './drawing.js'
 
 /** All faults of a text of more units aren't asked for, but the first alone. */
 const LONGEST_FOR_FAULTS = 200_000
@@ -17,11 +17,24 @@ export function judged(urlcheck, text, base, profile) {
     const answer = urlcheck.check(text, options)
     if (answer.valid) return { kind: 'valid', answer, resolved: urlcheck.resolve(text, options) }
     const isLong = text.length > LONGEST_FOR_FAULTS
-    return { kind: 'refused', isLong, faults: isLong ? [answer] : urlcheck.faults(text, options) }
+    if (isLong) return { kind: 'refused', isLong, faults: [answer] }
+    const faults = urlcheck.faults(text, options)
+    return { kind: 'refused', isLong, faults, instead: insteadOf(urlcheck, text, options) }
   } catch (error) {
     if (error instanceof BaseRefused) return { kind: 'base', faults: urlcheck.faults(base, { profile }) }
     if (error instanceof RangeError) return { kind: 'unjudged', message: 'out of memory: the text is too large' }
     if (error instanceof TypeError) return { kind: 'unjudged', message: error.message }
+    throw error
+  }
+}
+
+/** What to write in place of a refused text, or null where there is none, or no memory for it. */
+function insteadOf(urlcheck, text, options) {
+  try {
+    const mended = urlcheck.mend(text, options)
+    return mended !== null && 'text' in mended ? mended : null
+  } catch (error) {
+    if (error instanceof RangeError) return null
     throw error
   }
 }
@@ -67,14 +80,30 @@ function legend(answer) {
   return list
 }
 
-function showDrawn(text, base, said) {
+/** How a mended text stands to the refused one. */
+const KINDS = {
+  same: 'a second parser reads both as the same URL',
+  escaped: 'some code points are percent-encoded, and nothing else',
+  changed: 'look whether this is what was meant'
+}
+
+/** What to write in place of a refused text, which a button tries. */
+function insteadLine({ text, kind }, base, onTry) {
+  return element('p', { class: 'instead', 'data-kind': kind },
+    element('span', { class: 'hint' }, 'write instead '),
+    button(shownText(text, -1), () => onTry(text, base), { class: 'try', title: 'try this text' }),
+    element('span', { class: 'hint' }, ` ${KINDS[kind]}`))
+}
+
+function showDrawn(text, base, said, onTry) {
   const card = byId('drawn')
   card.hidden = said.kind === 'unjudged'
   if (card.hidden) return
   const isBase = said.kind === 'base'
   const title = isBase ? 'The base, and where it is wrong' : said.kind === 'valid' ? 'The parts' : 'Where it is wrong'
   const drawn = drawnText(isBase ? base : text, said.answer?.ranges, said.faults ?? [])
-  card.replaceChildren(element('h2', {}, title), drawn, ...(said.answer ? [legend(said.answer)] : []))
+  const below = [said.answer && legend(said.answer), said.instead && insteadLine(said.instead, base, onTry)]
+  card.replaceChildren(element('h2', {}, title), drawn, ...below.filter(part => part))
 }
 
 /** A rule's example: a text that violates it, and the text mended, which a button tries. */
@@ -222,7 +251,7 @@ function noteOn(ours, theirs) {
 export function showText(urlcheck, { text, base, profile }, onTry) {
   const said = judged(urlcheck, text, base, profile)
   showVerdict(urlcheck, said)
-  showDrawn(text, base, said)
+  showDrawn(text, base, said, onTry)
   showFaults(urlcheck, said, onTry)
   showComparison(text, base, said)
 }

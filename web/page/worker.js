@@ -31,7 +31,8 @@ class Job {
     this.number = number
     this.source = source
     this.name = name
-    this.options = { base: base === '' ? null : base, profile }
+    // A base is judged once, before anything else: it throws where it is refused.
+    this.options = { base: base === '' ? null : urlcheck.base(base, { profile }), profile }
     this.isStopped = false
     this.count = 0
     this.rows = []
@@ -78,8 +79,6 @@ class Job {
   }
 
   async run() {
-    // The base is judged once before anything else: it throws where it is refused.
-    if (this.options.base !== null) this.urlcheck.check('', this.options)
     let number = 0
     let [turn, told] = [performance.now(), performance.now()]
     for await (const { lines, done } of this.pieces()) {
