@@ -56,6 +56,11 @@ def link(which):
         return scheme() + "://" + name() + "." + rest()
     if which == "beyond_ascii":
         return scheme() + "://" + name() + "/caf\u00e9" + rest()
+    if which == "escapes":
+        text = scheme() + "://" + name() + "/"
+        while len(text) < 362:
+            text += draw.choice("/_" + " " * 10).strip() + f"%{draw.randrange(256):02{draw.choice('xX')}}"
+        return text
     if which == "bad":
         return scheme() + "://" + name() + "/" + draw.choice(["a b", "a|b", "%zz", "[x]"])
     return scheme() + "://" + name() + rest()

@@ -14,19 +14,21 @@ _urlcheck() {
         lint:--base) words='' is_value=yes ;;
         lint:--profile) words='standard wide' is_value=yes ;;
         lint:--format) words='gnu caret json github sarif checkstyle' is_value=yes ;;
+        lint:--columns) words='code-points bytes utf16 screen' is_value=yes ;;
         links:--base) words='' is_value=yes ;;
         links:--profile) words='standard wide' is_value=yes ;;
         mend:--base) words='' is_value=yes ;;
         mend:--profile) words='standard wide' is_value=yes ;;
+        mend:--only) words='same escaped changed' is_value=yes ;;
         *)
             case $command in
                 '') words='check lint links mend vectors explain help --help --version' ;;
                 check) words='--base --all --profile --wide --help' ;;
-                lint) words='--base --all --profile --wide --format --located --quiet --help' ;;
+                lint) words='--base --all --profile --wide --format --columns --located --quiet --help' ;;
                 links) words='--base --profile --wide --help' ;;
-                mend) words='--base --profile --wide --help' ;;
+                mend) words='--base --profile --wide --only --quiet --help' ;;
                 vectors) words='--help' ;;
-                explain) words='no-scheme opaque-base two-slashes host-missing host-domain host-number host-ipv6 host-code-point port-digit port-range first-segment-empty drive-after-host code-point percent --help' ;;
+                explain) words='no-scheme opaque-base two-slashes host-missing host-domain host-number host-ipv6 host-code-point port-digit port-range first-segment-empty drive-after-host code-point percent not-utf8 line-too-long not-located --help' ;;
                 help) words='check lint links mend vectors explain help' ;;
             esac ;;
     esac

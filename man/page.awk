@@ -60,7 +60,7 @@ FNR == 1 {
     section = substr($0, 1, length($0) - 1)
     is_late = section != "Options"
     if (section == "Commands") next
-    if (is_program) say(".SH " toupper(section))
+    if (is_program) say(".SH " (section == "Exit statuses" ? "EXIT STATUS" : toupper(section)))
     else if (section == "Example" || section == "Exit statuses") say(".PP\n" section ":")
     next
 }
@@ -83,4 +83,7 @@ section == "Commands" { next }
     is_paragraph = 0
 }
 
-END { printf "%s", late }
+END {
+    printf "%s", late
+    print ".SH SEE ALSO\n.BR urlcheck\\-documents (1)"
+}

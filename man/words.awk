@@ -1,7 +1,7 @@
 # What may stand in the words, from the help of the program and then of each of its commands: a row each, its fields
 # parted by tabs. They are the command, or nothing for the program's own; command, option or argument; its name; the
 # name of its value, if it has one; what it means; and the values that it may have, if they are known: for RULE those of
-# the variable rules, and for FORMAT and PROFILE those that their meaning begins with.
+# the variable rules, and for FORMAT, PROFILE, UNIT and KIND those that their meaning begins with.
 
 # the words of a list such as `a, b or c`, up to a `;`
 function listed(meaning) {
@@ -13,7 +13,7 @@ function listed(meaning) {
 # the values that are known of the name of a value
 function known(value, meaning) {
     if (value == "RULE") return rules
-    return value == "FORMAT" || value == "PROFILE" ? listed(meaning) : ""
+    return value ~ /^(FORMAT|PROFILE|UNIT|KIND)$/ ? listed(meaning) : ""
 }
 
 FNR == 1 { command = section = "" }

@@ -89,7 +89,19 @@ fi
 for tests in documents errors; do
     python3 $tests.py >"$room/tests" 2>&1 || { cat "$room/tests"; exit 1; }
 done
+# What is said of a link is what `lint` says of it where it stands.
+python3 - >"$room/points.html" <<'END'
+for at in [*range(1, 0x80), 0x80, 0x9F, 0xA0, 0x61C, 0x200E, 0x2028, 0x202E, 0x2066, 0xE9, 0xFDD0, 0xFFFE, 0x10FFFF]:
+    if chr(at) not in "\n\r'":
+        for text in ("x{}y", "foo://x{}y", "http://x{}y", "http://h:{}8/", "http://x{}y@h/", "http://{}:y@h/"):
+            print("<a href='" + text.format(chr(at)) + "'>")
+END
+python3 -m urlcheck.documents --check "$room/points.html" >"$room/said" 2>"$room/counts" || [ $? = 1 ]
+python3 -m urlcheck.documents "$room/points.html" 2>"$room/counts" |
+    { "$program" lint --quiet --located --base https://example.com/ - || [ $? = 1 ]; } | cmp - "$room/said"
+[ "$(wc -l <"$room/said")" -gt 300 ] || { echo "FAILED: links in documents: few are refused"; exit 1; }
 echo 'library: links in documents, errors of the package'
+URLCHECK_LIBRARY=$shared bash "$top/runs/uses.sh" "$program" documents
 
 # The links of this repository's own pages, by a Python that has the reader of Markdown. A spoiled page is found.
 with_markdown=
@@ -108,8 +120,12 @@ if [ -n "$with_markdown" ]; then
 else
     echo "library: the links of the pages are left out, since markdown-it-py isn't installed"
 fi
-if python3 -m mypy --version >/dev/null 2>&1; then
-    python3 -m mypy --strict -p urlcheck >"$room/types" 2>&1 || { cat "$room/types"; exit 1; }
+types=
+for checker in 'python3 -m mypy' mypy; do
+    [ -n "$types" ] || ! $checker --version >/dev/null 2>&1 || types=$checker
+done
+if [ -n "$types" ]; then
+    $types --strict -p urlcheck >"$room/types" 2>&1 || { cat "$room/types"; exit 1; }
 else
     echo "library: the package's types left out, since mypy isn't installed"
 fi

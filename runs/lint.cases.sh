@@ -55,6 +55,46 @@ for name in '' xyz gnujson; do
 done
 expect 2 '' "urlcheck: no format is named 'a\\0357\\0277\\0275[2J'\\n$formats" lint --format $'a\e[2J' links.txt
 
+# What columns count, by its name. Before the first space stand nine ASCII code points, `e` with U+0301 (a combining mark,
+# of no column), U+65E5 and U+672C (wide, of three bytes) and U+1F600 (wide, of four bytes and two UTF-16 code units);
+# then come a tab, which goes on to the column 25, `b` and another space.
+columns_of() { printf "$1:%s: error: U+%s may not stand in a URL [code-point]\\n" "$2" '0020 SPACE' "$3" \
+    '0009 CHARACTER TABULATION' "$4" '0020 SPACE'; }
+printf 'http://h/e\314\201\346\227\245\346\234\254\360\237\230\200 \tb ' >"$room/columns.txt"
+expect 1 "$(columns_of columns.txt:1 15 16 18)\\n" '' lint -q --all columns.txt
+expect 1 "$(columns_of columns.txt:1 15 16 18)\\n" '' lint -q --all --columns code-points columns.txt
+expect 1 "$(columns_of columns.txt:1 23 24 26)\\n" '' lint -q --all --columns bytes columns.txt
+expect 1 "$(columns_of columns.txt:1 16 17 19)\\n" '' lint -q --all --columns=utf16 columns.txt
+expect 1 "$(columns_of columns.txt:1 17 18 26)\\n" '' lint -q --all --columns screen columns.txt
+# Each format has them, the caret stands where it did, and SARIF says what they count, if it has a word for it.
+for shown in 'caret columns.txt:1:23:' 'json "column":23,' 'github ,col=23,' 'checkstyle column="23"'; do
+    "$program" lint -q --columns bytes --format "${shown%% *}" "$room/columns.txt" >"$room/out" 2>"$room/err"
+    ends_with 1 $? '' "lint --columns bytes as ${shown%% *}"
+    grep -qF "${shown#* }" "$room/out" || fail "lint --columns bytes: $(cat "$room/out")"
+done
+link='http://h/e\0314\0201\0346\0227\0245\0346\0234\0254\0360\0237\0230\0200'
+shown="$link \\tb \\n                ^\\nhelp: write $link%20b\\n"
+expect 1 "$(columns_of columns.txt:1 17 18 26 | head -n 1)\\n$shown" '' lint -q --format caret --columns screen columns.txt
+for kind in 'unicodeCodePoints 15' 'utf16CodeUnits 16 utf16' 'unicodeCodePoints 15 code-points'; do
+    read -r named column unit <<<"$kind"
+    "$program" lint -q --format sarif ${unit:+--columns $unit} "$room/columns.txt" >"$room/out" 2>"$room/err"
+    ends_with 1 $? '' "lint --columns $unit as sarif"
+    grep -qF "\"columnKind\":\"$named\"" "$room/out" && grep -qF "\"startColumn\":$column," "$room/out" ||
+        fail "lint --columns $unit as sarif: $(cut -c 1-200 "$room/out")"
+done
+for unit in bytes screen; do
+    expect 2 '' "urlcheck: no column unit of sarif is named '$unit'
+urlcheck: the column units of sarif: code-points utf16\nwords\n" lint --base 'a b' --format sarif --columns $unit columns.txt
+done
+units='urlcheck: the column units: code-points bytes utf16 screen\nwords\n'
+for name in byte,bytes utf-16,utf16 Screen,screen codepoints,code-points; do
+    expect 2 '' "urlcheck: no column unit is named '${name%,*}'; the nearest is ${name#*,}\n$units" \
+        lint --base 'a b' --columns "${name%,*}" --format sarif columns.txt
+done
+for name in '' points; do
+    expect 2 '' "urlcheck: no column unit is named '$name'\n$units" lint --columns="$name" columns.txt
+done
+
 # A sentence names the code point: an ASCII one by its name, another one as it is, where it is shown.
 printf 'http://h/\e\nhttp://h/\xc3\xa9\xc2\x85\nfoo://a^b/\nhttp://h:8x/\nhttp://h/%%4\nhttp://h/\xf0\x9f\x98\x80\n' \
     >"$room/points.txt"
@@ -91,21 +131,112 @@ cases = [("urn:" + "é" * 195 + "^", 200), ("urn:" + "é" * 196 + "^", 201), ("u
 shown = [(cases[0][0], 199), ("…" + "é" * 99 + "^", 100), (cases[2][0][:198] + "…", 4),
     ("…" + "é" * 99 + "^" + "é" * 98, 100), ("…" + "é" * 99 + "^" + "é" * 98 + "…", 100),
     ("…" + "é" * 99 + "^", 100), ("…" + "é" * 99 + "^", 100)]
+help = ["…" + "é" * 99 + "%5E", "…" + "é" * 99 + "%5E", "urn:%5E" + "é" * 191 + "…",
+    "…" + "é" * 99 + "%5E" + "é" * 96 + "…", "…" + "é" * 99 + "%5E" + "é" * 96 + "…",
+    "…" + "é" * 99 + "%5E", "…" + "é" * 99 + "%5E"]
 sentence = "U+005E CIRCUMFLEX ACCENT may not stand in a URL"
 written = lambda name: open(f"{sys.argv[1]}/long.{name}", "w", encoding="utf-8")
 with written("txt") as text, written("caret") as caret, written("json") as json:
     for number, ((line, column), (part, place)) in enumerate(zip(cases, shown), 1):
         text.write(line + "\n")
-        caret.write(f"long.txt:{number}:{column}: error: {sentence} [code-point]\n{part}\n{' ' * place}^\n")
+        caret.write(f"long.txt:{number}:{column}: error: {sentence} [code-point]\n{part}\n{' ' * place}^\n"
+            f"help: write {help[number - 1]}\n")
         cut, link = ("true", part) if number == 7 else ("false", line)
-        json.write(f'{{"column":{column},"cut":{cut},"file":"long.txt","line":{number},"message":"{sentence}",'
-            f'"rule":"code-point","text":"{link}"}}\n')
+        mended = line.replace("^", "%5E")
+        json.write(f'{{"column":{column},"cut":{cut},"file":"long.txt","kind":"escaped","line":{number},"mended":"{mended}",'
+            f'"message":"{sentence}","rule":"code-point","text":"{link}"}}\n')
 PYTHON
 for format in caret json; do
     (cd "$room" && "$program" lint --format $format long.txt) >"$room/out" 2>"$room/err"
     ends_with 1 $? 'urlcheck: 7 lines, 7 refused\n' "long lines as $format"
     cmp -s "$room/out" "$room/long.$format" || fail "long lines as $format: it wrote $(cat "$room/out")"
 done
+
+# What to write in place of a refused link: `caret`, `json` and `sarif` say it, at the first diagnostic of its line.
+printf 'http://h/a b %%\nhttp://x_y/\nhttp://h/100%%\n\xff\nhttp:/a\n' >"$room/mended.txt"
+space='U+0020 SPACE may not stand in a URL [code-point]'
+percent='U+0025 PERCENT SIGN has to be followed by two hex digits [percent]'
+expect 1 "mended.txt:1:11: error: $space
+http://h/a b %
+          ^
+help: write http://h/a%20b%20%25
+mended.txt:1:13: error: $space
+http://h/a b %
+            ^
+mended.txt:1:14: error: $percent
+http://h/a b %
+             ^
+mended.txt:2:8: error: the host that begins here is no valid domain [host-domain]
+http://x_y/
+       ^
+mended.txt:3:13: error: $percent
+http://h/100%
+            ^
+help: write http://h/100%25
+mended.txt:4:1: error: this line isn't UTF-8 [not-utf8]
+\xef\xbf\xbd
+^
+mended.txt:5:7: error: // has to follow this scheme [two-slashes]
+http:/a
+      ^
+help: write http://a
+" 'urlcheck: 5 lines, 5 refused\n' lint --all --format caret mended.txt
+# mends_to WORDS LINE.. : a lint with these words of the list lines.txt says in JSON of each line its place, kind and text
+mends_to() {
+    local words=$1 want
+    want=$(printf '%s\n' "${@:2}")
+    (cd "$room" && "$program" lint --quiet --format json $words lines.txt) >"$room/out" 2>"$room/err"
+    ends_with 1 $? '' "mended by $words"
+    [ "$(python3 -c 'import json, sys
+for one in map(json.loads, sys.stdin):
+    print(one["line"], one["column"], one.get("kind"), one.get("mended"))' <"$room/out")" = "$want" ] ||
+        fail "mended by $words: $(cat "$room/out")"
+}
+printf 'http://h/a b %%\nhttp://x_y/ c\na b\nhttp:a\n' >"$room/lines.txt"
+mends_to '' '1 11 escaped http://h/a%20b%20%25' '2 8 None None' '3 1 None None' '4 6 same http://a'
+mends_to '--wide' '1 11 escaped http://h/a%20b%20%25' '2 12 same http://x_y/%20c' '3 1 None None' '4 6 same http://a'
+mends_to '--base http://h/' '1 11 escaped http://h/a%20b%20%25' '2 8 None None' '3 2 same a%20b' '4 6 changed http://a'
+mends_to '--all' '1 11 escaped http://h/a%20b%20%25' '1 13 None None' '1 14 None None' '2 8 None None' '2 12 None None' \
+    '3 1 None None' '3 2 None None' '4 6 same http://a'
+for format in gnu github checkstyle; do
+    (cd "$room" && "$program" lint --quiet --format $format mended.txt) >"$room/out" 2>"$room/err"
+    ends_with 1 $? '' "mended texts as $format"
+    ! grep -q 'http://h/' "$room/out" || fail "mended texts as $format: it wrote $(cat "$room/out")"
+done
+
+# The fixes of SARIF, made by a program that isn't ours, give lines that are valid, in a list and where a link stands.
+cat >"$room/fixed.py" <<'PYTHON'
+import json, sys
+report, folder = sys.argv[1:]
+lines = {}
+for result in json.load(open(report, encoding="utf-8"))["runs"][0]["results"]:
+    for fix in result.get("fixes", []):
+        for change in fix["artifactChanges"]:
+            name = change["artifactLocation"]["uri"]
+            lines.setdefault(name, open(f"{folder}/{name}", encoding="utf-8", newline="\n").read().split("\n"))
+            for replacement in change["replacements"]:
+                region = replacement["deletedRegion"]
+                line = lines[name][region["startLine"] - 1]
+                line = line[:region["startColumn"] - 1] + replacement["insertedContent"]["text"] + line[region["endColumn"] - 1:]
+                lines[name][region["startLine"] - 1] = line
+for name in lines:
+    open(f"{folder}/{name}", "w", encoding="utf-8", newline="\n").write("\n".join(lines[name]))
+PYTHON
+printf 'http://\xe4\xb8\xad/\xe4\xb8\xad\xf0\x9f\x98\x80 b\r\nurn:a\nhttp:\\\\h\\a' >"$room/fixed.txt"
+(cd "$room" && "$program" lint --quiet --all --format sarif fixed.txt) >"$room/out" 2>"$room/err"
+ends_with 1 $? '' 'fixes of SARIF'
+python3 "$room/fixed.py" "$room/out" "$room"
+printf 'http://\xe4\xb8\xad/\xe4\xb8\xad\xf0\x9f\x98\x80%%20b\r\nurn:a\nhttp://h/a' | cmp -s - "$room/fixed.txt" ||
+    fail "fixes of SARIF: $(cat "$room/fixed.txt")"
+expect 0 '' 'urlcheck: 3 lines, 0 refused\n' lint fixed.txt
+printf '<a href="http://h/a b">\xf0\x9f\x98\x80 <a href="http:/c"></a>\n' >"$room/fixed.html"
+printf 'fixed.html:1:10:http://h/a b\n' >"$room/links-in-it"
+(cd "$room" && "$program" lint --quiet --located --format sarif links-in-it) >"$room/out" 2>"$room/err"
+ends_with 1 $? '' 'fixes of located links'
+python3 "$room/fixed.py" "$room/out" "$room"
+printf '<a href="http://h/a%%20b">\xf0\x9f\x98\x80 <a href="http:/c"></a>\n' | cmp -s - "$room/fixed.html" ||
+    fail "fixes of located links: $(cat "$room/fixed.html")"
+rm -f "$room"/fixed.* "$room/mended.txt" "$room/lines.txt" "$room/links-in-it"
 
 # SARIF: a name is a path, whatever stands in it: no scheme, no host, no query, no fragment and no escape.
 printf 'x\n' | tee "$room/a:b.txt" "$room/a#b" "$room/a?b" "$room/a%41" "$room/ab" >"$room/https:"
@@ -310,6 +441,15 @@ ended=$?
 count=$((count + 1))
 [ $ended = 2 ] || fail "lint --located without a file: status $ended"
 
+# Before a link that says where it stands the columns that the line gives are of the same unit; a tab goes on to a stop of
+# the file's line, here the column 57.
+for unit in code-points,50,51 bytes,53,54 utf16,51,52 screen,51,57; do
+    IFS=, read -r name tab space <<<"$unit"
+    of_input 1 "a.md:3:$tab: error: U+0009 CHARACTER TABULATION may not stand in a URL [code-point]
+a.md:3:$space: error: U+0020 SPACE may not stand in a URL [code-point]\n" 'urlcheck: 1 line, 1 refused\n' \
+        'a.md:3:40:http://h/\xf0\x9f\x98\x80\t ' --all --located --columns "$name" -
+done
+
 # Hostile names and links with their places, in each format, and read by readers that aren't ours.
 python3 "$here/located_readers.py" "$room" make
 for format in json caret; do
@@ -337,4 +477,4 @@ ends_with 1 $? 'urlcheck: 1000000 lines, 10000 refused\n' 'lint of a million lin
 grep -qxF "$room/million:1000000:11: error: U+0020 SPACE may not stand in a URL [code-point]" "$room/out" ||
     fail "lint of a million lines: it ends with $(tail -n 1 "$room/out")"
 rm -f "$room/million" "$room"/hostile.* "$room"/none.*
-all_cases 130
+all_cases 166

@@ -53,6 +53,11 @@ POINT = re.compile("^U\\+([0-9A-F]{4,6}) ?(.*) (may not stand in a URL|may not s
                    "|has to be followed by two hex digits)$")
 
 
+# A mended text stands at the first diagnostic of its line. What its kind means, as the fixes of SARIF say it.
+KINDS = {"same": "write the same URL as a valid URL string", "escaped": "percent-encode what may not stand in a URL string",
+         "changed": "write a valid URL string, which may be another URL"}
+
+
 def names_point(sentence, c):
     m = POINT.match(sentence)
     if not m or m[1] != f"{ord(c):04X}":
@@ -67,10 +72,16 @@ def text_of(one):
     return "" if len(raw) > 65536 else raw.decode(errors="replace")
 
 
-found, texts = [], []
+found, texts, mended = [], [], []
 for entry in read("hostile.json").split("\n")[:-1]:
     one = json.loads(entry)
-    want(sorted(one) == ["column", "cut", "file", "line", "message", "rule", "text"], f"json: members {sorted(one)}")
+    members = ["column", "cut", "file", "line", "message", "rule", "text"]
+    if "mended" in one:
+        members += ["kind", "mended"]
+        want(not found or found[-1][:2] != (one["file"], one["line"]), f"json: line {one['line']} is mended twice")
+        want(one["kind"] in KINDS, f"json: the kind {one['kind']}")
+    want(sorted(one) == sorted(members), f"json: members {sorted(one)}")
+    mended.append((one["kind"], one["mended"]) if "mended" in one else None)
     found.append((one["file"], one["line"], one["column"], one["rule"], one["message"]))
     text, place = text_of(one), one["column"] - 1
     texts.append(text)
@@ -80,6 +91,8 @@ for entry in read("hostile.json").split("\n")[:-1]:
     if one["rule"] in ("code-point", "host-code-point", "port-digit", "percent"):
         want(names_point(one["message"], text[place]), f"json: {one['message']} of line {one['line']}")
 want(len(found) > 14 * len(names), f"json: {len(found)} diagnostics")
+want(sum(bool(it) for it in mended) > 5 * len(names), f"json: {sum(bool(it) for it in mended)} mended texts")
+want(all(one[3] not in ("not-utf8", "line-too-long") for one, it in zip(found, mended) if it), "json: no text is mended")
 want([name for name in names if name in {one[0] for one in found}] == names, "json: the names of the files")
 want(found == sorted(found, key=lambda one: (names.index(one[0]), one[1])), "json: the order")
 rules = {one[3] for one in found}
@@ -106,13 +119,17 @@ def width(c):
 
 written = read("hostile.caret")
 want(not HIDDEN.search(written.replace("\n", "")), "caret: it has a control")
-rows = written.split("\n")[:-1]
-want(rows[0::3] == read("hostile.gnu").split("\n")[:-1], "caret: other diagnostics")
-for one, text, line, caret in zip(found, texts, rows[1::3], rows[2::3]):
+rows = iter(written.split("\n")[:-1])
+for one, text, it, head in zip(found, texts, mended, read("hostile.gnu").split("\n")[:-1]):
+    want(next(rows, None) == head, "caret: other diagnostics")
+    line, caret = next(rows, ""), next(rows, "")
     part, place = window(text, one[2] - 1)
     want(len(part) <= 200 and line == shown(part), f"caret: {one}: {line[:40]!r} is shown")
     padding = "".join(width(c) for c in line[:place])
     want(caret == padding + "^", f"caret: {one} below {line[:40]!r} stands {caret[:40]!r}")
+    if it:
+        want(next(rows, "") == "help: write " + shown(window(it[1], one[2] - 1)[0]), f"caret: {one}: no help, or another")
+want(next(rows, None) is None, "caret: further lines")
 
 # GitHub: workflow commands, whose values are read back by what the runner's own reader does.
 command = re.compile(r"^::error file=([^,:]*),line=([0-9]+),col=([0-9]+),title=([^,:]*)::(.*)$")
@@ -145,13 +162,23 @@ def sarif(text):
         uri = place["artifactLocation"]["uri"]
         want(urlsplit(uri)[:2] == ("", "") and urlsplit(uri).path == uri, f"sarif: {uri} is no path")
         links.append((result["properties"]["cut"], result["properties"]["text"]))
+        fixes.append((place["artifactLocation"], place["region"]["startLine"], result.get("fixes")))
         told.append((unquote(uri, errors="strict"), place["region"]["startLine"], place["region"]["startColumn"],
                      result["ruleId"], result["message"]["text"]))
     return told
 
 
-links = []
+# A fix replaces the line by the mended text: these members are all that the version asks for (3.55 to 3.57).
+def fix_of(place, line, text, kind, written):
+    region = {"startLine": line, "startColumn": 1, "endColumn": len(text) + 1}
+    replacement = {"deletedRegion": region, "insertedContent": {"text": written}}
+    return [{"description": {"text": KINDS[kind]}, "artifactChanges": [{"artifactLocation": place, "replacements": [replacement]}]}]
+
+
+links, fixes = [], []
 want(sarif(read("hostile.sarif")) == found, "sarif: other diagnostics")
+for (place, line, fix), text, it in zip(fixes, texts, mended):
+    want(fix == (fix_of(place, line, text, *it) if it else None), f"sarif: the fix of line {line}")
 want(links == [(one["cut"], one["text"]) for one in map(json.loads, read("hostile.json").split("\n")[:-1])],
      "sarif: other links")
 want(sarif(read("none.sarif")) == [], "sarif: results without a fault")

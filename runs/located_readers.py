@@ -117,6 +117,39 @@ def checkstyle(text):
                    error.get("source")[len("urlcheck."):], error.get("message"))
 
 
+def blocks(text):
+    """The lines of each diagnostic with a caret: that of gnu, the link, the caret, and what to write, where that is said."""
+    rows = text.split("\n")[:-1]
+    while rows:
+        count = 4 if len(rows) > 3 and rows[3].startswith("help: write ") else 3
+        yield rows[:count]
+        rows = rows[count:]
+
+
+def mended():
+    """What is written in place of the links alone, by the line."""
+    return {one["line"]: one["mended"] for one in map(json.loads, read("alone.json").split("\n")[:-1]) if "mended" in one}
+
+
+def wanted_fixes():
+    """What is to be written in place of the located links: file, line, the columns between which the link stands, text."""
+    by_line = mended()
+    for count, (line, is_located) in enumerate(lines(), 1):
+        if count in by_line:
+            name, number, column, link = FORM.match(line).groups()
+            yield name, int(number), int(column), int(column) + len(link), by_line[count]
+
+
+def fixes(text):
+    for result in json.loads(text)["runs"][0]["results"]:
+        for fix in result.get("fixes", []):
+            (change,) = fix["artifactChanges"]
+            (replacement,) = change["replacements"]
+            region = replacement["deletedRegion"]
+            name = unquote(change["artifactLocation"]["uri"], errors="strict")
+            yield name, region["startLine"], region["startColumn"], region["endColumn"], replacement["insertedContent"]["text"]
+
+
 def read_all():
     want = list(wanted())
     assert len(want) > 300, len(want)
@@ -133,14 +166,19 @@ def read_all():
         if found != expected:
             other = [pair for pair in zip(found, expected) if pair[0] != pair[1]][:2]
             failed.append(f"{kind}: {len(found)} diagnostics of {len(expected)}: {other}")
-    # The lines of a caret: the link alone, with the caret below its place, as in the list of links alone.
-    rows = read("located.caret").split("\n")[:-1]
-    if rows[0::3] != read("located.gnu").split("\n")[:-1]:
+    # The lines of a caret: the link alone, with the caret below its place and what to write, as in the list of links alone.
+    rows = list(blocks(read("located.caret")))
+    if [row[0] for row in rows] != read("located.gnu").split("\n")[:-1]:
         failed.append("caret: other diagnostics")
-    alone = read("alone.caret").split("\n")[:-1]
-    links = [(line, caret) for line, caret, one in zip(rows[1::3], rows[2::3], want) if one[0] != "located.txt" and line]
-    if links[:-1] != list(zip(alone[1::3], alone[2::3])):
+    links = [row[1:] for row, one in zip(rows, want) if one[0] != "located.txt" and row[1]]
+    if links[:-1] != [row[1:] for row in blocks(read("alone.caret"))]:
         failed.append("caret: other links")
+    found = list(fixes(read("located.sarif")))
+    if found != list(wanted_fixes()) or len(found) < 50:
+        failed.append(f"sarif: {len(found)} fixes")
+    written = [one["mended"] for one in map(json.loads, read("located.json").split("\n")[:-1]) if "mended" in one]
+    if written != [one[4] for one in found]:
+        failed.append(f"json: {len(written)} mended texts")
     print("\n".join(failed))
     return 1 if failed else 0
 

@@ -56,13 +56,15 @@ completes() {
 completes 'check' c
 completes '--base' check --ba
 completes '' check --base h
-completes 'port-digit port-range percent' explain p
+completes 'no-scheme not-utf8 not-located' explain no
 completes 'made' vectors ma
 completes 'explain' help ex
 completes 'sarif' lint --format sa
 completes 'sarif' lint --format = sa
 completes 'gnu caret json github sarif checkstyle' lint --format =
 completes '--format=sarif' lint --format=sa
+completes 'screen' lint --columns s
+completes 'code-points bytes utf16 screen' lint --columns =
 completes '' lint --base ma
 completes '--quiet' lint --q
-all_cases 27
+all_cases 29

@@ -55,6 +55,7 @@ awk -v long="${long:0:65000}" 'BEGIN {
 }' >"$room/list"
 walks lint --quiet -
 walks lint --quiet --all --format caret --base "http://h/$long" -
+walks mend --quiet --base "http://h/$long"
 
 # A vector file is read into memory whole: out of memory for its bytes, and for its cases, is reported as such.
 {
@@ -102,4 +103,4 @@ awk -v ends=0 '/^links / { print $2, other; if ($2 != $4 + $6 + $8 || $2 != NR -
     / bad 0 not-utf8$/ { other++ }' "$room/out" | cmp -s - "$room/wanted" ||
     fail "64 MiB of random bytes: $(tail -n 1 "$room/out"), and not $(cat "$room/wanted")"
 
-all_cases 24
+all_cases 25

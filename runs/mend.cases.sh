@@ -23,4 +23,115 @@ expect 2 '' 'base refused 0 no-scheme\n' mend --base '' 'http://h/a b'
 "$program" mend 'http://h/a b' >/dev/full 2>"$room/err"
 ends_with 3 $? 'write\n' 'mend to a full device'
 
-all_cases 16
+# ---- without a TEXT: a filter of lines
+
+# filters STATUS STDOUT STDERR WORD.. : a run of `mend` without a TEXT, on the bytes of $room/list, ends so
+filters() {
+    local status=$1 stdout=$2 stderr=$3 ended
+    shift 3
+    "$program" mend "$@" <"$room/list" >"$room/out" 2>"$room/err"
+    ended=$?
+    ends_with "$status" $ended "$stderr" "mend $*"
+    if ! printf '%b' "$stdout" | cmp -s - "$room/out"; then fail "mend $*: it wrote: $(cat "$room/out")"; fi
+}
+
+# No line, one without LF, and each kind of line with each end.
+printf '' >"$room/list"
+filters 0 '' 'urlcheck: 0 lines, 0 mended (0 same, 0 escaped, 0 changed), 0 refused\n'
+filters 0 '' '' --quiet
+printf 'http://h/a b' >"$room/list"
+filters 0 'http://h/a%20b' 'urlcheck: 1 line, 1 mended (1 same, 0 escaped, 0 changed), 0 refused\n'
+printf 'http://h/a\nhttp://h/a b\r\nhttp://h/a|b\nhttp:c\nhttp://h:x/\r\n\n\377\nhttp://h/\0' >"$room/list"
+filters 1 'http://h/a\nhttp://h/a%20b\r\nhttp://h/a%7Cb\nhttp://c\nhttp://h:x/\r\n\n\0377\nhttp://h/' \
+    'urlcheck: 7 lines, 4 mended (2 same, 1 escaped, 1 changed), 2 refused\n' --base http://h/x
+filters 1 'http://h/a\nhttp://h/a%20b\r\nhttp://h/a|b\nhttp:c\nhttp://h:x/\r\n\n\0377\nhttp://h/' \
+    'urlcheck: 7 lines, 2 mended (2 same, 0 escaped, 0 changed), 4 refused\n' --base http://h/x --only same
+filters 1 'http://h/a\nhttp://h/a b\r\nhttp://h/a%7Cb\nhttp:c\nhttp://h:x/\r\n\n\0377\nhttp://h/\0' '' \
+    --base http://h/x --only=escaped -q
+printf '\357\273\277http://h/ a\n' >"$room/list"
+filters 0 '\0357\0273\0277http://h/%20a\n' '' --quiet
+
+# The base and the profile.
+printf '../a b\nhttp://h_/ a\n' >"$room/list"
+filters 1 '../a b\nhttp://h_/ a\n' 'urlcheck: 2 lines, 0 mended (0 same, 0 escaped, 0 changed), 2 refused\n'
+filters 0 '../a%20b\nhttp://h_/%20a\n' '' --quiet --wide --base http://h/
+filters 0 '../a%20b\nhttp://h_/%20a\n' '' --quiet --profile wide --base http://h/
+filters 2 '' 'base refused 0 no-scheme\n' --base ''
+
+# Words.
+filters 2 '' "urlcheck: no kind is named 'sam'; the nearest is same\nurlcheck: the kinds: same escaped changed\nwords\n" \
+    --only sam
+filters 2 '' "urlcheck: no kind is named ''\nurlcheck: the kinds: same escaped changed\nwords\n" --only ''
+of_lines='urlcheck: --only and --quiet are for the lines of the standard input, not for a TEXT\nwords\n'
+filters 2 '' "$of_lines" --only same urn:a
+filters 2 '' "$of_lines" --quiet urn:a
+
+# Lines of the most bytes and of one more, which stays as it was; and 16 MiB without LF in little memory.
+awk 'BEGIN { printf "http://h/ "; for (n = 10; n < 65536; n++) printf "a" }' >"$room/long"
+{ cat "$room/long"; printf '\r\n'; cat "$room/long"; printf 'a\nhttp://h/a b\n'; } >"$room/list"
+{ sed 's/ /%20/' "$room/long"; printf '\r\n'; cat "$room/long"; printf 'a\nhttp://h/a%%20b\n'; } >"$room/wanted"
+"$program" mend <"$room/list" >"$room/out" 2>"$room/err"
+ends_with 1 $? 'urlcheck: 3 lines, 2 mended (2 same, 0 escaped, 0 changed), 1 refused\n' 'mend of long lines'
+cmp -s "$room/wanted" "$room/out" || fail 'mend of long lines: it wrote other bytes'
+{ printf 'http://h/ \n'; head -c 16777216 /dev/zero | tr '\0' ' '; printf '\nurn:a \n'; } >"$room/list"
+{ printf 'http://h/\n'; head -c 16777216 /dev/zero | tr '\0' ' '; printf '\nurn:a\n'; } >"$room/wanted"
+prlimit --as=$((16 * 1024 * 1024)) "$program" mend <"$room/list" >"$room/out" 2>"$room/err"
+ends_with 1 $? 'urlcheck: 3 lines, 2 mended (2 same, 0 escaped, 0 changed), 1 refused\n' 'mend of a line of 16 MiB'
+cmp -s "$room/wanted" "$room/out" || fail 'mend of a line of 16 MiB: it wrote other bytes'
+
+# A list of 100,000 lines in little memory, made a second time here as it is mended, and that list, which stays.
+awk 'BEGIN {
+    for (n = 1; n <= 100000; n++) {
+        kind = n % 4
+        if (kind == 0) print "https://EXAMPLE.com:443/a/../" n
+        else if (kind == 1) print "http://h/a b?" n
+        else if (kind == 2) print "http://h/a|" n
+        else print "http:\\\\h\\" n
+    }
+}' >"$room/list"
+awk 'BEGIN {
+    for (n = 1; n <= 100000; n++) {
+        kind = n % 4
+        if (kind == 0) print "https://EXAMPLE.com:443/a/../" n
+        else if (kind == 1) print "http://h/a%20b?" n
+        else if (kind == 2) print "http://h/a%7C" n
+        else print "http://h/" n
+    }
+}' >"$room/wanted"
+prlimit --as=$((16 * 1024 * 1024)) "$program" mend <"$room/list" >"$room/out" 2>"$room/err"
+ends_with 0 $? 'urlcheck: 100000 lines, 75000 mended (50000 same, 25000 escaped, 0 changed), 0 refused\n' \
+    'mend of 100,000 lines'
+cmp -s "$room/wanted" "$room/out" || fail 'mend of 100,000 lines: it wrote other bytes'
+"$program" mend --quiet <"$room/wanted" 2>"$room/err" | cmp -s - "$room/wanted" ||
+    fail 'mend of mended lines: it wrote other bytes'
+
+# A pipe that lives: each line is answered before the next one is written.
+mkfifo "$room/mend_ask" "$room/mend_answer"
+"$program" mend --quiet <"$room/mend_ask" >"$room/mend_answer" 2>"$room/err" &
+asked=$!
+exec 8>"$room/mend_ask" 9<"$room/mend_answer"
+for number in 1 2 3; do
+    echo "urn: $number" >&8
+    answer=
+    read -r -t 5 answer <&9
+    count=$((count + 1))
+    if [ "$answer" != "urn:%20$number" ]; then fail "mend of a live pipe: it answered $answer"; fi
+done
+exec 8>&- 9<&-
+wait $asked
+ends_with 0 $? '' 'mend of a live pipe'
+
+# Streams that fail.
+printf 'http://h/a b\n' >"$room/list"
+counted='urlcheck: 1 line, 1 mended (1 same, 0 escaped, 0 changed), 0 refused\n'
+"$program" mend <"$room/list" >/dev/full 2>"$room/err"
+ends_with 3 $? "${counted}write\\n" 'mend of a list to a full device'
+(sleep 0.3; "$program" mend <"$room/list" 2>"$room/err"; echo $? >"$room/status") | true
+ends_with 3 "$(cat "$room/status")" '' 'mend of a list to a closed pipe'
+"$program" mend --quiet <"$room" >"$room/out" 2>"$room/err"
+ends_with 3 $? 'read\n' 'mend of a folder'
+[ ! -s "$room/out" ] || fail "mend of a folder: it wrote $(head -c 40 "$room/out")"
+"$program" mend --quiet <&- >"$room/out" 2>"$room/err"
+ends_with 3 $? 'read\n' 'mend with standard input closed'
+
+all_cases 42

@@ -32,12 +32,20 @@ quietly ./install $prefix
 python=$(cd "$at/lib" && ls -d python*/*-packages)
 {
     sed -e "s|PYTHON|$python|" -e "s|VERSION|$version|" runs/packages/files
-    printf 'share/doc/urlcheck/%s\n' docs/*.md docs/*.svg vectors/*
+    printf 'share/doc/urlcheck/%s\n' docs/*.md docs/*.svg docs/*.png vectors/*
     (cd python && printf "lib/$python/%s\n" urlcheck/*.py urlcheck/py.typed)
 } | sort >"$room/wanted"
 (cd "$at" && find . ! -type d -printf '%P\n' | sort) >"$room/found"
 diff "$room/wanted" "$room/found" ||
     fail "other files are installed than those of runs/packages/files, docs/, vectors/ and python/"
+python3 - "$at/share/doc/urlcheck" <<'PYTHON' || fail "a link of the documents that are installed leads nowhere"
+import pathlib, re, sys
+pages = list(pathlib.Path(sys.argv[1]).rglob("*.md"))
+links = [(page, link) for page in pages for link in re.findall(r"\]\(([^)\s#]+)[^)\s]*\)", page.read_text("utf-8"))]
+lost = [(page.name, link) for page, link in links if ":" not in link and not (page.parent / link).exists()]
+print(*lost, sep="\n", end="\n" if lost else "")
+sys.exit(bool(lost) or not links)
+PYTHON
 cmp "$program" "$at/bin/urlcheck"
 for link in liburlcheck.so liburlcheck.so.0; do
     [ "$(realpath "$at/lib/$link")" = "$(realpath "$at/lib")/liburlcheck.so.$version" ] ||
@@ -68,9 +76,14 @@ grep -qx "prefix=$prefix" "$at/lib/pkgconfig/urlcheck.pc" || fail "the file for 
 python3 runs/library/programs.py "$top" "$room"
 cc "$room/page.c" $(pkg-config --cflags --libs urlcheck) -o "$room/page"
 { LD_LIBRARY_PATH=$at/lib "$room/page" || [ $? = 1 ]; } | cmp - "$room/page.c.out" || fail "the program in C"
-PYTHONPATH=$at/lib/$python LD_LIBRARY_PATH=$at/lib python3 "$room/page.py" | cmp - "$room/page.py.out" ||
+PYTHONPATH=$at/lib/$python python3 "$room/page.py" | cmp - "$room/page.py.out" ||
     fail "the program in Python"
-told=$(PYTHONPATH=$at/lib/$python LD_LIBRARY_PATH=$at/lib python3 -c 'import urlcheck; print(urlcheck.version())')
+# (the package finds the library that was installed with it)
+printf '<a href="http://x_y/">\n' >"$room/page.html"
+{ (cd "$room" && PYTHONPATH=$at/lib/$python python3 "$at/bin/urlcheck-documents" --check page.html 2>"$room/said") ||
+    [ $? = 1 ]; } | cmp - <(echo 'page.html:1:17: error: the host that begins here is no valid domain [host-domain]') ||
+    { cat "$room/said"; fail "urlcheck-documents"; }
+told=$(PYTHONPATH=$at/lib/$python python3 -c 'import urlcheck; print(urlcheck.version())')
 [ "$told" = "$version" ] || fail "the library says that its version is $told"
 told=$(PYTHONPATH=$at/lib/$python python3 -c 'from importlib.metadata import version; print(version("urlcheck"))')
 [ "$told" = "$version" ] || fail "the Python package says that its version is $told"

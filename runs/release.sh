@@ -88,6 +88,9 @@ mkdir "$room/anywhere"
 tar -C "$room/anywhere" -xzf "$room/one/urlcheck-$version-x86_64-linux.tar.gz"
 at=$room/anywhere/urlcheck-$version
 "$at/bin/urlcheck" --version | cmp - <(echo "urlcheck $version") || fail "the archive's program"
+printf '<a href="http://x_y/">\n' >"$room/page.html"
+{ "$at/bin/urlcheck-documents" --check "$room/page.html" 2>"$room/said" || [ $? = 1 ]; } | grep -q 'host-domain]$' ||
+    { cat "$room/said"; fail "the archive's urlcheck-documents"; }
 export PKG_CONFIG_PATH=$at/lib/pkgconfig
 cc "$room/page.c" $(pkg-config --cflags --libs urlcheck) -Wl,-rpath,"$at/lib" -o "$room/page"
 { "$room/page" || [ $? = 1 ]; } | cmp - "$room/page.c.out" || fail "the program in C by the archive"

@@ -1,9 +1,11 @@
 #!/usr/bin/env bash
 # Runs the recipes of docs/USES.md, as they stand there, over the program given as the first argument: on links that are
 # right, on wrong ones, and on what once made a recipe end well though nothing was judged. A recipe whose tool isn't
-# installed is left out, and a line says so.
+# installed is left out, and a line says so. Those for documents are run where URLCHECK_LIBRARY names the library for C,
+# and with the word `documents` these alone, as runs/library.sh does.
 set -uo pipefail
-[ $# = 1 ] && [ -x "$1" ] || { echo 'usage: runs/uses.sh PROGRAM'; exit 2; }
+[ $# -ge 1 ] && [ -x "$1" ] && [ "${*:2}" = '' -o "${*:2}" = documents ] ||
+    { echo 'usage: runs/uses.sh PROGRAM [documents]'; exit 2; }
 for tool in awk find python3; do
     command -v "$tool" >/dev/null || { echo "uses: $tool is missing; CONTRIBUTING.md says what the gate needs"; exit 70; }
 done
@@ -69,28 +71,55 @@ done < <(awk -v fence='^```[a-z]' '/^## / { section = substr($0, 4); delete seen
 right='https://example.com/' wrong='http://h/a b'
 
 # Links that stand in text files and in documents, reported where they stand.
-if has rg; then
+if [ $# = 1 ] && has rg; then
     in_folder text
     recipe 'Links in text files' sh >../text.sh
-    printf 'a\nsee <http://x_y/>, https://example.com/\n' >a.txt
+    printf 'a\nsee <http://x_y/>, https://example.com/\n\303\251 http://x/\303\251^\n' >a.txt
     ends 1 'links in text files' bash -o pipefail ../text.sh
     says 'links in text files' \
-        './a.txt:2:13: error: the host that begins here is no valid domain [host-domain]' 'urlcheck: 2 lines, 1 refused'
+        './a.txt:2:13: error: the host that begins here is no valid domain [host-domain]' \
+        './a.txt:3:15: error: U+005E CIRCUMFLEX ACCENT may not stand in a URL [code-point]' 'urlcheck: 3 lines, 2 refused'
     printf 'see https://example.com/\n' >a.txt
     ends 0 'right links in text files' bash -o pipefail ../text.sh
     cd "$room" || exit 1
 fi
 if [ -n "${URLCHECK_LIBRARY:-}" ]; then
     in_folder pages
-    mkdir docs
-    recipe 'Links in documents' sh >../pages.sh
-    printf '<a href="http://x_y/">a</a>\n<a href="b">b</a>\n' >docs/a.html
-    PYTHONPATH=$top/python ends 1 'links in documents' bash -o pipefail ../pages.sh
-    grep -qx 'docs/a.html:1:17: error: the host that begins here is no valid domain \[host-domain\]' "$room/out" ||
-        { echo "FAILED: links in documents: it wrote: $(cat "$room/out")"; failed=1; }
+    printf '#!/bin/sh\nPYTHONPATH=%s exec python3 -m urlcheck.documents "$@"\n' "$top/python" >../path/urlcheck-documents
+    chmod +x ../path/urlcheck-documents
+    recipe 'Links in documents' sh >../check.sh
+    recipe 'Links in documents' bash >../formats.sh
+    # (a runner runs a step with `shell: bash` so)
+    recipe 'Links in documents' yaml | sed -n 's/^ *run: //p' >../step.sh
+    recipe 'A sitemap or a feed' sh >../feeds.sh
+    sentence='the host that begins here is no valid domain'
+    for recipe in 'check.sh' 'formats.sh' '-eo pipefail step.sh'; do
+        script=../${recipe##* } options=${recipe%"${recipe##* }"}
+        rm -rf docs
+        ends any "documents in no folder, $recipe" bash $options "$script"
+        mkdir docs
+        printf '<a href="http://x_y/">a</a>\n<a href="b">b</a>\n' >docs/a.html
+        ends 1 "wrong links in documents, $recipe" bash $options "$script"
+        grep -qxF -e "docs/a.html:1:17: error: $sentence [host-domain]" \
+            -e "::error file=docs/a.html,line=1,col=17,title=host-domain::$sentence" "$room/out" ||
+            { echo "FAILED: links in documents, $recipe: it wrote: $(cat "$room/out")"; failed=1; }
+        printf '<a href="b">b</a>\n' >docs/a.html
+        ends 0 "right links in documents, $recipe" bash $options "$script"
+        printf '<a>' >docs/b.xml
+        ends any "a document that isn't read, $recipe" bash $options "$script"
+    done
+    printf '<urlset><loc>http://h/ b</loc></urlset>' | tee feed.xml | gzip >sitemap.xml.gz
+    ends 1 'a feed and a sitemap' bash ../feeds.sh
+    for place in feed.xml:1:23: -:1:23:; do
+        grep -qF -e "$place" "$room/out" || { echo "FAILED: a feed and a sitemap: $(cat "$room/out")"; failed=1; }
+    done
     cd "$room" || exit 1
 else
-    echo 'uses: the recipe for documents is left out, since URLCHECK_LIBRARY names no library for C'
+    echo 'uses: the recipes for documents are left out, since URLCHECK_LIBRARY names no library for C'
+fi
+if [ $# = 2 ]; then
+    [ $failed = 0 ] && echo "uses: $count runs of recipes for documents"
+    exit $failed
 fi
 
 # hard_names COMMAND.. : the command in a folder of lists: none, right ones, and wrong ones with names that are hard
@@ -111,6 +140,20 @@ hard_names() {
     echo $right >'two words.links'
     ends 0 "$what of right lists" "$@"
 }
+
+# Lists mended in place: one that can be, one with a line that can't, and one that can't be read.
+in_folder mended
+recipe 'A list mended' sh >../mend.sh
+printf 'http://h/a b\r\nhttp://h/a|b' >'two words.links'
+ends 1 'lists mended' sh ../mend.sh 'two words.links'
+printf 'http://h/a%%20b\r\nhttp://h/a|b' | cmp -s - 'two words.links' ||
+    { echo "FAILED: lists mended: it is $(cat 'two words.links')"; failed=1; }
+printf 'http://h/a b\n' >right.links
+ends 0 'a list mended' sh ../mend.sh right.links
+printf 'http://h/a%%20b\n' | cmp -s - right.links || { echo "FAILED: a list mended: it is $(cat right.links)"; failed=1; }
+mkdir a.links
+ends 2 'a folder mended' sh ../mend.sh a.links right.links
+[ ! -e a.links.new ] || { echo 'FAILED: a folder mended: it left a.links.new'; failed=1; }
 
 in_folder find
 recipe 'As compilers write it' sh >../find.sh
@@ -167,6 +210,18 @@ if has git && has pre-commit; then
     grep -q 'x.links:1:11: error' "$room/out" || { echo "FAILED: pre-commit says: $(cat "$room/out")"; failed=1; }
 fi
 
+# The program of a release, put where a job finds it; one whose bytes are others isn't.
+in_folder fetched
+cp "$room/path/urlcheck" urlcheck-0-x86_64-linux
+{ sha256sum urlcheck-0-x86_64-linux && echo "$(printf '%064d' 0)  another"; } >SHA256SUMS
+recipe 'GitHub and GitLab' sh >../fetched.sh
+ends 0 'a program that was fetched' bash -e ../fetched.sh
+ends 0 'the program that is put there' "$HOME/.local/bin/urlcheck" check $right
+rm -r "$HOME/.local"
+echo x >>urlcheck-0-x86_64-linux
+ends any 'a program with other bytes' bash -e ../fetched.sh
+[ ! -e "$HOME/.local" ] || { echo 'FAILED: a program with other bytes is put there'; failed=1; }
+
 # The steps of workflows: each line that a runner gives to its shell.
 in_folder jobs
 number=0
@@ -190,7 +245,6 @@ done
 in_folder editors
 printf 'http://h/\nhttp://h/\344\270\255e\314\201\tx\n' >'two words.links'
 if has vim; then
-    recipe Vim vim >vimrc
     cat >judge.vim <<'VIM'
 silent make!
 call writefile([printf('%d entries, line %d, %s', len(getqflist()), line('.'), matchstr(getline('.'), '\%' . col('.') . 'c.') ==# "\t")], 'place')
@@ -198,16 +252,21 @@ cfirst
 call writefile([printf('%d entries, line %d, at the tab %d', len(getqflist()), line('.'), getline('.')[col('.') - 1] ==# "\t")], 'place')
 qall!
 VIM
-    ends 0 'vim' timeout 60 vim -Nu vimrc -i NONE -n -es -c 'edit two\ words.links' -c 'source judge.vim'
-    cp place "$room/out" 2>/dev/null || : >"$room/out"
-    says 'vim, of the place' '1 entries, line 2, at the tab 1'
+    recipe Vim vim >bytes.vimrc
+    recipe Vim vim 2 >screen.vimrc
+    for settings in bytes screen; do
+        ends 0 "vim, by $settings" timeout 60 \
+            vim -Nu $settings.vimrc -i NONE -n -es -c 'edit two\ words.links' -c 'source judge.vim'
+        mv place "$room/out" 2>/dev/null || : >"$room/out"
+        says "vim, of the place by $settings" '1 entries, line 2, at the tab 1'
+    done
 fi
 if has emacs; then
     recipe Emacs elisp >settings.el
     cat >judge.el <<'LISP'
 (require 'compile)
-(load (expand-file-name "settings.el") nil t)
-(let ((compilation-buffer (compilation-start "urlcheck lint 'two words.links'")))
+(when (equal (getenv "SETTINGS") "yes") (load (expand-file-name "settings.el") nil t))
+(let ((compilation-buffer (compilation-start (getenv "LINT"))))
   (while (get-buffer-process compilation-buffer) (accept-process-output nil 0.1))
   (accept-process-output nil 0.1)
   (with-current-buffer compilation-buffer
@@ -217,9 +276,13 @@ if has emacs; then
   (with-current-buffer (window-buffer)
     (princ (format "line %d, at the tab %s\n" (line-number-at-pos) (eq (char-after) ?\t)))))
 LISP
-    ends 0 'emacs' timeout 60 emacs -Q --batch -l judge.el
-    tail -n 1 "$room/out" >"$room/last" && mv "$room/last" "$room/out"
-    says 'emacs, of the place' 'line 2, at the tab t'
+    # Emacs stays before a combining mark where it goes by columns of the screen.
+    printf 'http://h/\nhttp://h/\344\270\255\tx\n' >wide.links
+    for run in "yes urlcheck lint 'two words.links'" 'no urlcheck lint --columns screen wide.links'; do
+        ends 0 "emacs, ${run#* }" env SETTINGS="${run%% *}" LINT="${run#* }" timeout 60 emacs -Q --batch -l judge.el
+        tail -n 1 "$room/out" >"$room/last" && mv "$room/last" "$room/out"
+        says "emacs, of the place by ${run#* }" 'line 2, at the tab t'
+    done
 fi
 
 # Documents: each kind, a wrong link in each, a document that is cut, one without links, a link over two lines.

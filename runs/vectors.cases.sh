@@ -14,6 +14,12 @@ expect 0 'vectors 0 pass 0 fail 0\n' '' vectors vectors.json
 vector_file '[{"input":"urn:a","text":"x"},{"input":"x","place":-1,"rule":"no-scheme"},{"input":"x"}]'
 expect 2 '' 'vector 2 malformed\n' vectors vectors.json
 
+# The profile that a case names judges it, and a name that no profile has makes the case malformed.
+vector_file '[{"input":"http://x_y/","profile":"wide","text":"http://x_y/"},{"input":"http://x_y/","place":7,"rule":"host-domain"}]'
+expect 0 'vectors 2 pass 2 fail 0\n' '' vectors vectors.json
+vector_file '[{"input":"urn:a","profile":"Wide","text":"urn:a"}]'
+expect 2 '' 'vector 1 malformed\n' vectors vectors.json
+
 # What is no JSON text: nothing at all, a text that is cut, a comma too many, two values, bytes that aren't UTF-8, a number
 # beyond floats, a byte order mark, arrays a million deep. And a JSON text that is no array.
 for text in '' '[' '[{"input":"urn:a","text":"urn:a"}' '[1,]' '[][]' '["\xff"]' '[1e999]' '\xef\xbb\xbf[]'; do
@@ -70,4 +76,4 @@ count=$((count + 1))
 if ! sed -n '/r##"/,/^"##;$/p' "$suite" | sed '1s/.*r##"//; $d' | cmp -s - "$vectors/standard.json"; then
     fail 'the suite of the tests and vectors/standard.json differ'
 fi
-all_cases 27
+all_cases 29

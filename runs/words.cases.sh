@@ -40,7 +40,7 @@ refused "'urn:b'" check -- urn:a urn:b
 refused "'b'" check -- --base b t
 refused "'chek'" chek urn:a
 refused "'x'" links x
-refused '<TEXT>' mend
+refused "'--format'" mend --format gnu
 refused "'b'" mend a b
 refused '<FILE>' vectors
 expect 2 '' "urlcheck: argument 2 isn't UTF-8\nwords\n" check $'\xff'

@@ -124,6 +124,21 @@ class Documents(unittest.TestCase):
         self.judges("a.html", [("3:48", "code-point"), ("4:11", "code-point"), ("5:49", "code-point"),
                                ("9:26", "code-point"), ("11:40", "code-point")])
 
+    def test_character_references_of_html(self):
+        """As the HTML Standard reads them in attributes, sections 13.2.5.72 to 13.2.5.80."""
+        for written, read in (
+            ("?a&lt=2&copy=3", "?a&lt=2&copy=3"),
+            ("?a&ltx&copy1&reg/", "?a&ltx&copy1\u00ae/"),
+            ("&lt;&amp;&amp&quot;&copy;&none;", "<&&\"\u00a9&none;"),
+            ("&notit;&notin;&ThickSpace;y", "&notit;\u2209\u205f\u200ay"),
+            ("&#97;&#x62&#X63;&#9;&#32;d", "abc\t d"),
+            ("&#127;&#1;&#x80;&#x81;&#xFDD0;", "\x7f\x01\u20ac\x81\ufdd0"),
+            ("&#0;&#xD800;&#x110000;&#xfffffffff1;", "\ufffd\ufffd\ufffd\ufffd"),
+            ("&#;&#x;&;&=&#00000000000097;", "&#;&#x;&;&=a"),
+        ):
+            with self.subTest(written):
+                self.finds("a.html", "<a href='x{}y'>".format(written), "1:10:x{}y\n".format(read))
+
     def test_xml(self):
         self.finds("a.rss", FEED, FEED_LINKS)
         self.judges("a.rss", [("3:18", "code-point"), ("4:51", "port-range"), ("5:62", "percent"), ("6:60", "code-point")])
@@ -135,12 +150,33 @@ class Documents(unittest.TestCase):
         self.judges("a.md", [("1:47", "percent"), ("3:24", "code-point"), ("3:48", "host-ipv6"), ("6:26", "port-digit"),
                              ("7:13", "code-point"), ("14:17", "code-point"), ("15:19", "code-point")])
 
+    @unittest.skipUnless(importlib.util.find_spec("markdown_it"), "markdown-it-py isn't installed")
+    def test_empty_links_of_markdown(self):
+        self.finds("a.md", "[a]() ![]( ) [b](<>) [c](x)\n\n[d]: )\n", "1:5:\n1:12:\n1:19:\n1:26:x\n")
+        self.judges("a.md", [])
+
     @unittest.skipIf(importlib.util.find_spec("markdown_it"), "markdown-it-py is installed")
     def test_markdown_without_its_package(self):
         self.write("a.md", NOTES)
         status, out, said = self.run_on("a.md")
         self.assertEqual((status, out), (2, ""))
-        self.assertIn("markdown-it-py", said)
+        self.assertIn("pip install markdown-it-py", said)
+
+    def test_messages(self):
+        self.write("a.html", """<a href="http://u:p@h/"><a href="http://u@h/"><a href="http://h:8x/">
+<a href="foo://a^b"><a href="a b"><a href="x%4"><a href="a\x7f"><a href="a\u009f"><a href="a\ufdd0">
+""")
+        self.assertEqual(self.run_on("--check", "a.html")[1].splitlines(), [
+            "a.html:1:19: error: a URL string has no credentials: no user name, password or @ before its host [port-digit]",
+            "a.html:1:41: error: a URL string has no credentials: no user name, password or @ before its host [host-domain]",
+            "a.html:1:66: error: U+0078 LATIN SMALL LETTER X is no digit of a port [port-digit]",
+            "a.html:2:17: error: U+005E CIRCUMFLEX ACCENT may not stand in a host [host-code-point]",
+            "a.html:2:31: error: U+0020 SPACE may not stand in a URL [code-point]",
+            "a.html:2:45: error: U+0025 PERCENT SIGN has to be followed by two hex digits [percent]",
+            "a.html:2:59: error: U+007F DELETE may not stand in a URL [code-point]",
+            "a.html:2:72: error: U+009F may not stand in a URL [code-point]",
+            "a.html:2:85: error: U+FDD0 \ufdd0 may not stand in a URL [code-point]",
+        ])
 
     def test_bases(self):
         self.write("none.html", '<a href="//h/C|">')
@@ -149,7 +185,9 @@ class Documents(unittest.TestCase):
         self.judges("base.html", [("1:29", "opaque-base")])
         self.write("given.html", '<a href="/C:/x"><a href="//">')
         self.judges("given.html", [("1:10", "drive-after-host"), ("1:28", "host-missing")], "--base", "file://h/a")
-        self.assertEqual(self.run_on("--check", "--base", "x", "none.html")[0], 2)
+        status, _, said = self.run_on("--check", "--base", "x", "none.html")
+        self.assertEqual(status, 2)
+        self.assertIn("the base is refused at place 0: there is no scheme and no base [no-scheme]", said)
 
     def test_profiles(self):
         self.write("a.html", '<a href="http://a_b/">')
@@ -165,6 +203,14 @@ class Documents(unittest.TestCase):
         self.assertEqual(self.run_on("--type", "html", "-", stdin=b"\n<a href=x>")[1], "-:2:9:x\n")
         self.assertEqual(self.run_on("-")[0], 2)
 
+    def test_folders_that_give_nothing(self):
+        os.mkdir(os.path.join(self.room, "empty"))
+        self.write("a.html", "<a href=x>")
+        status, out, said = self.run_on("--check", "empty", "a.html")
+        self.assertEqual((status, out), (2, ""))
+        self.assertIn("empty: has no document: no name in this folder ends in .html, ", said)
+        self.assertIn("1 document, 1 link", said)
+
     def test_ignored(self):
         self.write("patterns", "# templates\n\\{\\{\n")
         self.write("a.html", '<a href="{{ a }}"><a href="b c">')
@@ -178,10 +224,11 @@ class Documents(unittest.TestCase):
         self.write("utf16.html", "<a href=x>".encode("utf-16"))
         self.write("broken.xml", "<urlset>\n<loc>http://h/</loc><b></urlset>")
         self.write("a.txt", "x")
-        status, out, said = self.run_on("missing.html", "utf16.html", "broken.xml", "a.txt", "a.html")
+        status, out, said = self.run_on("missing.html", "missing", "utf16.html", "broken.xml", "a.txt", "a.html")
         self.assertEqual(status, 2)
         self.assertEqual(out, "broken.xml:2:6:http://h/\na.html:1:9:x\n")
-        for word in ("missing.html: can't be read: No such file", "utf16.html: isn't UTF-8 at byte 0", "broken.xml: 2:",
+        for word in ("missing.html: can't be read: No such file", "missing: can't be read: No such file",
+                     "utf16.html: isn't UTF-8 at byte 0", "broken.xml: 2:",
                      "a.txt: its name's end says no kind"):
             self.assertIn(word, said)
 

@@ -37,6 +37,7 @@ class Errors(unittest.TestCase):
 
     def test_a_base_is_held(self):
         base = urlcheck.Base("http://h_/a", urlcheck.Profile.WIDE)
+        self.assertEqual(repr(base), "Base('http://h_/a', Profile.WIDE)")
         self.assertEqual(urlcheck.check("../x", base).path, "../x")
         self.assertEqual(urlcheck.resolve("../x", base), "http://h_/x")
         self.assertFalse(urlcheck.is_valid("a b", base))

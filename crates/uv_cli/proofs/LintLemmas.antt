@@ -11,6 +11,7 @@ use Rattle.uv_lint.specs.declared.fault.LintFault.TheVariants.{Memory, Read, Wri
 use Rattle.uv_lint.specs.declared.setting.LintSetting.{LintSetting}
 use Rattle.uv_lint.specs.LineViolations.{FileSetting, file_setting}
 use Rattle.uv_lint.specs.Run.{FailsReads, Leaves, Reports, writes_failed}
+use Rattle.uv_report.specs.declared.column.Columns.{Columns}
 use Rattle.uv_report.specs.declared.format.Format.{Format}
 use Rattle.uv_model.specs.Records.Url.{Url}
 use Rattle.uv_resolve.specs.Base.{IsBase}
@@ -20,8 +21,8 @@ use Rattle.uv_cli.specs.declared.ends.End.TheVariants as end
 use Rattle.uv_vectors.specs.declared.fault.CliFault.TheVariants as cli
 use Rattle.uv_cli.specs.declared.linted.Linted.{Linted}
 use Rattle.uv_cli.specs.Stream.{Stream}
-use Rattle.uv_cli.specs.Lint.{FailsAsAnswered, HasLinted, HasLintedAgainst, LintsAll, LintsNamed, LintsNext}
-use Rattle.uv_cli.specs.Lint.{LintsSource, WritesPiece, format_of, most}
+use Rattle.uv_cli.specs.Lint.{AreNamed, FailsAsAnswered, HasLinted, HasLintedAgainst, LintsAll, LintsNamed}
+use Rattle.uv_cli.specs.Lint.{LintsNext, LintsSource, WritesPiece, most}
 use Rattle.uv_cli.specs.Linted.{is_stopped, is_writable, no_file, with_file}
 
 -- what a run over a source has done
@@ -141,22 +142,43 @@ lints_files setting files names before after input rest old new same all =
     subst (λ f. LintsAll (λ file. file_setting file setting) f before after input rest old new) same all
 
 -- what was done against the URL of the base's text
-pub linted_against : (asked : LintJob) (base name : Option (Bor (List ℕ))) (url : Option Url) (format : Format)
-    (end : End) (input rest old new : Stream)
-    → IsBase asked.profile base url → format_of name ≡ Some format
-    → HasLintedAgainst asked url format end input rest old new → HasLinted asked base name end input rest old new
-linted_against asked base name url format (end.Linted linted) input rest old new is named done =
-    (url, format, is, named, done)
-linted_against asked base name url format (end.Fault cli.Memory) input rest old new is named done = done
-linted_against asked base name url format (end.Fault cli.Write) input rest old new is named done = absurd done
-linted_against asked base name url format end.Valid input rest old new is named done = absurd done
-linted_against asked base name url format end.Refused input rest old new is named done = absurd done
-linted_against asked base name url format end.Shown input rest old new is named done = absurd done
-linted_against asked base name url format end.Words input rest old new is named done = absurd done
-linted_against asked base name url format end.UnknownRule input rest old new is named done = absurd done
-linted_against asked base name url format end.UnknownFormat input rest old new is named done = absurd done
-linted_against asked base name url format end.UnknownProfile input rest old new is named done = absurd done
-linted_against asked base name url format (end.BaseRefused refusal) input rest old new is named done = absurd done
-linted_against asked base name url format (end.Stopped fault) input rest old new is named done = absurd done
-linted_against asked base name url format (end.Vectors ended) input rest old new is named done = absurd done
-linted_against asked base name url format end.Unread input rest old new is named done = absurd done
+pub linted_against : (asked : LintJob) (base name unit : Option (Bor (List ℕ))) (url : Option Url) (format : Format)
+    (columns : Columns) (end : End) (input rest old new : Stream)
+    → IsBase asked.profile base url → AreNamed name unit format columns true
+    → HasLintedAgainst asked url format columns end input rest old new
+    → HasLinted asked base name unit end input rest old new
+linted_against asked base name unit url format columns (end.Linted linted) input rest old new is named done =
+    (url, format, columns, is, named, done)
+linted_against asked base name unit url format columns (end.Fault cli.Memory) input rest old new is named done = done
+linted_against asked base name unit url format columns (end.Fault cli.Write) input rest old new is named done =
+    absurd done
+linted_against asked base name unit url format columns end.Valid input rest old new is named done =
+    absurd done
+linted_against asked base name unit url format columns end.Refused input rest old new is named done =
+    absurd done
+linted_against asked base name unit url format columns end.Shown input rest old new is named done =
+    absurd done
+linted_against asked base name unit url format columns end.Words input rest old new is named done =
+    absurd done
+linted_against asked base name unit url format columns end.UnknownRule input rest old new is named done =
+    absurd done
+linted_against asked base name unit url format columns end.UnknownFormat input rest old new is named done =
+    absurd done
+linted_against asked base name unit url format columns end.UnknownColumns input rest old new is named done =
+    absurd done
+linted_against asked base name unit url format columns end.ColumnsRefused input rest old new is named done =
+    absurd done
+linted_against asked base name unit url format columns end.UnknownProfile input rest old new is named done =
+    absurd done
+linted_against asked base name unit url format columns end.UnknownKind input rest old new is named done =
+    absurd done
+linted_against asked base name unit url format columns (end.Filtered filtered) input rest old new is named done =
+    absurd done
+linted_against asked base name unit url format columns (end.BaseRefused refusal) input rest old new is named done =
+    absurd done
+linted_against asked base name unit url format columns (end.Stopped fault) input rest old new is named done =
+    absurd done
+linted_against asked base name unit url format columns (end.Vectors ended) input rest old new is named done =
+    absurd done
+linted_against asked base name unit url format columns end.Unread input rest old new is named done =
+    absurd done

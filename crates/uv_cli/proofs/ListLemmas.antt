@@ -6,8 +6,9 @@ use Rattle.uv_model.specs.Records.Url.{Url}
 use Rattle.uv_resolve.specs.Base.{IsBase}
 use Rattle.uv_cli.specs.declared.ends.End.{End}
 use Rattle.uv_cli.specs.declared.ends.End.TheVariants.{Valid, Refused, Shown, Words, UnknownRule, UnknownFormat}
-use Rattle.uv_cli.specs.declared.ends.End.TheVariants.{UnknownProfile, BaseRefused}
-use Rattle.uv_cli.specs.declared.ends.End.TheVariants.{Fault, Linted, Stopped, Vectors, Unread}
+use Rattle.uv_cli.specs.declared.ends.End.TheVariants.{UnknownColumns, ColumnsRefused, UnknownProfile}
+use Rattle.uv_cli.specs.declared.ends.End.TheVariants.{UnknownKind, BaseRefused}
+use Rattle.uv_cli.specs.declared.ends.End.TheVariants.{Fault, Filtered, Linted, Stopped, Vectors, Unread}
 use Rattle.uv_vectors.specs.declared.fault.CliFault.TheVariants.{Memory, Write}
 use Rattle.uv_cli.specs.Stream.{Stream}
 use Rattle.uv_cli.specs.Jobs.{HasListed, HasListedAgainst}
@@ -24,7 +25,11 @@ listed_against profile base url Shown input rest old new is listed = absurd list
 listed_against profile base url Words input rest old new is listed = absurd listed
 listed_against profile base url UnknownRule input rest old new is listed = absurd listed
 listed_against profile base url UnknownFormat input rest old new is listed = absurd listed
+listed_against profile base url UnknownColumns input rest old new is listed = absurd listed
+listed_against profile base url ColumnsRefused input rest old new is listed = absurd listed
 listed_against profile base url UnknownProfile input rest old new is listed = absurd listed
+listed_against profile base url UnknownKind input rest old new is listed = absurd listed
+listed_against profile base url (Filtered filtered) input rest old new is listed = absurd listed
 listed_against profile base url (Linted linted) input rest old new is listed = absurd listed
 listed_against profile base url (BaseRefused refusal) input rest old new is listed = absurd listed
 listed_against profile base url (Fault Memory) input rest old new is listed = absurd listed

@@ -18,12 +18,16 @@ use Rattle.uv_vectors.specs.declared.fault.CliFault.{CliFault}
 use Rattle.uv_vectors.specs.declared.fault.CliFault.TheVariants as cli
 use Rattle.uv_cli.specs.declared.ends.End.{End}
 use Rattle.uv_cli.specs.declared.ends.End.TheVariants.{Valid, Refused, Shown, Words, UnknownRule, UnknownFormat}
-use Rattle.uv_cli.specs.declared.ends.End.TheVariants.{UnknownProfile, BaseRefused}
-use Rattle.uv_cli.specs.declared.ends.End.TheVariants.{Fault, Linted, Stopped, Vectors, Unread}
+use Rattle.uv_cli.specs.declared.ends.End.TheVariants.{UnknownColumns, ColumnsRefused, UnknownProfile}
+use Rattle.uv_cli.specs.declared.ends.End.TheVariants.{UnknownKind, BaseRefused}
+use Rattle.uv_cli.specs.declared.ends.End.TheVariants.{Fault, Filtered, Linted, Stopped, Vectors, Unread}
 use Rattle.uv_vectors.specs.declared.run.VectorEnd.{VectorEnd}
 use Rattle.uv_vectors.specs.declared.run.VectorEnd.TheVariants as vectors
 use Rattle.uv_cli.specs.declared.unread.FileFault.{FileFault}
 use Rattle.uv_cli.specs.declared.unread.FileFault.TheVariants as file
+use Rattle.uv_filter.specs.declared.fault.FilterFault.TheVariants as filter
+use Rattle.uv_cli.specs.Filtered as spec
+use Rattle.uv_cli.specs.Filtered.{filter_status, filtered_text}
 use Rattle.uv_cli.specs.Linted.{lint_status, linted_text, with_fault}
 
 -- ---- the end of what was given
@@ -68,6 +72,7 @@ end_after_output Valid false = Fault cli.Write
 end_after_output Refused false = Fault cli.Write
 end_after_output Shown false = Fault cli.Write
 end_after_output (Linted linted) false = Linted (with_fault linted Write)
+end_after_output (Filtered filtered) false = Filtered (spec.with_fault filtered filter.Write)
 end_after_output (Vectors vectors.AllPass) false = Fault cli.Write
 end_after_output (Vectors vectors.SomeFail) false = Fault cli.Write
 end_after_output end false = end
@@ -82,10 +87,14 @@ status_of Shown = 0
 status_of Words = 2
 status_of UnknownRule = 2
 status_of UnknownFormat = 2
+status_of UnknownColumns = 2
+status_of ColumnsRefused = 2
 status_of UnknownProfile = 2
+status_of UnknownKind = 2
 status_of (BaseRefused refusal) = 2
 status_of (Fault fault) = 3
 status_of (Linted linted) = lint_status linted
+status_of (Filtered filtered) = filter_status filtered
 status_of (Stopped link.BaseDiffers) = 2
 status_of (Stopped fault) = 3
 status_of (Vectors vectors.AllPass) = 0
@@ -121,7 +130,7 @@ vectors_text vectors.NotArray = codes "vectors not an array\n"
 vectors_text vectors.TooLarge = codes "vectors too large\n"
 vectors_text (vectors.Malformed number) = malformed_text number
 
--- the last line on standard error, with the counts of a lint before it, or nothing
+-- the last line on standard error, with the counts of a lint or a filter before it, or nothing
 abbrev pub error_text : End → List ℕ
 error_text Valid = []
 error_text Refused = []
@@ -129,11 +138,15 @@ error_text Shown = []
 error_text Words = codes "words\n"
 error_text UnknownRule = codes "words\n"
 error_text UnknownFormat = codes "words\n"
+error_text UnknownColumns = codes "words\n"
+error_text ColumnsRefused = codes "words\n"
 error_text UnknownProfile = codes "words\n"
+error_text UnknownKind = codes "words\n"
 error_text (BaseRefused refusal) = base_refused_text refusal
 error_text (Fault cli.Memory) = codes "memory\n"
 error_text (Fault cli.Write) = codes "write\n"
 error_text (Linted linted) = linted_text linted
+error_text (Filtered filtered) = filtered_text filtered
 error_text (Stopped fault) = stopped_text fault
 error_text (Vectors end) = vectors_text end
 error_text Unread = codes "read\n"

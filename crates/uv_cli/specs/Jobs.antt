@@ -25,6 +25,7 @@ use Rattle.uv_cli.specs.Check.{HasWritten, HasWrittenPrefix, RunsAgainst}
 use Rattle.uv_cli.specs.Stream.{Stream}
 use Rattle.uv_cli.specs.Explain.{HasExplained, HasExplainedPrefix}
 use Rattle.uv_cli.specs.Lint.{HasLinted}
+use Rattle.uv_cli.specs.Filter.{HasFiltered}
 use Rattle.uv_cli.specs.Mend.{HasMended}
 
 -- ---- a check
@@ -127,11 +128,15 @@ HasDone (job.Check text base extent profile) bytes end input rest old new =
     AtLent base (λ lent. HasChecked extent profile lent (chars (string_bytes text)) end old new
     × RunsAgainst profile lent (chars (string_bytes text))) × (rest ≡ input)
 HasDone (job.Lint asked) bytes end input rest old new =
-    AtLent asked.base (λ base. AtLent asked.format (λ format. HasLinted asked base format end input rest old new))
+    AtLent asked.base (λ base. AtLent asked.format (λ format. AtLent asked.columns (λ columns.
+    HasLinted asked base format columns end input rest old new)))
 HasDone (job.Links base profile) bytes end input rest old new =
     AtLent base (λ lent. HasListed profile lent end input rest old new)
 HasDone (job.Mend text base profile) bytes end input rest old new =
     AtLent base (λ lent. HasMended profile lent (string_bytes text) end old new) × (rest ≡ input)
+HasDone (job.Filter asked) bytes end input rest old new =
+    AtLent asked.base (λ base. AtLent asked.only (λ only. HasFiltered asked base only end input rest old new))
+HasDone job.FilterOfText bytes ended input rest old new = (ended ≡ end.Words) × (rest ≡ input) × (new ≡ old)
 HasDone (job.Vectors file) bytes end input rest old new = HasRunVectors bytes end old new × (rest ≡ input)
 HasDone (job.Explain rule) bytes end input rest old new =
     AtLent rule (λ lent. HasRunExplain lent end old new) × (rest ≡ input)

@@ -7,5 +7,7 @@ pub mod Jobs
 pub mod Lint
 pub mod Linted
 pub mod Mend
+pub mod Filtered
+pub mod Filter
 pub mod Messages
 pub mod Unread

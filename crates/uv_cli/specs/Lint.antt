@@ -5,9 +5,12 @@ use Rattle.std.specs.Borrow.{Bor}
 use Rattle.std.specs.Io.KnownBytes.{Appends, Consumes, IsAtEnd}
 use Rattle.std.specs.Str.{bytes_eq}
 use Rattle.uv_model.specs.Records.Url.{Url}
+use Rattle.uv_report.specs.declared.column.Columns.{Columns}
+use Rattle.uv_report.specs.declared.column.Columns.TheVariants.{CodePoints}
 use Rattle.uv_report.specs.declared.format.Format.{Format}
 use Rattle.uv_report.specs.declared.format.Format.TheVariants.{Gnu}
-use Rattle.uv_report.specs.Format.{named_format}
+use Rattle.uv_report.specs.Column.{named_columns}
+use Rattle.uv_report.specs.Format.{named_format, takes_columns}
 use Rattle.uv_report.specs.Report.{begin_text, end_text}
 use Rattle.uv_lines.specs.declared.limits.LineLimits.{LineLimits}
 use Rattle.uv_lint.specs.declared.counts.LintCounts.{LintCounts}
@@ -34,19 +37,25 @@ abbrev pub format_of : Option (Bor (List ℕ)) → Option Format
 format_of None = Some Gnu
 format_of (Some name) = named_format name.now
 
+-- what the name says that columns count, or code points where nothing is named
+abbrev pub columns_of : Option (Bor (List ℕ)) → Option Columns
+columns_of None = Some CodePoints
+columns_of (Some name) = named_columns name.now
+
 -- what a line is: where each is to say where its link stands, it is that, else a text
 abbrev pub form_of : Bool → LineForm
 form_of true = Located
 form_of false = Plain
 
 -- the setting of a file of the job, by its name
-abbrev pub setting_of : LintJob → Option Url → Format → List ℕ → FileSetting
-setting_of asked base format file = record {
+abbrev pub setting_of : LintJob → Option Url → Format → Columns → List ℕ → FileSetting
+setting_of asked base format columns file = record {
   file = file;
   base = base;
   profile = asked.profile;
   extent = asked.extent;
   format = format;
+  columns = columns;
   form = form_of asked.located;
 }
 
@@ -152,34 +161,48 @@ WritesPiece true piece before after old new = (is_out : Bool) × WritesOrStops i
 WritesPiece false piece before after old new = (after ≡ before) × (new ≡ old)
 
 -- the report on the files was written: what it begins with, the report on each file, and what it ends with
-pub record IsLinted (setting : List ℕ → FileSetting) (format : Format) (files : List (List ℕ)) (is_quiet : Bool)
-    (linted : Linted) (input rest old new : Stream) : Type 0 where
+pub record IsLinted (setting : List ℕ → FileSetting) (format : Format) (columns : Columns) (files : List (List ℕ))
+    (is_quiet : Bool) (linted : Linted) (input rest old new : Stream) : Type 0 where
   pub first : Linted
   pub last : Linted
   pub begun : Stream
   pub ended : Stream
-  pub begins : WritesPiece true (begin_text format) (no_file is_quiet) first old begun
+  pub begins : WritesPiece true (begin_text format columns) (no_file is_quiet) first old begun
   pub all : LintsAll setting files first last input rest begun ended
   pub ends : WritesPiece (is_writable last.stopped) (end_text format (completion_of last)) last linted ended new
 
 -- what was read and written of the files against a URL as base
-abbrev pub HasLintedAgainst : LintJob → Option Url → Format → End → Stream → Stream → Stream → Stream → Type 0
-HasLintedAgainst asked base format (end.Linted linted) input rest old new =
-    IsLinted (setting_of asked base format) format (map string_bytes asked.files.items) asked.quiet linted
-    input rest old new
-HasLintedAgainst asked base format (end.Fault cli.Memory) input rest old new = (rest ≡ input) × (new ≡ old)
-HasLintedAgainst asked base format _ input rest old new = ⊥
+abbrev pub HasLintedAgainst : LintJob → Option Url → Format → Columns → End → Stream → Stream → Stream → Stream
+    → Type 0
+HasLintedAgainst asked base format columns (end.Linted linted) input rest old new =
+    IsLinted (setting_of asked base format columns) format columns (map string_bytes asked.files.items) asked.quiet
+    linted input rest old new
+HasLintedAgainst asked base format columns (end.Fault cli.Memory) input rest old new = (rest ≡ input) × (new ≡ old)
+HasLintedAgainst asked base format columns _ input rest old new = ⊥
 
--- The same by the texts that the job has. The format is found first, and then the base is judged alone, before anything
--- is read or written.
-abbrev pub HasLinted : LintJob → Option (Bor (List ℕ)) → Option (Bor (List ℕ)) → End
+-- these names say in which format it is reported, and what columns count; the format takes such columns, or doesn't
+pub record AreNamed (name unit : Option (Bor (List ℕ))) (format : Format) (columns : Columns) (takes : Bool)
+    : Type 0 where
+  pub format_is : format_of name ≡ Some format
+  pub columns_are : columns_of unit ≡ Some columns
+  pub takes_is : takes_columns format columns ≡ takes
+
+-- The same by the texts that the job has: its base, the name of the format, and that of what columns count. Both names
+-- are looked up first, and then the base is judged alone, before anything is read or written.
+abbrev pub HasLinted : LintJob → Option (Bor (List ℕ)) → Option (Bor (List ℕ)) → Option (Bor (List ℕ)) → End
     → Stream → Stream → Stream → Stream → Type 0
-HasLinted asked base name end.UnknownFormat input rest old new =
+HasLinted asked base name unit end.UnknownFormat input rest old new =
     (format_of name ≡ None) × (rest ≡ input) × (new ≡ old)
-HasLinted asked base name (end.BaseRefused refusal) input rest old new =
+HasLinted asked base name unit end.UnknownColumns input rest old new =
+    (columns_of unit ≡ None) × (rest ≡ input) × (new ≡ old)
+HasLinted asked base name unit end.ColumnsRefused input rest old new =
+    ((format : Format) × (columns : Columns) × AreNamed name unit format columns false)
+    × (rest ≡ input) × (new ≡ old)
+HasLinted asked base name unit (end.BaseRefused refusal) input rest old new =
     IsBaseRefused asked.profile base refusal × (rest ≡ input) × (new ≡ old)
-HasLinted asked base name (end.Fault cli.Memory) input rest old new = (rest ≡ input) × (new ≡ old)
-HasLinted asked base name (end.Linted linted) input rest old new =
-    (url : Option Url) × (format : Format) × IsBase asked.profile base url × (format_of name ≡ Some format)
-    × HasLintedAgainst asked url format (end.Linted linted) input rest old new
-HasLinted asked base name _ input rest old new = ⊥
+HasLinted asked base name unit (end.Fault cli.Memory) input rest old new = (rest ≡ input) × (new ≡ old)
+HasLinted asked base name unit (end.Linted linted) input rest old new =
+    (url : Option Url) × (format : Format) × (columns : Columns) × IsBase asked.profile base url
+    × AreNamed name unit format columns true
+    × HasLintedAgainst asked url format columns (end.Linted linted) input rest old new
+HasLinted asked base name unit _ input rest old new = ⊥

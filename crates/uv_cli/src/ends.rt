@@ -6,9 +6,11 @@ ghost use Rattle.uv_cli.specs.Ends.{vectors_text};
 
 use crate::check::CheckEnd;
 use crate::explain::ExplainEnd;
+use crate::filtered::Filtered;
 use crate::linted::Linted;
 use crate::unread::FileFault;
 use std::alloc::{AllocError, Global};
+use uv_filter::FilterFault;
 use uv_links::{Counts, LinkFault};
 use uv_lint::LintFault;
 use uv_model::Refusal;
@@ -30,14 +32,22 @@ pub enum End {
     UnknownRule,
     /// An argument that has to be the name of a format is the name of none.
     UnknownFormat,
+    /// An argument that has to be the name of what columns count is the name of nothing.
+    UnknownColumns,
+    /// The format has no word for what columns are to count.
+    ColumnsRefused,
     /// An argument that has to be the name of a profile is the name of none.
     UnknownProfile,
+    /// An argument that has to be the name of a kind of mended texts is the name of none.
+    UnknownKind,
     /// The base's text is refused alone, for this reason.
     BaseRefused(Refusal),
     /// An allocation failed, or a write or a flush failed.
     Fault(CliFault),
     /// The lint of files has come to this.
     Linted(Linted),
+    /// The filter of lines has come to this.
+    Filtered(Filtered),
     /// The run over a list stopped.
     Stopped(LinkFault),
     /// The run over a vector file ended so.
@@ -128,6 +138,9 @@ pub(crate) fn end_after_output(end: End, is_out: bool) -> End
     match end {
         End::Valid | End::Refused | End::Shown if !is_out => End::Fault(CliFault::Write),
         End::Linted(linted) if !is_out => End::Linted(linted.with_fault(LintFault::Write)),
+        End::Filtered(filtered) if !is_out => {
+            End::Filtered(filtered.with_fault(FilterFault::Write))
+        }
         End::Vectors(VectorEnd::AllPass | VectorEnd::SomeFail) if !is_out => {
             End::Fault(CliFault::Write)
         }
@@ -145,7 +158,9 @@ pub fn status(end: End) -> u8
         End::Valid | End::Shown | End::Vectors(VectorEnd::AllPass) => 0,
         End::Refused | End::Vectors(VectorEnd::SomeFail) => 1,
         End::Linted(linted) => linted.status(),
+        End::Filtered(filtered) => filtered.status(),
         End::Words | End::UnknownRule | End::UnknownFormat | End::UnknownProfile => 2,
+        End::UnknownColumns | End::ColumnsRefused | End::UnknownKind => 2,
         End::BaseRefused(_) | End::Vectors(_) => 2,
         End::Stopped(LinkFault::BaseDiffers) => 2,
         End::Fault(_) | End::Stopped(_) | End::Unread => 3,
@@ -153,7 +168,7 @@ pub fn status(end: End) -> u8
 }
 
 /// What is said on standard error at the end: the last line, which says to a script why there is a status above 1, or
-/// nothing; of a lint also the counts.
+/// nothing; of a lint and a filter also the counts.
 pub fn error_line(alloc: Global, end: End) -> Result<String, AllocError>
     ensures { IfOk result (λ text. string_bytes text ≡ error_text end) }
 {
@@ -162,7 +177,11 @@ pub fn error_line(alloc: Global, end: End) -> Result<String, AllocError>
         End::Words | End::UnknownRule | End::UnknownFormat | End::UnknownProfile => {
             "words\n".to_string(alloc)
         }
+        End::UnknownColumns | End::ColumnsRefused | End::UnknownKind => {
+            "words\n".to_string(alloc)
+        }
         End::Linted(linted) => linted.error_lines(alloc),
+        End::Filtered(filtered) => filtered.error_lines(alloc),
         End::BaseRefused(refusal) => base_refused_line(alloc, refusal),
         End::Fault(CliFault::Memory) => "memory\n".to_string(alloc),
         End::Fault(CliFault::Write) => "write\n".to_string(alloc),

@@ -7,6 +7,7 @@ ghost use Rattle.uv_cli.specs.Mend.{HasMended};
 use crate::check::{run_check, run_faults};
 use crate::ends::{End, end_of_check, end_of_explanation, end_of_vectors};
 use crate::explain::run_explain;
+use crate::filter::filter_lines;
 use crate::links::list_links;
 use crate::lint::lint_files;
 use crate::mend::run_mend;
@@ -18,10 +19,10 @@ use uv_words::Job;
 
 /// Does what a job asks for: it checks the job's text, against the job's base and by the profile that the job names, or
 /// says what to write in its place, or says what is wrong with the lines of the job's files, or reports on the lines of
-/// the input, or runs the cases of a vector file, or explains the job's rule, or each rule.
+/// the input, or mends them, or runs the cases of a vector file, or explains the job's rule, or each rule.
 ///
 /// The file has the bytes of the job's file, and only a run of vectors looks at it. A lint opens its files itself. The
-/// input is read only by a list, and by a lint for a file that is named `-`, and the output isn't flushed.
+/// input is read only by a list, by a filter, and by a lint for a file that is named `-`, and the output isn't flushed.
 pub fn run_job<R: Files + Eprint + AllocGlobal, I: Source, S: Sink>(
     rt: &R,
     job: &Job,
@@ -57,6 +58,7 @@ pub fn run_job<R: Files + Eprint + AllocGlobal, I: Source, S: Sink>(
             asked,
             asked.base.as_deref(),
             asked.format.as_deref(),
+            asked.columns.as_deref(),
             input,
             out,
         ),
@@ -66,6 +68,15 @@ pub fn run_job<R: Files + Eprint + AllocGlobal, I: Source, S: Sink>(
             base,
             profile,
         } => mend_text(alloc, text.as_str(), base.as_deref(), *profile, out),
+        Job::Filter(asked) => filter_lines(
+            alloc,
+            asked,
+            asked.base.as_deref(),
+            asked.only.as_deref(),
+            input,
+            out,
+        ),
+        Job::FilterOfText => End::Words,
         Job::Vectors { .. } => vectors_run(alloc, file, out),
         Job::Explain { rule } => explained(alloc, rule.as_deref(), out),
         Job::UnknownProfile { .. } => End::UnknownProfile,

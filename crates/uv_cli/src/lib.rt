@@ -5,6 +5,8 @@ mod arguments;
 mod check;
 mod ends;
 mod explain;
+mod filter;
+mod filtered;
 mod jobs;
 mod links;
 mod lint;
@@ -20,11 +22,12 @@ mod watched;
 pub use check::{CheckEnd, run_check, run_faults};
 pub use ends::{End, error_line, status};
 pub use explain::{ExplainEnd, run_explain};
+pub use filtered::Filtered;
 pub use jobs::run_job;
 pub use linted::Linted;
 pub use mend::run_mend;
 pub use uv_vectors::{CliFault, VectorEnd, run_vectors};
-pub use uv_words::{Job, LintJob, WordsFault, read_words};
+pub use uv_words::{FilterJob, Job, LintJob, WordsFault, read_words};
 
 #[cfg(test)]
 mod tests;

@@ -4,7 +4,7 @@ ghost use Rattle.std.specs.Str.{bytes_eq};
 ghost use Rattle.uv_lint.specs.LineViolations.{file_setting};
 ghost use Rattle.uv_report.specs.Report.{begin_text};
 ghost use Rattle.uv_cli.specs.Lint.{HasLinted, HasLintedAgainst, LintsAll, LintsNamed, LintsNext, LintsNothing};
-ghost use Rattle.uv_cli.specs.Lint.{LintsOpened, IsUnopened, WritesPiece, form_of, format_of};
+ghost use Rattle.uv_cli.specs.Lint.{LintsOpened, IsUnopened, WritesPiece, columns_of, form_of, format_of};
 ghost use Rattle.uv_cli.specs.Linted.{is_stopped, is_writable};
 
 use crate::arguments::said_of;
@@ -19,7 +19,7 @@ use std::fs::Files;
 use std::io::ErrorKind;
 use uv_lint::{LineForm, LintCounts, LintFault, LintSetting, run_lint};
 use uv_model::{DeviceFault, FromReader, Record, Sink, Source, write_whole};
-use uv_report::{Format, end_of, push_begin};
+use uv_report::{Columns, Format, end_of, push_begin};
 use uv_resolve::{ResolveFault, resolve_base};
 use uv_vectors::CliFault;
 use uv_words::LintJob;
@@ -31,8 +31,9 @@ const NONE_COUNTED: LintCounts = LintCounts {
 };
 
 /// Reports on the lines of the job's files, in their order: in the format with the name, or in that of compilers, and
-/// alone or against the base, which is resolved alone, before anything is read. The base and the name are the texts
-/// that the job has. The input is read for each file named `-`.
+/// alone or against the base, which is resolved alone, before anything is read. Columns count what the unit says, or
+/// code points. The base, the name and the unit are the texts that the job has. The input is read for each file named
+/// `-`.
 ///
 /// A file that can't be opened, or not be read to its end, is reported on standard error by its name, and the next
 /// files go on. Another fault stops the lint; what the report ends with is still written where no write has failed.
@@ -41,12 +42,13 @@ pub(crate) fn lint_files<R: Files + Eprint + AllocGlobal, I: Source, S: Sink>(
     job: &LintJob,
     base: Option<&str>,
     name: Option<&str>,
+    unit: Option<&str>,
     input: &mut I,
     out: &mut S,
 ) -> End
     requires reads { I.failed input.old < 2 ^ 64 - 1 }
     requires writes { S.failed out.old < 2 ^ 64 - 1 }
-    ensures { HasLinted job.now base.entry name.entry result
+    ensures { HasLinted job.now base.entry name.entry unit.entry result
         (record { bytes = I.remaining input.old; failed = I.failed input.old })
         (record { bytes = I.remaining input.new; failed = I.failed input.new })
         (record { bytes = S.contents out.old; failed = S.failed out.old })
@@ -55,8 +57,14 @@ pub(crate) fn lint_files<R: Files + Eprint + AllocGlobal, I: Source, S: Sink>(
     let Some(format) = format_of(name) else {
         return End::UnknownFormat;
     };
+    let Some(columns) = columns_of(unit) else {
+        return End::UnknownColumns;
+    };
+    if !format.takes_columns(columns) {
+        return End::ColumnsRefused;
+    }
     match resolve_base(rt.alloc(), base, job.profile) {
-        Ok(base) => lint_against(rt, job, base.as_ref(), format, input, out),
+        Ok(base) => lint_against(rt, job, base.as_ref(), format, columns, input, out),
         Err(ResolveFault::Refused(refusal)) => End::BaseRefused(refusal),
         Err(ResolveFault::Memory(_)) => End::Fault(CliFault::Memory),
     }
@@ -69,6 +77,16 @@ fn format_of(name: Option<&str>) -> Option<Format>
     match name {
         Some(name) => Format::of_name(name),
         None => Some(Format::Gnu),
+    }
+}
+
+// What columns count by its name, or code points where nothing is named.
+fn columns_of(name: Option<&str>) -> Option<Columns>
+    ensures { result ≡ columns_of name.entry }
+{
+    match name {
+        Some(name) => Columns::of_name(name),
+        None => Some(Columns::CodePoints),
     }
 }
 
@@ -89,12 +107,13 @@ fn lint_against<R: Files + Eprint + AllocGlobal, I: Source, S: Sink>(
     job: &LintJob,
     base: Option<&Record>,
     format: Format,
+    columns: Columns,
     input: &mut I,
     out: &mut S,
 ) -> End
     requires reads { I.failed input.old < 2 ^ 64 - 1 }
     requires writes { S.failed out.old < 2 ^ 64 - 1 }
-    ensures { HasLintedAgainst job.now (option_copied base.entry) format result
+    ensures { HasLintedAgainst job.now (option_copied base.entry) format columns result
         (record { bytes = I.remaining input.old; failed = I.failed input.old })
         (record { bytes = I.remaining input.new; failed = I.failed input.new })
         (record { bytes = S.contents out.old; failed = S.failed out.old })
@@ -105,9 +124,10 @@ fn lint_against<R: Files + Eprint + AllocGlobal, I: Source, S: Sink>(
         profile: job.profile,
         extent: job.extent,
         format,
+        columns,
         form: form_of(job.located),
     };
-    let Ok(begin) = begin_of(rt.alloc(), format) else {
+    let Ok(begin) = begin_of(rt.alloc(), format, columns) else {
         return End::Fault(CliFault::Memory);
     };
     let linted = write_piece(out, begin.as_str(), Linted::new(job.quiet));
@@ -116,11 +136,11 @@ fn lint_against<R: Files + Eprint + AllocGlobal, I: Source, S: Sink>(
 }
 
 // What a report begins with.
-fn begin_of(alloc: Global, format: Format) -> Result<String, AllocError>
-    ensures { IfOk result (λ begin. string_bytes begin ≡ begin_text format) }
+fn begin_of(alloc: Global, format: Format, columns: Columns) -> Result<String, AllocError>
+    ensures { IfOk result (λ begin. string_bytes begin ≡ begin_text format columns) }
 {
     let mut begin = String::new(alloc);
-    push_begin(alloc, &mut begin, format)?;
+    push_begin(alloc, &mut begin, format, columns)?;
     Ok(begin)
 }
 

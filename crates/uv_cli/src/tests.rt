@@ -4,6 +4,7 @@ ghost use Rattle.std.specs.Prelude.{None};
 
 mod explain;
 mod faults;
+mod filter;
 mod lint;
 mod memory;
 mod program;

@@ -1,12 +1,14 @@
-//! Names that none has: of a rule, a format or a profile.
+//! Names that none has: of a rule, a format, what columns count, a profile or a kind of mended texts.
 ghost use Rattle.std.specs.Prelude.{◌≡◌, ◌++◌, IfOk, OnOk, option_copied, string_bytes};
 ghost use Rattle.uv_cli.specs.Messages.{named_text, near_text, unknown_text};
 
 use crate::ends::End;
+use crate::messages::message_line;
 use std::alloc::{AllocError, Global};
 use strsim::levenshtein;
+use uv_mend::MendKind;
 use uv_model::{Profile, Rule};
-use uv_report::{Format, LineViolation, push_shown};
+use uv_report::{Columns, Format, LineViolation, push_shown};
 use uv_words::Job;
 
 // The formats in the order of docs and help.
@@ -19,24 +21,93 @@ const FORMATS: [Format; 6] = [
     Format::Checkstyle,
 ];
 
+// What columns count, in the order of docs and help.
+const COLUMNS: [Columns; 4] = [
+    Columns::CodePoints,
+    Columns::Bytes,
+    Columns::Utf16,
+    Columns::Screen,
+];
+
+// The kinds in the order of docs and help.
+const KINDS: [MendKind; 3] = [MendKind::Same, MendKind::Escaped, MendKind::Changed];
+
+// What is named: one, and all of them.
+#[derive(Clone, Copy)]
+struct Noun {
+    one: &'static str,
+    all: &'static str,
+}
+
+const RULE: Noun = Noun {
+    one: "rule",
+    all: "rules",
+};
+
+const FORMAT: Noun = Noun {
+    one: "format",
+    all: "formats",
+};
+
+const UNIT: Noun = Noun {
+    one: "column unit",
+    all: "column units",
+};
+
+const SARIF_UNIT: Noun = Noun {
+    one: "column unit of sarif",
+    all: "column units of sarif",
+};
+
+const PROFILE: Noun = Noun {
+    one: "profile",
+    all: "profiles",
+};
+
+const KIND: Noun = Noun {
+    one: "kind",
+    all: "kinds",
+};
+
+// What is said where one text is to be mended as lines are.
+const OF_LINES: &str = "--only and --quiet are for the lines of the standard input, not for a TEXT";
+
 /// What is reported before the last line where a job names what there is none of: the name, the nearest one, if one is
-/// near, and the names that there are.
+/// near, and the names that there are; and where it asks of a text what is asked of lines.
 pub(crate) fn unknown_lines(alloc: Global, job: &Job, end: End) -> Result<String, AllocError> {
     match job {
         Job::Explain { rule: Some(name) } if end == End::UnknownRule => {
-            lines(alloc, "rule", name.as_str(), rule_names(alloc)?.as_slice())
+            lines(alloc, RULE, name.as_str(), rule_names(alloc)?.as_slice())
         }
         Job::Lint(asked) if end == End::UnknownFormat => {
             let name = asked.format.as_deref().unwrap_or("");
-            lines(alloc, "format", name, format_names(alloc)?.as_slice())
+            lines(alloc, FORMAT, name, format_names(alloc)?.as_slice())
         }
+        Job::Lint(asked) => unit_lines(alloc, asked.columns.as_deref().unwrap_or(""), end),
+        Job::Filter(asked) if end == End::UnknownKind => {
+            let name = asked.only.as_deref().unwrap_or("");
+            lines(alloc, KIND, name, kind_names(alloc)?.as_slice())
+        }
+        Job::FilterOfText => message_line(alloc, OF_LINES),
         Job::UnknownProfile { name } => {
             lines(
                 alloc,
-                "profile",
+                PROFILE,
                 name.as_str(),
                 profile_names(alloc)?.as_slice(),
             )
+        }
+        _ => Ok(String::new(alloc)),
+    }
+}
+
+// What is reported of a lint that names what columns count, where nothing has that name, or SARIF no word for it.
+fn unit_lines(alloc: Global, name: &str, end: End) -> Result<String, AllocError> {
+    match end {
+        End::UnknownColumns => lines(alloc, UNIT, name, unit_names(alloc, None)?.as_slice()),
+        End::ColumnsRefused => {
+            let names = unit_names(alloc, Some(Format::Sarif))?;
+            lines(alloc, SARIF_UNIT, name, names.as_slice())
         }
         _ => Ok(String::new(alloc)),
     }
@@ -62,6 +133,25 @@ fn format_names(alloc: Global) -> Result<Vec<&'static str>, AllocError> {
     Ok(names)
 }
 
+// The names of what columns may count, in a format where one is given.
+fn unit_names(alloc: Global, format: Option<Format>) -> Result<Vec<&'static str>, AllocError> {
+    let mut names = Vec::new(alloc);
+    for columns in &COLUMNS {
+        if format.is_none_or(|format| format.takes_columns(*columns)) {
+            names.push(columns.name())?;
+        }
+    }
+    Ok(names)
+}
+
+fn kind_names(alloc: Global) -> Result<Vec<&'static str>, AllocError> {
+    let mut names = Vec::new(alloc);
+    for kind in &KINDS {
+        names.push(kind.name())?;
+    }
+    Ok(names)
+}
+
 fn profile_names(alloc: Global) -> Result<Vec<&'static str>, AllocError> {
     let mut names = Vec::new(alloc);
     for profile in &Profile::in_order() {
@@ -71,9 +161,9 @@ fn profile_names(alloc: Global) -> Result<Vec<&'static str>, AllocError> {
 }
 
 // What is reported of a name that none has, of the kind that the noun says.
-fn lines(alloc: Global, noun: &str, name: &str, names: &[&str]) -> Result<String, AllocError> {
-    let mut text = unknown_line(alloc, noun, name, nearest(alloc, name, names)?)?;
-    push_names(&mut text, noun, names)?;
+fn lines(alloc: Global, noun: Noun, name: &str, names: &[&str]) -> Result<String, AllocError> {
+    let mut text = unknown_line(alloc, noun.one, name, nearest(alloc, name, names)?)?;
+    push_names(&mut text, noun.all, names)?;
     Ok(text)
 }
 
@@ -115,11 +205,11 @@ fn push_near(text: &mut String, near: Option<&str>) -> Result<(), AllocError>
     text.push_str("\n")
 }
 
-// Pushes the line of the names that there are.
+// Pushes the line of the names that there are, of what the noun says.
 fn push_names(text: &mut String, noun: &str, names: &[&str]) -> Result<(), AllocError> {
     text.push_str("urlcheck: the ")?;
     text.push_str(noun)?;
-    text.push_str("s:")?;
+    text.push_str(":")?;
     for name in names {
         text.push_str(" ")?;
         text.push_str(name)?;

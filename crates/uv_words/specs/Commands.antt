@@ -22,6 +22,10 @@ quiet_rule = record (flag_rule (codes "quiet")) { short = Some 113 }
 abbrev pub text_rule : Rule
 text_rule = record (new_rule (codes "TEXT")) { required = true }
 
+-- TEXT, or none
+abbrev pub mended_rule : Rule
+mended_rule = new_rule (codes "TEXT")
+
 -- FILE
 abbrev pub file_rule : Rule
 file_rule = record (new_rule (codes "FILE")) { required = true }
@@ -42,13 +46,16 @@ check_command =
     (flag_rule (codes "wide")))
     text_rule
 
--- `lint [--base TEXT] [--all] [--profile PROFILE] [--wide] [--format FORMAT] [--located] [--quiet] FILE..`
+-- `lint [--base TEXT] [--all] [--profile PROFILE] [--wide] [--format FORMAT] [--columns UNIT] [--located] [--quiet]
+-- FILE..`
 abbrev pub lint_command : App
 lint_command =
-    with_rule (with_rule (with_rule (with_rule (with_rule (with_rule (with_rule (with_rule (new_app (codes "lint"))
+    with_rule (with_rule (with_rule (with_rule (with_rule (with_rule (with_rule (with_rule (with_rule
+    (new_app (codes "lint"))
     (option_rule (codes "base"))) (flag_rule (codes "all"))) (option_rule (codes "profile")))
     (flag_rule (codes "wide")))
-    (option_rule (codes "format"))) (flag_rule (codes "located"))) quiet_rule) files_rule
+    (option_rule (codes "format"))) (option_rule (codes "columns"))) (flag_rule (codes "located"))) quiet_rule)
+    files_rule
 
 -- `links [--base TEXT] [--profile PROFILE] [--wide]`
 abbrev pub links_command : App
@@ -56,11 +63,12 @@ links_command =
     with_rule (with_rule (with_rule (new_app (codes "links"))
     (option_rule (codes "base"))) (option_rule (codes "profile"))) (flag_rule (codes "wide"))
 
--- `mend [--base TEXT] [--profile PROFILE] [--wide] TEXT`
+-- `mend [--base TEXT] [--profile PROFILE] [--wide] [--only KIND] [--quiet] [TEXT]`
 abbrev pub mend_command : App
 mend_command =
-    with_rule (with_rule (with_rule (with_rule (new_app (codes "mend"))
-    (option_rule (codes "base"))) (option_rule (codes "profile"))) (flag_rule (codes "wide"))) text_rule
+    with_rule (with_rule (with_rule (with_rule (with_rule (with_rule (new_app (codes "mend"))
+    (option_rule (codes "base"))) (option_rule (codes "profile"))) (flag_rule (codes "wide")))
+    (option_rule (codes "only"))) quiet_rule) mended_rule
 
 -- `vectors FILE`
 abbrev pub vectors_command : App

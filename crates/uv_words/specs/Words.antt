@@ -1,5 +1,5 @@
 -- What the arguments of the command line ask for, by `clap`'s definition of the arguments that a command takes.
-use Rattle.std.specs.Prelude.{◌≡◌, ◌≢◌, Bool, List, Option, Some, None, true, false, String, codes, map}
+use Rattle.std.specs.Prelude.{◌≡◌, ◌≢◌, ◌||◌, Bool, List, Option, Some, None, true, false, String, codes, is_some, map}
 use Rattle.std.specs.Prelude.{option_and_then, option_map, string_bytes, if◌then◌else◌}
 use Rattle.std.specs.Option.{option_map_or}
 use Rattle.std.specs.Str.{bytes_eq}
@@ -17,6 +17,7 @@ use Rattle.uv_model.specs.ProfileName.{named_profile}
 use Rattle.uv_words.specs.Commands.{urlcheck}
 use Rattle.uv_words.specs.declared.profile.Asked.{Asked}
 use Rattle.uv_words.specs.declared.profile.Asked.TheVariants as asked
+use Rattle.uv_words.specs.declared.words.FilterJob.{FilterJob}
 use Rattle.uv_words.specs.declared.words.Job.{Job}
 use Rattle.uv_words.specs.declared.words.Job.TheVariants as job
 use Rattle.uv_words.specs.declared.words.LintJob.{LintJob}
@@ -25,25 +26,36 @@ use Rattle.uv_words.specs.declared.words.WordsFault.TheVariants as fault
 
 -- ---- what is asked for
 
--- what a lint asks for: the files, the base, how many violations of a line, the profile, the format's name, whether
--- each line says where its link stands, and whether no counts are wanted
+-- what a lint asks for: the files, the base, how many violations of a line, the profile, the names of the format and of
+-- the unit of columns, whether each line says where its link stands, and whether no counts are wanted
 pub record LintRequest : Type 0 where
   pub files : List Text
   pub base : Option Text
   pub extent : Extent
   pub profile : Profile
   pub format : Option Text
+  pub columns : Option Text
   pub located : Bool
   pub quiet : Bool
 
+-- what a filter asks for: the base, the profile, the name of the kind of the mended texts that are wanted, where not
+-- all are, and whether no counts are
+pub record FilterRequest : Type 0 where
+  pub base : Option Text
+  pub profile : Profile
+  pub only : Option Text
+  pub quiet : Bool
+
 -- a command with its texts and options: of a check the text, the base, how many violations and the profile; of a list
--- the base and the profile; of a mending the text, the base and the profile; of vectors the file; of an explanation the
--- rule's name; or a profile's name that none has
+-- the base and the profile; of a mending the text, the base and the profile, or it is asked by what is of a filter
+-- alone; of vectors the file; of an explanation the rule's name; or a profile's name that none has
 pub data Request : Type 0 where
   check : Text → Option Text → Extent → Profile → Request
   lint : LintRequest → Request
   links : Option Text → Profile → Request
   mend : Text → Option Text → Profile → Request
+  filter : FilterRequest → Request
+  filter_of_text : Request
   vectors : Text → Request
   explain : Option Text → Request
   unknown_profile : Text → Request
@@ -91,9 +103,27 @@ abbrev pub check_in : List Row → Profile → Option Request
 check_in rows profile =
     option_map (λ text. check text (base_in rows) (extent_in rows) profile) (first_of (codes "TEXT") rows)
 
--- the request of a mending, from its entries and by the profile
+-- the request of a filter, from its entries and by the profile
+abbrev pub filter_in : List Row → Profile → FilterRequest
+filter_in rows profile = record {
+  base = base_in rows;
+  profile = profile;
+  only = first_of (codes "only") rows;
+  quiet = has_flag (codes "quiet") rows;
+}
+
+-- what is of a filter alone is given
+abbrev pub is_filtered : List Row → Bool
+is_filtered rows = has_flag (codes "quiet") rows || is_some (first_of (codes "only") rows)
+
+-- the request of a mending, from its entries and by the profile: of its text, or of a filter where it has none
+abbrev pub mend_by : Bool → Option Text → List Row → Profile → Request
+mend_by filtered None rows profile = filter (filter_in rows profile)
+mend_by true (Some text) rows profile = filter_of_text
+mend_by false (Some text) rows profile = mend text (base_in rows) profile
+
 abbrev pub mend_in : List Row → Profile → Option Request
-mend_in rows profile = option_map (λ text. mend text (base_in rows) profile) (first_of (codes "TEXT") rows)
+mend_in rows profile = Some (mend_by (is_filtered rows) (first_of (codes "TEXT") rows) rows profile)
 
 -- the request of a lint, from its entries and by the profile
 abbrev pub lint_in : List Row → Profile → Option Request
@@ -103,6 +133,7 @@ lint_in rows profile = option_map (λ files. lint (record {
   extent = extent_in rows;
   profile = profile;
   format = first_of (codes "format") rows;
+  columns = first_of (codes "columns") rows;
   located = has_flag (codes "located") rows;
   quiet = has_flag (codes "quiet") rows;
 })) (all_of (codes "FILE") rows)
@@ -147,7 +178,17 @@ request_by asked = record {
   extent = asked.extent;
   profile = asked.profile;
   format = text_in asked.format;
+  columns = text_in asked.columns;
   located = asked.located;
+  quiet = asked.quiet;
+}
+
+-- what a filter has of the request
+abbrev pub filter_by : FilterJob → FilterRequest
+filter_by asked = record {
+  base = text_in asked.base;
+  profile = asked.profile;
+  only = text_in asked.only;
   quiet = asked.quiet;
 }
 
@@ -157,6 +198,8 @@ asked_by (job.Check text base extent profile) = check (string_bytes text) (text_
 asked_by (job.Lint asked) = lint (request_by asked)
 asked_by (job.Links base profile) = links (text_in base) profile
 asked_by (job.Mend text base profile) = mend (string_bytes text) (text_in base) profile
+asked_by (job.Filter asked) = filter (filter_by asked)
+asked_by job.FilterOfText = filter_of_text
 asked_by (job.Vectors file) = vectors (string_bytes file)
 asked_by (job.Explain rule) = explain (text_in rule)
 asked_by (job.UnknownProfile name) = unknown_profile (string_bytes name)

@@ -4,7 +4,7 @@ ghost use Rattle.clap.specs.Words.{App, Rule, app_of, new_app, rule_of, with_rul
 ghost use Rattle.uv_words.specs.Commands.{check_command, explain_command, links_command, lint_command, mend_command};
 ghost use Rattle.uv_words.specs.Commands.{vectors_command};
 ghost use Rattle.uv_words.specs.Commands.{file_rule, files_rule, flag_rule, name_rule, option_rule, quiet_rule};
-ghost use Rattle.uv_words.specs.Commands.{text_rule};
+ghost use Rattle.uv_words.specs.Commands.{mended_rule, text_rule};
 ghost use Rattle.uv_words.specs.Commands.{urlcheck, IsApp};
 
 use clap::{Arg, ArgAction, Command};
@@ -57,15 +57,18 @@ const MEND_NOTES: &str =
     "Prints `mended KIND` and the mended text, `valid`, or `none` and `refused PLACE RULE`.
 KIND is `same` where a second parser reads both texts as one URL, `escaped`
 where code points are percent-encoded and no more, else `changed`.
+Without TEXT it writes each line of the standard input with its end: mended
+where there is a mended text, and else as it was.
 
 Exit statuses:
-  0  the text is valid, or a mended text is
-  1  no edit makes the text valid
+  0  the text is valid, or a mended text is, or so is each line
+  1  no edit makes the text valid, or a line stays refused
   2  the arguments or the base are refused
-  3  memory ran out, or the output failed
+  3  memory ran out, or the input or the output failed
 
-Example:
-  urlcheck mend 'http://h/a b'";
+Examples:
+  urlcheck mend 'http://h/a b'
+  urlcheck mend --only same < links.txt > links.new";
 
 const VECTORS_NOTES: &str =
     "Prints `fail N` for each vector that fails, and at the end how many pass.
@@ -158,6 +161,7 @@ fn lint<'a>(alloc: Global) -> Result<Command<'a>, AllocError>
     let command = and_arg(command, profile(alloc));
     let command = and_arg(command, wide(alloc));
     let command = and_arg(command, format(alloc));
+    let command = and_arg(command, columns(alloc));
     let command = and_arg(command, located(alloc));
     let command = and_arg(command, quiet(alloc));
     and_arg(command, files(alloc))
@@ -181,7 +185,9 @@ fn mend<'a>(alloc: Global) -> Result<Command<'a>, AllocError>
     let command = and_arg(Ok(command), base(alloc));
     let command = and_arg(command, profile(alloc));
     let command = and_arg(command, wide(alloc));
-    and_arg(command, text(alloc))
+    let command = and_arg(command, only(alloc));
+    let command = and_arg(command, quiet(alloc));
+    and_arg(command, mended(alloc))
 }
 
 fn vectors<'a>(alloc: Global) -> Result<Command<'a>, AllocError>
@@ -270,6 +276,14 @@ fn format<'a>(alloc: Global) -> Arg<'a>
     option(alloc, "format", "FORMAT", help)
 }
 
+fn columns<'a>(alloc: Global) -> Arg<'a>
+    ensures rule { rule_of result ≡ option_rule (codes "columns") }
+    ensures local { result.global ≡ false }
+{
+    let help = "code-points, bytes, utf16 or screen; without it columns count code-points";
+    option(alloc, "columns", "UNIT", help)
+}
+
 fn located<'a>(alloc: Global) -> Arg<'a>
     ensures rule { rule_of result ≡ flag_rule (codes "located") }
     ensures local { result.global ≡ false }
@@ -283,6 +297,14 @@ fn quiet<'a>(alloc: Global) -> Arg<'a>
     ensures local { result.global ≡ false }
 {
     flag(alloc, "quiet", "Leaves out the counts on standard error").short('q')
+}
+
+fn only<'a>(alloc: Global) -> Arg<'a>
+    ensures rule { rule_of result ≡ option_rule (codes "only") }
+    ensures local { result.global ≡ false }
+{
+    let help = "same, escaped or changed; the other lines stay as they were";
+    option(alloc, "only", "KIND", help)
 }
 
 fn files<'a>(alloc: Global) -> Arg<'a>
@@ -302,6 +324,14 @@ fn text<'a>(alloc: Global) -> Arg<'a>
     Arg::new(alloc, "TEXT")
         .required(true)
         .help("The text to check; behind -- where it begins with -")
+}
+
+fn mended<'a>(alloc: Global) -> Arg<'a>
+    ensures rule { rule_of result ≡ mended_rule }
+    ensures local { result.global ≡ false }
+{
+    let help = "The text to mend; without it, the lines of the standard input are mended";
+    Arg::new(alloc, "TEXT").help(help)
 }
 
 fn file<'a>(alloc: Global) -> Arg<'a>

@@ -5,7 +5,7 @@ mod commands;
 mod profile;
 mod words;
 
-pub use words::{Job, LintJob, WordsFault, read_words};
+pub use words::{FilterJob, Job, LintJob, WordsFault, read_words};
 
 #[cfg(test)]
 mod tests;

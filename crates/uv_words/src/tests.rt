@@ -1,12 +1,12 @@
 //! Arguments that are written out, and what they ask for by the program's usage.
 
-use crate::words::{Job, LintJob, WordsFault, read_words};
+use crate::words::{FilterJob, Job, LintJob, WordsFault, read_words};
 use clap::error::ErrorKind;
 use std::process::Abort;
 use std::test::Fail;
 use uv_model::{Extent, Profile};
 
-// What is asked for: a command, its texts and its options. A base or a format is one text, or none.
+// What is asked for: a command, its texts and its options. A base, a format or a unit is one text, or none.
 #[derive(Clone, Copy)]
 struct Want<'w> {
     command: &'w str,
@@ -15,6 +15,7 @@ struct Want<'w> {
     extent: Extent,
     profile: Profile,
     format: &'w [&'w str],
+    columns: &'w [&'w str],
     located: bool,
     quiet: bool,
 }
@@ -28,6 +29,7 @@ const fn plain<'w>(command: &'w str, texts: &'w [&'w str]) -> Want<'w> {
         extent: Extent::First,
         profile: Profile::Standard,
         format: &[],
+        columns: &[],
         located: false,
         quiet: false,
     }
@@ -57,6 +59,7 @@ fn is_lint(job: &LintJob, want: &Want<'_>) -> bool {
         && job.extent == want.extent
         && job.profile == want.profile
         && is(job.format.as_deref(), want.format)
+        && is(job.columns.as_deref(), want.columns)
         && job.located == want.located
         && job.quiet == want.quiet
 }
@@ -82,6 +85,15 @@ fn is_mending(text: &str, base: Option<&str>, profile: Profile, want: &Want<'_>)
         && profile == want.profile
 }
 
+// The kind that is wanted stands where a lint has its format.
+fn is_filter(job: &FilterJob, want: &Want<'_>) -> bool {
+    want.command == "filter"
+        && is(job.base.as_deref(), want.base)
+        && job.profile == want.profile
+        && is(job.only.as_deref(), want.format)
+        && job.quiet == want.quiet
+}
+
 fn is_wanted(job: &Job, want: &Want<'_>) -> bool {
     match job {
         Job::Check {
@@ -99,6 +111,8 @@ fn is_wanted(job: &Job, want: &Want<'_>) -> bool {
             base,
             profile,
         } => is_mending(text.as_str(), base.as_deref(), *profile, want),
+        Job::Filter(job) => is_filter(job, want),
+        Job::FilterOfText => want.command == "filter of text",
         Job::Vectors { file } => want.command == "vectors" && is(Some(file.as_str()), want.texts),
         Job::Explain { rule } => want.command == "explain" && is(rule.as_deref(), want.texts),
         Job::UnknownProfile { name } => {
@@ -165,6 +179,28 @@ fn reads_mendings(rt: HostRuntime) {
 }
 
 #[test]
+fn reads_filters(rt: HostRuntime) {
+    asks(&rt, &["urlcheck", "mend"], plain("filter", &[]));
+    let all = Want {
+        base: &["b"],
+        profile: Profile::Wide,
+        format: &["same"],
+        quiet: true,
+        ..plain("filter", &[])
+    };
+    asks(
+        &rt,
+        &[
+            "urlcheck", "mend", "--only", "same", "-q", "--base=b", "--wide",
+        ],
+        all,
+    );
+    let of_text = plain("filter of text", &[]);
+    asks(&rt, &["urlcheck", "mend", "--only", "same", "a"], of_text);
+    asks(&rt, &["urlcheck", "mend", "--quiet", "a"], of_text);
+}
+
+#[test]
 fn reads_lints(rt: HostRuntime) -> Result<(), Fail> {
     asks(&rt, &["urlcheck", "lint", "a"], plain("lint", &["a"]));
     asks(
@@ -198,6 +234,20 @@ fn reads_lints(rt: HostRuntime) -> Result<(), Fail> {
         ..plain("lint", &["-"])
     };
     asks(&rt, &["urlcheck", "lint", "--located", "-"], located);
+    let screen = Want {
+        columns: &["screen"],
+        ..located
+    };
+    asks(
+        &rt,
+        &["urlcheck", "lint", "--columns=screen", "-", "--located"],
+        screen,
+    );
+    let unknown = Want {
+        columns: &["a b"],
+        ..plain("lint", &["a"])
+    };
+    asks(&rt, &["urlcheck", "lint", "--columns", "a b", "a"], unknown);
     Ok(())
 }
 

@@ -4,7 +4,7 @@ ghost use Rattle.clap.specs.Words.{all_of, first_of, found_of, kind_of, rows_of,
 ghost use Rattle.clap.specs.Words.{takes};
 ghost use Rattle.uv_words.specs.Commands.{urlcheck};
 ghost use Rattle.uv_words.specs.Words.{asked_by, asks_to_show, check_in, extent_in, has_flag, judged_in, lint_in};
-ghost use Rattle.uv_words.specs.Words.{mend_in};
+ghost use Rattle.uv_words.specs.Words.{filter_by, filter_in, mend_in};
 ghost use Rattle.uv_words.specs.Words.{request_in, request_of, vectors, wanted_in, wanted_view, IsFaultOf, IsFrom};
 
 use crate::commands::urlcheck;
@@ -46,6 +46,10 @@ pub enum Job {
         /// By which profile it is judged, and the base too.
         profile: Profile,
     },
+    /// To write the lines of the standard input, mended where they can be.
+    Filter(FilterJob),
+    /// To mend one text by `--only` or `--quiet`, which are of lists alone.
+    FilterOfText,
     /// To run the vectors of a file.
     Vectors {
         /// The file's name.
@@ -76,8 +80,23 @@ pub struct LintJob {
     pub profile: Profile,
     /// The name of the format, if one is named.
     pub format: Option<String>,
+    /// The name of what columns count, if one is named.
+    pub columns: Option<String>,
     /// Whether each line says where its link stands.
     pub located: bool,
+    /// Whether no counts are wanted.
+    pub quiet: bool,
+}
+
+/// By what the lines of the standard input are mended.
+#[derive(Drop)]
+pub struct FilterJob {
+    /// The base's text, if there is a base.
+    pub base: Option<String>,
+    /// By which profile the lines are judged, and the base too.
+    pub profile: Profile,
+    /// The name of the kind of the mended texts that are wanted, if not all are.
+    pub only: Option<String>,
     /// Whether no counts are wanted.
     pub quiet: bool,
 }
@@ -109,8 +128,8 @@ impl WordsFault {
 /// Reads the arguments of a command line, of which the first is the program's name.
 ///
 /// The job has the command, the texts and the options that the arguments give. There is none where `clap` takes the
-/// arguments, but they name no command, no TEXT or no FILE, or give `--wide` beside `--profile`. A RULE and a FORMAT
-/// may be any text; a PROFILE that is the name of none gives the job that says so.
+/// arguments, but they name no command, no TEXT or no FILE, or give `--wide` beside `--profile`. A RULE, a FORMAT, a
+/// UNIT and a KIND may be any text; a PROFILE that is the name of none gives the job that says so.
 pub fn read_words(alloc: Global, words: &[&str]) -> Result<Option<Job>, WordsFault>
     ensures job { IfOk result (λ job. option_map asked_by job
         ≡ request_of (subcommand_of urlcheck (map (λ word. word.now) words.now))) }
@@ -248,14 +267,34 @@ fn mend_in(
     ensures { IfOk result (λ job.
         option_map asked_by job ≡ mend_in (rows_of (found_of entries.now)) profile) }
 {
-    match value(entries, "TEXT") {
-        Some(text) => Ok(Some(Job::Mend {
-            text: text.to_string(alloc)?,
-            base: copied(alloc, value(entries, "base"))?,
-            profile,
-        })),
-        None => Ok(None),
+    let Some(text) = value(entries, "TEXT") else {
+        return Ok(Some(Job::Filter(filter_in(alloc, entries, profile)?)));
+    };
+    if has(entries, "quiet") || value(entries, "only").is_some() {
+        return Ok(Some(Job::FilterOfText));
     }
+    Ok(Some(Job::Mend {
+        text: text.to_string(alloc)?,
+        base: copied(alloc, value(entries, "base"))?,
+        profile,
+    }))
+}
+
+// By what a command's entries ask for lines to be mended.
+fn filter_in(
+    alloc: Global,
+    entries: &ArgMatches<'_>,
+    profile: Profile,
+) -> Result<FilterJob, AllocError>
+    ensures { IfOk result (λ job. filter_by job ≡ filter_in (rows_of (found_of entries.now)) profile) }
+{
+    let quiet = has(entries, "quiet");
+    Ok(FilterJob {
+        base: copied(alloc, value(entries, "base"))?,
+        profile,
+        only: copied(alloc, value(entries, "only"))?,
+        quiet,
+    })
 }
 
 // The lint that a command's entries ask for.
@@ -276,6 +315,7 @@ fn lint_in(
         extent: extent(entries),
         profile,
         format: copied(alloc, value(entries, "format"))?,
+        columns: copied(alloc, value(entries, "columns"))?,
         located: has(entries, "located"),
         quiet: has(entries, "quiet"),
     })))

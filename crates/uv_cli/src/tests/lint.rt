@@ -15,6 +15,15 @@ use uv_words::{Job, LintJob};
 // What is wrong with the second line, as compilers write it.
 const WRONG: &str = "-:2:1: error: there is no scheme and no base [no-scheme]\n";
 
+// A job over files that names what columns count.
+fn unit_job(alloc: Global, format: Option<&str>, columns: &str) -> Result<Job, Fail> {
+    let mut named = job(alloc, &["-"], None, format)?;
+    if let Job::Lint(asked) = &mut named {
+        asked.columns = copied(alloc, Some(columns))?;
+    }
+    Ok(named)
+}
+
 // A job over files, in a format.
 fn job(
     alloc: Global,
@@ -32,6 +41,7 @@ fn job(
         extent: Extent::First,
         profile: Profile::Standard,
         format: copied(alloc, format)?,
+        columns: None,
         located: false,
         quiet: false,
     }))
@@ -160,4 +170,33 @@ fn refuses_jobs(rt: HostRuntime) -> Result<(), Fail> {
         "",
     );
     ends(&rt, &based, &[], &[], want)
+}
+
+// Columns that count bytes; and what nothing is named, or SARIF has no word for: nothing is read or written then.
+#[test]
+fn counts_columns_by_name(rt: HostRuntime) -> Result<(), Fail> {
+    let wrong = "-:1:7: error: U+0020 SPACE may not stand in a URL [code-point]\n";
+    ends(
+        &rt,
+        &unit_job(rt.alloc(), None, "bytes")?,
+        &[Ok(b"urn:\xc3\xa9 ")],
+        &[Ok(1000)],
+        (
+            linted(1, 1, false, None),
+            1,
+            "urlcheck: 1 line, 1 refused\n",
+            wrong,
+        ),
+    )?;
+    for (format, columns, end) in [
+        (None, "byte", End::UnknownColumns),
+        (Some("sarif"), "", End::UnknownColumns),
+        (Some("sarif"), "bytes", End::ColumnsRefused),
+        (Some("sarif"), "screen", End::ColumnsRefused),
+        (Some("GNU"), "byte", End::UnknownFormat),
+    ] {
+        let named = unit_job(rt.alloc(), format, columns)?;
+        ends(&rt, &named, &[], &[], (end, 2, "words\n", ""))?;
+    }
+    Ok(())
 }

@@ -25,6 +25,7 @@ returns g c = record {
         profile = c.args.job.now.profile;
         extent = c.args.job.now.extent;
         format = c.args.format;
+        columns = c.args.columns;
         form = form_of c.args.job.now.located;
       })
       _ _ _ _ _ _ _ _ (ap (map string_bytes) c.as_slice.ensures.value)

@@ -1,0 +1,82 @@
+//! The command `mend` without a text: a filter of the lines of an input.
+ghost use Rattle.std.specs.Prelude.{◌≡◌, ◌-◌, ◌^◌, ◌<◌, option_copied};
+ghost use Rattle.uv_cli.specs.Filter.{HasFiltered, IsFiltered, only_of};
+ghost use Rattle.uv_cli.specs.Filter as spec;
+
+use crate::ends::End;
+use crate::filtered::Filtered;
+use std::alloc::Global;
+use uv_filter::{FilterSetting, run_filter};
+use uv_mend::MendKind;
+use uv_model::{Record, Sink, Source};
+use uv_resolve::{ResolveFault, resolve_base};
+use uv_vectors::CliFault;
+use uv_words::FilterJob;
+
+/// Writes each line of an input, mended where there is a mended text of the kind with the name, or any where none is
+/// named, and else as it was: alone or against the base, which is resolved alone, before anything is read. The base
+/// and the name are the texts that the job has.
+pub(crate) fn filter_lines<I: Source, S: Sink>(
+    alloc: Global,
+    job: &FilterJob,
+    base: Option<&str>,
+    name: Option<&str>,
+    input: &mut I,
+    out: &mut S,
+) -> End
+    requires reads { I.failed input.old < 2 ^ 64 - 1 }
+    requires writes { S.failed out.old < 2 ^ 64 - 1 }
+    ensures { HasFiltered job.now base.entry name.entry result
+        (record { bytes = I.remaining input.old; failed = I.failed input.old })
+        (record { bytes = I.remaining input.new; failed = I.failed input.new })
+        (record { bytes = S.contents out.old; failed = S.failed out.old })
+        (record { bytes = S.contents out.new; failed = S.failed out.new }) }
+{
+    let Some(only) = only_of(name) else {
+        return End::UnknownKind;
+    };
+    match resolve_base(alloc, base, job.profile) {
+        Ok(base) => End::Filtered(filter_against(alloc, job, base.as_ref(), only, input, out)),
+        Err(ResolveFault::Refused(refusal)) => End::BaseRefused(refusal),
+        Err(ResolveFault::Memory(_)) => End::Fault(CliFault::Memory),
+    }
+}
+
+// The kind with a name, or every kind where none is named.
+fn only_of(name: Option<&str>) -> Option<Option<MendKind>>
+    ensures { result ≡ only_of name.entry }
+{
+    match name {
+        None => Some(None),
+        Some(name) => match MendKind::of_name(name) {
+            Some(kind) => Some(Some(kind)),
+            None => None,
+        },
+    }
+}
+
+// Writes each line of an input against a record as base.
+fn filter_against<I: Source, S: Sink>(
+    alloc: Global,
+    job: &FilterJob,
+    base: Option<&Record>,
+    only: Option<MendKind>,
+    input: &mut I,
+    out: &mut S,
+) -> Filtered
+    requires reads { I.failed input.old < 2 ^ 64 - 1 }
+    requires writes { S.failed out.old < 2 ^ 64 - 1 }
+    ensures { IsFiltered (spec.mender_of job.now (option_copied base.entry) only) job.now.quiet result
+        (record { bytes = I.remaining input.old; failed = I.failed input.old })
+        (record { bytes = I.remaining input.new; failed = I.failed input.new })
+        (record { bytes = S.contents out.old; failed = S.failed out.old })
+        (record { bytes = S.contents out.new; failed = S.failed out.new }) }
+{
+    let setting = FilterSetting {
+        base,
+        profile: job.profile,
+        only,
+    };
+    let (counts, answer) = run_filter(alloc, input, out, setting);
+    Filtered::new(counts, answer, job.quiet)
+}

@@ -1,0 +1,140 @@
+//! What a filter of lines has come to.
+ghost use Rattle.std.specs.Prelude.{◌≡◌, IfOk, string_bytes};
+ghost use Rattle.uv_cli.specs.Filtered as spec;
+ghost use Rattle.uv_cli.specs.Filtered.{counts_text, filter_status, filtered_text, lines_text, mended_count};
+ghost use Rattle.uv_cli.specs.Filtered.{mended_text, refused_count, refused_text};
+
+use std::alloc::{AllocError, Global};
+use uv_filter::{FilterCounts, FilterFault};
+
+/// What a filter of lines has come to: what was counted, and what went wrong.
+#[derive(Clone, Copy, PartialEq, Eq)]
+pub struct Filtered {
+    /// What has become of the lines.
+    pub counts: FilterCounts,
+    /// What stopped the filter, if something did.
+    pub stopped: Option<FilterFault>,
+    /// Whether no counts are wanted.
+    pub is_quiet: bool,
+}
+
+impl Filtered {
+    /// What a filter has come to by its counts and its answer.
+    pub(crate) fn new(
+        counts: FilterCounts,
+        answer: Result<(), FilterFault>,
+        is_quiet: bool,
+    ) -> Filtered
+        ensures { result ≡ spec.filtered_by counts answer is_quiet }
+    {
+        Filtered {
+            counts,
+            stopped: answer.err(),
+            is_quiet,
+        }
+    }
+
+    /// The same where this stopped it.
+    pub(crate) fn with_fault(self, fault: FilterFault) -> Filtered
+        ensures { result ≡ spec.with_fault self fault }
+    {
+        Filtered {
+            counts: self.counts,
+            stopped: Some(fault),
+            is_quiet: self.is_quiet,
+        }
+    }
+
+    /// The exit status: 3 where something stopped the filter; else 1 where a line stays refused; else 0.
+    pub(crate) fn status(self) -> u8
+        ensures { result ≡ filter_status self }
+    {
+        if self.stopped.is_some() {
+            3
+        } else if refused(self.counts) == 0 {
+            0
+        } else {
+            1
+        }
+    }
+
+    /// What is said on standard error at the end: the counts, where they are wanted, and what stopped the filter.
+    pub(crate) fn error_lines(self, alloc: Global) -> Result<String, AllocError>
+        ensures { IfOk result (λ lines. string_bytes lines ≡ filtered_text self) }
+    {
+        let mut lines = String::new(alloc);
+        if !self.is_quiet {
+            lines.push_str(counts_line(alloc, self.counts)?.as_str())?;
+        }
+        lines.push_str(stopped_line(self.stopped))?;
+        Ok(lines)
+    }
+}
+
+// How many lines were mended.
+fn mended(counts: FilterCounts) -> u64
+    ensures { result ≡ mended_count counts }
+{
+    counts
+        .same
+        .saturating_add(counts.escaped)
+        .saturating_add(counts.changed)
+}
+
+// How many lines stay as they were and aren't valid.
+fn refused(counts: FilterCounts) -> u64
+    ensures { result ≡ refused_count counts }
+{
+    counts
+        .refused
+        .saturating_add(counts.not_utf8)
+        .saturating_add(counts.too_long)
+}
+
+// The line of counts.
+fn counts_line(alloc: Global, counts: FilterCounts) -> Result<String, AllocError>
+    ensures { IfOk result (λ line. string_bytes line ≡ counts_text counts) }
+{
+    let mut line = lines_part(alloc, counts.lines)?;
+    line.push_str(mended_part(alloc, counts)?.as_str())?;
+    line.push_str(refused_part(alloc, refused(counts))?.as_str())?;
+    Ok(line)
+}
+
+#[tactic(auto, unfolding(crate::specs::Filtered::lines_text))]
+fn lines_part(alloc: Global, count: u64) -> Result<String, AllocError>
+    ensures { IfOk result (λ part. string_bytes part ≡ lines_text count) }
+{
+    let noun = if count == 1 { "line" } else { "lines" };
+    format!(in alloc; "urlcheck: {count} {noun}")
+}
+
+#[tactic(auto, unfolding(crate::specs::Filtered::mended_text))]
+fn mended_part(alloc: Global, counts: FilterCounts) -> Result<String, AllocError>
+    ensures { IfOk result (λ part. string_bytes part ≡ mended_text counts) }
+{
+    let all = mended(counts);
+    let same = counts.same;
+    let escaped = counts.escaped;
+    let changed = counts.changed;
+    format!(in alloc; ", {all} mended ({same} same, {escaped} escaped, {changed} changed)")
+}
+
+#[tactic(auto, unfolding(crate::specs::Filtered::refused_text))]
+fn refused_part(alloc: Global, count: u64) -> Result<String, AllocError>
+    ensures { IfOk result (λ part. string_bytes part ≡ refused_text count) }
+{
+    format!(in alloc; ", {count} refused\n")
+}
+
+fn stopped_line(stopped: Option<FilterFault>) -> &'static str
+    ensures { result.now ≡ spec.stopped_text stopped }
+{
+    match stopped {
+        None => "",
+        Some(FilterFault::Memory) => "memory\n",
+        Some(FilterFault::Read) => "read\n",
+        Some(FilterFault::Write) => "write\n",
+        Some(FilterFault::Endless) => "endless\n",
+    }
+}
