@@ -23,24 +23,25 @@ MORE = 2
 ROOT = pathlib.Path(__file__).resolve().parent.parent
 RECORD = ROOT / "docs" / "ALLOCATIONS.md"
 
-PROFILES = "standard", "wide"
-BOTH = PROFILES
-STANDARD, WIDE = PROFILES[:1], PROFILES[1:]
+# The profiles; a text that the wide one takes the parser's one takes too, with the same answers.
+PROFILES = "standard", "wide", "parser"
+EACH = PROFILES
+STANDARD, WIDE, NARROW, PARSER = PROFILES[:1], PROFILES[1:], PROFILES[:2], PROFILES[2:]
 
 # Texts with a base and the profiles, what a check prints of their record, or of their faults, and their path text.
 LONG = "https://EXAMPLE.com:443/a/../b?x='y'#\u00e9"
 FILE = "file:///C:/d/f"
 TEXTS = [
-    (BOTH, LONG, "", "scheme https\nhost domain example.com\nsegment b\nquery x=%27y%27\nfragment %C3%A9\n", "/a/../b"),
-    (BOTH, "/x", FILE, "scheme file\nhost empty\nsegment C:\nsegment x\n", "/x"),
-    (BOTH, "/D:?q", FILE, "scheme file\nhost empty\nsegment D:\nquery q\n", "/D:"),
-    (BOTH, "/..", FILE, "scheme file\nhost empty\nsegment C:\nsegment \n", "/.."),
-    (BOTH, "C:/x", FILE, "scheme c\nsegment x\n", "/x"),
-    (BOTH, "https://b\u00fccher.example/", "",
+    (EACH, LONG, "", "scheme https\nhost domain example.com\nsegment b\nquery x=%27y%27\nfragment %C3%A9\n", "/a/../b"),
+    (EACH, "/x", FILE, "scheme file\nhost empty\nsegment C:\nsegment x\n", "/x"),
+    (EACH, "/D:?q", FILE, "scheme file\nhost empty\nsegment D:\nquery q\n", "/D:"),
+    (EACH, "/..", FILE, "scheme file\nhost empty\nsegment C:\nsegment \n", "/.."),
+    (EACH, "C:/x", FILE, "scheme c\nsegment x\n", "/x"),
+    (EACH, "https://b\u00fccher.example/", "",
      "scheme https\nhost domain xn--bcher-kva.example\nsegment \n", "/"),
-    (BOTH, "http://example.com./", "", "scheme http\nhost domain example.com.\nsegment \n", "/"),
-    (BOTH, "http://\u00ad/", "", "refused 7 host-domain\n", None),
-    (BOTH, "a", "http://h/", "scheme http\nhost domain h\nsegment a\n", "a"),
+    (EACH, "http://example.com./", "", "scheme http\nhost domain example.com.\nsegment \n", "/"),
+    (EACH, "http://\u00ad/", "", "refused 7 host-domain\n", None),
+    (EACH, "a", "http://h/", "scheme http\nhost domain h\nsegment a\n", "a"),
     (STANDARD, "http://x_y/", "http://h/", "refused 7 host-domain\n", None),
     (WIDE, "http://x_y/", "http://h/", "scheme http\nhost domain x_y\nsegment \n", "/"),
     (WIDE, "a", "http://a_b/", "scheme http\nhost domain a_b\nsegment a\n", "a"),
@@ -51,18 +52,31 @@ TEXTS = [
     (STANDARD, "http://a_b//c d", "",
      "refused 7 host-domain\nrefused 11 first-segment-empty\nrefused 13 code-point\n", None),
     (WIDE, "http://a_b//c d", "", "refused 13 code-point\n", None),
-    (BOTH, "urn:a", "", "scheme urn\nopaque a\n", "a"),
-    (BOTH, "x", "", "refused 0 no-scheme\n", None),
-    (BOTH, "http://h:65536/", "", "refused 9 port-range\n", None),
-    (BOTH, "http://h/a b", "", "refused 10 code-point\n", None),
+    (NARROW, "http://a%2Db/c", "", "refused 7 host-domain\n", None),
+    (PARSER, "http://a%2Db/c", "", "scheme http\nhost domain a-b\nsegment c\n", "/c"),
+    (PARSER, "http://b%C3%BCcher.example/", "", "scheme http\nhost domain xn--bcher-kva.example\nsegment \n", "/"),
+    (PARSER, "http://%31.2/", "", "scheme http\nhost ipv4 1.0.0.2\nsegment \n", "/"),
+    (PARSER, "http://256/", "", "refused 7 host-number\n", None),
+    (PARSER, "/D:/x", "file://h/C:/d/f", "scheme file\nhost domain h\nsegment D:\nsegment x\n", "/D:/x"),
+    (NARROW, "urn:a b", "", "refused 5 code-point\n", None),
+    (PARSER, "urn:a b", "", "scheme urn\nopaque a b\n", "a b"),
+    (PARSER, "#f", "urn:a ?q", "scheme urn\nopaque a%20\nquery q\nfragment f\n", ""),
+    (EACH, "urn:a", "", "scheme urn\nopaque a\n", "a"),
+    (EACH, "x", "", "refused 0 no-scheme\n", None),
+    (EACH, "http://h:65536/", "", "refused 9 port-range\n", None),
+    (EACH, "http://h/a b", "", "refused 10 code-point\n", None),
 ]
 DOMAINS = [
-    (BOTH, "EXAMPLE.com", "example.com\n"),
-    (BOTH, "b\u00fccher.example", "xn--bcher-kva.example\n"),
-    (BOTH, "example.com.", "example.com.\n"),
-    (BOTH, "\u00ad", "no domain\n"),
+    (EACH, "EXAMPLE.com", "example.com\n"),
+    (EACH, "b\u00fccher.example", "xn--bcher-kva.example\n"),
+    (EACH, "example.com.", "example.com.\n"),
+    (EACH, "\u00ad", "no domain\n"),
     (STANDARD, "A_b", "no domain\n"),
     (WIDE, "A_b", "a_b\n"),
+    (NARROW, "A%2db", "no domain\n"),
+    (PARSER, "A%2db", "a-b\n"),
+    (PARSER, "b%C3%BCcher.example", "xn--bcher-kva.example\n"),
+    (PARSER, "a%2Fb", "no domain\n"),
 ]
 LISTS = [
     (STANDARD, "a\n\nhttp://x_y/\n", "http://h/",
@@ -72,10 +86,12 @@ LISTS = [
     (WIDE, "a\nhttp://h//a\nx y\n", "http://a_b/",
      "1 ok http://a_b/a\n2 ok http://h//a\n3 bad 1 code-point\nlinks 3 ok 2 bad 1 differs 0\n"),
     (WIDE, "b\n..\n", "http://h//a", "1 ok http://h//b\n2 ok http://h/\nlinks 2 ok 2 bad 0 differs 0\n"),
-    (BOTH, LONG + "\nhttps://b\u00fccher.example/\n", "",
+    (EACH, LONG + "\nhttps://b\u00fccher.example/\n", "",
      "1 ok https://example.com/b?x=%27y%27#%C3%A9\n2 ok https://xn--bcher-kva.example/\n"
      "links 2 ok 2 bad 0 differs 0\n"),
-    (BOTH, "/x\n/D:?q\n/..\nC:/x\n", FILE,
+    (PARSER, "//a%2Db\nurn:a ?q\n", "file://h/C:/x",
+     "1 ok file://a-b/\n2 ok urn:a%20?q\nlinks 2 ok 2 bad 0 differs 0\n"),
+    (EACH, "/x\n/D:?q\n/..\nC:/x\n", FILE,
      "1 ok file:///C:/x\n2 ok file:///D:?q\n3 ok file:///C:/\n4 ok c:/x\nlinks 4 ok 4 bad 0 differs 0\n"),
 ]
 VECTORS = [

@@ -10,15 +10,15 @@ _urlcheck() {
     done
     case $command:$previous in
         check:--base) words='' is_value=yes ;;
-        check:--profile) words='standard wide' is_value=yes ;;
+        check:--profile) words='standard wide parser' is_value=yes ;;
         lint:--base) words='' is_value=yes ;;
-        lint:--profile) words='standard wide' is_value=yes ;;
+        lint:--profile) words='standard wide parser' is_value=yes ;;
         lint:--format) words='gnu caret json github sarif checkstyle' is_value=yes ;;
         lint:--columns) words='code-points bytes utf16 screen' is_value=yes ;;
         links:--base) words='' is_value=yes ;;
-        links:--profile) words='standard wide' is_value=yes ;;
+        links:--profile) words='standard wide parser' is_value=yes ;;
         mend:--base) words='' is_value=yes ;;
-        mend:--profile) words='standard wide' is_value=yes ;;
+        mend:--profile) words='standard wide parser' is_value=yes ;;
         mend:--only) words='same escaped changed' is_value=yes ;;
         *)
             case $command in

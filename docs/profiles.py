@@ -9,7 +9,7 @@ narrower one within it doesn't.
 ROOMS = (
     ("all texts", "http://[", "#f3f4f6"),
     ("the Standard's parser repairs it, as browsers do", "http:\\\\example.com\\a b", "#fde8d7"),
-    ("the Standard's parser takes it in silence", "file://h/C:/x", "#fff6cc"),
+    ("parser's profile (--profile parser): the Standard's parser takes it in silence", "file://h/C:/x", "#fff6cc"),
     ("wide profile (--wide)", "http://a_b//x", "#ddf0e3"),
     ("standard profile (the default)", "https://example.com/a%20b", "#bfe3cb"),
 )

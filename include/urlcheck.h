@@ -35,10 +35,11 @@ typedef unsigned char urlcheck_bool;
 extern "C" {
 #endif
 
-/* Which written grammar a text, and its base, are judged by. */
+/* Which profile a text, and its base, are judged by. Each takes what the one before it takes. */
 enum urlcheck_profile {
     URLCHECK_STANDARD = 0, /* the URL Standard's valid URL strings */
-    URLCHECK_WIDE = 1      /* also `_` and hyphens wherever they stand in domains, any segments behind an authority */
+    URLCHECK_WIDE = 1,     /* also `_` and hyphens wherever they stand in domains, any segments behind an authority */
+    URLCHECK_PARSER = 2    /* each text that the Standard's parser takes without a validation error, and no other */
 };
 
 /* How a call ended. */

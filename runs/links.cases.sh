@@ -19,6 +19,38 @@ reports 0 "$wide" '' --wide --base http://h/
 reports 0 "${wide//h\//h_\/}" '' --wide --base http://h_/
 reports 2 '' 'base refused 7 host-domain\n' --base http://h_/
 reports 2 '' 'base refused 7 host-missing\n' --base http://
+
+# By the parser's profile an accepted line has the text that the second parser gives too: hosts of every kind, files
+# with and without a host, opaque paths with spaces, and what the narrower profiles take.
+# parsers NUMBER BASE LINE.. : against the base so many lines `LINK => TEXT` are ok
+parsers() {
+    local wanted=$1 base=$2 lines
+    shift 2
+    printf '%s\n' "$@" | sed 's/ => .*//' >"$room/list"
+    lines=$(printf '%s\n' "$@" | awk -F ' => ' '{ print NR " ok " $2 }')
+    reports 0 "$lines\nlinks $wanted ok $wanted bad 0 differs 0\n" '' --profile parser --base "$base"
+}
+parsers 34 http://h/a/b?q \
+    'x => http://h/a/x' ' => http://h/a/b?q' '#f => http://h/a/b?q#f' '//a%2Db/c => http://a-b/c' \
+    '//1.2 => http://1.0.0.2/' 'http://%41b/ => http://ab/' 'http://%31.2.3/ => http://1.2.0.3/' 'http://1/ => http://0.0.0.1/' \
+    'http://255.255/ => http://255.0.0.255/' $'http://\357\274\221.2.3.4/ => http://1.2.3.4/' \
+    $'http://b\303\274cher/ => http://xn--bcher-kva/' 'http://b%C3%BCcher/ => http://xn--bcher-kva/' \
+    'http://XN--N3H/ => http://xn--n3h/' 'http://A+b_c/ => http://a+b_c/' 'http://a..b/ => http://a..b/' \
+    'http://-/ => http://-/' 'http://../ => http://../' 'http://~*/ => http://~*/' 'http://a%C2%ADb:80/ => http://ab/' \
+    'http://h//a => http://h//a' 'http://[::1.2.3.4]/ => http://[::102:304]/' 'file:// => file:///' \
+    'file://?q => file:///?q' 'file://localhost/C:/x => file:///C:/x' 'file://h/C:/x => file://h/C:/x' \
+    'file://%68/C:/.. => file://h/C:/' 'file://1.2 => file://1.0.0.2/' 'urn:a b => urn:a b' 'urn:a ?q => urn:a%20?q' \
+    'urn:a  #f => urn:a %20#f' 'javascript:alert(1, 2) => javascript:alert(1, 2)' 'foo://A%2Fb/ => foo://A%2Fb/' \
+    'foo://h//a => foo://h//a' "https://EXAMPLE.com:443/a/../b?x='y' => https://example.com/b?x=%27y%27"
+parsers 9 file://h/C:/d/f \
+    'x => file://h/C:/d/x' '/x => file://h/C:/x' '/D:/x => file://h/D:/x' '../../.. => file://h/C:/' '// => file:///' \
+    '//?q => file:///?q' '//g => file://g/' '///x => file:///x' 'C:/x => c:/x'
+parsers 3 'urn:a b' '#f => urn:a b#f' 'urn:c d => urn:c d' 'http://1.2.3/ => http://1.2.0.3/'
+printf 'http://256/\nurn:a \nfile://C:/x\nhttp://h/a b\n' >"$room/list"
+bad='1 bad 7 host-number\n2 bad 5 code-point\n3 bad 7 host-domain\n4 bad 10 code-point\n'
+reports 1 "${bad}links 4 ok 0 bad 4 differs 0\n" '' --profile parser
+reports 2 '' 'base refused 5 code-point\n' --wide --base 'urn:a b'
+
 printf 'a\r\n\377\nb' >"$room/list"
 reports 1 '1 bad 0 no-scheme\n2 bad 0 not-utf8\n3 bad 0 no-scheme\nlinks 3 ok 0 bad 3 differs 0\n' ''
 printf '' >"$room/list"
@@ -104,4 +136,4 @@ else
     echo "links: a list in pieces of GNU parallel left out, since it isn't installed"
 fi
 
-all_cases 19
+all_cases 24

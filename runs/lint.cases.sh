@@ -32,6 +32,14 @@ expect 1 "$first$underscore$bytes" 'urlcheck: 5 lines, 3 refused\n' lint --base 
 expect 1 "$first$bytes" 'urlcheck: 5 lines, 2 refused\n' lint --base=http://b/ --wide links.txt
 expect 1 "$first$bytes" 'urlcheck: 5 lines, 2 refused\n' lint --base=http://b/ --profile wide links.txt
 expect 1 "$first$underscore$bytes" 'urlcheck: 5 lines, 3 refused\n' lint --profile=standard --base http://b/ links.txt
+expect 1 "$first$bytes" 'urlcheck: 5 lines, 2 refused\n' lint --base=http://b/ --profile parser links.txt
+printf 'http://a%%2Db/\nhttp://1.2.3/\nurn:a b\nfile://\nhttp://0x1/\n' >"$room/parser.txt"
+number='parser.txt:5:8: error: the host that begins here ends in a number, and is no IPv4 address [host-number]\n'
+expect 1 "$number" 'urlcheck: 5 lines, 1 refused\n' lint --profile parser parser.txt
+expect 1 "parser.txt:1:8: error: the host that begins here is no valid domain [host-domain]\n${number//:5:/:2:}\
+parser.txt:3:6: error: U+0020 SPACE may not stand in a URL [code-point]\n\
+parser.txt:4:8: error: a host has to stand here [host-missing]\n$number" \
+    'urlcheck: 5 lines, 5 refused\n' lint --wide parser.txt
 printf 'http://a b:x/ %%\n' >"$room/faults.txt"
 expect 1 'faults.txt:1:8: error: the host that begins here is no valid domain [host-domain]\n' 'urlcheck: 1 line, 1 refused\n' \
     lint faults.txt
@@ -195,6 +203,8 @@ for one in map(json.loads, sys.stdin):
 printf 'http://h/a b %%\nhttp://x_y/ c\na b\nhttp:a\n' >"$room/lines.txt"
 mends_to '' '1 11 escaped http://h/a%20b%20%25' '2 8 None None' '3 1 None None' '4 6 same http://a'
 mends_to '--wide' '1 11 escaped http://h/a%20b%20%25' '2 12 same http://x_y/%20c' '3 1 None None' '4 6 same http://a'
+mends_to '--profile parser' '1 11 escaped http://h/a%20b%20%25' '2 12 same http://x_y/%20c' '3 1 None None' \
+    '4 6 same http://a'
 mends_to '--base http://h/' '1 11 escaped http://h/a%20b%20%25' '2 8 None None' '3 2 same a%20b' '4 6 changed http://a'
 mends_to '--all' '1 11 escaped http://h/a%20b%20%25' '1 13 None None' '1 14 None None' '2 8 None None' '2 12 None None' \
     '3 1 None None' '3 2 None None' '4 6 same http://a'
@@ -477,4 +487,4 @@ ends_with 1 $? 'urlcheck: 1000000 lines, 10000 refused\n' 'lint of a million lin
 grep -qxF "$room/million:1000000:11: error: U+0020 SPACE may not stand in a URL [code-point]" "$room/out" ||
     fail "lint of a million lines: it ends with $(tail -n 1 "$room/out")"
 rm -f "$room/million" "$room"/hostile.* "$room"/none.*
-all_cases 166
+all_cases 170

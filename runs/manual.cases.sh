@@ -66,5 +66,7 @@ completes '--format=sarif' lint --format=sa
 completes 'screen' lint --columns s
 completes 'code-points bytes utf16 screen' lint --columns =
 completes '' lint --base ma
+completes 'parser' check --profile p
+completes 'standard wide parser' links --profile =
 completes '--quiet' lint --q
-all_cases 29
+all_cases 31

@@ -41,6 +41,7 @@ walks check --base "foo://$long/" //h
 walks check --all "http://h/${long:0:50000} ${long:0:50000}%"
 walks check --wide "http://h_/${long:0:50000}//${long:0:50000}"
 walks check $'http://b\xc3\xbccher.example/'
+walks check --profile parser "http://%61${long:0:50000}.%C3%BC/${long:0:50000}"
 awk -v long="${long:0:65000}" 'BEGIN {
     for (n = 1; n <= 1000; n++) print "http://h/" n
     print "http://h/" long
@@ -103,4 +104,4 @@ awk -v ends=0 '/^links / { print $2, other; if ($2 != $4 + $6 + $8 || $2 != NR -
     / bad 0 not-utf8$/ { other++ }' "$room/out" | cmp -s - "$room/wanted" ||
     fail "64 MiB of random bytes: $(tail -n 1 "$room/out"), and not $(cat "$room/wanted")"
 
-all_cases 25
+all_cases 26

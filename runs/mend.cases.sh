@@ -15,6 +15,12 @@ expect 0 'mended same\nhttp://127.0.0.1/.//a%20b\n' '' mend 'http:\\127.0.01//a 
 expect 1 'none\nrefused 7 host-domain\n' '' mend 'http://a_b//c d'
 expect 0 'mended same\nhttp://a_b//c%20d\n' '' mend --wide 'http://a_b//c d'
 expect 0 'mended same\nhttp://a_b//c%20d\n' '' mend --profile wide 'http://a_b//c d'
+expect 0 'mended same\nhttp://a-b/c%20d\n' '' mend --wide 'http://a%2Db/c d'
+expect 0 'mended same\nhttp://a%2Db/c%20d\n' '' mend --profile parser 'http://a%2Db/c d'
+expect 0 'mended same\nhttp://0.0.0.1/\n' '' mend --profile parser http://0x1/
+expect 0 'mended same\nfile://h/./C:/x\n' '' mend --wide file://h/C:/x
+expect 0 'valid\n' '' mend --profile parser file://h/C:/x
+expect 0 'valid\n' '' mend --profile parser 'urn:a b'
 expect 1 'none\nrefused 0 no-scheme\n' '' mend ''
 expect 1 'none\nrefused 0 opaque-base\n' '' mend --base mailto:a b
 expect 2 '' 'base refused 0 no-scheme\n' mend --base '' 'http://h/a b'
@@ -56,6 +62,10 @@ printf '../a b\nhttp://h_/ a\n' >"$room/list"
 filters 1 '../a b\nhttp://h_/ a\n' 'urlcheck: 2 lines, 0 mended (0 same, 0 escaped, 0 changed), 2 refused\n'
 filters 0 '../a%20b\nhttp://h_/%20a\n' '' --quiet --wide --base http://h/
 filters 0 '../a%20b\nhttp://h_/%20a\n' '' --quiet --profile wide --base http://h/
+printf 'http://a%%2Db/ c\nurn:a b\nfile://h/C:/x\n' >"$room/list"
+filters 0 'http://a-b/%20c\nurn:a%20b\nfile://h/./C:/x\n' '' --quiet --wide
+filters 0 'http://a%2Db/%20c\nurn:a b\nfile://h/C:/x\n' \
+    'urlcheck: 3 lines, 1 mended (1 same, 0 escaped, 0 changed), 0 refused\n' --profile parser
 filters 2 '' 'base refused 0 no-scheme\n' --base ''
 
 # Words.
@@ -134,4 +144,4 @@ ends_with 3 $? 'read\n' 'mend of a folder'
 "$program" mend --quiet <&- >"$room/out" 2>"$room/err"
 ends_with 3 $? 'read\n' 'mend with standard input closed'
 
-all_cases 42
+all_cases 50

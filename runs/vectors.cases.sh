@@ -1,6 +1,7 @@
-# Runs over files of vectors. The two files of the repository pass.
+# Runs over files of vectors. The three files of the repository pass.
 vectors=$(dirname "$here")/vectors
 expect 0 'vectors 109 pass 109 fail 0\n' '' vectors "$vectors/standard.json"
+expect 0 'vectors 190 pass 190 fail 0\n' '' vectors "$vectors/parser.json"
 expect 0 'vectors 3781 pass 3781 fail 0\n' '' vectors "$vectors/uts46.json"
 
 # vector_file TEXT : a file in the room that has this text, read with escapes
@@ -17,6 +18,8 @@ expect 2 '' 'vector 2 malformed\n' vectors vectors.json
 # The profile that a case names judges it, and a name that no profile has makes the case malformed.
 vector_file '[{"input":"http://x_y/","profile":"wide","text":"http://x_y/"},{"input":"http://x_y/","place":7,"rule":"host-domain"}]'
 expect 0 'vectors 2 pass 2 fail 0\n' '' vectors vectors.json
+vector_file '[{"input":"http://1.2/","profile":"parser","text":"http://1.0.0.2/"},{"input":"http://1.2/","profile":"wide","text":"http://1.0.0.2/"},{"input":"#f","base":"urn:a b","profile":"parser","text":"urn:a b#f"},{"input":"#f","base":"urn:a b","text":"urn:a b#f"}]'
+expect 1 'fail 2\nfail 4\nvectors 4 pass 2 fail 2\n' '' vectors vectors.json
 vector_file '[{"input":"urn:a","profile":"Wide","text":"urn:a"}]'
 expect 2 '' 'vector 1 malformed\n' vectors vectors.json
 
@@ -76,4 +79,4 @@ count=$((count + 1))
 if ! sed -n '/r##"/,/^"##;$/p' "$suite" | sed '1s/.*r##"//; $d' | cmp -s - "$vectors/standard.json"; then
     fail 'the suite of the tests and vectors/standard.json differ'
 fi
-all_cases 29
+all_cases 31

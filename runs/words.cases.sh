@@ -65,21 +65,26 @@ shows "  2  the arguments or the base are refused, or a file can't be read; the 
 shows "  1  a line isn't ok" help links
 shows '  1  a vector fails' vectors --help
 shows '  2  the arguments are refused, or no rule has the name' explain --help
-shows '      --profile <PROFILE>  standard or wide; without it standard' links --help
+shows '      --profile <PROFILE>  standard, wide or parser; without it standard' links --help
 shows '  -q, --quiet              Leaves out the counts on standard error' lint --help
 
 # A profile by its name, by `--wide`, and by a name that none has.
 expect 0 'valid\nscheme http\nhost domain a_b\nsegment \n' '' check --profile wide http://a_b/
 expect 1 'refused 7 host-domain\n' '' check --profile=standard http://a_b/
 expect 0 'valid\nscheme http\nhost domain a_b\nsegment x\n' '' check x --base http://a_b/ --profile wide
-profiles='urlcheck: the profiles: standard wide\nwords\n'
+expect 0 'valid\nscheme http\nhost domain a-b\nsegment \n' '' check --profile parser http://a%2Db/
+expect 0 'valid\nscheme http\nhost ipv4 1.0.0.2\nsegment x\n' '' check x --base http://1.2/ --profile=parser
+refused "'--parser'" check --parser urn:a
+profiles='urlcheck: the profiles: standard wide parser\nwords\n'
 expect 2 '' "urlcheck: no profile is named 'wyde'; the nearest is wide\n$profiles" check --profile wyde urn:a
 expect 2 '' "urlcheck: no profile is named 'WIDE'; the nearest is wide\n$profiles" links --profile WIDE --base 'a b'
+expect 2 '' "urlcheck: no profile is named 'Parse'; the nearest is parser\n$profiles" mend --profile Parse urn:a
 expect 2 '' "urlcheck: no profile is named 'browser'\n$profiles" lint --profile browser missing
 expect 2 '' "urlcheck: no profile is named ''\n$profiles" check --profile= urn:a
 both='urlcheck: --wide stands for --profile wide: only one of them may be given\nwords\n'
 expect 2 '' "$both" check --wide --profile wide urn:a
 expect 2 '' "$both" links --profile standard --wide
+expect 2 '' "$both" check --wide --profile parser urn:a
 
 # The text and the base are taken as they are given.
 expect 1 'refused 0 no-scheme\n' '' check ''
@@ -115,7 +120,8 @@ expect 0 'valid\nscheme file\nhost empty\nsegment x\n' '' check --all file:///x
 expect 0 'valid\nscheme urn\nopaque a\n' '' check --all urn:a
 expect 2 '' 'base refused 7 host-missing\n' check --all --base http:// 'a b'
 
-# The two profiles: each text is refused by the standard one, but the last, and taken or refused by the wide one.
+# The standard and the wide profile: each text is refused by the standard one, but the last, and taken or refused by the
+# wide one.
 expect 1 'refused 9 first-segment-empty\n' '' check http://h//a
 expect 0 'valid\nscheme http\nhost domain h\nsegment \nsegment a\n' '' check --wide http://h//a
 expect 1 'refused 9 first-segment-empty\n' '' check http://h//..
@@ -139,4 +145,45 @@ expect 2 '' 'base refused 7 host-domain\n' check --base http://a_b/ x
 expect 0 'valid\nscheme http\nhost domain a_b\nsegment x\n' '' check --wide --base http://a_b/ x
 expect 1 'refused 7 host-domain\nrefused 11 code-point\n' '' check --all 'http://a_b/ '
 expect 1 'refused 11 code-point\n' '' check --all --wide 'http://a_b/ '
-all_cases 100
+
+# The parser's profile.
+# takes TEXT REFUSAL LINES : the wide profile refuses the text, and the parser's one takes it with these lines
+takes() {
+    expect 1 "refused $2\\n" '' check --wide "$1"
+    expect 0 "valid\\n$3" '' check --profile parser "$1"
+}
+takes http://a%2Db/ '7 host-domain' 'scheme http\nhost domain a-b\nsegment \n'
+takes http://b%C3%BCcher/ '7 host-domain' 'scheme http\nhost domain xn--bcher-kva\nsegment \n'
+takes http://a+b/ '7 host-domain' 'scheme http\nhost domain a+b\nsegment \n'
+takes http://a..b/ '7 host-domain' 'scheme http\nhost domain a..b\nsegment \n'
+takes http://1.2.3/ '7 host-number' 'scheme http\nhost ipv4 1.2.0.3\nsegment \n'
+takes http://%31.2.3/ '7 host-domain' 'scheme http\nhost ipv4 1.2.0.3\nsegment \n'
+takes http://1/ '7 host-number' 'scheme http\nhost ipv4 0.0.0.1\nsegment \n'
+takes $'http://\xef\xbc\x91.2.3.4/' '7 host-number' 'scheme http\nhost ipv4 1.2.3.4\nsegment \n'
+takes file:// '7 host-missing' 'scheme file\nhost empty\nsegment \n'
+takes 'file://?q' '7 host-missing' 'scheme file\nhost empty\nsegment \nquery q\n'
+takes file://h/C:/x '8 drive-after-host' 'scheme file\nhost domain h\nsegment C:\nsegment x\n'
+takes 'urn:a b' '5 code-point' 'scheme urn\nopaque a b\n'
+takes 'javascript:alert(1, 2)' '19 code-point' 'scheme javascript\nopaque alert(1, 2)\n'
+takes 'urn:a ?q' '5 code-point' 'scheme urn\nopaque a%20\nquery q\n'
+takes 'urn:a  #f' '5 code-point' 'scheme urn\nopaque a %20\nfragment f\n'
+# What it refuses too: what the parser reports or fails at.
+for text in http://a%2Fb/ http://%ff/ http://xn--a/ $'http://\xc2\xad/' http://u@h/ 'http://h\x/' 'http://h ' \
+    file://C:/x; do
+    expect 1 'refused 7 host-domain\n' '' check --profile parser "$text"
+done
+for host in 256 01 0x1 1.2.3.4.5 1.2.3.4. a.1; do
+    expect 1 'refused 7 host-number\n' '' check --profile parser "http://$host/"
+done
+expect 1 'refused 7 host-missing\n' '' check --profile parser http:///h
+expect 1 'refused 5 two-slashes\n' '' check --profile parser http:h
+expect 1 'refused 5 code-point\n' '' check --profile parser 'urn:a '
+expect 1 'refused 6 code-point\n' '' check --profile parser 'foo:/a b'
+expect 1 'refused 7 host-domain\nrefused 14 port-digit\nrefused 16 code-point\n' '' \
+    check --profile parser --all 'http://a%2Fb:8x/ '
+# The base is judged by it too.
+expect 0 'valid\nscheme file\nhost domain h\nsegment C:\nsegment x\n' '' check --profile parser --base file://h/a /C:/x
+expect 0 'valid\nscheme urn\nopaque a b\nfragment f\n' '' check --profile parser --base 'urn:a b' '#f'
+expect 2 '' 'base refused 5 code-point\n' check --wide --base 'urn:a b' '#f'
+expect 2 '' 'base refused 7 host-number\n' check --profile parser --base http://256/ x
+all_cases 158

@@ -74,15 +74,15 @@ export interface Options {
   /** The base, as its text or judged before, or none. */
   base?: string | Base | null | undefined
   /**
-   * By which written grammar the text and the base are judged; without one by that of a base that was judged before,
-   * else by the standard grammar. Another one than that of such a base is a `TypeError`.
+   * By which profile the text and the base are judged; without one by that of a base that was judged before, else by
+   * the standard one. Another one than that of such a base is a `TypeError`.
    */
   profile?: Profile | undefined
 }
 
 /** How a base is judged. */
 export interface BaseOptions {
-  /** By which written grammar; without one by the standard grammar. */
+  /** By which profile; without one by the standard one. */
   profile?: Profile | undefined
 }
 
@@ -99,9 +99,10 @@ export interface Base {
 
 /**
  * `standard`: the URL Standard's valid URL strings. `wide`: also `_` and hyphens wherever they stand in domains, and
- * any segments behind an authority.
+ * any segments behind an authority. `parser`: each text that the Standard's parser takes without a validation error,
+ * and no other. Each takes what the one before it takes.
  */
-export type Profile = 'standard' | 'wide'
+export type Profile = 'standard' | 'wide' | 'parser'
 
 /** The names of the rules. */
 export type RuleName =

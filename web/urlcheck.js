@@ -60,7 +60,8 @@ export class BaseRefused extends Error {
 function profileNumber(profile) {
   if (profile === undefined || profile === 'standard') return 0
   if (profile === 'wide') return 1
-  throw new TypeError("the profile is neither 'standard' nor 'wide'")
+  if (profile === 'parser') return 2
+  throw new TypeError("the profile is none of 'standard', 'wide' and 'parser'")
 }
 
 /**

@@ -48,12 +48,14 @@ _MENDED = 8
 
 
 class Profile(enum.IntEnum):
-    """Which written grammar a text and its base are judged by."""
+    """Which texts are valid; a text and its base are judged by one. Each takes what the one before it takes."""
 
     STANDARD = 0
     """The URL Standard's valid URL strings."""
     WIDE = 1
     """Also ``_`` and hyphens wherever they stand in domains, and any segments behind an authority."""
+    PARSER = 2
+    """Each text that the URL Standard's parser takes without a validation error, and no other."""
 
 
 @dataclass(frozen=True)

@@ -302,7 +302,7 @@ def _parser() -> argparse.ArgumentParser:
     add("--check", action="store_true", help="judge the links, and report those that are refused")
     add("--base", metavar="URL", help="what the documents' references are relative to")
     names = [it.name.lower() for it in Profile]
-    add("--profile", choices=names, default="standard", help="the written grammar to judge by")
+    add("--profile", choices=names, default="standard", help="the profile to judge by")
     add("--type", dest="kind", choices=sorted(set(KINDS.values())), help="the kind of all documents")
     add("--ignore", metavar="FILE", help="regular expressions, one a line, of links that are meant as they are")
     add("--version", action="version", version="urlcheck-documents " + version())

@@ -1,9 +1,9 @@
-"""Cases for the checker in JavaScript, from files of vectors, with what the program says of each in both profiles.
+"""Cases for the checker in JavaScript, from files of vectors, with what the program says of each in each profile.
 
     answers.py PROGRAM CASES VECTORS..   writes the cases, as JSON
 
-A case has its text, its base or null, what the vectors want or null, and for each profile what `check`,
-`check --all` and `mend` print, with the status and what stands on standard error.
+A case has its text, its base or null, what the vectors want and by which profile or null, and for each profile what
+`check`, `check --all` and `mend` print, with the status and what stands on standard error.
 """
 
 import concurrent.futures
@@ -13,7 +13,7 @@ import subprocess
 import sys
 
 sys.path.insert(0, os.path.join(os.path.dirname(os.path.abspath(__file__)), "..", "library"))
-from cases import cases_of  # noqa: E402
+from cases import PROFILES, cases_of  # noqa: E402
 
 # Beside those of the library: controls, what turns the direction of a text, markup, and a long text.
 MORE = [
@@ -29,8 +29,8 @@ MORE = [
 ]
 
 
-def run(program, command, text, base, wide):
-    words = [program, *command] + ["--wide"] * wide
+def run(program, command, text, base, profile):
+    words = [program, *command, "--profile", profile]
     words += ([] if base is None else ["--base=" + base]) + ["--", text]
     ended = subprocess.run(words, capture_output=True, timeout=60)
     return {"status": ended.returncode, "out": ended.stdout.decode(), "error": ended.stderr.decode()}
@@ -39,10 +39,10 @@ def run(program, command, text, base, wide):
 def said(program, text, base):
     """What the program says of a text in each profile: the first refusal, all of them, and what to write instead."""
     answers = {}
-    for profile, wide in (("standard", False), ("wide", True)):
-        first = run(program, ["check"], text, base, wide)
-        every = run(program, ["check", "--all"], text, base, wide) if first["status"] == 1 else first
-        answers[profile] = {"first": first, "all": every, "mend": run(program, ["mend"], text, base, wide)}
+    for profile in PROFILES:
+        first = run(program, ["check"], text, base, profile)
+        every = run(program, ["check", "--all"], text, base, profile) if first["status"] == 1 else first
+        answers[profile] = {"first": first, "all": every, "mend": run(program, ["mend"], text, base, profile)}
     return answers
 
 

@@ -73,7 +73,7 @@ const tests = {
       }
     }
     assert.throws(() => urlcheck.check('ab\ud800'), /at index 2$/)
-    for (const profile of ['', 'Wide', 'standard ', 0, 1, null, {}, Symbol('wide'), 'toString']) {
+    for (const profile of ['', 'Wide', 'standard ', 'parsers', 0, 1, 2, null, {}, Symbol('wide'), 'toString']) {
       assert.throws(() => urlcheck.check('urn:a', { profile }), TypeError)
     }
     for (const text of [undefined, null, 1, {}, new String('urn:a'), ['urn:a']]) {
@@ -86,6 +86,25 @@ const tests = {
     assert.equal(urlcheck.check('a', { base: 'urn:a/' }).valid, false)
     assert.equal(urlcheck.check('http://a_b/', { base: null, profile: 'wide' }).valid, true)
     assert.equal(urlcheck.check('http://a_b/', { base: undefined, profile: undefined }).valid, false)
+  },
+
+  async 'each profile takes more'() {
+    const urlcheck = await load()
+    const profiles = ['standard', 'wide', 'parser']
+    const takes = { 'http://h/': 3, 'http://a_b/': 2, 'http://h//a': 2, 'http://a%2Db/': 1, 'http://1.2.3/': 1,
+      'urn:a b': 1, 'file://?q': 1, 'file://h/C:/x': 1, 'urn:a ': 0, 'http://256/': 0, 'http://a%2Fb/': 0 }
+    for (const [text, count] of Object.entries(takes)) {
+      const taken = profiles.filter(profile => urlcheck.isValid(text, { profile }))
+      assert.deepEqual(taken, profiles.slice(3 - count), text)
+    }
+    const profile = 'parser'
+    assert.deepEqual(urlcheck.check('http://%31.2/a', { profile }).ranges.host, [7, 12])
+    assert.equal(urlcheck.resolve('http://%31.2/a', { profile }).text, 'http://1.0.0.2/a')
+    assert.equal(urlcheck.resolve('urn:a ?q', { profile }).record.opaquePath, 'a%20')
+    const base = urlcheck.base('file://h/C:/a', { profile })
+    assert.equal(urlcheck.resolve('/x', { base }).text, 'file://h/C:/x')
+    assert.deepEqual(urlcheck.faults('//C:/x', { base }), [{ rule: 'host-domain', place: 2, index: 2 }])
+    assert.throws(() => urlcheck.base('http://256/', { profile }), { name: 'BaseRefused', rule: 'host-number' })
   },
 
   async 'a refused base'() {
@@ -158,7 +177,7 @@ const tests = {
     for (const base of [undefined, null, held]) assert.throws(() => urlcheck.base(base), TypeError)
     assert.throws(() => urlcheck.base('urn:a', { profile: 'Wide' }), TypeError)
     for (const call of CALLS) {
-      for (const [profile, message] of [['wide', /by the standard profile/], ['Wide', /neither/]]) {
+      for (const [profile, message] of [['wide', /by the standard profile/], ['Wide', /none of/]]) {
         assert.throws(() => urlcheck[call]('x', { base: held, profile }), { name: 'TypeError', message })
       }
     }

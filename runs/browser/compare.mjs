@@ -77,12 +77,13 @@ function faultOfCheck(urlcheck, text, options) {
   return null
 }
 
-/** Whether the vectors' own wish is met, by the standard profile. */
+/** Whether the vectors' own wish is met, where they have one by this profile. */
 function isWanted(wanted, urlcheck, text, options) {
-  if (wanted === null || options.profile === 'wide') return true
+  if (wanted === null || options.profile !== wanted[0]) return true
+  const [, other] = wanted
   const answer = urlcheck.resolve(text, options)
-  if (typeof wanted === 'string') return answer.valid && answer.text === wanted
-  return !answer.valid && answer.place === wanted[0] && answer.rule === wanted[1]
+  if (typeof other === 'string') return answer.valid && answer.text === other
+  return !answer.valid && answer.place === other[0] && answer.rule === other[1]
 }
 
 /** What differs on one text. */
@@ -99,9 +100,12 @@ function differencesOf(urlcheck, text, options, wanted, said) {
   return found
 }
 
+/** The profiles, by which each case is judged. */
+const PROFILES = ['standard', 'wide', 'parser']
+
 /** The calls of a checker with each base held: it is judged once, and taken again behind calls with other ones. */
 function holding(urlcheck) {
-  const bases = { standard: new Map(), wide: new Map() }
+  const bases = Object.fromEntries(PROFILES.map(profile => [profile, new Map()]))
   const held = ({ base, profile }) => {
     if (!bases[profile].has(base)) bases[profile].set(base, urlcheck.base(base, { profile }))
     return { base: bases[profile].get(base) }
@@ -150,7 +154,7 @@ export function differences(urlcheck, cases) {
     }
   }
   for (const { text, base, wanted, said } of cases) {
-    for (const profile of ['standard', 'wide']) {
+    for (const profile of PROFILES) {
       const differing = checker => () => differencesOf(checker, text, { base, profile }, wanted, said[profile])
       compare({ text, base, profile }, 3, differing(urlcheck))
       if (base !== null) compare({ text, held: base, profile }, 3, differing(withHeld))

@@ -48,7 +48,7 @@ def all_vectors(page, room):
         " done({ cases: cases.length, ...differences(await load(), cases) }), error => done({ error: String(error) }))"
     )
     holds("error" not in said and said["count"] == 0 and said["cases"] > 0, said)
-    return "{} cases in two profiles, {} answers, 0 differences".format(said["cases"], said["compared"])
+    return "{} cases in three profiles, {} answers, 0 differences".format(said["cases"], said["compared"])
 
 
 def typing(page, room):
@@ -112,6 +112,10 @@ def rules_and_bases(page, room):
     holds(page.verdict()[0] == "Valid", page.verdict())
     page.open(view="text", text="http://a_b//x")
     page.browser.find_element(By.CSS_SELECTOR, "input[value=wide]").click()
+    holds(page.verdict()[0] == "Valid", page.verdict())
+    page.fill("text", "http://a%2Db//x")
+    holds(page.verdict()[0] == "Refused", page.verdict())
+    page.browser.find_element(By.CSS_SELECTOR, "input[value=parser]").click()
     holds(page.verdict()[0] == "Valid", page.verdict())
     holds(mended > 2, mended)
     return "{} rules, and what to write instead for {}".format(len(explained), mended)
@@ -307,6 +311,9 @@ def the_address(page, room):
     page.wait(lambda: page.verdict() == verdict)
     values = page.run("return ['text', 'base'].map(it => document.getElementById(it).value)")
     holds(values == ["/\u00e9 %&#=+", "http://h/?&#x"], values)
+    page.run("location.hash = 'view=text&text=urn:a+b&profile=parser'")
+    page.wait(lambda: page.verdict()[0] == "Valid")
+    holds(page.run("return document.querySelector('input[value=parser]').checked"), "the profile of the address")
     page.run("location.hash = 'view=list&list=x%0Ay'")
     page.wait(lambda: page.report_ended() and page.verdict("#report")[1] == "2 lines, 2 refused")
     return address.partition("#")[2]

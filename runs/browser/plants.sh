@@ -83,6 +83,7 @@ script 'a mended text without its first code point' vectors memory.js 's/, { ign
 script 'a rule with the next number' vectors urlcheck.js \
     's/this.#names\[room.word(RULE) - 1\]/this.#names[room.word(RULE)]/'
 script 'the wide profile read as the standard one' vectors urlcheck.js "/=== 'wide'/s/return 1/return 0/"
+script "the parser's profile read as the wide one" vectors urlcheck.js "/=== 'parser'/s/return 2/return 1/"
 script 'units counted as bytes' vectors urlcheck.js 's/room.textLength === text.length/true/'
 script 'a lone surrogate let through' calls memory.js 's/ && text.length <= SHORT) utf8Length/ \&\& false) utf8Length/'
 script 'a room that is too small' calls memory.js 's/^const SMALL_ROOM = 3 \* SHORT$/const SMALL_ROOM = SHORT/'

@@ -36,6 +36,9 @@ if (mended !== null && 'text' in mended) {
   console.log(isValid, kind, mended.text)
 } else if (mended !== null) console.log(mended.rule, mended.index)
 
+const profiles: Record<Profile, number> = { standard: 0, wide: 1, parser: 2 }
+console.log(profiles, urlcheck.isValid('urn:a b', { profile: 'parser' }))
+
 const base: Base = urlcheck.base('http://h/', { profile })
 const below: Valid | Refused = urlcheck.check('x', { base })
 console.log(base.text, base.profile, below.valid, other.faults('x', { base }).length)
@@ -47,7 +50,7 @@ try {
   if (error instanceof BaseRefused) console.log(error.rule, error.place, error.index)
 }
 
-// @ts-expect-error: a profile has one of two names
+// @ts-expect-error: a profile has one of three names
 urlcheck.check('x', { profile: 'Wide' })
 // @ts-expect-error: a text is a string
 urlcheck.check(1)

@@ -9,6 +9,6 @@ const { load } = await import(pathToFileURL(resolve(process.argv[2], 'urlcheck.j
 const cases = JSON.parse(readFileSync(process.argv[3], 'utf8'))
 const { compared, count, found } = differences(await load(), cases)
 for (const it of found) console.log(`FAILED: ${it}`)
-console.log(`browser: ${cases.length} cases in two profiles under Node ${process.versions.node}, ` +
+console.log(`browser: ${cases.length} cases in three profiles under Node ${process.versions.node}, ` +
   `${compared} answers, ${count} differences`)
 process.exit(count === 0 && cases.length > 0 ? 0 : 1)

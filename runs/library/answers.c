@@ -1,5 +1,5 @@
 /*
- * Answers each case of a file of cases (see cases.py) by the library, in both profiles, a line each. With the word
+ * Answers each case of a file of cases (see cases.py) by the library, in each profile, a line each. With the word
  * `places` behind the file a line has where the parts of a valid text stand, and is empty for each other text; with
  * `mended` it says what `urlcheck mend` says. No bytes are handed in by a null pointer.
  */
@@ -252,6 +252,7 @@ int main(int count, char **words) {
         if (!read_text(file, &base)) fail("a case is cut off");
         say(&given, &base, URLCHECK_STANDARD);
         say(&given, &base, URLCHECK_WIDE);
+        say(&given, &base, URLCHECK_PARSER);
         free(given.bytes);
         free(base.bytes);
     }

@@ -1,4 +1,4 @@
-// Answers each case of a file of cases (see cases.py) by the library, in both profiles, a line each: as answers.c, in
+// Answers each case of a file of cases (see cases.py) by the library, in each profile, a line each: as answers.c, in
 // C++.
 #include "urlcheck.h"
 
@@ -104,6 +104,7 @@ int main(int count, char **words) {
         if (!read_text(file, base)) return 1;
         answer(text, base, URLCHECK_STANDARD);
         answer(text, base, URLCHECK_WIDE);
+        answer(text, base, URLCHECK_PARSER);
     }
     return 0;
 }

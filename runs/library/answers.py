@@ -1,4 +1,4 @@
-"""Answers each case of a file of cases (see cases.py) by the package, in both profiles, a line each: as answers.c.
+"""Answers each case of a file of cases (see cases.py) by the package, in each profile, a line each: as answers.c.
 
     answers.py CASES [mended]
 """
@@ -55,5 +55,5 @@ def mended(text, base, profile):
 
 say = mended if sys.argv[2:] == ["mended"] else line
 for text, base in unpacked(sys.argv[1]):
-    for profile in (urlcheck.Profile.STANDARD, urlcheck.Profile.WIDE):
+    for profile in urlcheck.Profile:
         sys.stdout.buffer.write(say(text, base, profile).encode() + b"\n")

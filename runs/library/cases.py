@@ -17,6 +17,8 @@ import subprocess
 import sys
 
 ABSENT = 0xFFFFFFFF
+# The profiles, by which each case is judged in this order.
+PROFILES = ("standard", "wide", "parser")
 # Texts beside the vectors: each kind of host, references, places behind code points of each length, and empty texts.
 MORE = [
     ("", None),
@@ -29,6 +31,12 @@ MORE = [
     ("foo://[::1]:80/", None),
     ("http://x_y//a", None),
     ("//h//a", "http://b_c/"),
+    ("http://%C3%A9.\u00e9/\u00e9?q", None),
+    ("//%31.2", "http://a%2Db/c"),
+    ("/C:/\u00e9", "file://h/D:/x"),
+    ("\u00e9: b", None),
+    ("urn:\u00e9 b ?\u65e5 ", None),
+    ("#\u00e9", "urn: \u00e9 #f"),
     ("file:///C:/..", None),
     ("../\u00e9", "http://h/\u65e5/b?q"),
     ("#\u00e9", "urn:isbn:1"),
@@ -54,12 +62,13 @@ DELIMITED = re.compile(
 
 
 def cases_of(paths):
-    """The cases of the vectors, each as text, base, and what the vectors want of it, and then the cases above."""
+    """The cases of the vectors and then those above, each as text, base, and what the vectors want of it by which
+    profile."""
     found = []
     for path in paths:
         for case in json.load(open(path, encoding="utf-8")):
-            wanted = case["text"] if "text" in case else (case["place"], case["rule"])
-            found.append((case["input"], case.get("base"), wanted))
+            answer = case["text"] if "text" in case else (case["place"], case["rule"])
+            found.append((case["input"], case.get("base"), (case.get("profile", PROFILES[0]), answer)))
     return found + [(text, base, None) for text, base in MORE]
 
 
@@ -96,10 +105,10 @@ def record_text(lines):
     return text + ("#" + first["fragment"] if "fragment" in first else "")
 
 
-def said(program, case, wide):
+def said(program, case, profile):
     """What the program says of a case, in the form of the beginning and of the record of a line of answers."""
     text, base, _ = case
-    words = [program, "check"] + ["--wide"] * wide + ([] if base is None else ["--base=" + base]) + ["--", text]
+    words = [program, "check", "--profile", profile] + ([] if base is None else ["--base=" + base]) + ["--", text]
     run = subprocess.run(words, capture_output=True, timeout=60)
     lines = run.stdout.decode().split("\n")[:-1]
     if run.returncode == 0:
@@ -118,41 +127,42 @@ def answered(line):
     return (verdict, place + " " + rule)
 
 
-def is_wanted(wanted, answer):
-    """Whether an answer is the one that the vectors want."""
-    if wanted is None:
+def is_wanted(wanted, profile, answer):
+    """Whether an answer by a profile is the one that the vectors want, where they want one by it."""
+    if wanted is None or wanted[0] != profile:
         return True
-    return answer == (("0", wanted) if isinstance(wanted, str) else ("1", "{} {}".format(*wanted)))
+    _, other = wanted
+    return answer == (("0", other) if isinstance(other, str) else ("1", "{} {}".format(*other)))
 
 
 def compare(program, answers, paths):
     cases = cases_of(paths)
     lines = open(answers, encoding="utf-8", newline="\n").read().split("\n")[:-1]
-    asked = [(case, wide) for case in cases for wide in (False, True)]
+    asked = [(case, profile) for case in cases for profile in PROFILES]
     with concurrent.futures.ThreadPoolExecutor() as pool:
         wanted = list(pool.map(lambda one: said(program, *one), asked))
     bad = [
-        (case, wide, line, word)
-        for (case, wide), line, word in zip(asked, lines, wanted)
-        if answered(line) != word or not (wide or is_wanted(case[2], answered(line)))
+        (case, profile, line, word)
+        for (case, profile), line, word in zip(asked, lines, wanted)
+        if answered(line) != word or not is_wanted(case[2], profile, answered(line))
     ]
     for one in bad[:20]:
         print("FAILED:", one)
-    print("library: {} cases in two profiles, {} differences from `urlcheck check`".format(len(cases), len(bad)))
+    print("library: {} cases in three profiles, {} differences from `urlcheck check`".format(len(cases), len(bad)))
     return 0 if not bad and len(lines) == len(asked) else 1
 
 
-def mended(program, case, wide):
+def mended(program, case, profile):
     """What the program says of mending a case, in a line."""
     text, base, _ = case
-    words = [program, "mend"] + ["--wide"] * wide + ([] if base is None else ["--base=" + base]) + ["--", text]
+    words = [program, "mend", "--profile", profile] + ([] if base is None else ["--base=" + base]) + ["--", text]
     run = subprocess.run(words, capture_output=True, timeout=60)
     return (run.stdout if run.returncode < 2 else run.stderr).decode().rstrip("\n").replace("\n", "\t")
 
 
 def compare_mended(program, answers, paths):
     lines = open(answers, encoding="utf-8", newline="\n").read().split("\n")[:-1]
-    asked = [(case, wide) for case in cases_of(paths) for wide in (False, True)]
+    asked = [(case, profile) for case in cases_of(paths) for profile in PROFILES]
     with concurrent.futures.ThreadPoolExecutor() as pool:
         wanted = list(pool.map(lambda one: mended(program, *one), asked))
     bad = [(one, line, word) for one, line, word in zip(asked, lines, wanted) if line != word]
@@ -172,7 +182,7 @@ def places_of(text):
 
 def compare_places(answers, paths):
     lines = open(answers, encoding="utf-8").read().split("\n")[:-1]
-    asked = [text for text, _, _ in cases_of(paths) for _ in range(2)]
+    asked = [text for text, _, _ in cases_of(paths) for _ in PROFILES]
     valid = [(text, line) for text, line in zip(asked, lines) if line]
     bad = [(text, line) for text, line in valid if line != places_of(text)]
     for one in bad[:20]:

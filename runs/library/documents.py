@@ -193,6 +193,10 @@ class Documents(unittest.TestCase):
         self.write("a.html", '<a href="http://a_b/">')
         self.judges("a.html", [("1:17", "host-domain")])
         self.judges("a.html", [], "--profile", "wide")
+        self.write("b.html", '<a href="http://a%2Db/"><a href="http://256/"><a href="urn:a b">')
+        wide = [("1:17", "host-domain"), ("1:41", "host-number"), ("1:61", "code-point")]
+        self.judges("b.html", wide, "--profile", "wide")
+        self.judges("b.html", [("1:41", "host-number")], "--profile", "parser")
 
     def test_folders_and_input(self):
         os.mkdir(os.path.join(self.room, "d"))

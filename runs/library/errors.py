@@ -25,6 +25,7 @@ class Errors(unittest.TestCase):
             ((b"x",), TypeError, "a text is a str, not bytes"),
             ((None,), TypeError, "a text is a str, not NoneType"),
             (("x", b"y"), TypeError, "a base is a str or None, not bytes"),
+            (("x", None, 3), ValueError, "no profile has the number 3"),
             (("x", None, 7), ValueError, "no profile has the number 7"),
             (("x", None, -1), ValueError, "no profile has the number -1"),
             (("x", None, 1 << 40), ValueError, "no profile has the number"),
@@ -51,6 +52,15 @@ class Errors(unittest.TestCase):
         for function in (urlcheck.check, urlcheck.faults, urlcheck.resolve, urlcheck.is_valid, urlcheck.mend):
             with self.assertRaisesRegex(ValueError, "another profile: STANDARD"):
                 function("x", narrow, urlcheck.Profile.WIDE)
+
+    def test_each_profile_takes_more(self):
+        texts = {"http://h/": 3, "http://a_b/": 2, "http://h//a": 2, "http://a%2Db/": 1, "http://1.2/": 1, "urn:a b": 1}
+        texts.update({"file://h/C:/x": 1, "file://?q": 1, "urn:a ": 0, "http://256/": 0, "http://a%2Fb/": 0})
+        for text, count in texts.items():
+            taken = [profile for profile in urlcheck.Profile if urlcheck.is_valid(text, None, profile)]
+            self.assertEqual(taken, list(urlcheck.Profile)[len(urlcheck.Profile) - count :], text)
+        self.assertEqual(urlcheck.resolve("http://%31.2/", None, urlcheck.Profile.PARSER), "http://1.0.0.2/")
+        self.assertEqual(urlcheck.resolve("#f", "urn:a ?q", urlcheck.Profile.PARSER), "urn:a%20?q#f")
 
     def test_a_text_is_mended(self):
         mended = urlcheck.mend("http://h/" + 300 * " " + "x")

@@ -47,6 +47,7 @@ static void expect(int holds, const char *what) {
 
 static const char TEXT[] = "http://FA\xc3\x9f.de:81/a/../\xe6\x97\xa5?\xc3\xa9#x";
 static const char WRONG[] = "http://x_y:z/ ^%";
+static const char ESCAPED[] = "http://B%C3%BCcher.%64e/";
 static const char MENDABLE[] = "//fa\xc3\x9f.de/a b%";
 static const char BASE[] = "http://B\xc3\xbc" "cher.de/d/e";
 
@@ -65,6 +66,7 @@ static uint32_t call(int kind, uint8_t *out, size_t room) {
     case 4: return urlcheck_faults(wrong, wrong_length, URLCHECK_STANDARD, faults, 8).found.verdict;
     case 5:
         return urlcheck_faults_against(wrong, wrong_length, base, base_length, URLCHECK_WIDE, faults, 8).found.verdict;
+    case 6: return urlcheck_check((const uint8_t *)ESCAPED, sizeof ESCAPED - 1, URLCHECK_PARSER).found.verdict;
     default:
         return urlcheck_mend_against(mendable, mendable_length, base, base_length, URLCHECK_WIDE, out, room)
             .found.verdict;
@@ -74,7 +76,8 @@ static uint32_t call(int kind, uint8_t *out, size_t room) {
 /* The verdict of a call with all memory. */
 static uint32_t wanted(int kind) {
     if (kind < 4) return URLCHECK_VALID;
-    return kind < 6 ? URLCHECK_REFUSED : URLCHECK_MENDED;
+    if (kind < 6) return URLCHECK_REFUSED;
+    return kind == 6 ? URLCHECK_VALID : URLCHECK_MENDED;
 }
 
 static void refuse_each(int kind) {
@@ -123,7 +126,7 @@ static void judge_100_mb(void) {
 }
 
 int main(void) {
-    for (int kind = 0; kind < 7; kind++) refuse_each(kind);
+    for (int kind = 0; kind < 8; kind++) refuse_each(kind);
     judge_100_mb();
     return failed;
 }

@@ -4,6 +4,9 @@ const VIEWS = ['text', 'list', 'html']
 /** A text or list of more units isn't written into the address. */
 const LONGEST = 4000
 
+/** The names that an address may have for a profile; it needs none for the first. */
+const PROFILES = ['standard', 'wide', 'parser']
+
 /** What the page begins with. */
 export const FIRST_TEXT = 'https://example.com/a b?x=100%&y=1#top'
 
@@ -16,7 +19,7 @@ export function readState() {
     text: words.get('text'),
     list: words.get('list'),
     base: words.get('base') ?? '',
-    profile: words.get('profile') === 'wide' ? 'wide' : 'standard'
+    profile: PROFILES.find(profile => profile === words.get('profile')) ?? PROFILES[0]
   }
 }
 
@@ -26,6 +29,6 @@ export function addressOf({ view, text, list, base, profile }) {
   if (view === 'text' && text.length <= LONGEST) words.set('text', text)
   if (view === 'list' && list && list.length <= LONGEST) words.set('list', list)
   if (base && base.length <= LONGEST) words.set('base', base)
-  if (profile === 'wide') words.set('profile', profile)
+  if (profile !== PROFILES[0]) words.set('profile', profile)
   return `#${words}`
 }

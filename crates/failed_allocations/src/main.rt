@@ -72,6 +72,7 @@ fn profile_of(name: &str) -> Option<Profile> {
     match name {
         "standard" => Some(Profile::Standard),
         "wide" => Some(Profile::Wide),
+        "parser" => Some(Profile::Parser),
         _ => None,
     }
 }

@@ -14,22 +14,32 @@ const COUNT: usize = 1_000_000;
 const LINE_BYTES: usize = 65_536;
 
 // Faults of one rule: the first at the place, each other so many code points behind the one before, and so many in each
-// repetition of a unit, or one in all.
+// repetition of a unit, or one in all. They are faults up to this profile, and wider ones take them.
 #[derive(Clone, Copy)]
 struct Run {
     place: usize,
     rule: Rule,
     step: usize,
     in_each: Option<usize>,
+    until: Profile,
 }
 
-// One fault in all.
+// One fault in all, by every profile.
 fn once(place: usize, rule: Rule) -> Run {
     Run {
         place,
         rule,
         step: 0,
         in_each: None,
+        until: Profile::Parser,
+    }
+}
+
+// An empty first segment, which the standard profile alone refuses.
+fn empty_segment(place: usize) -> Run {
+    Run {
+        until: Profile::Standard,
+        ..once(place, Rule::FirstSegmentEmpty)
     }
 }
 
@@ -40,6 +50,7 @@ fn each(place: usize, rule: Rule) -> Run {
         rule,
         step: 1,
         in_each: Some(1),
+        until: Profile::Parser,
     }
 }
 
@@ -89,7 +100,16 @@ fn filled(rt: &impl AllocGlobal, part: Part, unit: &str, count: usize) -> Result
     Ok(text)
 }
 
-// The faults of these runs, where a unit is repeated so often. The wide profile takes an empty first segment.
+// Whether the run's faults are some by the profile.
+fn is_wrong(run: &Run, profile: Profile) -> bool {
+    match run.until {
+        Profile::Standard => profile == Profile::Standard,
+        Profile::Wide => profile != Profile::Parser,
+        Profile::Parser => true,
+    }
+}
+
+// The faults of these runs by the profile, where a unit is repeated so often.
 fn faults_in(
     rt: &impl AllocGlobal,
     runs: &[Run],
@@ -98,11 +118,11 @@ fn faults_in(
 ) -> Result<Vec<Refusal>, Fail> {
     let mut wanted = Vec::new(rt.alloc());
     for run in runs {
-        let times = match (run.rule, profile) {
-            (Rule::FirstSegmentEmpty, Profile::Wide) => 0,
-            _ => run
-                .in_each
-                .map_or(1, |in_each| count.saturating_mul(in_each)),
+        let times = if is_wrong(run, profile) {
+            run.in_each
+                .map_or(1, |in_each| count.saturating_mul(in_each))
+        } else {
+            0
         };
         for at in 0..times {
             wanted.push(Refusal {
@@ -120,7 +140,7 @@ fn judges(
     part: Part,
     rows: &[(&str, &[Run])],
 ) -> Result<(), Fail> {
-    for profile in [Profile::Standard, Profile::Wide] {
+    for profile in Profile::in_order() {
         let base = base_record(rt.alloc(), part.base, profile)?;
         for (unit, runs) in rows {
             let text = filled(rt, part, unit, COUNT)?;
@@ -154,7 +174,7 @@ fn judges_long_paths(rt: HostRuntime) -> Result<(), Fail> {
         &rt,
         PATH,
         &[
-            ("/", &[once(9, Rule::FirstSegmentEmpty)]),
+            ("/", &[empty_segment(9)]),
             ("a/", &[]),
             ("%41", &[]),
             ("%", &[each(9, Rule::Percent)]),
@@ -168,26 +188,28 @@ fn judges_long_paths(rt: HostRuntime) -> Result<(), Fail> {
     )
 }
 
+// By the parser's profile a domain of ASCII alone may have any length, and empty labels.
 #[test]
 fn judges_long_hosts(rt: HostRuntime) -> Result<(), Fail> {
     let domain = once(7, Rule::HostDomain);
+    let until_wide = Run {
+        until: Profile::Wide,
+        ..domain
+    };
     judges(
         &rt,
         HOST,
         &[
-            (
-                "/",
-                &[once(7, Rule::HostMissing), once(8, Rule::FirstSegmentEmpty)],
-            ),
+            ("/", &[once(7, Rule::HostMissing), empty_segment(8)]),
             ("a/", &[]),
-            ("%41", &[domain]),
+            ("%41", &[until_wide]),
             ("%", &[domain]),
             ("\u{E9}", &[domain]),
             ("[", &[once(7, Rule::HostIpv6)]),
             ("@", &[domain]),
-            (".", &[domain]),
+            (".", &[until_wide]),
             ("xn--", &[domain]),
-            ("-", &[domain]),
+            ("-", &[until_wide]),
         ],
     )
 }
@@ -204,7 +226,7 @@ fn judges_long_ports(rt: HostRuntime) -> Result<(), Fail> {
         &rt,
         PORT,
         &[
-            ("/", &[once(10, Rule::FirstSegmentEmpty)]),
+            ("/", &[empty_segment(10)]),
             ("a/", &[once(9, Rule::PortDigit)]),
             ("%41", &[of_escapes]),
             ("%", &[digit]),
@@ -244,10 +266,7 @@ fn judges_long_references(rt: HostRuntime) -> Result<(), Fail> {
         &rt,
         REFERENCE,
         &[
-            (
-                "/",
-                &[once(2, Rule::HostMissing), once(3, Rule::FirstSegmentEmpty)],
-            ),
+            ("/", &[once(2, Rule::HostMissing), empty_segment(3)]),
             ("a/", &[]),
             ("%41", &[]),
             ("%", &[each(0, Rule::Percent)]),
@@ -271,7 +290,7 @@ fn judges_one(
     let mut text = String::from_str(rt.alloc(), before)?;
     text.push_str(unit.repeat(rt.alloc(), count)?.as_str())?;
     text.push_str(behind)?;
-    for profile in [Profile::Standard, Profile::Wide] {
+    for profile in Profile::in_order() {
         let found = judged(rt, text.as_str(), None, profile)?;
         assert!(rt; found.len() <= 1, "of {before}");
         let first = found.first().map(|refusal| (refusal.place, refusal.rule));

@@ -74,7 +74,7 @@ pub(crate) fn judge_all(
     rt: &(impl Abort + AllocGlobal),
     inputs: &[(&str, Option<&str>)],
 ) -> Result<(), Fail> {
-    for profile in [Profile::Standard, Profile::Wide] {
+    for profile in Profile::in_order() {
         for (text, base) in inputs {
             judge_variants(rt, text, *base, profile)?;
         }

@@ -26,7 +26,9 @@ outcome_number Mended = 8
 -- the profile with a number
 abbrev pub profile_of : ℕ → Option Profile
 profile_of number =
-    if number == 0 then Some profiles.Standard else (if number == 1 then Some profiles.Wide else None)
+    if number == 0 then Some profiles.Standard
+    else (if number == 1 then Some profiles.Wide
+    else (if number == 2 then Some profiles.Parser else None))
 
 -- how many bytes stand before a place in code points
 unfoldable pub byte_place : List ℕ → ℕ → ℕ

@@ -47,13 +47,14 @@ pub(crate) fn prepared<'t>(
     }
 }
 
-/// The profile with this number: 0 is the standard profile, 1 the wide one.
+/// The profile with this number: 0 is the standard profile, 1 the wide one, 2 the parser's.
 pub(crate) fn profile_of(number: u32) -> Option<Profile>
     ensures { result ≡ profile_of number }
 {
     match number {
         0 => Some(Profile::Standard),
         1 => Some(Profile::Wide),
+        2 => Some(Profile::Parser),
         _ => None,
     }
 }

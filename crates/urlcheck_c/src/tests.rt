@@ -66,7 +66,7 @@ fn refuses_at_a_place_in_code_points_and_in_bytes(rt: HostRuntime) {
     );
     finds(
         &rt,
-        urlcheck_check(rt.alloc(), b"http://h/", 2).found,
+        urlcheck_check(rt.alloc(), b"http://h/", 3).found,
         (6, 0, 0, 0),
     );
     finds(
@@ -79,6 +79,45 @@ fn refuses_at_a_place_in_code_points_and_in_bytes(rt: HostRuntime) {
         urlcheck_check(rt.alloc(), b"http://x_y/", 1).found,
         (0, 0, 0, 0),
     );
+}
+
+// What each profile with a number of its own takes, the wider ones too.
+#[test]
+fn judges_by_each_profile(rt: HostRuntime) {
+    let rows: [(&[u8], (u32, u32, usize, usize), u32); 5] = [
+        (b"http://x_y/", (1, 5, 7, 7), 1),
+        (b"http://1.2.3/", (1, 6, 7, 7), 2),
+        (b"http://a%2Db/", (1, 5, 7, 7), 2),
+        (b"file://", (1, 4, 7, 7), 2),
+        (b"urn:a b", (1, 13, 5, 5), 2),
+    ];
+    for (text, refused, first) in rows {
+        for profile in 0..3 {
+            let wanted = if profile < first {
+                refused
+            } else {
+                (0, 0, 0, 0)
+            };
+            finds(&rt, urlcheck_check(rt.alloc(), text, profile).found, wanted);
+        }
+    }
+    finds(
+        &rt,
+        urlcheck_check(rt.alloc(), b"http://xn--a/", 2).found,
+        (1, 5, 7, 7),
+    );
+}
+
+// The parts of a text by the parser's profile are texts of it, and its record has what they denote.
+#[test]
+fn writes_a_record_of_the_parsers_profile(rt: HostRuntime) {
+    let parts = urlcheck_check(rt.alloc(), b"http://%31.2/a", 2).parts;
+    stands(&rt, parts.host, Some((7, 5)));
+    stands(&rt, parts.path, Some((12, 2)));
+    let mut out = [b'.'; 18];
+    let full = urlcheck_resolve(rt.alloc(), b"http://%31.2/a", 2, &mut out);
+    finds(&rt, full.found, (0, 0, 0, 0));
+    assert!(rt; out[..] == b"http://1.0.0.2/a.."[..]);
 }
 
 #[test]
@@ -136,6 +175,18 @@ fn judges_against_a_base_that_is_held(rt: HostRuntime) {
     finds_with(&rt, &hosted, b"/C:/x", (1, 12, 0, 0));
     let local = urlcheck_prepare(rt.alloc(), b"file:///a", 0);
     finds_with(&rt, &local, b"/C:/x", (0, 0, 0, 0));
+    let parsers = urlcheck_prepare(rt.alloc(), b"file://h/C:/a", 2);
+    assert_eq!(rt;
+        (
+            parsers.profile,
+            parsers.scheme,
+            parsers.opaque_path,
+            parsers.empty_host
+        ),
+        (2, 4, 0, 0)
+    );
+    finds_with(&rt, &parsers, b"/C:/x", (0, 0, 0, 0));
+    finds_with(&rt, &parsers, b"//C:/x", (1, 5, 2, 2));
 }
 
 #[test]
@@ -145,7 +196,7 @@ fn says_what_is_wrong_with_a_base_that_is_held(rt: HostRuntime) {
     finds_with(&rt, &refused, b"a\xff", (2, 0, 1, 1));
     let broken = urlcheck_prepare(rt.alloc(), b"h\xff", 0);
     finds_with(&rt, &broken, b"x", (4, 0, 1, 1));
-    let unknown = urlcheck_prepare(rt.alloc(), b"http://h/", 2);
+    let unknown = urlcheck_prepare(rt.alloc(), b"http://h/", 3);
     finds_with(&rt, &unknown, b"a\xff", (6, 0, 0, 0));
     let stray = Base {
         found: urlcheck_check(rt.alloc(), b"http://h/", 0).found,
@@ -162,7 +213,8 @@ fn says_no_more_than_yes_or_no(rt: HostRuntime) {
     assert!(rt; urlcheck_is_valid(rt.alloc(), b"http://h/", 0));
     assert!(rt; !urlcheck_is_valid(rt.alloc(), b"http://x_y/", 0));
     assert!(rt; urlcheck_is_valid(rt.alloc(), b"http://x_y/", 1));
-    assert!(rt; !urlcheck_is_valid(rt.alloc(), b"http://h/", 2));
+    assert!(rt; urlcheck_is_valid(rt.alloc(), b"http://a%2Db/", 2));
+    assert!(rt; !urlcheck_is_valid(rt.alloc(), b"http://h/", 3));
     assert!(rt; !urlcheck_is_valid(rt.alloc(), b"http://h/\xff", 0));
 }
 

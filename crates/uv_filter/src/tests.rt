@@ -157,7 +157,7 @@ fn judges_by_the_base(rt: HostRuntime) -> Result<(), Fail> {
     Ok(())
 }
 
-// Without the base it has none. By the wide profile a host with `_` is valid.
+// Without the base it has none. By the wide profile a host with `_` is valid, by the parser's one with an escape.
 #[test]
 fn judges_by_the_profile(rt: HostRuntime) {
     let wide = FilterSetting {
@@ -172,6 +172,18 @@ fn judges_by_the_profile(rt: HostRuntime) {
     writes(&rt, b"a b\n", SETTING, b"a b\n", REFUSED);
     writes(&rt, b"http://a_b/\n", SETTING, b"http://a_b/\n", REFUSED);
     writes(&rt, b"http://a_b/\n", wide, b"http://a_b/\n", valid);
+    let parsers = FilterSetting {
+        profile: Profile::Parser,
+        ..SETTING
+    };
+    let mended = FilterCounts {
+        lines: 1,
+        same: 1,
+        ..NONE
+    };
+    writes(&rt, b"http://%68/\n", wide, b"http://h/\n", mended);
+    writes(&rt, b"http://%68/\n", parsers, b"http://%68/\n", valid);
+    writes(&rt, b"http://0x1/\n", parsers, b"http://0.0.0.1/\n", mended);
 }
 
 // No line, empty ones, a byte order mark at the start and elsewhere, and CR that is no part of an end.

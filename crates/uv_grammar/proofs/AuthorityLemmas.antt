@@ -13,7 +13,7 @@ use Rattle.uv_model.specs.declared.scheme.Class.TheVariants.{Special, Other}
 use Rattle.uv_model.specs.Parts.{written_behind}
 use Rattle.uv_model.specs.Path.{is_without}
 use Rattle.uv_model.specs.Scheme.{is_scheme}
-use Rattle.uv_model.specs.Valid.{starts_with_scheme}
+use Rattle.uv_model.specs.Scheme.{starts_with_scheme}
 use Rattle.uv_model.proofs.Texts.AsciiLemmas.{AreBeyond, AreBeyond-encode}
 use Rattle.uv_model.proofs.Texts.MarkLemmas.{has_mark, is_without-cons, text_before-mark}
 use Rattle.uv_model.proofs.Cuts.SchemeCutLemmas.{scheme_without_colon, splits_at_scheme}

@@ -2,10 +2,10 @@
 use Rattle.std.proofs.Common.{◌≡◌, ◌≢◌, ℕ, List, [], ◌∷◌, ◌++◌, true, false, Option, Some, None, refl, sym, ap, ◌∙◌}
 use Rattle.std.proofs.Common.{subst, inl, inr}
 use Rattle.std.specs.Prelude.{◌⊎◌, ◌+◌, IsSome, is_some}
-use Rattle.std.proofs.lemmas.Bool.{cases_Bool, false≢true}
+use Rattle.std.proofs.lemmas.Bool.{cases_Bool, false_from_ne_true, false≢true}
 use Rattle.uv_model.specs.declared.host.Host.{Host}
 use Rattle.uv_model.specs.declared.profile.Profile.{Profile}
-use Rattle.uv_model.specs.declared.profile.Profile.TheVariants.{Standard, Wide}
+use Rattle.uv_model.specs.declared.profile.Profile.TheVariants.{Standard, Wide, Parser}
 use Rattle.uv_model.specs.declared.rule.Rule.{Rule}
 use Rattle.uv_model.specs.declared.rule.Rule.TheVariants.{NoScheme, OpaqueBase, TwoSlashes, FirstSegmentEmpty}
 use Rattle.uv_model.specs.declared.rule.Rule.TheVariants.{DriveAfterHost}
@@ -13,9 +13,12 @@ use Rattle.uv_model.specs.declared.scheme.Class.{Class}
 use Rattle.uv_model.specs.declared.scheme.Class.TheVariants.{Special, File, Other}
 use Rattle.uv_model.specs.Ascii.{number_sign, question_mark}
 use Rattle.uv_model.specs.Violations.Violation.{HasEmptyFirst, HasHost, MayBeUnitViolation, IsStarted}
+use Rattle.uv_model.specs.Violations.Violation.{HasDrive, PathContentViolation, has_opaque_path}
 use Rattle.uv_model.specs.Violations.Violation.{starts_with_number_sign}
+use Rattle.uv_model.specs.Violations.UnitViolation.{PathUnitViolation}
 use Rattle.uv_model.specs.Cut.{Cut, IsCut, IsHostCut, IsSchemeCut, class_in, path_place, query_place, fragment_place}
-use Rattle.uv_model.specs.Cut.{starts_with_two_slashes, written_prefix, written_middle, written_start}
+use Rattle.uv_model.specs.Cut.{ends_at_host, is_followed, starts_with_two_slashes, texts_of, written_prefix}
+use Rattle.uv_model.specs.Cut.{written_middle, written_start}
 use Rattle.uv_model.specs.Parts.{Form, NoPath, Parts, PathAbsolute, PathRelative, SchemeOpaque, SchemePath, has_scheme}
 use Rattle.uv_model.specs.Parts.{written_authority, written_behind, written_scheme}
 use Rattle.uv_model.specs.Path.{IsPathAbsolute, IsPathRelative, is_without, starts_with_drive_segment}
@@ -27,13 +30,16 @@ use Rattle.uv_model.specs.Records.Url.{Url, is_opaque}
 use Rattle.uv_model.specs.Setting.{Setting, setting_of}
 use Rattle.uv_model.specs.Valid.{FitsAuthority, FitsBase, FitsDrive, FitsForm, HasAuthority, HasNoAuthority}
 use Rattle.uv_model.specs.Valid.{IsOpaqueHostText, IsOpaquePath, FitsScheme, IsPathBehind, MayBePathBehind}
-use Rattle.uv_model.specs.Valid.{MayBePortText, MayBeUnits, Valid, port_given, starts_with_scheme}
+use Rattle.uv_model.specs.Valid.{FitsCut, IsPathAlone, IsWithoutDrive, MayBePortText, MayBeUnits, Valid, port_given}
+use Rattle.uv_model.specs.Scheme.{starts_with_scheme}
 use Rattle.uv_model.proofs.Violations.ViolationLemmas.{cut_with}
 use Rattle.uv_model.proofs.Texts.MarkLemmas.{is_without-cons, is_without-parts}
+use Rattle.uv_model.proofs.Violations.SpacedPathLemmas.{path_violation-plain, spaced_without_violation}
+use Rattle.uv_model.proofs.Violations.SpacedPathLemmas.{unspaced_end_without_violation}
 use Rattle.uv_model.proofs.Violations.UnitViolationLemmas.{units_without_violation}
 use Rattle.uv_model.proofs.Cuts.ValidCutLemmas.{written_as_cut}
 use Rattle.uv_grammar.specs.Built.{built, form_of, form_with, pieces, segments_in, segments_of}
-use Rattle.uv_grammar.specs.HostValues.{FitsHost}
+use Rattle.uv_grammar.specs.HostValues.{FitsHost, MayBeEmptyFile}
 use Rattle.uv_grammar.specs.PartViolations.{BehindAuthority}
 use Rattle.uv_grammar.specs.PartValues.{FitsHostPart, FitsPortPart}
 use Rattle.uv_grammar.proofs.SegmentLemmas.{path_absolute, path_relative, path_slashed, relative_path}
@@ -44,8 +50,8 @@ use Rattle.uv_grammar.proofs.SegmentLemmas.{path_absolute, path_relative, path_s
 record IsQuiet (setting : Setting) (cut : Cut) : Type 0 where
   first : HasEmptyFirst setting.profile cut.path_text → ⊥
   drive : setting.class ≡ File → HasHost setting.base cut.scheme cut.host_text
-      → starts_with_drive_segment cut.path_text ≡ false
-  path : IsUnits cut.path_text
+      → IsWithoutDrive setting.profile cut.path_text
+  path : (place : ℕ) (rule : Rule) → PathContentViolation setting cut place rule → ⊥
   query : MayBeUnits cut.query
   fragment : MayBeUnits cut.fragment
 
@@ -56,21 +62,79 @@ no_violation_units start (Some text) none =
     units_without_violation text
     (λ place rule h. none (start + place) rule (record { inner = place; moved = refl; holds = h }))
 
+-- a path that has no drive letter which the profile forbids
+without_drive : (profile : Profile) (path : List ℕ) → (HasDrive profile path → ⊥) → IsWithoutDrive profile path
+without_drive Standard path none = false_from_ne_true (starts_with_drive_segment path) none
+without_drive Wide path none = false_from_ne_true (starts_with_drive_segment path) none
+without_drive Parser path none = tt
+
+-- without a scheme, behind an authority or `/` no path is opaque
+no_opaque_host : (class : Class) (scheme port_text : Option (List ℕ)) (host_text path : List ℕ)
+    (query fragment : Option (List ℕ))
+    → has_opaque_path class (cut_with scheme (Some host_text) port_text path query fragment) ≡ false
+no_opaque_host Special scheme port_text host_text path query fragment = refl
+no_opaque_host File scheme port_text host_text path query fragment = refl
+no_opaque_host Other None port_text host_text path query fragment = refl
+no_opaque_host Other (Some scheme) port_text host_text path query fragment = refl
+
+no_opaque_slash : (class : Class) (scheme port_text : Option (List ℕ)) (path : List ℕ)
+    (query fragment : Option (List ℕ)) → starts_with_slash path ≡ true
+    → has_opaque_path class (cut_with scheme None port_text path query fragment) ≡ false
+no_opaque_slash Special scheme port_text path query fragment start = refl
+no_opaque_slash File scheme port_text path query fragment start = refl
+no_opaque_slash Other None port_text path query fragment start = refl
+no_opaque_slash Other (Some scheme) port_text path query fragment start = rw start refl
+
+no_opaque_reference : (class : Class) (port_text : Option (List ℕ)) (path : List ℕ)
+    (query fragment : Option (List ℕ))
+    → has_opaque_path class (cut_with None None port_text path query fragment) ≡ false
+no_opaque_reference Special port_text path query fragment = refl
+no_opaque_reference File port_text path query fragment = refl
+no_opaque_reference Other port_text path query fragment = refl
+
+-- so it is units, where it has no violation
+units_of_path : (setting : Setting) (cut : Cut) → has_opaque_path setting.class cut ≡ false
+    → ((place : ℕ) (rule : Rule) → PathContentViolation setting cut place rule → ⊥) → IsUnits cut.path_text
+units_of_path setting cut plain none =
+    units_without_violation cut.path_text
+    (λ place rule h. none place rule
+    (rw plain (path_violation-plain setting.profile (is_followed cut) cut.path_text place rule h)))
+
+-- an opaque path is units, and by the parser's profile spaces too
+opaque_path : (profile : Profile) (base : Option Url) (scheme : List ℕ) (port_text : Option (List ℕ)) (path : List ℕ)
+    (query fragment : Option (List ℕ)) → scheme_class scheme ≡ Other → starts_with_slash path ≡ false
+    → is_without question_mark path ≡ true
+    → ((place : ℕ) (rule : Rule) → PathContentViolation (setting_of profile base (Some scheme))
+    (cut_with (Some scheme) None port_text path query fragment) place rule → ⊥)
+    → IsOpaquePath profile (is_followed (cut_with (Some scheme) None port_text path query fragment)) path
+opaque_path Standard base scheme port_text path query fragment other start none quiet =
+    (pieces path, path_relative path (units_without_violation path quiet) none start)
+opaque_path Wide base scheme port_text path query fragment other start none quiet =
+    (pieces path, path_relative path (units_without_violation path quiet) none start)
+opaque_path Parser base scheme port_text path query fragment other start none quiet =
+    let followed = is_followed (cut_with (Some scheme) None port_text path query fragment) in
+    let taken : (place : ℕ) (rule : Rule) → PathUnitViolation Parser true followed path place rule → ⊥
+    = λ place rule h. quiet place rule (rw (other, start) h) in
+    record {
+      spaced = record {
+        units = spaced_without_violation followed path taken;
+        no_question_mark = none;
+        start = start;
+      };
+      end = unspaced_end_without_violation followed path taken;
+    }
+
 -- from no violation to what it says
 quiet : (setting : Setting) (cut : Cut) → IsLeast (BehindAuthority setting cut) None → IsQuiet setting cut
 quiet setting cut none = record {
   first = λ empty.
       none (path_place cut + 1) FirstSegmentEmpty
       (inl (record { inner = 1; moved = refl; holds = (empty, refl) }));
-  drive = λ file host. elim (cases_Bool (starts_with_drive_segment cut.path_text)) [
-    | inl drive ↦
-        absurd (none (path_place cut + 0) DriveAfterHost
-        (inl (record { inner = 0; moved = refl; holds = (file, host, drive, refl) })))
-    | inr other ↦ other
-  ];
-  path = units_without_violation cut.path_text
-      (λ place rule h. none (path_place cut + place) rule
-      (inr (inl (record { inner = place; moved = refl; holds = h }))));
+  drive = λ file host. without_drive setting.profile cut.path_text
+      (λ drive. none (path_place cut + 0) DriveAfterHost
+      (inl (record { inner = 0; moved = refl; holds = (file, host, drive, refl) })));
+  path = λ place rule h. none (path_place cut + place) rule
+      (inr (inl (record { inner = place; moved = refl; holds = h })));
   query = no_violation_units (query_place cut) cut.query (λ place rule h. none place rule (inr (inr (inl h))));
   fragment = no_violation_units (fragment_place cut) cut.fragment (λ place rule h. none place rule (inr (inr (inr h))));
 }
@@ -89,6 +153,7 @@ path_of : (profile : Profile) (path : List ℕ) → starts_with_slash path ≡ t
     → (HasEmptyFirst profile path → ⊥) → IsUnits path → is_without question_mark path ≡ true
     → IsPathBehind profile (segments_of path) path
 path_of Wide path start first units none = path_slashed path units none start
+path_of Parser path start first units none = path_slashed path units none start
 path_of Standard path start first units none = elim (cases_Bool (starts_with_two_slashes path)) [
   | inl two ↦ absurd (first two)
   | inr one ↦ path_absolute path units none start one
@@ -108,22 +173,30 @@ slashed_path : (profile : Profile) (segments : List (List ℕ)) (path : List ℕ
 slashed_path profile segments path (inl (empty, none)) start = absurd (false≢true (rw empty at start))
 slashed_path profile segments path (inr is) start = is
 
+-- a path without a host before it
+path_alone : (profile : Profile) (segments : List (List ℕ)) (path : List ℕ) → MayBePathBehind profile segments path
+    → MayBeEmptyFile profile path → IsPathAlone profile segments path
+path_alone Standard segments path is start = slashed_path Standard segments path is start
+path_alone Wide segments path is start = slashed_path Wide segments path is start
+path_alone Parser segments path is start = is
+
 -- ---- authorities
 
 -- a valid authority of the class
 authority_fits : (kind : Class) (setting : Setting) (host_text : List ℕ) (parts : Parts) (host : Option Host)
     → parts.host ≡ host
-    → FitsHost setting.profile kind host_text parts.port_text parts.path_text host
+    → FitsHost setting.profile kind (ends_at_host (texts_of parts)) host_text parts.port_text parts.path_text host
     → IsHostCut kind host_text parts.port_text
     → MayBePortText parts.port_text → parts.port ≡ port_given setting.default_port parts.port_text
     → MayBePathBehind setting.profile parts.segments parts.path_text
-    → (kind ≡ File → host_text ≢ [] → starts_with_drive_segment parts.path_text ≡ false)
+    → (kind ≡ File → host_text ≢ [] → IsWithoutDrive setting.profile parts.path_text)
     → FitsAuthority kind setting host_text parts
 authority_fits Special setting host_text parts None same (inl (some, fits)) cut port_text port path drive = absurd fits
 authority_fits Special setting host_text parts (Some value) same (inl (some, fits)) cut port_text port path drive =
     record {
+      unstopped = fits.0;
       value = value;
-      host = fits;
+      host = fits.1;
       valued = same;
       port_text = port_text;
       port = port;
@@ -132,12 +205,22 @@ authority_fits Special setting host_text parts (Some value) same (inl (some, fit
 authority_fits Special setting host_text parts host same (inr (empty, is, may)) cut port_text port path drive =
     absurd may
 authority_fits File setting host_text parts None same (inl (some, fits)) cut port_text port path drive = absurd fits
-authority_fits File setting host_text parts (Some value) same (inl (some, fits)) cut port_text port path drive =
-    (cut, port ∙ ap (port_given setting.default_port) cut, inl (value, fits, same, path, drive refl some))
+authority_fits File setting host_text parts (Some value) same (inl (some, fits)) cut port_text port path drive = (
+  cut,
+  port ∙ ap (port_given setting.default_port) cut,
+  inl (record {
+    unstopped = fits.0;
+    value = value;
+    host = fits.1;
+    valued = same;
+    path = path;
+    no_drive = drive refl some;
+  }),
+)
 authority_fits File setting host_text parts host same (inr (empty, is, may)) cut port_text port path drive = (
   cut,
   port ∙ ap (port_given setting.default_port) cut,
-  inr (empty, same ∙ is, slashed_path setting.profile parts.segments parts.path_text path may),
+  inr (empty, same ∙ is, path_alone setting.profile parts.segments parts.path_text path may),
 )
 authority_fits Other setting host_text parts host same (inl (some, fits)) cut port_text port path drive =
     (inl (subst (λ (h : Option Host). IsOpaqueHostText host_text h) (sym same) fits, port_text), port, path)
@@ -180,7 +263,10 @@ has_authority profile base text scheme host_text port_text path query fragment h
     (Some host_text) port_text path query fragment) host port) host refl fits_host is.authority.2
     p.may p.given
     (subst (λ (s : List (List ℕ)). MayBePathBehind profile s path) (sym segments)
-    (path_behind profile path is.authority.1 q.first q.path none))
+    (path_behind profile path is.authority.1 q.first
+    (units_of_path (setting_of profile base scheme)
+    (cut_with scheme (Some host_text) port_text path query fragment)
+    (no_opaque_host (class_in base scheme) scheme port_text host_text path query fragment) q.path) none))
     (λ file some. q.drive file some)
 
 -- ---- texts without an authority
@@ -212,16 +298,16 @@ other_scheme profile base text scheme port_text path query fragment started = el
 ]
 
 -- no drive letter behind a base's host
-fits_drive : (base : Option Url) (path : List ℕ)
-    → (class_in base None ≡ File → HasHost base None None → starts_with_drive_segment path ≡ false)
-    → FitsDrive base path
-fits_drive None path drive = tt
-fits_drive (Some url) path drive = drive
+fits_drive : (profile : Profile) (base : Option Url) (path : List ℕ)
+    → (class_in base None ≡ File → HasHost base None None → IsWithoutDrive profile path)
+    → FitsDrive profile base path
+fits_drive profile None path drive = tt
+fits_drive profile (Some url) path drive = drive
 
 -- ---- forms that a test of the path decides
 
 absolute_form : (setting : Setting) (parts : Parts) → parts.form ≡ PathAbsolute → HasNoAuthority parts
-    → IsPathAbsolute parts.segments parts.path_text → FitsDrive setting.base parts.path_text
+    → IsPathAbsolute parts.segments parts.path_text → FitsDrive setting.profile setting.base parts.path_text
     → FitsForm setting parts.form parts
 absolute_form setting parts form a b d = subst (λ (f : Form). FitsForm setting f parts) (sym form) (a, b, d)
 
@@ -236,7 +322,8 @@ path_form : (setting : Setting) (parts : Parts) → parts.form ≡ SchemePath �
 path_form setting parts form a b d = subst (λ (f : Form). FitsForm setting f parts) (sym form) (a, b, d)
 
 opaque_form : (setting : Setting) (parts : Parts) → parts.form ≡ SchemeOpaque → HasNoAuthority parts
-    → setting.class ≡ Other → IsOpaquePath parts.path_text → parts.segments ≡ []
+    → setting.class ≡ Other → IsOpaquePath setting.profile (is_followed (texts_of parts)) parts.path_text
+    → parts.segments ≡ []
     → FitsForm setting parts.form parts
 opaque_form setting parts form a b d e = subst (λ (f : Form). FitsForm setting f parts) (sym form) (a, b, d, e)
 
@@ -273,13 +360,19 @@ scheme_path_fits profile base text scheme port_text path query fragment host por
           let form : form_with true false path ≡ SchemePath = rw start refl in
           path_form (setting_of profile base (Some scheme)) _ form a other
           (known_segments (form_with true false path) SchemePath path (λ l. IsPathAbsolute l path) form
-          (path_absolute path s.quiet.path s.none start s.is.authority.1))
+          (path_absolute path (units start) s.none start s.is.authority.1))
       | inr start ↦
           let form : form_with true false path ≡ SchemeOpaque = rw start refl in
           opaque_form (setting_of profile base (Some scheme)) _ form a other
-          (pieces path, path_relative path s.quiet.path s.none start)
+          (opaque_path profile base scheme port_text path query fragment other start s.none s.quiet.path)
           (ap (λ f. segments_in f path) form)
     ]
+  where
+    units : starts_with_slash path ≡ true → IsUnits path
+    units start =
+        units_of_path (setting_of profile base (Some scheme))
+        (cut_with (Some scheme) None port_text path query fragment)
+        (no_opaque_slash (class_in base (Some scheme)) (Some scheme) port_text path query fragment start) s.quiet.path
 
 -- a path alone
 reference_fits : (profile : Profile) (base : Option Url) (text : List ℕ) (port_text : Option (List ℕ)) (c : ℕ)
@@ -297,15 +390,20 @@ reference_fits profile base text port_text c rest query fragment host port s =
           let form : form_with false false path ≡ PathAbsolute = rw start refl in
           absolute_form (setting_of profile base None) _ form a
           (known_segments (form_with false false path) PathAbsolute path (λ l. IsPathAbsolute l path) form
-          (path_absolute path s.quiet.path s.none start s.is.authority.1))
-          (fits_drive base path s.quiet.drive)
+          (path_absolute path units s.none start s.is.authority.1))
+          (fits_drive profile base path s.quiet.drive)
       | inr start ↦
           let form : form_with false false path ≡ PathRelative = rw start refl in
           relative_form (setting_of profile base None) _ form a
           (known_segments (form_with false false path) PathRelative path (λ l. IsPathRelative l path) form
-          (relative_path path some s.quiet.path s.none start))
+          (relative_path path some units s.none start))
           some s.is.scheme
     ]
+  where
+    units : IsUnits (c ∷ rest)
+    units =
+        units_of_path (setting_of profile base None) (cut_with None None port_text (c ∷ rest) query fragment)
+        (no_opaque_reference (class_in base None) port_text (c ∷ rest) query fragment) s.quiet.path
 
 -- the parts fit the form
 form_fits : (profile : Profile) (base : Option Url) (text : List ℕ) (scheme host_text port_text : Option (List ℕ))
@@ -404,6 +502,13 @@ base_fits profile (Some url) text cut host port is started = elim (scheme_or_non
   ]
 ]
 
+-- the cut of the parts is the cut
+fits_cut : (profile : Profile) (base : Option Url) (text : List ℕ) (cut : Cut) (host : Option Host) (port : Option ℕ)
+    → IsCut base text cut → FitsCut profile base text (built cut host port)
+fits_cut Standard base text cut host port is = tt
+fits_cut Wide base text cut host port is = tt
+fits_cut Parser base text cut host port is = is
+
 -- The parts built from a cut are valid where its start, its host and its port are, and nothing behind them has a
 -- violation.
 pub valid_built : (profile : Profile) (base : Option Url) (text : List ℕ) (cut : Cut) (host : Option Host)
@@ -417,6 +522,7 @@ valid_built profile base text cut host port is started fits_host fits_port silen
     let q = quiet (setting_of profile base cut.scheme) cut silent in
     record {
       whole = is.whole ∙ sym (written_as_cut (built cut host port));
+      cut = fits_cut profile base text cut host port is;
       scheme = scheme_fits cut.scheme cut.host_text cut.path_text (written_middle cut) is.scheme;
       against = base_fits profile base text cut host port is started;
       form = form_fits profile base text cut.scheme cut.host_text cut.port_text cut.path_text cut.query cut.fragment

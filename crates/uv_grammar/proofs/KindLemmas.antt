@@ -7,6 +7,7 @@ use Rattle.std.proofs.lemmas.Option.{none-some}
 use Rattle.uv_model.specs.declared.host.Host.TheVariants.{Empty}
 use Rattle.uv_model.specs.declared.path.UrlPath.TheVariants.{Opaque, Segments}
 use Rattle.uv_model.specs.declared.profile.Profile.{Profile}
+use Rattle.uv_model.specs.declared.profile.Profile.TheVariants.{Standard, Wide, Parser}
 use Rattle.uv_model.specs.declared.rule.Refusal.{Refusal}
 use Rattle.uv_model.specs.declared.rule.Rule.{Rule}
 use Rattle.uv_model.specs.declared.rule.Rule.TheVariants.{NoScheme, OpaqueBase, TwoSlashes}
@@ -19,13 +20,14 @@ use Rattle.uv_model.specs.Violations.Violation.{Violation, ViolationOf, HasHost,
 use Rattle.uv_model.specs.Violations.Violation.{PathStartViolation, StartViolation}
 use Rattle.uv_model.specs.Violations.Refusal.{IsLeast}
 use Rattle.uv_model.specs.Cut.{Cut, behind_scheme, class_in, cut_of, host_text_cut, path_text_cut, port_text_cut}
-use Rattle.uv_model.specs.Cut.{scheme_cut, text_before, text_behind}
+use Rattle.uv_model.specs.Cut.{IsAuthorityCut, scheme_cut, text_before, text_behind}
 use Rattle.uv_model.specs.Parts.{Form, SchemeAuthority, SchemePath, SchemeOpaque, Authority, PathAbsolute}
 use Rattle.uv_model.specs.Parts.{PathRelative, NoPath, Parts}
 use Rattle.uv_model.specs.Records.Url.{Url, is_opaque}
 use Rattle.uv_model.specs.Scheme.{default_port, scheme_class}
 use Rattle.uv_model.specs.Setting.{Setting, scheme_or, setting_of}
-use Rattle.uv_model.specs.Valid.{FitsAuthority, FitsBase, FitsDrive, FitsForm, FitsHostText, IsSpecialAuthority, Valid}
+use Rattle.uv_model.specs.Valid.{FitsAuthority, FitsBase, FitsCut, FitsDrive, FitsForm, FitsHostText}
+use Rattle.uv_model.specs.Valid.{IsSpecialAuthority, Valid}
 use Rattle.uv_grammar.specs.declared.bases.BaseKind.{BaseKind}
 use Rattle.uv_grammar.specs.declared.checker.Verdict.{Verdict}
 use Rattle.uv_grammar.specs.declared.checker.Verdict.TheVariants.{Yes, No}
@@ -179,6 +181,7 @@ special_swap : (profile : Profile) (a b : Url) (class : Class) (port : Option �
     → IsSpecialAuthority (setting_with profile a class port) host_text parts
     → IsSpecialAuthority (setting_with profile b class port) host_text parts
 special_swap profile a b class port host_text parts x = record {
+  unstopped = x.unstopped;
   value = x.value;
   host = x.host;
   valued = x.valued;
@@ -203,8 +206,9 @@ host_text_swap profile a b class port parts None x = absurd x
 host_text_swap profile a b class port parts (Some host_text) x =
     authority_swap profile a b class port host_text parts x
 
-drive_swap : (a b : Url) (path : List ℕ) → IsAlike a b → FitsDrive (Some a) path → FitsDrive (Some b) path
-drive_swap a b path h x = λ file some. x (h.class ∙ file) (λ e. some (h.host.0 e))
+drive_swap : (profile : Profile) (a b : Url) (path : List ℕ) → IsAlike a b → FitsDrive profile (Some a) path
+    → FitsDrive profile (Some b) path
+drive_swap profile a b path h x = λ file some. x (h.class ∙ file) (λ e. some (h.host.0 e))
 
 form_swap : (profile : Profile) (a b : Url) → IsAlike a b → (class : Class) (port : Option ℕ) (parts : Parts)
     (form : Form)
@@ -217,7 +221,7 @@ form_swap profile a b h class port parts SchemeOpaque x = x
 form_swap profile a b h class port parts Authority x =
     host_text_swap profile a b class port parts parts.host_text x
 form_swap profile a b h class port parts PathAbsolute x =
-    (x.0, x.1, drive_swap a b parts.path_text h x.2)
+    (x.0, x.1, drive_swap profile a b parts.path_text h x.2)
 form_swap profile a b h class port parts PathRelative x = x
 form_swap profile a b h class port parts NoPath x = x
 
@@ -225,6 +229,20 @@ base_swap : (a b : Url) (parts : Parts) → IsAlike a b → FitsBase (Some a) pa
 base_swap a b parts h (inl x) = inl x
 base_swap a b parts h (inr (inl x)) = inr (inl (sym h.path ∙ x))
 base_swap a b parts h (inr (inr x)) = inr (inr x)
+
+-- the cut of the parts against both
+fits_cut_swap : (profile : Profile) (a b : Url) (text : List ℕ) (parts : Parts) → IsAlike a b
+    → FitsCut profile (Some a) text parts → FitsCut profile (Some b) text parts
+fits_cut_swap Standard a b text parts h x = tt
+fits_cut_swap Wide a b text parts h x = tt
+fits_cut_swap Parser a b text parts h x = record {
+  whole = x.whole;
+  prefix = x.prefix;
+  start = x.start;
+  scheme = x.scheme;
+  authority = subst (λ (class : Class). IsAuthorityCut class parts.host_text parts.port_text parts.path_text)
+      (class_alike a b h parts.scheme) x.authority;
+}
 
 -- a text is valid with the same parts against both
 pub valid_alike : (profile : Profile) (a b : Url) (text : List ℕ) → IsAlike a b → (parts : Parts)
@@ -234,6 +252,7 @@ valid_alike profile a b text h parts x =
     let port = default_port (scheme_or (Some a) parts.scheme) in
     record {
       whole = x.whole;
+      cut = fits_cut_swap profile a b text parts h x.cut;
       scheme = x.scheme;
       against = base_swap a b parts h x.against;
       form =

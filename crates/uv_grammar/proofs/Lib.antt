@@ -9,10 +9,12 @@ pub mod PlainPrefixLemmas
 pub mod PlainLinkLemmas
 pub mod PortLemmas
 pub mod ScanLemmas
+pub mod SpacedPathLemmas
 pub mod SearchLemmas
 pub mod SegmentLemmas
 pub mod SettingLemmas
 pub mod SliceLemmas
+pub mod StoppedHostLemmas
 pub mod TestLemmas
 pub mod VerdictLemmas
 pub mod PlainUnitLemmas

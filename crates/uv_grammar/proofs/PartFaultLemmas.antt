@@ -1,12 +1,12 @@
 -- The violations of the start, the host, the port and the path's start: one at most, or one of each code point.
-use Rattle.std.proofs.Common.{◌≡◌, ◌≢◌, ℕ, ◌⊎◌, List, [], ◌∷◌, ◌++◌, true, false, not, Option, Some, inl, inr, refl}
+use Rattle.std.proofs.Common.{◌≡◌, ◌≢◌, ℕ, ◌⊎◌, Bool, List, [], ◌∷◌, ◌++◌, true, false, not, Option, Some, inl, inr, refl}
 use Rattle.std.proofs.Common.{sym, ap, ◌∙◌, subst, ◌==◌, eqb-true}
 use Rattle.std.specs.Prelude.{◌<◌, ◌+◌, is_some}
 use Rattle.std.specs.Char.{is_ascii_digit, is_ascii_alphabetic}
 use Rattle.std.specs.List.{list_all}
 use Rattle.std.proofs.lemmas.Bool.{and_parts, cases_Bool, false≢true}
 use Rattle.uv_model.specs.declared.profile.Profile.{Profile}
-use Rattle.uv_model.specs.declared.profile.Profile.TheVariants.{Standard, Wide}
+use Rattle.uv_model.specs.declared.profile.Profile.TheVariants.{Standard, Wide, Parser}
 use Rattle.uv_model.specs.declared.rule.Rule.{Rule}
 use Rattle.uv_model.specs.declared.rule.Rule.TheVariants.{NoScheme, OpaqueBase, TwoSlashes, HostMissing, HostIpv6}
 use Rattle.uv_model.specs.declared.rule.Rule.TheVariants.{HostCodePoint, Percent, PortDigit, PortRange}
@@ -16,14 +16,15 @@ use Rattle.uv_model.specs.declared.scheme.Class.{Class}
 use Rattle.uv_model.specs.declared.scheme.Class.TheVariants.{Special, File, Other}
 use Rattle.uv_model.specs.Ascii.{slash}
 use Rattle.uv_model.specs.Violations.AllViolations.{AreFaults, ListsViolations}
-use Rattle.uv_model.specs.Violations.Violation.{Behind, Violation, ViolationOf, HasEmptyFirst, HasOpaquePath}
+use Rattle.uv_model.specs.Violations.Violation.{Behind, Violation, ViolationOf, HasDrive, HasEmptyFirst}
+use Rattle.uv_model.specs.Violations.Violation.{HasOpaquePath}
 use Rattle.uv_model.specs.Violations.Violation.{ContentViolation, HostContentViolation, HostViolation}
 use Rattle.uv_model.specs.Violations.Violation.{HostPartViolation, IsStarted, JudgedViolation, PathStartViolation}
 use Rattle.uv_model.specs.Violations.Violation.{PortViolation, PortPartViolation, StartViolation}
-use Rattle.uv_model.specs.Cut.{Cut, IsCut, host_place, path_place, port_place}
+use Rattle.uv_model.specs.Cut.{Cut, IsCut, ends_at_host, host_place, path_place, port_place}
 use Rattle.uv_model.specs.Hosts.OpaqueHost.{starts_with_bracket}
 use Rattle.uv_model.specs.Parts.{Parts}
-use Rattle.uv_model.specs.Path.{is_drive_letter, starts_with_drive_segment}
+use Rattle.uv_model.specs.Path.{is_drive_letter}
 use Rattle.uv_model.specs.Violations.Refusal.{IsLeast}
 use Rattle.uv_model.specs.Violations.Rule.{rule_number}
 use Rattle.uv_model.specs.Records.Url.{Url}
@@ -77,8 +78,9 @@ start_one_at_most setting text cut place other TwoSlashes _ h k = absurd k
 start_one_at_most setting text cut place other _ second h k = absurd h
 
 -- a path whose first segment is empty begins with no drive letter
-no_drive : (profile : Profile) (path : List ℕ) → HasEmptyFirst profile path → starts_with_drive_segment path ≡ true → ⊥
+no_drive : (profile : Profile) (path : List ℕ) → HasEmptyFirst profile path → HasDrive profile path → ⊥
 no_drive Wide path two drive = two
+no_drive Parser path two drive = two
 no_drive Standard [] two drive = false≢true two
 no_drive Standard (a ∷ []) two drive = false≢true two
 no_drive Standard (a ∷ b ∷ []) two drive = false≢true drive
@@ -108,17 +110,17 @@ path_start_one_at_most setting cut = behind_one_at_most (path_place cut) (PathSt
 -- ---- the host
 
 -- a host that isn't judged code point by code point violates one rule
-host_one_at_most : (profile : Profile) (class : Class) (text : List ℕ) (port_text : Option (List ℕ))
+host_one_at_most : (profile : Profile) (class : Class) (last : Bool) (text : List ℕ) (port_text : Option (List ℕ))
     (path_text : List ℕ)
-    → is_scanned class text ≡ false → HasOneAtMost (HostViolation profile class text port_text path_text)
-host_one_at_most profile class [] port_text path_text whole place other rule second h k =
-    let one = empty_rule profile class port_text path_text place rule h in
-    let two = empty_rule profile class port_text path_text other second k in
+    → is_scanned class text ≡ false → HasOneAtMost (HostViolation profile class last text port_text path_text)
+host_one_at_most profile class last [] port_text path_text whole place other rule second h k =
+    let one = empty_rule profile class last port_text path_text place rule h in
+    let two = empty_rule profile class last port_text path_text other second k in
     (one.2 ∙ sym two.2, one.0 ∙ sym two.0)
-host_one_at_most profile class (c ∷ rest) port_text path_text whole place other rule second h k =
+host_one_at_most profile class last (c ∷ rest) port_text path_text whole place other rule second h k =
     of_content class whole place other rule second
-    (content_from_host profile class (c ∷ rest) port_text path_text some place rule h)
-    (content_from_host profile class (c ∷ rest) port_text path_text some other second k)
+    (content_from_host profile class last (c ∷ rest) port_text path_text some place rule h)
+    (content_from_host profile class last (c ∷ rest) port_text path_text some other second k)
   where
     some : (c ∷ rest) ≢ []
     some same = cc
@@ -130,11 +132,11 @@ host_one_at_most profile class (c ∷ rest) port_text path_text whole place othe
     ]
 
     of_content : (class : Class) → is_scanned class (c ∷ rest) ≡ false
-        → HasOneAtMost (HostContentViolation profile class (c ∷ rest))
+        → HasOneAtMost (HostContentViolation profile class last (c ∷ rest))
     of_content Special none place other rule second h k =
-        (h.1 ∙ sym k.1, one_rule profile (c ∷ rest) rule second h.0 k.0)
+        (h.1 ∙ sym k.1, one_rule profile Special last (c ∷ rest) rule second h.0 k.0)
     of_content File none place other rule second h k =
-        (h.1 ∙ sym k.1, one_rule profile (c ∷ rest) rule second h.0 k.0)
+        (h.1 ∙ sym k.1, one_rule profile File last (c ∷ rest) rule second h.0 k.0)
     of_content Other none place other HostIpv6 HostIpv6 h k = (h.1 ∙ sym k.1, refl)
     of_content Other none place other HostCodePoint second h k = absurd (false≢true (sym h.0 ∙ bracketed none))
     of_content Other none place other Percent second h k = absurd (false≢true (sym h.0 ∙ bracketed none))
@@ -153,7 +155,7 @@ host_fault_adds setting cut class host_text before after fault is same whole lea
   where
     only : HasOneAtMost (HostPartViolation setting cut)
     only = rw is (behind_one_at_most (host_place cut) _
-        (host_one_at_most setting.profile setting.class host_text cut.port_text cut.path_text
+        (host_one_at_most setting.profile setting.class (ends_at_host cut) host_text cut.port_text cut.path_text
         (ap (λ k. is_scanned k host_text) (sym same) ∙ whole)))
 
 -- the faults of a host that is judged code point by code point are all that is added
@@ -163,7 +165,8 @@ pub host_scan_adds : (setting : Setting) (cut : Cut) (class : Class) (host_text 
     → AddsViolations (HostPartViolation setting cut) before after
 host_scan_adds setting cut class host_text before after is same scanned adds =
     rw is (adds_like (Behind (host_place cut) (HostUnitViolation host_text))
-    (Behind (host_place cut) (HostViolation setting.profile setting.class host_text cut.port_text cut.path_text))
+    (Behind (host_place cut)
+    (HostViolation setting.profile setting.class (ends_at_host cut) host_text cut.port_text cut.path_text))
     (λ place rule h. record {
       inner = h.inner;
       moved = h.moved;
@@ -190,7 +193,7 @@ host_scan_adds setting cut class host_text before after is same scanned adds =
 
     to : (class : Class) (text : List ℕ) → is_scanned class text ≡ true → (place : ℕ) (rule : Rule)
         → HostUnitViolation text place rule
-        → HostViolation setting.profile class text cut.port_text cut.path_text place rule
+        → HostViolation setting.profile class (ends_at_host cut) text cut.port_text cut.path_text place rule
     to Special text tested place rule h = absurd (false≢true tested)
     to File text tested place rule h = absurd (false≢true tested)
     to Other [] tested place rule h = absurd (false≢true tested)
@@ -199,7 +202,7 @@ host_scan_adds setting cut class host_text before after is same scanned adds =
     to Other (c ∷ rest) tested place _ h = absurd h
 
     from : (class : Class) (text : List ℕ) → is_scanned class text ≡ true → (place : ℕ) (rule : Rule)
-        → HostViolation setting.profile class text cut.port_text cut.path_text place rule
+        → HostViolation setting.profile class (ends_at_host cut) text cut.port_text cut.path_text place rule
         → HostUnitViolation text place rule
     from Special text tested place rule h = absurd (false≢true tested)
     from File text tested place rule h = absurd (false≢true tested)
@@ -282,10 +285,11 @@ judged_adds setting cut a b c d host port start =
     onward place rule (inr h) = inr (inl h)
 
 -- what the path, the query and the fragment hold
-pub held_adds : (cut : Cut) (a b c d : List Refusal) → AddsViolations (OfPath cut) a b
-    → AddsViolations (OfQuery cut) b c → AddsViolations (OfFragment cut) c d → AddsViolations (ContentViolation cut) a d
-held_adds cut a b c d path query fragment =
-    adds_both (OfPath cut) (Either (OfQuery cut) (OfFragment cut)) a b d (path_first cut) path
+pub held_adds : (setting : Setting) (cut : Cut) (a b c d : List Refusal) → AddsViolations (OfPath setting cut) a b
+    → AddsViolations (OfQuery cut) b c → AddsViolations (OfFragment cut) c d
+    → AddsViolations (ContentViolation setting cut) a d
+held_adds setting cut a b c d path query fragment =
+    adds_both (OfPath setting cut) (Either (OfQuery cut) (OfFragment cut)) a b d (path_first setting cut) path
     (adds_both (OfQuery cut) (OfFragment cut) b c d (query_first cut) query fragment)
 
 -- a text whose start violates a rule
@@ -318,11 +322,11 @@ started_adds setting text cut before after started adds =
 
 -- the first violations stand before those of what the path, the query and the fragment hold
 first_before_held : (setting : Setting) (text : List ℕ) (cut : Cut)
-    → Precedes (FirstViolation setting text cut) (ContentViolation cut)
+    → Precedes (FirstViolation setting text cut) (ContentViolation setting cut)
 first_before_held setting text cut = record { order = order }
   where
     order : (place later : ℕ) (rule other : Rule) → FirstViolation setting text cut place rule
-        → ContentViolation cut later other
+        → ContentViolation setting cut later other
         → (place < later) ⊎ ((place ≡ later) × (rule_number rule < rule_number other))
     order place later rule other (inl start) held =
         (start_before_held setting text cut).order place later rule other start held
@@ -346,12 +350,12 @@ no_faults profile base text (refusal ∷ rest) lists parts fits =
 pub all_faults : (profile : Profile) (base : Option Url) (text : List ℕ) (cut : Cut) (setting : Setting)
     (first found : List Refusal)
     → IsCut base text cut → setting ≡ setting_of profile base cut.scheme
-    → AddsViolations (FirstViolation setting text cut) [] first → AddsViolations (ContentViolation cut) first found
+    → AddsViolations (FirstViolation setting text cut) [] first → AddsViolations (ContentViolation setting cut) first found
     → AreFaults profile base text found
 unfolding Violation
 all_faults profile base text cut setting first found is made one two =
-    let F = Either (FirstViolation setting text cut) (ContentViolation cut) in
-    let both = adds_both (FirstViolation setting text cut) (ContentViolation cut) [] first found
+    let F = Either (FirstViolation setting text cut) (ContentViolation setting cut) in
+    let both = adds_both (FirstViolation setting text cut) (ContentViolation setting cut) [] first found
     (first_before_held setting text cut) one two in
     let of_cut : ListsViolations (ViolationOf setting text cut) found
     = subst (λ (l : List Refusal). ListsViolations (ViolationOf setting text cut) l) (sym both.joined)
@@ -366,14 +370,14 @@ all_faults profile base text cut setting first found is made one two =
       none = no_faults profile base text found lists;
     }
   where
-    to : (place : ℕ) (rule : Rule) → Either (FirstViolation setting text cut) (ContentViolation cut) place rule
+    to : (place : ℕ) (rule : Rule) → Either (FirstViolation setting text cut) (ContentViolation setting cut) place rule
         → ViolationOf setting text cut place rule
     to place rule (inl (inl start)) = inl start
     to place rule (inl (inr judged)) = inr (inl judged)
     to place rule (inr held) = inr (inr held)
 
     from : (place : ℕ) (rule : Rule) → ViolationOf setting text cut place rule
-        → Either (FirstViolation setting text cut) (ContentViolation cut) place rule
+        → Either (FirstViolation setting text cut) (ContentViolation setting cut) place rule
     from place rule (inl start) = inl (inl start)
     from place rule (inr (inl judged)) = inl (inr judged)
     from place rule (inr (inr held)) = inr held

@@ -1,5 +1,5 @@
 -- A link of plain parts is valid with them.
-use Rattle.std.proofs.Common.{◌≡◌, ◌≢◌, ℕ, true, false, ◌==◌, List, [], ◌∷◌, ◌++◌, Option, Some, None, refl, sym, ap}
+use Rattle.std.proofs.Common.{◌≡◌, ◌≢◌, ℕ, Bool, true, false, ◌==◌, List, [], ◌∷◌, ◌++◌, Option, Some, None, refl, sym, ap}
 use Rattle.std.proofs.Common.{◌∙◌, subst, inl, inr, arith, append_assoc, append-nil}
 use Rattle.std.specs.Char.{is_ascii_digit}
 use Rattle.std.specs.List.{list_all}
@@ -11,16 +11,17 @@ use Rattle.std.proofs.lemmas.Option.{none-some}
 use Rattle.std.proofs.lemmas.Str.{chars-IsAscii}
 use Rattle.uv_model.specs.declared.host.Host.TheVariants.{Domain}
 use Rattle.uv_model.specs.declared.profile.Profile.{Profile}
-use Rattle.uv_model.specs.declared.profile.Profile.TheVariants.{Standard}
+use Rattle.uv_model.specs.declared.profile.Profile.TheVariants.{Standard, Wide, Parser}
 use Rattle.uv_model.specs.declared.rule.Rule.{Rule}
 use Rattle.uv_model.specs.declared.rule.Rule.TheVariants.{NoScheme, OpaqueBase, TwoSlashes, FirstSegmentEmpty}
 use Rattle.uv_model.specs.declared.rule.Rule.TheVariants.{DriveAfterHost}
 use Rattle.uv_model.specs.declared.scheme.Class.TheVariants.{Special}
 use Rattle.uv_model.specs.Ascii.{slash, colon, question_mark, number_sign, left_bracket, right_bracket}
 use Rattle.uv_model.specs.Valid.{MayBePortText}
-use Rattle.uv_model.specs.Violations.Violation.{IsStarted, PathStartViolation, MayBeUnitViolation}
+use Rattle.uv_model.specs.Hosts.StoppedHost.{is_stopped}
+use Rattle.uv_model.specs.Violations.Violation.{IsStarted, PathStartViolation, MayBeUnitViolation, has_opaque_path}
 use Rattle.uv_model.specs.Cut.{Cut, IsCut, EndsAtPort, IsHostCut, is_within, is_within_at_end, written_cut}
-use Rattle.uv_model.specs.Cut.{written_start, starts_with_two_slashes}
+use Rattle.uv_model.specs.Cut.{ends_at_host, is_followed, written_start, starts_with_two_slashes}
 use Rattle.uv_model.specs.Hosts.Domain.{IsDomain, is_form_code_point}
 use Rattle.uv_model.specs.Parts.{written_behind}
 use Rattle.uv_model.specs.Path.{is_without}
@@ -30,6 +31,8 @@ use Rattle.uv_model.proofs.Hosts.DomainLemmas.{IsAscii-form}
 use Rattle.uv_model.proofs.Cuts.HostCutLemmas.{is_without-passes}
 use Rattle.uv_model.proofs.Cuts.ValidCutLemmas.{scheme_without}
 use Rattle.uv_model.proofs.Texts.MarkLemmas.{is_without-append, is_without-more, has_mark}
+use Rattle.uv_model.proofs.Hosts.ParserForms.{wide_host_not_stopped}
+use Rattle.uv_model.proofs.Violations.SpacedPathLemmas.{path_violation-unit}
 use Rattle.uv_model.proofs.Violations.UnitViolationLemmas.{no_violation-faultless}
 use Rattle.uv_grammar.specs.Built.{built}
 use Rattle.uv_grammar.specs.PartViolations.{BehindAuthority}
@@ -205,7 +208,10 @@ plain_silent : (setting : Setting) (text scheme name form : List ℕ) (port_text
 plain_silent setting text scheme name form port_text port path query fragment special l place rule (inl h) =
     plain_path_start setting scheme name port_text path query fragment h.inner rule special l.path_cut.single h.holds
 plain_silent setting text scheme name form port_text port path query fragment special l place rule (inr (inl h)) =
-    no_violation-faultless path l.path_cut.units.units h.inner rule h.holds
+    no_violation-faultless path l.path_cut.units.units h.inner rule
+    (path_violation-unit setting.profile
+    (has_opaque_path setting.class (plain_cut scheme name port_text path query fragment))
+    (is_followed (plain_cut scheme name port_text path query fragment)) path h.inner rule h.holds)
 plain_silent setting text scheme name form port_text port path query fragment special l place rule (inr (inr (inl h))) =
     part_silent _ query place rule l.query_cut.units h
 plain_silent setting text scheme name form port_text port path query fragment special l place rule (inr (inr (inr h))) =
@@ -217,12 +223,27 @@ some_name name form own is none =
     let lengths = is.0.lengths in
     false≢true (rw (sym own ∙ none) at lengths)
 
+-- the parser doesn't stop at it
+plain_not_stopped : (profile : Profile) (last : Bool) (name form : List ℕ) → IsDomain Wide name form
+    → is_stopped profile Special last name ≡ false
+plain_not_stopped Standard last name form is = refl
+plain_not_stopped Wide last name form is = refl
+plain_not_stopped Parser last name form is = wide_host_not_stopped Special last name (Domain form) is
+
 plain_host : (setting : Setting) (scheme name form : List ℕ) (port_text : Option (List ℕ)) (path : List ℕ)
     (query fragment : Option (List ℕ)) → name ≡ form
     → setting.class ≡ Special → ((profile : Profile) → IsDomain profile name form)
     → FitsHostPart setting (plain_cut scheme name port_text path query fragment) (Some (Domain form))
 plain_host setting scheme name form port_text path query fragment own special is =
-    rw special (inl (some_name name form own (is Standard), is setting.profile))
+    let last = ends_at_host (plain_cut scheme name port_text path query fragment) in
+    rw special
+    (inl (
+      some_name name form own (is Standard),
+      (
+        plain_not_stopped setting.profile last name form (is Wide),
+        is setting.profile,
+      ),
+    ))
 
 plain_port : (setting : Setting) (scheme name : List ℕ) (port_text : Option (List ℕ)) (port : Option ℕ) (path : List ℕ)
     (query fragment : Option (List ℕ)) (rest after : List ℕ) → IsPortCut setting.default_port rest port_text port after

@@ -1,9 +1,10 @@
 -- Texts that are judged code point by code point, and lists to which violations are added.
-use Rattle.std.proofs.Common.{◌≡◌, ◌≢◌, ℕ, ◌+◌, ◌<◌, ◌≤◌, ◌⊎◌, List, [], ◌∷◌, ◌++◌, true, false, Option, Some, None}
+use Rattle.std.proofs.Common.{◌≡◌, ◌≢◌, ℕ, ◌+◌, ◌<◌, ◌≤◌, ◌⊎◌, Bool, List, [], ◌∷◌, ◌++◌, true, false, Option, Some, None}
 use Rattle.std.proofs.Common.{length, drop, inl, inr, arith, refl, sym, ap, ◌∙◌, subst, append_assoc, append-nil}
 use Rattle.std.specs.Str.{chars, IsUtf8}
 use Rattle.std.proofs.lemmas.Bool.{false≢true}
 use Rattle.std.proofs.lemmas.List.{drop-drop, length-drop}
+use Rattle.uv_model.specs.declared.profile.Profile.TheVariants.{Parser}
 use Rattle.uv_model.specs.declared.rule.Rule.{Rule}
 use Rattle.uv_model.specs.declared.rule.Refusal.{Refusal}
 use Rattle.uv_model.specs.declared.rule.Rule.TheVariants.{CodePoint, HostCodePoint, HostIpv6, Percent, PortDigit}
@@ -13,15 +14,15 @@ use Rattle.uv_model.specs.Violations.Violation.{Behind, refusal_behind}
 use Rattle.uv_model.specs.Hosts.OpaqueHost.{is_forbidden_host, starts_with_bracket}
 use Rattle.uv_model.specs.Violations.OpaqueHostViolation.{OpaqueHostViolation}
 use Rattle.uv_model.specs.Violations.Refusal.{IsLeast}
-use Rattle.uv_model.specs.Violations.UnitViolation.{HasBarePercent, UnitViolation}
+use Rattle.uv_model.specs.Violations.UnitViolation.{HasBarePercent, IsTakenSpace, PathUnitViolation, UnitViolation}
 use Rattle.uv_model.specs.Units.{is_url_code_point}
 use Rattle.uv_model.proofs.Violations.AllViolationsLemmas.{IsScan, lists_both, lists_like, lists_none, lists_one}
 use Rattle.uv_model.proofs.Violations.AllViolationsLemmas.{lists_scan}
-use Rattle.uv_model.proofs.Violations.ViolationLemmas.{within_text}
+use Rattle.uv_model.proofs.Violations.ViolationLemmas.{unit_violation_bounds, within_text}
 use Rattle.uv_model.proofs.Violations.RefusalLemmas.{IsLeast-like}
 use Rattle.uv_model.proofs.Violations.LeastLemmas.{Either, Precedes}
 use Rattle.uv_grammar.specs.declared.scan.Scan.{Scan}
-use Rattle.uv_grammar.specs.declared.scan.Scan.TheVariants.{Units, OpaqueHost, Digits}
+use Rattle.uv_grammar.specs.declared.scan.Scan.TheVariants.{Units, SpacedUnits, OpaqueHost, Digits}
 use Rattle.uv_grammar.specs.Faults.{AddsViolations, fault_list}
 use Rattle.uv_grammar.specs.Scan.{DigitViolation, HostUnitViolation, ScanViolation}
 
@@ -43,7 +44,7 @@ percent_whole : (prefix : ℕ) (text : List ℕ) (place : ℕ) → HasBarePercen
 percent_whole prefix text place h =
     record { rest = h.rest; here = sym (drop-drop place prefix text) ∙ h.here; bare = h.bare }
 
-units_scan : IsScan UnitViolation
+pub units_scan : IsScan UnitViolation
 units_scan = record { one = one; behind = behind; whole = whole }
   where
     one : (text : List ℕ) (place : ℕ) (rule other : Rule) → UnitViolation text place rule
@@ -176,21 +177,45 @@ digit_scan = record { one = one; behind = behind; whole = whole }
     }
     whole prefix text place _ h = absurd h
 
+-- a space that is taken behind a prefix
+space_behind : (followed : Bool) (prefix : ℕ) (text : List ℕ) (place : ℕ) → IsTakenSpace followed text (prefix + place)
+    → IsTakenSpace followed (drop prefix text) place
+space_behind followed prefix text place h =
+    record { rest = h.rest; here = drop-drop place prefix text ∙ h.here; behind = h.behind }
+
+pub space_whole : (followed : Bool) (prefix : ℕ) (text : List ℕ) (place : ℕ)
+    → IsTakenSpace followed (drop prefix text) place → IsTakenSpace followed text (prefix + place)
+space_whole followed prefix text place h =
+    record { rest = h.rest; here = sym (drop-drop place prefix text) ∙ h.here; behind = h.behind }
+
+spaced_scan : (followed : Bool) → IsScan (PathUnitViolation Parser true followed)
+spaced_scan followed = record {
+  one = λ text place rule other h k. units_scan.one text place rule other h.0 k.0;
+  behind = λ prefix text place rule h. (
+    units_scan.behind prefix text place rule h.0,
+    λ taken. h.1 (space_whole followed prefix text place taken),
+  );
+  whole = λ prefix text place rule h. (
+    units_scan.whole prefix text place rule h.0,
+    λ taken. h.1 (space_behind followed prefix text place taken),
+  );
+}
+
 -- each text that is scanned is judged so
 pub scan_of : (scan : Scan) → IsScan (ScanViolation scan)
 scan_of Units = units_scan
+scan_of (SpacedUnits followed) = spaced_scan followed
 scan_of OpaqueHost = host_scan
 scan_of Digits = digit_scan
 
 -- a fault stands within the text
 pub scan_within : (scan : Scan) (text : List ℕ) (place : ℕ) (rule : Rule) → ScanViolation scan text place rule
     → place < length text
-scan_within Units text place CodePoint h = within_text text place h.code_point h.rest h.here
-scan_within Units text place Percent h = within_text text place percent_sign h.rest h.here
+scan_within Units text place rule h = (unit_violation_bounds text place rule h).0
+scan_within (SpacedUnits followed) text place rule h = (unit_violation_bounds text place rule h.0).0
 scan_within OpaqueHost text place HostCodePoint h = within_text text place h.code_point h.rest h.here
 scan_within OpaqueHost text place Percent h = within_text text place percent_sign h.rest h.here
 scan_within Digits text place PortDigit h = within_text text place h.code_point h.rest h.here
-scan_within Units text place _ h = absurd h
 scan_within OpaqueHost text place _ h = absurd h
 scan_within Digits text place _ h = absurd h
 

@@ -10,6 +10,7 @@ pub mod NoMemory
 pub mod PartViolations
 pub mod PartValues
 pub mod PlainLinks
+pub mod SpacedPaths
 pub mod Scan
 pub mod Slices
 pub mod TextSplits

@@ -2,20 +2,29 @@
 -- after the URL Standard, sections 3.3 and 4.3.
 use Rattle.std.specs.Prelude.{◌≡◌, ℕ, ◌⊎◌, true, false, List, [], Option, Some, None}
 use Rattle.uv_model.specs.declared.profile.Profile.{Profile}
+use Rattle.uv_model.specs.declared.profile.Profile.TheVariants.{Standard, Wide, Parser}
 use Rattle.uv_model.specs.declared.rule.Rule.{Rule}
 use Rattle.uv_model.specs.declared.scheme.Class.{Class}
 use Rattle.uv_model.specs.declared.scheme.Class.TheVariants.{Other}
 use Rattle.uv_model.specs.Violations.Violation.{StartViolation}
 use Rattle.uv_model.specs.Cut.{Cut, cut_of}
 use Rattle.uv_model.specs.Hosts.Address.{IsIpv4}
-use Rattle.uv_model.specs.Hosts.Domain.{has_permitted}
+use Rattle.uv_model.specs.Hosts.Domain.{IsDomain, has_permitted}
 use Rattle.uv_model.specs.Hosts.OpaqueHost.{starts_with_bracket}
 use Rattle.uv_model.specs.Records.Url.{Url}
 use Rattle.uv_model.specs.Setting.{Setting, setting_of}
 use Rattle.uv_host.specs.Domains.{is_plain_name}
 
--- the text begins with `[`, is an IPv4 text, has a code point that no domain of the profile holds, or is a plain name
+-- a plain name that is by the parser's profile a domain, which is its own form
+abbrev pub IsPlainDomain : List ℕ → Type 0
+IsPlainDomain text = (is_plain_name text ≡ true) × IsDomain Parser text text
+
+-- the text begins with `[`, is an IPv4 text, has a code point that no domain of the profile holds, or is a plain name;
+-- by the parser's profile a plain domain
 abbrev pub MakesNoForm : Profile → List ℕ → Type 0
+MakesNoForm Parser text =
+    (starts_with_bracket text ≡ true)
+    ⊎ (((value : ℕ) × IsIpv4 text value) ⊎ IsPlainDomain text)
 MakesNoForm profile text =
     (starts_with_bracket text ≡ true)
     ⊎ (((value : ℕ) × IsIpv4 text value) ⊎ ((has_permitted profile text ≡ false) ⊎ (is_plain_name text ≡ true)))

@@ -3,7 +3,7 @@ use Rattle.std.specs.Prelude.{◌≡◌, ℕ, List, [], ◌∷◌, Option, Some,
 use Rattle.std.specs.Str.Parse.{digits_value}
 use Rattle.uv_grammar.specs.HostValues.{FitsHost}
 use Rattle.uv_model.specs.declared.host.Host.{Host}
-use Rattle.uv_model.specs.Cut.{Cut}
+use Rattle.uv_model.specs.Cut.{Cut, ends_at_host}
 use Rattle.uv_model.specs.Setting.{Setting}
 use Rattle.uv_model.specs.Valid.{IsPortText, is_default, port_given}
 
@@ -13,7 +13,8 @@ FitsHostPart setting cut value = fits cut.host_text
   where
     fits : Option (List ℕ) → Type 0
     fits None = value ≡ None
-    fits (Some host_text) = FitsHost setting.profile setting.class host_text cut.port_text cut.path_text value
+    fits (Some host_text) =
+        FitsHost setting.profile setting.class (ends_at_host cut) host_text cut.port_text cut.path_text value
 
 -- the number of a port text, and none of an empty one
 abbrev pub port_number : List ℕ → Option ℕ

@@ -1,8 +1,10 @@
 -- The hosts that the hosts of parts and lent hosts stand for.
-use Rattle.std.specs.Prelude.{ℕ, List, Option, option_map}
+use Rattle.std.specs.Prelude.{◌≡◌, ℕ, Bool, false, List, Option, option_map}
 use Rattle.uv_model.specs.declared.host.Host.{Host}
 use Rattle.uv_model.specs.declared.host.Host.TheVariants as host
 use Rattle.uv_model.specs.declared.profile.Profile.{Profile}
+use Rattle.uv_model.specs.declared.scheme.Class.{Class}
+use Rattle.uv_model.specs.Hosts.StoppedHost.{is_stopped}
 use Rattle.uv_model.specs.Valid.{IsHostText}
 use Rattle.uv_grammar.specs.declared.parts_host.PartsHost.{PartsHost}
 use Rattle.uv_grammar.specs.declared.parts_host.PartsHost.TheVariants.{Made, Plain}
@@ -29,3 +31,8 @@ FitsPartsHost fits host = fits (option_map as_host host)
 -- a valid host string of a host of parts
 abbrev pub IsPartsHostText : Profile → List ℕ → PartsHost → Type 0
 IsPartsHostText profile text host = IsHostText profile text (as_host host)
+
+-- the same of a host at which the parser doesn't stop
+abbrev pub IsUnstoppedHostText : Profile → Class → Bool → List ℕ → PartsHost → Type 0
+IsUnstoppedHostText profile class last text host =
+    (is_stopped profile class last text ≡ false) × IsPartsHostText profile text host

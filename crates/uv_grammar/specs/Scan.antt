@@ -1,12 +1,13 @@
 -- The violations of texts that are judged code point by code point, after the URL Standard, sections 3.2, 3.4 and 4.3.
-use Rattle.std.specs.Prelude.{ℕ, List}
+use Rattle.std.specs.Prelude.{ℕ, true, List}
+use Rattle.uv_model.specs.declared.profile.Profile.TheVariants.{Parser}
 use Rattle.uv_grammar.specs.declared.scan.Scan.{Scan}
-use Rattle.uv_grammar.specs.declared.scan.Scan.TheVariants.{Units, OpaqueHost, Digits}
+use Rattle.uv_grammar.specs.declared.scan.Scan.TheVariants.{Units, SpacedUnits, OpaqueHost, Digits}
 use Rattle.uv_model.specs.declared.rule.Rule.{Rule}
 use Rattle.uv_model.specs.declared.rule.Rule.TheVariants.{HostCodePoint, Percent, PortDigit}
 use Rattle.uv_model.specs.Violations.Violation.{HasForeignDigit}
 use Rattle.uv_model.specs.Violations.OpaqueHostViolation.{HasForeignHostCodePoint}
-use Rattle.uv_model.specs.Violations.UnitViolation.{HasBarePercent, UnitViolation}
+use Rattle.uv_model.specs.Violations.UnitViolation.{HasBarePercent, PathUnitViolation, UnitViolation}
 
 -- a code point that no opaque host holds, or a `%` without two hex digits
 abbrev pub HostUnitViolation : List ℕ → ℕ → Rule → Type 0
@@ -22,5 +23,6 @@ DigitViolation text place _ = ⊥
 -- the violations of a text that should consist of this
 abbrev pub ScanViolation : Scan → List ℕ → ℕ → Rule → Type 0
 ScanViolation Units = UnitViolation
+ScanViolation (SpacedUnits followed) = PathUnitViolation Parser true followed
 ScanViolation OpaqueHost = HostUnitViolation
 ScanViolation Digits = DigitViolation

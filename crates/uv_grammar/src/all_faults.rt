@@ -8,7 +8,7 @@ ghost use Rattle.uv_model.specs.Records.Url.{Url};
 ghost use Rattle.uv_grammar.specs.Bases.{IsOfKind, as_base};
 ghost use Rattle.uv_grammar.specs.Faults.{AddsViolations, FirstViolation, fault_list};
 ghost use Rattle.uv_grammar.specs.HostValues.{is_scanned};
-ghost use Rattle.uv_grammar.specs.PartViolations.{IsCountable, OfFragment, OfQuery};
+ghost use Rattle.uv_grammar.specs.PartViolations.{IsCountable, OfFragment, OfPath, OfQuery};
 
 use crate::authority::{judge_host_part, judge_port_part};
 use crate::bases::{Base, BaseKind};
@@ -17,6 +17,7 @@ use crate::marks::beginnings::{are_digits, has_bracket};
 use crate::places::{fragment_place, host_place, path_place, port_place, query_place};
 use crate::scan::{Scan, push_scan};
 use crate::setting::Setting;
+use crate::spaced_paths::{is_followed, takes_spaces};
 use crate::start_rules::{path_start_fault, start_fault};
 use std::alloc::{AllocError, Global};
 use uv_model::{Class, Profile, Record, Refusal};
@@ -61,7 +62,7 @@ fn faults_against(
     let (cut, setting) = cut_text(text, base, profile);
     let mut found = Vec::new(alloc);
     push_first_faults(alloc, &mut found, text, &cut, &setting)?;
-    push_held_faults(&mut found, &cut)?;
+    push_held_faults(&mut found, &cut, &setting)?;
     Ok(found)
 }
 
@@ -151,13 +152,34 @@ fn push_port_faults(
 }
 
 // The faults of what the path, the query and the fragment hold.
-fn push_held_faults(found: &mut Vec<Refusal>, cut: &Cut) -> Result<(), AllocError>
+fn push_held_faults(
+    found: &mut Vec<Refusal>,
+    cut: &Cut,
+    setting: &Setting,
+) -> Result<(), AllocError>
     requires { IsCountable cut.now }
-    ensures { OnOk result (AddsViolations (ContentViolation cut.now) found.old.items found.new.items) }
+    ensures { OnOk result (AddsViolations (ContentViolation setting.now cut.now) found.old.items found.new.items) }
 {
-    push_scan(found, Scan::Units, path_place(cut), cut.path_text)?;
+    push_path_faults(found, cut, setting)?;
     push_query_faults(found, cut)?;
     push_fragment_faults(found, cut)
+}
+
+// The faults of what the path holds.
+fn push_path_faults(
+    found: &mut Vec<Refusal>,
+    cut: &Cut,
+    setting: &Setting,
+) -> Result<(), AllocError>
+    requires { IsCountable cut.now }
+    ensures { OnOk result (AddsViolations (OfPath setting.now cut.now) found.old.items found.new.items) }
+{
+    let start = path_place(cut);
+    if takes_spaces(cut, setting) {
+        let scan = Scan::SpacedUnits(is_followed(cut));
+        return push_scan(found, scan, start, cut.path_text);
+    }
+    push_scan(found, Scan::Units, start, cut.path_text)
 }
 
 // The faults of the query.

@@ -1,5 +1,7 @@
 //! The host and the port of a cut text.
-ghost use Rattle.std.specs.Prelude.{◌≡◌, IfOk, IsOk};
+ghost use Rattle.std.specs.Prelude.{◌≡◌, ◌==◌, IfOk, IsOk, length};
+ghost use Rattle.std.specs.Str.{chars};
+ghost use Rattle.uv_model.specs.Cut.{ends_at_host};
 ghost use Rattle.uv_model.specs.Violations.Violation.{HostPartViolation, PortPartViolation};
 ghost use Rattle.uv_grammar.specs.PartsHost.{FitsPartsHost};
 ghost use Rattle.uv_grammar.specs.Judged.{IsJudged};
@@ -14,6 +16,7 @@ use crate::parts_host::PartsHost;
 use crate::places::{host_place, port_place, refusal_behind};
 use crate::port::judge_port;
 use crate::setting::Setting;
+use crate::spaced_paths::is_followed;
 use std::alloc::{AllocError, Global};
 
 /// The host of a cut text, a refusal counted from the text's start. The error is out of memory.
@@ -36,11 +39,26 @@ pub(crate) fn judge_host_part<'t>(
         host_text,
         cut.port_text,
         cut.path_text,
+        ends_at_host(cut),
         setting.profile,
     )? {
         Judged::Valid(host) => Ok(Judged::Valid(host)),
         Judged::Refused(refusal) => Ok(Judged::Refused(refusal_behind(host_place(cut), refusal))),
     }
+}
+
+// Nothing of the text stands behind the host.
+fn ends_at_host(cut: &Cut) -> bool
+    ensures { result ≡ ends_at_host cut.now }
+{
+    is_blank(cut.path_text) && !(cut.port_text.is_some() || is_followed(cut))
+}
+
+// The text has no code point.
+fn is_blank(text: &str) -> bool
+    ensures { result ≡ (length (chars text.now) == 0) }
+{
+    text.is_empty()
 }
 
 /// The port of a cut text, a refusal counted from the text's start.

@@ -9,6 +9,7 @@ mod checker;
 mod cut;
 mod form;
 mod host;
+mod host_text;
 mod judged;
 pub mod laws;
 mod marks;
@@ -19,7 +20,9 @@ mod plain_links;
 mod port;
 mod scan;
 mod setting;
+mod spaced_paths;
 mod start_rules;
+mod stopped_hosts;
 mod unit_faults;
 mod validity;
 

@@ -9,6 +9,7 @@ ghost use Rattle.uv_grammar.specs.Scan.{HostUnitViolation, ScanViolation};
 use crate::marks::beginnings::has_bracket;
 use crate::places::refusal_behind;
 use crate::port::digit_fault;
+use crate::spaced_paths::first_spaced_fault;
 use std::alloc::AllocError;
 use uv_host::opaque_fault;
 use uv_model::{Refusal, Rule, behind_code_points};
@@ -19,6 +20,8 @@ use uv_text::first_fault;
 pub(crate) enum Scan {
     /// URL units.
     Units,
+    /// URL units and spaces, of which none stands at the end unless a query or a fragment follows.
+    SpacedUnits(bool),
     /// What an opaque host without brackets may hold.
     OpaqueHost,
     /// Digits.
@@ -52,6 +55,7 @@ fn next_fault(scan: Scan, text: &str) -> Option<Refusal>
 {
     match scan {
         Scan::Units => first_fault(text),
+        Scan::SpacedUnits(followed) => first_spaced_fault(text, followed),
         Scan::OpaqueHost => host_fault(text),
         Scan::Digits => digit_fault(text),
     }

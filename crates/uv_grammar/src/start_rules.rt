@@ -1,7 +1,8 @@
 //! The rules of the start of a text and of the start of a path.
 ghost use Rattle.std.specs.Prelude.{◌≡◌, ◌≢◌, ◌↔◌, IsTrue, None, []};
 ghost use Rattle.std.specs.Str.{chars};
-ghost use Rattle.uv_model.specs.Violations.Violation.{HasEmptyFirst, HasHost, PathStartViolation, StartViolation};
+ghost use Rattle.uv_model.specs.Violations.Violation.{HasDrive, HasEmptyFirst, HasHost, PathStartViolation};
+ghost use Rattle.uv_model.specs.Violations.Violation.{StartViolation};
 ghost use Rattle.uv_model.specs.Violations.Refusal.{IsLeast};
 ghost use Rattle.uv_grammar.specs.Bases.{as_base};
 ghost use Rattle.uv_grammar.specs.PartViolations.{IsCountable, OfPathStart};
@@ -79,7 +80,7 @@ fn first_segment_fault(cut: &Cut, setting: &Setting) -> Option<Refusal>
             rule: Rule::FirstSegmentEmpty,
         });
     }
-    if has_drive(cut.path_text) && keeps_drive_out(cut, setting) {
+    if has_forbidden_drive(cut.path_text, setting.profile) && keeps_drive_out(cut, setting) {
         Some(Refusal {
             place: 0,
             rule: Rule::DriveAfterHost,
@@ -95,7 +96,17 @@ fn has_empty_first(path_text: &str, profile: Profile) -> bool
 {
     match profile {
         Profile::Standard => has_two_slashes(path_text),
-        Profile::Wide => false,
+        Profile::Wide | Profile::Parser => false,
+    }
+}
+
+// `/`, a drive letter and `/` begin the path, where the profile forbids it.
+fn has_forbidden_drive(path_text: &str, profile: Profile) -> bool
+    ensures { IsTrue result ↔ HasDrive profile (chars path_text.now) }
+{
+    match profile {
+        Profile::Standard | Profile::Wide => has_drive(path_text),
+        Profile::Parser => false,
     }
 }
 
@@ -121,8 +132,8 @@ fn has_host(cut: &Cut, base: Option<Base<'_>>) -> bool
     }
 }
 
-// The text isn't empty.
-fn holds_any(text: &str) -> bool
+/// The text isn't empty.
+pub(crate) fn holds_any(text: &str) -> bool
     ensures { IsTrue result ↔ (chars text.now ≢ []) }
 {
     !text.is_empty()

@@ -2,11 +2,13 @@
 ghost use Rattle.std.specs.Prelude.{◌+◌, ◌<◌, ◌^◌, length};
 ghost use Rattle.std.specs.Str.{chars};
 ghost use Rattle.uv_model.specs.Violations.Refusal.{IsLeast};
+ghost use Rattle.uv_model.specs.Violations.Violation.{PathContentViolation};
 ghost use Rattle.uv_grammar.specs.PartViolations.{BehindAuthority, IsCountable, OfFragment, OfPath, OfQuery};
 
 use crate::cut::Cut;
 use crate::places::{fragment_place, path_place, query_place, refusal_behind};
 use crate::setting::Setting;
+use crate::spaced_paths::{first_spaced_fault, is_followed, takes_spaces};
 use crate::start_rules::path_start_fault;
 use uv_model::Refusal;
 use uv_text::first_fault;
@@ -19,7 +21,7 @@ pub(crate) fn fault_behind_authority(cut: &Cut, setting: &Setting) -> Option<Ref
     if let Some(refusal) = path_start_fault(cut, setting) {
         return Some(refusal);
     }
-    if let Some(refusal) = path_fault(cut) {
+    if let Some(refusal) = path_fault(cut, setting) {
         return Some(refusal);
     }
     if let Some(refusal) = query_fault(cut) {
@@ -29,13 +31,24 @@ pub(crate) fn fault_behind_authority(cut: &Cut, setting: &Setting) -> Option<Ref
 }
 
 // The least refusal of what the path holds.
-fn path_fault(cut: &Cut) -> Option<Refusal>
+fn path_fault(cut: &Cut, setting: &Setting) -> Option<Refusal>
     requires { IsCountable cut.now }
-    ensures { IsLeast (OfPath cut.now) result }
+    ensures { IsLeast (OfPath setting.now cut.now) result }
 {
-    match first_fault(cut.path_text) {
+    match path_text_fault(cut, setting) {
         Some(refusal) => Some(refusal_behind(path_place(cut), refusal)),
         None => None,
+    }
+}
+
+// The same, its place counted from the path's start.
+fn path_text_fault(cut: &Cut, setting: &Setting) -> Option<Refusal>
+    ensures { IsLeast (PathContentViolation setting.now cut.now) result }
+{
+    if takes_spaces(cut, setting) {
+        first_spaced_fault(cut.path_text, is_followed(cut))
+    } else {
+        first_fault(cut.path_text)
     }
 }
 

@@ -21,6 +21,7 @@ use Rattle.uv_model.specs.declared.profile.Profile.{Profile}
 use Rattle.uv_model.specs.declared.profile.Profile.TheVariants.{Standard}
 use Rattle.uv_model.specs.Hosts.Domain.{IsForm, has_lengths, is_form_code_point, without_root}
 use Rattle.uv_host.specs.PlainNames.{goes_on, is_chain, is_rooted_chain, is_sign}
+use Rattle.uv_host.proofs.ParserFormLemmas.{fits_from_lengths}
 use Rattle.uv_host.proofs.PlainLemmas.{plain_ascii, plain_from_form, plain_is_form}
 
 chain_parts : (signed : Bool) (c : ℕ) (rest : List ℕ) → is_chain signed (c ∷ rest) ≡ true
@@ -255,7 +256,8 @@ rooted_lengths name h few =
 pub rooted_is_form : (profile : Profile) (name : List ℕ) → IsUtf8 name → is_rooted_chain name ≡ true
     → has_lengths name ≡ true
     → IsForm profile (chars name) name
-rooted_is_form profile name utf8 h lengths = plain_is_form profile name utf8 (rooted_plain name h) lengths
+rooted_is_form profile name utf8 h lengths =
+    plain_is_form profile name utf8 (rooted_plain name h) (fits_from_lengths profile name lengths)
 
 -- and it holds a form's code points alone
 pub rooted_form : (name : List ℕ) → is_rooted_chain name ≡ true → list_all (is_form_code_point Standard) name ≡ true

@@ -1,9 +1,12 @@
 pub mod BracketLemmas
 pub mod ChainLemmas
+pub mod DecodedLemmas
 pub mod LowerLemmas
 pub mod NameBitsLemmas
 pub mod NamePrefixLemmas
+pub mod NumberTextLemmas
 pub mod OpaqueHostLemmas
-pub mod PlainLemmas
 pub mod OpaqueHostScan
+pub mod ParserFormLemmas
+pub mod PlainLemmas
 pub mod WordEndLemmas

@@ -1,10 +1,11 @@
 -- A plain name is its own form at both settings.
-use Rattle.std.proofs.Common.{◌≡◌, ℕ, ◌<◌, ◌≢◌, true, false, List, Some, chars, encode_utf8_all, IsUtf8, get_or, length}
+use Rattle.std.proofs.Common.{◌≡◌, ℕ, ◌<◌, ◌≢◌, true, false, List}
+use Rattle.std.proofs.Common.{[], ◌∷◌, Some, chars, encode_utf8_all, IsUtf8, get_or, length}
 use Rattle.std.proofs.Common.{inl, inr, refl, sym, ap, ◌∙◌, arith}
 use Rattle.std.specs.Prelude.{All}
 use Rattle.std.specs.Str.{IsAscii}
 use Rattle.std.specs.List.{list_all}
-use Rattle.std.specs.Char.{is_ascii_uppercase}
+use Rattle.std.specs.Char.{is_ascii_uppercase, to_ascii_lowercase}
 use Rattle.std.proofs.lemmas.Bool.Decides.{nat_tests}
 use Rattle.std.proofs.lemmas.Bool.{and_from, and_parts, cases_lt, not_from_false}
 use Rattle.std.proofs.lemmas.List.{get_or_past}
@@ -22,11 +23,15 @@ use Rattle.idna.specs.AsciiDenyList.{may_be_denied}
 use Rattle.idna.proofs.Uts46Lemmas.{has_ace_prefix-passes, list_all-passes_hyphens, to_ascii-plain}
 use Rattle.idna.proofs.ValidityLemmas.{denies-EMPTY, denies-STD3, denies-may_be_denied, is_valid_char-ascii}
 use Rattle.uv_model.specs.declared.profile.Profile.{Profile}
-use Rattle.uv_model.specs.declared.profile.Profile.TheVariants.{Standard, Wide}
+use Rattle.uv_model.specs.declared.profile.Profile.TheVariants.{Standard, Wide, Parser}
 use Rattle.uv_model.specs.Hosts.Domain.{HasNoForm, IsForm, has_lengths, has_permitted, is_form_code_point, is_permitted}
 use Rattle.uv_model.specs.Hosts.Domain.{strict_form}
 use Rattle.uv_model.proofs.Hosts.DomainLemmas.{IsForm-from, no_parsed_lengths, wide_form, wide_text}
-use Rattle.uv_host.specs.Domains.{is_plain_name, is_simple}
+use Rattle.uv_model.specs.Scheme.{lowercase}
+use Rattle.uv_model.specs.WrittenProfiles.{IsWritten}
+use Rattle.uv_host.specs.Domains.{fits_lengths, is_plain_name, is_simple}
+use Rattle.uv_host.proofs.ParserFormLemmas.{allowed_form, lower_no_bracket, lower_no_percent, no_form_left}
+use Rattle.uv_host.proofs.ParserFormLemmas.{nothing_has_no_form, parser_is_form, some_form}
 
 valid_byte : (b : ℕ) → is_form_code_point Standard b ≡ true → (b < 128) × (is_valid_char STD3 b ≡ true)
 valid_byte b h =
@@ -131,11 +136,12 @@ plain_strict name utf8 p = ap (to_ascii STD3 Check Ignore) (encodes-chars name u
 standard_permitted : (name : List ℕ) → IsPlain STD3 Check name → has_permitted Standard (chars name) ≡ true
 standard_permitted name p = ap (has_permitted Standard) (plain_chars name p) ∙ plain_permitted name p
 
--- and permitted code points alone, by each profile
-pub permitted_plain : (profile : Profile) (name : List ℕ) → IsPlain STD3 Check name
+-- and permitted code points alone, by each written profile
+pub permitted_plain : (profile : Profile) (name : List ℕ) → IsWritten profile → IsPlain STD3 Check name
     → has_permitted profile (chars name) ≡ true
-permitted_plain Standard name p = standard_permitted name p
-permitted_plain Wide name p = wide_text (chars name) (standard_permitted name p)
+permitted_plain Standard name written p = standard_permitted name p
+permitted_plain Wide name written p = wide_text (chars name) (standard_permitted name p)
+permitted_plain Parser name written p = absurd written
 
 plain_to_ascii : (name : List ℕ) → IsUtf8 name → IsPlain STD3 Check name
     → domain_to_ascii EMPTY (encode_utf8_all (chars name)) ≡ Some name
@@ -149,17 +155,56 @@ standard_is_form name utf8 p lengths =
     IsForm-from (chars name) name (standard_permitted name p) (plain_strict name utf8 p) lengths
     (plain_to_ascii name utf8 p)
 
+-- a byte of a plain name is a code point of a form by the parser's profile
+parser_byte : (b : ℕ) → (b < 128) × (is_valid_char STD3 b ≡ true) → is_form_code_point Parser b ≡ true
+parser_byte b h =
+    let strict = sym (is_valid_char-ascii STD3 b h.0) ∙ h.1 in
+    let denied = denies-STD3 b in
+    let small = h.0 in
+    grind (arith, nat_tests)
+
+-- which is its own lower case
+own_lower : (c : ℕ) → is_form_code_point Parser c ≡ true → to_ascii_lowercase c ≡ c
+own_lower c is = grind (arith, nat_tests)
+
+own_lower_all : (name : List ℕ) → list_all (is_form_code_point Parser) name ≡ true → lowercase name ≡ name
+own_lower_all [] is = refl
+own_lower_all (c ∷ rest) is =
+    let parts = and_parts (is_form_code_point Parser c) (list_all (is_form_code_point Parser) rest) is in
+    let first = own_lower c parts.0 in
+    let others = own_lower_all rest parts.1 in
+    cc
+
+-- so such a name that isn't empty is its own form by that profile
+parser_plain : (name : List ℕ) → IsUtf8 name → IsPlain STD3 Check name → fits_lengths Parser name ≡ true
+    → IsForm Parser (chars name) name
+parser_plain name utf8 p fits =
+    let letters = list_all-from_AllPass (is_form_code_point Parser) name
+    (All-weaker (λ b. (b < 128) × (is_valid_char STD3 b ≡ true)) (λ b. is_form_code_point Parser b ≡ true) parser_byte
+    name p.valid) in
+    let same = plain_chars name p in
+    let lower : list_all (is_form_code_point Parser) (lowercase (chars name)) ≡ true
+    = ap (λ (t : List ℕ). list_all (is_form_code_point Parser) (lowercase t)) same
+    ∙ (ap (list_all (is_form_code_point Parser)) (own_lower_all name letters) ∙ letters) in
+    parser_is_form (chars name) name (lower_no_percent (chars name) lower) (lower_no_bracket (chars name) lower)
+    (plain_to_ascii name utf8 p) (some_form name fits) (allowed_form name letters)
+
 -- in each profile
 pub plain_is_form : (profile : Profile) (name : List ℕ) → IsUtf8 name → IsPlain STD3 Check name
-    → has_lengths name ≡ true → IsForm profile (chars name) name
+    → fits_lengths profile name ≡ true → IsForm profile (chars name) name
 plain_is_form Standard name utf8 p lengths = standard_is_form name utf8 p lengths
 plain_is_form Wide name utf8 p lengths = wide_form (chars name) name (standard_is_form name utf8 p lengths)
+plain_is_form Parser name utf8 p fits = parser_plain name utf8 p fits
 
 -- and another has none
 pub plain_no_form : (profile : Profile) (name : List ℕ) → IsUtf8 name → IsPlain STD3 Check name
-    → has_lengths name ≡ false → HasNoForm profile (chars name)
-plain_no_form profile name utf8 p wrong =
-    no_parsed_lengths profile (chars name) name (plain_to_ascii name utf8 p) wrong
+    → fits_lengths profile name ≡ false → HasNoForm profile (chars name)
+plain_no_form Standard name utf8 p wrong =
+    no_parsed_lengths Standard (chars name) name tt (plain_to_ascii name utf8 p) wrong
+plain_no_form Wide name utf8 p wrong =
+    no_parsed_lengths Wide (chars name) name tt (plain_to_ascii name utf8 p) wrong
+plain_no_form Parser name utf8 p wrong =
+    nothing_has_no_form (chars name) (plain_chars name p ∙ no_form_left name wrong)
 
 -- ---- names as texts
 

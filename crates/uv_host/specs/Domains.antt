@@ -1,5 +1,5 @@
 -- The answers on domains, after the URL Standard, sections 3.3 to 3.5, and UTS #46, section 4.
-use Rattle.std.specs.Prelude.{◌≡◌, ℕ, Bool, true, false, ◌&&◌, ◌||◌, ◌==◌, List, string_bytes}
+use Rattle.std.specs.Prelude.{◌≡◌, ℕ, Bool, true, false, not, ◌&&◌, ◌||◌, ◌==◌, List, length, string_bytes}
 use Rattle.std.specs.Char.{is_ascii_digit, is_ascii_lowercase}
 use Rattle.std.specs.List.{list_all}
 use Rattle.std.specs.Str.{IsAscii}
@@ -10,7 +10,7 @@ use Rattle.idna.specs.Labels.{labels_of}
 use Rattle.idna.specs.Validity.{passes_hyphens}
 use Rattle.uv_model.specs.Ascii.{full_stop}
 use Rattle.uv_model.specs.declared.profile.Profile.{Profile}
-use Rattle.uv_model.specs.declared.profile.Profile.TheVariants.{Standard, Wide}
+use Rattle.uv_model.specs.declared.profile.Profile.TheVariants.{Standard, Parser}
 use Rattle.uv_host.specs.declared.domains.DomainAnswer.{DomainAnswer}
 use Rattle.uv_host.specs.declared.domains.DomainAnswer.TheVariants.{Ascii, Number, Not}
 use Rattle.uv_host.specs.declared.domains.PlainAnswer.{PlainAnswer}
@@ -38,15 +38,20 @@ IsPlainAnswer profile text bytes plain.Domain = IsDomain profile text bytes
 IsPlainAnswer profile text bytes plain.Number = IsNumberText profile text
 IsPlainAnswer profile text bytes plain.Not = HasNoForm profile text
 
+-- the form has the lengths of a domain; by the parser's profile it only isn't empty
+abbrev pub fits_lengths : Profile → List ℕ → Bool
+fits_lengths Parser form = not (length form == 0)
+fits_lengths _ form = has_lengths form
+
 -- the form is that of the text where its lengths are right, and else the text has none
 pub record HasFormByLengths (profile : Profile) (text form : List ℕ) : Type 0 where
   pub ascii : IsAscii form
-  pub fits : has_lengths form ≡ true → IsForm profile text form
-  pub wrong : has_lengths form ≡ false → HasNoForm profile text
+  pub fits : fits_lengths profile form ≡ true → IsForm profile text form
+  pub wrong : fits_lengths profile form ≡ false → HasNoForm profile text
 
 -- ToASCII leaves the name as it is: at its strict settings by the standard profile, and at those of the URL parser, of
--- code points of a form, by the wide one
+-- code points of a form, by the others
 abbrev pub IsOwnForm : Profile → List ℕ → Type 0
 IsOwnForm Standard name = IsPlain STD3 Check name
-IsOwnForm Wide name =
-    (list_all (is_form_code_point Wide) name ≡ true) × (list_all (passes_hyphens Allow) (labels_of name) ≡ true)
+IsOwnForm profile name =
+    (list_all (is_form_code_point profile) name ≡ true) × (list_all (passes_hyphens Allow) (labels_of name) ≡ true)

@@ -1,3 +1,4 @@
 pub mod Domains
 pub mod OpaqueHosts
+pub mod ParserHosts
 pub mod PlainNames

@@ -8,10 +8,13 @@ ghost use Rattle.std.specs.List.{list_all};
 ghost use Rattle.idna.specs.Display.{IsPlain};
 ghost use Rattle.idna.specs.Labels.{labels_of};
 ghost use Rattle.idna.specs.Validity.{passes_hyphens};
-ghost use Rattle.uv_host.specs.Domains.{HasFormByLengths, IsAnswer, IsOwnForm, IsPlainAnswer, is_plain_name, is_simple};
+ghost use Rattle.uv_host.specs.Domains.{HasFormByLengths, IsAnswer, IsOwnForm, IsPlainAnswer, fits_lengths};
+ghost use Rattle.uv_host.specs.Domains.{is_plain_name, is_simple};
 ghost use Rattle.uv_model.specs.Hosts.Domain as spec;
 ghost use Rattle.uv_model.specs.declared.profile.Profile.{Profile};
+ghost use Rattle.uv_model.specs.WrittenProfiles.{IsWritten};
 
+use crate::parser_hosts::parser_form;
 use idna::uts46::{DnsLength, Hyphens, Uts46, verify_dns_length};
 use idna::{AsciiDenyList, Errors};
 use std::alloc::{AllocError, Global};
@@ -33,26 +36,41 @@ pub enum DomainAnswer {
 /// settings of the URL parser gives the form, its labels have 1 to 63 code points and the whole 1 to 253, and it
 /// doesn't end in a number. By the standard profile ToASCII with the strict settings of UTS #46 gives the same form; by
 /// the wide profile the form holds letters, digits, `-`, `.` and `_` alone. A text with an ASCII code point other than
-/// these, or by the standard profile with `_`, is none, and that takes no memory. The error is out of memory.
+/// these, or by the standard profile with `_`, is none, and that takes no memory. By the parser's profile the text is
+/// percent-decoded before it, and any form will do that isn't empty and holds no forbidden domain code point. The error
+/// is out of memory.
 pub fn domain(alloc: Global, text: &str, profile: Profile) -> Result<DomainAnswer, AllocError>
     ensures answer { IfOk result (IsAnswer profile (chars text.now)) }
-    ensures refused { spec.has_permitted profile (chars text.now) ≡ false → result ≡ Ok DomainAnswer.Not }
+    ensures refused { IsWritten profile → spec.has_permitted profile (chars text.now) ≡ false
+        → result ≡ Ok DomainAnswer.Not }
 {
     if is_plain(text.as_bytes()) {
         return plain_domain(alloc, text, profile);
     }
-    if !has_permitted(text, profile) {
+    if !is_written_so(text, profile) {
         return Ok(DomainAnswer::Not);
     }
     match lower_form(alloc, text, profile)? {
-        Some(form) => Ok(judge_form(form)),
+        Some(form) => Ok(judge_form(form, profile)),
         None => mapped_domain(alloc, text, profile),
+    }
+}
+
+/// Whether all ASCII code points of the text are letters, digits and marks of a domain, where the profile asks for
+/// that.
+fn is_written_so(text: &str, profile: Profile) -> bool
+    ensures value { IsWritten profile → result ≡ spec.has_permitted profile (chars text.now) }
+    ensures written { result ≡ false → IsWritten profile }
+{
+    match profile {
+        Profile::Standard | Profile::Wide => has_permitted(text, profile),
+        Profile::Parser => true,
     }
 }
 
 /// The answer on a permitted text by ToASCII.
 fn mapped_domain(alloc: Global, text: &str, profile: Profile) -> Result<DomainAnswer, AllocError>
-    requires { spec.has_permitted profile (chars text.now) ≡ true }
+    requires { IsWritten profile → spec.has_permitted profile (chars text.now) ≡ true }
     ensures { IfOk result (IsAnswer profile (chars text.now)) }
 {
     let Some(form) = form_of(alloc, text, profile)? else {
@@ -67,8 +85,12 @@ fn mapped_domain(alloc: Global, text: &str, profile: Profile) -> Result<DomainAn
 
 /// The lower case of a permitted text, where that is its form but for the lengths: the text is ASCII, and ToASCII
 /// leaves its lower case as it is. Where there is none, that says nothing.
-fn lower_form(alloc: Global, text: &str, profile: Profile) -> Result<Option<String>, AllocError>
-    requires { spec.has_permitted profile (chars text.now) ≡ true }
+pub(crate) fn lower_form(
+    alloc: Global,
+    text: &str,
+    profile: Profile,
+) -> Result<Option<String>, AllocError>
+    requires { IsWritten profile → spec.has_permitted profile (chars text.now) ≡ true }
     ensures { IfOk result (λ answer. IfSome answer
         (λ form. HasFormByLengths profile (chars text.now) (string_bytes form))) }
 {
@@ -88,7 +110,7 @@ fn lower_form(alloc: Global, text: &str, profile: Profile) -> Result<Option<Stri
 fn is_mapped_in_vain(text: &str, profile: Profile) -> bool {
     match profile {
         Profile::Standard => !text.as_bytes().iter().any(|b| b.is_ascii_uppercase()),
-        Profile::Wide => false,
+        Profile::Wide | Profile::Parser => false,
     }
 }
 
@@ -99,6 +121,7 @@ fn is_own_form(name: &[u8], profile: Profile) -> bool
     match profile {
         Profile::Standard => is_plain(name),
         Profile::Wide => is_form(name, Profile::Wide) && is_without_punycode(name),
+        Profile::Parser => is_form(name, Profile::Parser) && is_without_punycode(name),
     }
 }
 
@@ -117,12 +140,11 @@ fn has_no_prefix(label: &[u8]) -> bool
 }
 
 /// The answer on every text whose form this is but for its lengths.
-fn judge_form(form: String) -> DomainAnswer
+fn judge_form(form: String, profile: Profile) -> DomainAnswer
     requires { IsAscii (string_bytes form) }
-    ensures { (profile : Profile) (text : List ℕ) → HasFormByLengths profile text (string_bytes form)
-        → IsAnswer profile text result }
+    ensures { (text : List ℕ) → HasFormByLengths profile text (string_bytes form) → IsAnswer profile text result }
 {
-    if !has_lengths(form.as_str()) {
+    if !fits_lengths(form.as_str(), profile) {
         DomainAnswer::Not
     } else if is_number(form.as_str()) {
         DomainAnswer::Number
@@ -138,20 +160,18 @@ pub enum PlainAnswer {
     Domain,
     /// Not a valid domain, and only since it ends in a number.
     Number,
-    /// Not a valid domain, since its lengths are wrong.
+    /// Not a valid domain, since its lengths are wrong: by the parser's profile, since it is empty.
     Not,
 }
 
-/// What a plain name is as a domain of each profile (URL Standard, section 3.3): lower-case letters, digits, full
-/// stops, and hyphens where ToASCII with its strict settings takes them. `None` for every other text. No memory is
-/// taken.
-pub fn plain_answer(name: &str) -> Option<PlainAnswer>
-    ensures answer { IfSome result (λ answer. (profile : Profile)
-        → IsPlainAnswer profile (chars name.now) name.now answer) }
+/// What a plain name is as a domain of the profile (URL Standard, section 3.3): lower-case letters, digits, full stops,
+/// and hyphens where ToASCII with its strict settings takes them. `None` for every other text. No memory is taken.
+pub fn plain_answer(name: &str, profile: Profile) -> Option<PlainAnswer>
+    ensures answer { IfSome result (IsPlainAnswer profile (chars name.now) name.now) }
     ensures plain { is_plain_name (chars name.now) ≡ true → IsSome result }
 {
     if is_plain(name.as_bytes()) {
-        Some(judge_plain(name))
+        Some(judge_plain(name, profile))
     } else {
         None
     }
@@ -215,11 +235,11 @@ fn is_hyphen_at(label: &[u8], at: usize) -> bool
 }
 
 /// The answer on a plain name.
-fn judge_plain(name: &str) -> PlainAnswer
+fn judge_plain(name: &str, profile: Profile) -> PlainAnswer
     requires { IsPlain AsciiDenyList.STD3 Hyphens.Check name.now }
-    ensures { (profile : Profile) → IsPlainAnswer profile (chars name.now) name.now result }
+    ensures { IsPlainAnswer profile (chars name.now) name.now result }
 {
-    if !has_lengths(name) {
+    if !fits_lengths(name, profile) {
         PlainAnswer::Not
     } else if is_number(name) {
         PlainAnswer::Number
@@ -233,7 +253,7 @@ fn plain_domain(alloc: Global, name: &str, profile: Profile) -> Result<DomainAns
     requires { IsPlain AsciiDenyList.STD3 Hyphens.Check name.now }
     ensures { IfOk result (IsAnswer profile (chars name.now)) }
 {
-    match judge_plain(name) {
+    match judge_plain(name, profile) {
         PlainAnswer::Domain => Ok(DomainAnswer::Ascii(String::from_str(alloc, name)?)),
         PlainAnswer::Number => Ok(DomainAnswer::Number),
         PlainAnswer::Not => Ok(DomainAnswer::Not),
@@ -257,13 +277,17 @@ fn is_permitted(c: char, profile: Profile) -> bool
 
 /// The form of a permitted text, if it has one.
 fn form_of(alloc: Global, text: &str, profile: Profile) -> Result<Option<CowStr<'_>>, AllocError>
-    requires { spec.has_permitted profile (chars text.now) ≡ true }
+    requires { IsWritten profile → spec.has_permitted profile (chars text.now) ≡ true }
     ensures { IfOk result (λ answer. MatchOption answer (spec.HasNoForm profile (chars text.now))
         (λ form. spec.IsForm profile (chars text.now) (cow_str_bytes form))) }
 {
     match profile {
         Profile::Standard => standard_form(alloc, text),
         Profile::Wide => wide_form(alloc, text),
+        Profile::Parser => match parser_form(alloc, text)? {
+            Some(form) => Ok(Some(CowStr::Owned(form))),
+            None => Ok(None),
+        },
     }
 }
 
@@ -322,6 +346,16 @@ fn ascii_form<'a>(
         Ok(form) => Ok(Some(form)),
         Err(Errors::Invalid) => Ok(None),
         Err(Errors::OutOfMemory) => Err(AllocError),
+    }
+}
+
+/// Whether a form has the lengths that the profile asks for: by the parser's profile it needn't be but some code point.
+pub(crate) fn fits_lengths(form: &str, profile: Profile) -> bool
+    ensures { result ≡ fits_lengths profile form.now }
+{
+    match profile {
+        Profile::Standard | Profile::Wide => has_lengths(form),
+        Profile::Parser => !form.is_empty(),
     }
 }
 

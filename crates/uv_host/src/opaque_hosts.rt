@@ -24,7 +24,7 @@ pub fn opaque_fault(text: &str) -> Option<Refusal>
 }
 
 /// Whether a text begins with `[`.
-fn starts_with_bracket(text: &str) -> bool
+pub(crate) fn starts_with_bracket(text: &str) -> bool
     ensures { result ≡ spec.starts_with_bracket (chars text.now) }
 {
     match first_code_point(text) {

@@ -131,6 +131,19 @@ fn judges_by_the_profile_and_the_base(rt: HostRuntime) -> Result<(), Fail> {
     reports(&rt, list, wide, scheme, (2, 1));
     reports(&rt, list, against, domain, (2, 1));
     reports(&rt, list, wide_against, "", (2, 0));
+    let parsers = LintSetting {
+        profile: Profile::Parser,
+        ..PLAIN
+    };
+    let number =
+        "list:3:8: error: the host that begins here ends in a number, and is no IPv4 address [host-number]\n";
+    reports(
+        &rt,
+        b"http://a%2Db/\nurn:a b\nhttp://256/\n",
+        parsers,
+        number,
+        (3, 1),
+    );
     Ok(())
 }
 

@@ -11,7 +11,7 @@ use Rattle.percent_encoding.specs.Percent.{percent_encode_byte}
 use Rattle.percent_encoding.proofs.PercentLemmas.{All-percent_encode_byte, IsEscapeByte}
 use Rattle.uv_model.specs.Ascii.{number_sign, slash}
 use Rattle.uv_model.specs.Units.{is_unit_at}
-use Rattle.uv_model.specs.Valid.{starts_with_scheme}
+use Rattle.uv_model.specs.Scheme.{starts_with_scheme}
 use Rattle.uv_mend.specs.declared.prefixes.Stop.{Stop}
 use Rattle.uv_mend.specs.declared.prefixes.Stop.TheVariants.{Scheme, Authority}
 use Rattle.uv_mend.specs.CodePoints.{behind_one, first_alone}

@@ -6,7 +6,7 @@ use Rattle.uv_model.specs.declared.scheme.Class.{Class}
 use Rattle.uv_model.specs.Ascii.{slash, colon, question_mark, number_sign}
 use Rattle.uv_model.specs.Cut.{class_in, starts_with_two_slashes}
 use Rattle.uv_model.specs.Records.Url.{Url}
-use Rattle.uv_model.specs.Valid.{starts_with_scheme}
+use Rattle.uv_model.specs.Scheme.{starts_with_scheme}
 use Rattle.uv_mend.specs.declared.prefixes.Stop.{Stop}
 use Rattle.uv_mend.specs.declared.prefixes.Stop.TheVariants.{Scheme, Start, Authority}
 use Rattle.uv_mend.specs.CodePoints.{behind_one, first_alone}

@@ -6,7 +6,7 @@ use Rattle.uv_model.specs.declared.scheme.Class.{Class}
 use Rattle.uv_model.specs.declared.scheme.Class.TheVariants.{Special, File, Other}
 use Rattle.uv_model.specs.Ascii.{slash, backslash}
 use Rattle.uv_model.specs.Records.Url.{Url}
-use Rattle.uv_model.specs.Valid.{starts_with_scheme}
+use Rattle.uv_model.specs.Scheme.{starts_with_scheme}
 use Rattle.uv_mend.specs.declared.prefixes.Stop.TheVariants.{Start}
 use Rattle.uv_mend.specs.Prefixes.{behind_scheme, class_against, scheme_prefix, stops}
 

@@ -1,8 +1,8 @@
 //! The prefixes of a text: its scheme with `:`, and `//` with the authority.
 ghost use Rattle.std.specs.Prelude.{◌≡◌, ◌++◌, IfOk, OnOk, option_copied};
 ghost use Rattle.uv_model.specs.Cut.{starts_with_two_slashes};
+ghost use Rattle.uv_model.specs.Scheme as scheme;
 ghost use Rattle.uv_model.specs.Scheme.{is_scheme_code_point};
-ghost use Rattle.uv_model.specs.Valid as valid;
 ghost use Rattle.uv_mend.specs.CodePoints.{behind_one};
 ghost use Rattle.uv_mend.specs.Prefixes as spec;
 ghost use Rattle.uv_mend.specs.Prefixes.{authority_prefix, before, behind_authority, behind_scheme, class_against};
@@ -128,7 +128,7 @@ fn behind_first(text: &[char]) -> &[char]
 
 /// Whether a text begins with a URL-scheme string and `:`.
 pub(crate) fn starts_with_scheme(text: &[char]) -> bool
-    ensures { result ≡ valid.starts_with_scheme text.now }
+    ensures { result ≡ scheme.starts_with_scheme text.now }
 {
     match first_of(text) {
         Some((first, rest)) => first.is_ascii_alphabetic() && goes_on_to_colon(rest),
@@ -138,7 +138,7 @@ pub(crate) fn starts_with_scheme(text: &[char]) -> bool
 
 // Whether code points of a scheme come, and then `:`.
 fn goes_on_to_colon(text: &[char]) -> bool
-    ensures { result ≡ valid.goes_on_to_colon text.now }
+    ensures { result ≡ scheme.goes_on_to_colon text.now }
 {
     let mut rest = text;
     while let Some((c, behind)) = first_of(rest) {

@@ -187,6 +187,20 @@ fn mends_by_each_profile(rt: HostRuntime) -> Result<(), Fail> {
         Mending::Refused(refusal) => assert_eq!(rt; refusal.rule, Rule::HostDomain),
         _ => panic!(rt; "another answer"),
     }
+    for (profile, wanted) in [
+        (Profile::Wide, "http://a-b/c%20d"),
+        (Profile::Parser, "http://a%2Db/c%20d"),
+    ] {
+        match mend(rt.alloc(), "http://a%2Db/c d", None, profile)? {
+            Mending::Mended { text, kind } => {
+                assert_eq!(rt; text.as_str(), wanted);
+                assert_eq!(rt; kind, Same);
+            }
+            _ => panic!(rt; "another answer"),
+        }
+    }
+    let mended = mend(rt.alloc(), "file://h/C:/x", None, Profile::Parser)?;
+    assert!(rt; matches!(&mended, Mending::Valid));
     Ok(())
 }
 

@@ -6,3 +6,4 @@ pub mod JoinedSegments
 pub mod OpaquePaths
 pub mod DotSegmentLemmas
 pub mod WalkLemmas
+pub mod SpacedPaths

@@ -1,5 +1,6 @@
 -- Lemmas on violations: of units, of hosts, the least one, and that a violation excludes parts.
 pub mod UnitViolationLemmas
+pub mod SpacedPathLemmas
 pub mod ViolationLemmas
 pub mod LeastLemmas
 pub mod RefusalLemmas

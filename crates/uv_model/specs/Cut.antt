@@ -1,6 +1,6 @@
 -- The cut of a text into the texts of its parts, valid or not, after the order of URL Standard, section 4.3.
-use Rattle.std.specs.Prelude.{◌≡◌, ◌≢◌, ℕ, ◌+◌, Bool, true, false, not, ◌&&◌, ◌==◌, List, [], ◌∷◌, ◌++◌, length, drop}
-use Rattle.std.specs.Prelude.{Option, Some, None, IsSome, if◌then◌else◌}
+use Rattle.std.specs.Prelude.{◌≡◌, ◌≢◌, ℕ, ◌+◌, Bool, true, false, not, ◌&&◌, ◌||◌, ◌==◌, List, [], ◌∷◌, ◌++◌, length}
+use Rattle.std.specs.Prelude.{drop, Option, Some, None, IsSome, is_some, if◌then◌else◌}
 use Rattle.std.specs.List.{before_first, after_first}
 use Rattle.uv_model.specs.declared.scheme.Class.{Class}
 use Rattle.uv_model.specs.declared.scheme.Class.TheVariants.{File}
@@ -10,7 +10,7 @@ use Rattle.uv_model.specs.Scheme.{is_scheme, scheme_class}
 use Rattle.uv_model.specs.Records.Url.{Url}
 use Rattle.uv_model.specs.Parts.{Parts, written_scheme, written_authority, written_behind}
 use Rattle.uv_model.specs.Setting.{scheme_or}
-use Rattle.uv_model.specs.Valid.{starts_with_scheme}
+use Rattle.uv_model.specs.Scheme.{starts_with_scheme}
 
 -- the texts of the parts, none of them judged: a host text is there where there is an authority
 pub record Cut : Type 0 where
@@ -31,6 +31,14 @@ texts_of parts = record {
   query = parts.query;
   fragment = parts.fragment;
 }
+
+-- a query or a fragment stands behind the path
+abbrev pub is_followed : Cut → Bool
+is_followed cut = is_some cut.query || is_some cut.fragment
+
+-- nothing of the text stands behind the host
+abbrev pub ends_at_host : Cut → Bool
+ends_at_host cut = (length cut.path_text == 0) && not (is_some cut.port_text || is_followed cut)
 
 -- the class of the cut's scheme, else of the base's, else Other
 abbrev pub class_in : Option Url → Option (List ℕ) → Class

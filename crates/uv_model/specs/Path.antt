@@ -6,9 +6,9 @@ use Rattle.std.specs.Str.{bytes_eq}
 use Rattle.std.specs.Char.{is_ascii_alphabetic}
 use Rattle.uv_model.specs.declared.scheme.Class.{Class}
 use Rattle.uv_model.specs.declared.scheme.Class.TheVariants.{File}
-use Rattle.uv_model.specs.Ascii.{slash, colon, vertical_bar, question_mark}
+use Rattle.uv_model.specs.Ascii.{slash, colon, vertical_bar, question_mark, space}
 use Rattle.uv_model.specs.Scheme.{lowercase}
-use Rattle.uv_model.specs.Units.{IsUnits}
+use Rattle.uv_model.specs.Units.{IsUnits, is_unit_at}
 use Rattle.uv_model.specs.Encoding.{encoded}
 
 -- ---- drive letters and dot segments
@@ -110,6 +110,29 @@ pub record IsPathSlashed (segments : List (List ℕ)) (text : List ℕ) : Type 0
   pub behind : List ℕ
   pub slashed : text ≡ slash ∷ behind
   pub joins : JoinsTo segments behind
+
+-- from code point to code point a space or no fault of units
+abbrev pub is_spaced : List ℕ → Bool
+is_spaced [] = true
+is_spaced (c ∷ rest) = ((c == space) || is_unit_at c rest) && is_spaced rest
+
+-- URL units and spaces without `?` that don't begin with `/`
+pub record IsSpacedPath (text : List ℕ) : Type 0 where
+  pub units : is_spaced text ≡ true
+  pub no_question_mark : is_without question_mark text ≡ true
+  pub start : starts_with_slash text ≡ false
+
+-- the text ends with a space
+abbrev pub ends_with_space : List ℕ → Bool
+ends_with_space [] = false
+ends_with_space (c ∷ []) = c == space
+ends_with_space (c ∷ next ∷ rest) = ends_with_space (next ∷ rest)
+
+-- An opaque path on which the parser is silent (section 4.4, opaque path state): URL units and spaces, of which none
+-- stands at the end, where it would be removed, unless a query or a fragment follows.
+pub record IsTakenSpacedPath (followed : Bool) (text : List ℕ) : Type 0 where
+  pub spaced : IsSpacedPath text
+  pub end : followed ≡ false → ends_with_space text ≡ false
 
 -- no code point and no segment, or `/` and any segments
 abbrev pub MayBePathSlashed : List (List ℕ) → List ℕ → Type 0

@@ -4,7 +4,7 @@ use Rattle.std.specs.Prelude.{is_some, if◌then◌else◌}
 use Rattle.std.specs.List.{list_all}
 use Rattle.std.specs.Str.{bytes_eq}
 use Rattle.std.specs.Char.{is_ascii, is_ascii_alphabetic, is_ascii_alphanumeric, is_ascii_uppercase, to_ascii_lowercase}
-use Rattle.uv_model.specs.Ascii.{plus_sign, hyphen, full_stop}
+use Rattle.uv_model.specs.Ascii.{plus_sign, hyphen, full_stop, colon}
 use Rattle.uv_model.specs.declared.scheme.Class.{Class}
 use Rattle.uv_model.specs.declared.scheme.Class.TheVariants.{Special, File, Other}
 
@@ -24,6 +24,16 @@ is_scheme_code_point c = is_ascii_alphanumeric c || ((c == plus_sign) || ((c == 
 abbrev pub is_scheme : List ℕ → Bool
 is_scheme [] = false
 is_scheme (c ∷ rest) = is_ascii_alphabetic c && list_all is_scheme_code_point rest
+
+-- code points of a scheme, and then `:`
+abbrev pub goes_on_to_colon : List ℕ → Bool
+goes_on_to_colon [] = false
+goes_on_to_colon (d ∷ rest) = (d == colon) || (is_scheme_code_point d && goes_on_to_colon rest)
+
+-- the text begins with a URL-scheme string and `:`
+abbrev pub starts_with_scheme : List ℕ → Bool
+starts_with_scheme [] = false
+starts_with_scheme (c ∷ rest) = is_ascii_alphabetic c && goes_on_to_colon rest
 
 -- the special schemes but `file`, each with its default port (section 4.2)
 abbrev pub special_schemes : List (List ℕ × ℕ)

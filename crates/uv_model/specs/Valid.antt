@@ -6,19 +6,21 @@ use Rattle.std.specs.Str.{bytes_eq}
 use Rattle.std.specs.Char.{is_ascii_digit}
 use Rattle.std.specs.Str.Parse.{digits_value}
 use Rattle.uv_model.specs.declared.profile.Profile.{Profile}
-use Rattle.uv_model.specs.declared.profile.Profile.TheVariants.{Standard, Wide}
+use Rattle.uv_model.specs.declared.profile.Profile.TheVariants.{Standard, Wide, Parser}
 use Rattle.uv_model.specs.declared.scheme.Class.{Class}
 use Rattle.uv_model.specs.declared.scheme.Class.TheVariants.{Special, File, Other}
 use Rattle.uv_model.specs.declared.host.Host.{Host}
 use Rattle.uv_model.specs.declared.host.Host.TheVariants.{Domain, V4, V6, Opaque, Empty}
-use Rattle.uv_model.specs.Hosts.Address.{IsIpv4, IsBracketedIpv6}
+use Rattle.uv_model.specs.Hosts.Address.{IsBracketedIpv6}
 use Rattle.uv_model.specs.Hosts.OpaqueHost.{IsOpaqueHost}
 use Rattle.uv_model.specs.Hosts.Domain.{IsDomain}
+use Rattle.uv_model.specs.Hosts.Numbers.{IsIpv4Text}
+use Rattle.uv_model.specs.Hosts.StoppedHost.{is_stopped}
+use Rattle.uv_model.specs.Cut.{IsCut, ends_at_host, is_followed, texts_of}
 use Rattle.uv_model.specs.Units.{IsUnits}
-use Rattle.uv_model.specs.Scheme.{is_scheme, is_scheme_code_point, scheme_class, default_port}
-use Rattle.uv_model.specs.Ascii.{colon}
-use Rattle.std.specs.Char.{is_ascii_alphabetic}
-use Rattle.uv_model.specs.Path.{IsPathAbsolute, IsPathRelative, IsPathSlashed, starts_with_drive_segment}
+use Rattle.uv_model.specs.Scheme.{is_scheme, scheme_class, default_port, starts_with_scheme}
+use Rattle.uv_model.specs.Path.{IsPathAbsolute, IsPathRelative, IsPathSlashed, IsTakenSpacedPath}
+use Rattle.uv_model.specs.Path.{starts_with_drive_segment}
 use Rattle.uv_model.specs.Setting.{Setting, scheme_or, setting_of}
 use Rattle.uv_model.specs.Records.Url.{Url, is_opaque}
 use Rattle.uv_model.specs.Parts.{Form, SchemeAuthority, SchemePath, SchemeOpaque, Authority, PathAbsolute}
@@ -26,10 +28,11 @@ use Rattle.uv_model.specs.Parts.{PathRelative, NoPath, Parts, has_scheme, writte
 
 -- ---- hosts (section 3.4)
 
--- a valid host string: a domain, an IPv4 text, or an IPv6 text in brackets
+-- a valid host string: a domain, an IPv4 text, or an IPv6 text in brackets; by the parser's profile what the host
+-- parser takes for a special URL
 abbrev pub IsHostText : Profile → List ℕ → Host → Type 0
 IsHostText profile text (Domain form) = IsDomain profile text form
-IsHostText profile text (V4 value) = IsIpv4 text value
+IsHostText profile text (V4 value) = IsIpv4Text profile text value
 IsHostText profile text (V6 pieces) = IsBracketedIpv6 text pieces
 IsHostText profile text (Opaque host) = ⊥
 IsHostText profile text Empty = ⊥
@@ -37,7 +40,7 @@ IsHostText profile text Empty = ⊥
 -- a valid host string of a file URL, where the domain `localhost` is the empty host
 abbrev pub IsFileHostText : Profile → List ℕ → Host → Type 0
 IsFileHostText profile text (Domain form) = IsDomain profile text form × (form ≢ codes "localhost")
-IsFileHostText profile text (V4 value) = IsIpv4 text value
+IsFileHostText profile text (V4 value) = IsIpv4Text profile text value
 IsFileHostText profile text (V6 pieces) = IsBracketedIpv6 text pieces
 IsFileHostText profile text (Opaque host) = ⊥
 IsFileHostText profile text Empty = IsDomain profile text (codes "localhost")
@@ -83,10 +86,10 @@ MayBePortText (Some text) = IsPortText text
 
 -- ---- what follows `//`
 
--- a path behind an authority: a path-absolute string, and in the wide profile `/` and any segments
+-- a path behind an authority: a path-absolute string, and by the wider profiles `/` and any segments
 abbrev pub IsPathBehind : Profile → List (List ℕ) → List ℕ → Type 0
 IsPathBehind Standard segments text = IsPathAbsolute segments text
-IsPathBehind Wide segments text = IsPathSlashed segments text
+IsPathBehind _ segments text = IsPathSlashed segments text
 
 -- no code point and no segment, or such a path
 abbrev pub MayBePathBehind : Profile → List (List ℕ) → List ℕ → Type 0
@@ -94,6 +97,7 @@ MayBePathBehind profile segments text = ((text ≡ []) × (segments ≡ [])) ⊎
 
 -- a special URL has a host and may have a port and a path
 pub record IsSpecialAuthority (setting : Setting) (host_text : List ℕ) (parts : Parts) : Type 0 where
+  pub unstopped : is_stopped setting.profile Special (ends_at_host (texts_of parts)) host_text ≡ false
   pub value : Host
   pub host : IsHostText setting.profile host_text value
   pub valued : parts.host ≡ Some value
@@ -101,15 +105,32 @@ pub record IsSpecialAuthority (setting : Setting) (host_text : List ℕ) (parts 
   pub port : parts.port ≡ port_given setting.default_port parts.port_text
   pub path : MayBePathBehind setting.profile parts.segments parts.path_text
 
--- a file URL has a host and may have a path that doesn't begin with `/`, a drive letter and `/`, or it has a path alone
+-- the path doesn't begin with `/`, a drive letter and `/`, where the profile asks for that
+abbrev pub IsWithoutDrive : Profile → List ℕ → Type 0
+IsWithoutDrive Parser text = Unit {0}
+IsWithoutDrive _ text = starts_with_drive_segment text ≡ false
+
+-- a file URL's host, behind which there may be a path
+pub record HasFileHost (profile : Profile) (host_text : List ℕ) (parts : Parts) : Type 0 where
+  pub unstopped : is_stopped profile File (ends_at_host (texts_of parts)) host_text ≡ false
+  pub value : Host
+  pub host : IsFileHostText profile host_text value
+  pub valued : parts.host ≡ Some value
+  pub path : MayBePathBehind profile parts.segments parts.path_text
+  pub no_drive : IsWithoutDrive profile parts.path_text
+
+-- a path without a host before it; by the parser's profile there may be none
+abbrev pub IsPathAlone : Profile → List (List ℕ) → List ℕ → Type 0
+IsPathAlone Parser segments text = MayBePathBehind Parser segments text
+IsPathAlone profile segments text = IsPathBehind profile segments text
+
+-- a file URL has a host and may have a path, or it has a path alone
 abbrev pub IsFileAuthority : Setting → List ℕ → Parts → Type 0
 IsFileAuthority setting host_text parts =
     (parts.port_text ≡ None) × (parts.port ≡ None)
-    × (((value : Host) × IsFileHostText setting.profile host_text value × (parts.host ≡ Some value)
-    × MayBePathBehind setting.profile parts.segments parts.path_text
-    × (starts_with_drive_segment parts.path_text ≡ false))
+    × (HasFileHost setting.profile host_text parts
     ⊎ ((host_text ≡ []) × (parts.host ≡ Some Empty)
-    × IsPathBehind setting.profile parts.segments parts.path_text))
+    × IsPathAlone setting.profile parts.segments parts.path_text))
 
 -- any other URL may have a host, with a port or without one, and a path
 abbrev pub IsOtherAuthority : Setting → List ℕ → Parts → Type 0
@@ -127,25 +148,16 @@ FitsAuthority Other setting host_text parts = IsOtherAuthority setting host_text
 
 -- ---- the forms
 
--- code points of a scheme, and then `:`
-abbrev pub goes_on_to_colon : List ℕ → Bool
-goes_on_to_colon [] = false
-goes_on_to_colon (d ∷ rest) = (d == colon) || (is_scheme_code_point d && goes_on_to_colon rest)
-
--- the text begins with a URL-scheme string and `:`
-abbrev pub starts_with_scheme : List ℕ → Bool
-starts_with_scheme [] = false
-starts_with_scheme (c ∷ rest) = is_ascii_alphabetic c && goes_on_to_colon rest
-
 -- the scheme of the text, else that of the base
 abbrev pub scheme_in : Option Url → Parts → List ℕ
 scheme_in base parts = scheme_or base parts.scheme
 
--- a path-absolute reference to a file base with a host doesn't begin with `/`, a drive letter and `/`
-abbrev pub FitsDrive : Option Url → List ℕ → Type 0
-FitsDrive None path = Unit {0}
-FitsDrive (Some base) path = scheme_class base.scheme ≡ File → base.host ≢ Some Empty → starts_with_drive_segment path
-    ≡ false
+-- a path-absolute reference to a file base with a host doesn't begin with `/`, a drive letter and `/`, where the
+-- profile asks for that
+abbrev pub FitsDrive : Profile → Option Url → List ℕ → Type 0
+FitsDrive profile None path = Unit {0}
+FitsDrive profile (Some base) path =
+    scheme_class base.scheme ≡ File → base.host ≢ Some Empty → IsWithoutDrive profile path
 
 -- a host text with which what follows `//` fits the class
 abbrev pub FitsHostText : Setting → Parts → Option (List ℕ) → Type 0
@@ -163,9 +175,11 @@ pub record HasNoAuthority (parts : Parts) : Type 0 where
   pub port_text : parts.port_text ≡ None
   pub port : parts.port ≡ None
 
--- a path-relative string, also an empty one, which has no segments as an opaque path
-abbrev pub IsOpaquePath : List ℕ → Type 0
-IsOpaquePath text = (segments : List (List ℕ)) × IsPathRelative segments text
+-- a path-relative string, also an empty one, which has no segments as an opaque path; by the parser's profile with
+-- spaces too
+abbrev pub IsOpaquePath : Profile → Bool → List ℕ → Type 0
+IsOpaquePath Parser followed text = IsTakenSpacedPath followed text
+IsOpaquePath _ followed text = (segments : List (List ℕ)) × IsPathRelative segments text
 
 -- the host, the port and the path by the form
 abbrev pub FitsForm : Setting → Form → Parts → Type 0
@@ -173,10 +187,12 @@ FitsForm setting SchemeAuthority parts = HasAuthority setting parts
 FitsForm setting SchemePath parts =
     HasNoAuthority parts × (setting.class ≡ Other) × IsPathAbsolute parts.segments parts.path_text
 FitsForm setting SchemeOpaque parts =
-    HasNoAuthority parts × (setting.class ≡ Other) × IsOpaquePath parts.path_text × (parts.segments ≡ [])
+    HasNoAuthority parts × (setting.class ≡ Other)
+    × IsOpaquePath setting.profile (is_followed (texts_of parts)) parts.path_text × (parts.segments ≡ [])
 FitsForm setting Authority parts = HasAuthority setting parts
 FitsForm setting PathAbsolute parts =
-    HasNoAuthority parts × IsPathAbsolute parts.segments parts.path_text × FitsDrive setting.base parts.path_text
+    HasNoAuthority parts × IsPathAbsolute parts.segments parts.path_text
+    × FitsDrive setting.profile setting.base parts.path_text
 FitsForm setting PathRelative parts =
     HasNoAuthority parts × IsPathRelative parts.segments parts.path_text × (parts.path_text ≢ [])
     × (starts_with_scheme parts.path_text ≡ false)
@@ -200,9 +216,15 @@ abbrev pub MayBeUnits : Option (List ℕ) → Type 0
 MayBeUnits None = Unit {0}
 MayBeUnits (Some text) = IsUnits text
 
+-- The parts of the parser's profile are those of the text's cut. By the other profiles they are so anyway.
+abbrev pub FitsCut : Profile → Option Url → List ℕ → Parts → Type 0
+FitsCut Parser base text parts = IsCut base text (texts_of parts)
+FitsCut _ base text parts = Unit {0}
+
 -- the text is valid by the profile, against the base, with these parts
 pub record Valid (profile : Profile) (base : Option Url) (text : List ℕ) (parts : Parts) : Type 0 where
   pub whole : text ≡ written parts
+  pub cut : FitsCut profile base text parts
   pub scheme : FitsScheme (has_scheme parts.form) parts.scheme
   pub against : FitsBase base parts
   pub form : FitsForm (setting_of profile base parts.scheme) parts.form parts

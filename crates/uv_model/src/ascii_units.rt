@@ -2,7 +2,7 @@
 ghost use Rattle.std.specs.Char.{is_ascii_uppercase};
 ghost use Rattle.std.specs.List.{list_all};
 ghost use Rattle.std.specs.Prelude.{◌≡◌, ◌↔◌, IsTrue, not};
-ghost use Rattle.uv_model.specs.Path.{is_without};
+ghost use Rattle.uv_model.specs.Path.{is_spaced, is_without};
 ghost use Rattle.uv_model.specs.Units as spec;
 ghost use Rattle.uv_model.specs.Records.WellFormed.{IsAsciiUnits, is_ascii_text};
 
@@ -39,6 +39,20 @@ fn is_faultless(text: &[u8]) -> bool
     let mut left = text;
     while let [first, rest @ ..] = left {
         if !is_unit_at(*first, rest) {
+            return false;
+        }
+        left = rest;
+    }
+    true
+}
+
+/// Whether each byte, read as a code point, is a space, a URL code point, or `%` before two hex digits.
+pub fn is_spaced(text: &[u8]) -> bool
+    ensures { result ≡ is_spaced text.now }
+{
+    let mut left = text;
+    while let [first, rest @ ..] = left {
+        if *first != b' ' && !is_unit_at(*first, rest) {
             return false;
         }
         left = rest;

@@ -7,13 +7,27 @@ ghost use Rattle.uv_model.specs.Hosts.Domain as spec;
 use crate::profile::Profile;
 
 /// Whether a code point is one of the marks that a domain of the profile may hold beside letters and digits: `-` and
-/// `.`, and by the wide profile also `_`.
+/// `.`, by the wide profile also `_`, and by the parser's all other ASCII code points that aren't forbidden.
 pub fn is_domain_mark(c: char, profile: Profile) -> bool
     ensures { result ≡ spec.is_domain_mark profile c }
 {
     match profile {
         Profile::Standard => c == '-' || c == '.',
         Profile::Wide => c == '_' || c == '-' || c == '.',
+        Profile::Parser => c.is_ascii() && !(c.is_ascii_alphanumeric() || is_forbidden_domain(c)),
+    }
+}
+
+/// Whether a code point is a forbidden domain code point (URL Standard, section 3.3): a forbidden host code point, a C0
+/// control, `%` or U+007F.
+#[tactic(auto, using(std::proofs::lemmas::Bool::Decides::nat_tests))]
+pub fn is_forbidden_domain(c: char) -> bool
+    ensures { result ≡ spec.is_forbidden_domain c }
+{
+    match c {
+        '\0'..='\u{1F}' | ' ' | '#' | '%' | '/' | ':' | '<' => true,
+        '>' | '?' | '@' | '[' | '\\' | ']' | '^' | '|' | '\u{7F}' => true,
+        _ => false,
     }
 }
 

@@ -1,13 +1,14 @@
 //! Laws over the definitions, each as the clause of a function that does nothing.
 ghost use Rattle.uv_model.specs.Hosts.Address.{AreLibraryTexts};
-ghost use Rattle.uv_model.specs.Hosts.Domain.{StandardDomainsAreWide};
+ghost use Rattle.uv_model.specs.Hosts.Domain.{StandardDomainsAreWide, WideDomainsAreParsers};
 ghost use Rattle.uv_model.specs.Laws.Addresses.{AddressesAreReadBack};
 ghost use Rattle.uv_model.specs.Laws.CutRows.{CutAndViolationRows};
 ghost use Rattle.uv_model.specs.Laws.Cuts.{EveryTextHasOneCut, NearestBracketsDecide, PartsAreUnique};
 ghost use Rattle.uv_model.specs.Laws.Cuts.{TextsWithAViolationHaveNoParts, TextsWithASchemeIgnoreTheBase};
 ghost use Rattle.uv_model.specs.Laws.Cuts.{ValidTextsAreCutIntoTheirParts};
 ghost use Rattle.uv_model.specs.Laws.Wholes.{DenotedRecordsAreWellFormed, UnitsAreFaultless, StandardTextsAreWide};
-ghost use Rattle.uv_model.specs.Records.WellFormed.{StandardRecordsAreWide};
+ghost use Rattle.uv_model.specs.Laws.Wholes.{WideTextsAreParsers};
+ghost use Rattle.uv_model.specs.Records.WellFormed.{StandardRecordsAreWide, WideRecordsAreParsers};
 
 /// A text is a concatenation of URL units exactly where no code point of it is a fault of units.
 pub fn units_are_faultless()
@@ -63,8 +64,8 @@ pub fn addresses_are_read_back()
     ensures { AddressesAreReadBack }
 {}
 
-/// The record that a valid text of either profile denotes, alone or against a base that is well formed by the same
-/// profile, is well formed by it (URL Standard, sections 4.1 and 4.3). Against any record it is well formed by the wide
+/// The record that a valid text of any profile denotes, alone or against a base that is well formed by the same profile,
+/// is well formed by it (URL Standard, sections 4.1 and 4.3). Against any record it is well formed by the parser's
 /// profile.
 pub fn denoted_records_are_well_formed()
     ensures { DenotedRecordsAreWellFormed }
@@ -77,4 +78,13 @@ pub fn standard_texts_are_wide()
     ensures texts { StandardTextsAreWide }
     ensures domains { StandardDomainsAreWide }
     ensures records { StandardRecordsAreWide }
+{}
+
+/// A valid text of the wide profile is one of the parser's profile, alone or against the same base, with the same parts,
+/// and so it denotes the same record. A domain of the wide profile is one of the parser's profile with the same form,
+/// and a record that is well formed by the wide profile is so by the parser's profile.
+pub fn wide_texts_are_parsers()
+    ensures texts { WideTextsAreParsers }
+    ensures domains { WideDomainsAreParsers }
+    ensures records { WideRecordsAreParsers }
 {}

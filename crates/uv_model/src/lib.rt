@@ -23,7 +23,7 @@ mod url_paths;
 mod well_formedness;
 
 pub use code_points::{behind_code_points, first_code_point, starts_with_two_hex};
-pub use domain::{ends_in_number, is_domain_mark};
+pub use domain::{ends_in_number, is_domain_mark, is_forbidden_domain};
 pub use extent::Extent;
 pub use host::Host;
 pub use opaque_host::is_forbidden_host;

@@ -2,9 +2,9 @@
 ghost use Rattle.std.specs.Prelude.{◌≡◌};
 ghost use Rattle.uv_model.specs.ProfileName.{named_profile, profile_name, profiles_in_order};
 
-/// The conditions by which a text is judged, each narrower than what the URL parser takes without a validation error.
-/// They differ in the code points and the settings of a domain, and in the path behind an authority (URL Standard,
-/// sections 3.4 and 4.3).
+/// The conditions by which a text is judged. Each takes what the one before it takes, with the same parts, and more.
+/// They differ in the hosts of special and file URLs, in the path behind an authority, in file URLs and in opaque paths
+/// (URL Standard, sections 3.4, 3.5, 4.3 and 4.4).
 #[derive(Clone, Copy, Debug, PartialEq, Eq)]
 pub enum Profile {
     /// The URL Standard's valid URL strings: a domain passes ToASCII and ToUnicode at the strict settings too, and a
@@ -13,14 +13,18 @@ pub enum Profile {
     /// The standard profile's texts and more: a domain is judged by the URL parser's settings alone and may hold `_`,
     /// and a path behind an authority is `/` and any segments.
     Wide,
+    /// Exactly the texts that the URL parser takes without a validation error: a host is what the host parser makes a
+    /// domain or an address of, without an error; the authority of a file URL may be empty, and its path may begin with
+    /// a drive letter behind a host; an opaque path may hold spaces, but none at the text's end.
+    Parser,
 }
 
 impl Profile {
     /// The profiles, from the narrowest on.
-    pub fn in_order() -> [Profile; 2]
+    pub fn in_order() -> [Profile; 3]
         ensures { result ≡ profiles_in_order }
     {
-        [Profile::Standard, Profile::Wide]
+        [Profile::Standard, Profile::Wide, Profile::Parser]
     }
 
     /// The profile's name.
@@ -30,6 +34,7 @@ impl Profile {
         match self {
             Profile::Standard => "standard",
             Profile::Wide => "wide",
+            Profile::Parser => "parser",
         }
     }
 
@@ -40,6 +45,7 @@ impl Profile {
         match name {
             "standard" => Some(Profile::Standard),
             "wide" => Some(Profile::Wide),
+            "parser" => Some(Profile::Parser),
             _ => None,
         }
     }

@@ -1,7 +1,7 @@
 //! Records: the URLs that valid texts denote, each well formed.
 ghost use Rattle.std.specs.Prelude.{◌≡◌, IfOk, Option, Some, None, option_copied, option_map, string_bytes};
 ghost use Rattle.std.specs.Str.{IsAscii};
-ghost use Rattle.uv_model.specs.declared.profile.Profile.TheVariants.{Wide};
+ghost use Rattle.uv_model.specs.declared.profile.Profile.TheVariants.{Parser};
 ghost use Rattle.uv_model.specs.Records.Url.{Url, is_opaque};
 ghost use Rattle.uv_model.specs.Records.WellFormed.{MayBeAscii, WellFormed};
 
@@ -11,8 +11,8 @@ use crate::text::Text;
 use std::alloc::{AllocError, Global};
 use std::marker::Model;
 
-/// A URL's record (URL Standard, section 4.1) without credentials. It is well formed by the wide profile, and so may be
-/// one of either profile.
+/// A URL's record (URL Standard, section 4.1) without credentials. It is well formed by the parser's profile, and so may
+/// be one of any profile.
 #[derive(Debug, Drop)]
 pub struct Record {
     scheme: Text,
@@ -28,7 +28,7 @@ impl Model for Record {
 
     ghost Value = { Url };
 
-    ghost use Rattle.uv_model.specs.declared.profile.Profile.TheVariants.{Wide};
+    ghost use Rattle.uv_model.specs.declared.profile.Profile.TheVariants.{Parser};
     ghost use Rattle.uv_model.specs.Records.WellFormed.{WellFormed};
 
     ghost view = { λ r. record {
@@ -40,7 +40,7 @@ impl Model for Record {
       fragment = r.fragment;
     } };
 
-    ghost invariant = { λ r. WellFormed Wide (record {
+    ghost invariant = { λ r. WellFormed Parser (record {
       scheme = r.scheme;
       host = r.host;
       port = r.port;
@@ -51,7 +51,7 @@ impl Model for Record {
 }
 
 impl Record {
-    /// The record of these parts, without a copy. They have to be well formed by the wide profile.
+    /// The record of these parts, without a copy. They have to be well formed by the parser's profile.
     pub fn make(
         scheme: String,
         host: Option<Host>,
@@ -60,7 +60,7 @@ impl Record {
         query: Option<String>,
         fragment: Option<String>,
     ) -> Record
-        requires { WellFormed Wide (record {
+        requires { WellFormed Parser (record {
           scheme = string_bytes scheme;
           host = host;
           port = port;
@@ -114,7 +114,7 @@ impl Record {
     /// The path.
     pub fn path(&self) -> &UrlPath
         ensures path { result.now ≡ self.now.path }
-        ensures well_formed { WellFormed Wide self.now }
+        ensures well_formed { WellFormed Parser self.now }
     {
         &self.path
     }

@@ -1,26 +1,27 @@
 //! Whether a path may stand in a record, by the class of the scheme and the host (URL Standard, section 4.1).
 ghost use Rattle.std.specs.Prelude.{◌≡◌, ◌↔◌, IsTrue, option_copied, true};
-ghost use Rattle.uv_model.specs.Path.{IsSegment, starts_with_slash};
+ghost use Rattle.uv_model.specs.Path.{IsSegment, ends_with_space, starts_with_slash};
 ghost use Rattle.uv_model.specs.Records.WellFormed.{AreUrlSegments, IsUrlOpaquePath, IsUrlPath, IsUrlSegment};
-ghost use Rattle.uv_model.specs.Records.WellFormed.{is_ascii_text, may_be_empty};
+ghost use Rattle.uv_model.specs.Records.WellFormed.{IsEncodedSpacedPath, IsUnspacedPath, is_ascii_text, may_be_empty};
 
-use crate::ascii_units::{is_ascii_units, is_without};
+use crate::ascii_units::{is_ascii_text, is_ascii_units, is_spaced, is_without};
 use crate::host::Host;
 use crate::path::UrlPath;
+use crate::profile::Profile;
 use crate::scheme::Class;
 use crate::segments::{is_double_dot, is_single_dot};
 use crate::text::Text;
 
-/// Whether a URL of this class with this host may have the path.
-pub fn is_url_path(class: Class, host: Option<&Host>, path: &UrlPath) -> bool
-    ensures { IsTrue result ↔ IsUrlPath class (option_copied host.entry) path.now }
+/// Whether a URL of this class with this host may have the path, by the profile.
+pub fn is_url_path(class: Class, host: Option<&Host>, path: &UrlPath, profile: Profile) -> bool
+    ensures { IsTrue result ↔ IsUrlPath profile class (option_copied host.entry) path.now }
 {
     match path {
         UrlPath::Opaque(text) => {
             if !may_be_opaque(class, host) {
                 return false;
             }
-            is_url_opaque_path(text)
+            is_url_opaque_path(text, profile)
         }
         UrlPath::Segments(list) => {
             let segments = list.as_slice();
@@ -54,10 +55,41 @@ fn may_be_opaque(class: Class, host: Option<&Host>) -> bool
     }
 }
 
-fn is_url_opaque_path(text: &Text) -> bool
-    ensures { IsTrue result ↔ IsUrlOpaquePath text.now }
+fn is_url_opaque_path(text: &Text, profile: Profile) -> bool
+    ensures { IsTrue result ↔ IsUrlOpaquePath profile text.now }
 {
     let bytes = text.as_str().as_bytes();
+    match profile {
+        Profile::Standard | Profile::Wide => is_unspaced_path(bytes),
+        Profile::Parser => is_encoded_spaced_path(bytes),
+    }
+}
+
+// ASCII with spaces, none of them at its end.
+fn is_encoded_spaced_path(bytes: &[u8]) -> bool
+    ensures { IsTrue result ↔ IsEncodedSpacedPath bytes.now }
+{
+    if !is_ascii_text(bytes) || !is_spaced(bytes) {
+        return false;
+    }
+    if !is_without(b'?', bytes) || starts_with_slash(bytes) {
+        return false;
+    }
+    !ends_with_space(bytes)
+}
+
+fn ends_with_space(text: &[u8]) -> bool
+    ensures { result ≡ ends_with_space text.now }
+{
+    match text {
+        [.., last] => *last == b' ',
+        [] => false,
+    }
+}
+
+fn is_unspaced_path(bytes: &[u8]) -> bool
+    ensures { IsTrue result ↔ IsUnspacedPath bytes.now }
+{
     if !is_ascii_units(bytes) {
         return false;
     }

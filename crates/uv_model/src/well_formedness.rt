@@ -45,7 +45,7 @@ pub fn well_formed(
     if !is_url_port(scheme, host, port) {
         return false;
     }
-    if !is_url_path(class, host, path) {
+    if !is_url_path(class, host, path, profile) {
         return false;
     }
     if !is_url_query(class, query) {

@@ -1,4 +1,4 @@
--- Each text is taken by the grammar of silent texts, or its run stops: part by part, with a scheme and without one.
+-- Each text is valid by the parser's profile, or its run stops: part by part, with a scheme and without one.
 pub mod CutTexts
 pub mod TailsDecided
 pub mod DecidedOpaque
@@ -8,5 +8,6 @@ pub mod DecidedFile
 pub mod AuthorityTexts
 pub mod DecidedSchemes
 pub mod SchemeAbsent
+pub mod ReferenceTexts
 pub mod DecidedReferences
 pub mod SilentOrStopped

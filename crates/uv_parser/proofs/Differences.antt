@@ -1,3 +1,5 @@
--- Where the two grammars differ: a text on which the parser is silent is valid, or has one of the named differences.
+-- Where the standard profile and the parser's differ: a valid text of the parser's profile is one of the standard
+-- profile, or has one of the named differences.
 pub mod HostDifferences
+pub mod PathDifferences
 pub mod SilentDifferences

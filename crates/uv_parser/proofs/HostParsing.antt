@@ -9,7 +9,6 @@ pub mod Ipv6Taken
 pub mod Ipv4ParserLemmas
 pub mod Ipv4Taken
 pub mod HostParserLemmas
-pub mod HostsParsed
 pub mod OtherHostsTaken
 pub mod OtherHosts
 pub mod SpecialHosts

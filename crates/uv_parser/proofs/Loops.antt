@@ -2,7 +2,6 @@
 pub mod Looping
 pub mod StoppingLoops
 pub mod SchemeStretch
-pub mod HostTextsRead
 pub mod AuthorityLoops
 pub mod AuthorityStarts
 pub mod AuthorityEnds

@@ -2,6 +2,7 @@
 pub mod Computing
 pub mod Shown
 pub mod RowsLemmas
+pub mod HostViolations
 pub mod AddressParsers
 pub mod Definitions
 pub mod Denotation
@@ -11,11 +12,10 @@ pub mod Hosts
 pub mod Machine
 pub mod OpaquePaths
 pub mod Other
+pub mod ParserProfile
 pub mod Profiles
 pub mod ReferenceMatrix
 pub mod References
-pub mod SilentHosts
-pub mod SilentRefusals
 pub mod SilentDifferences
 pub mod Special
 pub mod StepCounts

@@ -2,4 +2,5 @@
 pub mod Steps
 pub mod RunsStopped
 pub mod Unremoved
-pub mod KeptSpaces
+pub mod KeptTexts
+pub mod StoppedHosts

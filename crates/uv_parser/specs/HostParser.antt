@@ -6,15 +6,17 @@ use Rattle.std.specs.List.{list_any}
 use Rattle.std.specs.Str.{is_utf8}
 use Rattle.percent_encoding.specs.Percent.{percent_decode}
 use Rattle.uv_model.specs.declared.profile.Profile.{Profile}
+use Rattle.uv_model.specs.declared.profile.Profile.TheVariants.{Parser}
 use Rattle.uv_model.specs.declared.host.Host.{Host}
 use Rattle.uv_model.specs.declared.host.Host.TheVariants.{Domain, V4, V6, Opaque, Empty}
 use Rattle.uv_model.specs.Ascii.{left_bracket, right_bracket}
 use Rattle.uv_model.specs.Units.{is_unit_at}
 use Rattle.uv_model.specs.Encoding.{encoded}
 use Rattle.uv_model.specs.Hosts.OpaqueHost.{is_forbidden_host, IsOpaqueHost}
-use Rattle.uv_model.specs.Hosts.Address.{IsIpv4, IsBracketedIpv6}
-use Rattle.uv_model.specs.Hosts.Domain.{ends_in_number, parser_form, IsDomain}
-use Rattle.uv_model.specs.Hosts.ParserHost.{IsParserHost, is_forbidden_domain}
+use Rattle.uv_model.specs.Hosts.Address.{IsBracketedIpv6}
+use Rattle.uv_model.specs.Hosts.Numbers.{IsIpv4Text}
+use Rattle.uv_model.specs.Hosts.Domain.{IsDomain, ends_in_number, is_forbidden_domain, parser_form}
+use Rattle.uv_model.specs.Valid.{IsHostText}
 use Rattle.uv_parser.specs.Ipv4Parser.{parse_ipv4}
 use Rattle.uv_parser.specs.Ipv6Parser.{parse_ipv6}
 
@@ -60,14 +62,16 @@ parse_host special (c ∷ rest) =
 
 -- ---- laws
 
--- a valid domain of either profile is parsed, for a special URL, as the domain of its form
+-- a valid domain of any profile is parsed, for a special URL, as the domain of its form
 abbrev pub DomainsAreParsed : Type 0
 DomainsAreParsed =
     (profile : Profile) (text form : List ℕ) → IsDomain profile text form → parse_host true text ≡ Some (Domain form)
 
--- an IPv4 text is parsed, for a special URL, as the address of its value
+-- the text of an IPv4 address by any profile is parsed, for a special URL, as the address of its value
 abbrev pub Ipv4HostsAreParsed : Type 0
-Ipv4HostsAreParsed = (text : List ℕ) (value : ℕ) → IsIpv4 text value → parse_host true text ≡ Some (V4 value)
+Ipv4HostsAreParsed =
+    (profile : Profile) (text : List ℕ) (value : ℕ) → IsIpv4Text profile text value
+    → parse_host true text ≡ Some (V4 value)
 
 -- an IPv6 text in brackets is parsed, for every URL, as the address of its pieces
 abbrev pub Ipv6HostsAreParsed : Type 0
@@ -95,7 +99,7 @@ abbrev pub OtherHostsAreTaken : Type 0
 OtherHostsAreTaken =
     (text : List ℕ) (value : Host) → (parse_host false text ≡ Some value) ↔ IsTakenOtherHost text value
 
--- for a special URL the host parser takes the hosts of the parser's grammar alone
+-- for a special URL the host parser takes the hosts of the parser's profile alone, each with its value
 abbrev pub SpecialHostsAreTaken : Type 0
 SpecialHostsAreTaken =
-    (text : List ℕ) (value : Host) → (parse_host true text ≡ Some value) ↔ IsParserHost text value
+    (text : List ℕ) (value : Host) → (parse_host true text ≡ Some value) ↔ IsHostText Parser text value

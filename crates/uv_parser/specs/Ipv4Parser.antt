@@ -3,7 +3,7 @@
 use Rattle.std.specs.Prelude.{◌≡◌, ◌↔◌, ℕ, zero, suc, ◌==◌, List, [], ◌∷◌, Option, Some, None}
 use Rattle.std.specs.Prelude.{option_map, option_and_then, if◌then◌else◌}
 use Rattle.uv_model.specs.Hosts.Address.{IsIpv4}
-use Rattle.uv_model.specs.Hosts.ParserHost.{IsNumbersText, numbers_value}
+use Rattle.uv_model.specs.Hosts.Numbers.{IsNumbersText, numbers_value}
 use Rattle.uv_model.specs.Ascii.{full_stop}
 use Rattle.uv_parser.specs.Ipv6Parser.{read_digits}
 

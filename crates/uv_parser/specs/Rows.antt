@@ -17,11 +17,10 @@ pub mod Hosts
 pub mod Machine
 pub mod OpaquePaths
 pub mod Other
+pub mod ParserProfile
 pub mod Profiles
 pub mod ReferenceMatrix
 pub mod References
-pub mod SilentHosts
-pub mod SilentRefusals
 pub mod SilentDifferences
 pub mod Special
 pub mod StepCounts

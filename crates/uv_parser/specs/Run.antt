@@ -3,7 +3,7 @@ use Rattle.std.specs.Prelude.{ℕ, zero, suc, ◌+◌, ◌*◌, List, [], ◌∷
 use Rattle.uv_model.specs.Records.Url.{Url}
 use Rattle.uv_parser.specs.Machine.{State, SchemeStartState, Variables, Turn, onward, again, from_place, stop, turn}
 use Rattle.uv_parser.specs.Machine.{empty_variables}
-use Rattle.uv_parser.specs.Removed.{first_removed}
+use Rattle.uv_model.specs.Removed.{first_removed}
 
 -- a state, the pointer's place, and the variables
 pub record Machine : Type 0 where

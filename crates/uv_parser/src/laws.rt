@@ -14,17 +14,18 @@ ghost use Rattle.uv_parser.specs.Rows.Hosts.{HostRows};
 ghost use Rattle.uv_parser.specs.Rows.Machine.{MachineRows};
 ghost use Rattle.uv_parser.specs.Rows.OpaquePaths.{OpaquePathRows};
 ghost use Rattle.uv_parser.specs.Rows.Other.{OtherRows};
+ghost use Rattle.uv_parser.specs.Rows.ParserProfile.{ParserProfileRows};
 ghost use Rattle.uv_parser.specs.Rows.Profiles.{ProfileRows};
 ghost use Rattle.uv_parser.specs.Rows.ReferenceMatrix.{ReferenceMatrixRows};
 ghost use Rattle.uv_parser.specs.Rows.References.{ReferenceRows};
-ghost use Rattle.uv_parser.specs.Rows.SilentRefusals.{SilentRefusalRows};
 ghost use Rattle.uv_parser.specs.Rows.Special.{SpecialRows};
 ghost use Rattle.uv_parser.specs.Laws.DecidedTexts.{TextsAreDecided};
 
-/// The run of the parser machine on a text is done, with the URL that the parts denote, exactly where the parser's
-/// grammar takes the text with parts, and else it stops; within the bound on its steps. ToASCII is the definition of
-/// the crate `idna`, which gives nothing above limits of its own: 1,000 code points of a label beyond ASCII, and 2,000
-/// bytes of a label's Punycode. There the machine stops, where the standard's parser may be silent.
+/// The run of the parser machine on a text, alone or against a base that is well formed by the parser's profile, is
+/// done, with the URL that the parts denote, exactly where the text is valid by the parser's profile with parts, and
+/// else it stops; within the bound on its steps. ToASCII is the definition of the crate `idna`, which gives nothing
+/// above limits of its own: 1,000 code points of a label beyond ASCII, and 2,000 bytes of a label's Punycode. There the
+/// machine stops, where the standard's parser may be silent.
 pub fn texts_are_decided()
     ensures { TextsAreDecided }
 {}
@@ -56,14 +57,14 @@ pub fn address_parser_rows()
     ensures { AddressParserRows }
 {}
 
-/// For a special URL the host parser makes of every valid domain of either profile the domain of exactly its form (URL
+/// For a special URL the host parser makes of every valid domain of any profile the domain of exactly its form (URL
 /// Standard, section 3.5).
 pub fn domains_are_parsed()
     ensures { DomainsAreParsed }
 {}
 
-/// For a special URL the host parser makes of every IPv4 text the address of exactly its value (URL Standard,
-/// section 3.5).
+/// For a special URL the host parser makes of every text of an IPv4 address by any profile the address of exactly its
+/// value (URL Standard, section 3.5).
 pub fn ipv4_hosts_are_parsed()
     ensures { Ipv4HostsAreParsed }
 {}
@@ -85,7 +86,7 @@ pub fn empty_host_is_parsed()
     ensures { EmptyHostIsParsed }
 {}
 
-/// For a special URL the host parser takes the hosts of the parser's grammar alone, each with its value: an IPv6 text
+/// For a special URL the host parser takes the hosts of the parser's profile alone, each with its value: an IPv6 text
 /// in brackets, or a text that percent-decoded has a form at the parser's settings of ToASCII, which is a domain or one
 /// to four numbers (URL Standard, section 3.5).
 pub fn special_hosts_are_taken()
@@ -145,9 +146,11 @@ pub fn reference_matrix_rows()
     ensures { ReferenceMatrixRows }
 {}
 
-/// On these texts the parser machine is done, although the standard profile refuses them.
-pub fn silent_refusal_rows()
-    ensures { SilentRefusalRows }
+/// Texts that the parser's profile takes, most of them refused by the standard profile, and texts that it refuses too:
+/// what the parser machine does on them, and that they are valid, with parts that denote the machine's URL, or have no
+/// valid parts (URL Standard, sections 3.5 and 4.4).
+pub fn parser_profile_rows()
+    ensures { ParserProfileRows }
 {}
 
 /// What the parts of some texts denote, which is what the parser machine is done with, and what some paths become when

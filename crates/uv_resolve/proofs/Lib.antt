@@ -1,3 +1,4 @@
 pub mod RecordLemmas
+pub mod SpacedEndLemmas
 pub mod RunLemmas
 mod WalkLemmas

@@ -1,4 +1,5 @@
 pub mod Base
 pub mod Laws
+pub mod ParserAnswer
 pub mod Resolve
 pub mod Walk

@@ -2,7 +2,7 @@
 use Rattle.std.specs.Prelude.{◌≡◌, ℕ, List, Option, Result, Ok, Err}
 use Rattle.std.specs.Str.{chars}
 use Rattle.uv_model.specs.declared.profile.Profile.{Profile}
-use Rattle.uv_model.specs.declared.profile.Profile.TheVariants.{Wide}
+use Rattle.uv_model.specs.declared.profile.Profile.TheVariants.{Parser}
 use Rattle.uv_model.specs.declared.rule.Refusal.{Refusal}
 use Rattle.uv_model.specs.Records.Denote.{denote}
 use Rattle.uv_model.specs.Parts.{Parts}
@@ -26,7 +26,7 @@ Denotes profile base text url = (parts : Parts) × Valid profile base text parts
 abbrev pub DenotesText : Profile → Option Url → List ℕ → List ℕ → Type 0
 DenotesText profile base bytes text = (url : Url) × Denotes profile base (chars bytes) url × (text ≡ serial url)
 
--- the parts are those of some valid text, of either profile
+-- the parts are those of some valid text, of any profile
 abbrev pub HaveValidText : Option Url → Parts → Type 0
 HaveValidText base parts = (profile : Profile) × (text : List ℕ) × Valid profile base text parts
 
@@ -44,12 +44,12 @@ RefusesWithoutMemory profile base text result =
     → (refusal : Refusal) × (result ≡ Err (Refused refusal))
 
 -- The parser runs on the text to its end with no validation error and no failure, within the bound on its steps and
--- within the least such bound, and its record is the one that the parts denote. That is well formed by the wide
+-- within the least such bound, and its record is the one that the parts denote. That is well formed by the parser's
 -- profile, and by the text's own profile where the base is.
 pub record RunsToRecordOf (profile : Profile) (base : Option Url) (text : List ℕ) (parts : Parts) : Type 0 where
   pub runs : RunsSilently base text parts
   pub soon : run base text (least_step_bound text) ≡ Done (denote base parts)
-  pub well_formed : WellFormed Wide (denote base parts)
+  pub well_formed : WellFormed Parser (denote base parts)
   pub by_profile : MayBeWellFormed profile base → WellFormed profile (denote base parts)
 
 -- so it does where the text is valid

@@ -2,6 +2,7 @@
 //! a function that does nothing.
 ghost use Rattle.std.specs.Prelude.{option_copied};
 ghost use Rattle.std.specs.Str.{chars};
+ghost use Rattle.uv_parser.specs.Laws.DecidedTexts.{IsDecided};
 ghost use Rattle.uv_resolve.specs.Laws.{ReferencesRunSilently, SchemeTextsRunSilently};
 ghost use Rattle.uv_resolve.specs.Resolve.{RunsToItsRecord};
 
@@ -12,6 +13,20 @@ use uv_model::{Profile, Record};
 /// the URL that the text's parts denote, which is well formed (URL Standard, section 4.4).
 pub fn valid_text_runs_to_its_record(text: &str, base: Option<&Record>, profile: Profile)
     ensures { RunsToItsRecord profile (option_copied base.entry) (chars text.now) }
+{
+    match base {
+        Some(base) => {
+            let _ = base.path();
+        }
+        None => {}
+    }
+}
+
+/// Alone, or against a record as base, a text is valid by the parser's profile exactly where the URL parser runs to its
+/// end with no validation error and no failure, within 3n + 16 steps where the text has n code points, and its record is
+/// the one that the text's parts denote. On each other text the run stops at an error (URL Standard, section 4.4).
+pub fn parser_decides(text: &str, base: Option<&Record>)
+    ensures { IsDecided (option_copied base.entry) (chars text.now) }
 {
     match base {
         Some(base) => {

@@ -1,5 +1,5 @@
 //! The path of the record that the parts of a valid text denote, after the URL Standard, section 4.4.
-ghost use Rattle.std.specs.Prelude.{◌≡◌, ◌∷◌, [], ℕ, List, IfOk, IsTrue, true, false, chars, map, option_copied};
+ghost use Rattle.std.specs.Prelude.{◌≡◌, ◌∷◌, [], ℕ, List, IfOk, IsTrue, true, false, chars, map, option_copied, string_bytes};
 ghost use Rattle.uv_model.specs.Records.Denote as spec;
 ghost use Rattle.uv_model.specs.Encoding.{encoded};
 ghost use Rattle.uv_model.specs.Path as path_spec;
@@ -27,7 +27,7 @@ pub(crate) fn path_of(
     match parts.form() {
         Form::SchemeAuthority | Form::Authority => authority_path(alloc, class, parts),
         Form::SchemePath => walked(alloc, class, Vec::new(alloc), parts),
-        Form::SchemeOpaque => opaque_path(alloc, parts.path_text()),
+        Form::SchemeOpaque => opaque_path(alloc, parts.path_text(), has_tail(parts)),
         Form::PathAbsolute => walked(alloc, class, kept_drive(alloc, class, parts, base)?, parts),
         Form::PathRelative => walked(alloc, class, shortened(alloc, class, base)?, parts),
         Form::NoPath => base_path(alloc, base),
@@ -71,10 +71,47 @@ fn walked(
     Ok(UrlPath::Segments(TextList::of(path)))
 }
 
-fn opaque_path(alloc: Global, text: &str) -> Result<UrlPath, AllocError>
-    ensures { IfOk result (λ path. path ≡ UrlPath.Opaque (encoded false (chars text.now))) }
+// A query or a fragment follows the path.
+fn has_tail(parts: &Parts<'_>) -> bool
+    ensures { result ≡ spec.has_tail parts.now }
 {
-    Ok(UrlPath::Opaque(Text::of(encode(alloc, text, false)?)))
+    parts.query().is_some() || parts.fragment().is_some()
+}
+
+// An opaque path. By the parser's profile it may end with a space, which is `%20` where a query or a fragment follows.
+fn opaque_path(alloc: Global, text: &str, followed: bool) -> Result<UrlPath, AllocError>
+    ensures { IfOk result (λ path.
+        path ≡ UrlPath.Opaque (encoded false (spec.end_escaped followed (chars text.now)))) }
+{
+    let path = encoded_path(alloc, text, followed)?;
+    Ok(UrlPath::Opaque(Text::of(path)))
+}
+
+// The encoding of an opaque path.
+fn encoded_path(alloc: Global, text: &str, followed: bool) -> Result<String, AllocError>
+    ensures { IfOk result (λ path.
+        string_bytes path ≡ encoded false (spec.end_escaped followed (chars text.now))) }
+{
+    if followed {
+        followed_path(alloc, text)
+    } else {
+        encode(alloc, text, false)
+    }
+}
+
+// The encoding of an opaque path that a query or a fragment follows.
+fn followed_path(alloc: Global, text: &str) -> Result<String, AllocError>
+    ensures { IfOk result (λ path.
+        string_bytes path ≡ encoded false (spec.end_escaped true (chars text.now))) }
+{
+    match text.strip_suffix(' ') {
+        Some(kept) => {
+            let mut path = encode(alloc, kept, false)?;
+            path.push_str("%20")?;
+            Ok(path)
+        }
+        None => encode(alloc, text, false),
+    }
 }
 
 // The drive letter that a path-absolute reference to a file base keeps.

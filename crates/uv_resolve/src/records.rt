@@ -22,7 +22,7 @@ pub(crate) fn denoted(
     base: Option<&Record>,
 ) -> Result<Record, AllocError>
     requires valid { HaveValidText (option_copied base) parts }
-    requires well_formed { WellFormed Profile.Wide (spec.denote (option_copied base) parts) }
+    requires well_formed { WellFormed Profile.Parser (spec.denote (option_copied base) parts) }
     ensures { IfOk result (λ url. url ≡ spec.denote (option_copied base.entry) parts.entry) }
 {
     let class = class_in(&parts, base);

@@ -1,10 +1,11 @@
 //! The record of a text, alone or against a base.
 ghost use Rattle.std.specs.Prelude.{option_copied};
 ghost use Rattle.std.specs.Str.{chars};
+ghost use Rattle.uv_resolve.specs.ParserAnswer.{AnswersAsParser};
 ghost use Rattle.uv_resolve.specs.Resolve.{IsResolved, RefusesWithoutMemory, RunsToItsRecord};
 
 use crate::fault::ResolveFault;
-use crate::laws::valid_text_runs_to_its_record;
+use crate::laws::{parser_decides, valid_text_runs_to_its_record};
 use crate::records::denoted;
 use std::alloc::Global;
 use uv_grammar::{Verdict, check};
@@ -12,7 +13,8 @@ use uv_model::{Profile, Record};
 
 /// The record that a text denotes by the profile, alone or against a base (URL Standard, sections 4.3 and 4.4).
 ///
-/// A text that isn't a valid URL string of the profile is refused before any allocation for the record.
+/// A text that isn't a valid URL string of the profile is refused before any allocation for the record. By the parser's
+/// profile the answer is a record exactly where the URL parser's run ends in that record without an error.
 pub fn resolve(
     alloc: Global,
     text: &str,
@@ -22,8 +24,10 @@ pub fn resolve(
     ensures resolved { IsResolved profile (option_copied base.entry) (chars text.now) result }
     ensures memory { RefusesWithoutMemory profile (option_copied base.entry) (chars text.now) result }
     ensures runs { RunsToItsRecord profile (option_copied base.entry) (chars text.now) }
+    ensures parser { AnswersAsParser profile (option_copied base.entry) (chars text.now) result }
 {
     valid_text_runs_to_its_record(text, base, profile);
+    parser_decides(text, base);
     match check(alloc, text, base, profile)? {
         Verdict::Yes(parts) => Ok(denoted(alloc, parts, base)?),
         Verdict::No(refusal) => Err(ResolveFault::Refused(refusal)),

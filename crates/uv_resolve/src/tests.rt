@@ -1,7 +1,7 @@
 //! The records of texts written out, alone or against a base. Each expected text, field and refusal is worked out by
 //! hand from the URL Standard's sections 3.4 to 4.5 and docs/DECISIONS.md, never from a run of this code.
 
-use crate::{ResolveFault, resolve};
+use crate::{ResolveFault, resolve, resolve_base};
 use std::alloc::{AllocError, Global};
 use std::process::Abort;
 use std::test::Fail;
@@ -10,6 +10,7 @@ use uv_model::{Host, Profile, Record, Refusal, Rule, Text, UrlPath};
 mod absolute;
 mod fields;
 mod memory;
+mod parser;
 mod references;
 
 // What a text is answered by: the text of its record, or its refusal.

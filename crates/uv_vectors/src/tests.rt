@@ -113,9 +113,13 @@ fn judges_by_the_named_profile(rt: HostRuntime) -> Result<(), Fail> {
             {"input":"#f","base":"http://x_y/","profile":"wide","text":"http://x_y/#f"},
             {"input":"http://x_y/","profile":"standard","place":7,"rule":"host-domain"},
             {"input":"#f","base":"http://x_y/","profile":"standard","text":"http://x_y/#f"},
-            {"input":"http://x_y/","profile":"wide","place":7,"rule":"host-domain"}]"##,
+            {"input":"http://x_y/","profile":"wide","place":7,"rule":"host-domain"},
+            {"input":"http://1.2/","profile":"parser","text":"http://1.0.0.2/"},
+            {"input":"http://1.2/","profile":"wide","place":7,"rule":"host-number"},
+            {"input":"#f","base":"urn:a b","profile":"parser","text":"urn:a b#f"},
+            {"input":"#f","base":"urn:a b","profile":"wide","text":"urn:a b#f"}]"##,
             VectorEnd::SomeFail,
-            "fail 4\nfail 5\nvectors 5 pass 3 fail 2\n",
+            "fail 4\nfail 5\nfail 9\nvectors 9 pass 6 fail 3\n",
         )],
     )
 }
@@ -179,6 +183,10 @@ fn refuses_malformed_cases(rt: HostRuntime) -> Result<(), Fail> {
             (r##"[{"input":"x","text":"x","base":1}]"##, malformed),
             (
                 r##"[{"input":"x","text":"x","profile":"Wide"}]"##,
+                malformed,
+            ),
+            (
+                r##"[{"input":"x","text":"x","profile":"silent"}]"##,
                 malformed,
             ),
             (r##"[{"input":"x","text":"x","profile":null}]"##, malformed),

@@ -256,7 +256,7 @@ fn profile<'a>(alloc: Global) -> Arg<'a>
     ensures rule { rule_of result ≡ option_rule (codes "profile") }
     ensures local { result.global ≡ false }
 {
-    let help = "standard or wide; without it standard";
+    let help = "standard, wide or parser; without it standard";
     option(alloc, "profile", "PROFILE", help)
 }
 

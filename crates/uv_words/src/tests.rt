@@ -287,6 +287,15 @@ fn reads_profiles(rt: HostRuntime) -> Result<(), Fail> {
         &["urlcheck", "links", "--profile=standard"],
         plain("links", &[]),
     );
+    let parsers = Want {
+        profile: Profile::Parser,
+        ..plain("check", &["a"])
+    };
+    asks(
+        &rt,
+        &["urlcheck", "check", "--profile", "parser", "a"],
+        parsers,
+    );
     asks(
         &rt,
         &["urlcheck", "check", "--profile", "Wide", "a"],
@@ -316,9 +325,13 @@ fn kind_of(asked: &Result<Option<Job>, WordsFault>) -> Option<ErrorKind> {
 // Arguments that ask for no job, and why.
 #[test]
 fn refuses_words(rt: HostRuntime) {
-    let rows: [(&[&str], ErrorKind); 16] = [
+    let rows: [(&[&str], ErrorKind); 17] = [
         (&["urlcheck"], ErrorKind::MissingSubcommand),
         (&["urlcheck", "-x"], ErrorKind::UnknownArgument),
+        (
+            &["urlcheck", "check", "--parser", "a"],
+            ErrorKind::UnknownArgument,
+        ),
         (&["urlcheck", "chek", "a"], ErrorKind::InvalidSubcommand),
         (&["urlcheck", "check"], ErrorKind::MissingRequiredArgument),
         (&["urlcheck", "check", "-a"], ErrorKind::UnknownArgument),

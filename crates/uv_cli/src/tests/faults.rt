@@ -39,8 +39,8 @@ fn answers(
 }
 
 #[test]
-fn writes_every_fault_in_both_profiles(rt: HostRuntime) -> Result<(), Fail> {
-    for profile in [Profile::Standard, Profile::Wide] {
+fn writes_every_fault_in_each_profile(rt: HostRuntime) -> Result<(), Fail> {
+    for profile in Profile::in_order() {
         answers(
             &rt,
             profile,
@@ -124,6 +124,49 @@ fn writes_the_faults_of_each_profile(rt: HostRuntime) -> Result<(), Fail> {
                 None,
                 CheckEnd::Valid,
                 "valid\nscheme http\nhost domain h\nsegment \nsegment a\n",
+            ),
+            (
+                "http://a%2Db//c d",
+                None,
+                CheckEnd::Refused,
+                "refused 7 host-domain\nrefused 15 code-point\n",
+            ),
+            ("urn:a b", None, CheckEnd::Refused, "refused 5 code-point\n"),
+        ],
+    )?;
+    answers(
+        &rt,
+        Profile::Parser,
+        &[
+            (
+                "http://a%2Db//c d",
+                None,
+                CheckEnd::Refused,
+                "refused 15 code-point\n",
+            ),
+            (
+                "http://a%2Fb:8x/",
+                None,
+                CheckEnd::Refused,
+                "refused 7 host-domain\nrefused 14 port-digit\n",
+            ),
+            (
+                "urn:a b ",
+                None,
+                CheckEnd::Refused,
+                "refused 7 code-point\n",
+            ),
+            (
+                "urn:a b",
+                None,
+                CheckEnd::Valid,
+                "valid\nscheme urn\nopaque a b\n",
+            ),
+            (
+                "http://1.2/",
+                None,
+                CheckEnd::Valid,
+                "valid\nscheme http\nhost ipv4 1.0.0.2\nsegment \n",
             ),
         ],
     )

@@ -50,16 +50,22 @@ fn names_the_nearest(rt: HostRuntime) -> Result<(), Fail> {
     for (name, want) in [
         (
             "wid",
-            "urlcheck: no profile is named 'wid'; the nearest is wide\nurlcheck: the profiles: standard wide\n",
+            "urlcheck: no profile is named 'wid'; the nearest is wide\n\
+            urlcheck: the profiles: standard wide parser\n",
         ),
         (
             "STANDRAD",
             "urlcheck: no profile is named 'STANDRAD'; the nearest is standard\n\
-            urlcheck: the profiles: standard wide\n",
+            urlcheck: the profiles: standard wide parser\n",
+        ),
+        (
+            "Parse",
+            "urlcheck: no profile is named 'Parse'; the nearest is parser\n\
+            urlcheck: the profiles: standard wide parser\n",
         ),
         (
             "\u{1b}x",
-            "urlcheck: no profile is named '\u{FFFD}x'\nurlcheck: the profiles: standard wide\n",
+            "urlcheck: no profile is named '\u{FFFD}x'\nurlcheck: the profiles: standard wide parser\n",
         ),
     ] {
         let job = Job::UnknownProfile {

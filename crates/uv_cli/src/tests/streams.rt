@@ -1,4 +1,4 @@
-//! Checks over sinks that play a list of answers: each write fails in turn, behind short ones, in both profiles, of the
+//! Checks over sinks that play a list of answers: each write fails in turn, behind short ones, in each profile, of the
 //! first violation and of all of them.
 
 use super::*;
@@ -18,7 +18,7 @@ const LONG_OUTPUT: &str =
     "valid\nscheme https\nhost domain example.com\nsegment b\nquery x=%27y%27\nfragment %C3%A9\n";
 
 // What a check writes with the first violation alone.
-const LEAST: [Row<'static>; 6] = [
+const LEAST: [Row<'static>; 7] = [
     Row {
         text: "https://EXAMPLE.com:443/a/../b?x='y'#\u{E9}",
         base: None,
@@ -55,10 +55,16 @@ const LEAST: [Row<'static>; 6] = [
         profile: Profile::Wide,
         output: "valid\nscheme http\nhost domain x_y\nsegment \nsegment a\n",
     },
+    Row {
+        text: "http://%31//a",
+        base: None,
+        profile: Profile::Parser,
+        output: "valid\nscheme http\nhost ipv4 0.0.0.1\nsegment \nsegment a\n",
+    },
 ];
 
 // What a check writes with all violations.
-const ALL: [Row<'static>; 6] = [
+const ALL: [Row<'static>; 8] = [
     Row {
         text: "https://EXAMPLE.com:443/a/../b?x='y'#\u{E9}",
         base: None,
@@ -93,6 +99,18 @@ const ALL: [Row<'static>; 6] = [
         text: "a b?%4",
         base: Some("http://x_y//"),
         profile: Profile::Wide,
+        output: "refused 1 code-point\nrefused 4 percent\n",
+    },
+    Row {
+        text: "http://%31//a b",
+        base: None,
+        profile: Profile::Parser,
+        output: "refused 13 code-point\n",
+    },
+    Row {
+        text: "a b?%4",
+        base: Some("file://%68/C:/x"),
+        profile: Profile::Parser,
         output: "refused 1 code-point\nrefused 4 percent\n",
     },
 ];

@@ -215,6 +215,68 @@ fn gives_wide_forms(rt: HostRuntime) -> Result<(), AllocError> {
     )
 }
 
+// By hand from the host parser (URL Standard, section 3.5, and ToASCII of section 3.3 with beStrict false).
+#[test]
+fn gives_parser_forms(rt: HostRuntime) -> Result<(), AllocError> {
+    are_forms(
+        &rt,
+        Profile::Parser,
+        &[
+            ("EXAMPLE.com", "example.com"),
+            ("b\u{FC}cher.example", "xn--bcher-kva.example"),
+            // percent-decoded first: %2D is `-`, %C3%BC the UTF-8 of U+00FC
+            ("a%2Db", "a-b"),
+            ("B%C3%BCcher.example", "xn--bcher-kva.example"),
+            ("%41", "a"),
+            // ASCII that isn't forbidden, and lengths that aren't verified
+            ("a..b", "a..b"),
+            ("a_b", "a_b"),
+            ("a+b", "a+b"),
+            ("A!$&'()*+,;=~\"`{}b", "a!$&'()*+,;=~\"`{}b"),
+            ("-a", "-a"),
+            (".", "."),
+            ("a..", "a.."),
+            (A64, A64),
+            (LONGER, LONGER),
+        ],
+    )
+}
+
+#[test]
+fn refuses_by_the_host_parser(rt: HostRuntime) -> Result<(), AllocError> {
+    are_forms(
+        &rt,
+        Profile::Parser,
+        &[
+            // numbers, read after the percent-decoding
+            ("1.2.3", "(number)"),
+            ("%31.2.3", "(number)"),
+            ("256", "(number)"),
+            ("1.2.3.4.", "(number)"),
+            ("01", "(number)"),
+            ("0x1", "(number)"),
+            ("a.1", "(number)"),
+            // no code point, or none that ToASCII leaves (UTS #46, section 5: U+00AD is ignored)
+            ("", "(not)"),
+            ("\u{AD}", "(not)"),
+            ("%C2%AD", "(not)"),
+            // forbidden domain code points, also decoded ones
+            ("a%2Fb", "(not)"),
+            ("a b", "(not)"),
+            ("a%b", "(not)"),
+            ("a%25b", "(not)"),
+            ("a%00b", "(not)"),
+            ("a%7Fb", "(not)"),
+            ("[::1]", "(not)"),
+            // no UTF-8
+            ("%ff", "(not)"),
+            // UTS #46 test file: Punycode of a control, and of a text that isn't composed
+            ("xn--a", "(not)"),
+            ("xn--u-ccb", "(not)"),
+        ],
+    )
+}
+
 #[test]
 fn counts_code_points(rt: HostRuntime) -> Result<(), AllocError> {
     assert_eq!(rt; (A63.len(), A64.len()), (63, 64));

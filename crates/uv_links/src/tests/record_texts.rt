@@ -179,3 +179,26 @@ fn gives_the_texts_of_the_wide_profile(rt: HostRuntime) -> Result<(), Fail> {
     }
     Ok(())
 }
+
+#[test]
+fn gives_the_texts_of_the_parsers_profile(rt: HostRuntime) -> Result<(), Fail> {
+    for (text, base, want) in [
+        ("http://a%2Db/", None, "http://a-b/"),
+        ("http://A+b..c/", None, "http://a+b..c/"),
+        ("http://b%C3%BCcher/", None, "http://xn--bcher-kva/"),
+        ("http://%31.2.3:80//x", None, "http://1.2.0.3//x"),
+        ("file://", None, "file:///"),
+        ("file://?q", None, "file:///?q"),
+        ("file://h/C:/x", None, "file://h/C:/x"),
+        ("//", Some("file://h/C:/x"), "file:///"),
+        ("/D:/y", Some("file://h/C:/x"), "file://h/D:/y"),
+        ("/y", Some("file://h/C:/x"), "file://h/C:/y"),
+        ("urn:a b", None, "urn:a b"),
+        ("urn:a ?q", None, "urn:a%20?q"),
+        ("urn:a  #f", None, "urn:a %20#f"),
+        ("#f", Some("urn:a b"), "urn:a b#f"),
+    ] {
+        gives(&rt, text, base, Profile::Parser, want)?;
+    }
+    Ok(())
+}

@@ -1,5 +1,5 @@
 //! Runs over readers and writers that play a list of answers: I/O errors written out, and each read and each write made
-//! to fail in turn, behind short ones, in both profiles.
+//! to fail in turn, behind short ones, in each profile.
 ghost use Rattle.std.specs.Prelude.{◌-◌, ◌^◌, ◌<◌};
 
 use super::*;
@@ -15,7 +15,7 @@ struct Row<'r> {
     report: &'r str,
 }
 
-const ROWS: [Row<'static>; 6] = [
+const ROWS: [Row<'static>; 8] = [
     Row {
         list: b"a\n\nhttp://x_y/\n",
         base: Some("http://h/"),
@@ -57,6 +57,20 @@ const ROWS: [Row<'static>; 6] = [
         line_bytes: 3,
         profile: Profile::Wide,
         report: "1 bad 0 line-too-long\n2 ok http://h/abc\nlinks 2 ok 1 bad 1 differs 0\n",
+    },
+    Row {
+        list: b"a\n\nhttp://%68/\nurn:a b\n",
+        base: Some("http://h/"),
+        line_bytes: 65_536,
+        profile: Profile::Parser,
+        report: "1 ok http://h/a\n2 ok http://h/\n3 ok http://h/\n4 ok urn:a b\nlinks 4 ok 4 bad 0 differs 0\n",
+    },
+    Row {
+        list: b"http://256/\nhttp://1.2/",
+        base: None,
+        line_bytes: 65_536,
+        profile: Profile::Parser,
+        report: "1 bad 7 host-number\n2 ok http://1.0.0.2/\nlinks 2 ok 1 bad 1 differs 0\n",
     },
 ];
 

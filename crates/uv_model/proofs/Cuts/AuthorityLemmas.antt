@@ -18,8 +18,9 @@ use Rattle.uv_model.specs.Setting.{Setting}
 use Rattle.uv_model.specs.Valid.{FitsAuthority, IsFileHostText, IsHostText, IsOpaqueHostText, MayBePortText}
 use Rattle.uv_model.specs.Valid.{is_default_port, port_given}
 use Rattle.uv_model.specs.Records.WellFormed.{AreUrlSegments, IsOtherHost, IsUrlHost, IsUrlPath, IsUrlPort, takes_port}
-use Rattle.uv_model.proofs.Addresses.AddressSizes.{bracketed_small, ipv4_small}
-use Rattle.uv_model.proofs.Paths.SlashedPaths.{slashed_behind, slashed_or_none}
+use Rattle.uv_model.proofs.Addresses.AddressSizes.{bracketed_small}
+use Rattle.uv_model.proofs.Hosts.NumberLemmas.{ipv4_text_small}
+use Rattle.uv_model.proofs.Paths.SlashedPaths.{alone_or_none, slashed_or_none}
 use Rattle.uv_model.proofs.Paths.WalkLemmas.{AreUrlSegments-walk, HasSegment, HasSegment-walk}
 use Rattle.uv_model.proofs.Records.WellFormedLemmas.{IsUrlDomain-form, IsUrlOpaqueHost-encoded, IsUrlSegment-nil}
 
@@ -39,39 +40,43 @@ IsUrlPort-given scheme host (Some (digit ∷ rest)) is takes =
 -- ---- paths
 
 -- a path with a segment
-pub IsUrlPath-some : (class : Class) (host : Option Host) (list : List (List ℕ)) → HasSegment list → AreUrlSegments list
-    → IsUrlPath class host (Segments list)
-IsUrlPath-some class host [] has are = absurd cc
-IsUrlPath-some class host (segment ∷ rest) has are = are
+pub IsUrlPath-some : (profile : Profile) (class : Class) (host : Option Host) (list : List (List ℕ)) → HasSegment list
+    → AreUrlSegments list → IsUrlPath profile class host (Segments list)
+IsUrlPath-some profile class host [] has are = absurd cc
+IsUrlPath-some profile class host (segment ∷ rest) has are = are
 
 -- the path that a walk over a segment or more leaves
-pub IsUrlPath-walk : (class : Class) (host : Option Host) (start : List (List ℕ)) (segment : List ℕ)
-    → (rest : List (List ℕ))
+pub IsUrlPath-walk : (profile : Profile) (class : Class) (host : Option Host) (start : List (List ℕ))
+    (segment : List ℕ) → (rest : List (List ℕ))
     → AreUrlSegments start → AreSegments (segment ∷ rest)
-    → IsUrlPath class host (Segments (walk class start (segment ∷ rest)))
-IsUrlPath-walk class host start segment rest are each =
-    IsUrlPath-some class host (walk class start (segment ∷ rest)) (HasSegment-walk class start segment rest)
+    → IsUrlPath profile class host (Segments (walk class start (segment ∷ rest)))
+IsUrlPath-walk profile class host start segment rest are each =
+    IsUrlPath-some profile class host (walk class start (segment ∷ rest)) (HasSegment-walk class start segment rest)
     (AreUrlSegments-walk class start (segment ∷ rest) are each)
 
 -- the path that a walk over joined segments leaves
-pub IsUrlPath-joined : (class : Class) (host : Option Host) (start segments : List (List ℕ)) (text : List ℕ)
-    → AreUrlSegments start → JoinsTo segments text → IsUrlPath class host (Segments (walk class start segments))
-IsUrlPath-joined class host start [] text are joins = absurd (nothing joins.first joins.others joins.some)
+pub IsUrlPath-joined : (profile : Profile) (class : Class) (host : Option Host) (start segments : List (List ℕ))
+    (text : List ℕ) → AreUrlSegments start → JoinsTo segments text
+    → IsUrlPath profile class host (Segments (walk class start segments))
+IsUrlPath-joined profile class host start [] text are joins = absurd (nothing joins.first joins.others joins.some)
   where
     nothing : (first : List ℕ) (others : List (List ℕ)) → [] ≡ first ∷ others → ⊥
     nothing first others e = cc
-IsUrlPath-joined class host start (segment ∷ rest) text are joins =
-    IsUrlPath-walk class host start segment rest are joins.each
+IsUrlPath-joined profile class host start (segment ∷ rest) text are joins =
+    IsUrlPath-walk profile class host start segment rest are joins.each
 
 -- the path behind a host
-pub IsUrlPath-authority : (class : Class) (host : Host) (segments : List (List ℕ)) → AreSegments segments
-    → IsUrlPath class (Some host) (Segments (authority_path class segments))
-IsUrlPath-authority Special host [] each = (IsUrlSegment-nil, tt)
-IsUrlPath-authority File host [] each = (IsUrlSegment-nil, tt)
-IsUrlPath-authority Other host [] each = refl
-IsUrlPath-authority Special host (segment ∷ rest) each = IsUrlPath-walk Special (Some host) [] segment rest tt each
-IsUrlPath-authority File host (segment ∷ rest) each = IsUrlPath-walk File (Some host) [] segment rest tt each
-IsUrlPath-authority Other host (segment ∷ rest) each = IsUrlPath-walk Other (Some host) [] segment rest tt each
+pub IsUrlPath-authority : (profile : Profile) (class : Class) (host : Host) (segments : List (List ℕ))
+    → AreSegments segments → IsUrlPath profile class (Some host) (Segments (authority_path class segments))
+IsUrlPath-authority profile Special host [] each = (IsUrlSegment-nil, tt)
+IsUrlPath-authority profile File host [] each = (IsUrlSegment-nil, tt)
+IsUrlPath-authority profile Other host [] each = refl
+IsUrlPath-authority profile Special host (segment ∷ rest) each =
+    IsUrlPath-walk profile Special (Some host) [] segment rest tt each
+IsUrlPath-authority profile File host (segment ∷ rest) each =
+    IsUrlPath-walk profile File (Some host) [] segment rest tt each
+IsUrlPath-authority profile Other host (segment ∷ rest) each =
+    IsUrlPath-walk profile Other (Some host) [] segment rest tt each
 
 -- the segments of a path behind an authority, where there is one
 pub AreSegments-maybe : (segments : List (List ℕ)) (text : List ℕ) → MayBePathSlashed segments text
@@ -85,7 +90,7 @@ AreSegments-maybe segments text (inr path) = path.joins.each
 IsUrlHost-special : (profile : Profile) (text : List ℕ) (value : Host) → IsHostText profile text value
     → IsUrlHost profile Special (Some value)
 IsUrlHost-special profile text (Domain form) is = IsUrlDomain-form profile text form is
-IsUrlHost-special profile text (V4 value) is = ipv4_small text value is
+IsUrlHost-special profile text (V4 value) is = ipv4_text_small profile text value is
 IsUrlHost-special profile text (V6 pieces) is = bracketed_small text pieces is
 IsUrlHost-special profile text (Opaque host) is = is
 IsUrlHost-special profile text Empty is = is
@@ -103,7 +108,7 @@ takes_port-special profile text Empty is = absurd is
 IsUrlHost-file : (profile : Profile) (text : List ℕ) (value : Host) → IsFileHostText profile text value
     → IsUrlHost profile File (Some value)
 IsUrlHost-file profile text (Domain form) is = (IsUrlDomain-form profile text form is.0, is.1)
-IsUrlHost-file profile text (V4 value) is = ipv4_small text value is
+IsUrlHost-file profile text (V4 value) is = ipv4_text_small profile text value is
 IsUrlHost-file profile text (V6 pieces) is = bracketed_small text pieces is
 IsUrlHost-file profile text (Opaque host) is = is
 IsUrlHost-file profile text Empty is = tt
@@ -151,20 +156,22 @@ IsAuthority-file : (setting : Setting) (scheme text : List ℕ) (parts : Parts)
 IsAuthority-file setting scheme text parts (port_text, port, fits) =
     elim fits [
       | inl named ↦ record {
-        value = named.0;
-        valued = authority_host-valued parts named.0 named.2;
-        host = IsUrlHost-file setting.profile text named.0 named.1;
+        value = named.value;
+        valued = authority_host-valued parts named.value named.valued;
+        host = IsUrlHost-file setting.profile text named.value named.host;
         port = rw port tt;
         each =
             AreSegments-maybe parts.segments parts.path_text
-            (slashed_or_none setting.profile parts.segments parts.path_text named.3);
+            (slashed_or_none setting.profile parts.segments parts.path_text named.path);
       }
       | inr empty ↦ record {
         value = Empty;
         valued = authority_host-valued parts Empty empty.1;
         host = tt;
         port = rw port tt;
-        each = (slashed_behind setting.profile parts.segments parts.path_text empty.2).joins.each;
+        each =
+            AreSegments-maybe parts.segments parts.path_text
+            (alone_or_none setting.profile parts.segments parts.path_text empty.2);
       }
     ]
 

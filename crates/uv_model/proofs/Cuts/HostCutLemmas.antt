@@ -12,7 +12,7 @@ use Rattle.uv_model.specs.Ascii.{slash, colon, full_stop, question_mark, number_
 use Rattle.uv_model.specs.Ascii.{right_bracket}
 use Rattle.uv_model.specs.Hosts.Address.{IsFourNumbers, IsIpv4, IsGroupList, IsSide, IsIpv6, IsBracketedIpv6}
 use Rattle.uv_model.specs.declared.profile.Profile.{Profile}
-use Rattle.uv_model.specs.declared.profile.Profile.TheVariants.{Standard, Wide}
+use Rattle.uv_model.specs.declared.profile.Profile.TheVariants.{Standard, Wide, Parser}
 use Rattle.uv_model.specs.Hosts.Domain.{IsForm, has_permitted, is_permitted}
 use Rattle.uv_model.specs.Hosts.OpaqueHost.{IsOpaqueHost, is_forbidden_host}
 use Rattle.uv_model.specs.Path.{is_without}
@@ -20,7 +20,9 @@ use Rattle.uv_model.specs.Units.{IsUnits, is_url_code_point, is_unit_at, is_faul
 use Rattle.uv_model.specs.Cut.{EndsAtPort, is_within, is_within_at_end, ends_within}
 use Rattle.uv_model.proofs.Texts.UnitsLemmas.{is_faultless-units}
 use Rattle.uv_model.proofs.Texts.MarkLemmas.{is_without-cons, is_without-more, has_mark}
+use Rattle.uv_model.specs.WrittenProfiles.{IsWritten}
 use Rattle.uv_model.proofs.Cuts.AuthorityCutLemmas.{nil_holds_none}
+use Rattle.uv_model.proofs.Hosts.DomainLemmas.{as_written}
 
 -- ---- texts whose code points pass a test
 
@@ -113,16 +115,20 @@ word_passes test s q n c b text each =
     }
 
 -- a text of a domain's code points
-word_of_permitted : (profile : Profile) (text : List ℕ) → list_all (is_permitted profile) text ≡ true
+word_of_permitted : (profile : Profile) (text : List ℕ) → IsWritten profile → list_all (is_permitted profile) text ≡ true
     → IsHostWord text
-word_of_permitted Standard text permitted =
+word_of_permitted Standard text written permitted =
     word_passes (is_permitted Standard) refl refl refl refl refl text permitted
-word_of_permitted Wide text permitted = word_passes (is_permitted Wide) refl refl refl refl refl text permitted
+word_of_permitted Wide text written permitted =
+    word_passes (is_permitted Wide) refl refl refl refl refl text permitted
+word_of_permitted Parser text written permitted = absurd written
 
 -- a text with a form
-pub word_of_form : (profile : Profile) (text form : List ℕ) → IsForm profile text form → IsHostWord text
+pub word_of_form : (profile : Profile) (text form : List ℕ) → IsWritten profile → IsForm profile text form
+    → IsHostWord text
 unfolding has_permitted
-word_of_form profile text form is = word_of_permitted profile text is.permitted
+word_of_form profile text form written is =
+    word_of_permitted profile text written (as_written profile text form written is).permitted
 
 -- an opaque host without brackets
 pub word_of_opaque : (text : List ℕ) → IsOpaqueHost text → IsHostWord text

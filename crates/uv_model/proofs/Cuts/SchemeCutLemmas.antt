@@ -9,7 +9,7 @@ use Rattle.uv_model.specs.Ascii.{colon}
 use Rattle.uv_model.specs.Parts.{written_scheme}
 use Rattle.uv_model.specs.Path.{is_without}
 use Rattle.uv_model.specs.Scheme.{is_scheme, is_scheme_code_point}
-use Rattle.uv_model.specs.Valid.{starts_with_scheme, goes_on_to_colon}
+use Rattle.uv_model.specs.Scheme.{starts_with_scheme, goes_on_to_colon}
 use Rattle.uv_model.specs.Cut.{IsSchemeCut, scheme_cut, behind_scheme, text_before}
 use Rattle.uv_model.proofs.Texts.MarkLemmas.{is_without-more, text_before-mark, after_first-mark}
 

@@ -5,6 +5,7 @@ use Rattle.std.specs.Prelude.{IsSome}
 use Rattle.std.specs.Char.{is_ascii_alphabetic}
 use Rattle.std.proofs.lemmas.Bool.{false≢true}
 use Rattle.uv_model.specs.declared.profile.Profile.{Profile}
+use Rattle.uv_model.specs.declared.profile.Profile.TheVariants.{Standard, Wide, Parser}
 use Rattle.uv_model.specs.declared.scheme.Class.{Class}
 use Rattle.uv_model.specs.declared.scheme.Class.TheVariants.{Special, File, Other}
 use Rattle.uv_model.specs.declared.rule.Rule.{Rule}
@@ -17,13 +18,15 @@ use Rattle.uv_model.specs.Records.Url.{Url}
 use Rattle.uv_model.specs.Parts.{Form, SchemeAuthority, SchemePath, SchemeOpaque, Authority, PathAbsolute}
 use Rattle.uv_model.specs.Parts.{PathRelative, NoPath, Parts, has_scheme}
 use Rattle.uv_model.specs.Setting.{Setting, scheme_or, setting_of}
-use Rattle.uv_model.specs.Valid.{Valid, FitsAuthority, FitsHostText, FitsForm, FitsScheme, FitsBase, scheme_in}
-use Rattle.uv_model.specs.Valid.{starts_with_scheme}
+use Rattle.uv_model.specs.Valid.{Valid, FitsAuthority, FitsCut, FitsHostText, FitsForm, FitsScheme, FitsBase}
+use Rattle.uv_model.specs.Valid.{scheme_in}
+use Rattle.uv_model.specs.Scheme.{starts_with_scheme}
 use Rattle.uv_model.specs.Cut.{Cut, cut_of, class_in, scheme_cut, behind_scheme, text_before, text_behind}
-use Rattle.uv_model.specs.Cut.{host_text_cut, port_text_cut, path_text_cut}
+use Rattle.uv_model.specs.Cut.{IsAuthorityCut, host_text_cut, is_followed, port_text_cut, path_text_cut}
 use Rattle.uv_model.specs.Laws.Cuts.{TextsWithASchemeIgnoreTheBase}
 use Rattle.uv_model.specs.Violations.Violation.{StartViolation, PathStartViolation, HostPartViolation}
-use Rattle.uv_model.specs.Violations.Violation.{JudgedViolation, HasHost, ViolationOf, Violation}
+use Rattle.uv_model.specs.Violations.UnitViolation.{PathUnitViolation}
+use Rattle.uv_model.specs.Violations.Violation.{JudgedViolation, HasHost, ViolationOf, Violation, has_opaque_path}
 use Rattle.uv_model.proofs.Texts.MarkLemmas.{is_without-cons, text_before-other}
 use Rattle.uv_model.proofs.Cuts.SchemeCutLemmas.{splits_at_scheme, starts_with_written_scheme}
 use Rattle.uv_model.proofs.Cuts.ValidCutLemmas.{scheme_without, valid_texts}
@@ -107,6 +110,7 @@ fits_any_base (Some url) parts some = inl some
 same_authority : (class : Class) (setting : Setting) (other : Option Url) (text : List ℕ) (parts : Parts)
     → FitsAuthority class setting text parts → FitsAuthority class (record setting { base = other }) text parts
 same_authority Special setting other text parts is = record {
+  unstopped = is.unstopped;
   value = is.value;
   host = is.host;
   valued = is.valued;
@@ -148,6 +152,21 @@ same_form profile base other PathAbsolute parts some scheme is = absurd (no_sche
 same_form profile base other PathRelative parts some scheme is = absurd (no_scheme parts.scheme some scheme)
 same_form profile base other NoPath parts some scheme is = absurd (no_scheme parts.scheme some scheme)
 
+-- nor does the cut of the parts
+same_fits_cut : (profile : Profile) (base other : Option Url) (text : List ℕ) (parts : Parts) → IsSome parts.scheme
+    → FitsCut profile base text parts → FitsCut profile other text parts
+same_fits_cut Standard base other text parts some is = tt
+same_fits_cut Wide base other text parts some is = tt
+same_fits_cut Parser base other text parts some is = record {
+  whole = is.whole;
+  prefix = is.prefix;
+  start = is.start;
+  scheme = is.scheme;
+  authority =
+      subst (λ (class : Class). IsAuthorityCut class parts.host_text parts.port_text parts.path_text)
+      (same_class base other parts.scheme some) is.authority;
+}
+
 same_valid : (profile : Profile) (base other : Option Url) (text : List ℕ) (parts : Parts)
     → starts_with_scheme text ≡ true → Valid profile base text parts → Valid profile other text parts
 same_valid profile base other text parts starts valid =
@@ -157,6 +176,7 @@ same_valid profile base other text parts starts valid =
     = subst (λ (o : Option (List ℕ)). IsSome o) same (cut_with_scheme base text starts) in
     record {
       whole = valid.whole;
+      cut = same_fits_cut profile base other text parts some valid.cut;
       scheme = valid.scheme;
       against = fits_any_base other parts some;
       form = same_form profile base other parts.form parts some valid.scheme valid.form;
@@ -234,7 +254,14 @@ same_violation_of profile base other text cut some place rule (inr (inl (started
           (same_start profile other base text cut some p r s)),
       same_judged profile base other cut some place rule h,
     ))
-same_violation_of profile base other text cut some place rule (inr (inr h)) = inr (inr h)
+same_violation_of profile base other text cut some place rule (inr (inr (inl h))) =
+    inr (inr (inl (record {
+      inner = h.inner;
+      moved = h.moved;
+      holds = subst (λ (class : Class). PathUnitViolation profile (has_opaque_path class cut) (is_followed cut)
+          cut.path_text h.inner rule) (same_class base other cut.scheme some) h.holds;
+    })))
+same_violation_of profile base other text cut some place rule (inr (inr (inr h))) = inr (inr (inr h))
 
 same_violation : (profile : Profile) (base other : Option Url) (text : List ℕ) → starts_with_scheme text ≡ true
     → (place : ℕ) (rule : Rule)

@@ -7,6 +7,7 @@ use Rattle.std.specs.List.{join_with_byte}
 use Rattle.std.proofs.lemmas.List.Elements.{All-nil, All-cons}
 use Rattle.std.proofs.lemmas.List.Splits.{slice_split_none, slice_split_at}
 use Rattle.uv_model.specs.declared.profile.Profile.{Profile}
+use Rattle.uv_model.specs.declared.profile.Profile.TheVariants.{Standard, Wide, Parser}
 use Rattle.uv_model.specs.declared.scheme.Class.{Class}
 use Rattle.uv_model.specs.declared.scheme.Class.TheVariants.{Special, File, Other}
 use Rattle.uv_model.specs.declared.host.Host.{Host}
@@ -16,13 +17,14 @@ use Rattle.uv_model.specs.Path.{is_without, starts_with_slash}
 use Rattle.uv_model.specs.Parts.{Form, SchemeAuthority, SchemePath, SchemeOpaque, Authority, PathAbsolute}
 use Rattle.uv_model.specs.Parts.{PathRelative, NoPath, Parts, has_scheme}
 use Rattle.uv_model.specs.Setting.{Setting, setting_of}
-use Rattle.uv_model.specs.Valid.{FitsAuthority, FitsHostText, HasNoAuthority, FitsForm, FitsScheme, port_given}
-use Rattle.uv_model.specs.Cut.{Cut, texts_of}
+use Rattle.uv_model.specs.Valid.{FitsAuthority, FitsHostText, HasNoAuthority, FitsForm, FitsScheme, IsOpaquePath}
+use Rattle.uv_model.specs.Valid.{port_given}
+use Rattle.uv_model.specs.Cut.{Cut, is_followed, texts_of}
 use Rattle.uv_model.specs.Laws.Cuts.{PartsAreUnique}
 use Rattle.uv_model.proofs.Hosts.HostUniqueness.{HasHost, one_host}
 use Rattle.uv_model.proofs.Texts.MarkLemmas.{is_without-cons}
 use Rattle.uv_model.proofs.Paths.PathPieces.{pieces}
-use Rattle.uv_model.proofs.Paths.SlashedPaths.{slashed_behind, slashed_or_none}
+use Rattle.uv_model.proofs.Paths.SlashedPaths.{alone_or_none, slashed_or_none}
 use Rattle.uv_model.proofs.Cuts.ValidCutLemmas.{valid_texts}
 
 -- ---- segments
@@ -118,6 +120,13 @@ pub relative_form : (path_text : List ℕ) → path_text ≢ [] → starts_with_
 relative_form [] some start = absurd (some refl)
 relative_form (c ∷ rest) some start = rw start refl
 
+-- an opaque path doesn't begin with `/`
+opaque_start : (profile : Profile) (followed : Bool) (text : List ℕ) → IsOpaquePath profile followed text
+    → starts_with_slash text ≡ false
+opaque_start Standard followed text (segments, path) = path.start
+opaque_start Wide followed text (segments, path) = path.start
+opaque_start Parser followed text path = path.spaced.start
+
 -- the form of the parts follows from their texts
 form_found : (setting : Setting) (form : Form) (parts : Parts) → FitsScheme (has_scheme form) parts.scheme
     → FitsForm setting form parts → form ≡ form_of parts.scheme parts.host_text parts.path_text
@@ -131,9 +140,10 @@ form_found setting SchemePath parts named (none, other, path) =
     let shown = alone_form parts.scheme parts.host_text parts.path_text named none.host_text in
     let start : starts_with_slash parts.path_text ≡ true = rw path.slashed refl in
     sym (shown ∙ rw start refl)
-form_found setting SchemeOpaque parts named (none, other, (segments, path), empty) =
+form_found setting SchemeOpaque parts named (none, other, path, empty) =
     let shown = alone_form parts.scheme parts.host_text parts.path_text named none.host_text in
-    sym (shown ∙ rw path.start refl)
+    let start = opaque_start setting.profile (is_followed (texts_of parts)) parts.path_text path in
+    sym (shown ∙ rw start refl)
 form_found setting PathAbsolute parts named (none, path, drive) = rw (named, none.host_text, path.slashed) refl
 form_found setting PathRelative parts named (none, path, some, free) =
     rw (named, none.host_text) (relative_form parts.path_text some path.start)
@@ -169,18 +179,18 @@ denoted_by_class Special setting host_text parts is = record {
   segments = may_be_segments parts.segments parts.path_text
       (slashed_or_none setting.profile parts.segments parts.path_text is.path);
 }
-denoted_by_class File setting host_text parts (none, absent, inl (value, host, valued, path, drive)) = record {
-  host = inl (value, host, valued);
+denoted_by_class File setting host_text parts (none, absent, inl named) = record {
+  host = inl (named.value, named.host, named.valued);
   port = no_port setting.default_port parts.port_text parts.port none absent;
   segments = may_be_segments parts.segments parts.path_text
-      (slashed_or_none setting.profile parts.segments parts.path_text path);
+      (slashed_or_none setting.profile parts.segments parts.path_text named.path);
 }
 denoted_by_class File setting host_text parts (none, absent, inr (nothing, valued, path)) = record {
   host = inr (nothing, valued);
   port = no_port setting.default_port parts.port_text parts.port none absent;
   segments =
-      slashed_segments parts.segments parts.path_text
-      (slashed_behind setting.profile parts.segments parts.path_text path);
+      may_be_segments parts.segments parts.path_text
+      (alone_or_none setting.profile parts.segments parts.path_text path);
 }
 denoted_by_class Other setting host_text parts (inl (host, port), given, path) = record {
   host = inl host;

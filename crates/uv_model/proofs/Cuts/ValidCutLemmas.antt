@@ -5,6 +5,7 @@ use Rattle.std.specs.List.{list_all}
 use Rattle.std.specs.Char.{is_ascii_digit, is_ascii_alphabetic}
 use Rattle.std.proofs.lemmas.Bool.{false≢true, true≢false, and_from, and_parts}
 use Rattle.uv_model.specs.declared.profile.Profile.{Profile}
+use Rattle.uv_model.specs.declared.profile.Profile.TheVariants.{Standard, Wide, Parser}
 use Rattle.uv_model.specs.declared.scheme.Class.{Class}
 use Rattle.uv_model.specs.declared.scheme.Class.TheVariants.{Special, File, Other}
 use Rattle.uv_model.specs.declared.host.Host.{Host}
@@ -19,10 +20,14 @@ use Rattle.uv_model.specs.Parts.{PathRelative, NoPath, Parts, has_scheme, writte
 use Rattle.uv_model.specs.Parts.{written_behind}
 use Rattle.uv_model.specs.Setting.{Setting, setting_of}
 use Rattle.uv_model.specs.Valid.{Valid, IsHostText, IsFileHostText, IsOpaqueHostText, MayBePortText, MayBeUnits}
-use Rattle.uv_model.specs.Valid.{FitsAuthority, FitsHostText, HasNoAuthority, FitsForm, FitsScheme}
-use Rattle.uv_model.specs.Valid.{starts_with_scheme}
+use Rattle.uv_model.specs.Valid.{FitsAuthority, FitsHostText, HasNoAuthority, FitsForm, FitsScheme, IsOpaquePath}
+use Rattle.uv_model.specs.Valid.{IsPathAlone}
+use Rattle.uv_model.specs.Hosts.Address.{IsIpv4}
+use Rattle.uv_model.specs.Hosts.Numbers.{IsIpv4Text}
+use Rattle.uv_model.specs.WrittenProfiles.{IsWritten}
+use Rattle.uv_model.specs.Scheme.{starts_with_scheme}
 use Rattle.uv_model.specs.Cut.{IsSchemeCut, IsAuthorityCut, IsHostCut, texts_of, cut_of, starts_with_two_slashes}
-use Rattle.uv_model.specs.Cut.{written_middle, written_start, written_cut, IsCut, class_in}
+use Rattle.uv_model.specs.Cut.{written_middle, written_start, written_cut, IsCut, class_in, is_followed}
 use Rattle.uv_model.specs.Laws.Cuts.{ValidTextsAreCutIntoTheirParts}
 use Rattle.uv_model.proofs.Texts.MarkLemmas.{is_without-append, is_without-more}
 use Rattle.uv_model.proofs.Paths.PathLemmas.{IsUnits-join, no_question_mark-join}
@@ -34,22 +39,31 @@ use Rattle.uv_model.proofs.Paths.SlashedPaths.{slashed_behind, slashed_or_none}
 
 -- ---- hosts
 
+-- an IPv4 text of a written profile is four numbers
+pub written_numbers : (profile : Profile) (text : List ℕ) (value : ℕ) → IsWritten profile
+    → IsIpv4Text profile text value → IsIpv4 text value
+written_numbers Standard text value written is = is
+written_numbers Wide text value written is = is
+written_numbers Parser text value written is = absurd written
+
 -- a valid host ends where the cut ends it
-pub word_of_host : (profile : Profile) (text : List ℕ) (host : Host) → IsHostText profile text host → IsHostWord text
-word_of_host profile text (Domain form) is = word_of_form profile text form is.0
-word_of_host profile text (V4 value) is = word_of_ipv4 text value is
-word_of_host profile text (V6 pieces) is = word_of_ipv6 text pieces is
-word_of_host profile text (Opaque host) is = absurd is
-word_of_host profile text Empty is = absurd is
+pub word_of_host : (profile : Profile) (text : List ℕ) (host : Host) → IsWritten profile
+    → IsHostText profile text host → IsHostWord text
+word_of_host profile text (Domain form) written is = word_of_form profile text form written is.0
+word_of_host profile text (V4 value) written is = word_of_ipv4 text value (written_numbers profile text value written is)
+word_of_host profile text (V6 pieces) written is = word_of_ipv6 text pieces is
+word_of_host profile text (Opaque host) written is = absurd is
+word_of_host profile text Empty written is = absurd is
 
 -- so does one of a file URL
-pub word_of_file_host : (profile : Profile) (text : List ℕ) (host : Host) → IsFileHostText profile text host
-    → IsHostWord text
-word_of_file_host profile text (Domain form) is = word_of_form profile text form is.0.0
-word_of_file_host profile text (V4 value) is = word_of_ipv4 text value is
-word_of_file_host profile text (V6 pieces) is = word_of_ipv6 text pieces is
-word_of_file_host profile text (Opaque host) is = absurd is
-word_of_file_host profile text Empty is = word_of_form profile text (codes "localhost") is.0
+pub word_of_file_host : (profile : Profile) (text : List ℕ) (host : Host) → IsWritten profile
+    → IsFileHostText profile text host → IsHostWord text
+word_of_file_host profile text (Domain form) written is = word_of_form profile text form written is.0.0
+word_of_file_host profile text (V4 value) written is =
+    word_of_ipv4 text value (written_numbers profile text value written is)
+word_of_file_host profile text (V6 pieces) written is = word_of_ipv6 text pieces is
+word_of_file_host profile text (Opaque host) written is = absurd is
+word_of_file_host profile text Empty written is = word_of_form profile text (codes "localhost") written is.0
 
 -- and an opaque one
 pub word_of_opaque_host : (text : List ℕ) (host : Option Host) → IsOpaqueHostText text host → IsHostWord text
@@ -174,31 +188,39 @@ authority_fits class host_text port_text path_text host port ends path =
 no_port : (port_text : Option (List ℕ)) → port_text ≡ None → MayBePortText port_text
 no_port port_text none = rw none tt
 
+-- a path without a host before it
+path_alone_end : (profile : Profile) (segments : List (List ℕ)) (text : List ℕ) → IsWritten profile
+    → IsPathAlone profile segments text → IsPathEnd text
+path_alone_end Standard segments text written path =
+    path_behind segments text (inr (slashed_behind Standard segments text path))
+path_alone_end Wide segments text written path =
+    path_behind segments text (inr (slashed_behind Wide segments text path))
+path_alone_end Parser segments text written path = absurd written
+
 -- what follows `//` by the class
-fits_by_class : (class : Class) (setting : Setting) (host_text : List ℕ) (parts : Parts)
+fits_by_class : (class : Class) (setting : Setting) (host_text : List ℕ) (parts : Parts) → IsWritten setting.profile
     → FitsAuthority class setting host_text parts
     → MiddleFits class (Some host_text) parts.port_text parts.path_text
-fits_by_class Special setting host_text parts is =
-    let word = word_of_host setting.profile host_text is.value is.host in
+fits_by_class Special setting host_text parts written is =
+    let word = word_of_host setting.profile host_text is.value written is.host in
     authority_fits Special host_text parts.port_text parts.path_text word is.port_text (word.ends parts.port_text)
     (path_behind parts.segments parts.path_text
     (slashed_or_none setting.profile parts.segments parts.path_text is.path))
-fits_by_class File setting host_text parts (none, absent, inl (value, host, valued, path, drive)) =
+fits_by_class File setting host_text parts written (none, absent, inl named) =
     authority_fits File host_text parts.port_text parts.path_text
-    (word_of_file_host setting.profile host_text value host)
+    (word_of_file_host setting.profile host_text named.value written named.host)
     (no_port parts.port_text none) none (path_behind parts.segments parts.path_text
-    (slashed_or_none setting.profile parts.segments parts.path_text path))
-fits_by_class File setting host_text parts (none, absent, inr (nothing, valued, path)) =
+    (slashed_or_none setting.profile parts.segments parts.path_text named.path))
+fits_by_class File setting host_text parts written (none, absent, inr (nothing, valued, path)) =
     let word : IsHostWord host_text = rw nothing word_of_nothing in
     authority_fits File host_text parts.port_text parts.path_text word (no_port parts.port_text none) none
-    (path_behind parts.segments parts.path_text
-    (inr (slashed_behind setting.profile parts.segments parts.path_text path)))
-fits_by_class Other setting host_text parts (inl (host, port), given, path) =
+    (path_alone_end setting.profile parts.segments parts.path_text written path)
+fits_by_class Other setting host_text parts written (inl (host, port), given, path) =
     let word = word_of_opaque_host host_text parts.host host in
     authority_fits Other host_text parts.port_text parts.path_text word port (word.ends parts.port_text)
     (path_behind parts.segments parts.path_text
     (slashed_or_none setting.profile parts.segments parts.path_text path))
-fits_by_class Other setting host_text parts (inr (nothing, valued, none), given, path) =
+fits_by_class Other setting host_text parts written (inr (nothing, valued, none), given, path) =
     let word : IsHostWord host_text = rw nothing word_of_nothing in
     authority_fits Other host_text parts.port_text parts.path_text word (no_port parts.port_text none)
     (word.ends parts.port_text)
@@ -206,12 +228,12 @@ fits_by_class Other setting host_text parts (inr (nothing, valued, none), given,
     (slashed_or_none setting.profile parts.segments parts.path_text path))
 
 -- with an authority, whose host text is there
-fits_with_host : (setting : Setting) (parts : Parts) (host_text : Option (List ℕ))
+fits_with_host : (setting : Setting) (parts : Parts) (host_text : Option (List ℕ)) → IsWritten setting.profile
     → FitsHostText setting parts host_text
     → MiddleFits setting.class host_text parts.port_text parts.path_text
-fits_with_host setting parts None is = absurd is
-fits_with_host setting parts (Some host_text) is =
-    fits_by_class setting.class setting host_text parts is
+fits_with_host setting parts None written is = absurd is
+fits_with_host setting parts (Some host_text) written is =
+    fits_by_class setting.class setting host_text parts written is
 
 -- without an authority
 fits_without : (class : Class) (host_text port_text : Option (List ℕ)) (path_text : List ℕ) → host_text ≡ None
@@ -234,24 +256,31 @@ fits_alone class parts none path start =
 empty_path_word : (text : List ℕ) → text ≡ [] → IsPathWord text
 empty_path_word text nothing = rw nothing (record { no_question_mark = refl; no_number_sign = refl })
 
+-- an opaque path
+opaque_path_word : (profile : Profile) (followed : Bool) (text : List ℕ) → IsWritten profile
+    → IsOpaquePath profile followed text → IsPathWord text × (starts_with_slash text ≡ false)
+opaque_path_word Standard followed text written (segments, path) = (word_of_relative segments text path, path.start)
+opaque_path_word Wide followed text written (segments, path) = (word_of_relative segments text path, path.start)
+opaque_path_word Parser followed text written is = absurd written
+
 -- in each form
-fits_by_form : (setting : Setting) (form : Form) (parts : Parts) → FitsForm setting form parts
-    → MiddleFits setting.class parts.host_text parts.port_text parts.path_text
-fits_by_form setting SchemeAuthority parts is = fits_with_host setting parts parts.host_text is
-fits_by_form setting Authority parts is = fits_with_host setting parts parts.host_text is
-fits_by_form setting SchemePath parts (none, other, path) =
+fits_by_form : (setting : Setting) (form : Form) (parts : Parts) → IsWritten setting.profile
+    → FitsForm setting form parts → MiddleFits setting.class parts.host_text parts.port_text parts.path_text
+fits_by_form setting SchemeAuthority parts written is = fits_with_host setting parts parts.host_text written is
+fits_by_form setting Authority parts written is = fits_with_host setting parts parts.host_text written is
+fits_by_form setting SchemePath parts written (none, other, path) =
     fits_alone setting.class parts none (word_of_absolute parts.segments parts.path_text path)
     (absolute_without_two_slashes parts.segments parts.path_text path)
-fits_by_form setting SchemeOpaque parts (none, other, (segments, path), empty) =
-    fits_alone setting.class parts none (word_of_relative segments parts.path_text path)
-    (without_slash_without_two parts.path_text path.start)
-fits_by_form setting PathAbsolute parts (none, path, drive) =
+fits_by_form setting SchemeOpaque parts written (none, other, path, empty) =
+    let (word, start) = opaque_path_word setting.profile (is_followed (texts_of parts)) parts.path_text written path in
+    fits_alone setting.class parts none word (without_slash_without_two parts.path_text start)
+fits_by_form setting PathAbsolute parts written (none, path, drive) =
     fits_alone setting.class parts none (word_of_absolute parts.segments parts.path_text path)
     (absolute_without_two_slashes parts.segments parts.path_text path)
-fits_by_form setting PathRelative parts (none, path, some, free) =
+fits_by_form setting PathRelative parts written (none, path, some, free) =
     fits_alone setting.class parts none (word_of_relative parts.segments parts.path_text path)
     (without_slash_without_two parts.path_text path.start)
-fits_by_form setting NoPath parts (none, nothing, empty) =
+fits_by_form setting NoPath parts written (none, nothing, empty) =
     fits_alone setting.class parts none (empty_path_word parts.path_text nothing)
     (ap starts_with_two_slashes nothing)
 
@@ -340,13 +369,21 @@ cut_of_parts base text parts has whole scheme free middle query =
       authority = middle.authority;
     }
 
--- the cut of a valid text has its parts
-pub valid_is_cut : ValidTextsAreCutIntoTheirParts
-valid_is_cut profile base text parts valid =
+-- the cut of a valid text of a written profile has its parts
+written_is_cut : (profile : Profile) (base : Option Url) (text : List ℕ) (parts : Parts) → IsWritten profile
+    → Valid profile base text parts → IsCut base text (texts_of parts)
+written_is_cut profile base text parts written valid =
     let setting = setting_of profile base parts.scheme in
     cut_of_parts base text parts (has_scheme parts.form) valid.whole valid.scheme
-    (λ none. free_by_form setting parts.form parts valid.form none) (fits_by_form setting parts.form parts valid.form)
+    (λ none. free_by_form setting parts.form parts valid.form none)
+    (fits_by_form setting parts.form parts written valid.form)
     valid.query
+
+-- the cut of a valid text has its parts
+pub valid_is_cut : ValidTextsAreCutIntoTheirParts
+valid_is_cut Standard base text parts valid = written_is_cut Standard base text parts tt valid
+valid_is_cut Wide base text parts valid = written_is_cut Wide base text parts tt valid
+valid_is_cut Parser base text parts valid = valid.cut
 
 -- so its parts have the texts of the computed cut
 pub valid_texts : (profile : Profile) (base : Option Url) (text : List ℕ) (parts : Parts)

@@ -2,7 +2,9 @@
 use Rattle.std.proofs.Common.{◌≡◌, ◌≢◌, ℕ, suc, ◌<◌, ◌-◌, true, false, not, ◌&&◌, nat_le, List, [], ◌∷◌, length}
 use Rattle.std.proofs.Common.{encode_utf8_all, IsAscii, Option, Some, None, IsSome, refl, sym, ap, ◌∙◌, inl, inr}
 use Rattle.std.proofs.Common.{arith}
-use Rattle.std.specs.Char.{is_ascii}
+use Rattle.std.specs.Char.{encode_utf8, is_ascii}
+use Rattle.std.specs.Str.{chars}
+use Rattle.percent_encoding.specs.Percent.{percent_decode}
 use Rattle.std.specs.Int.{is_in_range}
 use Rattle.std.specs.List.{slice_index, list_all}
 use Rattle.std.proofs.lemmas.Bool.{false≢true, cases_Bool, and_from, and_parts, not-true}
@@ -14,18 +16,21 @@ use Rattle.std.proofs.lemmas.Str.{encodes-IsAscii}
 use Rattle.std.proofs.lemmas.Str.Ascii.{IsAscii-from_all}
 use Rattle.idna.specs.declared.deny_list.TheConstants.AsciiDenyList.{STD3, EMPTY}
 use Rattle.idna.specs.declared.options.DnsLength.TheVariants.{Ignore}
-use Rattle.idna.specs.declared.options.Hyphens.TheVariants.{Check}
+use Rattle.idna.specs.declared.options.Hyphens.TheVariants.{Allow, Check}
 use Rattle.idna.specs.Labels.{is_full_stop, labels_of}
 use Rattle.idna.specs.Uts46.{process_utf8, to_ascii, to_unicode, domain_to_ascii, has_dns_lengths, verify_dns_length}
 use Rattle.idna.specs.Validity.{has_ace_prefix}
 use Rattle.idna.proofs.Uts46Lemmas.{IsOutputByte, All-to_ascii, to_ascii-invalid, to_unicode-to_ascii}
-use Rattle.idna.proofs.Uts46Lemmas.{domain_to_ascii-ascii}
+use Rattle.idna.proofs.Computing.{idna}
+use Rattle.idna.proofs.Uts46Lemmas.{IsAscii-to_ascii, domain_to_ascii-ascii}
 use Rattle.idna.proofs.ValidityLemmas.{denies-EMPTY, denies-STD3}
 use Rattle.uv_model.specs.declared.profile.Profile.{Profile}
-use Rattle.uv_model.specs.declared.profile.Profile.TheVariants.{Standard, Wide}
+use Rattle.uv_model.specs.declared.profile.Profile.TheVariants.{Standard, Wide, Parser}
 use Rattle.uv_model.specs.Hosts.Domain.{without_root, is_permitted, has_permitted, is_form_code_point, has_lengths}
 use Rattle.uv_model.specs.Hosts.Domain.{strict_form, is_plain_ascii, parser_form, ends_in_number, IsForm, IsDomain}
-use Rattle.uv_model.specs.Hosts.Domain.{IsNumberText, HasNoForm, StandardDomainsAreWide}
+use Rattle.uv_model.specs.Hosts.Domain.{IsDecoded, IsNumberText, IsParserForm, IsWrittenForm, HasNoForm}
+use Rattle.uv_model.specs.Hosts.Domain.{StandardDomainsAreWide}
+use Rattle.uv_model.specs.WrittenProfiles.{IsWritten}
 use Rattle.uv_model.specs.Scheme.{lowercase}
 use Rattle.uv_model.proofs.Texts.AsciiLemmas.{IsAscii-from_test}
 
@@ -121,21 +126,42 @@ IsForm-wide text form permitted parsed letters lengths = record {
   fits = tt;
 }
 
--- a form is ASCII
-pub IsAscii-form : (profile : Profile) (text form : List ℕ) → IsForm profile text form → IsAscii form
-IsAscii-form profile text form is =
+-- a form by a written profile is written so
+pub as_written : (profile : Profile) (text form : List ℕ) → IsWritten profile → IsForm profile text form
+    → IsWrittenForm profile text form
+as_written Standard text form written is = is
+as_written Wide text form written is = is
+as_written Parser text form written is = absurd written
+
+-- a form that is written is ASCII
+IsAscii-written : (profile : Profile) (text form : List ℕ) → IsWrittenForm profile text form → IsAscii form
+IsAscii-written profile text form is =
     IsAscii-from_all form
     (All-weaker (λ c. is_form_code_point profile c ≡ true) (λ c. c < 128) (small profile) form is.letters)
   where
     small : (profile : Profile) (c : ℕ) → is_form_code_point profile c ≡ true → c < 128
     small Standard c h = grind (arith, nat_tests)
     small Wide c h = grind (arith, nat_tests)
+    small Parser c h = grind (arith, nat_tests)
+
+-- what ToASCII gives is ASCII
+pub IsAscii-parsed : (text form : List ℕ) → parser_form text ≡ Some form → IsAscii form
+IsAscii-parsed text form formed =
+    IsAscii-to_ascii EMPTY Allow Ignore (encode_utf8_all text) form (sym (parser_form-is text) ∙ formed)
+
+-- a form is ASCII
+pub IsAscii-form : (profile : Profile) (text form : List ℕ) → IsForm profile text form → IsAscii form
+IsAscii-form Standard text form is = IsAscii-written Standard text form is
+IsAscii-form Wide text form is = IsAscii-written Wide text form is
+IsAscii-form Parser text form (plain, is) = IsAscii-parsed is.decoded form is.formed
 
 -- ---- what has none
 
--- a text with an ASCII code point that isn't permitted has no form
-pub not_permitted : (profile : Profile) (text : List ℕ) → has_permitted profile text ≡ false → HasNoForm profile text
-not_permitted profile text e form h = false≢true (sym e ∙ h.permitted)
+-- a text with an ASCII code point that isn't permitted has no form by a written profile
+pub not_permitted : (profile : Profile) (text : List ℕ) → IsWritten profile → has_permitted profile text ≡ false
+    → HasNoForm profile text
+not_permitted profile text written e form h =
+    false≢true (sym e ∙ (as_written profile text form written h).permitted)
 
 -- a text that strict ToASCII refuses has no form by the standard profile
 pub not_strict : (text : List ℕ) → strict_form text ≡ None → HasNoForm Standard text
@@ -148,30 +174,33 @@ no_lengths text form e wrong other h =
     let same = same_Some form other (sym e ∙ h.fits.ascii) in
     false≢true (sym wrong ∙ ap has_lengths same ∙ h.lengths)
 
--- a text that the parser's ToASCII refuses has no form
-pub not_parsed : (profile : Profile) (text : List ℕ) → domain_to_ascii EMPTY (encode_utf8_all text) ≡ None →
-    HasNoForm profile text
-not_parsed profile text e form h = none-some form (sym e ∙ sym (parser_form-is text) ∙ h.parsed)
+-- a text that the parser's ToASCII refuses has no form by a written profile
+pub not_parsed : (profile : Profile) (text : List ℕ) → IsWritten profile
+    → domain_to_ascii EMPTY (encode_utf8_all text) ≡ None → HasNoForm profile text
+not_parsed profile text written e form h =
+    none-some form (sym e ∙ sym (parser_form-is text) ∙ (as_written profile text form written h).parsed)
 
--- the form of a text is what the parser's ToASCII gives
+-- the form of a text that is written is what the parser's ToASCII gives
 parsed_form : (profile : Profile) (text form other : List ℕ) →
-    domain_to_ascii EMPTY (encode_utf8_all text) ≡ Some form → IsForm profile text other → form ≡ other
+    domain_to_ascii EMPTY (encode_utf8_all text) ≡ Some form → IsWrittenForm profile text other → form ≡ other
 parsed_form profile text form other e h = same_Some form other (sym e ∙ sym (parser_form-is text) ∙ h.parsed)
 
--- a text whose parsed form has another code point has no form
-pub no_letters : (profile : Profile) (text form : List ℕ) →
-    domain_to_ascii EMPTY (encode_utf8_all text) ≡ Some form → list_all (is_form_code_point profile) form ≡ false →
-    HasNoForm profile text
-no_letters profile text form e wrong other h =
-    let same = parsed_form profile text form other e h in
-    let letters = list_all-from_AllPass (is_form_code_point profile) other h.letters in
+-- a text whose parsed form has another code point has no form by a written profile
+pub no_letters : (profile : Profile) (text form : List ℕ) → IsWritten profile
+    → domain_to_ascii EMPTY (encode_utf8_all text) ≡ Some form → list_all (is_form_code_point profile) form ≡ false
+    → HasNoForm profile text
+no_letters profile text form written e wrong other h =
+    let is = as_written profile text other written h in
+    let same = parsed_form profile text form other e is in
+    let letters = list_all-from_AllPass (is_form_code_point profile) other is.letters in
     false≢true (sym wrong ∙ ap (list_all (is_form_code_point profile)) same ∙ letters)
 
--- a text whose parsed form has wrong lengths has no form
-pub no_parsed_lengths : (profile : Profile) (text form : List ℕ) →
-    domain_to_ascii EMPTY (encode_utf8_all text) ≡ Some form → has_lengths form ≡ false → HasNoForm profile text
-no_parsed_lengths profile text form e wrong other h =
-    false≢true (sym wrong ∙ ap has_lengths (parsed_form profile text form other e h) ∙ h.lengths)
+-- a text whose parsed form has wrong lengths has no form by a written profile
+pub no_parsed_lengths : (profile : Profile) (text form : List ℕ) → IsWritten profile
+    → domain_to_ascii EMPTY (encode_utf8_all text) ≡ Some form → has_lengths form ≡ false → HasNoForm profile text
+no_parsed_lengths profile text form written e wrong other h =
+    let is = as_written profile text other written h in
+    false≢true (sym wrong ∙ ap has_lengths (parsed_form profile text form other e is) ∙ is.lengths)
 
 -- a text whose two forms differ has no form by the standard profile
 pub other_parsed : (text form parsed : List ℕ) → strict_form text ≡ Some form →
@@ -180,11 +209,27 @@ other_parsed text form parsed e f differ other h =
     let strict = same_Some form other (sym e ∙ h.fits.ascii) in
     differ (strict ∙ sym (parsed_form Standard text parsed other f h))
 
+-- what a text decodes to is one text
+pub decoded_unique : (text a b : List ℕ) → IsDecoded text a → IsDecoded text b → a ≡ b
+decoded_unique text a b ha hb = ha.spelled ∙ sym hb.spelled
+
+-- the empty text has no form
+pub nothing_formed : (form : List ℕ) → IsParserForm [] form → ⊥
+unfolding chars percent_decode encode_utf8 parser_form idna
+nothing_formed form is =
+    let decoded : is.decoded ≡ [] = is.decodes.spelled in
+    let formed : Some [] ≡ Some form = rw decoded at is.formed in
+    is.some (sym (same_Some [] form formed))
+
 -- ---- one form
 
 -- a text has one form at most
 pub form_unique : (profile : Profile) (text a b : List ℕ) → IsForm profile text a → IsForm profile text b → a ≡ b
-form_unique profile text a b ha hb = same_Some a b (sym ha.parsed ∙ hb.parsed)
+form_unique Standard text a b ha hb = same_Some a b (sym ha.parsed ∙ hb.parsed)
+form_unique Wide text a b ha hb = same_Some a b (sym ha.parsed ∙ hb.parsed)
+form_unique Parser text a b (plain, ha) (other, hb) =
+    let same = decoded_unique text ha.decoded hb.decoded ha.decodes hb.decodes in
+    same_Some a b (sym ha.formed ∙ ap parser_form same ∙ hb.formed)
 
 -- a valid domain has one form
 pub domain_unique : (profile : Profile) (text a b : List ℕ) → IsDomain profile text a → IsDomain profile text b

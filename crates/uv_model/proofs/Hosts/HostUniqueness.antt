@@ -10,8 +10,8 @@ use Rattle.uv_model.specs.declared.host.Host.TheVariants.{Domain, V4, V6, Opaque
 use Rattle.uv_model.specs.Hosts.Address.{IsBracketedIpv6}
 use Rattle.uv_model.specs.Hosts.OpaqueHost.{starts_with_bracket}
 use Rattle.uv_model.specs.Valid.{IsHostText, IsFileHostText, IsOpaqueHostText}
-use Rattle.uv_model.proofs.Addresses.AddressUniqueness.{ipv4_unique, bracketed_unique, ipv4_no_bracket}
-use Rattle.uv_model.proofs.Addresses.AddressUniqueness.{bracketed_bracket}
+use Rattle.uv_model.proofs.Addresses.AddressUniqueness.{bracketed_bracket, bracketed_unique}
+use Rattle.uv_model.proofs.Hosts.NumberLemmas.{ipv4_text_no_bracket, ipv4_text_unique}
 use Rattle.uv_model.proofs.Hosts.DomainLemmas.{domain_unique}
 use Rattle.uv_model.proofs.Violations.FaultlessHosts.{form_no_bracket, host_not_empty, file_host_is_host}
 use Rattle.uv_model.proofs.Violations.FaultlessHosts.{opaque_no_bracket}
@@ -27,7 +27,7 @@ not_bracketed text pieces none is = true≢false (sym (bracketed_bracket text pi
 host_unique : (profile : Profile) (text : List ℕ) (value other : Host) → IsHostText profile text value
     → IsHostText profile text other → value ≡ other
 host_unique profile text (Domain a) (Domain b) is is' = ap Domain (domain_unique profile text a b is is')
-host_unique profile text (V4 a) (V4 b) is is' = ap V4 (ipv4_unique text a b is is')
+host_unique profile text (V4 a) (V4 b) is is' = ap V4 (ipv4_text_unique profile text a b is is')
 host_unique profile text (V6 a) (V6 b) is is' = ap V6 (bracketed_unique text a b is is')
 host_unique profile text (Domain a) (V4 b) is is' = absurd (ipv4_no_domain profile text a b is' is)
 host_unique profile text (V4 a) (Domain b) is is' = absurd (ipv4_no_domain profile text b a is is')
@@ -35,8 +35,8 @@ host_unique profile text (Domain a) (V6 b) is is' =
     absurd (not_bracketed text b (form_no_bracket profile text a is.0) is')
 host_unique profile text (V6 a) (Domain b) is is' =
     absurd (not_bracketed text a (form_no_bracket profile text b is'.0) is)
-host_unique profile text (V4 a) (V6 b) is is' = absurd (not_bracketed text b (ipv4_no_bracket text a is) is')
-host_unique profile text (V6 a) (V4 b) is is' = absurd (not_bracketed text a (ipv4_no_bracket text b is') is)
+host_unique profile text (V4 a) (V6 b) is is' = absurd (not_bracketed text b (ipv4_text_no_bracket profile text a is) is')
+host_unique profile text (V6 a) (V4 b) is is' = absurd (not_bracketed text a (ipv4_text_no_bracket profile text b is') is)
 host_unique profile text (Opaque a) other is is' = absurd is
 host_unique profile text Empty other is is' = absurd is
 host_unique profile text value (Opaque b) is is' = absurd is'

@@ -18,11 +18,13 @@ use Rattle.idna.specs.Labels.{is_full_stop}
 use Rattle.idna.specs.Uts46.{domain_to_ascii}
 use Rattle.idna.proofs.Uts46Lemmas.{domain_to_ascii-alphanumeric}
 use Rattle.uv_model.specs.declared.profile.Profile.{Profile}
-use Rattle.uv_model.specs.declared.profile.Profile.TheVariants.{Standard}
+use Rattle.uv_model.specs.declared.profile.Profile.TheVariants.{Standard, Wide, Parser}
 use Rattle.uv_model.specs.Hosts.Address.{IsFourNumbers, IsIpv4}
 use Rattle.uv_model.specs.Ascii.{percent_sign, full_stop}
 use Rattle.uv_model.specs.Hosts.Domain.{is_form_code_point, is_digits, parser_form, ends_in_number, IsDomain}
-use Rattle.uv_model.proofs.Hosts.DomainLemmas.{parser_form-is}
+use Rattle.uv_model.specs.Hosts.Domain.{IsWrittenForm}
+use Rattle.uv_model.specs.Hosts.Numbers.{IsIpv4Text}
+use Rattle.uv_model.proofs.Hosts.DomainLemmas.{form_unique, parser_form-is}
 use Rattle.uv_model.proofs.Hosts.LastLabelLemmas.{HasNoStop, last_label-behind}
 
 -- a digit or a full stop stays as it is in ToASCII
@@ -108,9 +110,19 @@ parser_form-ipv4 text value (a, b, c, d, is, e) =
     parser_form-is text ∙ ap (domain_to_ascii EMPTY) (encodes-IsAscii text ascii)
     ∙ domain_to_ascii-alphanumeric EMPTY text (All-weaker IsDigitOrDot IsPlain simple_byte text simple)
 
--- an IPv4 text is no valid domain
-pub ipv4_no_domain : (profile : Profile) (text form : List ℕ) (value : ℕ) → IsIpv4 text value →
-    ¬ (IsDomain profile text form)
-ipv4_no_domain profile text form value is (has, other) =
+-- a form of an IPv4 text that is written is the text
+written_ipv4 : (profile : Profile) (text form : List ℕ) (value : ℕ) → IsIpv4 text value
+    → IsWrittenForm profile text form → ends_in_number form ≡ true
+written_ipv4 profile text form value is has =
     let same : text ≡ form = same_Some text form (sym (parser_form-ipv4 text value is) ∙ has.parsed) in
-    false≢true (sym other ∙ ap ends_in_number (sym same) ∙ ends_in_number-ipv4 text value is)
+    ap ends_in_number (sym same) ∙ ends_in_number-ipv4 text value is
+
+-- an IPv4 text is no valid domain
+pub ipv4_no_domain : (profile : Profile) (text form : List ℕ) (value : ℕ) → IsIpv4Text profile text value →
+    ¬ (IsDomain profile text form)
+ipv4_no_domain Standard text form value is (has, other) =
+    false≢true (sym other ∙ written_ipv4 Standard text form value is has)
+ipv4_no_domain Wide text form value is (has, other) =
+    false≢true (sym other ∙ written_ipv4 Wide text form value is has)
+ipv4_no_domain Parser text form value (own, formed, number, numbers) (has, other) =
+    false≢true (sym other ∙ ap ends_in_number (form_unique Parser text form own has formed) ∙ number)

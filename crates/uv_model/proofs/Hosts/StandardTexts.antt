@@ -1,20 +1,24 @@
 -- What is valid or well formed by the standard profile is so by the wide profile.
-use Rattle.std.proofs.Common.{◌≡◌, ℕ, true, List, [], ◌∷◌, Option, Some, None, inl, inr}
+use Rattle.std.proofs.Common.{◌≡◌, ℕ, true, List, [], ◌∷◌, Option, Some, None, refl, inl, inr}
 use Rattle.std.specs.List.{list_all}
 use Rattle.std.proofs.lemmas.Bool.{and_from, and_parts}
 use Rattle.uv_model.specs.declared.profile.Profile.TheVariants.{Standard, Wide}
 use Rattle.uv_model.specs.declared.scheme.Class.{Class}
 use Rattle.uv_model.specs.declared.scheme.Class.TheVariants.{Special, File, Other}
 use Rattle.uv_model.specs.declared.host.Host.{Host}
-use Rattle.uv_model.specs.declared.host.Host.TheVariants.{Domain, V4, V6, Opaque, Empty}
+use Rattle.uv_model.specs.declared.host.Host.TheVariants.{Domain, V4, V6, Empty}
+use Rattle.uv_model.specs.declared.host.Host.TheVariants as host
 use Rattle.uv_model.specs.Hosts.Domain.{is_form_code_point}
 use Rattle.uv_model.specs.Laws.Wholes.{StandardTextsAreWide}
 use Rattle.uv_model.specs.Parts.{Form, SchemeAuthority, SchemePath, SchemeOpaque, Authority, PathAbsolute}
 use Rattle.uv_model.specs.Parts.{PathRelative, NoPath, Parts}
 use Rattle.uv_model.specs.Setting.{setting_of}
 use Rattle.uv_model.specs.Records.Url.{Url}
-use Rattle.uv_model.specs.Valid.{FitsAuthority, FitsForm, FitsHostText, IsFileHostText, IsHostText, MayBePathBehind}
-use Rattle.uv_model.specs.Records.WellFormed.{IsUrlDomain, IsUrlHost, StandardRecordsAreWide}
+use Rattle.uv_model.specs.Valid.{FitsAuthority, FitsDrive, FitsForm, FitsHostText, IsFileHostText, IsHostText}
+use Rattle.uv_model.specs.Valid.{MayBePathBehind}
+use Rattle.uv_model.specs.Records.WellFormed.{IsUrlDomain, IsUrlHost, IsUrlPath, StandardRecordsAreWide}
+use Rattle.uv_model.specs.declared.path.UrlPath.{UrlPath}
+use Rattle.uv_model.specs.declared.path.UrlPath.TheVariants.{Opaque, Segments}
 use Rattle.uv_model.proofs.Hosts.DomainLemmas.{standard_domains_are_wide, wide_letter}
 use Rattle.uv_model.proofs.Paths.SlashedPaths.{slashed_absolute}
 
@@ -25,7 +29,7 @@ wide_host : (text : List ℕ) (value : Host) → IsHostText Standard text value 
 wide_host text (Domain form) is = standard_domains_are_wide text form is
 wide_host text (V4 value) is = is
 wide_host text (V6 pieces) is = is
-wide_host text (Opaque host) is = is
+wide_host text (host.Opaque opaque) is = is
 wide_host text Empty is = is
 
 -- a host of class File
@@ -33,7 +37,7 @@ wide_file_host : (text : List ℕ) (value : Host) → IsFileHostText Standard te
 wide_file_host text (Domain form) is = (standard_domains_are_wide text form is.0, is.1)
 wide_file_host text (V4 value) is = is
 wide_file_host text (V6 pieces) is = is
-wide_file_host text (Opaque host) is = is
+wide_file_host text (host.Opaque opaque) is = is
 wide_file_host text Empty is = standard_domains_are_wide text _ is
 
 -- a path behind an authority
@@ -47,6 +51,7 @@ wide_authority : (class : Class) (base : Option Url) (scheme : Option (List ℕ)
     → FitsAuthority class (setting_of Standard base scheme) host_text parts
     → FitsAuthority class (setting_of Wide base scheme) host_text parts
 wide_authority Special base scheme host_text parts is = record {
+  unstopped = refl;
   value = is.value;
   host = wide_host host_text is.value is.host;
   valued = is.valued;
@@ -54,9 +59,18 @@ wide_authority Special base scheme host_text parts is = record {
   port = is.port;
   path = wide_path parts.segments parts.path_text is.path;
 }
-wide_authority File base scheme host_text parts (no_text, none, inl (value, host, valued, path, drive)) =
-    let wide = wide_path parts.segments parts.path_text path in
-    (no_text, none, inl (value, wide_file_host host_text value host, valued, wide, drive))
+wide_authority File base scheme host_text parts (no_text, none, inl is) = (
+  no_text,
+  none,
+  inl (record {
+    unstopped = refl;
+    value = is.value;
+    host = wide_file_host host_text is.value is.host;
+    valued = is.valued;
+    path = wide_path parts.segments parts.path_text is.path;
+    no_drive = is.no_drive;
+  }),
+)
 wide_authority File base scheme host_text parts (no_text, none, inr (nothing, valued, path)) =
     (no_text, none, inr (nothing, valued, slashed_absolute parts.segments parts.path_text path))
 wide_authority Other base scheme host_text parts (host, port, path) =
@@ -77,7 +91,11 @@ wide_form base SchemeAuthority parts is = wide_host_text base parts.scheme parts
 wide_form base Authority parts is = wide_host_text base parts.scheme parts.host_text parts is
 wide_form base SchemePath parts is = is
 wide_form base SchemeOpaque parts is = is
-wide_form base PathAbsolute parts is = is
+wide_form base PathAbsolute parts (none, path, drive) = (none, path, wide_drive base drive)
+  where
+    wide_drive : (base : Option Url) → FitsDrive Standard base parts.path_text → FitsDrive Wide base parts.path_text
+    wide_drive None drive = tt
+    wide_drive (Some url) drive = drive
 wide_form base PathRelative parts is = is
 wide_form base NoPath parts is = is
 
@@ -85,6 +103,7 @@ wide_form base NoPath parts is = is
 pub standard_texts_are_wide : StandardTextsAreWide
 standard_texts_are_wide base text parts valid = record {
   whole = valid.whole;
+  cut = tt;
   scheme = valid.scheme;
   against = valid.against;
   form = wide_form base parts.form parts valid.form;
@@ -117,16 +136,23 @@ wide_url_host : (class : Class) (host : Option Host) → IsUrlHost Standard clas
 wide_url_host Special (Some (Domain form)) is = wide_domain form is
 wide_url_host Special (Some (V4 value)) is = is
 wide_url_host Special (Some (V6 pieces)) is = is
-wide_url_host Special (Some (Opaque text)) is = is
+wide_url_host Special (Some (host.Opaque text)) is = is
 wide_url_host Special (Some Empty) is = is
 wide_url_host Special None is = is
 wide_url_host File (Some (Domain form)) is = (wide_domain form is.0, is.1)
 wide_url_host File (Some (V4 value)) is = is
 wide_url_host File (Some (V6 pieces)) is = is
-wide_url_host File (Some (Opaque text)) is = is
+wide_url_host File (Some (host.Opaque text)) is = is
 wide_url_host File (Some Empty) is = is
 wide_url_host File None is = is
 wide_url_host Other host is = is
+
+-- a path
+wide_url_path : (class : Class) (host : Option Host) (path : UrlPath) → IsUrlPath Standard class host path
+    → IsUrlPath Wide class host path
+wide_url_path class host (Segments []) is = is
+wide_url_path class host (Segments (segment ∷ rest)) is = is
+wide_url_path class host (Opaque text) is = is
 
 -- a well-formed record
 pub standard_records_are_wide : StandardRecordsAreWide
@@ -134,7 +160,7 @@ standard_records_are_wide url is = record {
   scheme = is.scheme;
   host = wide_url_host _ url.host is.host;
   port = is.port;
-  path = is.path;
+  path = wide_url_path _ url.host url.path is.path;
   query = is.query;
   fragment = is.fragment;
 }

@@ -2,9 +2,9 @@
 use Rattle.std.proofs.Common.{◌≡◌, ℕ, Bool, true, false, ◌==◌, List, [], ◌∷◌, refl, ap, inl, inr, eqb-true}
 use Rattle.std.proofs.lemmas.Bool.{cases_Bool, and_parts, false≢true}
 use Rattle.uv_model.specs.Ascii.{space}
+use Rattle.uv_model.specs.Path.{IsPathRelative}
 use Rattle.uv_model.specs.Records.Denote.{end_escaped}
 use Rattle.uv_model.specs.Units.{is_faultless, is_unit_at, is_url_code_point}
-use Rattle.uv_model.specs.Valid.{IsOpaquePath}
 use Rattle.uv_model.proofs.Paths.JoinedSegments.{faultless_path}
 
 -- a space is always a fault of units
@@ -26,7 +26,8 @@ end_escaped-units followed (c ∷ next ∷ rest) units =
     ap (λ cs. c ∷ cs)
     (end_escaped-units followed (next ∷ rest) (and_parts (is_unit_at c (next ∷ rest)) _ units).1)
 
--- and so does the opaque path of a valid text
-pub end_escaped-opaque : (followed : Bool) (text : List ℕ) → IsOpaquePath text → end_escaped followed text ≡ text
-end_escaped-opaque followed text (segments, path) =
+-- and so does a path-relative string
+pub end_escaped-opaque : (followed : Bool) (segments : List (List ℕ)) (text : List ℕ) → IsPathRelative segments text
+    → end_escaped followed text ≡ text
+end_escaped-opaque followed segments text path =
     end_escaped-units followed text (faultless_path segments text path)

@@ -1,9 +1,9 @@
--- A path behind an authority, of either profile, is `/` and segments.
+-- A path behind an authority, of any profile, is `/` and segments.
 use Rattle.std.proofs.Common.{ℕ, List, inl, inr}
 use Rattle.uv_model.specs.declared.profile.Profile.{Profile}
-use Rattle.uv_model.specs.declared.profile.Profile.TheVariants.{Standard, Wide}
+use Rattle.uv_model.specs.declared.profile.Profile.TheVariants.{Standard, Wide, Parser}
 use Rattle.uv_model.specs.Path.{IsPathAbsolute, IsPathSlashed, MayBePathSlashed}
-use Rattle.uv_model.specs.Valid.{IsPathBehind, MayBePathBehind}
+use Rattle.uv_model.specs.Valid.{IsPathAlone, IsPathBehind, MayBePathBehind}
 
 -- a path-absolute string is `/` and segments
 pub slashed_absolute : (segments : List (List ℕ)) (text : List ℕ) → IsPathAbsolute segments text
@@ -16,9 +16,17 @@ pub slashed_behind : (profile : Profile) (segments : List (List ℕ)) (text : Li
     → IsPathBehind profile segments text → IsPathSlashed segments text
 slashed_behind Standard segments text path = slashed_absolute segments text path
 slashed_behind Wide segments text path = path
+slashed_behind Parser segments text path = path
 
 -- where there is one
 pub slashed_or_none : (profile : Profile) (segments : List (List ℕ)) (text : List ℕ)
     → MayBePathBehind profile segments text → MayBePathSlashed segments text
 slashed_or_none profile segments text (inl none) = inl none
 slashed_or_none profile segments text (inr path) = inr (slashed_behind profile segments text path)
+
+-- and so is a path without a host before it
+pub alone_or_none : (profile : Profile) (segments : List (List ℕ)) (text : List ℕ)
+    → IsPathAlone profile segments text → MayBePathSlashed segments text
+alone_or_none Standard segments text path = inr (slashed_absolute segments text path)
+alone_or_none Wide segments text path = inr path
+alone_or_none Parser segments text path = slashed_or_none Parser segments text path

@@ -1,17 +1,17 @@
 -- What a valid text denotes is well formed, form by form.
-use Rattle.std.proofs.Common.{◌≡◌, ℕ, true, false, not, ◌&&◌, List, [], ◌∷◌, Option, Some, None, refl, sym, subst}
+use Rattle.std.proofs.Common.{◌≡◌, ℕ, Bool, true, false, not, ◌&&◌, List, [], ◌∷◌, Option, Some, None, refl, sym, subst}
 use Rattle.std.proofs.Common.{inl, inr}
 use Rattle.std.specs.Prelude.{option_map}
 use Rattle.std.proofs.lemmas.Bool.{cases_Bool, false≢true}
 use Rattle.uv_model.specs.declared.profile.Profile.{Profile}
-use Rattle.uv_model.specs.declared.profile.Profile.TheVariants.{Standard, Wide}
+use Rattle.uv_model.specs.declared.profile.Profile.TheVariants.{Standard, Wide, Parser}
 use Rattle.uv_model.specs.declared.scheme.Class.{Class}
 use Rattle.uv_model.specs.declared.scheme.Class.TheVariants.{Special, File, Other}
 use Rattle.uv_model.specs.declared.host.Host.{Host}
 use Rattle.uv_model.specs.declared.path.UrlPath.{UrlPath}
 use Rattle.uv_model.specs.declared.path.UrlPath.TheVariants.{Opaque, Segments}
 use Rattle.uv_model.specs.Records.Denote.{authority_host, authority_path, denote, denoted_host, denoted_path}
-use Rattle.uv_model.specs.Records.Denote.{denoted_port, denoted_query, denoted_scheme, has_tail, kept_drive}
+use Rattle.uv_model.specs.Records.Denote.{denoted_port, denoted_query, denoted_scheme, end_escaped, has_tail, kept_drive}
 use Rattle.uv_model.specs.Records.Denote.{listed_segments}
 use Rattle.uv_model.specs.Encoding.{encoded}
 use Rattle.uv_model.specs.Parts.{Form, Parts, SchemeAuthority, SchemePath, SchemeOpaque, Authority, PathAbsolute}
@@ -19,8 +19,9 @@ use Rattle.uv_model.specs.Parts.{PathRelative, NoPath, has_scheme}
 use Rattle.uv_model.specs.Scheme.{default_port, is_scheme, lowercase, scheme_class}
 use Rattle.uv_model.specs.Setting.{setting_of}
 use Rattle.uv_model.specs.Records.Url.{Url}
-use Rattle.uv_model.specs.Valid.{FitsBase, FitsForm, FitsScheme, HasAuthority, MayBeUnits, Valid, scheme_in}
-use Rattle.uv_model.specs.Records.WellFormed.{AreUrlSegments, IsUrlHost, IsUrlPath, IsUrlPort, IsUrlQuery}
+use Rattle.uv_model.specs.Valid.{FitsBase, FitsForm, FitsScheme, HasAuthority, IsOpaquePath, MayBeUnits, Valid}
+use Rattle.uv_model.specs.Valid.{scheme_in}
+use Rattle.uv_model.specs.Records.WellFormed.{AreUrlSegments, IsUrlHost, IsUrlOpaquePath, IsUrlPath, IsUrlPort, IsUrlQuery}
 use Rattle.uv_model.specs.Records.WellFormed.{IsUrlScheme, MayBeWellFormed, WellFormed}
 use Rattle.uv_model.specs.Laws.Wholes.{DenotedRecordsAreWellFormed}
 use Rattle.uv_model.specs.Path.{IsPathAbsolute, IsPathRelative, is_drive_letter, is_normalized_drive_letter, shorten}
@@ -29,8 +30,10 @@ use Rattle.uv_model.proofs.Paths.OpaquePaths.{end_escaped-opaque}
 use Rattle.uv_model.proofs.Paths.WalkLemmas.{AreUrlSegments-shorten}
 use Rattle.uv_model.proofs.SchemeLemmas.{default_port-lowercase, is_scheme-lowercase, no_uppercase-lowercase}
 use Rattle.uv_model.proofs.SchemeLemmas.{scheme_class-lowercase}
+use Rattle.uv_model.proofs.Hosts.ParserTexts.{wide_texts_are_parsers}
 use Rattle.uv_model.proofs.Hosts.StandardTexts.{standard_texts_are_wide}
-use Rattle.uv_model.proofs.Records.WellFormedLemmas.{IsUrlFragment-encoded, IsUrlOpaquePath-encoded, IsUrlQuery-encoded}
+use Rattle.uv_model.proofs.Paths.SpacedPaths.{spaced_path_encoded}
+use Rattle.uv_model.proofs.Records.WellFormedLemmas.{IsUnspacedPath-encoded, IsUrlFragment-encoded, IsUrlQuery-encoded}
 
 -- the scheme of a text in lower case
 IsUrlScheme-lowercase : (scheme : List ℕ) → is_scheme scheme ≡ true → IsUrlScheme (lowercase scheme)
@@ -78,7 +81,7 @@ pub record AreDenoted (profile : Profile) (base : Option Url) (class : Class) (f
     pub host : IsUrlHost profile class (denoted_host base form parts)
     pub port :
         IsUrlPort (denoted_scheme base parts.scheme) (denoted_host base form parts) (denoted_port base form parts)
-    pub path : IsUrlPath class (denoted_host base form parts) (denoted_path base class form parts)
+    pub path : IsUrlPath profile class (denoted_host base form parts) (denoted_path base class form parts)
     pub query : IsUrlQuery class (denoted_query base class form parts.query)
 
 -- the whole record
@@ -94,12 +97,21 @@ WellFormed-denoted profile base form parts units are =
       scheme = are.scheme;
       host = subst (λ (k : Class). IsUrlHost profile k host) same are.host;
       port = are.port;
-      path = subst (λ (k : Class). IsUrlPath k host path) same are.path;
+      path = subst (λ (k : Class). IsUrlPath profile k host path) same are.path;
       query = subst (λ (k : Class). IsUrlQuery k (denoted_query base class form parts.query)) same are.query;
       fragment = IsUrlFragment-encoded parts.fragment units;
     }
 
 -- ---- an opaque path
+
+-- what is denoted by an opaque path
+IsUrlOpaquePath-denoted : (profile : Profile) (followed : Bool) (text : List ℕ) → IsOpaquePath profile followed text
+    → IsUrlOpaquePath profile (encoded false (end_escaped followed text))
+IsUrlOpaquePath-denoted Standard followed text (segments, path) =
+    rw (end_escaped-opaque followed segments text path) (IsUnspacedPath-encoded segments text path)
+IsUrlOpaquePath-denoted Wide followed text (segments, path) =
+    rw (end_escaped-opaque followed segments text path) (IsUnspacedPath-encoded segments text path)
+IsUrlOpaquePath-denoted Parser followed text path = spaced_path_encoded followed text path
 
 AreDenoted-opaque : (profile : Profile) (base : Option Url) (parts : Parts) → FitsScheme true parts.scheme
     → FitsForm (setting_of profile base parts.scheme) SchemeOpaque parts
@@ -112,8 +124,7 @@ AreDenoted-opaque profile base parts scheme fits query =
       path = (
         fits.1,
         refl,
-        rw (end_escaped-opaque (has_tail parts) parts.path_text fits.2)
-            (IsUrlOpaquePath-encoded parts.path_text fits.2),
+        IsUrlOpaquePath-denoted profile (has_tail parts) parts.path_text fits.2,
       );
       query = IsUrlQuery-own base (scheme_class (scheme_in base parts)) SchemeOpaque parts.query query (λ e. absurd cc);
     }
@@ -148,7 +159,7 @@ IsAuthority-has profile base parts (Some text) fits =
 record AreOfAuthority (profile : Profile) (base : Option Url) (class : Class) (parts : Parts) : Type 0 where
   host : IsUrlHost profile class (authority_host parts)
   port : IsUrlPort (denoted_scheme base parts.scheme) (authority_host parts) parts.port
-  path : IsUrlPath class (authority_host parts) (Segments (authority_path class parts.segments))
+  path : IsUrlPath profile class (authority_host parts) (Segments (authority_path class parts.segments))
 
 AreOfAuthority-has : (profile : Profile) (base : Option Url) (parts : Parts)
     → HasAuthority (setting_of profile base parts.scheme) parts
@@ -168,9 +179,9 @@ AreOfAuthority-has profile base parts has =
       port =
           subst (λ (h : Option Host). IsUrlPort (denoted_scheme base parts.scheme) h parts.port) (sym is.valued) port;
       path =
-          subst (λ (h : Option Host). IsUrlPath class h (Segments (authority_path class parts.segments)))
+          subst (λ (h : Option Host). IsUrlPath profile class h (Segments (authority_path class parts.segments)))
           (sym is.valued)
-          (IsUrlPath-authority class is.value parts.segments is.each);
+          (IsUrlPath-authority profile class is.value parts.segments is.each);
     }
 
 AreDenoted-scheme_authority : (profile : Profile) (base : Option Url) (parts : Parts) → FitsScheme true parts.scheme
@@ -198,7 +209,7 @@ AreDenoted-path profile base parts scheme fits query =
       scheme = IsUrlScheme-own base parts.scheme scheme;
       host = rw fits.1 tt;
       port = tt;
-      path = IsUrlPath-joined class None [] parts.segments fits.2.behind tt fits.2.relative.joins;
+      path = IsUrlPath-joined profile class None [] parts.segments fits.2.behind tt fits.2.relative.joins;
       query = IsUrlQuery-own base class SchemePath parts.query query (λ e. absurd cc);
     }
 
@@ -227,11 +238,11 @@ AreDenoted-reference_authority profile url parts base none fits query =
     }
 
 -- the segments of a base's path
-AreUrlSegments-base : (class : Class) (host : Option Host) (path : UrlPath) → IsUrlPath class host path
-    → AreUrlSegments (listed_segments path)
-AreUrlSegments-base class host (Opaque text) is = tt
-AreUrlSegments-base class host (Segments []) is = tt
-AreUrlSegments-base class host (Segments (segment ∷ rest)) is = is
+AreUrlSegments-base : (profile : Profile) (class : Class) (host : Option Host) (path : UrlPath)
+    → IsUrlPath profile class host path → AreUrlSegments (listed_segments path)
+AreUrlSegments-base profile class host (Opaque text) is = tt
+AreUrlSegments-base profile class host (Segments []) is = tt
+AreUrlSegments-base profile class host (Segments (segment ∷ rest)) is = is
 
 -- the drive letter that is kept of them
 AreUrlSegments-kept_drive : (class : Class) (path segments : List (List ℕ)) → AreUrlSegments path
@@ -250,7 +261,7 @@ AreUrlSegments-kept_drive File (drive ∷ others) (first ∷ rest) are =
 pub AreDenoted-reference : (profile : Profile) (url : Url) (form : Form) (parts : Parts) → WellFormed profile url
     → parts.scheme ≡ None
     → denoted_host (Some url) form parts ≡ url.host → denoted_port (Some url) form parts ≡ url.port
-    → IsUrlPath (scheme_class url.scheme) url.host (denoted_path (Some url) (scheme_class url.scheme) form parts)
+    → IsUrlPath profile (scheme_class url.scheme) url.host (denoted_path (Some url) (scheme_class url.scheme) form parts)
     → MayBeUnits parts.query → AreDenoted profile (Some url) (scheme_class (scheme_in (Some url) parts)) form parts
 AreDenoted-reference profile url form parts base none host port path query =
     subst (λ (class : Class). AreDenoted profile (Some url) class form parts) (sym (class-reference url parts none))
@@ -265,29 +276,29 @@ AreDenoted-reference profile url form parts base none host port path query =
 -- the path of a path-absolute reference
 pub IsUrlPath-absolute : (profile : Profile) (url : Url) (parts : Parts) → WellFormed profile url
     → IsPathAbsolute parts.segments parts.path_text
-    → IsUrlPath (scheme_class url.scheme) url.host
+    → IsUrlPath profile (scheme_class url.scheme) url.host
     (denoted_path (Some url) (scheme_class url.scheme) PathAbsolute parts)
 IsUrlPath-absolute profile url parts base path =
     let class : Class = scheme_class url.scheme in
     let segments : List (List ℕ) = listed_segments url.path in
     let start : AreUrlSegments (kept_drive class segments parts.segments)
-    = AreUrlSegments-kept_drive class segments parts.segments (AreUrlSegments-base class url.host url.path base.path)
+    = AreUrlSegments-kept_drive class segments parts.segments (AreUrlSegments-base profile class url.host url.path base.path)
     in
-    IsUrlPath-joined class url.host (kept_drive class segments parts.segments) parts.segments path.behind start
+    IsUrlPath-joined profile class url.host (kept_drive class segments parts.segments) parts.segments path.behind start
     path.relative.joins
 
 -- the path of a path-relative reference
 IsUrlPath-relative : (profile : Profile) (url : Url) (parts : Parts) → WellFormed profile url
     → IsPathRelative parts.segments parts.path_text
-    → IsUrlPath (scheme_class url.scheme) url.host
+    → IsUrlPath profile (scheme_class url.scheme) url.host
     (denoted_path (Some url) (scheme_class url.scheme) PathRelative parts)
 IsUrlPath-relative profile url parts base path =
     let class : Class = scheme_class url.scheme in
     let segments : List (List ℕ) = listed_segments url.path in
     let start : AreUrlSegments (shorten class segments)
-    = AreUrlSegments-shorten class segments (AreUrlSegments-base class url.host url.path base.path)
+    = AreUrlSegments-shorten class segments (AreUrlSegments-base profile class url.host url.path base.path)
     in
-    IsUrlPath-joined class url.host (shorten class segments) parts.segments parts.path_text start path.joins
+    IsUrlPath-joined profile class url.host (shorten class segments) parts.segments parts.path_text start path.joins
 
 -- ---- all forms
 
@@ -352,13 +363,16 @@ denoted_same profile base text parts may valid =
     WellFormed-denoted profile base parts.form parts valid.fragment
     (AreDenoted-form profile base parts.form parts may valid.scheme valid.against valid.form valid.query)
 
--- against a base of the wide profile it is a record of that profile
-denoted_wide : (profile : Profile) (base : Option Url) (text : List ℕ) (parts : Parts) → MayBeWellFormed Wide base
-    → Valid profile base text parts → WellFormed Wide (denote base parts)
-denoted_wide Standard base text parts may valid =
-    denoted_same Wide base text parts may (standard_texts_are_wide base text parts valid)
-denoted_wide Wide base text parts may valid = denoted_same Wide base text parts may valid
+-- against a base of the parser's profile it is a record of that profile
+denoted_widest : (profile : Profile) (base : Option Url) (text : List ℕ) (parts : Parts) → MayBeWellFormed Parser base
+    → Valid profile base text parts → WellFormed Parser (denote base parts)
+denoted_widest Standard base text parts may valid =
+    denoted_same Parser base text parts may
+    (wide_texts_are_parsers base text parts (standard_texts_are_wide base text parts valid))
+denoted_widest Wide base text parts may valid =
+    denoted_same Parser base text parts may (wide_texts_are_parsers base text parts valid)
+denoted_widest Parser base text parts may valid = denoted_same Parser base text parts may valid
 
 -- what a valid text denotes is well formed
 pub denoted_records_are_well_formed : DenotedRecordsAreWellFormed
-denoted_records_are_well_formed = record { same = denoted_same; wide = denoted_wide }
+denoted_records_are_well_formed = record { same = denoted_same; widest = denoted_widest }

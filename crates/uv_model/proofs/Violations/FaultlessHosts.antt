@@ -1,5 +1,5 @@
 -- A valid host or port has no violation.
-use Rattle.std.proofs.Common.{◌≡◌, ◌≢◌, ℕ, true, false, not, ◌==◌, List, [], ◌∷◌, Option, Some, None, codes, length}
+use Rattle.std.proofs.Common.{◌≡◌, ◌≢◌, ℕ, Bool, true, false, not, ◌==◌, List, [], ◌∷◌, Option, Some, None, codes, length}
 use Rattle.std.proofs.Common.{drop, refl, sym, ap, ◌∙◌, inl, inr, arith, subst, zero, suc}
 use Rattle.std.specs.List.{list_all}
 use Rattle.std.specs.Char.{is_ascii_digit}
@@ -9,85 +9,103 @@ use Rattle.std.proofs.lemmas.Bool.Decides.{nat_tests}
 use Rattle.std.proofs.lemmas.List.{length-append}
 use Rattle.idna.specs.Validity.{has_ace_prefix}
 use Rattle.uv_model.specs.declared.profile.Profile.{Profile}
-use Rattle.uv_model.specs.declared.profile.Profile.TheVariants.{Standard, Wide}
+use Rattle.uv_model.specs.declared.profile.Profile.TheVariants.{Standard, Wide, Parser}
+use Rattle.uv_model.specs.declared.scheme.Class.{Class}
 use Rattle.uv_model.specs.declared.host.Host.{Host}
 use Rattle.uv_model.specs.declared.host.Host.TheVariants.{Domain, V4, V6, Opaque, Empty}
 use Rattle.uv_model.specs.declared.rule.Rule.{Rule}
 use Rattle.uv_model.specs.declared.rule.Rule.TheVariants.{HostDomain, HostNumber, HostIpv6, HostCodePoint, PortDigit}
 use Rattle.uv_model.specs.declared.rule.Rule.TheVariants.{PortRange, CodePoint, Percent}
-use Rattle.uv_model.specs.Hosts.Address.{IsIpv4, IsBracketedIpv6}
-use Rattle.uv_model.specs.Hosts.Domain.{IsForm, has_permitted, is_permitted, has_lengths, parser_form}
+use Rattle.uv_model.specs.Hosts.Address.{IsBracketedIpv6}
+use Rattle.uv_model.specs.Hosts.Domain.{IsForm, IsWrittenForm, has_permitted, is_permitted, has_lengths, parser_form}
+use Rattle.uv_model.specs.Hosts.StoppedHost.{is_stopped}
+use Rattle.uv_model.specs.WrittenProfiles.{IsWritten}
 use Rattle.uv_model.specs.Ascii.{left_bracket}
 use Rattle.uv_model.specs.Hosts.OpaqueHost.{IsOpaqueHost, is_forbidden_host, starts_with_bracket}
 use Rattle.uv_model.specs.Violations.OpaqueHostViolation.{OpaqueHostViolation}
 use Rattle.uv_model.specs.Valid.{IsHostText, IsFileHostText, IsOpaqueHostText, IsPortText}
 use Rattle.uv_model.specs.Violations.Violation.{HostTextViolation, PortViolation}
-use Rattle.uv_model.proofs.Addresses.AddressUniqueness.{ipv4_no_bracket, bracketed_bracket}
+use Rattle.uv_model.proofs.Addresses.AddressUniqueness.{bracketed_bracket}
+use Rattle.uv_model.proofs.Hosts.NumberLemmas.{ipv4_text_no_bracket, ipv4_text_not_empty}
 use Rattle.uv_model.proofs.Violations.ViolationLemmas.{opaque_violation_within}
-use Rattle.uv_model.proofs.Hosts.DomainLemmas.{domain_no_number}
+use Rattle.uv_model.proofs.Hosts.DomainLemmas.{domain_no_number, nothing_formed}
 use Rattle.uv_model.proofs.Violations.UnitViolationLemmas.{no_violation-units}
 
 -- ---- what a text with a form isn't
 
--- it isn't empty
-pub form_not_empty : (profile : Profile) (form : List ℕ) → IsForm profile [] form → ⊥
+-- it isn't empty where it is written
+written_not_empty : (profile : Profile) (form : List ℕ) → IsWrittenForm profile [] form → ⊥
 unfolding parser_form has_ace_prefix
-form_not_empty profile form is =
+written_not_empty profile form is =
     let same : [] ≡ form = same_Some [] form is.parsed in
     false≢true (subst (λ (f : List ℕ). has_lengths f ≡ true) (sym same) is.lengths)
 
-permitted_no_bracket : (profile : Profile) (c : ℕ) → is_permitted profile c ≡ true → (c == left_bracket) ≡ false
-permitted_no_bracket Standard c permitted = grind (arith, nat_tests)
-permitted_no_bracket Wide c permitted = grind (arith, nat_tests)
+-- it isn't empty
+pub form_not_empty : (profile : Profile) (form : List ℕ) → IsForm profile [] form → ⊥
+form_not_empty Standard form is = written_not_empty Standard form is
+form_not_empty Wide form is = written_not_empty Wide form is
+form_not_empty Parser form is = nothing_formed form is.1
+
+permitted_no_bracket : (profile : Profile) (c : ℕ) → IsWritten profile → is_permitted profile c ≡ true
+    → (c == left_bracket) ≡ false
+permitted_no_bracket Standard c written permitted = grind (arith, nat_tests)
+permitted_no_bracket Wide c written permitted = grind (arith, nat_tests)
+permitted_no_bracket Parser c written permitted = absurd written
+
+-- it doesn't begin with `[` where it is written
+written_no_bracket : (profile : Profile) (text form : List ℕ) → IsWritten profile → IsWrittenForm profile text form
+    → starts_with_bracket text ≡ false
+unfolding has_permitted
+written_no_bracket profile [] form written is = refl
+written_no_bracket profile (c ∷ rest) form written is =
+    permitted_no_bracket profile c written
+    (and_parts (is_permitted profile c) (list_all (is_permitted profile) rest) is.permitted).0
 
 -- it doesn't begin with `[`
 pub form_no_bracket : (profile : Profile) (text form : List ℕ) → IsForm profile text form
     → starts_with_bracket text ≡ false
-unfolding has_permitted
-form_no_bracket profile [] form is = refl
-form_no_bracket profile (c ∷ rest) form is =
-    permitted_no_bracket profile c
-    (and_parts (is_permitted profile c) (list_all (is_permitted profile) rest) is.permitted).0
+form_no_bracket Standard text form is = written_no_bracket Standard text form tt is
+form_no_bracket Wide text form is = written_no_bracket Wide text form tt is
+form_no_bracket Parser text form is = is.0
 
 -- ---- hosts of classes Special and File
-
--- an IPv4 text isn't empty
-ipv4_not_empty : (value : ℕ) → IsIpv4 [] value → ⊥
-ipv4_not_empty value (a, b, c, d, is, e) =
-    let lengths = simp length-append at (ap length is.spelled) in
-    omega arith
 
 -- a valid host isn't empty
 pub host_not_empty : (profile : Profile) (text : List ℕ) (host : Host) → IsHostText profile text host → text ≢ []
 host_not_empty profile text (Domain form) is nothing = form_not_empty profile form (rw nothing at is.0)
-host_not_empty profile text (V4 value) is nothing = ipv4_not_empty value (rw nothing at is)
+host_not_empty profile text (V4 value) is nothing = ipv4_text_not_empty profile value (rw nothing at is)
 host_not_empty profile text (V6 pieces) is nothing =
     (let starts = bracketed_bracket text pieces is in false≢true (rw nothing at starts))
 host_not_empty profile text (Opaque host) is nothing = is
 host_not_empty profile text Empty is nothing = is
 
--- and its text has no violation
-pub host_text_faultless : (profile : Profile) (text : List ℕ) (host : Host) → IsHostText profile text host
-    → (rule : Rule) → HostTextViolation profile text rule → ⊥
-host_text_faultless profile text (Domain form) is HostDomain (should, none) = none form is.0
-host_text_faultless profile text (Domain form) is HostNumber (should, number) =
+-- and its text, at which the parser doesn't stop, has no violation
+pub host_text_faultless : (profile : Profile) (class : Class) (last : Bool) (text : List ℕ) (host : Host)
+    → is_stopped profile class last text ≡ false → IsHostText profile text host
+    → (rule : Rule) → HostTextViolation profile class last text rule → ⊥
+host_text_faultless profile class last text host free is HostDomain (inl stopped) =
+    false≢true (sym free ∙ stopped.stopped)
+host_text_faultless profile class last text (Domain form) free is HostDomain (inr (should, none)) = none form is.0
+host_text_faultless profile class last text (Domain form) free is HostNumber (unstopped, should, number) =
     domain_no_number profile text form is number
-host_text_faultless profile text (Domain form) is HostIpv6 bad =
+host_text_faultless profile class last text (Domain form) free is HostIpv6 bad =
     false≢true (sym (form_no_bracket profile text form is.0) ∙ bad.bracket)
-host_text_faultless profile text (Domain form) is _ h = h
-host_text_faultless profile text (V4 value) is HostDomain (should, none) = should.no_ipv4 value is
-host_text_faultless profile text (V4 value) is HostNumber (should, number) = should.no_ipv4 value is
-host_text_faultless profile text (V4 value) is HostIpv6 bad =
-    false≢true (sym (ipv4_no_bracket text value is) ∙ bad.bracket)
-host_text_faultless profile text (V4 value) is _ h = h
-host_text_faultless profile text (V6 pieces) is HostDomain (should, none) =
+host_text_faultless profile class last text (Domain form) free is _ h = h
+host_text_faultless profile class last text (V4 value) free is HostDomain (inr (should, none)) =
+    should.no_ipv4 value is
+host_text_faultless profile class last text (V4 value) free is HostNumber (unstopped, should, number) =
+    should.no_ipv4 value is
+host_text_faultless profile class last text (V4 value) free is HostIpv6 bad =
+    false≢true (sym (ipv4_text_no_bracket profile text value is) ∙ bad.bracket)
+host_text_faultless profile class last text (V4 value) free is _ h = h
+host_text_faultless profile class last text (V6 pieces) free is HostDomain (inr (should, none)) =
     false≢true (sym should.no_bracket ∙ bracketed_bracket text pieces is)
-host_text_faultless profile text (V6 pieces) is HostNumber (should, number) =
+host_text_faultless profile class last text (V6 pieces) free is HostNumber (unstopped, should, number) =
     false≢true (sym should.no_bracket ∙ bracketed_bracket text pieces is)
-host_text_faultless profile text (V6 pieces) is HostIpv6 bad = bad.no_value pieces is
-host_text_faultless profile text (V6 pieces) is _ h = h
-host_text_faultless profile text (Opaque host) is rule h = is
-host_text_faultless profile text Empty is rule h = is
+host_text_faultless profile class last text (V6 pieces) free is HostIpv6 bad = bad.no_value pieces is
+host_text_faultless profile class last text (V6 pieces) free is _ h = h
+host_text_faultless profile class last text (Opaque host) free is rule h = is
+host_text_faultless profile class last text Empty free is rule h = is
 
 -- a valid host of a file URL is one of a URL of class Special
 pub file_host_is_host : (profile : Profile) (text : List ℕ) (host : Host) → IsFileHostText profile text host
@@ -99,11 +117,13 @@ file_host_is_host profile text (Opaque host) is = absurd is
 file_host_is_host profile text Empty is = (Domain (codes "localhost"), is)
 
 -- the empty text has no violation but that it is missing
-pub empty_host_faultless : (profile : Profile) (rule : Rule) → HostTextViolation profile [] rule → ⊥
-empty_host_faultless profile HostDomain (should, none) = should.some refl
-empty_host_faultless profile HostNumber (should, number) = should.some refl
-empty_host_faultless profile HostIpv6 bad = false≢true bad.bracket
-empty_host_faultless profile _ h = h
+pub empty_host_faultless : (profile : Profile) (class : Class) (last : Bool) (rule : Rule)
+    → HostTextViolation profile class last [] rule → ⊥
+empty_host_faultless profile class last HostDomain (inl stopped) = stopped.some refl
+empty_host_faultless profile class last HostDomain (inr (should, none)) = should.some refl
+empty_host_faultless profile class last HostNumber (unstopped, should, number) = should.some refl
+empty_host_faultless profile class last HostIpv6 bad = false≢true bad.bracket
+empty_host_faultless profile class last _ h = h
 
 -- ---- opaque hosts
 

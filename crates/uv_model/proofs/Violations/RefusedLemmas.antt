@@ -8,7 +8,6 @@ use Rattle.uv_model.specs.declared.rule.Refusal.{Refusal}
 use Rattle.uv_model.specs.Violations.Refusal.{IsLeast}
 use Rattle.uv_model.specs.Violations.Rule.{rule_number}
 use Rattle.uv_model.specs.Path.{starts_with_slash}
-use Rattle.uv_model.specs.Violations.UnitViolation.{UnitViolation}
 use Rattle.uv_model.specs.Setting.{Setting, setting_of}
 use Rattle.uv_model.specs.Records.Url.{Url}
 use Rattle.uv_model.specs.Cut.{Cut, IsCut, port_place, path_place, query_place, fragment_place}
@@ -24,7 +23,7 @@ use Rattle.uv_model.proofs.Violations.RefusalLemmas.{IsLeast-like}
 use Rattle.uv_model.proofs.Violations.ViolationLemmas.{cut_with, second_slash, host_end, host_before_path}
 use Rattle.uv_model.proofs.Violations.ViolationLemmas.{query_behind_path, fragment_behind_query, host_part_ends}
 use Rattle.uv_model.proofs.Violations.ViolationLemmas.{port_part_ends, port_part_begins, path_start_ends}
-use Rattle.uv_model.proofs.Violations.ViolationLemmas.{path_start_begins, held_ends, path_held_begins}
+use Rattle.uv_model.proofs.Violations.ViolationLemmas.{OfPath, path_start_begins, path_held_begins, path_held_ends}
 use Rattle.uv_model.proofs.Violations.ViolationLemmas.{path_held_after_slash, may_be_begins, query_ends, start_ends}
 
 -- ---- the parts, each with all that follow it
@@ -41,13 +40,9 @@ OfQuery cut = MayBeUnitViolation (query_place cut) cut.query
 abbrev pub FromQuery : Cut → ℕ → Rule → Type 0
 FromQuery cut = Either (OfQuery cut) (FromFragment cut)
 
--- the violations of the path by what it holds
-abbrev pub OfPath : Cut → ℕ → Rule → Type 0
-OfPath cut = Behind (path_place cut) (UnitViolation cut.path_text)
-
 -- those of what the path, the query and the fragment hold
-abbrev pub FromPath : Cut → ℕ → Rule → Type 0
-FromPath cut = Either (OfPath cut) (FromQuery cut)
+abbrev pub FromPath : Setting → Cut → ℕ → Rule → Type 0
+FromPath setting cut = Either (OfPath setting cut) (FromQuery cut)
 
 -- the violations of the path's start
 abbrev pub OfPathStart : Setting → Cut → ℕ → Rule → Type 0
@@ -55,7 +50,7 @@ OfPathStart setting cut = Behind (path_place cut) (PathStartViolation setting cu
 
 -- those of the path's start and of what follows
 abbrev pub FromPathStart : Setting → Cut → ℕ → Rule → Type 0
-FromPathStart setting cut = Either (OfPathStart setting cut) (FromPath cut)
+FromPathStart setting cut = Either (OfPathStart setting cut) (FromPath setting cut)
 
 -- those of the port and of what follows it
 abbrev pub FromPort : Setting → Cut → ℕ → Rule → Type 0
@@ -95,17 +90,17 @@ second_slash_within (c ∷ d ∷ rest) =
     let most : second_slash (c ∷ d ∷ rest) ≤ 1 = one_at_most (starts_with_two_slashes (c ∷ d ∷ rest)) in
     omega arith
 
-path_begins : (setting : Setting) (cut : Cut) → Begins (FromPath cut) (path_place cut + second_slash cut.path_text) 13
+path_begins : (setting : Setting) (cut : Cut) → Begins (FromPath setting cut) (path_place cut + second_slash cut.path_text) 13
 path_begins setting cut =
     let within = second_slash_within cut.path_text in
     let query = query_behind_path cut in
-    begins_either (OfPath cut) (FromQuery cut) (path_place cut + second_slash cut.path_text) 13
-    (path_held_begins (path_place cut) cut.path_text) (query_begins cut _ (omega arith))
+    begins_either (OfPath setting cut) (FromQuery cut) (path_place cut + second_slash cut.path_text) 13
+    (path_held_begins setting cut) (query_begins cut _ (omega arith))
 
 path_start_all_begin : (setting : Setting) (cut : Cut) → Begins (FromPathStart setting cut) (path_place cut) 11
 path_start_all_begin setting cut =
-    begins_either (OfPathStart setting cut) (FromPath cut) (path_place cut) 11 (path_start_begins setting cut)
-    (begins_earlier (FromPath cut) _ 13 (path_place cut) 11 (path_begins setting cut) (omega arith) (omega arith))
+    begins_either (OfPathStart setting cut) (FromPath setting cut) (path_place cut) 11 (path_start_begins setting cut)
+    (begins_earlier (FromPath setting cut) _ 13 (path_place cut) 11 (path_begins setting cut) (omega arith) (omega arith))
 
 port_all_begin : (setting : Setting) (cut : Cut) → Begins (FromPort setting cut) (host_end cut) 9
 port_all_begin setting cut =
@@ -123,16 +118,16 @@ query_first cut =
     (fragment_begins cut (fragment_place cut) (omega arith))
 
 -- the path before the query
-pub path_first : (cut : Cut) → Precedes (OfPath cut) (FromQuery cut)
-path_first cut =
+pub path_first : (setting : Setting) (cut : Cut) → Precedes (OfPath setting cut) (FromQuery cut)
+path_first setting cut =
     let query = query_behind_path cut in
-    precedes (OfPath cut) (FromQuery cut) (path_place cut + length cut.path_text) 0 13 (omega arith)
-    (held_ends (path_place cut) cut.path_text) (query_begins cut _ (omega arith))
+    precedes (OfPath setting cut) (FromQuery cut) (path_place cut + length cut.path_text) 0 13 (omega arith)
+    (path_held_ends setting cut) (query_begins cut _ (omega arith))
 
 -- the path's start before what the path holds
-pub path_start_first : (setting : Setting) (cut : Cut) → Precedes (OfPathStart setting cut) (FromPath cut)
+pub path_start_first : (setting : Setting) (cut : Cut) → Precedes (OfPathStart setting cut) (FromPath setting cut)
 path_start_first setting cut =
-    precedes (OfPathStart setting cut) (FromPath cut) (path_place cut + second_slash cut.path_text) 12 13 (omega arith)
+    precedes (OfPathStart setting cut) (FromPath setting cut) (path_place cut + second_slash cut.path_text) 12 13 (omega arith)
     (path_start_ends setting cut) (path_begins setting cut)
 
 -- the port before the path's start
@@ -154,25 +149,25 @@ host_first setting cut =
 -- no text violates a rule of the start and one of a judged part
 abbrev pub Rest : Setting → List ℕ → Cut → ℕ → Rule → Type 0
 Rest setting text cut place rule =
-    (IsStarted setting text cut × JudgedViolation setting cut place rule) ⊎ ContentViolation cut place rule
+    (IsStarted setting text cut × JudgedViolation setting cut place rule) ⊎ ContentViolation setting cut place rule
 
 -- what the path, the query and the fragment hold begins no earlier than such a violation stands
-held_begin : (cut : Cut) → Begins (FromPath cut) (slashes_place cut) 13
-held_begin cut =
+held_begin : (setting : Setting) (cut : Cut) → Begins (FromPath setting cut) (slashes_place cut) 13
+held_begin setting cut =
     let few = one_at_most (starts_with_slash cut.path_text) in
     let query = query_behind_path cut in
-    begins_either (OfPath cut) (FromQuery cut) (slashes_place cut) 13
-    (begins_earlier (OfPath cut) _ 13 (slashes_place cut) 13 (path_held_after_slash (path_place cut) cut.path_text)
+    begins_either (OfPath setting cut) (FromQuery cut) (slashes_place cut) 13
+    (begins_earlier (OfPath setting cut) _ 13 (slashes_place cut) 13 (path_held_after_slash setting cut)
     (omega arith) (omega arith))
     (query_begins cut (slashes_place cut) (omega arith))
 
 -- the start of the text before what the path, the query and the fragment hold
 pub start_before_held : (setting : Setting) (text : List ℕ) (cut : Cut)
-    → Precedes (StartViolation setting text cut) (FromPath cut)
+    → Precedes (StartViolation setting text cut) (FromPath setting cut)
 start_before_held setting text cut =
-    precedes (StartViolation setting text cut) (FromPath cut) (slashes_place cut) 3 13 (omega arith)
+    precedes (StartViolation setting text cut) (FromPath setting cut) (slashes_place cut) 3 13 (omega arith)
     (start_ends setting text cut)
-    (held_begin cut)
+    (held_begin setting cut)
 
 -- where a rule of the start is violated, its violation comes first
 start_first : (setting : Setting) (text : List ℕ) (cut : Cut)
@@ -245,27 +240,27 @@ pub query_passes : (cut : Cut) (least : Option Refusal) → IsLeast (OfQuery cut
 query_passes cut least = least_second (OfQuery cut) (FromFragment cut) least
 
 -- a fault of the path comes before those of the query and the fragment
-pub path_refuses : (cut : Cut) (refusal : Refusal) → IsLeast (OfPath cut) (Some refusal)
-    → IsLeast (FromPath cut) (Some refusal)
-path_refuses cut refusal = least_first (OfPath cut) (FromQuery cut) refusal (path_first cut)
+pub path_refuses : (setting : Setting) (cut : Cut) (refusal : Refusal) → IsLeast (OfPath setting cut) (Some refusal)
+    → IsLeast (FromPath setting cut) (Some refusal)
+path_refuses setting cut refusal = least_first (OfPath setting cut) (FromQuery cut) refusal (path_first setting cut)
 
 -- where the path has none, they decide
-pub path_passes : (cut : Cut) (least : Option Refusal) → IsLeast (OfPath cut) None → IsLeast (FromQuery cut) least
-    → IsLeast (FromPath cut) least
-path_passes cut least = least_second (OfPath cut) (FromQuery cut) least
+pub path_passes : (setting : Setting) (cut : Cut) (least : Option Refusal) → IsLeast (OfPath setting cut) None → IsLeast (FromQuery cut) least
+    → IsLeast (FromPath setting cut) least
+path_passes setting cut least = least_second (OfPath setting cut) (FromQuery cut) least
 
 -- a fault of the path's start comes before those of units
 pub path_start_refuses : (setting : Setting) (cut : Cut) (refusal : Refusal)
     → IsLeast (OfPathStart setting cut) (Some refusal)
     → IsLeast (FromPathStart setting cut) (Some refusal)
 path_start_refuses setting cut refusal =
-    least_first (OfPathStart setting cut) (FromPath cut) refusal (path_start_first setting cut)
+    least_first (OfPathStart setting cut) (FromPath setting cut) refusal (path_start_first setting cut)
 
 -- where the path's start has none, those decide
 pub path_start_passes : (setting : Setting) (cut : Cut) (least : Option Refusal)
     → IsLeast (OfPathStart setting cut) None
-    → IsLeast (FromPath cut) least → IsLeast (FromPathStart setting cut) least
-path_start_passes setting cut least = least_second (OfPathStart setting cut) (FromPath cut) least
+    → IsLeast (FromPath setting cut) least → IsLeast (FromPathStart setting cut) least
+path_start_passes setting cut least = least_second (OfPathStart setting cut) (FromPath setting cut) least
 
 -- a fault of the port comes before those of the path and of what follows it
 pub port_refuses : (setting : Setting) (cut : Cut) (refusal : Refusal) → IsLeast (PortPartViolation cut) (Some refusal)

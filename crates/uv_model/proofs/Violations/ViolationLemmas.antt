@@ -5,7 +5,7 @@ use Rattle.std.specs.Prelude.{if◌then◌else◌}
 use Rattle.std.proofs.lemmas.Bool.{false≢true, true≢false, and_parts, eqb-true}
 use Rattle.std.proofs.lemmas.List.{length-append, length-drop}
 use Rattle.uv_model.specs.declared.profile.Profile.{Profile}
-use Rattle.uv_model.specs.declared.profile.Profile.TheVariants.{Standard, Wide}
+use Rattle.uv_model.specs.declared.profile.Profile.TheVariants.{Standard, Wide, Parser}
 use Rattle.uv_model.specs.declared.scheme.Class.{Class}
 use Rattle.uv_model.specs.declared.scheme.Class.TheVariants.{Special, File, Other}
 use Rattle.uv_model.specs.declared.rule.Rule.{Rule}
@@ -23,12 +23,13 @@ use Rattle.uv_model.specs.Violations.OpaqueHostViolation.{OpaqueHostViolation}
 use Rattle.uv_model.specs.Units.{is_url_code_point}
 use Rattle.uv_model.specs.Setting.{Setting}
 use Rattle.uv_model.specs.Cut.{Cut, scheme_end, path_place, query_place, fragment_place, starts_with_two_slashes}
-use Rattle.uv_model.specs.Cut.{written_start, written_middle}
+use Rattle.uv_model.specs.Cut.{ends_at_host, is_followed, written_start, written_middle}
 use Rattle.uv_model.specs.Violations.Violation.{Behind, StartViolation, HostTextViolation, HostContentViolation}
 use Rattle.uv_model.specs.Violations.Violation.{HostViolation, PortViolation, PathStartViolation, HasEmptyFirst}
 use Rattle.uv_model.specs.Violations.Violation.{HostPartViolation, PortPartViolation, MayBeUnitViolation}
-use Rattle.uv_model.specs.Violations.Violation.{slashes_place}
+use Rattle.uv_model.specs.Violations.Violation.{PathContentViolation, has_opaque_path, slashes_place}
 use Rattle.uv_model.proofs.Violations.LeastLemmas.{Ends, Begins}
+use Rattle.uv_model.proofs.Violations.SpacedPathLemmas.{path_violation-unit}
 
 -- ---- places within a text
 
@@ -74,32 +75,33 @@ some_length [] some = absurd (some refl)
 some_length (c ∷ rest) some = omega arith
 
 -- a host with a fault of what it holds isn't empty
-host_text_some : (profile : Profile) (text : List ℕ) (rule : Rule) → HostTextViolation profile text rule
-    → 0 < length text
-host_text_some profile text HostDomain h = some_length text h.0.some
-host_text_some profile text HostNumber h = some_length text h.0.some
-host_text_some profile [] HostIpv6 h = absurd (false≢true h.bracket)
-host_text_some profile (c ∷ rest) HostIpv6 h = omega arith
-host_text_some profile text _ h = absurd h
+host_text_some : (profile : Profile) (class : Class) (last : Bool) (text : List ℕ) (rule : Rule)
+    → HostTextViolation profile class last text rule → 0 < length text
+host_text_some profile class last text HostDomain (inl stopped) = some_length text stopped.some
+host_text_some profile class last text HostDomain (inr (should, none)) = some_length text should.some
+host_text_some profile class last text HostNumber (unstopped, should, number) = some_length text should.some
+host_text_some profile class last [] HostIpv6 h = absurd (false≢true h.bracket)
+host_text_some profile class last (c ∷ rest) HostIpv6 h = omega arith
+host_text_some profile class last text _ h = absurd h
 
 -- a fault of what a host holds stands within its text
-held_host_within : (profile : Profile) (class : Class) (text : List ℕ) (place : ℕ) (rule : Rule)
-    → HostContentViolation profile class text place rule
+held_host_within : (profile : Profile) (class : Class) (last : Bool) (text : List ℕ) (place : ℕ) (rule : Rule)
+    → HostContentViolation profile class last text place rule
     → place < length text
-held_host_within profile Special text place rule (h, at) =
-    (let some = host_text_some profile text rule h in omega arith)
-held_host_within profile File text place rule (h, at) = (let some = host_text_some profile text rule h in omega arith)
-held_host_within profile Other text place rule h = opaque_violation_within text place rule h
+held_host_within profile Special last text place rule (h, at) =
+    (let some = host_text_some profile Special last text rule h in omega arith)
+held_host_within profile File last text place rule (h, at) =
+    (let some = host_text_some profile File last text rule h in omega arith)
+held_host_within profile Other last text place rule h = opaque_violation_within text place rule h
 
 -- a fault of a host stands within its text, or is that of a missing host
-host_violation_ends : (profile : Profile) (class : Class) (text : List ℕ) (port_text : Option (List ℕ))
-    (path_text : List ℕ) (place : ℕ)
-    (rule : Rule)
-    → HostViolation profile class text port_text path_text place rule
+host_violation_ends : (profile : Profile) (class : Class) (last : Bool) (text : List ℕ)
+    (port_text : Option (List ℕ)) (path_text : List ℕ) (place : ℕ) (rule : Rule)
+    → HostViolation profile class last text port_text path_text place rule
     → (place < length text) ⊎ ((place ≡ 0) × (rule_number rule ≤ 4))
-host_violation_ends profile class text port_text path_text place HostMissing h = inr (h.1, omega arith)
-host_violation_ends profile class text port_text path_text place rule h =
-    inl (held_host_within profile class text place rule h)
+host_violation_ends profile class last text port_text path_text place HostMissing h = inr (h.1, omega arith)
+host_violation_ends profile class last text port_text path_text place rule h =
+    inl (held_host_within profile class last text place rule h)
 
 -- a fault of a port stands within its text, by rule 9 or 10
 port_violation_bounds : (text : List ℕ) (place : ℕ) (rule : Rule) → PortViolation text place rule
@@ -121,6 +123,7 @@ empty_first_starts : (profile : Profile) (path_text : List ℕ) → HasEmptyFirs
     → starts_with_two_slashes path_text ≡ true
 empty_first_starts Standard path_text empty = empty
 empty_first_starts Wide path_text empty = absurd empty
+empty_first_starts Parser path_text empty = absurd empty
 
 -- a fault of a path's start stands no further than that place, by rule 11 or 12
 path_start_bounds : (setting : Setting) (cut : Cut) (place : ℕ) (rule : Rule)
@@ -224,7 +227,9 @@ host_part_ends setting cut =
     go scheme None port_text path_text query fragment = record { by = λ place rule h. absurd h }
     go scheme (Some host_text) port_text path_text query fragment = record {
       by = λ place rule h.
-          elim (host_violation_ends setting.profile setting.class host_text port_text path_text h.inner rule h.holds) [
+          let cut = cut_with scheme (Some host_text) port_text path_text query fragment in
+          elim (host_violation_ends setting.profile setting.class (ends_at_host cut) host_text port_text path_text
+          h.inner rule h.holds) [
             | inl within ↦ inl (omega (arith, h.moved))
             | inr (first, number) ↦ inr (omega (arith, h.moved), number)
           ];
@@ -291,25 +296,48 @@ held_begins start text = record {
       (let bounds = unit_violation_bounds text h.inner rule h.holds in (omega (arith, h.moved), bounds.1));
 }
 
--- those of a path stand behind its first `//`
-pub path_held_begins : (start : ℕ) (text : List ℕ)
-    → Begins (Behind start (UnitViolation text)) (start + second_slash text) 13
-path_held_begins start text = record {
+-- the violations of a path by what it holds
+abbrev pub OfPath : Setting → Cut → ℕ → Rule → Type 0
+OfPath setting cut = Behind (path_place cut) (PathContentViolation setting cut)
+
+-- each is one of units
+held_unit : (setting : Setting) (cut : Cut) (place : ℕ) (rule : Rule) → PathContentViolation setting cut place rule
+    → UnitViolation cut.path_text place rule
+held_unit setting cut place rule h =
+    path_violation-unit setting.profile (has_opaque_path setting.class cut) (is_followed cut) cut.path_text place rule h
+
+-- they end with the path
+pub path_held_ends : (setting : Setting) (cut : Cut)
+    → Ends (OfPath setting cut) (path_place cut + length cut.path_text) 0
+path_held_ends setting cut = record {
+  by = λ place rule h.
+      (let bounds = unit_violation_bounds cut.path_text h.inner rule (held_unit setting cut h.inner rule h.holds) in
+      inl (omega (arith, h.moved)));
+}
+
+-- they stand behind its first `//`
+pub path_held_begins : (setting : Setting) (cut : Cut)
+    → Begins (OfPath setting cut) (path_place cut + second_slash cut.path_text) 13
+path_held_begins setting cut = record {
   from = λ place rule h.
-      (let bounds = unit_violation_bounds text h.inner rule h.holds in
+      (let text = cut.path_text in
+      let unit = held_unit setting cut h.inner rule h.holds in
+      let bounds = unit_violation_bounds text h.inner rule unit in
       let later = one_place (starts_with_two_slashes text) h.inner
-      (λ starts. units_behind_slash text h.inner rule (two_begin_with_one text starts) h.holds) in
+      (λ starts. units_behind_slash text h.inner rule (two_begin_with_one text starts) unit) in
       (omega (arith, h.moved), bounds.1));
 }
 
 -- and behind its first `/`
-pub path_held_after_slash : (start : ℕ) (text : List ℕ)
-    → Begins (Behind start (UnitViolation text)) (start + (if starts_with_slash text then 1 else 0)) 13
-path_held_after_slash start text = record {
+pub path_held_after_slash : (setting : Setting) (cut : Cut)
+    → Begins (OfPath setting cut) (path_place cut + (if starts_with_slash cut.path_text then 1 else 0)) 13
+path_held_after_slash setting cut = record {
   from = λ place rule h.
-      (let bounds = unit_violation_bounds text h.inner rule h.holds in
+      (let text = cut.path_text in
+      let unit = held_unit setting cut h.inner rule h.holds in
+      let bounds = unit_violation_bounds text h.inner rule unit in
       let later
-      = one_place (starts_with_slash text) h.inner (λ starts. units_behind_slash text h.inner rule starts h.holds) in
+      = one_place (starts_with_slash text) h.inner (λ starts. units_behind_slash text h.inner rule starts unit) in
       (omega (arith, h.moved), bounds.1));
 }
 

@@ -12,7 +12,7 @@ use Rattle.uv_model.specs.Parts.{written_behind}
 use Rattle.uv_model.specs.Path.{starts_with_slash}
 use Rattle.uv_model.specs.Setting.{Setting, setting_of}
 use Rattle.uv_model.specs.Records.Url.{Url}
-use Rattle.uv_model.proofs.Violations.ViolationLemmas.{held_ends, host_before_path, host_end, host_part_ends}
+use Rattle.uv_model.proofs.Violations.ViolationLemmas.{path_held_ends, host_before_path, host_end, host_part_ends}
 use Rattle.uv_model.proofs.Violations.ViolationLemmas.{path_start_ends, port_part_ends, query_behind_path}
 use Rattle.uv_model.proofs.Violations.ViolationLemmas.{second_slash, start_ends, unit_violation_bounds}
 use Rattle.uv_model.proofs.Cuts.CutLemmas.{computed_is_cut}
@@ -71,7 +71,7 @@ cut_violation_within setting text cut place rule h = at h
         omega (arith, start, prefix, whole)
     at (inr (inr (inl path))) =
         let end = ends_at _ (path_place cut + length cut.path_text) 0 place rule
-        (held_ends (path_place cut) cut.path_text) path in
+        (path_held_ends setting cut) path in
         omega (arith, start, prefix, whole)
     at (inr (inr (inr (inl query)))) =
         let end = may_be_within (query_place cut) question_mark cut.query place rule query in

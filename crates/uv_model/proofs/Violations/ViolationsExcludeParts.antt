@@ -1,17 +1,17 @@
 -- A valid text has no violation.
-use Rattle.std.proofs.Common.{◌≡◌, ◌≢◌, ℕ, true, false, List, [], ◌∷◌, Option, Some, None, refl, sym, ap, ◌∙◌, inl}
+use Rattle.std.proofs.Common.{◌≡◌, ◌≢◌, ℕ, Bool, true, false, List, [], ◌∷◌, Option, Some, None, refl, sym, ap, ◌∙◌, inl}
 use Rattle.std.proofs.Common.{inr, subst}
-use Rattle.std.specs.Prelude.{IsSome}
+use Rattle.std.specs.Prelude.{IsSome, is_some, not, ◌&&◌, ◌||◌}
 use Rattle.std.proofs.lemmas.Bool.{false≢true}
 use Rattle.uv_model.specs.declared.profile.Profile.{Profile}
-use Rattle.uv_model.specs.declared.profile.Profile.TheVariants.{Standard, Wide}
+use Rattle.uv_model.specs.declared.profile.Profile.TheVariants.{Standard, Wide, Parser}
 use Rattle.uv_model.specs.declared.scheme.Class.{Class}
 use Rattle.uv_model.specs.declared.scheme.Class.TheVariants.{Special, File, Other}
 use Rattle.uv_model.specs.declared.rule.Rule.{Rule}
 use Rattle.uv_model.specs.declared.rule.Rule.TheVariants.{NoScheme, OpaqueBase, TwoSlashes, HostMissing}
 use Rattle.uv_model.specs.declared.rule.Rule.TheVariants.{FirstSegmentEmpty, DriveAfterHost}
 use Rattle.uv_model.specs.Ascii.{slash}
-use Rattle.uv_model.specs.Path.{IsPathAbsolute, IsPathRelative, IsPathSlashed, starts_with_slash}
+use Rattle.uv_model.specs.Path.{IsPathAbsolute, IsPathRelative, IsPathSlashed, IsTakenSpacedPath, starts_with_slash}
 use Rattle.uv_model.specs.Path.{starts_with_drive_segment}
 use Rattle.uv_model.specs.Units.{IsUnits, is_url_code_point}
 use Rattle.uv_model.specs.Records.Url.{Url}
@@ -19,16 +19,20 @@ use Rattle.uv_model.specs.Parts.{Form, SchemeAuthority, SchemePath, SchemeOpaque
 use Rattle.uv_model.specs.Parts.{PathRelative, NoPath, Parts, has_scheme, written}
 use Rattle.uv_model.specs.Setting.{Setting, setting_of}
 use Rattle.uv_model.specs.Valid.{Valid, MayBePathBehind, MayBePortText, MayBeUnits, FitsAuthority, FitsHostText}
-use Rattle.uv_model.specs.Valid.{FitsForm, FitsScheme, FitsBase, FitsDrive, HasNoAuthority}
+use Rattle.uv_model.specs.Valid.{FitsForm, FitsScheme, FitsBase, FitsDrive, HasNoAuthority, IsPathAlone}
+use Rattle.uv_model.specs.Valid.{IsWithoutDrive}
 use Rattle.uv_model.specs.Cut.{Cut, texts_of, class_in, starts_with_two_slashes, query_place, fragment_place}
+use Rattle.uv_model.specs.Cut.{ends_at_host, is_followed}
 use Rattle.uv_model.specs.Violations.OpaqueHostViolation.{OpaqueHostViolation}
 use Rattle.uv_model.specs.Violations.Violation.{StartViolation, HostTextViolation, HostViolation, PathStartViolation}
 use Rattle.uv_model.specs.Violations.Violation.{HasEmptyFirst, HostPartViolation, PortPartViolation}
 use Rattle.uv_model.specs.Violations.Violation.{MayBeUnitViolation, HasHost, ViolationOf, Violation}
-use Rattle.uv_model.specs.Violations.Violation.{starts_with_number_sign, HasOpaquePath}
+use Rattle.uv_model.specs.Violations.Violation.{starts_with_number_sign, HasDrive, HasOpaquePath, LacksFileHost}
+use Rattle.uv_model.specs.Violations.Violation.{PathContentViolation, has_opaque_path}
 use Rattle.uv_model.specs.Laws.Cuts.{TextsWithAViolationHaveNoParts}
 use Rattle.uv_model.proofs.Texts.UnitsLemmas.{IsUnits-nil, IsUnits-unit}
 use Rattle.uv_model.proofs.Violations.UnitViolationLemmas.{no_violation-units}
+use Rattle.uv_model.proofs.Violations.SpacedPathLemmas.{path_violation-unit, taken_faultless}
 use Rattle.uv_model.proofs.Paths.PathLemmas.{IsUnits-join}
 use Rattle.uv_model.proofs.Paths.SlashedPaths.{slashed_absolute, slashed_behind}
 use Rattle.uv_model.proofs.Cuts.ValidCutLemmas.{absolute_without_two_slashes, without_slash_without_two, valid_texts}
@@ -42,64 +46,79 @@ use Rattle.uv_model.proofs.Hosts.HostUniqueness.{opaque_not_empty}
 -- ---- the host, by the class
 
 -- a host that is there and has no violation of what it holds, of class Special
-special_host_faultless : (profile : Profile) (text : List ℕ) (port_text : Option (List ℕ)) (path_text : List ℕ)
-    → text ≢ []
-    → ((rule : Rule) → HostTextViolation profile text rule → ⊥) → (place : ℕ) (rule : Rule)
-    → HostViolation profile Special text port_text path_text place rule → ⊥
-special_host_faultless profile text port_text path_text some none place HostMissing h = some h.0
-special_host_faultless profile text port_text path_text some none place rule h = none rule h.0
+special_host_faultless : (profile : Profile) (last : Bool) (text : List ℕ) (port_text : Option (List ℕ))
+    (path_text : List ℕ) → text ≢ []
+    → ((rule : Rule) → HostTextViolation profile Special last text rule → ⊥) → (place : ℕ) (rule : Rule)
+    → HostViolation profile Special last text port_text path_text place rule → ⊥
+special_host_faultless profile last text port_text path_text some none place HostMissing h = some h.0
+special_host_faultless profile last text port_text path_text some none place rule h = none rule h.0
 
 -- of class File
-file_host_faultless : (profile : Profile) (text : List ℕ) (port_text : Option (List ℕ)) (path_text : List ℕ)
-    → (text ≡ [] → starts_with_slash path_text ≡ true)
-    → ((rule : Rule) → HostTextViolation profile text rule → ⊥) → (place : ℕ) (rule : Rule)
-    → HostViolation profile File text port_text path_text place rule → ⊥
-file_host_faultless profile text port_text path_text slashed none place HostMissing ((nothing, bare), at) =
-    false≢true (sym bare ∙ slashed nothing)
-file_host_faultless profile text port_text path_text slashed none place rule h = none rule h.0
+file_host_faultless : (profile : Profile) (last : Bool) (text : List ℕ) (port_text : Option (List ℕ))
+    (path_text : List ℕ) → (LacksFileHost profile text path_text → ⊥)
+    → ((rule : Rule) → HostTextViolation profile File last text rule → ⊥) → (place : ℕ) (rule : Rule)
+    → HostViolation profile File last text port_text path_text place rule → ⊥
+file_host_faultless profile last text port_text path_text there none place HostMissing (lacks, at) = there lacks
+file_host_faultless profile last text port_text path_text there none place rule h = none rule h.0
 
 -- of class Other
-other_host_faultless : (profile : Profile) (text : List ℕ) (port_text : Option (List ℕ)) (path_text : List ℕ)
-    → (text ≡ [] → port_text ≡ None)
+other_host_faultless : (profile : Profile) (last : Bool) (text : List ℕ) (port_text : Option (List ℕ))
+    (path_text : List ℕ) → (text ≡ [] → port_text ≡ None)
     → ((place : ℕ) (rule : Rule) → OpaqueHostViolation text place rule → ⊥) → (place : ℕ) (rule : Rule)
-    → HostViolation profile Other text port_text path_text place rule → ⊥
-other_host_faultless profile text port_text path_text alone none place HostMissing ((nothing, some), at) =
+    → HostViolation profile Other last text port_text path_text place rule → ⊥
+other_host_faultless profile last text port_text path_text alone none place HostMissing ((nothing, some), at) =
     false≢true (subst (λ (o : Option (List ℕ)). IsSome o) (alone nothing) some)
-other_host_faultless profile text port_text path_text alone none place rule h = none place rule h
+other_host_faultless profile last text port_text path_text alone none place rule h = none place rule h
 
 -- `/` and any segments begin with `/`
 slashed_start : (segments : List (List ℕ)) (text : List ℕ) → IsPathSlashed segments text
     → starts_with_slash text ≡ true
 slashed_start segments text is = rw is.slashed refl
 
+-- a host that is there isn't missing
+host_there : (profile : Profile) (text path_text : List ℕ) → text ≢ [] → LacksFileHost profile text path_text → ⊥
+host_there Standard text path_text some (nothing, bare) = some nothing
+host_there Wide text path_text some (nothing, bare) = some nothing
+host_there Parser text path_text some lacks = lacks
+
+-- nor is one that may be empty before the path
+path_alone_there : (profile : Profile) (segments : List (List ℕ)) (text path_text : List ℕ)
+    → IsPathAlone profile segments path_text → LacksFileHost profile text path_text → ⊥
+path_alone_there Standard segments text path_text path (nothing, bare) =
+    false≢true (sym bare ∙ slashed_start segments path_text (slashed_behind Standard segments path_text path))
+path_alone_there Wide segments text path_text path (nothing, bare) =
+    false≢true (sym bare ∙ slashed_start segments path_text (slashed_behind Wide segments path_text path))
+path_alone_there Parser segments text path_text path lacks = lacks
+
 -- what fits the class has no violation of the host
 authority_host_faultless : (class : Class) (setting : Setting) (text : List ℕ) (parts : Parts)
-    → FitsAuthority class setting text parts
-    → (place : ℕ) (rule : Rule) → HostViolation setting.profile class text parts.port_text parts.path_text place rule
-    → ⊥
+    → FitsAuthority class setting text parts → (place : ℕ) (rule : Rule)
+    → HostViolation setting.profile class (ends_at_host (texts_of parts)) text parts.port_text parts.path_text place
+    rule → ⊥
 authority_host_faultless Special setting text parts is =
-    special_host_faultless setting.profile text parts.port_text parts.path_text
+    special_host_faultless setting.profile (ends_at_host (texts_of parts)) text parts.port_text parts.path_text
     (host_not_empty setting.profile text is.value is.host)
-    (host_text_faultless setting.profile text is.value is.host)
-authority_host_faultless File setting text parts (no_port, absent, inl (value, host, valued, path, drive)) =
-    let (other, is) = file_host_is_host setting.profile text value host in
-    file_host_faultless setting.profile text parts.port_text parts.path_text
-    (λ nothing. absurd (host_not_empty setting.profile text other is nothing))
-    (host_text_faultless setting.profile text other is)
+    (host_text_faultless setting.profile Special (ends_at_host (texts_of parts)) text is.value is.unstopped is.host)
+authority_host_faultless File setting text parts (no_port, absent, inl named) =
+    let (other, is) = file_host_is_host setting.profile text named.value named.host in
+    file_host_faultless setting.profile (ends_at_host (texts_of parts)) text parts.port_text parts.path_text
+    (host_there setting.profile text parts.path_text (host_not_empty setting.profile text other is))
+    (host_text_faultless setting.profile File (ends_at_host (texts_of parts)) text other named.unstopped is)
 authority_host_faultless File setting text parts (no_port, absent, inr (nothing, valued, path)) =
-    let none : (rule : Rule) → HostTextViolation setting.profile text rule
-    → ⊥ = rw nothing (empty_host_faultless setting.profile) in
-    file_host_faultless setting.profile text parts.port_text parts.path_text
-    (λ same. slashed_start parts.segments parts.path_text
-    (slashed_behind setting.profile parts.segments parts.path_text path)) none
+    let last = ends_at_host (texts_of parts) in
+    let none : (rule : Rule) → HostTextViolation setting.profile File last text rule
+    → ⊥ = rw nothing (empty_host_faultless setting.profile File last) in
+    file_host_faultless setting.profile last text parts.port_text parts.path_text
+    (path_alone_there setting.profile parts.segments text parts.path_text path) none
 authority_host_faultless Other setting text parts (inl (host, port), given, path) =
-    other_host_faultless setting.profile text parts.port_text parts.path_text
+    other_host_faultless setting.profile (ends_at_host (texts_of parts)) text parts.port_text parts.path_text
     (λ nothing. absurd (opaque_not_empty text parts.host host nothing))
     (opaque_host_faultless text parts.host host)
 authority_host_faultless Other setting text parts (inr (nothing, valued, no_port), given, path) =
     let none : (place : ℕ) (rule : Rule) → OpaqueHostViolation text place rule → ⊥
     = rw nothing empty_opaque_faultless in
-    other_host_faultless setting.profile text parts.port_text parts.path_text (λ same. no_port) none
+    other_host_faultless setting.profile (ends_at_host (texts_of parts)) text parts.port_text parts.path_text
+    (λ same. no_port) none
 
 -- the port is a valid one, if there is any
 authority_port : (class : Class) (setting : Setting) (text : List ℕ) (parts : Parts)
@@ -110,21 +129,29 @@ authority_port File setting text parts is = rw is.0 tt
 authority_port Other setting text parts (inl (host, port), given, path) = port
 authority_port Other setting text parts (inr (nothing, valued, no_port), given, path) = rw no_port tt
 
+-- a path without a host before it is one behind an authority, where there is one
+path_alone_behind : (profile : Profile) (segments : List (List ℕ)) (text : List ℕ)
+    → IsPathAlone profile segments text → MayBePathBehind profile segments text
+path_alone_behind Standard segments text path = inr path
+path_alone_behind Wide segments text path = inr path
+path_alone_behind Parser segments text path = path
+
 -- the path is a valid one
 authority_path : (class : Class) (setting : Setting) (text : List ℕ) (parts : Parts)
     → FitsAuthority class setting text parts
     → MayBePathBehind setting.profile parts.segments parts.path_text
 authority_path Special setting text parts is = is.path
-authority_path File setting text parts (no_port, absent, inl (value, host, valued, path, drive)) = path
-authority_path File setting text parts (no_port, absent, inr (nothing, valued, path)) = inr path
+authority_path File setting text parts (no_port, absent, inl named) = named.path
+authority_path File setting text parts (no_port, absent, inr (nothing, valued, path)) =
+    path_alone_behind setting.profile parts.segments parts.path_text path
 authority_path Other setting text parts is = is.2
 
 -- a path with a drive letter stands behind no host
 authority_drive : (class : Class) (setting : Setting) (text : List ℕ) (parts : Parts)
     → FitsAuthority class setting text parts
-    → class ≡ File → text ≢ [] → starts_with_drive_segment parts.path_text ≡ false
+    → class ≡ File → text ≢ [] → IsWithoutDrive setting.profile parts.path_text
 authority_drive Special setting text parts is class some = absurd cc
-authority_drive File setting text parts (no_port, absent, inl (value, host, valued, path, drive)) class some = drive
+authority_drive File setting text parts (no_port, absent, inl named) class some = named.no_drive
 authority_drive File setting text parts (no_port, absent, inr (nothing, valued, path)) class some =
     absurd (some nothing)
 authority_drive Other setting text parts is class some = absurd cc
@@ -164,12 +191,27 @@ behind_start Standard segments text (inl (nothing, none)) empty = false≢true (
 behind_start Standard segments text (inr is) empty =
     false≢true (sym (absolute_without_two_slashes segments text is) ∙ empty)
 behind_start Wide segments text is empty = empty
+behind_start Parser segments text is empty = empty
 
 -- nor has one that doesn't begin with `//`
 pub one_slash_start : (profile : Profile) (text : List ℕ) → starts_with_two_slashes text ≡ false
     → HasEmptyFirst profile text → ⊥
 one_slash_start Standard text start empty = false≢true (sym start ∙ empty)
 one_slash_start Wide text start empty = empty
+one_slash_start Parser text start empty = empty
+
+-- a path without a drive letter that the profile forbids
+no_drive : (profile : Profile) (text : List ℕ) → IsWithoutDrive profile text → HasDrive profile text → ⊥
+no_drive Standard text bare drive = false≢true (sym bare ∙ drive)
+no_drive Wide text bare drive = false≢true (sym bare ∙ drive)
+no_drive Parser text bare drive = drive
+
+-- a path without a drive letter
+without_drive : (profile : Profile) (text : List ℕ) → starts_with_drive_segment text ≡ false
+    → IsWithoutDrive profile text
+without_drive Standard text bare = bare
+without_drive Wide text bare = bare
+without_drive Parser text bare = tt
 
 -- ---- the parts judged where no rule of the start is violated
 
@@ -218,21 +260,21 @@ path_start_behind setting parts None is place rule h = is
 path_start_behind setting parts (Some text) is place FirstSegmentEmpty (empty, at) =
     behind_start setting.profile parts.segments parts.path_text (authority_path_fits setting parts (Some text) is) empty
 path_start_behind setting parts (Some text) is place DriveAfterHost (class, some, drive, at) =
-    false≢true
-    (sym (authority_drive setting.class setting text parts is class some) ∙ drive)
+    no_drive setting.profile parts.path_text
+    (authority_drive setting.class setting text parts is class some) drive
 path_start_behind setting parts (Some text) is place _ h = h
 
 -- without an authority
 path_start_alone : (setting : Setting) (cut : Cut) → cut.host_text ≡ None
     → starts_with_two_slashes cut.path_text ≡ false
-    → (setting.class ≡ File → HasHost setting.base cut.scheme None → starts_with_drive_segment cut.path_text ≡ false)
+    → (setting.class ≡ File → HasHost setting.base cut.scheme None → IsWithoutDrive setting.profile cut.path_text)
     → (place : ℕ) (rule : Rule) → PathStartViolation setting cut place rule → ⊥
 path_start_alone setting cut none start bare place FirstSegmentEmpty (empty, at) =
     one_slash_start setting.profile cut.path_text start empty
 path_start_alone setting cut none start bare place DriveAfterHost (class, some, drive, at) =
     let host : HasHost setting.base cut.scheme None =
     subst (λ (o : Option (List ℕ)). HasHost setting.base cut.scheme o) none some in
-    false≢true (sym (bare class host) ∙ drive)
+    no_drive setting.profile cut.path_text (bare class host) drive
 path_start_alone setting cut none start bare place _ h = h
 
 -- what is judged has no violation
@@ -240,7 +282,15 @@ pub record IsFaultless (setting : Setting) (parts : Parts) : Type 0 where
   pub host : (place : ℕ) (rule : Rule) → HostPartViolation setting (texts_of parts) place rule → ⊥
   pub port : (place : ℕ) (rule : Rule) → PortPartViolation (texts_of parts) place rule → ⊥
   pub start : (place : ℕ) (rule : Rule) → PathStartViolation setting (texts_of parts) place rule → ⊥
-  pub units : IsUnits parts.path_text
+  pub path : (place : ℕ) (rule : Rule) → PathContentViolation setting (texts_of parts) place rule → ⊥
+
+-- a path of units has no violation of what it holds
+units_faultless : (setting : Setting) (cut : Cut) → IsUnits cut.path_text → (place : ℕ) (rule : Rule)
+    → PathContentViolation setting cut place rule → ⊥
+units_faultless setting cut units place rule h =
+    no_violation-units cut.path_text units place rule
+    (path_violation-unit setting.profile (has_opaque_path setting.class cut) (is_followed cut) cut.path_text place rule
+    h)
 
 faultless_with : (setting : Setting) (parts : Parts) → FitsHostText setting parts parts.host_text
     → IsFaultless setting parts
@@ -248,35 +298,76 @@ faultless_with setting parts is = record {
   host = host_part_faultless setting parts parts.host_text is;
   port = port_part_faultless (texts_of parts) (authority_port_fits setting parts parts.host_text is);
   start = path_start_behind setting parts parts.host_text is;
-  units =
-      behind_units setting.profile parts.segments parts.path_text
-      (authority_path_fits setting parts parts.host_text is);
+  path =
+      units_faultless setting (texts_of parts)
+      (behind_units setting.profile parts.segments parts.path_text
+      (authority_path_fits setting parts parts.host_text is));
 }
 
-faultless_without : (setting : Setting) (parts : Parts) → HasNoAuthority parts → IsUnits parts.path_text
+faultless_without : (setting : Setting) (parts : Parts) → HasNoAuthority parts
+    → ((place : ℕ) (rule : Rule) → PathContentViolation setting (texts_of parts) place rule → ⊥)
     → starts_with_two_slashes parts.path_text ≡ false
-    → (setting.class ≡ File → HasHost setting.base parts.scheme None → starts_with_drive_segment parts.path_text
-    ≡ false)
+    → (setting.class ≡ File → HasHost setting.base parts.scheme None → IsWithoutDrive setting.profile parts.path_text)
     → IsFaultless setting parts
-faultless_without setting parts none units start bare = record {
+faultless_without setting parts none path start bare = record {
   host = none_of_host setting (texts_of parts) none.host_text;
   port = none_of_port (texts_of parts) none.port_text;
   start = path_start_alone setting (texts_of parts) none.host_text start bare;
-  units = units;
+  path = path;
 }
 
 -- a class that isn't File
 other_no_drive : (setting : Setting) (parts : Parts) → setting.class ≡ Other
-    → setting.class ≡ File → HasHost setting.base parts.scheme None → starts_with_drive_segment parts.path_text ≡ false
+    → setting.class ≡ File → HasHost setting.base parts.scheme None → IsWithoutDrive setting.profile parts.path_text
 other_no_drive setting parts other class host = absurd cc
 
 -- a path-absolute reference
-reference_drive : (base : Option Url) (scheme : Option (List ℕ)) (path : List ℕ) → scheme ≡ None → FitsDrive base path
-    → class_in base scheme ≡ File → HasHost base scheme None → starts_with_drive_segment path ≡ false
-reference_drive None None path none is class host = absurd host
-reference_drive None (Some scheme) path none is class host = absurd host
-reference_drive (Some url) None path none is class host = is class host
-reference_drive (Some url) (Some scheme) path none is class host = absurd host
+reference_drive : (profile : Profile) (base : Option Url) (scheme : Option (List ℕ)) (path : List ℕ) → scheme ≡ None
+    → FitsDrive profile base path → class_in base scheme ≡ File → HasHost base scheme None
+    → IsWithoutDrive profile path
+reference_drive profile None None path none is class host = absurd host
+reference_drive profile None (Some scheme) path none is class host = absurd host
+reference_drive profile (Some url) None path none is class host = is class host
+reference_drive profile (Some url) (Some scheme) path none is class host = absurd host
+
+-- an opaque path of the parser's profile
+opaque_path_faultless : (base : Option Url) (parts : Parts) → FitsScheme true parts.scheme → HasNoAuthority parts
+    → class_in base parts.scheme ≡ Other → IsTakenSpacedPath (is_followed (texts_of parts)) parts.path_text
+    → (place : ℕ) (rule : Rule)
+    → PathContentViolation (setting_of Parser base parts.scheme) (texts_of parts) place rule → ⊥
+opaque_path_faultless base parts scheme none other is =
+    let opaque : has_opaque_path (class_in base parts.scheme) (texts_of parts) ≡ true
+    = rw other (is_opaque parts.scheme parts.host_text scheme none.host_text) in
+    rw opaque (taken_faultless (is_followed (texts_of parts)) parts.path_text is)
+  where
+    is_opaque : (given host_text : Option (List ℕ)) → FitsScheme true given → host_text ≡ None
+        → (is_some given && not (is_some host_text || starts_with_slash parts.path_text)) ≡ true
+    is_opaque None host_text scheme absent = absurd scheme
+    is_opaque (Some given) host_text scheme absent = rw (absent, is.spaced.start) refl
+
+-- one of the written profiles
+opaque_units : (profile : Profile) (base : Option Url) (parts : Parts) → HasNoAuthority parts
+    → class_in base parts.scheme ≡ Other → (segments : List (List ℕ)) → IsPathRelative segments parts.path_text
+    → IsFaultless (setting_of profile base parts.scheme) parts
+opaque_units profile base parts none other segments path =
+    let setting = setting_of profile base parts.scheme in
+    faultless_without setting parts none
+    (units_faultless setting (texts_of parts) (relative_units segments parts.path_text path))
+    (without_slash_without_two parts.path_text path.start) (other_no_drive setting parts other)
+
+-- an opaque path by the profile
+opaque_faultless : (profile : Profile) (base : Option Url) (parts : Parts) → FitsScheme true parts.scheme
+    → FitsForm (setting_of profile base parts.scheme) SchemeOpaque parts
+    → IsFaultless (setting_of profile base parts.scheme) parts
+opaque_faultless Standard base parts scheme (none, other, (segments, path), empty) =
+    opaque_units Standard base parts none other segments path
+opaque_faultless Wide base parts scheme (none, other, (segments, path), empty) =
+    opaque_units Wide base parts none other segments path
+opaque_faultless Parser base parts scheme (none, other, path, empty) =
+    faultless_without (setting_of Parser base parts.scheme) parts none
+    (opaque_path_faultless base parts scheme none other path)
+    (without_slash_without_two parts.path_text path.spaced.start)
+    (other_no_drive (setting_of Parser base parts.scheme) parts other)
 
 -- in each form
 pub faultless_form : (profile : Profile) (base : Option Url) (form : Form) (parts : Parts)
@@ -286,27 +377,28 @@ faultless_form profile base SchemeAuthority parts is scheme =
     faultless_with (setting_of profile base parts.scheme) parts is
 faultless_form profile base Authority parts is scheme = faultless_with (setting_of profile base parts.scheme) parts is
 faultless_form profile base SchemePath parts (none, other, path) scheme =
-    faultless_without (setting_of profile base parts.scheme) parts none
-    (absolute_units parts.segments parts.path_text path)
-    (absolute_without_two_slashes parts.segments parts.path_text path)
-    (other_no_drive (setting_of profile base parts.scheme) parts other)
-faultless_form profile base SchemeOpaque parts (none, other, (segments, path), empty) scheme =
-    faultless_without (setting_of profile base parts.scheme) parts none (relative_units segments parts.path_text path)
-    (without_slash_without_two parts.path_text path.start)
-    (other_no_drive (setting_of profile base parts.scheme) parts other)
+    let setting = setting_of profile base parts.scheme in
+    faultless_without setting parts none
+    (units_faultless setting (texts_of parts) (absolute_units parts.segments parts.path_text path))
+    (absolute_without_two_slashes parts.segments parts.path_text path) (other_no_drive setting parts other)
+faultless_form profile base SchemeOpaque parts is scheme = opaque_faultless profile base parts scheme is
 faultless_form profile base PathAbsolute parts (none, path, drive) scheme =
-    faultless_without (setting_of profile base parts.scheme) parts none
-    (absolute_units parts.segments parts.path_text path)
+    let setting = setting_of profile base parts.scheme in
+    faultless_without setting parts none
+    (units_faultless setting (texts_of parts) (absolute_units parts.segments parts.path_text path))
     (absolute_without_two_slashes parts.segments parts.path_text path)
-    (reference_drive base parts.scheme parts.path_text scheme drive)
+    (reference_drive profile base parts.scheme parts.path_text scheme drive)
 faultless_form profile base PathRelative parts (none, path, some, free) scheme =
-    faultless_without (setting_of profile base parts.scheme) parts none
-    (relative_units parts.segments parts.path_text path)
-    (without_slash_without_two parts.path_text path.start) (λ class host. slash_before_drive parts.path_text path.start)
+    let setting = setting_of profile base parts.scheme in
+    faultless_without setting parts none
+    (units_faultless setting (texts_of parts) (relative_units parts.segments parts.path_text path))
+    (without_slash_without_two parts.path_text path.start)
+    (λ class host. without_drive profile parts.path_text (slash_before_drive parts.path_text path.start))
 faultless_form profile base NoPath parts (none, nothing, empty) scheme =
-    faultless_without (setting_of profile base parts.scheme) parts none (rw nothing IsUnits-nil)
+    let setting = setting_of profile base parts.scheme in
+    faultless_without setting parts none (units_faultless setting (texts_of parts) (rw nothing IsUnits-nil))
     (ap starts_with_two_slashes nothing)
-    (λ class host. ap starts_with_drive_segment nothing)
+    (λ class host. without_drive profile parts.path_text (ap starts_with_drive_segment nothing))
 
 -- ---- the start
 
@@ -408,8 +500,7 @@ faultless_cut profile base text parts valid place rule (inr (inl (started, inr (
 faultless_cut profile base text parts valid place rule (inr (inl (started, inr (inr h)))) =
     (faultless_form profile base parts.form parts valid.form valid.scheme).start h.inner rule h.holds
 faultless_cut profile base text parts valid place rule (inr (inr (inl h))) =
-    no_violation-units parts.path_text
-    (faultless_form profile base parts.form parts valid.form valid.scheme).units h.inner rule h.holds
+    (faultless_form profile base parts.form parts valid.form valid.scheme).path h.inner rule h.holds
 faultless_cut profile base text parts valid place rule (inr (inr (inr (inl h)))) =
     may_be_faultless (query_place (texts_of parts)) parts.query valid.query place rule h
 faultless_cut profile base text parts valid place rule (inr (inr (inr (inr h)))) =

@@ -3,7 +3,8 @@ use Rattle.std.specs.Prelude.{◌≡◌, ◌↔◌, ℕ, true, List, ◌∷◌, 
 use Rattle.uv_model.specs.declared.profile.Profile.{Profile}
 use Rattle.uv_model.specs.Records.Url.{Url}
 use Rattle.uv_model.specs.Parts.{Parts}
-use Rattle.uv_model.specs.Valid.{Valid, starts_with_scheme}
+use Rattle.uv_model.specs.Valid.{Valid}
+use Rattle.uv_model.specs.Scheme.{starts_with_scheme}
 use Rattle.uv_model.specs.declared.rule.Rule.{Rule}
 use Rattle.uv_model.specs.Violations.Violation.{Violation}
 use Rattle.uv_model.specs.Ascii.{left_bracket, right_bracket}

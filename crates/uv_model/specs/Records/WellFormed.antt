@@ -3,7 +3,7 @@ use Rattle.std.specs.Prelude.{◌≡◌, ◌≢◌, ℕ, ◌<◌, ◌^◌, Bool,
 use Rattle.std.specs.List.{list_all}
 use Rattle.std.specs.Char.{is_ascii, is_ascii_uppercase}
 use Rattle.uv_model.specs.declared.profile.Profile.{Profile}
-use Rattle.uv_model.specs.declared.profile.Profile.TheVariants.{Standard, Wide}
+use Rattle.uv_model.specs.declared.profile.Profile.TheVariants.{Standard, Wide, Parser}
 use Rattle.uv_model.specs.declared.scheme.Class.{Class}
 use Rattle.uv_model.specs.declared.scheme.Class.TheVariants.{Special, File, Other}
 use Rattle.uv_model.specs.declared.host.Host.{Host}
@@ -14,7 +14,8 @@ use Rattle.uv_model.specs.Ascii.{question_mark, apostrophe}
 use Rattle.uv_model.specs.Hosts.Address.{IsAddress}
 use Rattle.uv_model.specs.Hosts.Domain.{ends_in_number, is_form_code_point}
 use Rattle.uv_model.specs.Hosts.OpaqueHost.{IsOpaqueHost}
-use Rattle.uv_model.specs.Path.{IsSegment, is_without, starts_with_slash, is_single_dot, is_double_dot}
+use Rattle.uv_model.specs.Path.{IsSegment, IsSpacedPath, ends_with_space, is_without, starts_with_slash}
+use Rattle.uv_model.specs.Path.{is_single_dot, is_double_dot}
 use Rattle.uv_model.specs.Scheme.{is_scheme, scheme_class}
 use Rattle.uv_model.specs.Units.{IsUnits}
 use Rattle.uv_model.specs.Records.Url.{Url}
@@ -39,7 +40,8 @@ pub record IsUrlScheme (scheme : List ℕ) : Type 0 where
   pub spelled : is_scheme scheme ≡ true
   pub lower : list_all (λ c. not (is_ascii_uppercase c)) scheme ≡ true
 
--- a domain: lower-case letters, digits and the profile's marks, at least one, and not ending in a number
+-- a domain: lower-case letters, digits and the profile's marks, at least one, and not ending in a number; by the
+-- parser's profile ASCII without forbidden domain code points
 pub record IsUrlDomain (profile : Profile) (form : List ℕ) : Type 0 where
   pub first : ℕ
   pub rest : List ℕ
@@ -94,11 +96,22 @@ IsUrlPort scheme host None = Unit {0}
 IsUrlPort scheme host (Some port) =
     (takes_port (scheme_class scheme) host ≡ true) × (is_default_port scheme port ≡ false) × (port < 2 ^ 16)
 
--- an opaque path: ASCII units without `?` that don't begin with `/`
-pub record IsUrlOpaquePath (text : List ℕ) : Type 0 where
+-- ASCII URL units without `?` that don't begin with `/`
+pub record IsUnspacedPath (text : List ℕ) : Type 0 where
   pub units : IsAsciiUnits text
   pub no_question_mark : is_without question_mark text ≡ true
   pub start : starts_with_slash text ≡ false
+
+-- ASCII with spaces too, of which none is the last code point, where the parser would remove it
+pub record IsEncodedSpacedPath (text : List ℕ) : Type 0 where
+  pub spaced : IsSpacedPath text
+  pub ascii : is_ascii_text text ≡ true
+  pub end : ends_with_space text ≡ false
+
+-- an opaque path by the profile
+abbrev pub IsUrlOpaquePath : Profile → List ℕ → Type 0
+IsUrlOpaquePath Parser text = IsEncodedSpacedPath text
+IsUrlOpaquePath _ text = IsUnspacedPath text
 
 -- a segment of a path: ASCII units without `/` and `?`, and no dot segment
 pub record IsUrlSegment (segment : List ℕ) : Type 0 where
@@ -118,10 +131,10 @@ may_be_empty Other (Some host) = true
 may_be_empty _ _ = false
 
 -- a path of segments, or in class Other without a host an opaque one
-abbrev pub IsUrlPath : Class → Option Host → UrlPath → Type 0
-IsUrlPath class host (Segments []) = may_be_empty class host ≡ true
-IsUrlPath class host (Segments (segment ∷ rest)) = AreUrlSegments (segment ∷ rest)
-IsUrlPath class host (Opaque text) = (class ≡ Other) × (host ≡ None) × IsUrlOpaquePath text
+abbrev pub IsUrlPath : Profile → Class → Option Host → UrlPath → Type 0
+IsUrlPath profile class host (Segments []) = may_be_empty class host ≡ true
+IsUrlPath profile class host (Segments (segment ∷ rest)) = AreUrlSegments (segment ∷ rest)
+IsUrlPath profile class host (Opaque text) = (class ≡ Other) × (host ≡ None) × IsUrlOpaquePath profile text
 
 -- an absent query, or ASCII units, in class Special and File without `'`
 abbrev pub IsUrlQuery : Class → Option (List ℕ) → Type 0
@@ -139,7 +152,7 @@ pub record WellFormed (profile : Profile) (url : Url) : Type 0 where
   pub scheme : IsUrlScheme url.scheme
   pub host : IsUrlHost profile (scheme_class url.scheme) url.host
   pub port : IsUrlPort url.scheme url.host url.port
-  pub path : IsUrlPath (scheme_class url.scheme) url.host url.path
+  pub path : IsUrlPath profile (scheme_class url.scheme) url.host url.path
   pub query : IsUrlQuery (scheme_class url.scheme) url.query
   pub fragment : IsUrlFragment url.fragment
 
@@ -148,8 +161,12 @@ abbrev pub MayBeWellFormed : Profile → Option Url → Type 0
 MayBeWellFormed profile None = Unit {0}
 MayBeWellFormed profile (Some url) = WellFormed profile url
 
--- ---- a law
+-- ---- laws
 
 -- a record that is well formed by the standard profile is so by the wide profile
 abbrev pub StandardRecordsAreWide : Type 0
 StandardRecordsAreWide = (url : Url) → WellFormed Standard url → WellFormed Wide url
+
+-- and one that is so by the wide profile is so by the parser's profile
+abbrev pub WideRecordsAreParsers : Type 0
+WideRecordsAreParsers = (url : Url) → WellFormed Wide url → WellFormed Parser url

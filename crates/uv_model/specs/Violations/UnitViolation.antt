@@ -1,8 +1,10 @@
 -- The faults of a text that should be URL units, after the URL Standard, section 4.3.
-use Rattle.std.specs.Prelude.{◌≡◌, ◌≢◌, ℕ, false, List, ◌∷◌, drop, ◌==◌, if◌then◌else◌}
+use Rattle.std.specs.Prelude.{◌≡◌, ◌≢◌, ℕ, Bool, true, false, List, [], ◌∷◌, drop, ◌==◌, if◌then◌else◌}
+use Rattle.uv_model.specs.declared.profile.Profile.{Profile}
+use Rattle.uv_model.specs.declared.profile.Profile.TheVariants.{Standard, Wide, Parser}
 use Rattle.uv_model.specs.declared.rule.Rule.{Rule}
 use Rattle.uv_model.specs.declared.rule.Rule.TheVariants.{CodePoint, Percent}
-use Rattle.uv_model.specs.Ascii.{percent_sign}
+use Rattle.uv_model.specs.Ascii.{percent_sign, space}
 use Rattle.uv_model.specs.Units.{is_url_code_point, starts_with_two_hex}
 
 -- at the place stands `%`, and two hex digits don't follow it
@@ -24,6 +26,18 @@ abbrev pub UnitViolation : List ℕ → ℕ → Rule → Type 0
 UnitViolation text place CodePoint = HasForeignCodePoint text place
 UnitViolation text place Percent = HasBarePercent text place
 UnitViolation text place _ = ⊥
+
+-- a space at the place of an opaque path that the parser takes: one that a code point follows, or a query or a fragment
+pub record IsTakenSpace (followed : Bool) (text : List ℕ) (place : ℕ) : Type 0 where
+  pub rest : List ℕ
+  pub here : drop place text ≡ space ∷ rest
+  pub behind : followed ≡ false → rest ≢ []
+
+-- the rules that a path can violate by what it holds: by the parser's profile an opaque one may hold spaces
+abbrev pub PathUnitViolation : Profile → Bool → Bool → List ℕ → ℕ → Rule → Type 0
+PathUnitViolation Parser true followed text place rule =
+    UnitViolation text place rule × ¬ (IsTakenSpace followed text place)
+PathUnitViolation _ _ followed text place rule = UnitViolation text place rule
 
 -- the rule that a code point violates where it and what follows it are no unit
 abbrev pub unit_rule : ℕ → Rule

@@ -1,12 +1,12 @@
 -- The violations of a text by a profile, against a base: which rule its cut violates at which place, after the URL
 -- Standard, sections 3.4 and 4.3.
-use Rattle.std.specs.Prelude.{◌≡◌, ◌≢◌, ℕ, ◌+◌, ◌<◌, ◌⊎◌, Bool, true, false, ◌==◌, List, [], ◌∷◌, drop, Option, Some}
-use Rattle.std.specs.Prelude.{None, IsSome, if◌then◌else◌}
+use Rattle.std.specs.Prelude.{◌≡◌, ◌≢◌, ℕ, ◌+◌, ◌<◌, ◌⊎◌, Bool, true, false, not, ◌&&◌, ◌||◌, ◌==◌, List, [], ◌∷◌}
+use Rattle.std.specs.Prelude.{drop, Option, Some, None, IsSome, is_some, if◌then◌else◌}
 use Rattle.std.specs.List.{list_all}
 use Rattle.std.specs.Char.{is_ascii_digit}
 use Rattle.std.specs.Str.Parse.{digits_value}
 use Rattle.uv_model.specs.declared.profile.Profile.{Profile}
-use Rattle.uv_model.specs.declared.profile.Profile.TheVariants.{Standard, Wide}
+use Rattle.uv_model.specs.declared.profile.Profile.TheVariants.{Standard, Wide, Parser}
 use Rattle.uv_model.specs.declared.scheme.Class.{Class}
 use Rattle.uv_model.specs.declared.scheme.Class.TheVariants.{Special, File, Other}
 use Rattle.uv_model.specs.declared.host.Host.TheVariants.{Empty}
@@ -15,16 +15,17 @@ use Rattle.uv_model.specs.declared.rule.Rule.{Rule}
 use Rattle.uv_model.specs.declared.rule.Rule.TheVariants.{NoScheme, OpaqueBase, TwoSlashes, HostMissing, HostDomain}
 use Rattle.uv_model.specs.declared.rule.Rule.TheVariants.{HostNumber, HostIpv6, PortDigit, PortRange}
 use Rattle.uv_model.specs.declared.rule.Rule.TheVariants.{FirstSegmentEmpty, DriveAfterHost}
-use Rattle.uv_model.specs.Hosts.Address.{IsIpv4}
+use Rattle.uv_model.specs.Hosts.Numbers.{IsIpv4Text}
 use Rattle.uv_model.specs.Ascii.{number_sign}
 use Rattle.uv_model.specs.Cut.{Cut, cut_of, starts_with_two_slashes, scheme_end, host_place, port_place, path_place}
-use Rattle.uv_model.specs.Cut.{query_place, fragment_place}
+use Rattle.uv_model.specs.Cut.{query_place, fragment_place, ends_at_host, is_followed}
 use Rattle.uv_model.specs.Hosts.Domain.{IsNumberText, HasNoForm}
 use Rattle.uv_model.specs.Hosts.OpaqueHost.{starts_with_bracket}
+use Rattle.uv_model.specs.Hosts.StoppedHost.{is_stopped}
 use Rattle.uv_model.specs.Violations.OpaqueHostViolation.{IsBadIpv6, OpaqueHostViolation}
 use Rattle.uv_model.specs.Path.{starts_with_slash, starts_with_drive_segment}
 use Rattle.uv_model.specs.Setting.{Setting, setting_of}
-use Rattle.uv_model.specs.Violations.UnitViolation.{UnitViolation}
+use Rattle.uv_model.specs.Violations.UnitViolation.{PathUnitViolation, UnitViolation}
 use Rattle.uv_model.specs.Records.Url.{Url, is_opaque}
 
 -- ---- before any part: a scheme, a base and `//`
@@ -58,36 +59,52 @@ StartViolation setting text cut place _ = ⊥
 -- ---- the host, by the class; places count from its first code point
 
 -- the text isn't empty, doesn't begin with `[` and is no IPv4 text, so that it should be a domain
-pub record ShouldBeDomain (text : List ℕ) : Type 0 where
+pub record ShouldBeDomain (profile : Profile) (text : List ℕ) : Type 0 where
   pub some : text ≢ []
   pub no_bracket : starts_with_bracket text ≡ false
-  pub no_ipv4 : (value : ℕ) → ¬ (IsIpv4 text value)
+  pub no_ipv4 : (value : ℕ) → ¬ (IsIpv4Text profile text value)
 
--- the rules of the host of a URL of class Special or File, but for the rule of a missing host
-abbrev pub HostTextViolation : Profile → List ℕ → Rule → Type 0
-HostTextViolation profile host_text HostDomain = ShouldBeDomain host_text × HasNoForm profile host_text
-HostTextViolation profile host_text HostNumber = ShouldBeDomain host_text × IsNumberText profile host_text
-HostTextViolation profile host_text HostIpv6 = IsBadIpv6 host_text
-HostTextViolation profile host_text _ = ⊥
+-- a text that isn't empty and doesn't begin with `[`, at which the parser stops
+pub record IsStoppedName (profile : Profile) (class : Class) (last : Bool) (text : List ℕ) : Type 0 where
+  pub some : text ≢ []
+  pub no_bracket : starts_with_bracket text ≡ false
+  pub stopped : is_stopped profile class last text ≡ true
+
+-- The rules of the host of a URL of class Special or File, but for the rule of a missing host; `last` says that nothing
+-- of the text follows the host.
+abbrev pub HostTextViolation : Profile → Class → Bool → List ℕ → Rule → Type 0
+HostTextViolation profile class last host_text HostDomain =
+    IsStoppedName profile class last host_text ⊎ (ShouldBeDomain profile host_text × HasNoForm profile host_text)
+HostTextViolation profile class last host_text HostNumber =
+    (is_stopped profile class last host_text ≡ false) × ShouldBeDomain profile host_text
+    × IsNumberText profile host_text
+HostTextViolation profile class last host_text HostIpv6 = IsBadIpv6 host_text
+HostTextViolation profile class last host_text _ = ⊥
+
+-- no path follows the empty host of a file URL, where the profile asks for one
+abbrev pub LacksFileHost : Profile → List ℕ → List ℕ → Type 0
+LacksFileHost Parser host_text path_text = ⊥
+LacksFileHost _ host_text path_text = (host_text ≡ []) × (starts_with_slash path_text ≡ false)
 
 -- The host is missing: in class Special wherever it is empty, in class File where no path follows it, and else where
 -- a port follows it.
-abbrev pub LacksHost : Class → List ℕ → Option (List ℕ) → List ℕ → Type 0
-LacksHost Special host_text port_text path_text = host_text ≡ []
-LacksHost File host_text port_text path_text = (host_text ≡ []) × (starts_with_slash path_text ≡ false)
-LacksHost Other host_text port_text path_text = (host_text ≡ []) × IsSome port_text
+abbrev pub LacksHost : Profile → Class → List ℕ → Option (List ℕ) → List ℕ → Type 0
+LacksHost profile Special host_text port_text path_text = host_text ≡ []
+LacksHost profile File host_text port_text path_text = LacksFileHost profile host_text path_text
+LacksHost profile Other host_text port_text path_text = (host_text ≡ []) × IsSome port_text
 
 -- the rules of a host by what it holds
-abbrev pub HostContentViolation : Profile → Class → List ℕ → ℕ → Rule → Type 0
-HostContentViolation profile Other host_text place rule = OpaqueHostViolation host_text place rule
-HostContentViolation profile _ host_text place rule = HostTextViolation profile host_text rule × (place ≡ 0)
+abbrev pub HostContentViolation : Profile → Class → Bool → List ℕ → ℕ → Rule → Type 0
+HostContentViolation profile Other last host_text place rule = OpaqueHostViolation host_text place rule
+HostContentViolation profile class last host_text place rule =
+    HostTextViolation profile class last host_text rule × (place ≡ 0)
 
 -- the rules of a host
-abbrev pub HostViolation : Profile → Class → List ℕ → Option (List ℕ) → List ℕ → ℕ → Rule → Type 0
-HostViolation profile class host_text port_text path_text place HostMissing =
-    LacksHost class host_text port_text path_text × (place ≡ 0)
-HostViolation profile class host_text port_text path_text place rule =
-    HostContentViolation profile class host_text place rule
+abbrev pub HostViolation : Profile → Class → Bool → List ℕ → Option (List ℕ) → List ℕ → ℕ → Rule → Type 0
+HostViolation profile class last host_text port_text path_text place HostMissing =
+    LacksHost profile class host_text port_text path_text × (place ≡ 0)
+HostViolation profile class last host_text port_text path_text place rule =
+    HostContentViolation profile class last host_text place rule
 
 -- ---- the port; places count from its first code point
 
@@ -120,7 +137,12 @@ HasHost _ _ None = ⊥
 -- an empty first segment that isn't the only one, where the profile forbids it
 abbrev pub HasEmptyFirst : Profile → List ℕ → Type 0
 HasEmptyFirst Standard path_text = starts_with_two_slashes path_text ≡ true
-HasEmptyFirst Wide path_text = ⊥
+HasEmptyFirst _ path_text = ⊥
+
+-- `/`, a drive letter and `/` at the start, where the profile forbids it
+abbrev pub HasDrive : Profile → List ℕ → Type 0
+HasDrive Parser path_text = ⊥
+HasDrive _ path_text = starts_with_drive_segment path_text ≡ true
 
 -- the rules of the start of a path
 abbrev pub PathStartViolation : Setting → Cut → ℕ → Rule → Type 0
@@ -128,7 +150,7 @@ PathStartViolation setting cut place FirstSegmentEmpty =
     HasEmptyFirst setting.profile cut.path_text × (place ≡ 1)
 PathStartViolation setting cut place DriveAfterHost =
     (setting.class ≡ File) × HasHost setting.base cut.scheme cut.host_text
-    × (starts_with_drive_segment cut.path_text ≡ true) × (place ≡ 0)
+    × HasDrive setting.profile cut.path_text × (place ≡ 0)
 PathStartViolation setting cut place _ = ⊥
 
 -- ---- the whole text
@@ -161,7 +183,8 @@ HostPartViolation setting cut place rule = of_host cut.host_text
     of_host None = ⊥
     of_host (Some host_text) =
         Behind (host_place cut)
-        (HostViolation setting.profile setting.class host_text cut.port_text cut.path_text) place rule
+        (HostViolation setting.profile setting.class (ends_at_host cut) host_text cut.port_text cut.path_text) place
+        rule
 
 -- the violations of the port, where there is one
 abbrev pub PortPartViolation : Cut → ℕ → Rule → Type 0
@@ -182,10 +205,21 @@ abbrev pub MayBeUnitViolation : ℕ → Option (List ℕ) → ℕ → Rule → T
 MayBeUnitViolation start None place rule = ⊥
 MayBeUnitViolation start (Some text) place rule = Behind start (UnitViolation text) place rule
 
+-- the path is opaque: behind a scheme of class Other without an authority, and it doesn't begin with `/`
+abbrev pub has_opaque_path : Class → Cut → Bool
+has_opaque_path Other cut =
+    is_some cut.scheme && not (is_some cut.host_text || starts_with_slash cut.path_text)
+has_opaque_path _ cut = false
+
+-- the violations of the path by what it holds
+abbrev pub PathContentViolation : Setting → Cut → ℕ → Rule → Type 0
+PathContentViolation setting cut place rule =
+    PathUnitViolation setting.profile (has_opaque_path setting.class cut) (is_followed cut) cut.path_text place rule
+
 -- the violations of the path, the query and the fragment by what they hold
-abbrev pub ContentViolation : Cut → ℕ → Rule → Type 0
-ContentViolation cut place rule =
-    Behind (path_place cut) (UnitViolation cut.path_text) place rule
+abbrev pub ContentViolation : Setting → Cut → ℕ → Rule → Type 0
+ContentViolation setting cut place rule =
+    Behind (path_place cut) (PathContentViolation setting cut) place rule
     ⊎ (MayBeUnitViolation (query_place cut) cut.query place rule
     ⊎ MayBeUnitViolation (fragment_place cut) cut.fragment place rule)
 
@@ -197,7 +231,7 @@ IsStarted setting text cut = (place : ℕ) (rule : Rule) → ¬ (StartViolation 
 abbrev pub ViolationOf : Setting → List ℕ → Cut → ℕ → Rule → Type 0
 ViolationOf setting text cut place rule =
     StartViolation setting text cut place rule
-    ⊎ ((IsStarted setting text cut × JudgedViolation setting cut place rule) ⊎ ContentViolation cut place rule)
+    ⊎ ((IsStarted setting text cut × JudgedViolation setting cut place rule) ⊎ ContentViolation setting cut place rule)
 
 -- the text, against the base, violates the rule of the profile at the place
 unfoldable pub Violation : Profile → Option Url → List ℕ → ℕ → Rule → Type 0

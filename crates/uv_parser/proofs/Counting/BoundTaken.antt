@@ -14,7 +14,7 @@ use Rattle.uv_parser.specs.Machine.{with_scheme, AuthorityState, HostState, Path
 use Rattle.uv_parser.specs.Machine.{SchemeStartState}
 use Rattle.uv_parser.specs.Rows.References.{root_base}
 use Rattle.uv_parser.specs.Run.{Outcome, first_outcome, run, run_from, settle}
-use Rattle.uv_parser.specs.Removed.{first_removed, removed_behind}
+use Rattle.uv_model.specs.Removed.{first_removed, removed_behind}
 use Rattle.uv_parser.specs.Laws.StepCounts.{BoundIsTaken, IsEnded}
 use Rattle.uv_model.specs.Records.Url.{Url}
 use Rattle.uv_parser.proofs.Loops.AuthorityLoops.{authority_back, drop_many, is_authority_letter, port_row_end}

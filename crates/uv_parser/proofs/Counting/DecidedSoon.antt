@@ -3,9 +3,10 @@ use Rattle.std.proofs.Common.{◌≡◌, ℕ, ◌⊎◌, ◌≤◌, sym, ◌∙�
 use Rattle.uv_model.specs.Parts.{Parts}
 use Rattle.uv_parser.specs.Laws.StepCounts.{TextsAreDecidedSoon, least_step_bound}
 use Rattle.uv_parser.specs.Run.{Stopped, run, step_bound}
-use Rattle.uv_parser.specs.SilentTexts.{Silent}
 use Rattle.uv_parser.proofs.Counting.RunsEnded.{runs_keep_their_end}
 use Rattle.uv_parser.proofs.Done.DecidedBases.{texts_are_decided}
+use Rattle.uv_model.specs.Valid.{Valid}
+use Rattle.uv_model.specs.declared.profile.Profile.TheVariants.{Parser}
 
 -- each text is decided within any number of steps from the bound on, as it is within the wider bound
 pub texts_are_decided_soon : TextsAreDecidedSoon
@@ -21,8 +22,8 @@ texts_are_decided_soon base text steps well within =
     }
   where
     ended : run base text steps ≡ run base text (step_bound text)
-        → ((parts : Parts) × Silent base text parts)
+        → ((parts : Parts) × Valid Parser base text parts)
         ⊎ ((place : ℕ) × (run base text (step_bound text) ≡ Stopped place))
-        → ((parts : Parts) × Silent base text parts) ⊎ ((place : ℕ) × (run base text steps ≡ Stopped place))
+        → ((parts : Parts) × Valid Parser base text parts) ⊎ ((place : ℕ) × (run base text steps ≡ Stopped place))
     ended same (inl silent) = inl silent
     ended same (inr (place, stops)) = inr (place, same ∙ stops)

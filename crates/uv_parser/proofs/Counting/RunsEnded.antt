@@ -10,7 +10,7 @@ use Rattle.uv_parser.specs.Machine.{Turn, onward, again, from_place, stop, turn,
 use Rattle.uv_parser.specs.Machine.{empty_variables}
 use Rattle.uv_parser.specs.Run.{Machine, Outcome, Done, Stopped, Going, first_outcome, settle, step, run, run_from}
 use Rattle.uv_parser.specs.Run.{step_bound}
-use Rattle.uv_parser.specs.Removed.{first_removed}
+use Rattle.uv_model.specs.Removed.{first_removed}
 use Rattle.uv_parser.specs.Laws.StepCounts.{IsEnded, RunsEnd, RunsKeepTheirEnd, least_step_bound}
 use Rattle.uv_model.specs.Records.Url.{Url}
 use Rattle.uv_parser.proofs.Counting.StepCosts.{LeavesFewer, later, later_at_start, later_without_scheme}

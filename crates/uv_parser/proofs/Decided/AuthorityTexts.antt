@@ -1,5 +1,5 @@
--- A text with an authority, with a scheme or without one: the parser is silent on it as its grammar says, or stops. How
--- a run comes to what follows `//` is a parameter, since there alone the two differ.
+-- A text with an authority, with a scheme or without one: it is valid by the parser's profile, or its run stops. How a
+-- run comes to what follows `//` is a parameter, since there alone the two differ.
 use Rattle.std.proofs.Common.{◌≡◌, ◌≢◌, ℕ, true, false, ◌||◌, ◌⊎◌, List, [], ◌∷◌, ◌++◌, Option, Some, None, refl, sym}
 use Rattle.std.proofs.Common.{ap, subst, ◌∙◌, inl, inr, eqb-true, append-nil}
 use Rattle.std.specs.List.{list_all}
@@ -9,16 +9,22 @@ use Rattle.uv_model.specs.declared.host.Host.TheVariants as host
 use Rattle.uv_model.specs.declared.scheme.Class.{Class}
 use Rattle.uv_model.specs.declared.scheme.Class.TheVariants.{Special, File, Other}
 use Rattle.uv_model.specs.Ascii.{slash, colon, backslash, question_mark}
-use Rattle.uv_model.specs.Cut.{IsHostCut}
+use Rattle.uv_model.specs.Cut.{IsHostCut, texts_of}
 use Rattle.uv_parser.specs.Machine.{Variables, begins, is_special, at_pointer, emptied, with_brackets}
 use Rattle.uv_model.specs.Parts.{Form, Parts, written_behind}
-use Rattle.uv_parser.specs.SilentTexts.{Silent, Takes}
 use Rattle.uv_parser.specs.Laws.OtherHosts.{own_value}
 use Rattle.uv_model.specs.Path.{MayBePathSlashed, is_without, starts_with_slash}
 use Rattle.uv_model.specs.Scheme.{default_port, scheme_class}
 use Rattle.uv_model.specs.Units.{is_faultless, is_unit_at}
 use Rattle.uv_model.specs.Records.Url.{Url}
-use Rattle.uv_model.specs.Valid.{port_given}
+use Rattle.uv_model.specs.Valid.{FitsAuthority, IsOpaqueHostText, MayBePortText, Valid, port_given}
+use Rattle.uv_model.specs.Setting.{setting_of}
+use Rattle.uv_model.specs.declared.profile.Profile.TheVariants.{Parser}
+use Rattle.std.proofs.Common.{Bool, not, ◌&&◌, ◌==◌, length, append_assoc}
+use Rattle.std.specs.Prelude.{is_some}
+use Rattle.uv_parser.proofs.Running.KeptTexts.{IsKept}
+use Rattle.uv_parser.proofs.Running.StoppedHosts.{IsHostKept, file_unstopped, host_is_kept, special_unstopped}
+use Rattle.uv_parser.specs.Laws.OtherHosts.{IsValidOtherHost}
 use Rattle.uv_parser.proofs.HostParsing.OtherHosts.{silent_other}
 use Rattle.uv_parser.proofs.Loops.AuthorityStarts.{file_variables, variables_behind_slashes, state_behind_slashes}
 use Rattle.uv_parser.proofs.Loops.AuthorityLoops.{IsDelimiter, is_authority_letter}
@@ -35,7 +41,7 @@ use Rattle.uv_parser.proofs.HostParsing.SpecialHosts.{host_from_parser}
 
 -- What is to be shown of a text: it is silent with parts, or stops.
 abbrev pub SilentOrStops : Option Url → List ℕ → Type 0
-SilentOrStops base text = ((parts : Parts) × Silent base text parts) ⊎ RunStops base text
+SilentOrStops base text = ((parts : Parts) × Valid Parser base text parts) ⊎ RunStops base text
 
 -- a path that is empty or begins with `/` begins with a delimiter, also with a tail behind it
 pub delimits_path : (path : List ℕ) (query fragment : Option (List ℕ)) → (path ≢ [] → starts_with_slash path ≡ true)
@@ -98,16 +104,42 @@ module _ (base : Option Url) (text : List ℕ) (form : Form) (given : Option (Li
     (cut : IsHostCut (scheme_class scheme) host_text port_text)
     (slashed : path ≢ [] → starts_with_slash path ≡ true)
     (free : FreeOfMarks path query)
+    (kept : IsKept ((host_text ++ written_behind colon port_text) ++ (path ++ tail query fragment)))
     (start : (class : Class) → scheme_class scheme ≡ class
     → Stops base (state_behind_slashes class) (variables_behind_slashes class (with_brackets false (emptied v)))
     ((host_text ++ written_behind colon port_text) ++ (path ++ tail query fragment))
     → RunStops base text)
     (silent : (value : Option Host) (port : Option ℕ)
-    → Takes (scheme_class scheme) scheme host_text
+    → FitsAuthority (scheme_class scheme) (setting_of Parser base (Some scheme)) host_text
     (authority_parts form given host_text port_text path query fragment value port)
     → AreFine path query fragment
-    → Silent base text (authority_parts form given host_text port_text path query fragment value port)) where
+    → Valid Parser base text (authority_parts form given host_text port_text path query fragment value port)) where
+  -- ---- what is kept
+
+  -- nothing of the text follows the host
+  abbrev last : Bool
+  last = (length path == 0) && not (is_some port_text || (is_some query || is_some fragment))
+
+  -- no code point of the host is removed
+  host_kept : IsHostKept last host_text
+  host_kept =
+      let behind = path ++ tail query fragment in
+      host_is_kept
+      (texts_of (authority_parts form given host_text port_text path query fragment None None)) host_text
+      (subst IsKept (append_assoc host_text (written_behind colon port_text) behind) kept)
+
+  -- the path behind the authority
+  path_fits : AreFine path query fragment → MayBePathSlashed (segments_behind path) path
+  path_fits fine = slashed_path path fine.0 free.question_mark slashed
+
   -- ---- by the class
+
+  -- what fits a class fits the scheme's
+  of_class : (class : Class) → scheme_class scheme ≡ class → (parts : Parts)
+      → FitsAuthority class (setting_of Parser base (Some scheme)) host_text parts
+      → FitsAuthority (scheme_class scheme) (setting_of Parser base (Some scheme)) host_text parts
+  of_class class is parts fits =
+      subst (λ (k : Class). FitsAuthority k (setting_of Parser base (Some scheme)) host_text parts) (sym is) fits
 
   -- with its host and its port taken, and the rest fine, a text of class Special is silent
   special_taken : scheme_class scheme ≡ Special → list_all (is_authority_letter true) host_text ≡ true
@@ -115,23 +147,19 @@ module _ (base : Option Url) (text : List ℕ) (form : Form) (given : Option (Li
   special_taken special letters taken fine =
       let port = port_given (default_port scheme) port_text in
       let parts = authority_parts form given host_text port_text path query fragment (Some taken.value) port in
-      let takes : Takes Special scheme host_text parts
+      let fits : FitsAuthority Special (setting_of Parser base (Some scheme)) host_text parts
       = record {
+        unstopped =
+            special_unstopped last host_text (letters_no_at_sign true host_text letters)
+            (letters_no_backslash host_text letters) host_kept;
         value = taken.value;
-        host = record {
-          no_at_sign = letters_no_at_sign true host_text letters;
-          no_backslash = letters_no_backslash host_text letters;
-          taken = host_from_parser host_text taken.value taken.parsed;
-        };
+        host = host_from_parser host_text taken.value taken.parsed;
         valued = refl;
         port_text = taken.port_text;
         port = refl;
+        path = path_fits fine;
       } in
-      inl (
-        parts,
-        silent (Some taken.value) port
-            (subst (λ (k : Class). Takes k scheme host_text parts) (sym special) takes) fine,
-      )
+      inl (parts, silent (Some taken.value) port (of_class Special special parts fits) fine)
 
   -- class Special
   special_decided : scheme_class scheme ≡ Special → SilentOrStops base text
@@ -168,19 +196,19 @@ module _ (base : Option Url) (text : List ℕ) (form : Form) (given : Option (Li
             let value = own_value taken.value in
             let port = port_given (default_port scheme) port_text in
             let parts = authority_parts form given host_text port_text path query fragment value port in
-            let takes : Takes Other scheme host_text parts
-            = record {
-              host = silent_other host_text taken.value (letters_no_at_sign false host_text letters) taken.parsed;
-              alone = taken.alone;
-              port_text = taken.port_text;
-              port = refl;
-            } in
-            inl (
-              parts,
-              silent value port (subst (λ (k : Class). Takes k scheme host_text parts) (sym other) takes) fine,
-            )
+            let valid = silent_other host_text taken.value (letters_no_at_sign false host_text letters) taken.parsed in
+            let fits : FitsAuthority Other (setting_of Parser base (Some scheme)) host_text parts
+            = (host_and_port value valid taken.alone taken.port_text, refl, path_fits fine) in
+            inl (parts, silent value port (of_class Other other parts fits) fine)
         | inr stops ↦ inr (start Other other stops)
       ]
+    where
+      host_and_port : (value : Option Host) → IsValidOtherHost host_text value → (host_text ≡ [] → port_text ≡ None)
+          → MayBePortText port_text
+          → (IsOpaqueHostText host_text value × MayBePortText port_text)
+          ⊎ ((host_text ≡ []) × (value ≡ Some host.Empty) × (port_text ≡ None))
+      host_and_port value (inl is) alone port = inl (is, port)
+      host_and_port value (inr (nothing, empty)) alone port = inr (nothing, empty, alone nothing)
 
   -- class File
   file_decided : scheme_class scheme ≡ File → SilentOrStops base text
@@ -197,22 +225,27 @@ module _ (base : Option Url) (text : List ℕ) (form : Form) (given : Option (Li
       ]
     where
       taken : port_text ≡ None → FileHostFits host_text → AreFine path query fragment → SilentOrStops base text
-      taken no_port (inl (value, fits)) fine =
-          let parts = authority_parts form given host_text port_text path query fragment (Some value) None in
-          let takes : Takes File scheme host_text parts
-          = record { no_port_text = no_port; no_port = refl; host = inl (value, fits, refl) } in
-          inl (
-            parts,
-            silent (Some value) None (subst (λ (k : Class). Takes k scheme host_text parts) (sym file) takes) fine,
-          )
+      taken no_port (inl is) fine =
+          let parts = authority_parts form given host_text port_text path query fragment (Some is.value) None in
+          let fits : FitsAuthority File (setting_of Parser base (Some scheme)) host_text parts
+          = (
+            no_port,
+            refl,
+            inl (record {
+              unstopped = file_unstopped last host_text is.no_drive is.no_backslash host_kept;
+              value = is.value;
+              host = is.host;
+              valued = refl;
+              path = path_fits fine;
+              no_drive = tt;
+            }),
+          ) in
+          inl (parts, silent (Some is.value) None (of_class File file parts fits) fine)
       taken no_port (inr empty) fine =
           let parts = authority_parts form given host_text port_text path query fragment (Some host.Empty) None in
-          let takes : Takes File scheme host_text parts
-          = record { no_port_text = no_port; no_port = refl; host = inr (empty, refl) } in
-          inl (
-            parts,
-            silent (Some host.Empty) None (subst (λ (k : Class). Takes k scheme host_text parts) (sym file) takes) fine,
-          )
+          let fits : FitsAuthority File (setting_of Parser base (Some scheme)) host_text parts
+          = (no_port, refl, inr (empty, refl, path_fits fine)) in
+          inl (parts, silent (Some host.Empty) None (of_class File file parts fits) fine)
 
   -- with an authority
   pub authority_silent_or_stops : SilentOrStops base text

@@ -25,7 +25,7 @@ use Rattle.uv_parser.proofs.Loops.AuthorityLoops.{port_row_end, port_row_on}
 use Rattle.uv_model.proofs.Cuts.AuthorityCutLemmas.{ends_from_start}
 use Rattle.uv_parser.proofs.Done.DoneAuthority.{reads_from}
 use Rattle.uv_parser.proofs.Loops.FileHosts.{and_true-right}
-use Rattle.uv_parser.proofs.HostParsing.HostsParsed.{has_some}
+use Rattle.uv_parser.proofs.HostParsing.HostParserLemmas.{has_some}
 use Rattle.uv_model.proofs.Texts.MarkLemmas.{is_without-more, is_without-parts, is_without-cons}
 use Rattle.uv_parser.proofs.Running.Steps.{Stops, ends_again, ends_after, stops_here, ends_step}
 

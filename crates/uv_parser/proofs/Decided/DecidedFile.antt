@@ -9,19 +9,21 @@ use Rattle.uv_parser.specs.HostParser.{parse_host}
 use Rattle.uv_parser.specs.Machine.{Variables, AtPointer, end, slash_mark, query_mark, fragment_mark, another}
 use Rattle.uv_parser.specs.Machine.{at_pointer, turn, onward, stop, again, FileHostState, PathStartState, file_host_at}
 use Rattle.uv_parser.specs.Machine.{emptied, put, with_host, with_more}
-use Rattle.uv_model.specs.Valid.{without_localhost}
-use Rattle.uv_parser.specs.SilentTexts.{IsTakenFileHost}
+use Rattle.uv_model.specs.Valid.{IsFileHostText, without_localhost}
+use Rattle.uv_model.specs.declared.profile.Profile.TheVariants.{Parser}
+use Rattle.uv_model.proofs.Hosts.FileHosts.{file_host_fits}
 use Rattle.uv_model.specs.Path.{is_drive_letter, is_without}
 use Rattle.uv_model.specs.Records.Url.{Url}
 use Rattle.uv_parser.proofs.Loops.AuthorityLoops.{IsDelimiter}
 use Rattle.uv_parser.proofs.Decided.DecidedAuthority.{IsUnended, host_cases, unended_behind}
 use Rattle.uv_parser.proofs.Loops.FileHosts.{file_host_law, file_host_row}
-use Rattle.uv_parser.proofs.HostParsing.HostsParsed.{has_some}
+use Rattle.uv_parser.proofs.HostParsing.HostParserLemmas.{has_some}
 use Rattle.uv_parser.proofs.Running.Steps.{Stops, ends_again, ends_after, stops_here, ends_step}
 use Rattle.uv_parser.proofs.HostParsing.SpecialHosts.{host_from_parser}
 
 -- ---- rows
 
+-- the file host state stops behind a drive letter
 drive_row : (v : Variables) (s : AtPointer) → IsDelimiter s → is_drive_letter v.buffer ≡ true → file_host_at v s ≡ stop
 drive_row v end is drive = rw drive refl
 drive_row v slash_mark is drive = rw drive refl
@@ -29,6 +31,7 @@ drive_row v query_mark is drive = rw drive refl
 drive_row v fragment_mark is drive = rw drive refl
 drive_row v (another c) is drive = absurd is
 
+-- and behind a text of which the host parser makes nothing
 none_row : (v : Variables) (s : AtPointer) → IsDelimiter s → is_drive_letter v.buffer ≡ false
     → (length v.buffer == 0) ≡ false
     → parse_host true v.buffer ≡ None → file_host_at v s ≡ stop
@@ -38,6 +41,7 @@ none_row v query_mark is drive some none = rw (drive, some, none) refl
 none_row v fragment_mark is drive some none = rw (drive, some, none) refl
 none_row v (another c) is drive some none = absurd is
 
+-- behind no text the host is the empty one
 empty_row : (v : Variables) (s : AtPointer) → IsDelimiter s
     → file_host_at (emptied v) s ≡ again PathStartState (with_host (Some host.Empty) (emptied v))
 empty_row v end is = refl
@@ -46,24 +50,27 @@ empty_row v query_mark is = refl
 empty_row v fragment_mark is = refl
 empty_row v (another c) is = absurd is
 
--- a host that is taken, or none
+-- The text is a host of a file URL, no drive letter, and has no `\`.
+pub record IsFileHost (text : List ℕ) : Type 0 where
+  pub no_drive : is_drive_letter text ≡ false
+  pub no_backslash : is_without backslash text ≡ true
+  pub value : Host
+  pub host : IsFileHostText Parser text value
+
+-- such a host, or none
 abbrev pub FileHostFits : List ℕ → Type 0
-FileHostFits text = ((value : Host) × IsTakenFileHost text value) ⊎ (text ≡ [])
+FileHostFits text = IsFileHost text ⊎ (text ≡ [])
 
 -- a host text that the host parser takes, which is no drive letter, fits
 taken_host_fits : (text : List ℕ) (value : Host) → is_drive_letter text ≡ false → is_without backslash text ≡ true
     → parse_host true text ≡ Some value → FileHostFits text
 taken_host_fits text value no_drive none parsed =
-    inl (
-      without_localhost value,
-      record {
-        no_drive = no_drive;
-        no_backslash = none;
-        host = value;
-        taken = host_from_parser text value parsed;
-        valued = refl;
-      },
-    )
+    inl (record {
+      no_drive = no_drive;
+      no_backslash = none;
+      value = without_localhost value;
+      host = file_host_fits Parser text value (host_from_parser text value parsed);
+    })
 
 module _ (base : Option Url) where
   row_on : (c : ℕ) (rest : List ℕ) (v : Variables) (p : ℕ) → (c == slash) ≡ false → (c == question_mark) ≡ false

@@ -1,4 +1,4 @@
--- A text with a scheme of class Other and an opaque path: the parser is silent on it as its grammar says, or stops.
+-- A text with a scheme of class Other and an opaque path: it is valid by the parser's profile, or its run stops.
 use Rattle.std.proofs.Common.{◌≡◌, ℕ, true, false, ◌⊎◌, List, [], ◌∷◌, ◌++◌, Option, Some, None, refl, ◌∙◌, inl, inr}
 use Rattle.std.proofs.lemmas.Bool.{cases_Bool}
 use Rattle.uv_model.specs.declared.scheme.Class.TheVariants.{Other}
@@ -10,12 +10,18 @@ use Rattle.uv_parser.specs.Machine.{Variables, OpaquePathState, SchemeState, beg
 use Rattle.uv_parser.specs.Machine.{empty_variables}
 use Rattle.uv_model.specs.Records.Denote.{end_escaped}
 use Rattle.uv_model.specs.Parts.{Parts, SchemeOpaque}
-use Rattle.uv_parser.specs.SilentTexts.{Silent, is_spaced}
 use Rattle.uv_model.specs.Path.{starts_with_slash}
-use Rattle.uv_parser.specs.Removed.{first_removed}
+use Rattle.uv_model.specs.Removed.{first_removed}
 use Rattle.uv_model.specs.Scheme.{lowercase, scheme_class}
 use Rattle.uv_model.specs.Records.Url.{Url}
-use Rattle.uv_model.specs.Valid.{FitsBase, MayBeUnits}
+use Rattle.uv_model.specs.Valid.{FitsBase, MayBeUnits, Valid}
+use Rattle.uv_model.specs.Path.{ends_with_space, is_spaced}
+use Rattle.uv_model.specs.declared.profile.Profile.TheVariants.{Parser}
+use Rattle.std.proofs.Common.{◌||◌, sym, subst, append_assoc, append-nil}
+use Rattle.std.specs.Prelude.{is_some}
+use Rattle.std.proofs.lemmas.Bool.{true≢false}
+use Rattle.uv_model.proofs.Cuts.ValidCutLemmas.{written_as_cut}
+use Rattle.uv_parser.proofs.Running.KeptTexts.{IsKept, ends_without_space, kept_behind, text_is_kept}
 use Rattle.uv_model.proofs.Violations.ViolationLemmas.{cut_with}
 use Rattle.uv_parser.proofs.Decided.CutTexts.{HasMarks, marks, scheme_text}
 use Rattle.uv_parser.proofs.Loops.Looping.{opaque_path_law}
@@ -45,6 +51,7 @@ opaque_parts scheme port_text path query fragment = record {
 abbrev path_begun : List ℕ → Variables
 path_begun scheme = with_path (Opaque []) (scheme_variables scheme)
 
+-- the variables behind the opaque path
 abbrev path_variables : List ℕ → List ℕ → List ℕ → Variables
 path_variables scheme path rest =
     with_path (Opaque (encoded false (end_escaped (begins_tail rest) path))) (scheme_variables scheme)
@@ -99,21 +106,24 @@ pub opaque_silent_or_stops : (base : Option Url) (text scheme : List ℕ) (port_
     (query fragment : Option (List ℕ))
     → IsCut base text (cut_with (Some scheme) None port_text path query fragment)
     → scheme_class scheme ≡ Other → starts_with_slash path ≡ false
-    → Silent base text (opaque_parts scheme port_text path query fragment) ⊎ RunStops base text
+    → Valid Parser base text (opaque_parts scheme port_text path query fragment) ⊎ RunStops base text
 opaque_silent_or_stops base text scheme port_text path query fragment is other start =
     let have = marks base text (Some scheme) None port_text path query fragment is in
     let whole = scheme_text base text scheme None port_text path query fragment is in
     elim (place_cases (first_removed text)) [
       | inl kept ↦ elim (opaque_decided base scheme path query fragment other start have) [
         | inl (units, query_units, fragment_units) ↦ inl (record {
+          whole = is.whole ∙ sym (written_as_cut (opaque_parts scheme port_text path query fragment));
           cut = is;
-          kept = kept;
           scheme = is.scheme;
           against = against base;
           form = (
             record { host_text = refl; host = refl; port_text = is.authority.0; port = refl },
             other,
-            record { units = units; no_question_mark = have.path_question_mark; start = start },
+            record {
+              spaced = record { units = units; no_question_mark = have.path_question_mark; start = start };
+              end = path_ends query fragment (text_is_kept text kept) whole;
+            },
             refl,
           );
           query = query_units;
@@ -124,6 +134,18 @@ opaque_silent_or_stops base text scheme port_text path query fragment is other s
       | inr (p, removed) ↦ inr (removed_stops base text p removed)
     ]
   where
+    -- where nothing follows the path, it ends as the text does
+    path_ends : (query fragment : Option (List ℕ)) → IsKept text
+        → text ≡ scheme ++ colon ∷ (path ++ tail query fragment)
+        → (is_some query || is_some fragment) ≡ false → ends_with_space path ≡ false
+    path_ends (Some query) fragment kept whole followed = absurd (true≢false followed)
+    path_ends None (Some fragment) kept whole followed = absurd (true≢false followed)
+    path_ends None None kept whole followed =
+        let behind : IsKept (scheme ++ colon ∷ (path ++ [])) = subst IsKept whole kept in
+        let alone = kept_behind (scheme ++ colon ∷ []) (path ++ [])
+        (subst IsKept (sym (append_assoc scheme (colon ∷ []) (path ++ []))) behind) in
+        ends_without_space path (rw append-nil at alone.end)
+
     against : (base : Option Url) → FitsBase base (opaque_parts scheme port_text path query fragment)
     against None = refl
     against (Some url) = inl refl

@@ -1,144 +1,36 @@
--- A text without a scheme, against a base: the parser is silent on it as its grammar says, or stops.
+-- A text without a scheme, against a base: it is valid by the parser's profile, or its run stops.
 use Rattle.std.proofs.Common.{◌≡◌, ℕ, true, false, ◌==◌, ◌⊎◌, List, [], ◌∷◌, ◌++◌, Option, Some, None, refl, sym, ap}
 use Rattle.std.proofs.Common.{subst, ◌∙◌, inl, inr, eqb-true, append_assoc}
-use Rattle.std.specs.Prelude.{IsSome}
-use Rattle.std.proofs.lemmas.Bool.{cases_Bool, false≢true}
-use Rattle.uv_model.specs.declared.host.Host.{Host}
+use Rattle.std.proofs.lemmas.Bool.{cases_Bool}
 use Rattle.uv_model.specs.declared.host.Host.TheVariants as host
 use Rattle.uv_model.specs.Ascii.{slash, colon, question_mark, number_sign}
-use Rattle.uv_model.specs.Cut.{Cut, IsCut}
-use Rattle.uv_parser.specs.Machine.{Variables, State, with_fragment, begins, starts_with_drive_letter, turn, stop}
+use Rattle.uv_model.specs.Cut.{IsCut}
+use Rattle.uv_parser.specs.Machine.{Variables, State, starts_with_drive_letter, turn, stop}
 use Rattle.uv_parser.specs.Machine.{again, FileSlashState, FileState, NoSchemeState, PathState, RelativeSlashState}
 use Rattle.uv_parser.specs.Machine.{RelativeState, empty_variables, is_file, with_base, with_base_host, with_file_base}
-use Rattle.uv_parser.specs.Machine.{with_kept_drive, list_in, with_host, with_opaque_base, with_query, shortened}
-use Rattle.uv_model.specs.Parts.{Form, Parts, Authority, PathAbsolute, PathRelative, NoPath, written_authority}
+use Rattle.uv_parser.specs.Machine.{with_kept_drive, list_in, with_host, with_query, shortened}
+use Rattle.uv_model.specs.Parts.{Authority, PathAbsolute, PathRelative, NoPath}
 use Rattle.uv_model.specs.Parts.{written_behind}
-use Rattle.uv_parser.specs.SilentTexts.{Silent}
 use Rattle.uv_model.specs.Path.{starts_with_slash}
-use Rattle.uv_parser.specs.Removed.{first_removed}
+use Rattle.uv_model.specs.Removed.{first_removed}
 use Rattle.uv_model.specs.Records.Url.{Url, is_opaque}
-use Rattle.uv_model.specs.Valid.{starts_with_scheme}
-use Rattle.uv_model.proofs.Cuts.SchemesIgnoreBases.{cut_with_scheme}
+use Rattle.uv_model.specs.Valid.{Valid}
+use Rattle.uv_model.specs.declared.profile.Profile.TheVariants.{Parser}
+use Rattle.uv_model.proofs.Cuts.ValidCutLemmas.{written_as_cut}
+use Rattle.uv_parser.proofs.Running.KeptTexts.{IsKept, kept_behind, text_is_kept}
 use Rattle.uv_model.proofs.Violations.ViolationLemmas.{cut_with}
-use Rattle.uv_model.proofs.Cuts.CutLemmas.{cut_is_computed}
-use Rattle.uv_parser.proofs.Decided.CutTexts.{HasMarks, cut_text, marks}
+use Rattle.uv_parser.proofs.Decided.ReferenceTexts.{free, opaque_base, reference_parts, reference_stops, reference_text}
+use Rattle.uv_parser.proofs.Decided.CutTexts.{HasMarks, marks}
 use Rattle.uv_parser.proofs.Decided.DecidedPath.{AreFine, FreeOfMarks, path_decided}
-use Rattle.uv_parser.proofs.Decided.AuthorityTexts.{SilentOrStops, authority_silent_or_stops, slashed_path}
+use Rattle.uv_parser.proofs.Decided.AuthorityTexts.{SilentOrStops, authority_parts, authority_silent_or_stops}
 use Rattle.uv_parser.proofs.Decided.DecidedSchemes.{one_slash}
 use Rattle.uv_model.proofs.Texts.MarkLemmas.{is_without-cons}
 use Rattle.uv_model.proofs.Paths.PathPieces.{path_relative, pieces}
 use Rattle.uv_parser.proofs.Running.RunsStopped.{RunStops, place_cases, removed_stops}
-use Rattle.uv_parser.proofs.Decided.SchemeAbsent.{absent_ended}
-use Rattle.uv_parser.proofs.Running.Steps.{Stops, stopped, ends_again, stops_here, ends_step}
+use Rattle.uv_parser.proofs.Running.Steps.{Stops, ends_again, stops_here, ends_step}
 use Rattle.uv_parser.proofs.Loops.AuthorityStarts.{base_variables, base_starts, file_variables}
 use Rattle.uv_parser.proofs.Loops.Tails.{no_slash_before_tail, tail}
-use Rattle.uv_parser.proofs.Decided.TailsDecided.{PassesToTail, fragment_decided, tail_decided}
-
--- of a text whose cut has no scheme none is at the start
-pub no_scheme_cut : (base : Option Url) (text : List ℕ) (cut : Cut) → IsCut base text cut → cut.scheme ≡ None
-    → starts_with_scheme text ≡ false
-no_scheme_cut base text cut is none =
-    elim (cases_Bool (starts_with_scheme text)) [
-      | inl starts ↦
-          let some : IsSome cut.scheme
-          = subst (λ (c : Cut). IsSome c.scheme) (sym (cut_is_computed base text cut is))
-          (cut_with_scheme base text starts) in
-          absurd (false≢true (subst (λ (o : Option (List ℕ)). IsSome o) none some))
-      | inr other ↦ other
-    ]
-
--- the parts of a reference, with the values of its host and its port and with its segments
-abbrev reference_parts : Form → Option (List ℕ) → Option Host → Option (List ℕ) → Option ℕ → List ℕ
-    → List (List ℕ) → Option (List ℕ) → Option (List ℕ) → Parts
-reference_parts form host_text value port_text port path segments query fragment = record {
-  form = form;
-  scheme = None;
-  host_text = host_text;
-  host = value;
-  port_text = port_text;
-  port = port;
-  path_text = path;
-  segments = segments;
-  query = query;
-  fragment = fragment;
-}
-
-module _ (url : Url) (text : List ℕ) (host_text port_text : Option (List ℕ)) (path : List ℕ)
-    (query fragment : Option (List ℕ))
-    (is : IsCut (Some url) text (cut_with None host_text port_text path query fragment))
-    (kept : first_removed text ≡ None) where
-  -- the run stops where it stops from the no scheme state on
-  reference_stops : (rest : List ℕ) → text ≡ rest
-      → Stops (Some url) NoSchemeState empty_variables rest → RunStops (Some url) text
-  reference_stops rest whole stops =
-      absent_ended (Some url) text stopped kept
-      (no_scheme_cut (Some url) text (cut_with None host_text port_text path query fragment) is refl)
-      (rw whole stops)
-
-  reference_text : text ≡ (written_authority host_text port_text ++ path) ++ tail query fragment
-  reference_text = cut_text (Some url) text None host_text port_text path query fragment is
-
-  have : HasMarks (written_authority host_text port_text) path query
-  have = marks (Some url) text None host_text port_text path query fragment is
-
-  free : FreeOfMarks path query
-  free = record { question_mark = have.path_question_mark; number_sign = have.path_number_sign; query = have.query }
-
--- ---- a base with an opaque path
-
-begins_mark : (xs : List ℕ) → begins number_sign xs ≡ true → (rest : List ℕ) × (xs ≡ number_sign ∷ rest)
-begins_mark [] e = absurd (false≢true e)
-begins_mark (c ∷ rest) e = (rest, ap (λ x. x ∷ rest) (eqb-true c number_sign e))
-
--- against a base with an opaque path, `#` and a fragment alone are read
-fragment_alone : (url : Url) (text : List ℕ) (port_text : Option (List ℕ)) (fragment : List ℕ)
-    → IsCut (Some url) text (cut_with None None port_text [] None (Some fragment)) → first_removed text ≡ None
-    → is_opaque url.path ≡ true → SilentOrStops (Some url) text
-fragment_alone url text port_text fragment is kept opaque =
-    elim (fragment_decided (Some url) fragment (with_fragment (Some []) (with_opaque_base url empty_variables))) [
-      | inl units ↦ inl (
-        reference_parts NoPath None None port_text None [] [] None (Some fragment),
-        record {
-          cut = is;
-          kept = kept;
-          scheme = refl;
-          against = inr (inr (refl, refl, refl));
-          form = (record { host_text = refl; host = refl; port_text = is.authority.0; port = refl }, refl, refl);
-          query = tt;
-          fragment = units;
-        },
-      )
-      | inr stops ↦ inr
-          (reference_stops url text None port_text [] None (Some fragment) is kept _
-          (reference_text url text None port_text [] None (Some fragment) is kept)
-          (ends_step (Some url) (λ p. rw opaque refl) stops))
-    ]
-
--- every other text is refused
-opaque_base : (url : Url) (text : List ℕ) (host_text port_text : Option (List ℕ)) (path : List ℕ)
-    (query fragment : Option (List ℕ))
-    → IsCut (Some url) text (cut_with None host_text port_text path query fragment) → first_removed text ≡ None
-    → is_opaque url.path ≡ true → SilentOrStops (Some url) text
-opaque_base url text (Some host) port_text path query fragment is kept opaque =
-    inr (reference_stops url text (Some host) port_text path query fragment is kept _
-    (reference_text url text (Some host) port_text path query fragment is kept)
-    (stops_here (Some url) (λ p. rw opaque refl)))
-opaque_base url text None port_text (c ∷ path) query fragment is kept opaque =
-    let have = marks (Some url) text None None port_text (c ∷ path) query fragment is in
-    let mark = is_without-cons number_sign c path have.path_number_sign in
-    inr (reference_stops url text None port_text (c ∷ path) query fragment is kept _
-    (reference_text url text None port_text (c ∷ path) query fragment is kept)
-    (stops_here (Some url) (λ p. rw (opaque, mark.0) refl)))
-opaque_base url text None port_text [] (Some query) fragment is kept opaque =
-    inr (reference_stops url text None port_text [] (Some query) fragment is kept _
-    (reference_text url text None port_text [] (Some query) fragment is kept)
-    (stops_here (Some url) (λ p. rw opaque refl)))
-opaque_base url text None port_text [] None None is kept opaque =
-    inr (reference_stops url text None port_text [] None None is kept _
-    (reference_text url text None port_text [] None None is kept)
-    (stops_here (Some url) (λ p. rw opaque refl)))
-opaque_base url text None port_text [] None (Some fragment) is kept opaque =
-    fragment_alone url text port_text fragment is kept opaque
+use Rattle.uv_parser.proofs.Decided.TailsDecided.{PassesToTail, tail_decided}
 
 -- ---- a base with a path of segments: texts without an authority
 
@@ -146,10 +38,10 @@ module _ (url : Url) (text : List ℕ) (port_text : Option (List ℕ)) (query fr
     (not_opaque : is_opaque url.path ≡ false) (kept : first_removed text ≡ None) where
   -- no path
   no_path_silent : IsCut (Some url) text (cut_with None None port_text [] query fragment) → AreFine [] query fragment
-      → Silent (Some url) text (reference_parts NoPath None None port_text None [] [] query fragment)
+      → Valid Parser (Some url) text (reference_parts NoPath None None port_text None [] [] query fragment)
   no_path_silent is fine = record {
+    whole = is.whole ∙ sym (written_as_cut (reference_parts NoPath None None port_text None [] [] query fragment));
     cut = is;
-    kept = kept;
     scheme = refl;
     against = inr (inl not_opaque);
     form = (record { host_text = refl; host = refl; port_text = is.authority.0; port = refl }, refl, refl);
@@ -161,19 +53,22 @@ module _ (url : Url) (text : List ℕ) (port_text : Option (List ℕ)) (query fr
   absolute_silent : (behind : List ℕ)
       → IsCut (Some url) text (cut_with None None port_text (slash ∷ behind) query fragment)
       → starts_with_slash behind ≡ false → AreFine behind query fragment
-      → Silent (Some url) text
+      → Valid Parser (Some url) text
       (reference_parts PathAbsolute None None port_text None (slash ∷ behind) (pieces behind) query fragment)
   absolute_silent behind is start fine =
       let have = marks (Some url) text None None port_text (slash ∷ behind) query fragment is in
       let question = is_without-cons question_mark slash behind have.path_question_mark in
       record {
+        whole = is.whole
+            ∙ sym (written_as_cut
+            (reference_parts PathAbsolute None None port_text None (slash ∷ behind) (pieces behind) query fragment));
         cut = is;
-        kept = kept;
         scheme = refl;
         against = inr (inl not_opaque);
         form = (
           record { host_text = refl; host = refl; port_text = is.authority.0; port = refl },
           record { behind = behind; slashed = refl; relative = path_relative behind fine.0 question.1 start },
+          λ file some. tt,
         );
         query = fine.1;
         fragment = fine.2;
@@ -183,13 +78,15 @@ module _ (url : Url) (text : List ℕ) (port_text : Option (List ℕ)) (query fr
   relative_silent : (c : ℕ) (path : List ℕ)
       → IsCut (Some url) text (cut_with None None port_text (c ∷ path) query fragment)
       → (c == slash) ≡ false → AreFine (c ∷ path) query fragment
-      → Silent (Some url) text
+      → Valid Parser (Some url) text
       (reference_parts PathRelative None None port_text None (c ∷ path) (pieces (c ∷ path)) query fragment)
   relative_silent c path is start fine =
       let have = marks (Some url) text None None port_text (c ∷ path) query fragment is in
       record {
+        whole = is.whole
+            ∙ sym (written_as_cut
+            (reference_parts PathRelative None None port_text None (c ∷ path) (pieces (c ∷ path)) query fragment));
         cut = is;
-        kept = kept;
         scheme = refl;
         against = inr (inl not_opaque);
         form = (
@@ -387,18 +284,21 @@ module _ (url : Url) (text host_text : List ℕ) (port_text : Option (List ℕ))
   have_behind : HasMarks (slash ∷ slash ∷ (host_text ++ written_behind colon port_text)) path query
   have_behind = marks (Some url) text None (Some host_text) port_text path query fragment is
 
-  -- the whole text, and where it stops from the no scheme state on
+  -- the whole text
+  reference_whole : text
+      ≡ slash ∷ slash ∷ ((host_text ++ written_behind colon port_text) ++ (path ++ tail query fragment))
+  reference_whole =
+      reference_text url text (Some host_text) port_text path query fragment is kept
+      ∙ ap (λ xs. slash ∷ slash ∷ xs)
+      (append_assoc (host_text ++ written_behind colon port_text) path (tail query fragment))
+
+  -- where it stops from the no scheme state on, it stops
   reference_authority_stops :
       Stops (Some url) NoSchemeState empty_variables
       (slash ∷ slash ∷ ((host_text ++ written_behind colon port_text) ++ (path ++ tail query fragment)))
       → RunStops (Some url) text
   reference_authority_stops stops =
-      let authority = host_text ++ written_behind colon port_text in
-      let whole : text ≡ slash ∷ slash ∷ (authority ++ (path ++ tail query fragment))
-      = reference_text url text (Some host_text) port_text path query fragment is kept
-      ∙ ap (λ xs. slash ∷ slash ∷ xs) (append_assoc authority path (tail query fragment)) in
-      reference_stops url text (Some host_text) port_text path query fragment is kept
-      (slash ∷ slash ∷ (authority ++ (path ++ tail query fragment))) whole stops
+      reference_stops url text (Some host_text) port_text path query fragment is kept _ reference_whole stops
 
   -- with an authority
   with_authority : SilentOrStops (Some url) text
@@ -412,13 +312,15 @@ module _ (url : Url) (text host_text : List ℕ) (port_text : Option (List ℕ))
       })
       is.authority.2 is.authority.1
       (free url text (Some host_text) port_text path query fragment is kept)
+      (kept_behind (slash ∷ slash ∷ []) _ (subst IsKept reference_whole (text_is_kept text kept)))
       (λ class is_class stops. reference_authority_stops (base_starts url _ class not_opaque is_class stops))
-      (λ value port takes fine. record {
+      (λ value port fits fine. record {
+        whole = is.whole ∙ sym (written_as_cut
+            (authority_parts Authority None host_text port_text path query fragment value port));
         cut = is;
-        kept = kept;
         scheme = refl;
         against = inr (inl not_opaque);
-        form = (takes, slashed_path path fine.0 have_behind.path_question_mark is.authority.1);
+        form = fits;
         query = fine.1;
         fragment = fine.2;
       })

@@ -1,4 +1,4 @@
--- A text with a scheme: the parser is silent on it as its grammar says, or stops.
+-- A text with a scheme: it is valid by the parser's profile, or its run stops.
 use Rattle.std.proofs.Common.{◌≡◌, ℕ, true, false, ◌==◌, ◌⊎◌, List, [], ◌∷◌, ◌++◌, Option, Some, None, refl, ap, ◌∙◌}
 use Rattle.std.proofs.Common.{inl, inr, eqb-true, append_assoc}
 use Rattle.std.proofs.lemmas.Bool.{and_right, cases_Bool}
@@ -10,16 +10,19 @@ use Rattle.uv_parser.specs.Machine.{begins, begins_two_slashes, has_same_scheme,
 use Rattle.uv_parser.specs.Machine.{SpecialAuthoritySlashesState, SpecialRelativeOrAuthorityState, empty_variables}
 use Rattle.uv_parser.specs.Machine.{with_more}
 use Rattle.uv_model.specs.Parts.{Parts, SchemeAuthority, SchemePath, written_behind}
-use Rattle.uv_parser.specs.SilentTexts.{Silent}
 use Rattle.uv_model.specs.Path.{is_without, starts_with_slash}
-use Rattle.uv_parser.specs.Removed.{first_removed}
+use Rattle.uv_model.specs.Removed.{first_removed}
 use Rattle.uv_model.specs.Scheme.{lowercase, scheme_class}
 use Rattle.uv_model.specs.Records.Url.{Url}
-use Rattle.uv_model.specs.Valid.{FitsBase}
+use Rattle.uv_model.specs.Valid.{FitsBase, Valid}
+use Rattle.uv_model.specs.declared.profile.Profile.TheVariants.{Parser}
+use Rattle.std.proofs.Common.{sym, subst}
+use Rattle.uv_model.proofs.Cuts.ValidCutLemmas.{written_as_cut}
+use Rattle.uv_parser.proofs.Running.KeptTexts.{IsKept, kept_behind, text_is_kept}
 use Rattle.uv_model.proofs.Violations.ViolationLemmas.{cut_with}
 use Rattle.uv_parser.proofs.Decided.CutTexts.{HasMarks, marks, scheme_text}
 use Rattle.uv_parser.proofs.Decided.AuthorityTexts.{SilentOrStops, authority_parts, authority_silent_or_stops}
-use Rattle.uv_parser.proofs.Decided.AuthorityTexts.{class_cases, slashed_path}
+use Rattle.uv_parser.proofs.Decided.AuthorityTexts.{class_cases}
 use Rattle.uv_model.proofs.SchemeLemmas.{scheme_class-lowercase}
 use Rattle.uv_parser.proofs.Decided.DecidedOpaque.{opaque_parts, opaque_silent_or_stops}
 use Rattle.uv_parser.proofs.Decided.DecidedPath.{AreFine, FreeOfMarks, path_decided}
@@ -90,18 +93,24 @@ module _ (base : Option Url) (text scheme host_text : List ℕ) (port_text : Opt
   have : HasMarks (slash ∷ slash ∷ (host_text ++ written_behind colon port_text)) path query
   have = marks base text (Some scheme) (Some host_text) port_text path query fragment is
 
-  -- the whole text, and where it stops from the scheme's `:` on
+  -- the whole text
+  whole_text : text
+      ≡ scheme ++ colon ∷ slash ∷ slash
+      ∷ ((host_text ++ written_behind colon port_text) ++ (path ++ tail query fragment))
+  whole_text =
+      scheme_text base text scheme (Some host_text) port_text path query fragment is
+      ∙ ap (λ xs. scheme ++ colon ∷ slash ∷ slash ∷ xs)
+      (append_assoc (host_text ++ written_behind colon port_text) path (tail query fragment))
+
+  -- where it stops from the scheme's `:` on, it stops
   authority_stops_text :
       Stops base SchemeState (with_more (lowercase scheme) empty_variables)
       (colon ∷ slash ∷ slash ∷ ((host_text ++ written_behind colon port_text) ++ (path ++ tail query fragment)))
       → RunStops base text
   authority_stops_text stops =
-      let authority = host_text ++ written_behind colon port_text in
-      let whole : text ≡ scheme ++ colon ∷ slash ∷ slash ∷ (authority ++ (path ++ tail query fragment))
-      = scheme_text base text scheme (Some host_text) port_text path query fragment is
-      ∙ ap (λ xs. scheme ++ colon ∷ slash ∷ slash ∷ xs) (append_assoc authority path (tail query fragment)) in
-      scheme_stops base text scheme (slash ∷ slash ∷ (authority ++ (path ++ tail query fragment))) kept is.scheme
-      whole stops
+      scheme_stops base text scheme
+      (slash ∷ slash ∷ ((host_text ++ written_behind colon port_text) ++ (path ++ tail query fragment))) kept is.scheme
+      whole_text stops
 
   -- with an authority
   pub with_authority : SilentOrStops base text
@@ -115,13 +124,16 @@ module _ (base : Option Url) (text scheme host_text : List ℕ) (port_text : Opt
       })
       is.authority.2 is.authority.1
       (record { question_mark = have.path_question_mark; number_sign = have.path_number_sign; query = have.query })
+      (kept_behind (scheme ++ colon ∷ slash ∷ slash ∷ []) _
+      (subst IsKept (whole_text ∙ sym (append_assoc scheme (colon ∷ slash ∷ slash ∷ []) _)) (text_is_kept text kept)))
       (λ class is_class stops. authority_stops_text (scheme_starts base scheme _ class is_class stops))
-      (λ value port takes fine. record {
+      (λ value port fits fine. record {
+        whole = is.whole ∙ sym (written_as_cut
+            (authority_parts SchemeAuthority (Some scheme) host_text port_text path query fragment value port));
         cut = is;
-        kept = kept;
         scheme = is.scheme;
         against = against base value port;
-        form = (takes, slashed_path path fine.0 have.path_question_mark is.authority.1);
+        form = fits;
         query = fine.1;
         fragment = fine.2;
       })
@@ -167,10 +179,10 @@ module _ (base : Option Url) (text scheme : List ℕ) (port_text : Option (List 
   -- `/` and a path whose code points are fine is silent
   with_path_silent : (behind : List ℕ) → path ≡ slash ∷ behind → scheme_class scheme ≡ Other
       → starts_with_slash behind ≡ false → is_without question_mark behind ≡ true → AreFine behind query fragment
-      → Silent base text (path_parts scheme port_text path behind query fragment)
+      → Valid Parser base text (path_parts scheme port_text path behind query fragment)
   with_path_silent behind slashed other start none fine = record {
+    whole = is.whole ∙ sym (written_as_cut (path_parts scheme port_text path behind query fragment));
     cut = is;
-    kept = kept;
     scheme = is.scheme;
     against = fits_base base behind;
     form = (

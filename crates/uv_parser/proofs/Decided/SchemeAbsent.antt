@@ -7,10 +7,10 @@ use Rattle.uv_model.specs.Ascii.{colon}
 use Rattle.uv_parser.specs.Machine.{Variables, State, NoSchemeState, SchemeStartState, SchemeState, turn, again, onward}
 use Rattle.uv_parser.specs.Machine.{from_place, emptied, empty_variables, put}
 use Rattle.uv_parser.specs.Run.{run, run_from, settle, step, step_bound}
-use Rattle.uv_parser.specs.Removed.{first_removed}
+use Rattle.uv_model.specs.Removed.{first_removed}
 use Rattle.uv_model.specs.Scheme.{is_scheme_code_point}
 use Rattle.uv_model.specs.Records.Url.{Url}
-use Rattle.uv_model.specs.Valid.{goes_on_to_colon, starts_with_scheme}
+use Rattle.uv_model.specs.Scheme.{goes_on_to_colon, starts_with_scheme}
 use Rattle.uv_parser.proofs.Counting.RunsEnded.{ended_within_bound}
 use Rattle.uv_parser.proofs.Running.Steps.{Ending, EndsAs, HasEnded, Leads, at, drop_one, leads_none, leads_step}
 use Rattle.uv_parser.proofs.Running.Steps.{leads_then, step_at}

@@ -4,10 +4,12 @@ use Rattle.uv_model.specs.Cut.{Cut, IsCut, cut_of}
 use Rattle.uv_model.specs.Records.Url.{Url}
 use Rattle.uv_model.proofs.Cuts.CutLemmas.{computed_is_cut}
 use Rattle.uv_parser.proofs.Done.DecidedAlone.{alone_stops}
-use Rattle.uv_parser.proofs.Decided.DecidedReferences.{no_scheme_cut, reference_silent_or_stops}
+use Rattle.uv_parser.proofs.Decided.ReferenceTexts.{no_scheme_cut}
+use Rattle.uv_parser.proofs.Decided.DecidedReferences.{reference_silent_or_stops}
 use Rattle.uv_parser.proofs.Decided.AuthorityTexts.{SilentOrStops}
 use Rattle.uv_parser.proofs.Decided.DecidedSchemes.{scheme_silent_or_stops}
 
+-- by the scheme of its cut
 by_scheme : (base : Option Url) (text : List ℕ) (cut : Cut) (scheme : Option (List ℕ)) → IsCut base text cut
     → cut.scheme ≡ scheme → SilentOrStops base text
 by_scheme base text cut (Some scheme) is named =

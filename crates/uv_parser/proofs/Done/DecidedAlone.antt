@@ -1,4 +1,4 @@
--- Without a base each text is decided: the parser is silent on it as its grammar says, or stops.
+-- Without a base each text is decided: it is valid by the parser's profile, or its run stops.
 use Rattle.std.proofs.Common.{◌≡◌, ℕ, true, false, List, [], ◌∷◌, ◌++◌, append_assoc, Option, Some, None, refl, sym, ap}
 use Rattle.std.proofs.Common.{subst, ◌∙◌, inl, inr}
 use Rattle.std.specs.Prelude.{IsSome}
@@ -7,10 +7,9 @@ use Rattle.uv_model.specs.Cut.{IsSchemeCut, texts_of, written_middle}
 use Rattle.uv_model.specs.Parts.{Parts, written_authority, written_scheme}
 use Rattle.uv_model.specs.Ascii.{colon}
 use Rattle.uv_model.specs.Scheme.{is_scheme}
-use Rattle.uv_parser.specs.SilentTexts.{Silent}
 use Rattle.uv_parser.specs.Laws.DecidedTexts.{IsDecided}
-use Rattle.uv_parser.specs.Removed.{first_removed}
-use Rattle.uv_model.specs.Valid.{starts_with_scheme}
+use Rattle.uv_model.specs.Removed.{first_removed}
+use Rattle.uv_model.specs.Scheme.{starts_with_scheme}
 use Rattle.uv_parser.proofs.Done.Decided.{is_decided}
 use Rattle.uv_parser.proofs.Done.DecidedTexts.{scheme_texts_are_decided}
 use Rattle.uv_parser.proofs.Running.RunsStopped.{RunStops, place_cases, removed_stops}
@@ -19,6 +18,8 @@ use Rattle.uv_parser.proofs.Running.Steps.{stopped, stops_here}
 use Rattle.uv_parser.proofs.Decided.CutTexts.{cut_text}
 use Rattle.uv_model.proofs.Cuts.SchemeCutLemmas.{starts_with_written_scheme}
 use Rattle.uv_parser.proofs.Loops.Tails.{tail}
+use Rattle.uv_model.specs.Valid.{Valid}
+use Rattle.uv_model.specs.declared.profile.Profile.TheVariants.{Parser}
 
 -- without a base and a scheme the run stops
 pub alone_stops : (text : List ℕ) → starts_with_scheme text ≡ false → RunStops None text
@@ -34,7 +35,7 @@ option_some None some = absurd (false≢true some)
 option_some (Some text) some = (text, refl)
 
 -- a text that is silent without a base begins with a scheme
-silent_starts : (text : List ℕ) (parts : Parts) → Silent None text parts → starts_with_scheme text ≡ true
+silent_starts : (text : List ℕ) (parts : Parts) → Valid Parser None text parts → starts_with_scheme text ≡ true
 silent_starts text parts is =
     let (scheme, named) = option_some parts.scheme is.against in
     let spelled : is_scheme scheme ≡ true

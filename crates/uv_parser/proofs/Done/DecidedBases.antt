@@ -6,7 +6,7 @@ use Rattle.std.specs.List.{list_all}
 use Rattle.std.specs.Char.{is_ascii_uppercase}
 use Rattle.std.proofs.lemmas.Bool.{and_parts, cases_Bool, false≢true, not-true, true≢false}
 use Rattle.uv_model.specs.declared.host.Host.{Host}
-use Rattle.uv_model.specs.declared.profile.Profile.TheVariants.{Wide}
+use Rattle.uv_model.specs.declared.profile.Profile.TheVariants.{Parser}
 use Rattle.uv_model.specs.declared.scheme.Class.{Class}
 use Rattle.uv_model.specs.declared.scheme.Class.TheVariants.{Special, File, Other}
 use Rattle.uv_model.specs.declared.path.UrlPath.{UrlPath}
@@ -15,14 +15,13 @@ use Rattle.uv_model.specs.Ascii.{number_sign}
 use Rattle.uv_parser.specs.Machine.{empty_variables, is_file, with_opaque_base}
 use Rattle.uv_model.specs.Parts.{Form, Parts, SchemeAuthority, SchemePath, SchemeOpaque, Authority, PathAbsolute}
 use Rattle.uv_model.specs.Parts.{PathRelative, NoPath, has_scheme}
-use Rattle.uv_parser.specs.SilentTexts.{Silent}
 use Rattle.uv_parser.specs.Laws.DecidedTexts.{IsDecided}
 use Rattle.uv_model.specs.Scheme.{lowercase, scheme_class}
 use Rattle.uv_parser.specs.Laws.Silence.{RunsSilently}
 use Rattle.uv_model.specs.Records.Url.{Url, is_opaque}
-use Rattle.uv_model.specs.Valid.{FitsScheme}
+use Rattle.uv_model.specs.Valid.{FitsScheme, Valid}
 use Rattle.uv_model.specs.Records.WellFormed.{IsUrlPath, IsUrlPort, MayBeWellFormed, WellFormed, takes_port}
-use Rattle.uv_parser.proofs.Done.Decided.{is_decided, takes_form}
+use Rattle.uv_parser.proofs.Done.Decided.{is_decided, fits_form}
 use Rattle.uv_parser.proofs.Done.DecidedAlone.{option_some, texts_alone_are_decided}
 use Rattle.uv_parser.proofs.Decided.AuthorityTexts.{class_cases}
 use Rattle.uv_parser.proofs.Done.DecidedTexts.{scheme_done}
@@ -47,21 +46,23 @@ lower_same (c ∷ xs) each =
     let parts = and_parts (not (is_ascii_uppercase c)) _ each in
     rw (lowercase_code_point c (not-true _ parts.0), lower_same xs parts.1) refl
 
+-- where a host takes no port there is none
 port_absent : (scheme : List ℕ) (host : Option Host) (port : Option ℕ) → IsUrlPort scheme host port
     → takes_port (scheme_class scheme) host ≡ false → port ≡ None
 port_absent scheme host None is none = refl
 port_absent scheme host (Some port) is none = absurd (true≢false (sym is.0 ∙ none))
 
+-- no host takes no port
 pub takes_none : (class : Class) → takes_port class None ≡ false
 takes_none Special = refl
 takes_none File = refl
 takes_none Other = refl
 
 -- with an opaque path there is neither a host nor a port
-opaque_facts : (url : Url) → WellFormed Wide url → is_opaque url.path ≡ true → (url.host ≡ None) × (url.port ≡ None)
+opaque_facts : (url : Url) → WellFormed Parser url → is_opaque url.path ≡ true → (url.host ≡ None) × (url.port ≡ None)
 opaque_facts url is opaque = by_path url.path refl is.path
   where
-    by_path : (path : UrlPath) → url.path ≡ path → IsUrlPath (scheme_class url.scheme) url.host path
+    by_path : (path : UrlPath) → url.path ≡ path → IsUrlPath Parser (scheme_class url.scheme) url.host path
         → (url.host ≡ None) × (url.port ≡ None)
     by_path (Opaque text) e fits = (
       fits.1,
@@ -72,11 +73,12 @@ opaque_facts url is opaque = by_path url.path refl is.path
 
 -- ---- a base with an opaque path
 
-opaque_base_done : (url : Url) (text : List ℕ) (parts : Parts) → WellFormed Wide url → is_opaque url.path ≡ true
-    → Silent (Some url) text parts → parts.scheme ≡ None → parts.form ≡ NoPath → parts.query ≡ None
+-- the run of `#` and a fragment against a base with an opaque path
+opaque_base_done : (url : Url) (text : List ℕ) (parts : Parts) → WellFormed Parser url → is_opaque url.path ≡ true
+    → Valid Parser (Some url) text parts → parts.scheme ≡ None → parts.form ≡ NoPath → parts.query ≡ None
     → (fragment : List ℕ) → parts.fragment ≡ Some fragment → RunsSilently (Some url) text parts
 opaque_base_done url text parts well opaque is none form no_query fragment given =
-    let fits = takes_form (Some url) text parts NoPath is form in
+    let fits = fits_form (Some url) text parts NoPath is form in
     let facts = opaque_facts url well opaque in
     let whole : text ≡ number_sign ∷ fragment
     = path_text url text parts is none fits.0.host_text
@@ -98,7 +100,7 @@ opaque_base_done url text parts well opaque is none form no_query fragment given
 -- ---- every text
 
 -- a file base has the scheme `file` and no port
-file_facts : (url : Url) → WellFormed Wide url → scheme_class url.scheme ≡ File
+file_facts : (url : Url) → WellFormed Parser url → scheme_class url.scheme ≡ File
     → (is_file url.scheme ≡ true) × (url.scheme ≡ codes "file") × (url.port ≡ None)
 file_facts url is file = (
   rw file refl,
@@ -106,7 +108,8 @@ file_facts url is file = (
   port_absent url.scheme url.host url.port is.port (ap (λ k. takes_port k url.host) file),
 )
 
-file_cases : (url : Url) → WellFormed Wide url
+-- a base is of class File, with all of that, or of another class
+file_cases : (url : Url) → WellFormed Parser url
     → ((scheme_class url.scheme ≡ File)
     × ((is_file url.scheme ≡ true) × (url.scheme ≡ codes "file") × (url.port ≡ None)))
     ⊎ (is_file url.scheme ≡ false)
@@ -117,13 +120,14 @@ file_cases url is =
       | inr (inr other) ↦ inr (rw other refl)
     ]
 
+-- a form with a scheme has one
 scheme_missing : (scheme : Option (List ℕ)) → scheme ≡ None → FitsScheme true scheme → ⊥
 scheme_missing None none fits = fits
 scheme_missing (Some scheme) none fits = cc
 
 -- without a scheme
-absent_done : (url : Url) (text : List ℕ) (parts : Parts) (form : Form) → WellFormed Wide url
-    → is_opaque url.path ≡ false → Silent (Some url) text parts → parts.form ≡ form
+absent_done : (url : Url) (text : List ℕ) (parts : Parts) (form : Form) → WellFormed Parser url
+    → is_opaque url.path ≡ false → Valid Parser (Some url) text parts → parts.form ≡ form
     → parts.scheme ≡ None → RunsSilently (Some url) text parts
 absent_done url text parts SchemeAuthority well segments is e none = absurd (scheme_missing parts.scheme none (subst
     (λ (f : Form). FitsScheme (has_scheme f) parts.scheme) e is.scheme))
@@ -156,8 +160,9 @@ absent_done url text parts NoPath well segments is e none =
       | inr plain ↦ no_path_done url text parts is segments plain none e
     ]
 
-silent_done : (url : Url) (text : List ℕ) (parts : Parts) (scheme : Option (List ℕ)) → WellFormed Wide url
-    → Silent (Some url) text parts → parts.scheme ≡ scheme
+-- with a scheme or without one
+silent_done : (url : Url) (text : List ℕ) (parts : Parts) (scheme : Option (List ℕ)) → WellFormed Parser url
+    → Valid Parser (Some url) text parts → parts.scheme ≡ scheme
     → RunsSilently (Some url) text parts
 silent_done url text parts (Some scheme) well is named =
     scheme_done (Some url) text scheme parts parts.form is refl named
@@ -178,7 +183,7 @@ silent_done url text parts None well is none =
         opaque_base_done url text parts well opaque is none form no_query fragment given
 
 -- each text
-pub texts_are_decided : (base : Option Url) (text : List ℕ) → MayBeWellFormed Wide base → IsDecided base text
+pub texts_are_decided : (base : Option Url) (text : List ℕ) → MayBeWellFormed Parser base → IsDecided base text
 texts_are_decided None text well = texts_alone_are_decided text
 texts_are_decided (Some url) text well =
     is_decided (Some url) text (λ parts is. silent_done url text parts parts.scheme well is refl)

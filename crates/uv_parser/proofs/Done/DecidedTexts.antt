@@ -6,12 +6,12 @@ use Rattle.std.proofs.lemmas.Bool.{false≢true}
 use Rattle.uv_model.specs.Cut.{Cut, IsCut, cut_of}
 use Rattle.uv_model.specs.Parts.{Form, Parts, SchemeAuthority, SchemePath, SchemeOpaque, Authority, PathAbsolute}
 use Rattle.uv_model.specs.Parts.{PathRelative, NoPath, has_scheme}
-use Rattle.uv_parser.specs.SilentTexts.{Silent}
 use Rattle.uv_parser.specs.Laws.DecidedTexts.{IsDecided}
 use Rattle.uv_model.specs.Scheme.{scheme_class}
 use Rattle.uv_parser.specs.Laws.Silence.{RunsSilently}
 use Rattle.uv_model.specs.Records.Url.{Url}
-use Rattle.uv_model.specs.Valid.{scheme_in, starts_with_scheme}
+use Rattle.uv_model.specs.Valid.{scheme_in, Valid}
+use Rattle.uv_model.specs.Scheme.{starts_with_scheme}
 use Rattle.uv_model.proofs.Cuts.SchemesIgnoreBases.{cut_with_scheme}
 use Rattle.uv_model.proofs.Cuts.CutLemmas.{computed_is_cut}
 use Rattle.uv_parser.proofs.Done.Decided.{is_decided, no_scheme, same_cut}
@@ -20,9 +20,11 @@ use Rattle.uv_parser.proofs.Decided.AuthorityTexts.{class_cases}
 use Rattle.uv_parser.proofs.Done.DoneAuthority.{file_done, other_done, special_done}
 use Rattle.uv_parser.proofs.Silence.SilentOpaque.{opaque_done}
 use Rattle.uv_parser.proofs.Silence.SilentPath.{path_done}
+use Rattle.uv_model.specs.declared.profile.Profile.TheVariants.{Parser}
 
 -- the run of a text with a scheme on which the parser is silent is done
-pub scheme_done : (base : Option Url) (text scheme : List ℕ) (parts : Parts) (form : Form) → Silent base text parts
+pub scheme_done : (base : Option Url) (text scheme : List ℕ) (parts : Parts) (form : Form)
+    → Valid Parser base text parts
     → parts.form ≡ form → parts.scheme ≡ Some scheme → RunsSilently base text parts
 scheme_done base text scheme parts SchemeAuthority is e named =
     elim (class_cases (scheme_class (scheme_in base parts))) [
@@ -49,7 +51,7 @@ cut_decided base text cut (Some scheme) is named some =
     let there : Cut = record cut { scheme = Some scheme } in
     let same : cut ≡ there = λ i. record cut { scheme = named i } in
     let is_there : IsCut base text there = subst (λ (c : Cut). IsCut base text c) same is in
-    let silent : (parts : Parts) → Silent base text parts → RunsSilently base text parts
+    let silent : (parts : Parts) → Valid Parser base text parts → RunsSilently base text parts
     = λ parts silent.
     scheme_done base text scheme parts parts.form silent refl
     (ap (λ (c : Cut). c.scheme) (same_cut base text there parts is_there silent)) in

@@ -9,37 +9,42 @@ use Rattle.uv_model.specs.declared.host.Host.TheVariants as host
 use Rattle.uv_model.specs.declared.scheme.Class.{Class}
 use Rattle.uv_model.specs.declared.scheme.Class.TheVariants.{Special, File, Other}
 use Rattle.uv_model.specs.Ascii.{slash, colon, question_mark, number_sign, at_sign, backslash}
-use Rattle.uv_model.specs.Cut.{EndsAtPort, IsAuthorityCut, IsHostCut, class_in, is_within, is_within_at_end}
+use Rattle.uv_model.specs.Cut.{EndsAtPort, IsAuthorityCut, IsHostCut, class_in, ends_at_host, is_within}
+use Rattle.uv_model.specs.Cut.{is_within_at_end, texts_of}
 use Rattle.uv_model.specs.Records.Denote.{authority_host}
 use Rattle.uv_model.specs.Encoding.{encoded}
 use Rattle.uv_parser.specs.HostParser.{parse_host}
 use Rattle.uv_parser.specs.Machine.{is_special}
 use Rattle.uv_model.specs.Parts.{Form, Parts, SchemeAuthority, has_scheme, written_authority, written_behind}
-use Rattle.uv_parser.specs.SilentTexts.{IsTakenFileHost, Silent, Takes, TakesAuthority, TakesFile, TakesHostText}
-use Rattle.uv_parser.specs.SilentTexts.{TakesOther, TakesSpecial}
 use Rattle.uv_parser.specs.Laws.OtherHosts.{own_value}
-use Rattle.uv_model.specs.Path.{MayBePathSlashed, is_without}
+use Rattle.uv_model.specs.Path.{is_without}
 use Rattle.uv_model.specs.Scheme.{is_scheme, lowercase, scheme_class}
 use Rattle.uv_parser.specs.Laws.Silence.{RunsSilently}
 use Rattle.uv_model.specs.Records.Url.{Url}
-use Rattle.uv_model.specs.Setting.{scheme_or}
-use Rattle.uv_model.specs.Valid.{FitsScheme, MayBePortText, scheme_in}
+use Rattle.uv_model.specs.Setting.{scheme_or, setting_of}
+use Rattle.uv_model.specs.Valid.{FitsAuthority, FitsHostText, FitsScheme, HasAuthority, IsFileAuthority}
+use Rattle.uv_model.specs.Valid.{IsOtherAuthority, IsSpecialAuthority, MayBePortText, Valid, scheme_in}
+use Rattle.uv_model.specs.Valid.{HasFileHost}
+use Rattle.uv_model.specs.declared.profile.Profile.TheVariants.{Parser}
+use Rattle.uv_model.proofs.Hosts.HostUniqueness.{opaque_not_empty}
+use Rattle.uv_parser.proofs.Running.StoppedHosts.{file_goes_on, special_goes_on}
+use Rattle.uv_parser.proofs.Silence.KeptParts.{parser_valid_is_kept}
+use Rattle.uv_parser.specs.Laws.OtherHosts.{IsValidOtherHost}
 use Rattle.uv_model.proofs.Cuts.AuthorityCutLemmas.{EndsFrom, ends_from_start, first_is_no_mark, rest_ends}
 use Rattle.uv_parser.proofs.Loops.AuthorityEnds.{IsParsed}
 use Rattle.uv_parser.proofs.Loops.AuthorityLoops.{is_authority_letter, is_read_as_host}
 use Rattle.uv_parser.proofs.Decided.CutTexts.{marks}
-use Rattle.uv_parser.proofs.Done.Decided.{takes_form}
+use Rattle.uv_parser.proofs.Done.Decided.{fits_form}
 use Rattle.uv_parser.proofs.Loops.FileHosts.{IsFileRead}
-use Rattle.uv_parser.proofs.HostParsing.HostsParsed.{has_some, parsed_some}
+use Rattle.uv_parser.proofs.HostParsing.HostParserLemmas.{has_some, parsed_some}
 use Rattle.uv_parser.proofs.HostParsing.OtherHosts.{silent_other_hosts_are_valid}
 use Rattle.uv_parser.proofs.HostParsing.OtherHostsTaken.{other_hosts_are_taken}
 use Rattle.uv_model.proofs.Texts.MarkLemmas.{is_without-parts, is_without-cons}
 use Rattle.uv_parser.proofs.Loops.SchemeStretch.{scheme_there}
 use Rattle.uv_parser.proofs.Silence.SilentAuthority.{HasParsed, authority_runs, is_special_scheme, not_special}
 use Rattle.uv_parser.proofs.Silence.SilentAuthority.{other_starts, special_some, special_starts, valued_some}
-use Rattle.uv_parser.proofs.Silence.SilentFile.{HasFileHost, empty_host_ends, file_host_ends, file_runs}
-use Rattle.uv_model.proofs.Cuts.ValidCutLemmas.{written_as_cut}
-use Rattle.uv_parser.proofs.HostParsing.SpecialHosts.{parsed_host}
+use Rattle.uv_parser.proofs.Silence.SilentFile.{FileHostEnds, empty_host_ends, file_host_ends, file_runs}
+use Rattle.uv_parser.proofs.HostParsing.SpecialHosts.{host_of_file, parsed_host}
 
 -- ---- what the cut says of a host text
 
@@ -75,30 +80,31 @@ reads_from special within (c ∷ cs) port ends letters =
 pub record IsNamed (base : Option Url) (parts : Parts) (class : Class) (scheme host_text : List ℕ) : Type 0 where
   pub given : parts.host_text ≡ Some host_text
   pub of_class : scheme_class scheme ≡ class
-  pub takes : Takes class scheme host_text parts
-  pub path : MayBePathSlashed parts.segments parts.path_text
+  pub fits : FitsAuthority class (setting_of Parser base (Some scheme)) host_text parts
   pub host_cut : IsHostCut class host_text parts.port_text
   pub no_slash : is_without slash host_text ≡ true
   pub no_question_mark : is_without question_mark host_text ≡ true
   pub no_number_sign : is_without number_sign host_text ≡ true
 
 -- a host text is there
-taken_there : (base : Option Url) (parts : Parts) (host_text : Option (List ℕ)) → parts.host_text ≡ host_text
-    → TakesHostText base parts host_text
+host_there : (base : Option Url) (parts : Parts) (host_text : Option (List ℕ)) → parts.host_text ≡ host_text
+    → FitsHostText (setting_of Parser base parts.scheme) parts host_text
     → (text : List ℕ) × (parts.host_text ≡ Some text)
-    × Takes (scheme_class (scheme_in base parts)) (scheme_in base parts) text parts
-taken_there base parts (Some text) given takes = (text, given, takes)
-taken_there base parts None given takes = absurd takes
+    × FitsAuthority (scheme_class (scheme_in base parts)) (setting_of Parser base parts.scheme) text parts
+host_there base parts (Some text) given fits = (text, given, fits)
+host_there base parts None given fits = absurd fits
 
--- a silent text with an authority has a host text, with all of that
+-- a valid text with an authority has a host text, with all of that
 pub is_named_by : (base : Option Url) (text : List ℕ) (parts : Parts) (class : Class) (scheme : List ℕ)
-    → Silent base text parts → TakesAuthority base parts → scheme_class (scheme_in base parts) ≡ class
+    → Valid Parser base text parts → HasAuthority (setting_of Parser base parts.scheme) parts
+    → scheme_class (scheme_in base parts) ≡ class
     → scheme_in base parts ≡ scheme → (host_text : List ℕ) × IsNamed base parts class scheme host_text
-is_named_by base text parts class scheme is fits of_class same =
-    let (host_text, given, takes) = taken_there base parts parts.host_text refl fits.0 in
+is_named_by base text parts class scheme is has of_class same =
+    let (host_text, given, fits) = host_there base parts parts.host_text refl has in
     let is_class : scheme_class scheme ≡ class = sym (ap scheme_class same) ∙ of_class in
-    let takes : Takes (scheme_class scheme) scheme host_text parts
-    = subst (λ (s : List ℕ). Takes (scheme_class s) s host_text parts) same takes in
+    let fits : FitsAuthority (scheme_class scheme) (setting_of Parser base (Some scheme)) host_text parts
+    = subst (λ (s : List ℕ). FitsAuthority (scheme_class s) (setting_of Parser base (Some s)) host_text parts) same
+    fits in
     let have = marks base text parts.scheme parts.host_text parts.port_text parts.path_text parts.query parts.fragment
     is.cut in
     let question : is_without question_mark (host_text ++ written_behind colon parts.port_text) ≡ true
@@ -114,8 +120,8 @@ is_named_by base text parts class scheme is fits of_class same =
       record {
         given = given;
         of_class = is_class;
-        takes = subst (λ (k : Class). Takes k scheme host_text parts) is_class takes;
-        path = fits.1;
+        fits =
+            subst (λ (k : Class). FitsAuthority k (setting_of Parser base (Some scheme)) host_text parts) is_class fits;
         host_cut = subst (λ (k : Class). IsHostCut k host_text parts.port_text) of_class cut.2;
         no_slash = (is_without-parts slash host_text (written_behind colon parts.port_text) cut.0).0;
         no_question_mark = (is_without-parts question_mark host_text (written_behind colon parts.port_text) question).0;
@@ -123,7 +129,8 @@ is_named_by base text parts class scheme is fits of_class same =
       },
     )
 
-is_named : (base : Option Url) (text : List ℕ) (parts : Parts) (class : Class) → Silent base text parts
+-- a valid text with a scheme and an authority has both by name
+is_named : (base : Option Url) (text : List ℕ) (parts : Parts) (class : Class) → Valid Parser base text parts
     → parts.form ≡ SchemeAuthority → scheme_class (scheme_in base parts) ≡ class
     → (scheme : List ℕ) × (host_text : List ℕ) × (is_scheme scheme ≡ true) × (parts.scheme ≡ Some scheme)
     × IsNamed base parts class scheme host_text
@@ -131,7 +138,7 @@ is_named base text parts class is form of_class =
     let (scheme, named, spelled) = scheme_there parts.scheme
     (subst (λ (f : Form). FitsScheme (has_scheme f) parts.scheme) form is.scheme) in
     let (host_text, all) = is_named_by base text parts class scheme is
-    (takes_form base text parts SchemeAuthority is form) of_class (ap (scheme_or base) named) in
+    (fits_form base text parts SchemeAuthority is form) of_class (ap (scheme_or base) named) in
     (scheme, host_text, spelled, named, all)
 
 -- ---- class Special
@@ -142,57 +149,55 @@ closed_before : (text : List ℕ) (port : Option (List ℕ)) → EndsAtPort text
 closed_before text None ends some = inl refl
 closed_before text (Some port) ends some = inr (some, ends.ends refl)
 
-taken_parsed : (parts : Parts) (scheme host_text : List ℕ) (port : Option (List ℕ)) (base : Option Url)
-    → IsNamed base parts Special scheme host_text → EndsAtPort host_text port → MayBePortText port
-    → (takes : TakesSpecial scheme host_text parts) → IsParsed scheme host_text port takes.value
-taken_parsed parts scheme host_text port base is ends fits takes =
-    let special = is_special_scheme scheme is.of_class in
-    let letters = letters_from (is_special (lowercase scheme)) host_text is.no_slash is.no_question_mark
-    is.no_number_sign takes.host.no_at_sign (λ same. takes.host.no_backslash) in
-    let host_parsed = parsed_host host_text takes.value takes.host.taken in
-    let some = parsed_some host_text takes.value host_parsed in
-    record {
-      read = record {
-        letters = letters;
-        read = reads_from (is_special (lowercase scheme)) false host_text port
-            (ends_from_start host_text port ends) letters;
-      };
-      parsed = rw special host_parsed;
-      stands = and_left _ _ some;
-      some = closed_before host_text port ends some;
-      port = fits;
-    }
-
--- host, port and path of an authority of class Special are parsed as they are denoted
-pub special_has : (base : Option Url) (parts : Parts) (scheme host_text : List ℕ)
-    → (is : IsNamed base parts Special scheme host_text) → HasParsed parts scheme host_text is.takes.value
-special_has base parts scheme host_text is =
-    let takes : TakesSpecial scheme host_text parts = is.takes in
-    record {
-      parsed = taken_parsed parts scheme host_text parts.port_text base is is.host_cut takes.port_text takes;
-      valued = valued_some parts takes.value takes.valued;
-      port = takes.port;
-      path = is.path;
-    }
-
 -- its host has letters of an authority alone
 pub special_letters : (base : Option Url) (parts : Parts) (scheme host_text : List ℕ)
     → IsNamed base parts Special scheme host_text → list_all (is_authority_letter true) host_text ≡ true
 special_letters base parts scheme host_text is =
-    letters_from true host_text is.no_slash is.no_question_mark is.no_number_sign is.takes.host.no_at_sign
-    (λ same. is.takes.host.no_backslash)
+    let on = special_goes_on (ends_at_host (texts_of parts)) host_text is.fits.unstopped in
+    letters_from true host_text is.no_slash is.no_question_mark is.no_number_sign (on.no_at_sign refl)
+    (λ same. on.no_backslash)
+
+-- host, port and path of an authority of class Special are parsed as they are denoted
+pub special_has : (base : Option Url) (parts : Parts) (scheme host_text : List ℕ)
+    → (is : IsNamed base parts Special scheme host_text) → HasParsed parts scheme host_text is.fits.value
+special_has base parts scheme host_text is =
+    let fits : IsSpecialAuthority (setting_of Parser base (Some scheme)) host_text parts = is.fits in
+    let special = is_special_scheme scheme is.of_class in
+    let ends : EndsAtPort host_text parts.port_text = is.host_cut in
+    let letters : list_all (is_authority_letter (is_special (lowercase scheme))) host_text ≡ true
+    = rw special (special_letters base parts scheme host_text is) in
+    let host_parsed = parsed_host host_text fits.value fits.host in
+    let some = parsed_some host_text fits.value host_parsed in
+    let parsed : IsParsed scheme host_text parts.port_text fits.value
+    = record {
+      read = record {
+        letters = letters;
+        read = reads_from (is_special (lowercase scheme)) false host_text parts.port_text
+            (ends_from_start host_text parts.port_text ends) letters;
+      };
+      parsed = rw special host_parsed;
+      stands = and_left _ _ some;
+      some = closed_before host_text parts.port_text ends some;
+      port = fits.port_text;
+    } in
+    record {
+      parsed = parsed;
+      valued = valued_some parts fits.value fits.valued;
+      port = fits.port;
+      path = fits.path;
+    }
 
 -- an authority of class Special
-pub special_done : (base : Option Url) (text : List ℕ) (parts : Parts) → Silent base text parts
+pub special_done : (base : Option Url) (text : List ℕ) (parts : Parts) → Valid Parser base text parts
     → parts.form ≡ SchemeAuthority → scheme_class (scheme_in base parts) ≡ Special → RunsSilently base text parts
 special_done base text parts silent form special =
     let (scheme, host_text, spelled, named, is) = is_named base text parts Special silent form special in
     let all = special_has base parts scheme host_text is in
-    authority_runs base parts scheme host_text is.takes.value text (silent.cut.whole ∙ sym (written_as_cut parts))
-    silent.query silent.fragment silent.kept form spelled named is.given all
-    (special_starts base parts scheme host_text is.takes.value is.of_class
+    authority_runs base parts scheme host_text is.fits.value text silent.whole
+    silent.query silent.fragment (parser_valid_is_kept base text parts silent) form spelled named is.given all
+    (special_starts base parts scheme host_text is.fits.value is.of_class
     (special_letters base parts scheme host_text is)
-    (special_some scheme host_text is.takes.value (is_special_scheme scheme is.of_class) all.parsed.parsed))
+    (special_some scheme host_text is.fits.value (is_special_scheme scheme is.of_class) all.parsed.parsed))
 
 -- ---- class Other
 
@@ -231,12 +236,33 @@ other_some text None ends alone = inl refl
 other_some [] (Some port) ends alone = inl (alone refl)
 other_some (c ∷ rest) (Some port) ends alone = inr (has_some (c ∷ rest) c rest refl, ends.ends refl)
 
+-- The host and the port of an authority of class Other.
+record OtherFits (scheme host_text : List ℕ) (parts : Parts) : Type 0 where
+  host : IsValidOtherHost host_text parts.host
+  alone : host_text ≡ [] → parts.port_text ≡ None
+  port_text : MayBePortText parts.port_text
+
+-- what the conditions of class Other say of them
+other_fits : (base : Option Url) (scheme host_text : List ℕ) (parts : Parts)
+    → IsOtherAuthority (setting_of Parser base (Some scheme)) host_text parts → OtherFits scheme host_text parts
+other_fits base scheme host_text parts (inl (is, port_text), port, path) = record {
+  host = inl is;
+  alone = λ nothing. absurd (opaque_not_empty host_text parts.host is nothing);
+  port_text = port_text;
+}
+other_fits base scheme host_text parts (inr (nothing, valued, none), port, path) = record {
+  host = inr (nothing, valued);
+  alone = λ same. none;
+  port_text = rw none tt;
+}
+
 -- host, port and path of an authority of class Other are parsed as they are denoted
 pub other_has : (base : Option Url) (parts : Parts) (scheme host_text : List ℕ)
     → IsNamed base parts Other scheme host_text → (value : Host) × HasParsed parts scheme host_text value
 other_has base parts scheme host_text is =
-    let takes : TakesOther scheme host_text parts = is.takes in
-    let (value, no_at_sign, host_parsed, valued) = (silent_other_hosts_are_valid host_text parts.host).1 takes.host in
+    let all : IsOtherAuthority (setting_of Parser base (Some scheme)) host_text parts = is.fits in
+    let fits = other_fits base scheme host_text parts all in
+    let (value, no_at_sign, host_parsed, valued) = (silent_other_hosts_are_valid host_text parts.host).1 fits.host in
     let plain = not_special scheme is.of_class in
     let letters = letters_from (is_special (lowercase scheme)) host_text is.no_slash is.no_question_mark
     is.no_number_sign no_at_sign (λ same. absurd (true≢false (sym same ∙ plain))) in
@@ -250,84 +276,83 @@ other_has base parts scheme host_text is =
       };
       parsed = rw plain host_parsed;
       stands = and_right (length host_text == 0) _ plain;
-      some = other_some host_text parts.port_text ends takes.alone;
-      port = takes.port_text;
+      some = other_some host_text parts.port_text ends fits.alone;
+      port = fits.port_text;
     } in (
       value,
       record {
         parsed = parsed;
         valued = other_valued parts host_text value is.given host_parsed valued;
-        port = takes.port;
-        path = is.path;
+        port = all.1;
+        path = all.2;
       },
     )
 
 -- an authority of class Other
-pub other_done : (base : Option Url) (text : List ℕ) (parts : Parts) → Silent base text parts
+pub other_done : (base : Option Url) (text : List ℕ) (parts : Parts) → Valid Parser base text parts
     → parts.form ≡ SchemeAuthority → scheme_class (scheme_in base parts) ≡ Other → RunsSilently base text parts
 other_done base text parts silent form other =
     let (scheme, host_text, spelled, named, is) = is_named base text parts Other silent form other in
     let (value, has) = other_has base parts scheme host_text is in
-    authority_runs base parts scheme host_text value text (silent.cut.whole ∙ sym (written_as_cut parts))
-    silent.query silent.fragment silent.kept form spelled named is.given has
+    authority_runs base parts scheme host_text value text silent.whole
+    silent.query silent.fragment (parser_valid_is_kept base text parts silent) form spelled named is.given has
     (other_starts base parts scheme host_text value is.of_class)
 
 -- ---- class File
 
--- a host text that is taken is one that the file host state reads
-taken_is_read : (base : Option Url) (parts : Parts) (scheme host_text : List ℕ) (value : Host)
-    → IsNamed base parts File scheme host_text → IsTakenFileHost host_text value → IsFileRead host_text value
-taken_is_read base parts scheme host_text value is host = record {
-  parsed_value = host.host;
-  letters = record {
-    no_slash = is.no_slash;
-    no_question_mark = is.no_question_mark;
-    no_number_sign = is.no_number_sign;
-    no_backslash = host.no_backslash;
-  };
-  parsed = parsed_host host_text host.host host.taken;
-  made = sym host.valued;
-  drive = host.no_drive;
-}
+-- a host text of a file URL is one that the file host state reads
+file_host_read : (base : Option Url) (parts : Parts) (scheme host_text : List ℕ)
+    → IsNamed base parts File scheme host_text → (has : HasFileHost Parser host_text parts)
+    → IsFileRead host_text has.value
+file_host_read base parts scheme host_text is has =
+    let (drive, on) = file_goes_on (ends_at_host (texts_of parts)) host_text has.unstopped in
+    let (value, is_host, made) = host_of_file host_text has.value has.host in
+    record {
+      parsed_value = value;
+      letters = record {
+        no_slash = is.no_slash;
+        no_question_mark = is.no_question_mark;
+        no_number_sign = is.no_number_sign;
+        no_backslash = on.no_backslash;
+      };
+      parsed = parsed_host host_text value is_host;
+      made = made;
+      drive = drive;
+    }
 
--- a silent text of class File with an authority has a host of a file URL
-pub taken_file : (base : Option Url) (text : List ℕ) (parts : Parts) (scheme host_text : List ℕ)
-    → Silent base text parts
-    → IsNamed base parts File scheme host_text → TakesFile host_text parts
-    → (value : Host) × HasFileHost base parts host_text value
-taken_file base text parts scheme host_text silent is takes =
-    by_host takes.host
-  where
-    by_host : ((value : Host) × IsTakenFileHost host_text value × (parts.host ≡ Some value))
-        ⊎ ((host_text ≡ []) × (parts.host ≡ Some host.Empty)) → (value : Host) × HasFileHost base parts host_text value
-    by_host (inl (value, host, valued)) = (
-      value,
-      record {
-        no_port_text = takes.no_port_text;
-        no_port = takes.no_port;
-        valued = valued;
-        path = is.path;
-        ends = file_host_ends base parts.segments parts.path_text parts.query parts.fragment is.path silent.query
-            silent.fragment host_text value (taken_is_read base parts scheme host_text value is host);
-      },
-    )
-    by_host (inr (empty, valued)) = (
-      host.Empty,
-      record {
-        no_port_text = takes.no_port_text;
-        no_port = takes.no_port;
-        valued = valued;
-        path = is.path;
-        ends = rw empty (empty_host_ends base parts.segments parts.path_text parts.query parts.fragment is.path
-            silent.query silent.fragment);
-      },
-    )
+-- a valid text of class File with an authority has a host of a file URL
+pub file_has : (base : Option Url) (text : List ℕ) (parts : Parts) (scheme host_text : List ℕ)
+    → Valid Parser base text parts
+    → IsNamed base parts File scheme host_text → IsFileAuthority (setting_of Parser base (Some scheme)) host_text parts
+    → (value : Host) × FileHostEnds base parts host_text value
+file_has base text parts scheme host_text silent is (no_text, none, inl has) = (
+  has.value,
+  record {
+    no_port_text = no_text;
+    no_port = none;
+    valued = has.valued;
+    path = has.path;
+    ends = file_host_ends base parts.segments parts.path_text parts.query parts.fragment has.path silent.query
+        silent.fragment host_text has.value (file_host_read base parts scheme host_text is has);
+  },
+)
+file_has base text parts scheme host_text silent is (no_text, none, inr (empty, valued, path)) = (
+  host.Empty,
+  record {
+    no_port_text = no_text;
+    no_port = none;
+    valued = valued;
+    path = path;
+    ends = rw empty (empty_host_ends base parts.segments parts.path_text parts.query parts.fragment path
+        silent.query silent.fragment);
+  },
+)
 
 -- an authority of class File
-pub file_done : (base : Option Url) (text : List ℕ) (parts : Parts) → Silent base text parts
+pub file_done : (base : Option Url) (text : List ℕ) (parts : Parts) → Valid Parser base text parts
     → parts.form ≡ SchemeAuthority → scheme_class (scheme_in base parts) ≡ File → RunsSilently base text parts
 file_done base text parts silent form file =
     let (scheme, host_text, spelled, named, is) = is_named base text parts File silent form file in
-    let (value, there) = taken_file base text parts scheme host_text silent is is.takes in
-    file_runs base text parts scheme host_text value (silent.cut.whole ∙ sym (written_as_cut parts)) silent.query
-    silent.fragment silent.kept form spelled named is.given is.of_class there
+    let (value, there) = file_has base text parts scheme host_text silent is is.fits in
+    file_runs base text parts scheme host_text value silent.whole silent.query
+    silent.fragment (parser_valid_is_kept base text parts silent) form spelled named is.given is.of_class there

@@ -9,16 +9,15 @@ use Rattle.uv_model.specs.Ascii.{slash, backslash, colon}
 use Rattle.uv_model.specs.Records.Denote.{authority_path}
 use Rattle.uv_parser.specs.Machine.{State, begins, AuthorityState, NoSchemeState, empty_variables, with_scheme}
 use Rattle.uv_model.specs.Parts.{Parts, Authority, written_behind, written_authority}
-use Rattle.uv_parser.specs.SilentTexts.{Silent}
 use Rattle.uv_model.specs.Scheme.{default_port, lowercase, scheme_class}
 use Rattle.uv_parser.specs.Laws.Silence.{RunsSilently}
 use Rattle.uv_model.specs.Records.Url.{Url, is_opaque}
 use Rattle.uv_model.specs.Setting.{scheme_or}
-use Rattle.uv_model.specs.Valid.{port_given, scheme_in}
+use Rattle.uv_model.specs.Valid.{port_given, scheme_in, Valid}
 use Rattle.uv_parser.proofs.Loops.AuthorityStarts.{base_starts}
 use Rattle.uv_parser.proofs.Loops.AuthorityEnds.{Behind, authority_ends, hosted}
 use Rattle.uv_parser.proofs.Decided.CutTexts.{cut_text}
-use Rattle.uv_parser.proofs.Done.Decided.{takes_form}
+use Rattle.uv_parser.proofs.Done.Decided.{fits_form}
 use Rattle.uv_parser.proofs.Done.DoneAuthority.{is_named_by, other_has, special_has, special_letters}
 use Rattle.uv_parser.proofs.Done.DoneReferences.{reference_query, reference_runs}
 use Rattle.uv_parser.proofs.Loops.PathLoops.{walking}
@@ -28,8 +27,9 @@ use Rattle.uv_parser.proofs.Silence.SilentAuthority.{HasParsed, is_special_schem
 use Rattle.uv_parser.proofs.Silence.SilentSchemes.{special_of_class}
 use Rattle.uv_parser.proofs.Running.Steps.{Ends, ends_again}
 use Rattle.uv_parser.proofs.Loops.Tails.{tail}
+use Rattle.uv_model.specs.declared.profile.Profile.TheVariants.{Parser}
 
-module _ (url : Url) (text : List ℕ) (parts : Parts) (is : Silent (Some url) text parts)
+module _ (url : Url) (text : List ℕ) (parts : Parts) (is : Valid Parser (Some url) text parts)
     (not_opaque : is_opaque url.path ≡ false) (none : parts.scheme ≡ None)
     (lower : lowercase url.scheme ≡ url.scheme) where
   -- what follows the authority, and the authority
@@ -90,7 +90,7 @@ module _ (url : Url) (text : List ℕ) (parts : Parts) (is : Silent (Some url) t
       let of_class : scheme_class (scheme_in (Some url) parts) ≡ Other
       = ap (λ o. scheme_class (scheme_or (Some url) o)) none ∙ other in
       let (host_text, named) = is_named_by (Some url) text parts Other url.scheme is
-      (takes_form (Some url) text parts Authority is form) of_class (ap (scheme_or (Some url)) none) in
+      (fits_form (Some url) text parts Authority is form) of_class (ap (scheme_or (Some url)) none) in
       let (value, has) = other_has (Some url) parts url.scheme host_text named in
       authority_reference host_text value form named.given has
       (λ u ends.
@@ -104,7 +104,7 @@ module _ (url : Url) (text : List ℕ) (parts : Parts) (is : Silent (Some url) t
       let of_class : scheme_class (scheme_in (Some url) parts) ≡ Special
       = ap (λ o. scheme_class (scheme_or (Some url) o)) none ∙ special in
       let (host_text, named) = is_named_by (Some url) text parts Special url.scheme is
-      (takes_form (Some url) text parts Authority is form) of_class (ap (scheme_or (Some url)) none) in
+      (fits_form (Some url) text parts Authority is form) of_class (ap (scheme_or (Some url)) none) in
       let has = special_has (Some url) parts url.scheme host_text named in
       let rest = (host_text ++ written_behind colon parts.port_text)
       ++ (parts.path_text ++ tail parts.query parts.fragment) in
@@ -112,8 +112,8 @@ module _ (url : Url) (text : List ℕ) (parts : Parts) (is : Silent (Some url) t
       = no_slash_before host_text (written_behind colon parts.port_text)
       (parts.path_text ++ tail parts.query parts.fragment)
       (special_letters (Some url) parts url.scheme host_text named)
-      (special_some url.scheme host_text named.takes.value (is_special_scheme url.scheme special) has.parsed.parsed) in
-      authority_reference host_text named.takes.value form named.given has
+      (special_some url.scheme host_text named.fits.value (is_special_scheme url.scheme special) has.parsed.parsed) in
+      authority_reference host_text named.fits.value form named.given has
       (λ u ends.
       (base_starts url rest Special not_opaque special
       (ends_again (Some url) (λ p. rw none refl) (same_variables AuthorityState rest u ends))))

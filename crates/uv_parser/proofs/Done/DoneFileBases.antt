@@ -14,17 +14,17 @@ use Rattle.uv_parser.specs.Machine.{starts_with_drive_letter, turn, again, FileS
 use Rattle.uv_parser.specs.Machine.{empty_variables, is_file, is_special, list_in, shortened, with_file_base}
 use Rattle.uv_parser.specs.Machine.{with_query}
 use Rattle.uv_model.specs.Parts.{Parts, Authority, NoPath, PathRelative, written_authority, written_behind}
-use Rattle.uv_parser.specs.SilentTexts.{Silent}
 use Rattle.uv_model.specs.Path.{is_without, shorten, starts_with_slash, walk}
 use Rattle.uv_model.specs.Scheme.{scheme_class}
 use Rattle.uv_parser.specs.Laws.Silence.{RunsSilently}
 use Rattle.uv_model.specs.Units.{is_faultless, is_unit_at, is_url_code_point}
 use Rattle.uv_model.specs.Records.Url.{Url, is_opaque}
 use Rattle.uv_model.specs.Setting.{scheme_or}
-use Rattle.uv_model.specs.Valid.{scheme_in, starts_with_scheme}
+use Rattle.uv_model.specs.Valid.{scheme_in, Valid}
+use Rattle.uv_model.specs.Scheme.{starts_with_scheme}
 use Rattle.uv_parser.proofs.Decided.CutTexts.{cut_text, marks}
-use Rattle.uv_parser.proofs.Done.Decided.{takes_form}
-use Rattle.uv_parser.proofs.Done.DoneAuthority.{is_named_by, taken_file}
+use Rattle.uv_parser.proofs.Done.Decided.{fits_form}
+use Rattle.uv_parser.proofs.Done.DoneAuthority.{file_has, is_named_by}
 use Rattle.uv_parser.proofs.Done.DoneReferences.{path_text, reference_query, reference_runs, same_list, walk_ends}
 use Rattle.uv_parser.proofs.Loops.AuthorityStarts.{base_starts, file_variables}
 use Rattle.uv_parser.proofs.Loops.FileHosts.{file_class}
@@ -32,10 +32,11 @@ use Rattle.uv_model.proofs.Paths.JoinedSegments.{faultless_path}
 use Rattle.uv_model.proofs.Texts.MarkLemmas.{is_without-cons}
 use Rattle.uv_parser.proofs.Loops.PathLoops.{walking}
 use Rattle.uv_parser.proofs.Silence.SilentAuthority.{valued_some}
-use Rattle.uv_parser.proofs.Silence.SilentFile.{HasFileHost}
+use Rattle.uv_parser.proofs.Silence.SilentFile.{FileHostEnds}
 use Rattle.uv_parser.proofs.Silence.SilentSchemes.{special_of_class}
 use Rattle.uv_parser.proofs.Running.Steps.{ends_again}
 use Rattle.uv_parser.proofs.Loops.Tails.{tail, tail_ends}
+use Rattle.uv_model.specs.declared.profile.Profile.TheVariants.{Parser}
 
 -- units that begin with no scheme begin with no drive letter
 no_drive_letter : (path : List ℕ) (query fragment : Option (List ℕ)) → path ≢ [] → is_faultless path ≡ true
@@ -62,7 +63,7 @@ no_drive_letter (c ∷ m ∷ rest) query fragment some units free =
       | inr other ↦ rw other refl
     ]
 
-module _ (url : Url) (text : List ℕ) (parts : Parts) (is : Silent (Some url) text parts)
+module _ (url : Url) (text : List ℕ) (parts : Parts) (is : Valid Parser (Some url) text parts)
     (not_opaque : is_opaque url.path ≡ false) (file : is_file url.scheme ≡ true)
     (class : scheme_class url.scheme ≡ File) (none : parts.scheme ≡ None)
     (name : url.scheme ≡ codes "file") (no_port : url.port ≡ None) where
@@ -76,7 +77,7 @@ module _ (url : Url) (text : List ℕ) (parts : Parts) (is : Silent (Some url) t
   -- no path
   pub file_no_path_done : parts.form ≡ NoPath → RunsSilently (Some url) text parts
   file_no_path_done form =
-      let fits = takes_form (Some url) text parts NoPath is form in
+      let fits = fits_form (Some url) text parts NoPath is form in
       let whole : text ≡ tail parts.query parts.fragment
       = path_text url text parts is none fits.0.host_text
       ∙ ap (λ xs. xs ++ tail parts.query parts.fragment) fits.1 in
@@ -110,7 +111,7 @@ module _ (url : Url) (text : List ℕ) (parts : Parts) (is : Silent (Some url) t
   -- a path that doesn't begin with `/`
   pub file_relative_done : parts.form ≡ PathRelative → RunsSilently (Some url) text parts
   file_relative_done form =
-      let fits = takes_form (Some url) text parts PathRelative is form in
+      let fits = fits_form (Some url) text parts PathRelative is form in
       let have = marks (Some url) text parts.scheme parts.host_text parts.port_text parts.path_text parts.query
       parts.fragment is.cut in
       let whole = path_text url text parts is none fits.0.host_text in
@@ -141,7 +142,7 @@ module _ (url : Url) (text : List ℕ) (parts : Parts) (is : Silent (Some url) t
 
   -- an authority with its host text named
   file_authority_runs : (host_text : List ℕ) (value : Host) → parts.form ≡ Authority
-      → parts.host_text ≡ Some host_text → HasFileHost (Some url) parts host_text value
+      → parts.host_text ≡ Some host_text → FileHostEnds (Some url) parts host_text value
       → RunsSilently (Some url) text parts
   file_authority_runs host_text value form given has =
       let rest = parts.path_text ++ tail parts.query parts.fragment in
@@ -175,6 +176,6 @@ module _ (url : Url) (text : List ℕ) (parts : Parts) (is : Silent (Some url) t
       let of_class : scheme_class (scheme_in (Some url) parts) ≡ File
       = ap (λ o. scheme_class (scheme_or (Some url) o)) none ∙ class in
       let (host_text, named) = is_named_by (Some url) text parts File url.scheme is
-      (takes_form (Some url) text parts Authority is form) of_class (ap (scheme_or (Some url)) none) in
-      let (value, has) = taken_file (Some url) text parts url.scheme host_text is named named.takes in
+      (fits_form (Some url) text parts Authority is form) of_class (ap (scheme_or (Some url)) none) in
+      let (value, has) = file_has (Some url) text parts url.scheme host_text is named named.fits in
       file_authority_runs host_text value form named.given has

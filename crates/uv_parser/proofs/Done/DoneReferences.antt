@@ -16,22 +16,23 @@ use Rattle.uv_parser.specs.Machine.{empty_variables, is_file, is_special, list_i
 use Rattle.uv_parser.specs.Machine.{with_query, with_scheme}
 use Rattle.uv_model.specs.Parts.{Form, Parts, SchemeAuthority, SchemePath, SchemeOpaque, Authority, PathAbsolute}
 use Rattle.uv_model.specs.Parts.{PathRelative, NoPath}
-use Rattle.uv_parser.specs.SilentTexts.{Silent}
 use Rattle.uv_model.specs.Path.{AreSegments, JoinsTo, is_without, shorten, starts_with_slash, walk}
 use Rattle.uv_model.specs.Scheme.{scheme_class}
 use Rattle.uv_parser.specs.Laws.Silence.{RunsSilently}
 use Rattle.uv_model.specs.Records.Url.{Url, is_opaque}
 use Rattle.uv_model.specs.Setting.{scheme_or}
-use Rattle.uv_model.specs.Valid.{MayBeUnits}
+use Rattle.uv_model.specs.Valid.{MayBeUnits, Valid}
 use Rattle.uv_parser.proofs.Decided.CutTexts.{cut_text, marks}
-use Rattle.uv_parser.proofs.Done.Decided.{takes_form}
-use Rattle.uv_parser.proofs.Decided.DecidedReferences.{no_scheme_cut}
+use Rattle.uv_parser.proofs.Done.Decided.{fits_form}
+use Rattle.uv_parser.proofs.Decided.ReferenceTexts.{no_scheme_cut}
 use Rattle.uv_model.proofs.Texts.MarkLemmas.{is_without-cons}
 use Rattle.uv_parser.proofs.Loops.PathLoops.{path_ends, walking}
 use Rattle.uv_parser.proofs.Decided.SchemeAbsent.{absent_ended}
 use Rattle.uv_parser.proofs.Silence.SilentSchemes.{special_of_class, with_tail_denoted}
+use Rattle.uv_parser.proofs.Silence.KeptParts.{parser_valid_is_kept}
 use Rattle.uv_parser.proofs.Running.Steps.{Ends, done_with, ends_again, ends_step}
 use Rattle.uv_parser.proofs.Loops.Tails.{no_slash_before_tail, query_given, tail, tail_ends, with_tail}
+use Rattle.uv_model.specs.declared.profile.Profile.TheVariants.{Parser}
 
 -- The variables behind the path have the denoted scheme, host, port, path and query.
 pub record HoldsReference (url : Url) (parts : Parts) (form : Form) (v : Variables) : Type 0 where
@@ -72,16 +73,17 @@ reference_query url class NoPath None v special e = e
 -- the whole run of such a text
 pub reference_runs : (url : Url) (text rest : List ℕ) (parts : Parts) (form : Form) (v : Variables)
     → text ≡ rest
-    → Silent (Some url) text parts → parts.form ≡ form → parts.scheme ≡ None → HoldsReference url parts form v
+    → Valid Parser (Some url) text parts → parts.form ≡ form → parts.scheme ≡ None → HoldsReference url parts form v
     → Ends (Some url) NoSchemeState empty_variables rest (with_tail parts.query parts.fragment v)
     → RunsSilently (Some url) text parts
 reference_runs url text rest parts form v whole is of_form none holds ends =
     rw (← reference_denoted url parts form v of_form none holds)
-    (absent_ended (Some url) text (done_with (with_tail parts.query parts.fragment v)) is.kept
+    (absent_ended (Some url) text (done_with (with_tail parts.query parts.fragment v))
+    (parser_valid_is_kept (Some url) text parts is)
     (no_scheme_cut (Some url) text (texts_of parts) is.cut none) (rw whole ends))
 
 -- the text of parts with neither a scheme nor an authority
-pub path_text : (url : Url) (text : List ℕ) (parts : Parts) → Silent (Some url) text parts → parts.scheme ≡ None
+pub path_text : (url : Url) (text : List ℕ) (parts : Parts) → Valid Parser (Some url) text parts → parts.scheme ≡ None
     → parts.host_text ≡ None → text ≡ parts.path_text ++ tail parts.query parts.fragment
 path_text url text parts is none no_host =
     rw (none, no_host) at
@@ -111,12 +113,13 @@ no_kept_drive Special list segments other = refl
 no_kept_drive Other list segments other = refl
 no_kept_drive File list segments other = absurd (other refl)
 
+-- a scheme that is not `file` is of another class than File
 not_file : (class : Class) (scheme : List ℕ) → scheme_class scheme ≡ class → is_file scheme ≡ false → class ≢ File
 not_file class scheme e plain file = absurd (true≢false (sym (rw (e ∙ file) refl) ∙ plain))
 
 -- ---- a base with a path of segments, of a class other than File
 
-module _ (url : Url) (text : List ℕ) (parts : Parts) (is : Silent (Some url) text parts)
+module _ (url : Url) (text : List ℕ) (parts : Parts) (is : Valid Parser (Some url) text parts)
     (not_opaque : is_opaque url.path ≡ false) (plain : is_file url.scheme ≡ false)
     (none : parts.scheme ≡ None) where
   -- the variables with the base's scheme
@@ -133,7 +136,7 @@ module _ (url : Url) (text : List ℕ) (parts : Parts) (is : Silent (Some url) t
   -- no path
   pub no_path_done : parts.form ≡ NoPath → RunsSilently (Some url) text parts
   no_path_done form =
-      let fits = takes_form (Some url) text parts NoPath is form in
+      let fits = fits_form (Some url) text parts NoPath is form in
       let whole : text ≡ tail parts.query parts.fragment
       = path_text url text parts is none fits.0.host_text
       ∙ ap (λ xs. xs ++ tail parts.query parts.fragment) fits.1 in
@@ -154,7 +157,7 @@ module _ (url : Url) (text : List ℕ) (parts : Parts) (is : Silent (Some url) t
   -- `/` and a path
   pub absolute_done : parts.form ≡ PathAbsolute → RunsSilently (Some url) text parts
   absolute_done form =
-      let fits = takes_form (Some url) text parts PathAbsolute is form in
+      let fits = fits_form (Some url) text parts PathAbsolute is form in
       let path = fits.1 in
       let rest = path.behind ++ tail parts.query parts.fragment in
       let whole : text ≡ slash ∷ rest
@@ -183,7 +186,7 @@ module _ (url : Url) (text : List ℕ) (parts : Parts) (is : Silent (Some url) t
   -- another path
   pub relative_done : parts.form ≡ PathRelative → RunsSilently (Some url) text parts
   relative_done form =
-      let fits = takes_form (Some url) text parts PathRelative is form in
+      let fits = fits_form (Some url) text parts PathRelative is form in
       let have = marks (Some url) text parts.scheme parts.host_text parts.port_text parts.path_text parts.query
       parts.fragment is.cut in
       let whole = path_text url text parts is none fits.0.host_text in

@@ -14,14 +14,13 @@ use Rattle.uv_parser.specs.Machine.{Variables, another, starts_with_drive_letter
 use Rattle.uv_parser.specs.Machine.{FileSlashState, FileState, PathState, empty_variables, is_file, list_in, with_host}
 use Rattle.uv_parser.specs.Machine.{with_kept_drive, with_scheme}
 use Rattle.uv_model.specs.Parts.{Parts, PathAbsolute}
-use Rattle.uv_parser.specs.SilentTexts.{Silent}
 use Rattle.uv_model.specs.Path.{IsSegment, is_drive_letter, is_normalized_drive_letter, walk}
 use Rattle.uv_model.specs.Scheme.{scheme_class}
 use Rattle.uv_parser.specs.Laws.Silence.{RunsSilently}
 use Rattle.uv_model.specs.Units.{is_faultless, is_unit_at, is_url_code_point}
 use Rattle.uv_model.specs.Records.Url.{Url, is_opaque}
 use Rattle.uv_parser.proofs.Loops.AuthorityLoops.{IsDelimiter}
-use Rattle.uv_parser.proofs.Done.Decided.{takes_form}
+use Rattle.uv_parser.proofs.Done.Decided.{fits_form}
 use Rattle.uv_parser.proofs.Done.DoneReferences.{path_text, reference_query, reference_runs, same_list, walk_ends}
 use Rattle.uv_parser.proofs.Loops.FileHosts.{and_true-right, file_class}
 use Rattle.uv_parser.proofs.Loops.PathLoops.{walking}
@@ -31,6 +30,8 @@ use Rattle.uv_parser.proofs.Running.Steps.{ends_again, ends_step}
 use Rattle.uv_parser.proofs.Loops.Tails.{no_slash_before_tail, tail}
 use Rattle.uv_model.proofs.Texts.UnitsLemmas.{is_faultless-units}
 use Rattle.uv_model.proofs.Texts.MarkLemmas.{is_without-cons}
+use Rattle.uv_model.specs.Valid.{Valid}
+use Rattle.uv_model.specs.declared.profile.Profile.TheVariants.{Parser}
 
 -- the three delimiters
 delimiters : (d : ℕ) (more : List ℕ) → IsDelimiter (at_pointer (d ∷ more))
@@ -152,11 +153,11 @@ kept_denoted url first segments others class some =
     ∙ ap (kept_drive (scheme_class url.scheme) (listed_segments url.path)) (sym some))
 
 -- a path-absolute reference to a file base
-pub file_absolute_done : (url : Url) (text : List ℕ) (parts : Parts) → Silent (Some url) text parts
+pub file_absolute_done : (url : Url) (text : List ℕ) (parts : Parts) → Valid Parser (Some url) text parts
     → is_opaque url.path ≡ false → is_file url.scheme ≡ true → scheme_class url.scheme ≡ File → parts.scheme ≡ None
     → url.scheme ≡ codes "file" → url.port ≡ None → parts.form ≡ PathAbsolute → RunsSilently (Some url) text parts
 file_absolute_done url text parts is not_opaque file class none name no_port form =
-    let fits = takes_form (Some url) text parts PathAbsolute is form in
+    let fits = fits_form (Some url) text parts PathAbsolute is form in
     let path = fits.1 in
     let joins = path.relative.joins in
     let rest = path.behind ++ tail parts.query parts.fragment in

@@ -4,10 +4,11 @@ use Rattle.std.proofs.Common.{refl, sym, ap, subst, ◌∙◌, eqb-true, arith}
 use Rattle.std.specs.Prelude.{option_map}
 use Rattle.std.proofs.lemmas.Option.{none-some, same_Some, option_and_then_some}
 use Rattle.uv_model.specs.Ascii.{full_stop}
-use Rattle.uv_model.specs.Hosts.ParserHost.{AreBytes, AreNumbers, IsNumbersText, numbers_value}
+use Rattle.uv_model.specs.Hosts.Numbers.{AreBytes, AreNumbers, IsNumbersText, numbers_value}
 use Rattle.uv_parser.specs.Ipv4Parser.{Ipv4ParserTakesNumbers, parse_ipv4, read_behind, read_numbers}
 use Rattle.uv_parser.specs.Ipv6Parser.{read_digits}
-use Rattle.uv_parser.proofs.HostParsing.Ipv4ParserLemmas.{behind_text, numbers_joined, numbers_parsed}
+use Rattle.uv_parser.proofs.HostParsing.Ipv4ParserLemmas.{numbers_parsed}
+use Rattle.uv_model.proofs.Hosts.NumberLemmas.{behind_text, numbers_joined}
 use Rattle.uv_parser.proofs.HostParsing.Ipv6ReadersTaken.{fails_where_false, number_taken}
 
 -- a function of a value that may be absent

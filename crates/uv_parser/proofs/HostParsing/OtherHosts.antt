@@ -1,4 +1,11 @@
 -- The parser is silent on the valid hosts of URLs of class Other alone.
+use Rattle.std.proofs.Common.{not}
+use Rattle.uv_model.specs.declared.profile.Profile.TheVariants.{Parser}
+use Rattle.uv_model.specs.declared.scheme.Class.TheVariants.{Special}
+use Rattle.uv_model.specs.Hosts.OpaqueHost.{is_forbidden_host}
+use Rattle.uv_model.proofs.Cuts.HostCutLemmas.{is_without-passes}
+use Rattle.uv_model.proofs.Hosts.ParserForms.{bracketed_not_stopped}
+use Rattle.uv_parser.proofs.Running.StoppedHosts.{special_goes_on}
 use Rattle.std.proofs.Common.{◌≡◌, ℕ, true, false, List, Option, Some, None, refl, sym, ap, subst, inl, inr}
 use Rattle.uv_model.specs.declared.host.Host.{Host}
 use Rattle.uv_model.specs.declared.host.Host.TheVariants.{Domain, V4, V6, Opaque, Empty}
@@ -6,11 +13,8 @@ use Rattle.uv_model.specs.Ascii.{at_sign}
 use Rattle.uv_model.specs.Encoding.{encoded}
 use Rattle.uv_model.specs.Path.{is_without}
 use Rattle.uv_parser.specs.HostParser.{IsTakenOtherHost, parse_host}
-use Rattle.uv_parser.specs.Laws.OtherHosts.{IsSilentOtherHost, SilentOtherHostsAreValid, own_value}
-use Rattle.uv_parser.specs.SilentTexts.{IsValidOtherHost}
+use Rattle.uv_parser.specs.Laws.OtherHosts.{IsSilentOtherHost, SilentOtherHostsAreValid, own_value, IsValidOtherHost}
 use Rattle.uv_model.specs.Valid.{IsOpaqueHostText}
-use Rattle.uv_parser.proofs.HostParsing.HostsParsed.{read_without_at}
-use Rattle.uv_parser.proofs.Loops.HostTextsRead.{read_ipv6, read_opaque}
 use Rattle.uv_parser.proofs.HostParsing.OtherHostsTaken.{other_hosts_are_taken}
 
 -- a host that is taken is valid
@@ -33,7 +37,7 @@ valid_is_silent text host (inr (nothing, empty)) =
     (Empty, rw nothing refl, (other_hosts_are_taken text Empty).1 (inl (nothing, refl)), empty)
 valid_is_silent text (Some (V6 pieces)) (inl is) = (
   V6 pieces,
-  read_without_at text (read_ipv6 text pieces is).letters,
+  (special_goes_on true text (bracketed_not_stopped Parser Special true text pieces is)).no_at_sign refl,
   (other_hosts_are_taken text (V6 pieces)).1 (inr (inl (pieces, is, refl))),
   refl,
 )
@@ -43,7 +47,7 @@ valid_is_silent text (Some (Opaque other)) (inl is) = absurd is
 valid_is_silent text (Some Empty) (inl is) = absurd is
 valid_is_silent text None (inl is) = (
   Opaque (encoded false text),
-  read_without_at text (read_opaque text is).letters,
+  is_without-passes (λ c. not (is_forbidden_host c)) at_sign text refl is.permitted,
   (other_hosts_are_taken text (Opaque (encoded false text))).1 (inr (inr (is, refl))),
   refl,
 )

@@ -10,7 +10,7 @@ use Rattle.uv_model.proofs.Texts.UnitsAhead.{is_unit_at-ahead, unit_not_number_s
 use Rattle.uv_model.specs.declared.path.UrlPath.TheVariants.{Opaque}
 use Rattle.uv_model.specs.Ascii.{slash, space, question_mark, number_sign}
 use Rattle.uv_model.specs.Encoding.{encoded_code_point, encoded}
-use Rattle.uv_model.specs.Path.{is_without}
+use Rattle.uv_model.specs.Path.{is_without, is_spaced}
 use Rattle.uv_model.specs.Records.Denote.{end_escaped}
 use Rattle.uv_model.specs.Scheme.{is_scheme_code_point, lowercase}
 use Rattle.uv_model.specs.Units.{is_unit_at, is_faultless}
@@ -18,7 +18,6 @@ use Rattle.uv_model.specs.Records.Url.{Url}
 use Rattle.uv_parser.specs.Machine.{Variables, turn, onward, SchemeState, OpaquePathState, QueryState, FragmentState}
 use Rattle.uv_parser.specs.Machine.{begins_tail, opaque_space, put, with_more, with_path, with_opaque}
 use Rattle.uv_parser.specs.Machine.{with_opaque_text, with_fragment}
-use Rattle.uv_parser.specs.SilentTexts.{is_spaced}
 use Rattle.uv_parser.proofs.Running.Steps.{Reaches, reaches_none, onward_then}
 use Rattle.uv_model.proofs.Paths.OpaquePaths.{unit_not_space}
 use Rattle.uv_model.proofs.Texts.MarkLemmas.{is_without-cons}

@@ -5,13 +5,12 @@ use Rattle.std.proofs.Common.{append-nil, eqb-true}
 use Rattle.std.specs.Char.{is_ascii_hexdigit}
 use Rattle.std.proofs.lemmas.Bool.{true≢false, cases_Bool, not-true}
 use Rattle.uv_model.specs.Ascii.{slash, space, question_mark, number_sign}
-use Rattle.uv_model.specs.Path.{is_without}
+use Rattle.uv_model.specs.Path.{is_without, is_spaced}
 use Rattle.uv_model.specs.Units.{is_url_code_point, is_unit_at, is_faultless}
 use Rattle.uv_model.specs.Records.Url.{Url}
 use Rattle.uv_model.specs.Encoding.{encoded_code_point}
 use Rattle.uv_parser.specs.Machine.{Variables, turn, onward, stop, PathState, OpaquePathState, QueryState}
 use Rattle.uv_parser.specs.Machine.{FragmentState, with_fragment, more_fragment}
-use Rattle.uv_parser.specs.SilentTexts.{is_spaced}
 use Rattle.uv_parser.proofs.Loops.Looping.{opaque_row_on, opaque_row_space, query_row_on}
 use Rattle.uv_parser.proofs.Loops.PathLoops.{path_row_on}
 use Rattle.uv_parser.proofs.Running.Steps.{Stops, stops_here, ends_step}

@@ -2,7 +2,7 @@
 use Rattle.std.proofs.Common.{◌≡◌, ℕ, true, List, [], ◌∷◌, ◌++◌, ◌⊎◌, decimal, Option, Some, None, refl, sym, ap, ◌∙◌}
 use Rattle.std.proofs.Common.{inl, inr, append_assoc}
 use Rattle.std.specs.Prelude.{option_map}
-use Rattle.std.specs.List.{list_all, join_with_byte}
+use Rattle.std.specs.List.{join_with_byte}
 use Rattle.std.proofs.lemmas.Bool.{false≢true}
 use Rattle.uv_model.specs.Path.{MayBePathSlashed}
 use Rattle.uv_model.specs.declared.scheme.Class.{Class}
@@ -10,31 +10,30 @@ use Rattle.uv_model.specs.declared.scheme.Class.TheVariants.{Special, File, Othe
 use Rattle.uv_model.specs.declared.host.Host.{Host}
 use Rattle.uv_model.specs.declared.host.Host.TheVariants as host
 use Rattle.uv_model.specs.declared.path.UrlPath.TheVariants.{Segments}
-use Rattle.uv_model.specs.Ascii.{slash, colon, at_sign}
+use Rattle.uv_model.specs.Ascii.{slash, colon}
 use Rattle.uv_model.specs.Cut.{IsHostCut}
 use Rattle.uv_model.specs.Records.Denote.{authority_host, authority_path, denote}
 use Rattle.uv_model.specs.Parts.{Parts, SchemeAuthority, written, written_behind}
-use Rattle.uv_parser.specs.SilentTexts.{Silent, Takes}
 use Rattle.uv_parser.specs.Laws.OtherHosts.{own_value}
-use Rattle.uv_parser.specs.Laws.RoundTrip.{IsReadableHost}
 use Rattle.uv_model.specs.Scheme.{default_port, scheme_class}
 use Rattle.uv_model.specs.Records.Serialize.{serial, serial_host, serial_port, serial_segments}
 use Rattle.uv_model.specs.Records.Url.{Url}
-use Rattle.uv_model.specs.Valid.{MayBePortText, port_given}
+use Rattle.uv_model.specs.Setting.{setting_of}
+use Rattle.uv_model.specs.Valid.{FitsAuthority, IsOpaqueHostText, MayBePortText, Valid, port_given}
+use Rattle.uv_model.specs.declared.profile.Profile.TheVariants.{Parser}
+use Rattle.uv_model.specs.Records.WellFormed.{IsUrlHost}
+use Rattle.uv_model.proofs.Cuts.HostCutLemmas.{IsHostWord}
+use Rattle.uv_parser.specs.Laws.RoundTrip.{IsStableHost}
+use Rattle.uv_parser.proofs.RoundTrip.SerializedHosts.{file_goes_on, file_text, host_word, ipv6_text, special_goes_on}
+use Rattle.uv_parser.proofs.RoundTrip.SerializedHosts.{special_text}
 use Rattle.uv_model.specs.Records.WellFormed.{AreUrlSegments, IsUrlFragment, IsUrlPath, IsUrlPort, IsUrlQuery}
 use Rattle.uv_model.specs.Records.WellFormed.{IsUrlScheme, takes_port}
-use Rattle.uv_parser.proofs.HostParsing.OtherHosts.{silent_other}
-use Rattle.uv_parser.proofs.RoundTrip.SerializedHosts.{IsHostRead, file_taken, host_read, host_without, other_parsed}
-use Rattle.uv_parser.proofs.RoundTrip.SerializedHosts.{special_taken}
 use Rattle.uv_parser.proofs.RoundTrip.SerializedPaths.{IsSilentOn, denoted_query-own, lowercase-scheme, url_of}
 use Rattle.uv_parser.proofs.RoundTrip.SerializedTexts.{AreSegments-url, encoded-ascii, encoded-fragment, fragment_units}
 use Rattle.uv_parser.proofs.RoundTrip.SerializedTexts.{port_given-decimal, port_text-decimal, query_units}
 use Rattle.uv_parser.proofs.RoundTrip.SerializedTexts.{serial_segments-joined, walk-kept}
 use Rattle.uv_parser.proofs.Silence.SilentAuthority.{written_with_authority}
-use Rattle.uv_parser.proofs.Silence.ValidSilent.{unremoved_authority, unremoved_path}
-use Rattle.uv_parser.proofs.Silence.SilentSchemes.{kept_text}
 use Rattle.uv_parser.proofs.Loops.Tails.{tail}
-use Rattle.uv_parser.proofs.Running.Unremoved.{is_unremoved, unremoved_append}
 use Rattle.uv_model.proofs.Cuts.ValidCutLemmas.{authority_fits, cut_of_parts, path_behind}
 
 -- ---- the path
@@ -57,13 +56,13 @@ path_slashed (segment ∷ rest) are = inr (record {
 
 -- the path of a URL with a host has segments of a URL
 path_segments : (class : Class) (value : Host) (segments : List (List ℕ))
-    → IsUrlPath class (Some value) (Segments segments) → AreUrlSegments segments
+    → IsUrlPath Parser class (Some value) (Segments segments) → AreUrlSegments segments
 path_segments class value [] is = tt
 path_segments class value (segment ∷ rest) is = is
 
 -- and denotes itself
 path_denoted : (class : Class) (value : Host) (segments : List (List ℕ))
-    → IsUrlPath class (Some value) (Segments segments) → authority_path class segments ≡ segments
+    → IsUrlPath Parser class (Some value) (Segments segments) → authority_path class segments ≡ segments
 path_denoted Special value [] is = absurd (false≢true is)
 path_denoted File value [] is = absurd (false≢true is)
 path_denoted Other value [] is = refl
@@ -112,7 +111,7 @@ authority_parts scheme value port segments query fragment = record {
 }
 
 -- a host whose text is empty is the empty host
-empty_text : (value : Host) → IsReadableHost Other (Some value) → serial_host value ≡ [] → value ≡ host.Empty
+empty_text : (value : Host) → IsUrlHost Parser Other (Some value) → serial_host value ≡ [] → value ≡ host.Empty
 unfolding serial_host
 empty_text (host.Domain form) is nothing = absurd is
 empty_text (host.V4 value) is nothing = absurd is
@@ -121,7 +120,7 @@ empty_text (host.Opaque text) is nothing = absurd (let some = is.host.some in cc
 empty_text host.Empty is nothing = refl
 
 -- no port stands behind it
-alone : (value : Host) (port : Option ℕ) → IsReadableHost Other (Some value)
+alone : (value : Host) (port : Option ℕ) → IsUrlHost Parser Other (Some value)
     → (port ≡ None) ⊎ (takes_port Other (Some value) ≡ true) → serial_host value ≡ []
     → option_map decimal port ≡ None
 alone value port is (inl none) nothing = rw none refl
@@ -135,7 +134,7 @@ no_file_port value port (inl none) = none
 no_file_port value port (inr takes) = absurd (false≢true takes)
 
 -- each host but an opaque one is its own value
-own_file : (value : Host) → IsReadableHost File (Some value) → own_value value ≡ Some value
+own_file : (value : Host) → IsUrlHost Parser File (Some value) → own_value value ≡ Some value
 own_file (host.Domain form) is = refl
 own_file (host.V4 value) is = refl
 own_file (host.V6 pieces) is = refl
@@ -143,54 +142,69 @@ own_file (host.Opaque text) is = absurd is
 own_file host.Empty is = refl
 
 -- so is each host of a special URL
-own_special : (value : Host) → IsReadableHost Special (Some value) → own_value value ≡ Some value
+own_special : (value : Host) → IsUrlHost Parser Special (Some value) → own_value value ≡ Some value
 own_special (host.Domain form) is = refl
 own_special (host.V4 value) is = refl
 own_special (host.V6 pieces) is = refl
 own_special (host.Opaque text) is = absurd is
 own_special host.Empty is = absurd is
 
--- the parser's grammar takes the host and the port
-takes : (class : Class) (scheme : List ℕ) (value : Host) (port : Option ℕ) (segments : List (List ℕ))
-    (query fragment : Option (List ℕ)) → IsReadableHost class (Some value)
-    → PortFits class scheme value port
-    → Takes class scheme (serial_host value) (authority_parts scheme value port segments query fragment)
-takes Special scheme value port segments query fragment is fits = record {
+-- a host of class Other is an opaque-host string or an IPv6 text in brackets, or nothing behind which no port stands
+other_text : (value : Host) (port : Option (List ℕ)) → IsUrlHost Parser Other (Some value)
+    → (serial_host value ≡ [] → port ≡ None) → MayBePortText port
+    → (IsOpaqueHostText (serial_host value) (own_value value) × MayBePortText port)
+    ⊎ ((serial_host value ≡ []) × (own_value value ≡ Some host.Empty) × (port ≡ None))
+unfolding serial_host
+other_text (host.Domain form) port is alone fits = absurd is
+other_text (host.V4 value) port is alone fits = absurd is
+other_text (host.V6 pieces) port is alone fits = inl (ipv6_text pieces is, fits)
+other_text (host.Opaque text) port is alone fits = inl (is.host, fits)
+other_text host.Empty port is alone fits = inr (refl, refl, alone refl)
+
+-- the host, the port and the path fit
+all_fits : (class : Class) (scheme : List ℕ) (value : Host) (port : Option ℕ) (segments : List (List ℕ))
+    (query fragment : Option (List ℕ)) → IsUrlHost Parser class (Some value) → IsStableHost (Some value)
+    → PortFits class scheme value port → MayBePathSlashed segments (serial_segments segments)
+    → FitsAuthority class (setting_of Parser None (Some scheme)) (serial_host value)
+    (authority_parts scheme value port segments query fragment)
+all_fits Special scheme value port segments query fragment is stable fits path = record {
+  unstopped = special_goes_on _ value is;
   value = value;
-  host = special_taken value is;
+  host = special_text value is stable;
   valued = own_special value is;
   port_text = fits.text;
   port = fits.given;
+  path = path;
 }
-takes File scheme value port segments query fragment is fits =
-    let none = no_file_port value port fits.taken in
-    record {
-      no_port_text = rw none refl;
-      no_port = none;
-      host = elim (file_taken value is) [
-        | inl taken ↦ inl (value, taken, own_file value is)
-        | inr (nothing, empty) ↦ inr (nothing, own_file value is ∙ ap Some empty)
-      ];
-    }
-takes Other scheme value port segments query fragment is fits = record {
-  host =
-      silent_other (serial_host value) value
-      (host_without at_sign (serial_host value) refl (host_read Other value is)) (other_parsed value is);
-  alone = alone value port is fits.taken;
-  port_text = fits.text;
-  port = fits.given;
-}
+all_fits File scheme value port segments query fragment is stable fits path =
+    let none = no_file_port value port fits.taken in (
+      rw none refl,
+      none,
+      elim (file_text value is stable) [
+        | inl named ↦ inl (record {
+          unstopped = file_goes_on _ value is named;
+          value = value;
+          host = named;
+          valued = own_file value is;
+          path = path;
+          no_drive = tt;
+        })
+        | inr (nothing, empty) ↦ inr (nothing, own_file value is ∙ ap Some empty, path)
+      ],
+    )
+all_fits Other scheme value port segments query fragment is stable fits path =
+    (other_text value (option_map decimal port) is (alone value port is fits.taken) fits.text, fits.given, path)
 
 -- the host is cut where its text ends
-host_cut : (class : Class) (value : Host) (port : Option ℕ) → IsHostRead (serial_host value)
+host_cut : (class : Class) (value : Host) (port : Option ℕ) → IsHostWord (serial_host value)
     → (port ≡ None) ⊎ (takes_port class (Some value) ≡ true)
     → IsHostCut class (serial_host value) (option_map decimal port)
-host_cut Special value port read taken = read.word.ends (option_map decimal port)
-host_cut File value port read taken = rw (no_file_port value port taken) refl
-host_cut Other value port read taken = read.word.ends (option_map decimal port)
+host_cut Special value port word taken = word.ends (option_map decimal port)
+host_cut File value port word taken = rw (no_file_port value port taken) refl
+host_cut Other value port word taken = word.ends (option_map decimal port)
 
 -- the host of the parts is the URL's
-host_denoted : (class : Class) (value : Host) → IsReadableHost class (Some value)
+host_denoted : (class : Class) (value : Host) → IsUrlHost Parser class (Some value)
     → (parts : Parts) → parts.host ≡ own_value value → parts.host_text ≡ Some (serial_host value)
     → authority_host parts ≡ Some value
 unfolding serial_host
@@ -207,9 +221,10 @@ host_denoted Other (host.Opaque name) is parts own text =
 
 module _ (scheme : List ℕ) (value : Host) (port : Option ℕ) (segments : List (List ℕ))
     (query fragment : Option (List ℕ))
-    (is : IsUrlScheme scheme) (host_is : IsReadableHost (scheme_class scheme) (Some value))
+    (is : IsUrlScheme scheme) (host_is : IsUrlHost Parser (scheme_class scheme) (Some value))
+    (stable : IsStableHost (Some value))
     (port_is : IsUrlPort scheme (Some value) port)
-    (path_is : IsUrlPath (scheme_class scheme) (Some value) (Segments segments))
+    (path_is : IsUrlPath Parser (scheme_class scheme) (Some value) (Segments segments))
     (query_is : IsUrlQuery (scheme_class scheme) query) (fragment_is : IsUrlFragment fragment) where
   -- the parts of its text
   abbrev parts : Parts
@@ -220,8 +235,8 @@ module _ (scheme : List ℕ) (value : Host) (port : Option ℕ) (segments : List
   url = url_of scheme (Some value) port (Segments segments) query fragment
 
   -- its host
-  read : IsHostRead (serial_host value)
-  read = host_read (scheme_class scheme) value host_is
+  word : IsHostWord (serial_host value)
+  word = host_word (scheme_class scheme) value host_is
 
   -- its port
   fits : PortFits (scheme_class scheme) scheme value port
@@ -231,36 +246,19 @@ module _ (scheme : List ℕ) (value : Host) (port : Option ℕ) (segments : List
   slashed : MayBePathSlashed segments (serial_segments segments)
   slashed = path_slashed segments (path_segments (scheme_class scheme) value segments path_is)
 
-  -- the authority and the path
-  abbrev middle : List ℕ
-  middle =
-      slash ∷ slash ∷ ((serial_host value ++ written_behind colon (option_map decimal port))
-      ++ serial_segments segments)
-
-  -- no code point of them is removed
-  above : list_all is_unremoved middle ≡ true
-  above =
-      unremoved_append (slash ∷ slash ∷ (serial_host value ++ written_behind colon (option_map decimal port)))
-      (serial_segments segments)
-      (unremoved_authority (serial_host value) (option_map decimal port) read.read.above fits.text)
-      (unremoved_path segments (serial_segments segments) slashed)
-
-  -- the parser is silent on these parts
-  silent : Silent None (written parts) parts
-  silent = record {
+  -- they are valid by the parser's profile
+  valid : Valid Parser None (written parts) parts
+  valid = record {
+    whole = refl;
     cut =
         cut_of_parts None (written parts) parts true refl is.spelled (λ none. absurd (false≢true (sym none)))
         (authority_fits (scheme_class scheme) (serial_host value) (option_map decimal port) (serial_segments segments)
-        read.word fits.text (host_cut (scheme_class scheme) value port read fits.taken)
+        word fits.text (host_cut (scheme_class scheme) value port word fits.taken)
         (path_behind segments (serial_segments segments) slashed))
         (query_units (scheme_class scheme) query query_is);
-    kept =
-        kept_text (written parts) scheme middle query fragment is.spelled above
-        (query_units (scheme_class scheme) query query_is) (fragment_units fragment fragment_is)
-        (written_with_authority parts scheme (serial_host value) refl refl);
     scheme = is.spelled;
     against = refl;
-    form = (takes (scheme_class scheme) scheme value port segments query fragment host_is fits, slashed);
+    form = all_fits (scheme_class scheme) scheme value port segments query fragment host_is stable fits slashed;
     query = query_units (scheme_class scheme) query query_is;
     fragment = fragment_units fragment fragment_is;
   }
@@ -291,4 +289,4 @@ module _ (scheme : List ℕ) (value : Host) (port : Option ℕ) (segments : List
 
   -- the parser is silent on the text of a URL with a host
   pub authority_read : IsSilentOn url
-  authority_read = record { parts = parts; silent = silent; written = written_text; denoted = denoted }
+  authority_read = record { parts = parts; valid = valid; written = written_text; denoted = denoted }

@@ -5,7 +5,7 @@ use Rattle.std.specs.Prelude.{is_some}
 use Rattle.std.specs.List.{list_all, join_with_byte}
 use Rattle.std.specs.Char.{is_ascii, is_ascii_uppercase}
 use Rattle.std.proofs.lemmas.Bool.{and_parts, and_from, cases_Bool, true≢false}
-use Rattle.uv_model.specs.declared.profile.Profile.TheVariants.{Wide}
+use Rattle.uv_model.specs.declared.profile.Profile.TheVariants.{Wide, Parser}
 use Rattle.uv_model.specs.declared.scheme.Class.{Class}
 use Rattle.uv_model.specs.declared.scheme.Class.TheVariants.{Other}
 use Rattle.uv_model.specs.declared.host.Host.{Host}
@@ -15,32 +15,26 @@ use Rattle.uv_model.specs.Ascii.{slash, space, colon, number_sign}
 use Rattle.uv_model.specs.Encoding.{encoded}
 use Rattle.uv_model.specs.Records.Denote.{denote, denoted_query}
 use Rattle.uv_model.specs.Parts.{Form, Parts, SchemePath, SchemeOpaque, written}
-use Rattle.uv_parser.specs.SilentTexts.{Silent, TakesForm, is_spaced}
 use Rattle.uv_model.specs.Path.{AreSegments, IsPathAbsolute, IsSegment, is_double_dot, is_single_dot, is_without}
-use Rattle.uv_model.specs.Path.{starts_with_slash, walk}
-use Rattle.uv_model.specs.Scheme.{is_scheme, lowercase, scheme_class}
+use Rattle.uv_model.specs.Path.{starts_with_slash, walk, is_spaced}
+use Rattle.uv_model.specs.Scheme.{lowercase, scheme_class}
 use Rattle.uv_model.specs.Records.Serialize.{serial, serial_authority, serial_path, serial_segments}
-use Rattle.uv_model.specs.Units.{is_faultless, is_unit_at, is_url_code_point}
+use Rattle.uv_model.specs.Units.{is_unit_at, is_url_code_point}
 use Rattle.uv_model.specs.Records.Url.{Url}
 use Rattle.uv_model.specs.Valid.{HasNoAuthority, Valid}
-use Rattle.uv_model.specs.Records.WellFormed.{AreUrlSegments, IsUrlFragment, IsUrlQuery, IsUrlScheme}
-use Rattle.uv_parser.specs.Laws.RoundTrip.{IsReadableOpaquePath}
-use Rattle.uv_parser.specs.Removed.{first_removed}
+use Rattle.uv_model.specs.Records.WellFormed.{AreUrlSegments, IsEncodedSpacedPath, IsUrlFragment, IsUrlQuery}
+use Rattle.uv_model.specs.Records.WellFormed.{IsUrlScheme}
+use Rattle.uv_model.proofs.Paths.SpacedPaths.{escaped_kept}
+use Rattle.uv_parser.proofs.Silence.ValidSilent.{valid_by_parser}
 use Rattle.uv_parser.proofs.Decided.DecidedOpaque.{opaque_parts}
-use Rattle.uv_model.proofs.Paths.JoinedSegments.{faultless_path}
 use Rattle.uv_model.proofs.Texts.MarkLemmas.{is_without-cons, is_without-more}
 use Rattle.uv_model.proofs.Texts.UnitsAhead.{unit_not_number_sign}
-use Rattle.uv_model.proofs.Paths.PathLemmas.{slash_is_url}
 use Rattle.uv_model.proofs.SchemeLemmas.{is_ascii-scheme, lowercase-name}
 use Rattle.uv_parser.proofs.RoundTrip.SerializedTexts.{AreSegments-url, encoded-ascii, encoded-fragment, encoded-query}
 use Rattle.uv_parser.proofs.RoundTrip.SerializedTexts.{fragment_units, query_units, serial_segments-joined, walk-kept}
-use Rattle.uv_parser.proofs.Silence.SilentSchemes.{kept_text, written_without_authority}
+use Rattle.uv_parser.proofs.Silence.SilentSchemes.{written_without_authority}
 use Rattle.uv_parser.proofs.Loops.Tails.{tail}
-use Rattle.uv_model.proofs.Texts.UnitsLemmas.{is_unit_at-url}
-use Rattle.uv_parser.proofs.RoundTrip.SpacedOpaquePaths.{escaped_kept}
-use Rattle.uv_parser.proofs.Running.KeptSpaces.{spaced_text_is_kept}
-use Rattle.uv_parser.proofs.Running.Unremoved.{unremoved_faultless}
-use Rattle.uv_model.proofs.Cuts.ValidCutLemmas.{MiddleFits, cut_of_parts, valid_is_cut, without_slash_without_two}
+use Rattle.uv_model.proofs.Cuts.ValidCutLemmas.{MiddleFits, cut_of_parts, without_slash_without_two}
 
 -- the URL of these fields
 abbrev pub url_of : List ℕ → Option Host → Option ℕ → UrlPath → Option (List ℕ) → Option (List ℕ) → Url
@@ -50,7 +44,7 @@ url_of scheme host port path query fragment =
 -- The parser is silent on the URL's text, with parts that denote the URL.
 pub record IsSilentOn (url : Url) : Type 0 where
   pub parts : Parts
-  pub silent : Silent None (written parts) parts
+  pub valid : Valid Parser None (written parts) parts
   pub written : written parts ≡ serial url
   pub denoted : denote None parts ≡ url
 
@@ -88,23 +82,6 @@ text_alone scheme behind path query fragment is =
     (sym (append_assoc (serial_authority None None path) (serial_path path) (tail query fragment))
     ∙ ap (λ xs. xs ++ tail query fragment) is)
 
--- the parser is silent on valid parts without a host
-silent_alone : (scheme : List ℕ) (parts : Parts) → parts.scheme ≡ Some scheme → is_scheme scheme ≡ true
-    → parts.host_text ≡ None → is_faultless parts.path_text ≡ true → Valid Wide None (written parts) parts
-    → TakesForm None parts.form parts → Silent None (written parts) parts
-silent_alone scheme parts named is none units valid takes = record {
-  cut = valid_is_cut Wide None (written parts) parts valid;
-  kept =
-      kept_text (written parts) scheme parts.path_text parts.query parts.fragment is
-      (unremoved_faultless parts.path_text units) valid.query valid.fragment
-      (written_without_authority parts scheme named none);
-  scheme = valid.scheme;
-  against = valid.against;
-  form = takes;
-  query = valid.query;
-  fragment = valid.fragment;
-}
-
 -- parts without a host and a port
 no_authority : {parts : Parts} → parts.host_text ≡ None → parts.host ≡ None → parts.port_text ≡ None
     → parts.port ≡ None → HasNoAuthority parts
@@ -130,7 +107,7 @@ module _ (scheme : List ℕ) (query fragment : Option (List ℕ)) (is : IsUrlSch
     (other : scheme_class scheme ≡ Other) (query_is : IsUrlQuery (scheme_class scheme) query)
     (fragment_is : IsUrlFragment fragment) where
   -- the parts of a URL with an opaque path denote it
-  opaque_denoted : (text : List ℕ) → IsReadableOpaquePath text
+  opaque_denoted : (text : List ℕ) → IsEncodedSpacedPath text
       → denote None (opaque_parts scheme None text query fragment)
       ≡ url_of scheme None None (Opaque text) query fragment
   unfolding denote
@@ -145,8 +122,8 @@ module _ (scheme : List ℕ) (query fragment : Option (List ℕ)) (is : IsUrlSch
   }
 
   -- the parser is silent on the text that is written of them
-  opaque_silent : (text : List ℕ) → IsReadableOpaquePath text
-      → Silent None (written (opaque_parts scheme None text query fragment))
+  opaque_silent : (text : List ℕ) → IsEncodedSpacedPath text
+      → Valid Parser None (written (opaque_parts scheme None text query fragment))
       (opaque_parts scheme None text query fragment)
   opaque_silent text path =
       let parts = opaque_parts scheme None text query fragment in
@@ -159,27 +136,29 @@ module _ (scheme : List ℕ) (query fragment : Option (List ℕ)) (is : IsUrlSch
         authority = (refl, without_slash_without_two text path.spaced.start);
       } in
       record {
+        whole = refl;
         cut = cut_of_parts None (written parts) parts true refl is.spelled (λ none. absurd (true≢false none)) middle
             query_fits;
-        kept =
-            ap first_removed (written_without_authority parts scheme refl refl)
-            ∙ spaced_text_is_kept scheme text query fragment is.spelled path.spaced.units path.end query_fits
-            fragment_fits;
         scheme = is.spelled;
         against = refl;
-        form = (no_authority refl refl refl refl, other, path.spaced, refl);
+        form = (
+          no_authority refl refl refl refl,
+          other,
+          record { spaced = path.spaced; end = λ alone. path.end },
+          refl,
+        );
         query = query_fits;
         fragment = fragment_fits;
       }
 
   -- so it is on the text of a URL with an opaque path
-  pub opaque_read : (text : List ℕ) → IsReadableOpaquePath text
+  pub opaque_read : (text : List ℕ) → IsEncodedSpacedPath text
       → IsSilentOn (url_of scheme None None (Opaque text) query fragment)
   opaque_read text path =
       let parts = opaque_parts scheme None text query fragment in
       record {
         parts = parts;
-        silent = opaque_silent text path;
+        valid = opaque_silent text path;
         written = written_without_authority parts scheme refl refl
             ∙ sym (text_alone scheme text (Opaque text) query fragment refl);
         denoted = opaque_denoted text path;
@@ -262,15 +241,6 @@ path_parts scheme segments query fragment = record {
   fragment = fragment;
 }
 
--- a path-absolute string has no fault of units
-faultless_absolute : (segments : List (List ℕ)) (text : List ℕ) → IsPathAbsolute segments text
-    → is_faultless text ≡ true
-faultless_absolute segments text path =
-    rw path.slashed (and_from _ _ slash_is_unit (faultless_path segments path.behind path.relative))
-  where
-    slash_is_unit : is_unit_at slash path.behind ≡ true
-    slash_is_unit = is_unit_at-url slash path.behind slash_is_url
-
 module _ (scheme : List ℕ) (query fragment : Option (List ℕ)) (is : IsUrlScheme scheme)
     (other : scheme_class scheme ≡ Other) (query_is : IsUrlQuery (scheme_class scheme) query)
     (fragment_is : IsUrlFragment fragment) where
@@ -294,6 +264,7 @@ module _ (scheme : List ℕ) (query fragment : Option (List ℕ)) (is : IsUrlSch
       fragment)
   path_valid segments path = record {
     whole = refl;
+    cut = tt;
     scheme = is.spelled;
     against = refl;
     form = (no_authority refl refl refl refl, other, path);
@@ -311,9 +282,7 @@ module _ (scheme : List ℕ) (query fragment : Option (List ℕ)) (is : IsUrlSch
       let valid = path_valid (shown segments) path in
       record {
         parts = parts;
-        silent =
-            silent_alone scheme parts refl is.spelled refl (faultless_absolute (shown segments) _ path) valid
-            valid.form;
+        valid = valid_by_parser Wide None (written parts) parts valid;
         written = written_without_authority parts scheme refl refl
             ∙ sym (text_alone scheme (serial_segments (shown segments)) (Segments segments) query fragment
             (shown_text segments));

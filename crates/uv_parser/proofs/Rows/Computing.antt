@@ -13,7 +13,7 @@ use Rattle.uv_parser.specs.Ipv6Parser.{main_loop, move, parse_ipv6, read_digits,
 use Rattle.uv_model.specs.Parts.{written}
 use Rattle.uv_model.specs.Path.{is_double_dot, is_single_dot, walk}
 use Rattle.uv_parser.specs.Run.{run, run_from, step}
-use Rattle.uv_parser.specs.Removed.{first_removed}
+use Rattle.uv_model.specs.Removed.{first_removed}
 use Rattle.uv_model.specs.Scheme.{default_port, scheme_class}
 use Rattle.uv_model.specs.Records.Serialize.{serial, serial_host}
 use Rattle.uv_model.specs.Units.{is_unit_at, is_url_code_point}

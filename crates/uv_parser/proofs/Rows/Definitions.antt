@@ -29,7 +29,8 @@ use Rattle.uv_model.proofs.Records.WellFormedLemmas.{IsUrlSegment-nil}
 use Rattle.uv_model.proofs.Texts.UnitsLemmas.{IsUnits-faultless}
 use Rattle.uv_parser.proofs.HostParsing.HostParserLemmas.{ipv6_hosts_are_parsed}
 use Rattle.uv_parser.proofs.Rows.Computing.{parser}
-use Rattle.uv_parser.proofs.Rows.Profiles.{domain_violation, segment, should_be_domain}
+use Rattle.uv_parser.proofs.Rows.HostViolations.{domain_violation, should_be_domain}
+use Rattle.uv_parser.proofs.Rows.Profiles.{segment}
 
 -- ---- valid parts
 
@@ -72,9 +73,11 @@ http_valid : (port_text : Option (List ℕ)) (port : Option ℕ) (text : List �
 unfolding scheme_class default_port
 http_valid port_text port text whole digits given = record {
   whole = whole;
+  cut = tt;
   scheme = refl;
   against = refl;
   form = record {
+    unstopped = refl;
     value = host.Domain (codes "h");
     host = h_domain;
     valued = refl;
@@ -243,7 +246,11 @@ domain_row : Violation Standard None (codes "http://a=b/") 7 HostDomain
 unfolding parser cut_of has_permitted
 domain_row =
     domain_violation Standard (codes "a=b") (codes "http://a=b/")
-    (should_be_domain (codes "a=b") (λ same. cc) refl refl, not_permitted Standard (codes "a=b") refl) refl
+    (inr (
+      should_be_domain Standard (codes "a=b") tt (λ same. cc) refl refl,
+      not_permitted Standard (codes "a=b") tt refl,
+    ))
+    refl
 
 -- `1.2.3` is the form of itself, and a number
 number_text : IsNumberText Standard (codes "1.2.3")
@@ -267,7 +274,7 @@ number_row =
     (inl (record {
       inner = 0;
       moved = refl;
-      holds = ((should_be_domain (codes "1.2.3") (λ same. cc) refl refl, number_text), refl);
+      holds = ((refl, should_be_domain Standard (codes "1.2.3") tt (λ same. cc) refl refl, number_text), refl);
     }))
 
 -- a host with two `::` is no IPv6 text

@@ -1,32 +1,28 @@
 -- The rows of specs/Rows/Profiles hold: each text by its parts, and what computes by computation.
-use Rattle.std.proofs.Common.{◌≡◌, ◌≢◌, ℕ, Bool, true, false, List, [], ◌∷◌, Option, Some, None, codes, refl, sym, ap}
-use Rattle.std.proofs.Common.{subst, ◌∙◌, inl, inr}
+use Rattle.std.proofs.Common.{◌≡◌, ℕ, true, false, List, [], ◌∷◌, Some, None, codes, refl}
+use Rattle.std.proofs.Common.{inl, inr}
 use Rattle.std.specs.List.{list_all}
 use Rattle.std.proofs.lemmas.Bool.{false≢true}
 use Rattle.std.proofs.lemmas.List.Sums.{AllPass-from_list_all}
 use Rattle.uv_model.specs.declared.host.Host.TheVariants as host
-use Rattle.uv_model.specs.declared.profile.Profile.{Profile}
 use Rattle.uv_model.specs.declared.profile.Profile.TheVariants.{Standard, Wide}
 use Rattle.uv_model.specs.declared.rule.Rule.TheVariants.{HostDomain, HostNumber, FirstSegmentEmpty, DriveAfterHost}
 use Rattle.uv_model.specs.Ascii.{slash, question_mark}
-use Rattle.uv_model.specs.Violations.Violation.{Violation, ViolationOf, HostTextViolation, ShouldBeDomain}
-use Rattle.uv_model.specs.Cut.{Cut, cut_of}
+use Rattle.uv_model.specs.Violations.Violation.{Violation}
+use Rattle.uv_model.specs.Cut.{cut_of}
 use Rattle.uv_model.specs.Hosts.Domain.{IsDomain, IsNumberText, HasNoForm, has_lengths, has_permitted}
 use Rattle.uv_model.specs.Hosts.Domain.{is_form_code_point, parser_form, ends_in_number}
-use Rattle.uv_parser.specs.Ipv4Parser.{read_numbers}
-use Rattle.uv_model.specs.Hosts.OpaqueHost.{starts_with_bracket}
 use Rattle.uv_model.specs.Parts.{written}
 use Rattle.uv_model.specs.Path.{IsPathSlashed, IsSegment, is_without}
 use Rattle.uv_parser.specs.Rows.Profiles.{IsWide, ProfileRows, WideReferenceRows, WideRecordRows, file_parts}
 use Rattle.uv_parser.specs.Rows.Profiles.{http_parts}
 use Rattle.uv_model.specs.Scheme.{scheme_class, default_port}
-use Rattle.uv_model.specs.Setting.{setting_of}
 use Rattle.uv_model.specs.Units.{is_faultless}
 use Rattle.uv_model.specs.Valid.{Valid}
+use Rattle.uv_parser.proofs.Rows.HostViolations.{domain_violation, should_be_domain}
 use Rattle.uv_parser.proofs.Rows.Computing.{parser}
-use Rattle.uv_model.proofs.Cuts.CutRowsLemmas.{started, judged_row}
+use Rattle.uv_model.proofs.Cuts.CutRowsLemmas.{judged_row}
 use Rattle.uv_model.proofs.Hosts.DomainLemmas.{no_parsed_lengths, not_permitted, not_strict}
-use Rattle.uv_parser.proofs.HostParsing.Ipv4ParserLemmas.{four_numbers, numbers_read}
 use Rattle.uv_model.proofs.Texts.UnitsLemmas.{IsUnits-faultless}
 
 -- ---- valid texts
@@ -91,9 +87,11 @@ http_valid : (domain path_text : List ℕ) (segments : List (List ℕ)) (text : 
 unfolding scheme_class default_port
 http_valid domain path_text segments text is path whole = record {
   whole = whole;
+  cut = tt;
   scheme = refl;
   against = refl;
   form = record {
+    unstopped = refl;
     value = host.Domain domain;
     host = is;
     valued = refl;
@@ -111,6 +109,7 @@ file_valid : (path_text : List ℕ) (segments : List (List ℕ)) (text : List �
 unfolding scheme_class default_port
 file_valid path_text segments text path whole = record {
   whole = whole;
+  cut = tt;
   scheme = refl;
   against = refl;
   form = (refl, refl, inr (refl, refl, path));
@@ -196,9 +195,11 @@ unfolding parser
 reference_row = record {
   valid = record {
     whole = refl;
+    cut = tt;
     scheme = refl;
     against = inr (inl refl);
     form = record {
+      unstopped = refl;
       value = host.Domain (codes "h");
       host = h_domain;
       valued = refl;
@@ -214,78 +215,46 @@ reference_row = record {
 
 -- ---- violations
 
--- the cut of `http://`, a host and `/`
-abbrev http_cut : List ℕ → Cut
-http_cut host_text = record {
-  scheme = Some (codes "http");
-  host_text = Some host_text;
-  port_text = None;
-  path_text = codes "/";
-  query = None;
-  fragment = None;
-}
-
--- four numbers are read
-abbrev pub are_four : Option (List ℕ) → Bool
-are_four (Some (a ∷ b ∷ c ∷ d ∷ [])) = true
-are_four _ = false
-
--- a text that isn't four numbers should be a domain, where it isn't empty and doesn't begin with `[`
-pub should_be_domain : (text : List ℕ) → text ≢ [] → starts_with_bracket text ≡ false
-    → are_four (read_numbers text) ≡ false → ShouldBeDomain text
-should_be_domain text some no_bracket refused = record {
-  some = some;
-  no_bracket = no_bracket;
-  no_ipv4 = λ value is.
-      let (a, b, c, d, are, valued) = four_numbers text value is in
-      false≢true (sym refused ∙ ap are_four (numbers_read (a ∷ b ∷ c ∷ d ∷ []) text are));
-}
-
--- `http://`, a host without a form, and `/`
-pub domain_violation : (profile : Profile) (host_text text : List ℕ) → HostTextViolation profile host_text HostDomain
-    → cut_of None text ≡ http_cut host_text → Violation profile None text 7 HostDomain
-unfolding Violation scheme_class default_port
-domain_violation profile host_text text h cut =
-    subst (λ (c : Cut). ViolationOf (setting_of profile None c.scheme) text c 7 HostDomain) (sym cut)
-    (inr (inl (
-      started (setting_of profile None (Some (codes "http"))) text (http_cut host_text) refl refl,
-      inl (record { inner = 0; moved = refl; holds = (h, refl) }),
-    )))
-
 underscore_refused_row : Violation Standard None (codes "http://a_b/") 7 HostDomain
 unfolding parser cut_of has_permitted
 underscore_refused_row =
     domain_violation Standard (codes "a_b") (codes "http://a_b/")
-    (should_be_domain (codes "a_b") (λ same. cc) refl refl, not_permitted Standard (codes "a_b") refl) refl
+    (inr (
+      should_be_domain Standard (codes "a_b") tt (λ same. cc) refl refl,
+      not_permitted Standard (codes "a_b") tt refl,
+    )) refl
 
 first_hyphen_refused_row : Violation Standard None (codes "http://-a/") 7 HostDomain
 unfolding parser cut_of
 first_hyphen_refused_row =
     domain_violation Standard (codes "-a") (codes "http://-a/")
-    (should_be_domain (codes "-a") (λ same. cc) refl refl, not_strict (codes "-a") refl) refl
+    (inr (should_be_domain Standard (codes "-a") tt (λ same. cc) refl refl, not_strict (codes "-a") refl)) refl
 
 hyphens_refused_row : Violation Standard None (codes "http://ab--c/") 7 HostDomain
 unfolding parser cut_of
 hyphens_refused_row =
     domain_violation Standard (codes "ab--c") (codes "http://ab--c/")
-    (should_be_domain (codes "ab--c") (λ same. cc) refl refl, not_strict (codes "ab--c") refl) refl
+    (inr (should_be_domain Standard (codes "ab--c") tt (λ same. cc) refl refl, not_strict (codes "ab--c") refl)) refl
 
 escape_row : Violation Wide None (codes "http://a%62/") 7 HostDomain
 unfolding parser cut_of has_permitted
 escape_row =
     domain_violation Wide (codes "a%62") (codes "http://a%62/")
-    (should_be_domain (codes "a%62") (λ same. cc) refl refl, not_permitted Wide (codes "a%62") refl) refl
+    (inr (
+      should_be_domain Wide (codes "a%62") tt (λ same. cc) refl refl,
+      not_permitted Wide (codes "a%62") tt refl,
+    )) refl
 
 -- U+00AD is removed, and no code point is left
 no_soft_hyphen : HasNoForm Wide (codes "\u{ad}")
 unfolding parser
-no_soft_hyphen = no_parsed_lengths Wide (codes "\u{ad}") [] refl refl
+no_soft_hyphen = no_parsed_lengths Wide (codes "\u{ad}") [] tt refl refl
 
 nothing_left_row : Violation Wide None (codes "http://\u{ad}/") 7 HostDomain
 unfolding parser cut_of
 nothing_left_row =
     domain_violation Wide (codes "\u{ad}") (codes "http://\u{ad}/")
-    (should_be_domain (codes "\u{ad}") (λ same. cc) refl refl, no_soft_hyphen) refl
+    (inr (should_be_domain Wide (codes "\u{ad}") tt (λ same. cc) refl refl, no_soft_hyphen)) refl
 
 -- `1.2.3` is the form of itself, and a number
 number_text : IsNumberText Wide (codes "1.2.3")
@@ -309,7 +278,7 @@ number_row =
     (inl (record {
       inner = 0;
       moved = refl;
-      holds = ((should_be_domain (codes "1.2.3") (λ same. cc) refl refl, number_text), refl);
+      holds = ((refl, should_be_domain Wide (codes "1.2.3") tt (λ same. cc) refl refl, number_text), refl);
     }))
 
 removed_refused_row : Violation Standard None (codes "http://h//..") 9 FirstSegmentEmpty

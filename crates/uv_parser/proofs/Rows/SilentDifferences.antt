@@ -7,7 +7,7 @@ use Rattle.std.specs.Str.{bytes_eq}
 use Rattle.std.proofs.lemmas.Bool.{and_parts, cases_Bool, false≢true, not-true, true≢false}
 use Rattle.std.proofs.lemmas.Option.{same_Some}
 use Rattle.std.proofs.lemmas.Slice.Eq.{bytes_eq-Decides}
-use Rattle.uv_model.specs.declared.profile.Profile.TheVariants.{Standard}
+use Rattle.uv_model.specs.declared.profile.Profile.TheVariants.{Standard, Parser}
 use Rattle.uv_model.specs.declared.host.Host.{Host}
 use Rattle.uv_model.specs.declared.host.Host.TheVariants as host
 use Rattle.uv_model.specs.declared.scheme.Class.{Class}
@@ -16,17 +16,16 @@ use Rattle.uv_model.specs.Violations.Violation.{HasHost}
 use Rattle.uv_model.specs.Cut.{Cut, class_in, cut_of, starts_with_two_slashes, texts_of}
 use Rattle.uv_model.specs.Hosts.Domain.{has_lengths, has_permitted, strict_form}
 use Rattle.uv_parser.specs.HostParser.{parse_host}
-use Rattle.uv_parser.specs.SilentTexts.{Silent}
 use Rattle.uv_model.specs.Parts.{Parts}
 use Rattle.uv_model.specs.Ascii.{space}
 use Rattle.uv_model.specs.Path.{is_without, starts_with_drive_segment}
 use Rattle.uv_parser.specs.Rows.{Answer, Row, AllHold, answer_of, computed, goes_on, has_stopped, is_done}
 use Rattle.uv_parser.specs.Rows.SilentDifferences.{AllDiffer, DiffersSilently, SilentDifferenceRows}
-use Rattle.uv_parser.specs.Rows.SilentRefusals.{file_rows, host_rows, domain_rows, number_rows, segment_rows}
-use Rattle.uv_parser.specs.Rows.SilentRefusals.{drive_rows, fewer_rows, space_rows}
+use Rattle.uv_parser.specs.Rows.ParserProfile.{file_rows, host_rows, domain_rows, number_rows, segment_rows}
+use Rattle.uv_parser.specs.Rows.ParserProfile.{drive_rows, fewer_rows, space_rows}
 use Rattle.uv_parser.specs.Run.{Stopped, run, step_bound}
 use Rattle.uv_model.specs.Records.Serialize.{serial_ipv4}
-use Rattle.uv_model.specs.Valid.{IsHostText}
+use Rattle.uv_model.specs.Valid.{IsHostText, Valid}
 use Rattle.uv_parser.specs.Laws.Differences.{Differs, HasDriveBehindHost, HasEmptyAuthority, HasEmptyFirstSegment}
 use Rattle.uv_parser.specs.Laws.Differences.{HasForeignHost, HasSpaceInPath}
 use Rattle.uv_model.specs.Records.Url.{Url}
@@ -34,7 +33,8 @@ use Rattle.idna.specs.Uts46.{to_ascii}
 use Rattle.uv_parser.proofs.Rows.Computing.{parser}
 use Rattle.uv_model.proofs.Cuts.CutLemmas.{cut_is_computed}
 use Rattle.uv_parser.proofs.Differences.HostDifferences.{host_or_differs, ipv4_text_is}
-use Rattle.uv_parser.proofs.Rows.SilentRefusals.{silent_refusal_rows_hold}
+use Rattle.uv_parser.proofs.Rows.ParserProfile.{domain_rows_hold, drive_rows_hold, fewer_rows_hold, file_rows_hold}
+use Rattle.uv_parser.proofs.Rows.ParserProfile.{host_rows_hold, number_rows_hold, segment_rows_hold, space_rows_hold}
 use Rattle.uv_parser.proofs.Running.RunsStopped.{RunStops}
 use Rattle.uv_parser.proofs.Decided.SilentOrStopped.{silent_or_stops}
 use Rattle.uv_parser.proofs.Differences.SilentDifferences.{silent_valid_or_differs}
@@ -55,11 +55,11 @@ not_answered answer place e done = false≢true (ap is_answered e ∙ done)
 
 -- the parser is silent on the text of a row whose run is done
 silent_row : (row : Row) → (row.steps == step_bound row.text) ≡ true → is_answered row.answer ≡ true
-    → computed row ≡ row.answer → (parts : Parts) × Silent row.base row.text parts
+    → computed row ≡ row.answer → (parts : Parts) × Valid Parser row.base row.text parts
 silent_row row full done holds = by_run (silent_or_stops row.base row.text)
   where
-    by_run : ((parts : Parts) × Silent row.base row.text parts) ⊎ RunStops row.base row.text
-        → (parts : Parts) × Silent row.base row.text parts
+    by_run : ((parts : Parts) × Valid Parser row.base row.text parts) ⊎ RunStops row.base row.text
+        → (parts : Parts) × Valid Parser row.base row.text parts
     by_run (inl found) = found
     by_run (inr stops) =
         let steps : row.steps ≡ step_bound row.text = eqb-true row.steps (step_bound row.text) full in
@@ -274,7 +274,7 @@ foreign_host : (base : Option Url) (parts : Parts) (text : List ℕ) (parsed : O
 unfolding is_foreign_parsed
 foreign_host base parts text None class given e test = absurd (false≢true test)
 foreign_host base parts text (Some value) class given e test =
-    elim (host_or_differs text value e) [
+    elim (host_or_differs text value (host_from_parser text value e)) [
       | inl is ↦ absurd (not_foreign text value is test)
       | inr differs ↦
           record {
@@ -314,43 +314,43 @@ tables = tt
 file_rows_differ : AllDiffer HasEmptyAuthority file_rows
 unfolding tables
 file_rows_differ =
-    all_differ HasEmptyAuthority tests_empty_authority finds_empty_authority file_rows silent_refusal_rows_hold.0 refl
+    all_differ HasEmptyAuthority tests_empty_authority finds_empty_authority file_rows file_rows_hold refl
 
 host_rows_differ : AllDiffer HasForeignHost host_rows
 unfolding tables
 host_rows_differ =
-    all_differ HasForeignHost tests_host finds_host host_rows silent_refusal_rows_hold.1 refl
+    all_differ HasForeignHost tests_host finds_host host_rows host_rows_hold refl
 
 domain_rows_differ : AllDiffer HasForeignHost domain_rows
 unfolding tables
 domain_rows_differ =
-    all_differ HasForeignHost tests_host finds_host domain_rows silent_refusal_rows_hold.2 refl
+    all_differ HasForeignHost tests_host finds_host domain_rows domain_rows_hold refl
 
 number_rows_differ : AllDiffer HasForeignHost number_rows
 unfolding tables
 number_rows_differ =
-    all_differ HasForeignHost tests_host finds_host number_rows silent_refusal_rows_hold.3 refl
+    all_differ HasForeignHost tests_host finds_host number_rows number_rows_hold refl
 
 segment_rows_differ : AllDiffer (λ base. HasEmptyFirstSegment) segment_rows
 unfolding tables
 segment_rows_differ =
     all_differ (λ base. HasEmptyFirstSegment) tests_first_segment finds_first_segment segment_rows
-    silent_refusal_rows_hold.4 refl
+    segment_rows_hold refl
 
 drive_rows_differ : AllDiffer HasDriveBehindHost drive_rows
 unfolding tables
 drive_rows_differ =
-    all_differ HasDriveBehindHost tests_drive finds_drive drive_rows silent_refusal_rows_hold.5 refl
+    all_differ HasDriveBehindHost tests_drive finds_drive drive_rows drive_rows_hold refl
 
 fewer_rows_differ : AllDiffer HasForeignHost fewer_rows
 unfolding tables
 fewer_rows_differ =
-    all_differ HasForeignHost tests_host finds_host fewer_rows silent_refusal_rows_hold.6 refl
+    all_differ HasForeignHost tests_host finds_host fewer_rows fewer_rows_hold refl
 
 space_rows_differ : AllDiffer (λ base. HasSpaceInPath) space_rows
 unfolding tables
 space_rows_differ =
-    all_differ (λ base. HasSpaceInPath) tests_space finds_space space_rows silent_refusal_rows_hold.7 refl
+    all_differ (λ base. HasSpaceInPath) tests_space finds_space space_rows space_rows_hold refl
 
 -- each table
 pub silent_difference_rows_hold : SilentDifferenceRows

@@ -3,7 +3,7 @@ use Rattle.std.proofs.Common.{◌≡◌, ℕ, ◌⊎◌, List, ◌∷◌, ◌++�
 use Rattle.uv_model.specs.Ascii.{colon}
 use Rattle.uv_parser.specs.Machine.{SchemeState, empty_variables, with_more}
 use Rattle.uv_parser.specs.Run.{first_outcome, run, run_from, step_bound}
-use Rattle.uv_parser.specs.Removed.{first_removed}
+use Rattle.uv_model.specs.Removed.{first_removed}
 use Rattle.uv_model.specs.Scheme.{is_scheme, lowercase}
 use Rattle.uv_model.specs.Records.Url.{Url}
 use Rattle.uv_parser.proofs.Counting.RunsEnded.{starts_ended}

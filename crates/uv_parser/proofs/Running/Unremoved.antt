@@ -1,6 +1,6 @@
--- The test before the parser machine's first step: a text of which each code point is above U+0020 passes it, and the
--- code points of the parts of a valid text are.
-use Rattle.std.proofs.Common.{◌≡◌, ℕ, ◌+◌, Bool, true, false, ◌==◌, List, [], ◌∷◌, ◌++◌, Option, Some, None, inl, inr}
+-- Code points above U+0020, which the parser never removes before its first step: those of a scheme, of units, and of a
+-- query and a fragment behind their marks.
+use Rattle.std.proofs.Common.{◌≡◌, ℕ, Bool, true, ◌==◌, List, [], ◌∷◌, ◌++◌, Option, Some, None, inl, inr}
 use Rattle.std.proofs.Common.{refl, ◌∙◌, arith}
 use Rattle.std.specs.Prelude.{nat_lt}
 use Rattle.std.specs.List.{list_all}
@@ -13,32 +13,11 @@ use Rattle.uv_model.specs.Parts.{written_behind}
 use Rattle.uv_model.specs.Scheme.{is_scheme, is_scheme_code_point}
 use Rattle.uv_model.specs.Units.{is_url_code_point, is_unit_at, is_faultless}
 use Rattle.uv_model.specs.Valid.{MayBeUnits}
-use Rattle.uv_parser.specs.Removed.{is_removed, removed_behind, first_removed}
 use Rattle.uv_model.proofs.Texts.UnitsLemmas.{is_faultless-units}
 
 -- a code point above U+0020, which is never removed
 abbrev pub is_unremoved : ℕ → Bool
 is_unremoved c = nat_lt 0x20 c
-
--- wherever it stands, such a code point stays
-pub is_removed-above : (at_border : Bool) (c : ℕ) → is_unremoved c ≡ true → is_removed at_border c ≡ false
-is_removed-above true c above = grind (arith, nat_tests)
-is_removed-above false c above = grind (arith, nat_tests)
-
-removed_behind-none : (p : ℕ) (text : List ℕ) → list_all is_unremoved text ≡ true → removed_behind p text ≡ None
-removed_behind-none p [] above = refl
-removed_behind-none p (c ∷ []) above = rw (is_removed-above true c (and_parts (is_unremoved c) true above).0) refl
-removed_behind-none p (c ∷ d ∷ rest) above =
-    let parts = and_parts (is_unremoved c) (list_all is_unremoved (d ∷ rest)) above in
-    rw (is_removed-above false c parts.0) (removed_behind-none (p + 1) (d ∷ rest) parts.1)
-
--- a text of such code points passes the test
-pub first_removed-none : (text : List ℕ) → list_all is_unremoved text ≡ true → first_removed text ≡ None
-unfolding first_removed
-first_removed-none [] above = refl
-first_removed-none (c ∷ rest) above =
-    let parts = and_parts (is_unremoved c) (list_all is_unremoved rest) above in
-    rw (is_removed-above true c parts.0) (removed_behind-none 1 rest parts.1)
 
 -- ---- the parts of a valid text
 

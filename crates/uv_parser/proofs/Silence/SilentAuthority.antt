@@ -13,7 +13,7 @@ use Rattle.uv_model.specs.Ascii.{slash, backslash, colon}
 use Rattle.uv_model.specs.Records.Denote.{authority_host, authority_path}
 use Rattle.uv_parser.specs.Machine.{begins, AuthorityState, SchemeState, empty_variables, is_special, with_more}
 use Rattle.uv_model.specs.Parts.{Parts, SchemeAuthority, written, written_behind}
-use Rattle.uv_parser.specs.Removed.{first_removed}
+use Rattle.uv_model.specs.Removed.{first_removed}
 use Rattle.uv_model.specs.Scheme.{default_port, is_scheme, lowercase, scheme_class}
 use Rattle.uv_parser.specs.Laws.Silence.{RunsSilently}
 use Rattle.uv_model.specs.Records.Url.{Url}
@@ -21,7 +21,7 @@ use Rattle.uv_model.specs.Valid.{MayBeUnits, port_given}
 use Rattle.uv_parser.proofs.Loops.AuthorityEnds.{Behind, IsParsed, authority_ends, authority_url, hosted}
 use Rattle.uv_parser.proofs.Loops.AuthorityStarts.{scheme_starts}
 use Rattle.uv_parser.proofs.Loops.AuthorityLoops.{is_authority_letter}
-use Rattle.uv_parser.proofs.HostParsing.HostsParsed.{parsed_some}
+use Rattle.uv_parser.proofs.HostParsing.HostParserLemmas.{parsed_some}
 use Rattle.uv_parser.proofs.Loops.PathLoops.{walking}
 use Rattle.uv_model.proofs.SchemeLemmas.{scheme_class-lowercase}
 use Rattle.uv_parser.proofs.Loops.SchemeStretch.{scheme_variables}

@@ -11,7 +11,7 @@ use Rattle.uv_model.specs.Records.Denote.{authority_path}
 use Rattle.uv_parser.specs.Machine.{AtPointer, end, slash_mark, query_mark, fragment_mark, another, at_pointer, again}
 use Rattle.uv_parser.specs.Machine.{FileHostState, PathStartState, file_host_at, with_more}
 use Rattle.uv_model.specs.Parts.{Parts, SchemeAuthority, written, written_behind}
-use Rattle.uv_parser.specs.Removed.{first_removed}
+use Rattle.uv_model.specs.Removed.{first_removed}
 use Rattle.uv_model.specs.Scheme.{is_scheme, scheme_class}
 use Rattle.uv_parser.specs.Laws.Silence.{RunsSilently}
 use Rattle.uv_model.specs.Records.Url.{Url}
@@ -20,7 +20,7 @@ use Rattle.uv_parser.proofs.Loops.AuthorityStarts.{file_variables, scheme_starts
 use Rattle.uv_parser.proofs.Loops.AuthorityEnds.{delimits}
 use Rattle.uv_parser.proofs.Loops.AuthorityLoops.{IsDelimiter}
 use Rattle.uv_parser.proofs.Loops.FileHosts.{IsFileRead, file_class, file_host_law, file_host_row, file_scheme}
-use Rattle.uv_parser.proofs.HostParsing.HostsParsed.{parsed_some}
+use Rattle.uv_parser.proofs.HostParsing.HostParserLemmas.{parsed_some}
 use Rattle.uv_parser.proofs.Loops.PathLoops.{walking}
 use Rattle.uv_parser.proofs.Loops.PathStarts.{path_start_ends}
 use Rattle.uv_parser.proofs.Silence.SilentAuthority.{valued_some, written_with_authority}
@@ -75,7 +75,7 @@ module _ (base : Option Url) (segments : List (List ℕ)) (path : List ℕ) (que
       (file_path_ends host.Empty)
 
 -- The host text leads to the end, with this value.
-pub record HasFileHost (base : Option Url) (parts : Parts) (text : List ℕ) (value : Host) : Type 0 where
+pub record FileHostEnds (base : Option Url) (parts : Parts) (text : List ℕ) (value : Host) : Type 0 where
   pub no_port_text : parts.port_text ≡ None
   pub no_port : parts.port ≡ None
   pub valued : parts.host ≡ Some value
@@ -86,7 +86,7 @@ pub record HasFileHost (base : Option Url) (parts : Parts) (text : List ℕ) (va
 
 -- the variables behind the path are what is denoted
 file_denoted : (base : Option Url) (parts : Parts) (scheme text : List ℕ) (value : Host) → scheme_class scheme ≡ File
-    → HasFileHost base parts text value
+    → FileHostEnds base parts text value
     → HoldsDenoted base parts SchemeAuthority scheme
     (walking (authority_path (scheme_class (codes "file")) parts.segments) (file_variables value))
 file_denoted base parts scheme text value class has =
@@ -113,7 +113,7 @@ written_file parts scheme text named given none =
 pub file_runs : (base : Option Url) (text : List ℕ) (parts : Parts) (scheme host_text : List ℕ) (value : Host)
     → text ≡ written parts → MayBeUnits parts.query → MayBeUnits parts.fragment → first_removed text ≡ None
     → parts.form ≡ SchemeAuthority → is_scheme scheme ≡ true → parts.scheme ≡ Some scheme
-    → parts.host_text ≡ Some host_text → scheme_class scheme ≡ File → HasFileHost base parts host_text value
+    → parts.host_text ≡ Some host_text → scheme_class scheme ≡ File → FileHostEnds base parts host_text value
     → RunsSilently base text parts
 file_runs base text parts scheme host_text value spelled query fragment kept form is named given class has =
     let rest = host_text ++ parts.path_text in

@@ -1,5 +1,5 @@
 -- The run of a text with an opaque path on which the parser is silent.
-use Rattle.std.proofs.Common.{◌≡◌, ℕ, Bool, false, List, [], ◌∷◌, ◌++◌, Option, refl, sym, subst, ◌∙◌}
+use Rattle.std.proofs.Common.{◌≡◌, ℕ, Bool, false, List, [], ◌∷◌, ◌++◌, Option, refl, subst, ◌∙◌}
 use Rattle.std.specs.Prelude.{◌||◌, is_some}
 use Rattle.uv_model.specs.declared.scheme.Class.TheVariants.{Other}
 use Rattle.uv_model.specs.declared.path.UrlPath.TheVariants.{Opaque}
@@ -7,20 +7,22 @@ use Rattle.uv_model.specs.Ascii.{colon}
 use Rattle.uv_model.specs.Encoding.{encoded}
 use Rattle.uv_parser.specs.Machine.{Variables, OpaquePathState, SchemeState, with_more, with_path, empty_variables}
 use Rattle.uv_model.specs.Parts.{Form, Parts, SchemeOpaque, has_scheme}
-use Rattle.uv_parser.specs.SilentTexts.{IsSpacedPath, Silent, TakesForm}
 use Rattle.uv_model.specs.Records.Denote.{end_escaped, has_tail}
 use Rattle.uv_model.specs.Scheme.{lowercase, scheme_class}
 use Rattle.uv_parser.specs.Laws.Silence.{RunsSilently}
 use Rattle.uv_model.specs.Records.Url.{Url}
-use Rattle.uv_model.specs.Valid.{FitsScheme, MayBeUnits}
+use Rattle.uv_model.specs.Valid.{FitsScheme, MayBeUnits, Valid, FitsForm}
 use Rattle.uv_parser.proofs.Loops.Looping.{opaque_path_law}
 use Rattle.uv_parser.proofs.Loops.SchemeStretch.{scheme_variables, colon_row, scheme_there}
 use Rattle.uv_parser.proofs.Silence.SilentSchemes.{EndsBehindScheme, HoldsDenoted, denoted_from_variables, runs_kept}
 use Rattle.uv_parser.proofs.Silence.SilentSchemes.{written_without_authority}
+use Rattle.uv_parser.proofs.Silence.KeptParts.{parser_valid_is_kept}
+use Rattle.uv_model.specs.Path.{IsSpacedPath}
 use Rattle.uv_parser.proofs.Running.Steps.{Ends, ends_step, ends_after}
 use Rattle.uv_parser.proofs.Loops.Tails.{tail, with_tail, TurnsToTail, tail_begins, tail_ends}
 use Rattle.uv_parser.proofs.Loops.Tails.{no_slash_before_tail}
-use Rattle.uv_model.proofs.Cuts.ValidCutLemmas.{written_as_cut}
+use Rattle.uv_model.specs.declared.profile.Profile.TheVariants.{Parser}
+use Rattle.uv_model.specs.Setting.{setting_of}
 
 -- the variables behind the path, where the flag says that a query or a fragment follows
 abbrev path_variables : Bool → List ℕ → List ℕ → Variables
@@ -54,13 +56,13 @@ module _ (base : Option Url) where
   opaque_denoted scheme parts = record { scheme = refl; host = refl; port = refl; path = refl; query = refl }
 
 -- the run of a text with an opaque path on which the parser is silent is done
-pub opaque_done : (base : Option Url) (text : List ℕ) (parts : Parts) → Silent base text parts
+pub opaque_done : (base : Option Url) (text : List ℕ) (parts : Parts) → Valid Parser base text parts
     → parts.form ≡ SchemeOpaque
     → RunsSilently base text parts
 opaque_done base text parts silent form =
-    let P : Form → Type 0 = λ f. TakesForm base f parts in
+    let P : Form → Type 0 = λ f. FitsForm (setting_of Parser base parts.scheme) f parts in
     let Q : Form → Type 0 = λ f. FitsScheme (has_scheme f) parts.scheme in
-    let fits : TakesForm base SchemeOpaque parts = subst P form silent.form in
+    let fits : FitsForm (setting_of Parser base parts.scheme) SchemeOpaque parts = subst P form silent.form in
     let (scheme, named, is) = scheme_there parts.scheme (subst Q form silent.scheme) in
     let other : scheme_class scheme ≡ Other = rw named at fits.1 in
     let behind : EndsBehindScheme base parts scheme parts.path_text
@@ -68,10 +70,11 @@ opaque_done base text parts silent form =
       url = with_tail parts.query parts.fragment (path_variables (has_tail parts) scheme parts.path_text);
       named = is;
       ends =
-          opaque_ends base scheme parts.path_text parts.query parts.fragment other fits.2 silent.query
+          opaque_ends base scheme parts.path_text parts.query parts.fragment other fits.2.spaced silent.query
           silent.fragment;
       denoted =
           denoted_from_variables base parts SchemeOpaque scheme _ refl form named (opaque_denoted base scheme parts);
     } in
-    runs_kept base text parts scheme parts.path_text behind silent.kept
-    (silent.cut.whole ∙ (sym (written_as_cut parts) ∙ written_without_authority parts scheme named fits.0.host_text))
+    runs_kept base text parts scheme parts.path_text behind
+    (parser_valid_is_kept base text parts silent)
+    (silent.whole ∙ written_without_authority parts scheme named fits.0.host_text)

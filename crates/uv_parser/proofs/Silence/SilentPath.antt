@@ -1,27 +1,26 @@
 -- The run of a text with a scheme and a path of segments, without an authority, on which the parser is silent.
-use Rattle.std.proofs.Common.{◌≡◌, ℕ, List, [], ◌∷◌, ◌++◌, Option, refl, sym, ap, subst, ◌∙◌}
+use Rattle.std.proofs.Common.{◌≡◌, ℕ, List, [], ◌∷◌, ◌++◌, Option, refl, ap, subst, ◌∙◌}
 use Rattle.uv_model.specs.declared.scheme.Class.TheVariants.{Other}
 use Rattle.uv_model.specs.declared.path.UrlPath.TheVariants.{Segments}
 use Rattle.uv_model.specs.Ascii.{slash, colon}
 use Rattle.uv_parser.specs.Machine.{Variables, PathOrAuthorityState, SchemeState, with_more, empty_variables}
 use Rattle.uv_model.specs.Parts.{Form, Parts, SchemePath, has_scheme}
-use Rattle.uv_parser.specs.SilentTexts.{Silent, TakesForm}
-use Rattle.uv_model.specs.declared.profile.Profile.TheVariants.{Standard}
+use Rattle.uv_model.specs.declared.profile.Profile.TheVariants.{Parser}
 use Rattle.uv_model.specs.Path.{IsPathRelative, walk}
 use Rattle.uv_model.specs.Scheme.{lowercase, scheme_class}
 use Rattle.uv_model.specs.Setting.{setting_of}
 use Rattle.uv_parser.specs.Laws.Silence.{RunsSilently}
 use Rattle.uv_model.specs.Records.Url.{Url}
-use Rattle.uv_model.specs.Valid.{FitsForm, FitsScheme, MayBeUnits}
+use Rattle.uv_model.specs.Valid.{FitsForm, FitsScheme, MayBeUnits, Valid}
 use Rattle.uv_parser.proofs.Loops.PathLoops.{walking}
 use Rattle.uv_parser.proofs.Loops.PathStarts.{relative_ends}
 use Rattle.uv_model.proofs.SchemeLemmas.{scheme_class-lowercase}
 use Rattle.uv_parser.proofs.Loops.SchemeStretch.{scheme_variables, colon_row, scheme_there}
 use Rattle.uv_parser.proofs.Silence.SilentSchemes.{EndsBehindScheme, HoldsDenoted, denoted_from_variables, runs_kept}
 use Rattle.uv_parser.proofs.Silence.SilentSchemes.{written_without_authority}
+use Rattle.uv_parser.proofs.Silence.KeptParts.{parser_valid_is_kept}
 use Rattle.uv_parser.proofs.Running.Steps.{Ends, ends_past_two, ends_again}
 use Rattle.uv_parser.proofs.Loops.Tails.{tail, with_tail, no_slash_before_tail}
-use Rattle.uv_model.proofs.Cuts.ValidCutLemmas.{written_as_cut}
 
 -- the variables behind the path
 abbrev path_variables : List ℕ → List (List ℕ) → Variables
@@ -54,12 +53,13 @@ module _ (base : Option Url) where
       }
 
 -- the run of a text with a scheme and a path, without an authority, on which the parser is silent is done
-pub path_done : (base : Option Url) (text : List ℕ) (parts : Parts) → Silent base text parts → parts.form ≡ SchemePath
+pub path_done : (base : Option Url) (text : List ℕ) (parts : Parts) → Valid Parser base text parts
+    → parts.form ≡ SchemePath
     → RunsSilently base text parts
 path_done base text parts silent form =
-    let P : Form → Type 0 = λ f. TakesForm base f parts in
+    let P : Form → Type 0 = λ f. FitsForm (setting_of Parser base parts.scheme) f parts in
     let Q : Form → Type 0 = λ f. FitsScheme (has_scheme f) parts.scheme in
-    let fits : FitsForm (setting_of Standard base parts.scheme) SchemePath parts = subst P form silent.form in
+    let fits : FitsForm (setting_of Parser base parts.scheme) SchemePath parts = subst P form silent.form in
     let (scheme, named, is) = scheme_there parts.scheme (subst Q form silent.scheme) in
     let other : scheme_class scheme ≡ Other = rw named at fits.1 in
     let path = fits.2 in
@@ -73,7 +73,7 @@ path_done base text parts silent form =
           silent.query silent.fragment;
       denoted = denoted_from_variables base parts SchemePath scheme _ refl form named (path_denoted base scheme parts);
     } in
-    runs_kept base text parts scheme (slash ∷ path.behind) behind silent.kept
-    (silent.cut.whole ∙ (sym (written_as_cut parts)
-    ∙ (written_without_authority parts scheme named fits.0.host_text
-    ∙ ap (λ xs. scheme ++ colon ∷ (xs ++ tail parts.query parts.fragment)) slashed)))
+    runs_kept base text parts scheme (slash ∷ path.behind) behind
+    (parser_valid_is_kept base text parts silent)
+    (silent.whole ∙ (written_without_authority parts scheme named fits.0.host_text
+    ∙ ap (λ xs. scheme ++ colon ∷ (xs ++ tail parts.query parts.fragment)) slashed))

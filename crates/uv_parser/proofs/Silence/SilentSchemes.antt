@@ -3,7 +3,6 @@ use Rattle.std.proofs.Common.{◌≡◌, ℕ, true, false, List, [], ◌∷◌, 
 use Rattle.std.proofs.Common.{append_assoc}
 use Rattle.std.specs.Prelude.{option_map}
 use Rattle.std.proofs.lemmas.Bool.{false≢true}
-use Rattle.std.specs.List.{list_all}
 use Rattle.uv_model.specs.declared.scheme.Class.{Class}
 use Rattle.uv_model.specs.declared.scheme.Class.TheVariants.{Special, File, Other}
 use Rattle.uv_model.specs.Ascii.{colon}
@@ -13,18 +12,16 @@ use Rattle.uv_model.specs.Encoding.{encoded}
 use Rattle.uv_parser.specs.Machine.{Variables, is_special, SchemeState, with_more, empty_variables}
 use Rattle.uv_model.specs.Parts.{Form, Parts, SchemeAuthority, SchemePath, SchemeOpaque, Authority, PathAbsolute}
 use Rattle.uv_model.specs.Parts.{PathRelative, NoPath, has_scheme, written}
-use Rattle.uv_parser.specs.Removed.{first_removed}
+use Rattle.uv_model.specs.Removed.{first_removed}
 use Rattle.uv_model.specs.Scheme.{is_scheme, lowercase, scheme_class}
 use Rattle.uv_parser.specs.Laws.Silence.{RunsSilently}
 use Rattle.uv_model.specs.Records.Url.{Url}
-use Rattle.uv_model.specs.Valid.{MayBeUnits, scheme_in}
+use Rattle.uv_model.specs.Valid.{scheme_in}
 use Rattle.uv_model.specs.Setting.{scheme_or}
 use Rattle.uv_model.proofs.Records.DenotedRecords.{denote_as}
 use Rattle.uv_model.proofs.SchemeLemmas.{scheme_class-lowercase}
 use Rattle.uv_parser.proofs.Counting.RunsEnded.{starts_ended}
 use Rattle.uv_parser.proofs.Loops.SchemeStretch.{scheme_stretch}
-use Rattle.uv_parser.proofs.Running.Unremoved.{is_unremoved, first_removed-none, unremoved_append, unremoved_scheme}
-use Rattle.uv_parser.proofs.Running.Unremoved.{unremoved_tail}
 use Rattle.uv_parser.proofs.Running.Steps.{Ends, done_with, ends_after}
 use Rattle.uv_parser.proofs.Loops.Tails.{tail, query_given, with_tail}
 
@@ -123,15 +120,3 @@ pub written_without_authority : (parts : Parts) (scheme : List ℕ) → parts.sc
 unfolding written
 written_without_authority parts scheme named none =
     rw (named, none) (append_assoc scheme (colon ∷ []) (parts.path_text ++ tail parts.query parts.fragment))
-
--- no code point is removed of a text of a scheme, parts of which none is removed, and URL units
-pub kept_text : (text scheme middle : List ℕ) (query fragment : Option (List ℕ)) → is_scheme scheme ≡ true
-    → list_all is_unremoved middle ≡ true → MayBeUnits query → MayBeUnits fragment
-    → text ≡ scheme ++ colon ∷ (middle ++ tail query fragment) → first_removed text ≡ None
-kept_text text scheme middle query fragment named above query_units fragment_units whole =
-    let rest = middle ++ tail query fragment in
-    let kept : list_all is_unremoved (scheme ++ colon ∷ rest) ≡ true
-    = unremoved_append scheme (colon ∷ rest) (unremoved_scheme scheme named)
-    (unremoved_append middle (tail query fragment) above
-    (unremoved_tail query fragment query_units fragment_units)) in
-    rw whole (first_removed-none (scheme ++ colon ∷ rest) kept)

@@ -1,7 +1,7 @@
--- Where the texts on which the URL parser (URL Standard, section 4.4) is silent are no valid URL strings (sections 3.4
--- and 4.3): the differences, each by its name, and the law that there are no others.
+-- Where the valid texts of the parser's profile, on which the URL parser (URL Standard, section 4.4) is silent, are no
+-- valid URL strings (sections 3.4 and 4.3): the differences, each by its name, and the law that there are no others.
 use Rattle.std.specs.Prelude.{◌≡◌, ◌≢◌, ℕ, ◌<◌, ◌⊎◌, true, false, List, [], length, Option, Some, IsSome}
-use Rattle.uv_model.specs.declared.profile.Profile.TheVariants.{Standard}
+use Rattle.uv_model.specs.declared.profile.Profile.TheVariants.{Standard, Parser}
 use Rattle.uv_model.specs.declared.host.Host.{Host}
 use Rattle.uv_model.specs.declared.host.Host.TheVariants.{Domain, V4}
 use Rattle.uv_model.specs.declared.scheme.Class.TheVariants.{File, Other}
@@ -9,12 +9,11 @@ use Rattle.uv_model.specs.Ascii.{space}
 use Rattle.uv_model.specs.Violations.Violation.{HasHost}
 use Rattle.uv_model.specs.Cut.{class_in, starts_with_two_slashes}
 use Rattle.uv_model.specs.Hosts.Domain.{has_lengths, has_permitted, strict_form}
-use Rattle.uv_model.specs.Hosts.ParserHost.{AreNumbers, IsNumbersText, IsParserHost}
-use Rattle.uv_parser.specs.SilentTexts.{Silent}
+use Rattle.uv_model.specs.Hosts.Numbers.{AreNumbers, IsNumbersText}
 use Rattle.uv_model.specs.Parts.{Parts}
 use Rattle.uv_model.specs.Path.{is_without, starts_with_drive_segment}
 use Rattle.uv_model.specs.Records.Url.{Url}
-use Rattle.uv_model.specs.Valid.{Valid}
+use Rattle.uv_model.specs.Valid.{IsHostText, Valid}
 
 -- ---- the host of a special URL or of a file URL
 
@@ -46,13 +45,13 @@ HostDiffers text (Domain form) = HasForeignDomainCodePoint text ⊎ (LacksStrict
 HostDiffers text (V4 value) = IsMappedToIpv4 text ⊎ HasFewerNumbers text
 HostDiffers text _ = ⊥
 
--- The parser's grammar takes the host text of a special URL or of a file URL, which is no valid host text.
+-- The host text of a special URL or of a file URL is a host by the parser's profile, and no valid host text.
 pub record HasForeignHost (base : Option Url) (parts : Parts) : Type 0 where
   pub class : class_in base parts.scheme ≢ Other
   pub text : List ℕ
   pub given : parts.host_text ≡ Some text
   pub host : Host
-  pub taken : IsParserHost text host
+  pub taken : IsHostText Parser text host
   pub differs : HostDiffers text host
 
 -- ---- the path
@@ -80,7 +79,7 @@ HasSpaceInPath parts = is_without space parts.path_text ≡ false
 
 -- ---- the law
 
--- a difference of the two grammars
+-- a difference of the two profiles
 abbrev pub Differs : Option Url → Parts → Type 0
 Differs base parts =
     HasForeignHost base parts
@@ -96,4 +95,5 @@ pub record IsValidOrDiffers (base : Option Url) (text : List ℕ) (parts : Parts
 -- every text on which the parser is silent, against every base and none, is valid exactly where it has no difference
 abbrev pub SilentTextsAreValidOrDiffer : Type 0
 SilentTextsAreValidOrDiffer =
-    (base : Option Url) (text : List ℕ) (parts : Parts) → Silent base text parts → IsValidOrDiffers base text parts
+    (base : Option Url) (text : List ℕ) (parts : Parts) → Valid Parser base text parts
+    → IsValidOrDiffers base text parts

@@ -4,7 +4,7 @@ use Rattle.std.specs.Prelude.{◌≡◌, ℕ, ◌+◌, ◌*◌, ◌≤◌, List,
 use Rattle.uv_parser.specs.Laws.DecidedTexts.{IsDecidedWithin}
 use Rattle.uv_parser.specs.Rows.References.{root_base}
 use Rattle.uv_parser.specs.Run.{Outcome, Done, Stopped, Going, run}
-use Rattle.uv_model.specs.declared.profile.Profile.TheVariants.{Wide}
+use Rattle.uv_model.specs.declared.profile.Profile.TheVariants.{Parser}
 use Rattle.uv_model.specs.Records.Url.{Url}
 use Rattle.uv_model.specs.Records.WellFormed.{MayBeWellFormed}
 
@@ -27,10 +27,10 @@ abbrev pub RunsKeepTheirEnd : Type 0
 RunsKeepTheirEnd = (base : Option Url) (text : List ℕ) (steps : ℕ) → least_step_bound text ≤ steps
     → run base text steps ≡ run base text (least_step_bound text)
 
--- Against each well-formed base, and without a base, each text is decided within any number of steps from the bound on.
--- So it is within the wider bound of specs/Run.
+-- Against each base that is well formed by the parser's profile, and without a base, each text is decided within any
+-- number of steps from the bound on. So it is within the wider bound of specs/Run.
 abbrev pub TextsAreDecidedSoon : Type 0
-TextsAreDecidedSoon = (base : Option Url) (text : List ℕ) (steps : ℕ) → MayBeWellFormed Wide base
+TextsAreDecidedSoon = (base : Option Url) (text : List ℕ) (steps : ℕ) → MayBeWellFormed Parser base
     → least_step_bound text ≤ steps → IsDecidedWithin steps base text
 
 -- Against `http://h/` there is a text of each length from four on whose run hasn't ended one step before the bound.

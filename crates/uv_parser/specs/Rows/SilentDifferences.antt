@@ -1,12 +1,11 @@
 -- The differences of texts that are written out, each by its name: on each of these texts the URL parser (URL Standard,
 -- section 4.4) is silent, and none of them is a valid URL string (section 4.3).
 use Rattle.std.specs.Prelude.{List, [], ◌∷◌, Option}
-use Rattle.uv_model.specs.declared.profile.Profile.TheVariants.{Standard}
-use Rattle.uv_parser.specs.SilentTexts.{Silent}
+use Rattle.uv_model.specs.declared.profile.Profile.TheVariants.{Standard, Parser}
 use Rattle.uv_model.specs.Parts.{Parts}
 use Rattle.uv_parser.specs.Rows.{Row}
-use Rattle.uv_parser.specs.Rows.SilentRefusals.{file_rows, host_rows, domain_rows, number_rows, segment_rows}
-use Rattle.uv_parser.specs.Rows.SilentRefusals.{drive_rows, fewer_rows, space_rows}
+use Rattle.uv_parser.specs.Rows.ParserProfile.{file_rows, host_rows, domain_rows, number_rows, segment_rows}
+use Rattle.uv_parser.specs.Rows.ParserProfile.{drive_rows, fewer_rows, space_rows}
 use Rattle.uv_parser.specs.Laws.Differences.{HasDriveBehindHost, HasEmptyAuthority, HasEmptyFirstSegment}
 use Rattle.uv_parser.specs.Laws.Differences.{HasForeignHost, HasSpaceInPath}
 use Rattle.uv_model.specs.Records.Url.{Url}
@@ -15,7 +14,7 @@ use Rattle.uv_model.specs.Valid.{Valid}
 -- The parser is silent on the row's text, whose parts have the difference, and which has no valid parts.
 pub record DiffersSilently (difference : Option Url → Parts → Type 0) (row : Row) : Type 0 where
   pub parts : Parts
-  pub silent : Silent row.base row.text parts
+  pub silent : Valid Parser row.base row.text parts
   pub differs : difference row.base parts
   pub refused : (other : Parts) → ¬ (Valid Standard row.base row.text other)
 

@@ -14,7 +14,7 @@ use Rattle.uv_grammar.proofs.host.judge_host.Goals as goal
 pub returns-then-is_empty-clause-answer : goal.returns-then-is_empty-clause-answer
 returns-then-is_empty-clause-answer c =
     rw (no_chars c.args.host_text.now (sym c.is_empty.ensures ∙ c.if-is_empty.true))
-    (c.judge_empty_host.ensures c.args.profile)
+    (c.judge_empty_host.ensures c.args.last)
 
 pub judge_special_host-requires : goal.judge_special_host-requires
 judge_special_host-requires c =
@@ -24,13 +24,13 @@ pub returns-in-Special-clause-answer : goal.returns-in-Special-clause-answer
 returns-in-Special-clause-answer c =
     let some = some_chars c.args.host_text.now c.utf8.host_text (sym c.is_empty.ensures ∙ c.if-is_empty.false) in
     rw c.in-Special.is (IfOk-weaker c.judge_special_host.result
-    (IsJudged (FitsPartsHost (FitsSomeHost c.args.profile Special (chars c.args.host_text.now)))
-    (HostContentViolation c.args.profile Special (chars c.args.host_text.now)))
-    (IsJudged (FitsPartsHost (FitsHost c.args.profile Special (chars c.args.host_text.now)
+    (IsJudged (FitsPartsHost (FitsSomeHost c.args.profile Special c.args.last (chars c.args.host_text.now)))
+    (HostContentViolation c.args.profile Special c.args.last (chars c.args.host_text.now)))
+    (IsJudged (FitsPartsHost (FitsHost c.args.profile Special c.args.last (chars c.args.host_text.now)
     (chars_of_option c.args.port_text) (chars c.args.path_text.now)))
-    (HostViolation c.args.profile Special (chars c.args.host_text.now) (chars_of_option c.args.port_text)
+    (HostViolation c.args.profile Special c.args.last (chars c.args.host_text.now) (chars_of_option c.args.port_text)
     (chars c.args.path_text.now)))
-    (content_answer c.args.profile Special (chars c.args.host_text.now) (chars_of_option c.args.port_text)
+    (content_answer c.args.profile Special c.args.last (chars c.args.host_text.now) (chars_of_option c.args.port_text)
     (chars c.args.path_text.now) some)
     c.judge_special_host.ensures.answer)
 
@@ -42,13 +42,13 @@ pub returns-in-File-clause-answer : goal.returns-in-File-clause-answer
 returns-in-File-clause-answer c =
     let some = some_chars c.args.host_text.now c.utf8.host_text (sym c.is_empty.ensures ∙ c.if-is_empty.false) in
     rw c.in-File.is (IfOk-weaker c.judge_file_host.result
-    (IsJudged (FitsPartsHost (FitsSomeHost c.args.profile File (chars c.args.host_text.now)))
-    (HostContentViolation c.args.profile File (chars c.args.host_text.now)))
-    (IsJudged (FitsPartsHost (FitsHost c.args.profile File (chars c.args.host_text.now)
+    (IsJudged (FitsPartsHost (FitsSomeHost c.args.profile File c.args.last (chars c.args.host_text.now)))
+    (HostContentViolation c.args.profile File c.args.last (chars c.args.host_text.now)))
+    (IsJudged (FitsPartsHost (FitsHost c.args.profile File c.args.last (chars c.args.host_text.now)
     (chars_of_option c.args.port_text) (chars c.args.path_text.now)))
-    (HostViolation c.args.profile File (chars c.args.host_text.now) (chars_of_option c.args.port_text)
+    (HostViolation c.args.profile File c.args.last (chars c.args.host_text.now) (chars_of_option c.args.port_text)
     (chars c.args.path_text.now)))
-    (content_answer c.args.profile File (chars c.args.host_text.now) (chars_of_option c.args.port_text)
+    (content_answer c.args.profile File c.args.last (chars c.args.host_text.now) (chars_of_option c.args.port_text)
     (chars c.args.path_text.now) some)
     c.judge_file_host.ensures.answer)
 
@@ -60,7 +60,7 @@ pub returns-in-Other-clause-answer : goal.returns-in-Other-clause-answer
 returns-in-Other-clause-answer c =
     let some = some_chars c.args.host_text.now c.utf8.host_text (sym c.is_empty.ensures ∙ c.if-is_empty.false) in
     rw c.in-Other.is
-    (content_answer c.args.profile Other (chars c.args.host_text.now) (chars_of_option c.args.port_text)
+    (content_answer c.args.profile Other c.args.last (chars c.args.host_text.now) (chars_of_option c.args.port_text)
     (chars c.args.path_text.now) some
     c.judge_opaque_host.result c.judge_opaque_host.ensures)
 

@@ -3,19 +3,22 @@ use Rattle.std.proofs.Common.{sym, ◌∙◌}
 use Rattle.uv_host.proofs.PlainLemmas.{plain_is_form, plain_no_form}
 use Rattle.uv_host.proofs.domains.judge_plain.Goals as goal
 
-pub returns-then-not-has_lengths : goal.returns-then-not-has_lengths
-returns-then-not-has_lengths c = λ profile.
-    plain_no_form profile c.args.name.now c.utf8.name c.requires (sym c.has_lengths.ensures ∙ c.if-not-has_lengths.true)
+pub returns-then-not-fits_lengths : goal.returns-then-not-fits_lengths
+returns-then-not-fits_lengths c =
+    plain_no_form c.args.profile c.args.name.now c.utf8.name c.requires
+    (sym c.fits_lengths.ensures ∙ c.if-not-fits_lengths.true)
 
 pub returns-then-is_number : goal.returns-then-is_number
-returns-then-is_number c = λ profile. (
+returns-then-is_number c = (
   c.args.name.now,
-  plain_is_form profile c.args.name.now c.utf8.name c.requires (sym c.has_lengths.ensures ∙ c.if-not-has_lengths.false),
+  plain_is_form c.args.profile c.args.name.now c.utf8.name c.requires
+      (sym c.fits_lengths.ensures ∙ c.if-not-fits_lengths.false),
   sym c.is_number.ensures ∙ c.if-is_number.true,
 )
 
 pub returns-else-is_number : goal.returns-else-is_number
-returns-else-is_number c = λ profile. (
-  plain_is_form profile c.args.name.now c.utf8.name c.requires (sym c.has_lengths.ensures ∙ c.if-not-has_lengths.false),
+returns-else-is_number c = (
+  plain_is_form c.args.profile c.args.name.now c.utf8.name c.requires
+      (sym c.fits_lengths.ensures ∙ c.if-not-fits_lengths.false),
   sym c.is_number.ensures ∙ c.if-is_number.false,
 )

@@ -23,7 +23,7 @@ returns-then-not-has_lengths c =
     no_lengths text form strict wrong
 
 pub returns-in_default-2 : goal.returns-in_default-2
-returns-in_default-2 c = not_parsed Standard _
+returns-in_default-2 c = not_parsed Standard _ tt
     (sym c.in_ok-parsed.ensures ∙ ap (option_map cow_str_bytes) c.in_default-2.is)
 
 pub returns-then-is_same : goal.returns-then-is_same

@@ -10,7 +10,7 @@ use Rattle.uv_model.proofs.Hosts.DomainLemmas.{IsForm-wide, no_letters, no_parse
 use Rattle.uv_host.proofs.domains.wide_form.Goals as goal
 
 pub returns-in_default : goal.returns-in_default
-returns-in_default c = not_parsed Wide _ (sym c.in_ok-form.ensures ∙ ap (option_map cow_str_bytes) c.in_default.is)
+returns-in_default c = not_parsed Wide _ tt (sym c.in_ok-form.ensures ∙ ap (option_map cow_str_bytes) c.in_default.is)
 
 pub returns-then-not-has_lengths : goal.returns-then-not-has_lengths
 returns-then-not-has_lengths c =
@@ -20,7 +20,7 @@ returns-then-not-has_lengths c =
     sym c.in_ok-form.ensures ∙ ap (option_map cow_str_bytes) c.in-Some.is in
     let wrong : has_lengths form ≡ false =
     rw (← c.as_str.ensures.value) (sym c.has_lengths.ensures ∙ c.if-not-has_lengths.true) in
-    no_parsed_lengths Wide text form parsed wrong
+    no_parsed_lengths Wide text form tt parsed wrong
 
 pub returns-then-is_form : goal.returns-then-is_form
 returns-then-is_form c =
@@ -44,4 +44,4 @@ returns c =
     let bytes = c.as_bytes.ensures.value ∙ c.as_str-2.ensures.value in
     let wrong : list_all (is_form_code_point Wide) form ≡ false =
     ap (list_all (is_form_code_point Wide)) (sym bytes) ∙ (sym c.is_form.ensures ∙ c.if-is_form.false) in
-    no_letters Wide text form parsed wrong
+    no_letters Wide text form tt parsed wrong

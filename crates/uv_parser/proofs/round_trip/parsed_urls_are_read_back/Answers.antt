@@ -1,5 +1,5 @@
 -- The law is the lemma.
-use Rattle.uv_parser.proofs.RoundTrip.ParsedUrls.{parsed_urls_are_read_back}
+use Rattle.uv_parser.proofs.RoundTrip.RoundTripLemmas.{parsed_urls_are_read_back}
 use Rattle.uv_parser.proofs.round_trip.parsed_urls_are_read_back.Goals as goal
 
 pub returns : goal.returns

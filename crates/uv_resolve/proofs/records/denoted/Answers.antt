@@ -1,13 +1,13 @@
 -- The fields are those of the denoted URL.
 use Rattle.std.proofs.Common.{sym, ◌∙◌, subst}
-use Rattle.uv_model.specs.declared.profile.Profile.TheVariants.{Wide}
+use Rattle.uv_model.specs.declared.profile.Profile.TheVariants.{Parser}
 use Rattle.uv_model.specs.Records.WellFormed.{WellFormed}
 use Rattle.uv_resolve.proofs.RecordLemmas.{denote-fields}
 use Rattle.uv_resolve.proofs.records.denoted.Goals as goal
 
 pub make-requires : goal.make-requires
 make-requires c =
-    subst (WellFormed Wide)
+    subst (WellFormed Parser)
     (sym (denote-fields _ c.args.parts c.class_in-class.result _ _ _ _ _ _ c.class_in-class.ensures
     c.in_ok-scheme.ensures
     c.in_ok-host.ensures c.port_of-port.ensures c.in_ok-path.ensures c.in_ok-query.ensures

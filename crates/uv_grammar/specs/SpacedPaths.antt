@@ -1,0 +1,16 @@
+-- The opaque paths that may hold spaces, after the URL Standard, section 4.4, opaque path state.
+use Rattle.std.specs.Prelude.{Bool, false}
+use Rattle.uv_model.specs.declared.profile.Profile.{Profile}
+use Rattle.uv_model.specs.declared.profile.Profile.TheVariants.{Standard, Wide, Parser}
+use Rattle.uv_model.specs.Cut.{Cut}
+use Rattle.uv_model.specs.Setting.{Setting}
+use Rattle.uv_model.specs.Violations.Violation.{has_opaque_path}
+
+-- an opaque path may hold spaces by the parser's profile
+abbrev pub may_be_spaced : Profile → Bool → Bool
+may_be_spaced Parser opaque = opaque
+may_be_spaced _ opaque = false
+
+-- the path of the cut may hold spaces
+abbrev pub takes_spaces : Setting → Cut → Bool
+takes_spaces setting cut = may_be_spaced setting.profile (has_opaque_path setting.class cut)

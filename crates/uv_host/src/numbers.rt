@@ -1,0 +1,123 @@
+//! IPv4 addresses of one to four numbers (URL Standard, section 3.5).
+ghost use Rattle.std.specs.Char.{is_ascii_digit};
+ghost use Rattle.std.specs.List.{list_all};
+ghost use Rattle.std.specs.Prelude.{◌≡◌, ◌≤◌, chars};
+ghost use Rattle.uv_model.specs.Hosts.Address.{Reads};
+ghost use Rattle.uv_model.specs.Hosts.Numbers.{IsNumbersText};
+ghost use Rattle.uv_host.specs.ParserHosts.{IsByteText, IsWeighedText, is_shortest, weight_of};
+
+/// The value of one to four numbers from 0 to 255 in shortest decimal form, with `.` between each two: each counts 256
+/// times less than the one before it, but the last always counts once, so that `1.2.3` has the value of `1.2.0.3` (URL
+/// Standard, section 3.5). `None` for every other text.
+pub fn numbers_value(text: &str) -> Option<u32>
+    ensures { Reads IsNumbersText (chars text.now) result }
+{
+    weighed_value(text, 3)
+}
+
+// The same of at most so many numbers and one more.
+fn weighed_value(text: &str, more: usize) -> Option<u32>
+    requires { more ≤ 3 }
+    ensures { Reads (IsWeighedText more) text.now result }
+{
+    let Some((first, rest)) = text.split_once('.') else {
+        return match byte_value(text) {
+            Some(last) => Some(u32::from(last)),
+            None => None,
+        };
+    };
+    if more == 0 {
+        return None;
+    }
+    let Some(number) = byte_value(first) else {
+        return None;
+    };
+    match weighed_value(rest, more - 1) {
+        Some(behind) => Some(u32::from(number) * weight_of(more) + behind),
+        None => None,
+    }
+}
+
+// What the first of several numbers counts, of which so many follow it at most.
+fn weight_of(more: usize) -> u32
+    requires { more ≤ 3 }
+    ensures { result ≡ weight_of more }
+{
+    match more {
+        0 => 1,
+        1 => 256,
+        2 => 65536,
+        _ => 16777216,
+    }
+}
+
+// The number from 0 to 255 of which the text is the shortest decimal form.
+fn byte_value(text: &str) -> Option<u8>
+    ensures { Reads IsByteText text.now result }
+{
+    if !is_shortest(text.as_bytes()) {
+        return None;
+    }
+    match text.parse::<u8>() {
+        Ok(number) => Some(number),
+        Err(_) => None,
+    }
+}
+
+// Digits alone, of which the first is `0` only where it is the only one.
+fn is_shortest(text: &[u8]) -> bool
+    ensures { result ≡ is_shortest text.now }
+{
+    match text {
+        [] => false,
+        [only] => only.is_ascii_digit(),
+        [first, ..] => *first != b'0' && are_digits(text),
+    }
+}
+
+fn are_digits(text: &[u8]) -> bool
+    ensures { result ≡ list_all is_ascii_digit text.now }
+{
+    text.iter().all(|b| b.is_ascii_digit())
+}
+
+#[cfg(test)]
+mod tests {
+    use super::*;
+
+    /// By hand from the IPv4 parser (URL Standard, section 3.5): each part but the last counts for itself.
+    #[test]
+    fn reads_one_to_four_numbers(rt: HostRuntime) {
+        for (text, value) in [
+            ("0", 0),
+            ("255", 255),
+            ("1.2", 16777218),
+            ("1.2.3", 16908291),
+            ("1.2.3.4", 16909060),
+            ("255.255.255.255", 4294967295),
+        ] {
+            assert_eq!(rt; numbers_value(text), Some(value), "of {text}");
+        }
+    }
+
+    #[test]
+    fn refuses_what_the_parser_warns_of(rt: HostRuntime) {
+        for text in [
+            "",
+            ".",
+            "256",
+            "1.256",
+            "01",
+            "0x1",
+            "1.",
+            "1.2.3.4.",
+            "1.2.3.4.5",
+            "1..2",
+            "+1",
+            "a",
+            "1.a",
+        ] {
+            assert_eq!(rt; numbers_value(text), None, "of {text}");
+        }
+    }
+}

@@ -1,0 +1,166 @@
+//! Hosts of special URLs as the URL parser's host parser takes them without an error (URL Standard, sections 3.3 to
+//! 3.5).
+ghost use Rattle.std.specs.Cow.{cow_str_bytes};
+ghost use Rattle.std.specs.List.{list_any};
+ghost use Rattle.std.specs.Prelude.{◌≡◌, ℕ, List, IfOk, MatchOption, chars, option_map, string_bytes};
+ghost use Rattle.std.specs.Str.{IsAscii};
+ghost use Rattle.idna.specs.Uts46.{domain_to_ascii};
+ghost use Rattle.uv_model.specs.declared.profile.Profile.{Profile};
+ghost use Rattle.uv_model.specs.Hosts.Domain as spec;
+ghost use Rattle.uv_host.specs.ParserHosts.{IsParserAnswer, is_taken, taken_form};
+
+use crate::domains::{is_number, lower_form};
+use crate::numbers::numbers_value;
+use crate::opaque_hosts::starts_with_bracket;
+use idna::{AsciiDenyList, Errors, domain_to_ascii_cow};
+use percent_encoding::percent_decode;
+use std::alloc::{AllocError, Global};
+use std::borrow::CowStr;
+use uv_model::{Profile, is_forbidden_domain};
+
+/// What the host parser makes of a text that isn't in brackets.
+#[derive(Drop)]
+pub enum ParserHost {
+    /// A domain, with its ASCII form.
+    Domain(String),
+    /// An IPv4 address, with its value.
+    Address(u32),
+    /// A form that ends in a number and is no address on which the host parser is silent.
+    Number,
+    /// No form.
+    Not,
+}
+
+/// What the host parser makes of a text that isn't in brackets, without an error (URL Standard, sections 3.3 to 3.5):
+/// the text is percent-decoded, and ToASCII gives its form, which isn't empty and holds no forbidden domain code point.
+/// A form that ends in a number is one to four numbers from 0 to 255 in shortest decimal form. The error is out of
+/// memory.
+pub fn parser_host(alloc: Global, text: &str) -> Result<ParserHost, AllocError>
+    ensures { IfOk result (IsParserAnswer (chars text.now)) }
+{
+    match any_form(alloc, text)? {
+        Some(form) => Ok(judge_form(form)),
+        None => Ok(ParserHost::Not),
+    }
+}
+
+// The answer on every text of this form.
+fn judge_form(form: String) -> ParserHost
+    requires { IsAscii (string_bytes form) }
+    ensures { (text : List ℕ) → spec.IsForm Profile.Parser text (string_bytes form) → IsParserAnswer text result }
+{
+    if !is_number(form.as_str()) {
+        return ParserHost::Domain(form);
+    }
+    match numbers_value(form.as_str()) {
+        Some(value) => ParserHost::Address(value),
+        None => ParserHost::Number,
+    }
+}
+
+// The form of a text, if it has one: its lower case, where ToASCII would leave that as it is.
+fn any_form(alloc: Global, text: &str) -> Result<Option<String>, AllocError>
+    ensures { IfOk result (λ answer. MatchOption answer (spec.HasNoForm Profile.Parser (chars text.now))
+        (λ form. spec.IsForm Profile.Parser (chars text.now) (string_bytes form))) }
+{
+    match lower_form(alloc, text, Profile::Parser)? {
+        Some(form) if form.as_str().is_empty() => Ok(None),
+        Some(form) => Ok(Some(form)),
+        None => parser_form(alloc, text),
+    }
+}
+
+/// The form of a text by percent-decoding and ToASCII, if it has one. The error is out of memory.
+pub(crate) fn parser_form(alloc: Global, text: &str) -> Result<Option<String>, AllocError>
+    ensures { IfOk result (λ answer. MatchOption answer (spec.HasNoForm Profile.Parser (chars text.now))
+        (λ form. spec.IsForm Profile.Parser (chars text.now) (string_bytes form))) }
+{
+    if starts_with_bracket(text) {
+        return Ok(None);
+    }
+    let decoded = percent_decode(text.as_bytes()).into_cow(alloc)?;
+    taken_form(alloc, decoded.as_slice())
+}
+
+// What ToASCII gives, where that isn't empty and holds no forbidden domain code point.
+fn taken_form(alloc: Global, decoded: &[u8]) -> Result<Option<String>, AllocError>
+    ensures { IfOk result (λ form. option_map string_bytes form ≡ taken_form decoded.now) }
+{
+    let Some(form) = ascii_form(alloc, decoded)? else {
+        return Ok(None);
+    };
+    if is_taken(form.as_str()) {
+        Ok(Some(form.into_owned(alloc)?))
+    } else {
+        Ok(None)
+    }
+}
+
+// ToASCII with the settings of the URL parser (UTS #46, section 4.2).
+fn ascii_form(alloc: Global, decoded: &[u8]) -> Result<Option<CowStr<'_>>, AllocError>
+    ensures { IfOk result (λ form. option_map cow_str_bytes form
+        ≡ domain_to_ascii AsciiDenyList.EMPTY decoded.now) }
+{
+    match domain_to_ascii_cow(alloc, decoded, AsciiDenyList::EMPTY) {
+        Ok(form) => Ok(Some(form)),
+        Err(Errors::Invalid) => Ok(None),
+        Err(Errors::OutOfMemory) => Err(AllocError),
+    }
+}
+
+// Whether a form isn't empty and holds no forbidden domain code point.
+fn is_taken(form: &str) -> bool
+    ensures { result ≡ is_taken form.now }
+{
+    !form.is_empty() && !has_forbidden(form.as_bytes())
+}
+
+fn has_forbidden(form: &[u8]) -> bool
+    ensures { result ≡ list_any spec.is_forbidden_domain form.now }
+{
+    form.iter().any(|b| is_forbidden_domain(char::from(*b)))
+}
+
+#[cfg(test)]
+mod tests {
+    use super::*;
+
+    // The domain's form, the address in decimal, `(number)` or `(not)`.
+    fn shown(alloc: Global, text: &str) -> Result<String, AllocError> {
+        match parser_host(alloc, text)? {
+            ParserHost::Domain(form) => Ok(form),
+            ParserHost::Address(value) => format!(in alloc; "{value}"),
+            ParserHost::Number => String::from_str(alloc, "(number)"),
+            ParserHost::Not => String::from_str(alloc, "(not)"),
+        }
+    }
+
+    /// By hand from the host parser and the IPv4 parser (URL Standard, section 3.5), where these report no error.
+    #[test]
+    fn reads_hosts(rt: HostRuntime) -> Result<(), AllocError> {
+        for (text, wanted) in [
+            ("example.com", "example.com"),
+            ("A_B", "a_b"),
+            ("a%2Db", "a-b"),
+            ("1.2.3", "16908291"),
+            ("%31.2.3", "16908291"),
+            ("\u{FF11}.2.3", "16908291"),
+            ("0", "0"),
+            ("255.255.255.255", "4294967295"),
+            ("256", "(number)"),
+            ("1.2.3.4.5", "(number)"),
+            ("1.2.3.4.", "(number)"),
+            ("01", "(number)"),
+            ("0x1", "(number)"),
+            ("a.1", "(number)"),
+            ("", "(not)"),
+            ("a%2Fb", "(not)"),
+            ("%ff", "(not)"),
+            ("[1.2.3.4]", "(not)"),
+        ] {
+            let found = shown(rt.alloc(), text)?;
+            assert_eq!(rt; found.as_str(), wanted, "of {text}");
+        }
+        Ok(())
+    }
+}

@@ -1,0 +1,345 @@
+-- IPv4 addresses by the profiles: what one to four numbers are written with, that a text has one value, and that it has
+-- 32 bits.
+use Rattle.std.proofs.Common.{◌≡◌, ◌≢◌, ℕ, ◌^◌, ◌<◌, ◌≤◌, true, false, ◌||◌, ◌==◌, List, [], ◌∷◌, ◌++◌, length, get_or}
+use Rattle.std.proofs.Common.{map, decimal, All, Some, refl, sym, ap, ◌∙◌, inl, inr, lit≤, lit<, append_assoc}
+use Rattle.std.proofs.Common.{append-nil, length-append, ne_eqb, arith}
+use Rattle.std.specs.Char.{digit_value, encode_utf8, is_ascii_lowercase, is_ascii_digit}
+use Rattle.std.specs.List.{join_with_byte, list_all}
+use Rattle.std.specs.Str.{chars}
+use Rattle.std.specs.Str.Parse.{AllDigits, digits_value}
+use Rattle.std.proofs.Math.Seq.{get_or-append_seam}
+use Rattle.std.proofs.lemmas.Bool.{and_parts}
+use Rattle.std.proofs.lemmas.Bool.Decides.{nat_tests}
+use Rattle.std.proofs.lemmas.Fmt.{decimal_is_IsNumeral}
+use Rattle.std.proofs.lemmas.List.Elements.{All-append, All-cons, All-from_get_or, All-head, All-nil, All-weaker}
+use Rattle.std.proofs.lemmas.Option.{same_Some}
+use Rattle.std.proofs.lemmas.Str.{encodes-IsAscii}
+use Rattle.std.proofs.lemmas.Str.Ascii.{IsAscii-from_all}
+use Rattle.std.proofs.lemmas.Str.Parse.{digit_at}
+use Rattle.std.proofs.NetLemmas.Alphabet.{IsDigitOrDot}
+use Rattle.idna.specs.declared.deny_list.TheConstants.AsciiDenyList.{EMPTY}
+use Rattle.idna.specs.Labels.{is_full_stop}
+use Rattle.idna.specs.Uts46.{domain_to_ascii}
+use Rattle.idna.proofs.Computing.{idna}
+use Rattle.idna.proofs.Uts46Lemmas.{domain_to_ascii-alphanumeric}
+use Rattle.percent_encoding.specs.Percent.{percent_decode}
+use Rattle.uv_model.specs.declared.profile.Profile.{Profile}
+use Rattle.uv_model.specs.declared.profile.Profile.TheVariants.{Standard, Wide, Parser}
+use Rattle.uv_model.specs.Ascii.{full_stop, left_bracket}
+use Rattle.uv_model.specs.Hosts.Address.{IsIpv4}
+use Rattle.uv_model.specs.Hosts.Domain.{IsParserForm, ends_in_number, last_label, parser_form}
+use Rattle.uv_model.specs.Hosts.Numbers.{AreBytes, AreNumbers, IsIpv4Text, IsNumbersText, numbers_value}
+use Rattle.uv_model.specs.Hosts.OpaqueHost.{starts_with_bracket}
+use Rattle.uv_model.proofs.Addresses.AddressSizes.{ipv4_small}
+use Rattle.uv_model.proofs.Addresses.AddressUniqueness.{ipv4_no_bracket, ipv4_unique}
+use Rattle.uv_model.proofs.Hosts.DomainLemmas.{parser_form-is}
+use Rattle.uv_model.proofs.Hosts.Ipv4Domains.{ascii_byte, digits_alone, ends_in_number-decimal}
+use Rattle.uv_model.proofs.Hosts.LastLabelLemmas.{HasNoStop, after_last_none, from_end, without_root-other}
+
+-- ---- the text of numbers
+
+-- the text of the numbers behind the first, each behind a full stop
+abbrev pub behind_text : List ℕ → List ℕ
+behind_text [] = []
+behind_text (n ∷ rest) = full_stop ∷ (decimal n ++ behind_text rest)
+
+-- numbers with a full stop between each two
+pub numbers_joined : (n : ℕ) (rest : List ℕ)
+    → join_with_byte full_stop (map decimal (n ∷ rest)) ≡ decimal n ++ behind_text rest
+numbers_joined n [] = sym (append-nil (decimal n))
+numbers_joined n (next ∷ rest) = ap (λ xs. decimal n ++ (full_stop ∷ xs)) (numbers_joined next rest)
+
+-- the first number of a text of numbers, and the others
+pub record HasFirstNumber (numbers text : List ℕ) : Type 0 where
+  pub first : ℕ
+  pub rest : List ℕ
+  pub split : numbers ≡ first ∷ rest
+  pub spelled : text ≡ decimal first ++ behind_text rest
+  pub small : first < 256
+  pub fit : AreBytes rest
+
+-- there is one
+pub first_number : (numbers text : List ℕ) → AreNumbers numbers text → HasFirstNumber numbers text
+first_number [] text is = absurd (let some = is.some in omega (arith, some))
+first_number (n ∷ rest) text is =
+    let fit = is.fit in
+    record {
+      first = n;
+      rest = rest;
+      split = refl;
+      spelled = is.spelled ∙ numbers_joined n rest;
+      small = fit.0;
+      fit = fit.1;
+    }
+
+-- an IPv4 text is four numbers of its value
+pub four_numbers : (text : List ℕ) (value : ℕ) → IsIpv4 text value
+    → (a b c d : ℕ) × AreNumbers (a ∷ b ∷ c ∷ d ∷ []) text × (value ≡ numbers_value (a ∷ b ∷ c ∷ d ∷ []))
+four_numbers text value (a, b, c, d, is, e) =
+    let spelled : text ≡ join_with_byte full_stop (map decimal (a ∷ b ∷ c ∷ d ∷ []))
+    = is.spelled ∙ simp append_assoc in
+    let are : AreNumbers (a ∷ b ∷ c ∷ d ∷ []) text
+    = record {
+      some = lit< tt;
+      few = lit≤ tt;
+      fit = (is.fit.0, (is.fit.1, (is.fit.2, (is.fit.3, tt))));
+      spelled = spelled;
+    } in
+    (a, b, c, d, are, omega (arith, e))
+
+-- so it is a text of numbers
+pub ipv4_numbers : (text : List ℕ) (value : ℕ) → IsIpv4 text value → IsNumbersText text value
+ipv4_numbers text value is =
+    let (a, b, c, d, are, valued) = four_numbers text value is in
+    (a ∷ b ∷ c ∷ d ∷ [], are, valued)
+
+-- ---- its code points
+
+-- a number is written with digits
+simple_decimal : (n : ℕ) → n < 256 → All IsDigitOrDot (decimal n)
+simple_decimal n small =
+    let (numeral, value) = decimal_is_IsNumeral n (omega arith) in
+    All-from_get_or IsDigitOrDot (decimal n) 0 (λ k within. inl (digit_at (decimal n) k numeral.1 within))
+
+-- and those behind it with full stops too
+simple_behind : (rest : List ℕ) → AreBytes rest → All IsDigitOrDot (behind_text rest)
+simple_behind [] fit = All-nil IsDigitOrDot
+simple_behind (n ∷ rest) fit =
+    All-cons IsDigitOrDot full_stop (decimal n ++ behind_text rest) (inr refl)
+    (All-append IsDigitOrDot (decimal n) (behind_text rest) (simple_decimal n fit.0) (simple_behind rest fit.1))
+
+-- a text of numbers is digits and full stops
+pub simple_numbers : (numbers text : List ℕ) → AreNumbers numbers text → All IsDigitOrDot text
+simple_numbers numbers text are =
+    let is = first_number numbers text are in
+    rw is.spelled
+    (All-append IsDigitOrDot (decimal is.first) (behind_text is.rest) (simple_decimal is.first is.small)
+    (simple_behind is.rest is.fit))
+
+-- it isn't empty
+pub numbers_not_empty : (numbers text : List ℕ) → AreNumbers numbers text → text ≢ []
+numbers_not_empty numbers text are nothing =
+    let is = first_number numbers text are in
+    let (numeral, value) = decimal_is_IsNumeral is.first (let small = is.small in omega (arith, small)) in
+    let lengths = length-append (decimal is.first) (behind_text is.rest) in
+    omega (arith, ap length (sym nothing ∙ is.spelled), lengths, numeral.0)
+
+-- a text of digits and full stops doesn't begin with `[`
+pub simple_no_bracket : (text : List ℕ) → All IsDigitOrDot text → starts_with_bracket text ≡ false
+simple_no_bracket [] all = refl
+simple_no_bracket (c ∷ rest) all = first (All-head IsDigitOrDot c rest all)
+  where
+    first : IsDigitOrDot c → (c == left_bracket) ≡ false
+    first (inl digit) = ne_eqb c left_bracket (λ e. absurd (omega (arith, digit.0, digit.1)))
+    first (inr dot) = rw dot refl
+
+-- nor does one of numbers
+pub numbers_no_bracket : (text : List ℕ) (value : ℕ) → IsNumbersText text value → starts_with_bracket text ≡ false
+numbers_no_bracket text value (numbers, are, valued) = simple_no_bracket text (simple_numbers numbers text are)
+
+-- ---- its form
+
+-- a digit or a full stop stays as it is in ToASCII
+simple_byte : (b : ℕ) → IsDigitOrDot b → (is_ascii_lowercase b || is_ascii_digit b || is_full_stop b) ≡ true
+simple_byte b (inl digit) = let low = digit.0 in let high = digit.1 in grind (arith, nat_tests)
+simple_byte b (inr dot) = rw dot refl
+
+-- the parser's form of digits and full stops is the text
+pub parser_form-simple : (text : List ℕ) → All IsDigitOrDot text → parser_form text ≡ Some text
+parser_form-simple text simple =
+    let ascii = IsAscii-from_all text (All-weaker IsDigitOrDot (λ x. x < 128) ascii_byte text simple) in
+    let IsPlain : ℕ → Type 0 = λ x. (is_ascii_lowercase x || is_ascii_digit x || is_full_stop x) ≡ true in
+    parser_form-is text ∙ ap (domain_to_ascii EMPTY) (encodes-IsAscii text ascii)
+    ∙ domain_to_ascii-alphanumeric EMPTY text (All-weaker IsDigitOrDot IsPlain simple_byte text simple)
+
+-- and so is that of numbers
+pub parser_form-numbers : (text : List ℕ) (value : ℕ) → IsNumbersText text value → parser_form text ≡ Some text
+parser_form-numbers text value (numbers, are, valued) = parser_form-simple text (simple_numbers numbers text are)
+
+-- a digit is no full stop
+not_stop : (c : ℕ) → is_ascii_digit c ≡ true → is_full_stop c ≡ false
+not_stop c digit = grind (arith, nat_tests)
+
+-- digits have no full stop
+digits_no_stop : (digits : List ℕ) → list_all is_ascii_digit digits ≡ true → HasNoStop digits
+digits_no_stop [] each = All-nil (λ c. is_full_stop c ≡ false)
+digits_no_stop (c ∷ rest) each =
+    let parts = and_parts (is_ascii_digit c) (list_all is_ascii_digit rest) each in
+    All-cons (λ b. is_full_stop b ≡ false) c rest (not_stop c parts.0) (digits_no_stop rest parts.1)
+
+-- a text without a full stop is its last label
+last_label-alone : (label : List ℕ) → HasNoStop label → last_label label ≡ label
+last_label-alone label none =
+    elim (from_end label) [
+      | inl empty ↦ rw empty refl
+      | inr (others, c, shown) ↦
+          let within : length others < length label =
+          omega (arith, ap length shown, length-append others (c ∷ [])) in
+          let at : get_or label (length others) 0 ≡ c = rw shown (get_or-append_seam others c [] 0) in
+          let other : is_full_stop c ≡ false = rw at at (none (length others) 0 within) in
+          rw (shown, without_root-other others c other, ← shown) (after_last_none label none)
+    ]
+
+-- one number ends in a number
+ends_in_number-one : (n : ℕ) → n < 256 → ends_in_number (decimal n) ≡ true
+unfolding ends_in_number
+ends_in_number-one n small =
+    let digits = digits_alone n small in
+    let none = digits_no_stop (decimal n) (and_parts _ (list_all is_ascii_digit (decimal n)) digits).1 in
+    rw (last_label-alone (decimal n) none, digits) refl
+
+-- so does a text behind which numbers follow
+ends_in_number-more : (prefix : List ℕ) (n : ℕ) (rest : List ℕ) → n < 256 → AreBytes rest
+    → ends_in_number (prefix ++ full_stop ∷ (decimal n ++ behind_text rest)) ≡ true
+ends_in_number-more prefix n [] small fit =
+    ap (λ xs. ends_in_number (prefix ++ full_stop ∷ xs)) (append-nil (decimal n))
+    ∙ ends_in_number-decimal prefix n small
+ends_in_number-more prefix n (next ∷ rest) small fit =
+    let behind = full_stop ∷ (decimal next ++ behind_text rest) in
+    ap ends_in_number (sym (append_assoc prefix (full_stop ∷ decimal n) behind))
+    ∙ ends_in_number-more (prefix ++ full_stop ∷ decimal n) next rest fit.0 fit.1
+
+-- the numbers of a text end it in a number
+ends_in_number-first : (n : ℕ) (rest : List ℕ) → n < 256 → AreBytes rest
+    → ends_in_number (decimal n ++ behind_text rest) ≡ true
+ends_in_number-first n [] small fit = ap ends_in_number (append-nil (decimal n)) ∙ ends_in_number-one n small
+ends_in_number-first n (next ∷ rest) small fit = ends_in_number-more (decimal n) next rest fit.0 fit.1
+
+-- a text of numbers ends in a number
+pub ends_in_number-numbers : (text : List ℕ) (value : ℕ) → IsNumbersText text value → ends_in_number text ≡ true
+ends_in_number-numbers text value (numbers, are, valued) =
+    let is = first_number numbers text are in
+    ap ends_in_number is.spelled ∙ ends_in_number-first is.first is.rest is.small is.fit
+
+-- ---- one value
+
+-- no digit stands at the text's start
+abbrev HasNoDigitFirst : List ℕ → Type 0
+HasNoDigitFirst text = 10 ≤ digit_value (get_or text 0 0)
+
+-- what follows a number begins with no digit
+no_digit : (rest : List ℕ) → HasNoDigitFirst (behind_text rest)
+no_digit [] = lit≤ tt
+no_digit (n ∷ rest) = lit≤ tt
+
+-- digits end where no digit follows
+digits_end : (xs ys r s : List ℕ) → AllDigits 10 xs → AllDigits 10 ys → HasNoDigitFirst r → HasNoDigitFirst s
+    → xs ++ r ≡ ys ++ s → (xs ≡ ys) × (r ≡ s)
+digits_end [] [] r s digits digits' none none' same = (refl, same)
+digits_end [] (y ∷ ys) r s digits digits' none none' same = absurd (omega (arith, rw same at none, digits'.0))
+digits_end (x ∷ xs) [] r s digits digits' none none' same = absurd (omega (arith, rw (← same) at none', digits.0))
+digits_end (x ∷ xs) (y ∷ ys) r s digits digits' none none' same =
+    let first : x ≡ y = cc in
+    let behind : xs ++ r ≡ ys ++ s = cc in
+    let (others, rest) = digits_end xs ys r s digits.1 digits'.1 none none' behind in
+    (cc, rest)
+
+-- a number has one value
+decimal_unique : (a b : ℕ) → a < 256 → b < 256 → decimal a ≡ decimal b → a ≡ b
+decimal_unique a b small small' same =
+    let (numeral, value) = decimal_is_IsNumeral a (omega arith) in
+    let (numeral', value') = decimal_is_IsNumeral b (omega arith) in
+    sym value ∙ ap (digits_value 10) same ∙ value'
+
+-- a number ends where the next begins
+first_unique : (a b : ℕ) (xs ys : List ℕ) → a < 256 → b < 256
+    → decimal a ++ behind_text xs ≡ decimal b ++ behind_text ys → (a ≡ b) × (behind_text xs ≡ behind_text ys)
+first_unique a b xs ys small small' same =
+    let (numeral, value) = decimal_is_IsNumeral a (omega arith) in
+    let (numeral', value') = decimal_is_IsNumeral b (omega arith) in
+    let (digits, rest) =
+    digits_end (decimal a) (decimal b) (behind_text xs) (behind_text ys) numeral.1 numeral'.1 (no_digit xs)
+    (no_digit ys) same in
+    (decimal_unique a b small small' digits, rest)
+
+-- the numbers behind the first are unique
+behind_unique : (xs ys : List ℕ) → AreBytes xs → AreBytes ys → behind_text xs ≡ behind_text ys → xs ≡ ys
+behind_unique [] [] fit fit' same = refl
+behind_unique [] (y ∷ ys) fit fit' same = absurd cc
+behind_unique (x ∷ xs) [] fit fit' same = absurd cc
+behind_unique (x ∷ xs) (y ∷ ys) fit fit' same =
+    let behind : decimal x ++ behind_text xs ≡ decimal y ++ behind_text ys = cc in
+    let (first, rest) = first_unique x y xs ys fit.0 fit'.0 behind in
+    let others = behind_unique xs ys fit.1 fit'.1 rest in
+    cc
+
+-- the numbers of a text are unique
+pub numbers_unique : (text xs ys : List ℕ) → AreNumbers xs text → AreNumbers ys text → xs ≡ ys
+numbers_unique text xs ys are are' =
+    let is = first_number xs text are in
+    let is' = first_number ys text are' in
+    let (first, rest) =
+    first_unique is.first is'.first is.rest is'.rest is.small is'.small (sym is.spelled ∙ is'.spelled) in
+    let others = behind_unique is.rest is'.rest is.fit is'.fit rest in
+    is.split ∙ (ap (λ n. n ∷ is.rest) first ∙ ap (λ ns. is'.first ∷ ns) others) ∙ sym is'.split
+
+-- so the text has one value
+pub numbers_text_unique : (text : List ℕ) (value other : ℕ) → IsNumbersText text value → IsNumbersText text other
+    → value ≡ other
+numbers_text_unique text value other (xs, are, valued) (ys, are', valued') =
+    valued ∙ ap numbers_value (numbers_unique text xs ys are are') ∙ sym valued'
+
+-- ---- its size
+
+-- the value of one to four numbers has 32 bits
+pub numbers_small : (numbers : List ℕ) → AreBytes numbers → length numbers ≤ 4 → numbers_value numbers < 2 ^ 32
+numbers_small [] fit few = omega arith
+numbers_small (a ∷ []) (first, none) few = omega (arith, first)
+numbers_small (a ∷ b ∷ []) (first, (second, none)) few = omega (arith, first, second)
+numbers_small (a ∷ b ∷ c ∷ []) (first, (second, (third, none))) few = omega (arith, first, second, third)
+numbers_small (a ∷ b ∷ c ∷ d ∷ []) (first, (second, (third, (fourth, none)))) few =
+    omega (arith, first, second, third, fourth)
+numbers_small (a ∷ b ∷ c ∷ d ∷ e ∷ rest) fit few = absurd (omega (arith, few))
+
+-- and so has that of their text
+pub numbers_text_small : (text : List ℕ) (value : ℕ) → IsNumbersText text value → value < 2 ^ 32
+numbers_text_small text value (numbers, are, valued) = rw valued (numbers_small numbers are.fit are.few)
+
+-- ---- by the profile
+
+-- the empty text has no form of the parser's profile
+pub nothing_formed : (form : List ℕ) → IsParserForm [] form → ⊥
+unfolding chars percent_decode encode_utf8 parser_form idna
+nothing_formed form is =
+    let decoded : is.decoded ≡ [] = is.decodes.spelled in
+    let formed : Some [] ≡ Some form = rw decoded at is.formed in
+    is.some (sym (same_Some [] form formed))
+
+-- a text has one form of the parser's profile
+pub parser_form_unique : (text a b : List ℕ) → IsParserForm text a → IsParserForm text b → a ≡ b
+parser_form_unique text a b is is' =
+    let decoded : is.decoded ≡ is'.decoded = is.decodes.spelled ∙ sym is'.decodes.spelled in
+    same_Some a b (sym is.formed ∙ ap parser_form decoded ∙ is'.formed)
+
+-- the text of an IPv4 address isn't empty
+pub ipv4_text_not_empty : (profile : Profile) (value : ℕ) → IsIpv4Text profile [] value → ⊥
+ipv4_text_not_empty Standard value is =
+    let (numbers, are, valued) = ipv4_numbers [] value is in
+    numbers_not_empty numbers [] are refl
+ipv4_text_not_empty Wide value is =
+    let (numbers, are, valued) = ipv4_numbers [] value is in
+    numbers_not_empty numbers [] are refl
+ipv4_text_not_empty Parser value (form, (plain, is), number, numbers) = nothing_formed form is
+
+-- it doesn't begin with `[`
+pub ipv4_text_no_bracket : (profile : Profile) (text : List ℕ) (value : ℕ) → IsIpv4Text profile text value
+    → starts_with_bracket text ≡ false
+ipv4_text_no_bracket Standard text value is = ipv4_no_bracket text value is
+ipv4_text_no_bracket Wide text value is = ipv4_no_bracket text value is
+ipv4_text_no_bracket Parser text value (form, (plain, is), number, numbers) = plain
+
+-- it has one value
+pub ipv4_text_unique : (profile : Profile) (text : List ℕ) (value other : ℕ) → IsIpv4Text profile text value
+    → IsIpv4Text profile text other → value ≡ other
+ipv4_text_unique Standard text value other is is' = ipv4_unique text value other is is'
+ipv4_text_unique Wide text value other is is' = ipv4_unique text value other is is'
+ipv4_text_unique Parser text value other (a, (plain, is), number, numbers) (b, (plain', is'), number', numbers') =
+    let same : a ≡ b = parser_form_unique text a b is is' in
+    numbers_text_unique b value other (rw same at numbers) numbers'
+
+-- its value has 32 bits
+pub ipv4_text_small : (profile : Profile) (text : List ℕ) (value : ℕ) → IsIpv4Text profile text value
+    → value < 2 ^ 32
+ipv4_text_small Standard text value is = ipv4_small text value is
+ipv4_text_small Wide text value is = ipv4_small text value is
+ipv4_text_small Parser text value (form, (plain, is), number, numbers) = numbers_text_small form value numbers
