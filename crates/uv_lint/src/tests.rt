@@ -100,7 +100,7 @@ fn base_of(alloc: Global) -> Result<Option<Record>, Fail> {
         &path,
         None,
         None,
-        Profile::Wide,
+        Profile::Parser,
     ) {
         return Ok(None);
     }

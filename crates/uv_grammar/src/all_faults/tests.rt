@@ -86,7 +86,7 @@ fn opaque_base(rt: HostRuntime) -> Result<Option<Record>, AllocError> {
         &path,
         None,
         None,
-        Profile::Standard,
+        Profile::Parser,
     ) {
         return Ok(None);
     }

@@ -33,7 +33,7 @@ fn sample(alloc: Global) -> Result<Option<Record>, Fail> {
         &path,
         some_query,
         some_fragment,
-        Profile::Wide,
+        Profile::Parser,
     ) {
         return Ok(None);
     }
@@ -100,7 +100,7 @@ fn worked(alloc: Global) -> Result<Option<Record>, Fail> {
         &path,
         some_query,
         some_fragment,
-        Profile::Wide,
+        Profile::Parser,
     ) {
         return Ok(None);
     }

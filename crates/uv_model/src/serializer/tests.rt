@@ -52,7 +52,7 @@ fn text_of(
         &path,
         query,
         fragment,
-        Profile::Wide,
+        Profile::Parser,
     ) {
         return Ok(None);
     }
@@ -70,7 +70,7 @@ fn text_of(
 
 fn is(rt: &impl Abort, got: Option<String>, want: &str) {
     match got {
-        Some(text) => assert_eq!(rt; text.as_str(), want),
+        Some(text) => assert!(rt; text.as_str() == want, "at {want}"),
         None => assert!(rt; false, "no text for {want}"),
     }
 }

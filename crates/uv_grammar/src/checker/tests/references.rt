@@ -50,7 +50,7 @@ fn made(
         &path,
         query,
         None,
-        Profile::Wide,
+        Profile::Parser,
     ) {
         return Ok(None);
     }
