@@ -7,6 +7,8 @@ pub mod NamePrefixLemmas
 pub mod NumberTextLemmas
 pub mod OpaqueHostLemmas
 pub mod OpaqueHostScan
+pub mod OwnFormLemmas
 pub mod ParserFormLemmas
 pub mod PlainLemmas
+pub mod StrictLemmas
 pub mod WordEndLemmas

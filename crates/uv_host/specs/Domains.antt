@@ -32,7 +32,17 @@ is_simple b = is_ascii_lowercase b || (is_ascii_digit b || (b == full_stop))
 abbrev pub is_plain_name : List ℕ → Bool
 is_plain_name text = list_all (is_form_code_point Standard) text && list_all (passes_hyphens Check) (labels_of text)
 
--- what a plain name is as a domain by the profile, where it is its own form: the answer on its text and these bytes
+-- lower-case letters, digits and the marks of a domain by the profile, and no label begins with `xn--`
+abbrev pub is_lower_name : Profile → List ℕ → Bool
+is_lower_name profile name =
+    list_all (is_form_code_point profile) name && list_all (passes_hyphens Allow) (labels_of name)
+
+-- the profile takes the hyphens of a name as they stand: the strict settings of ToASCII do by the standard profile
+abbrev pub takes_hyphens : Profile → List ℕ → Bool
+takes_hyphens Standard name = list_all (passes_hyphens Check) (labels_of name)
+takes_hyphens _ name = true
+
+-- what a name is as a domain by the profile, where it is its own form: the answer on its text and these bytes
 abbrev pub IsPlainAnswer : Profile → List ℕ → List ℕ → PlainAnswer → Type 0
 IsPlainAnswer profile text bytes plain.Domain = IsDomain profile text bytes
 IsPlainAnswer profile text bytes plain.Number = IsNumberText profile text

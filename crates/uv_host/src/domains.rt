@@ -1,7 +1,7 @@
 //! Domains of special URLs (URL Standard, sections 3.3 to 3.5; UTS #46, section 4).
 ghost use Rattle.std.specs.Cow.{cow_str_bytes};
 ghost use Rattle.std.specs.Prelude.{chars, encode_utf8_all, false, IfOk, IfSome, IsSome, IsTrue, List, MatchOption};
-ghost use Rattle.std.specs.Prelude.{option_map, slice_index, string_bytes, true, ◌↔◌, ◌≡◌, ◌==◌, ℕ};
+ghost use Rattle.std.specs.Prelude.{option_map, slice_index, string_bytes, true, ◌≡◌, ◌==◌, ℕ};
 ghost use Rattle.std.specs.Str.{IsAscii};
 ghost use Rattle.idna.specs.Uts46.{to_ascii};
 ghost use Rattle.std.specs.List.{list_all};
@@ -9,7 +9,7 @@ ghost use Rattle.idna.specs.Display.{IsPlain};
 ghost use Rattle.idna.specs.Labels.{labels_of};
 ghost use Rattle.idna.specs.Validity.{passes_hyphens};
 ghost use Rattle.uv_host.specs.Domains.{HasFormByLengths, IsAnswer, IsOwnForm, IsPlainAnswer, fits_lengths};
-ghost use Rattle.uv_host.specs.Domains.{is_plain_name, is_simple};
+ghost use Rattle.uv_host.specs.Domains.{is_lower_name, is_plain_name, is_simple, takes_hyphens};
 ghost use Rattle.uv_model.specs.Hosts.Domain as spec;
 ghost use Rattle.uv_model.specs.declared.profile.Profile.{Profile};
 ghost use Rattle.uv_model.specs.WrittenProfiles.{IsWritten};
@@ -153,27 +153,65 @@ fn judge_form(form: String, profile: Profile) -> DomainAnswer
     }
 }
 
-/// What a plain name is as a domain. A valid one is its own ASCII form.
+/// What a name is as a domain, where that is known without ToASCII. A valid one is its own ASCII form.
 #[derive(Clone, Copy, PartialEq, Eq)]
 pub enum PlainAnswer {
     /// A valid domain.
     Domain,
     /// Not a valid domain, and only since it ends in a number.
     Number,
-    /// Not a valid domain, since its lengths are wrong: by the parser's profile, since it is empty.
+    /// Not a valid domain, since its lengths or, by the standard profile, its hyphens are wrong: by the parser's
+    /// profile, since it is empty.
     Not,
 }
 
-/// What a plain name is as a domain of the profile (URL Standard, section 3.3): lower-case letters, digits, full stops,
-/// and hyphens where ToASCII with its strict settings takes them. `None` for every other text. No memory is taken.
+/// What a name is as a domain of the profile (URL Standard, section 3.3), where that is known without ToASCII: a name
+/// of lower-case letters, digits and the marks of a domain, no label of which begins with `xn--`. It is its own form,
+/// but by the standard profile it has none where the strict settings of ToASCII refuse its hyphens. `None` for every
+/// other text. No memory is taken.
 pub fn plain_answer(name: &str, profile: Profile) -> Option<PlainAnswer>
     ensures answer { IfSome result (IsPlainAnswer profile (chars name.now) name.now) }
     ensures plain { is_plain_name (chars name.now) ≡ true → IsSome result }
 {
-    if is_plain(name.as_bytes()) {
-        Some(judge_plain(name, profile))
+    let bytes = name.as_bytes();
+    if is_simple(bytes) {
+        return Some(judge_own(name, profile));
+    }
+    if !is_lower_name(bytes, profile) {
+        return None;
+    }
+    if takes_hyphens(bytes, profile) {
+        Some(judge_own(name, profile))
     } else {
-        None
+        Some(PlainAnswer::Not)
+    }
+}
+
+/// Lower-case letters, digits and the marks of a domain, with no label that begins with `xn--`.
+fn is_lower_name(name: &[u8], profile: Profile) -> bool
+    ensures { result ≡ is_lower_name profile name.now }
+{
+    has_form_bytes(name, profile) && is_without_punycode(name)
+}
+
+/// Lower-case letters, digits and the marks of a domain: a walk for each profile, which asks for it once.
+fn has_form_bytes(name: &[u8], profile: Profile) -> bool
+    ensures { result ≡ list_all (spec.is_form_code_point profile) name.now }
+{
+    match profile {
+        Profile::Standard => is_form(name, Profile::Standard),
+        Profile::Wide => is_form(name, Profile::Wide),
+        Profile::Parser => is_form(name, Profile::Parser),
+    }
+}
+
+/// Whether the profile takes the hyphens of a name as they stand, where no label begins with `xn--`.
+fn takes_hyphens(name: &[u8], profile: Profile) -> bool
+    ensures { result ≡ takes_hyphens profile name.now }
+{
+    match profile {
+        Profile::Standard => has_placed_hyphens(name),
+        Profile::Wide | Profile::Parser => true,
     }
 }
 
@@ -200,6 +238,7 @@ fn is_simple_byte(b: u8) -> bool
 }
 
 /// Lower-case letters, digits and the marks of a domain.
+#[inline(always)]
 fn is_form(name: &[u8], profile: Profile) -> bool
     ensures { result ≡ list_all (spec.is_form_code_point profile) name.now }
 {
@@ -234,9 +273,9 @@ fn is_hyphen_at(label: &[u8], at: usize) -> bool
     at < label.len() && label[at] == b'-'
 }
 
-/// The answer on a plain name.
-fn judge_plain(name: &str, profile: Profile) -> PlainAnswer
-    requires { IsPlain AsciiDenyList.STD3 Hyphens.Check name.now }
+/// The answer on a name that is its own form but for its lengths.
+fn judge_own(name: &str, profile: Profile) -> PlainAnswer
+    requires { HasFormByLengths profile (chars name.now) name.now }
     ensures { IsPlainAnswer profile (chars name.now) name.now result }
 {
     if !fits_lengths(name, profile) {
@@ -253,7 +292,7 @@ fn plain_domain(alloc: Global, name: &str, profile: Profile) -> Result<DomainAns
     requires { IsPlain AsciiDenyList.STD3 Hyphens.Check name.now }
     ensures { IfOk result (IsAnswer profile (chars name.now)) }
 {
-    match judge_plain(name, profile) {
+    match judge_own(name, profile) {
         PlainAnswer::Domain => Ok(DomainAnswer::Ascii(String::from_str(alloc, name)?)),
         PlainAnswer::Number => Ok(DomainAnswer::Number),
         PlainAnswer::Not => Ok(DomainAnswer::Not),
@@ -291,7 +330,7 @@ fn form_of(alloc: Global, text: &str, profile: Profile) -> Result<Option<CowStr<
     }
 }
 
-/// The form that the strict settings and those of the URL parser give, if there is one with the lengths.
+/// The form that the strict settings give, if there is one with the lengths: those of the URL parser then give the same.
 fn standard_form(alloc: Global, text: &str) -> Result<Option<CowStr<'_>>, AllocError>
     requires { spec.has_permitted Profile.Standard (chars text.now) ≡ true }
     ensures { IfOk result (λ answer. MatchOption answer (spec.HasNoForm Profile.Standard (chars text.now))
@@ -300,13 +339,7 @@ fn standard_form(alloc: Global, text: &str) -> Result<Option<CowStr<'_>>, AllocE
     let Some(form) = ascii_form(alloc, text, AsciiDenyList::STD3, Hyphens::Check)? else {
         return Ok(None);
     };
-    if !has_lengths(form.as_str()) {
-        return Ok(None);
-    }
-    let Some(parsed) = ascii_form(alloc, text, AsciiDenyList::EMPTY, Hyphens::Allow)? else {
-        return Ok(None);
-    };
-    if is_same(form.as_str(), parsed.as_str()) {
+    if has_lengths(form.as_str()) {
         Ok(Some(form))
     } else {
         Ok(None)
@@ -372,12 +405,6 @@ pub(crate) fn is_number(form: &str) -> bool
     ensures { result ≡ spec.ends_in_number form.now }
 {
     ends_in_number(form)
-}
-
-fn is_same(a: &str, b: &str) -> bool
-    ensures { IsTrue result ↔ (a.now ≡ b.now) }
-{
-    a == b
 }
 
 #[cfg(test)]

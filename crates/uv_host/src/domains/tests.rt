@@ -294,6 +294,36 @@ fn counts_code_points(rt: HostRuntime) -> Result<(), AllocError> {
     )
 }
 
+#[test]
+fn answers_on_names_without_toascii(rt: HostRuntime) {
+    for (name, profile, answer) in [
+        // UTS #46, section 4.1: hyphens in the third and fourth place, and at an edge of a label
+        ("ab--c", Profile::Standard, Some(PlainAnswer::Not)),
+        ("a.-b", Profile::Standard, Some(PlainAnswer::Not)),
+        ("a-.b", Profile::Standard, Some(PlainAnswer::Not)),
+        ("a--b", Profile::Standard, Some(PlainAnswer::Domain)),
+        ("abc--d", Profile::Standard, Some(PlainAnswer::Domain)),
+        ("ab--c", Profile::Wide, Some(PlainAnswer::Domain)),
+        ("ab--c.1", Profile::Wide, Some(PlainAnswer::Number)),
+        ("-", Profile::Parser, Some(PlainAnswer::Domain)),
+        // the code points of a form by each profile
+        ("a_b", Profile::Standard, None),
+        ("a_b", Profile::Wide, Some(PlainAnswer::Domain)),
+        ("a_b.1", Profile::Wide, Some(PlainAnswer::Number)),
+        ("a..b_", Profile::Wide, Some(PlainAnswer::Not)),
+        ("a..b_", Profile::Parser, Some(PlainAnswer::Domain)),
+        ("a+b", Profile::Wide, None),
+        ("a+b", Profile::Parser, Some(PlainAnswer::Domain)),
+        // what ToASCII has to be asked for
+        ("Ab--c", Profile::Standard, None),
+        ("xn--a.ab--c", Profile::Standard, None),
+        ("a.xn--bcher-kva", Profile::Wide, None),
+        ("\u{E9}", Profile::Parser, None),
+    ] {
+        assert!(rt; plain_answer(name, profile) == answer, "{name}");
+    }
+}
+
 // The size of a block to ask for behind one that was refused.
 fn smaller(size: usize) -> usize {
     if size > 4096 {
