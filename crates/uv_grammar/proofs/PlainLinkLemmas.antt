@@ -1,46 +1,53 @@
--- A link of plain parts is valid with them.
+-- A link of plain parts is valid with them, and a text with a plain start is judged by what stands behind that.
 use Rattle.std.proofs.Common.{◌≡◌, ◌≢◌, ℕ, Bool, true, false, ◌==◌, List, [], ◌∷◌, ◌++◌, Option, Some, None, refl, sym, ap}
-use Rattle.std.proofs.Common.{◌∙◌, subst, inl, inr, arith, append_assoc, append-nil}
+use Rattle.std.proofs.Common.{◌∙◌, ◌<◌, ◌^◌, ◌||◌, length, subst, inl, inr, arith, append_assoc, append-nil}
 use Rattle.std.specs.Char.{is_ascii_digit}
 use Rattle.std.specs.List.{list_all}
-use Rattle.std.specs.Str.{chars}
+use Rattle.std.specs.Str.{chars, IsUtf8}
 use Rattle.std.proofs.lemmas.Bool.{and_parts, cases_Bool, false≢true}
 use Rattle.std.proofs.lemmas.Bool.Decides.{nat_tests}
 use Rattle.std.proofs.lemmas.List.Sums.{list_all-from_AllPass}
 use Rattle.std.proofs.lemmas.Option.{none-some}
-use Rattle.std.proofs.lemmas.Str.{chars-IsAscii}
+use Rattle.std.proofs.lemmas.Str.{chars-IsAscii, chars-nil}
 use Rattle.uv_model.specs.declared.host.Host.TheVariants.{Domain}
 use Rattle.uv_model.specs.declared.profile.Profile.{Profile}
 use Rattle.uv_model.specs.declared.profile.Profile.TheVariants.{Standard, Wide, Parser}
+use Rattle.uv_model.specs.declared.rule.Refusal.{Refusal}
 use Rattle.uv_model.specs.declared.rule.Rule.{Rule}
 use Rattle.uv_model.specs.declared.rule.Rule.TheVariants.{NoScheme, OpaqueBase, TwoSlashes, FirstSegmentEmpty}
-use Rattle.uv_model.specs.declared.rule.Rule.TheVariants.{DriveAfterHost}
+use Rattle.uv_model.specs.declared.rule.Rule.TheVariants.{DriveAfterHost, HostMissing}
 use Rattle.uv_model.specs.declared.scheme.Class.TheVariants.{Special}
 use Rattle.uv_model.specs.Ascii.{slash, colon, question_mark, number_sign, left_bracket, right_bracket}
 use Rattle.uv_model.specs.Valid.{MayBePortText}
 use Rattle.uv_model.specs.Hosts.StoppedHost.{is_stopped}
-use Rattle.uv_model.specs.Violations.Violation.{IsStarted, PathStartViolation, MayBeUnitViolation, has_opaque_path}
+use Rattle.uv_model.specs.Violations.Refusal.{IsLeast}
+use Rattle.uv_model.specs.Violations.Violation.{HostPartViolation, HostTextViolation, HostViolation, IsStarted}
+use Rattle.uv_model.specs.Violations.Violation.{MayBeUnitViolation, PathStartViolation, PortPartViolation}
+use Rattle.uv_model.specs.Violations.Violation.{has_opaque_path}
 use Rattle.uv_model.specs.Cut.{Cut, IsCut, EndsAtPort, IsHostCut, is_within, is_within_at_end, written_cut}
 use Rattle.uv_model.specs.Cut.{ends_at_host, is_followed, written_start, starts_with_two_slashes}
 use Rattle.uv_model.specs.Hosts.Domain.{IsDomain, is_form_code_point}
 use Rattle.uv_model.specs.Parts.{written_behind}
-use Rattle.uv_model.specs.Path.{is_without}
+use Rattle.uv_model.specs.Path.{is_without, starts_with_slash}
 use Rattle.uv_model.specs.Records.Url.{Url}
 use Rattle.uv_model.specs.Setting.{Setting, setting_of}
 use Rattle.uv_model.proofs.Hosts.DomainLemmas.{IsAscii-form}
 use Rattle.uv_model.proofs.Cuts.HostCutLemmas.{is_without-passes}
 use Rattle.uv_model.proofs.Cuts.ValidCutLemmas.{scheme_without}
-use Rattle.uv_model.proofs.Texts.MarkLemmas.{is_without-append, is_without-more, has_mark}
+use Rattle.uv_model.proofs.Texts.MarkLemmas.{is_without-append, is_without-cons, is_without-more, is_without-parts, has_mark}
 use Rattle.uv_model.proofs.Hosts.ParserForms.{wide_host_not_stopped}
+use Rattle.uv_model.proofs.Violations.FaultlessHosts.{host_text_faultless, port_faultless}
 use Rattle.uv_model.proofs.Violations.SpacedPathLemmas.{path_violation-unit}
 use Rattle.uv_model.proofs.Violations.UnitViolationLemmas.{no_violation-faultless}
 use Rattle.uv_grammar.specs.Built.{built}
-use Rattle.uv_grammar.specs.PartViolations.{BehindAuthority}
+use Rattle.uv_grammar.specs.PartViolations.{BehindAuthority, IsCountable}
 use Rattle.uv_grammar.specs.PartValues.{FitsHostPart, FitsPortPart}
-use Rattle.uv_grammar.specs.PlainLinks.{IsPlainLink, IsPortCut}
-use Rattle.uv_grammar.specs.PlainLinks.{MayBeUnits}
-use Rattle.uv_grammar.specs.Verdict.{IsAccepted}
-use Rattle.uv_grammar.proofs.VerdictLemmas.{accepted}
+use Rattle.uv_grammar.specs.declared.plain_links.PlainCut.{PlainCut}
+use Rattle.uv_grammar.specs.PlainLinks.{IsPlainCut, IsPlainLink, IsPortCut, IsStartCut, MayBeUnits, begins_behind}
+use Rattle.uv_grammar.specs.Slices.{chars_of, chars_of_option}
+use Rattle.uv_grammar.specs.Verdict.{IsAccepted, IsRefused, IsValidity}
+use Rattle.uv_grammar.proofs.VerdictLemmas.{accepted, countable, refused_behind}
+use Rattle.uv_text.proofs.SplitsLemmas.{chars-ascii_first}
 use Rattle.uv_model.proofs.Violations.ViolationsExcludeParts.{one_slash_start}
 
 -- the name of a domain that is its own form
@@ -50,7 +57,7 @@ form_each name form is = list_all-from_AllPass (is_form_code_point Standard) for
 -- ---- the cut
 
 -- the cut of a plain link
-abbrev plain_cut : List ℕ → List ℕ → Option (List ℕ) → List ℕ → Option (List ℕ) → Option (List ℕ) → Cut
+abbrev pub plain_cut : List ℕ → List ℕ → Option (List ℕ) → List ℕ → Option (List ℕ) → Option (List ℕ) → Cut
 plain_cut scheme name port_text path query fragment = record {
   scheme = Some scheme;
   host_text = Some name;
@@ -274,3 +281,184 @@ plain_accepted profile base text scheme name form port_text port path query frag
       fits_port = plain_port setting scheme name port_text port path query fragment l.rest l.after l.port_cut;
       silent = plain_silent setting text scheme name form port_text port path query fragment l.special.special l;
     })
+
+-- so it is valid
+pub plain_valid : (text : List ℕ) (cut : PlainCut) → IsPlainCut text cut → (profile : Profile) (base : Option Url)
+    → IsValidity profile base text true
+plain_valid text cut plain profile base = (
+  _,
+  (plain_accepted profile base text (chars_of cut.scheme) (chars_of cut.name) cut.name.now
+      (chars_of_option cut.port_text) cut.port (chars_of cut.path_text) (chars_of_option cut.query)
+      (chars_of_option cut.fragment) refl plain).valid,
+)
+
+-- ---- a plain start before other parts
+
+-- bytes that begin a path, a query or a fragment are a text that does
+pub begins_chars : (bytes : List ℕ) → begins_behind bytes ≡ true → begins_behind (chars bytes) ≡ true
+begins_chars [] begins = ap begins_behind chars-nil
+begins_chars (c ∷ rest) begins =
+    let small : c < 128 = grind (arith, nat_tests) in
+    ap begins_behind (chars-ascii_first c rest small) ∙ begins
+
+-- a path that isn't empty begins with `/`, where the text that it begins does with `/`, `?` or `#`
+begins_slashed : (after path more : List ℕ) → begins_behind after ≡ true → after ≡ path ++ more
+    → is_without number_sign path ≡ true → is_without question_mark path ≡ true
+    → path ≢ [] → starts_with_slash path ≡ true
+begins_slashed after [] more begins same no_number_sign no_question_mark some = absurd (some refl)
+begins_slashed after (c ∷ rest) more begins same no_number_sign no_question_mark some =
+    let first = ap begins_behind (sym same) ∙ begins in
+    let hash = (is_without-cons number_sign c rest no_number_sign).0 in
+    let mark = (is_without-cons question_mark c rest no_question_mark).0 in
+    slash_left (c == slash) (rw (hash, mark) at first)
+  where
+    slash_left : (b : Bool) → (b || (false || false)) ≡ true → b ≡ true
+    slash_left true h = refl
+    slash_left false h = h
+
+-- the texts behind a plain start, as they are cut
+pub record IsBehindCut (after path : List ℕ) (query fragment : Option (List ℕ)) : Type 0 where
+  pub prefix : List ℕ
+  pub begins : begins_behind after ≡ true
+  pub joined : after ≡ prefix ++ written_behind number_sign fragment
+  pub no_number_sign : is_without number_sign prefix ≡ true
+  pub split : prefix ≡ path ++ written_behind question_mark query
+  pub no_question_mark : is_without question_mark path ≡ true
+
+pub behind_cut : (after prefix path : List ℕ) (query fragment : Option (List ℕ)) → begins_behind after ≡ true
+    → after ≡ prefix ++ written_behind number_sign fragment → is_without number_sign prefix ≡ true
+    → prefix ≡ path ++ written_behind question_mark query → is_without question_mark path ≡ true
+    → IsBehindCut after path query fragment
+behind_cut after prefix path query fragment begins joined no_number_sign split no_question_mark = record {
+  prefix = prefix;
+  begins = begins;
+  joined = joined;
+  no_number_sign = no_number_sign;
+  split = split;
+  no_question_mark = no_question_mark;
+}
+
+behind_joined : (after path : List ℕ) (query fragment : Option (List ℕ)) → IsBehindCut after path query fragment
+    → after ≡ path ++ (written_behind question_mark query ++ written_behind number_sign fragment)
+behind_joined after path query fragment b =
+    b.joined ∙ ap (λ (s : List ℕ). s ++ written_behind number_sign fragment) b.split
+    ∙ append_assoc path (written_behind question_mark query) (written_behind number_sign fragment)
+
+start_is_cut : (base : Option Url) (text scheme name form : List ℕ) (port_text : Option (List ℕ)) (port : Option ℕ)
+    (after path : List ℕ) (query fragment : Option (List ℕ)) → name ≡ form
+    → IsStartCut text scheme name form port_text port after → IsBehindCut after path query fragment
+    → IsCut base text (plain_cut scheme name port_text path query fragment)
+start_is_cut base text scheme name form port_text port after path query fragment own l b =
+    let each : list_all (is_form_code_point Standard) name ≡ true
+    = ap (list_all (is_form_code_point Standard)) own ∙ form_each name form (l.named.domain Standard) in
+    let ported = written_behind colon port_text in
+    let asked = written_behind question_mark query in
+    let joined = behind_joined after path query fragment b in
+    let parts = is_without-parts number_sign path asked
+    (subst (λ (s : List ℕ). is_without number_sign s ≡ true) b.split b.no_number_sign) in
+    record {
+      whole =
+          l.special.joined
+          ∙ ap (λ s. scheme ++ colon ∷ slash ∷ slash ∷ s)
+          (l.named.joined ∙ ap (λ s. name ++ s) (l.port_cut.joined ∙ ap (λ s. ported ++ s) joined))
+          ∙ arranged scheme name ported path asked (written_behind number_sign fragment);
+      prefix =
+          is_without-append number_sign (written_start (plain_cut scheme name port_text path query fragment)) asked
+          (start_without number_sign scheme name ported path refl
+          (scheme_without number_sign scheme refl refl refl l.special.named)
+          (is_without-passes (is_form_code_point Standard) number_sign name refl each)
+          (port_without number_sign port_text refl refl l.port_cut.valid) parts.0)
+          parts.1;
+      start =
+          start_without question_mark scheme name ported path refl
+          (scheme_without question_mark scheme refl refl refl l.special.named)
+          (is_without-passes (is_form_code_point Standard) question_mark name refl each)
+          (port_without question_mark port_text refl refl l.port_cut.valid) b.no_question_mark;
+      scheme = l.special.named;
+      authority = (
+        is_without-append slash name ported (is_without-passes (is_form_code_point Standard) slash name refl each)
+            (port_without slash port_text refl refl l.port_cut.valid),
+        begins_slashed after path (asked ++ written_behind number_sign fragment) b.begins joined parts.0
+            b.no_question_mark,
+        subst (λ k. IsHostCut k name port_text) (sym l.special.special) (ends_at_port name port_text each),
+      );
+    }
+
+-- its host is valid
+no_host_violation : (profile : Profile) (last : Bool) (text : List ℕ) (port_text : Option (List ℕ))
+    (path_text : List ℕ) → text ≢ []
+    → ((rule : Rule) → HostTextViolation profile Special last text rule → ⊥) → (place : ℕ) (rule : Rule)
+    → HostViolation profile Special last text port_text path_text place rule → ⊥
+no_host_violation profile last text port_text path_text some none place HostMissing h = some h.0
+no_host_violation profile last text port_text path_text some none place rule h = none rule h.0
+
+start_host : (setting : Setting) (scheme name form : List ℕ) (port_text : Option (List ℕ)) (path : List ℕ)
+    (query fragment : Option (List ℕ)) → name ≡ form → setting.class ≡ Special
+    → ((profile : Profile) → IsDomain profile name form)
+    → IsLeast (HostPartViolation setting (plain_cut scheme name port_text path query fragment)) None
+start_host setting scheme name form port_text path query fragment own special is place rule h =
+    let last = ends_at_host (plain_cut scheme name port_text path query fragment) in
+    no_host_violation setting.profile last name port_text path (some_name name form own (is Standard))
+    (host_text_faultless setting.profile Special last name (Domain form)
+    (plain_not_stopped setting.profile last name form (is Wide)) (is setting.profile)) h.inner rule
+    (subst (λ k. HostViolation setting.profile k last name port_text path h.inner rule) special h.holds)
+
+-- and so is its port
+start_port : (scheme name : List ℕ) (port_text : Option (List ℕ)) (path : List ℕ) (query fragment : Option (List ℕ))
+    → MayBePortText port_text → IsLeast (PortPartViolation (plain_cut scheme name port_text path query fragment)) None
+start_port scheme name None path query fragment valid place rule h = h
+start_port scheme name (Some port_text) path query fragment valid place rule h =
+    port_faultless port_text valid h.inner rule h.holds
+
+-- a text with a plain start is refused by the least violation of what stands behind it
+pub start_refused : (profile : Profile) (base : Option Url) (text scheme name form : List ℕ)
+    (port_text : Option (List ℕ)) (port : Option ℕ) (after path : List ℕ) (query fragment : Option (List ℕ))
+    (refusal : Refusal) → chars form ≡ name → IsStartCut text scheme name form port_text port after
+    → IsBehindCut after path query fragment
+    → IsLeast (BehindAuthority (setting_of profile base (Some scheme))
+    (plain_cut scheme name port_text path query fragment)) (Some refusal)
+    → IsRefused profile base text refusal
+start_refused profile base text scheme name form port_text port after path query fragment refusal same l b least =
+    let own = own_form name form (l.named.domain Standard) same in
+    let setting = setting_of profile base (Some scheme) in
+    refused_behind profile base text (plain_cut scheme name port_text path query fragment) setting refusal
+    (start_is_cut base text scheme name form port_text port after path query fragment own l b) refl
+    (plain_started setting text scheme name port_text path query fragment)
+    (start_host setting scheme name form port_text path query fragment own l.special.special l.named.domain)
+    (start_port scheme name port_text path query fragment l.port_cut.valid) least
+
+-- and is valid where there is none
+pub start_accepted : (profile : Profile) (base : Option Url) (text scheme name form : List ℕ)
+    (port_text : Option (List ℕ)) (port : Option ℕ) (after path : List ℕ) (query fragment : Option (List ℕ))
+    → chars form ≡ name → IsStartCut text scheme name form port_text port after
+    → IsBehindCut after path query fragment
+    → IsLeast (BehindAuthority (setting_of profile base (Some scheme))
+    (plain_cut scheme name port_text path query fragment)) None
+    → IsAccepted profile base text (built (plain_cut scheme name port_text path query fragment) (Some
+    (Domain form)) port)
+start_accepted profile base text scheme name form port_text port after path query fragment same l b silent =
+    let own = own_form name form (l.named.domain Standard) same in
+    let cut = plain_cut scheme name port_text path query fragment in
+    let setting = setting_of profile base (Some scheme) in
+    accepted profile base text cut setting
+    (start_is_cut base text scheme name form port_text port after path query fragment own l b) refl
+    (plain_started setting text scheme name port_text path query fragment) (built cut (Some (Domain form)) port)
+    (record {
+      host = Some (Domain form);
+      port = port;
+      built = refl;
+      fits_host =
+          plain_host setting scheme name form port_text path query fragment own l.special.special l.named.domain;
+      fits_port = plain_port setting scheme name port_text port path query fragment l.rest after l.port_cut;
+      silent = silent;
+    })
+
+-- such a text is countable
+pub start_countable : (bytes scheme name form : List ℕ) (port_text : Option (List ℕ)) (port : Option ℕ)
+    (after path : List ℕ) (query fragment : Option (List ℕ)) → IsUtf8 bytes → length bytes < 2 ^ 64
+    → chars form ≡ name → IsStartCut (chars bytes) scheme name form port_text port after
+    → IsBehindCut after path query fragment → IsCountable (plain_cut scheme name port_text path query fragment)
+start_countable bytes scheme name form port_text port after path query fragment utf8 small same l b =
+    countable bytes (plain_cut scheme name port_text path query fragment) utf8 small
+    (start_is_cut None (chars bytes) scheme name form port_text port after path query fragment
+    (own_form name form (l.named.domain Standard) same) l b).whole

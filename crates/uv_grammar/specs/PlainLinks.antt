@@ -1,6 +1,6 @@
 -- The cuts of the links that people write, after the URL Standard, sections 3.4 and 4.3.
-use Rattle.std.specs.Prelude.{◌≡◌, ◌≢◌, ℕ, ◌≤◌, Bool, true, false, List, [], ◌∷◌, ◌++◌, length, take, drop, Option}
-use Rattle.std.specs.Prelude.{Some, None}
+use Rattle.std.specs.Prelude.{◌≡◌, ◌≢◌, ℕ, ◌≤◌, Bool, true, false, ◌||◌, ◌==◌, List, [], ◌∷◌, ◌++◌, length, take, drop}
+use Rattle.std.specs.Prelude.{Option, Some, None}
 use Rattle.std.specs.Char.{is_ascii}
 use Rattle.std.specs.List.{list_all}
 use Rattle.std.specs.Str.{chars}
@@ -15,6 +15,7 @@ use Rattle.uv_model.specs.Scheme.{default_port, is_scheme, scheme_class}
 use Rattle.uv_model.specs.Units.{is_faultless}
 use Rattle.uv_model.specs.Valid.{MayBePortText, port_given}
 use Rattle.uv_grammar.specs.declared.plain_links.PlainCut.{PlainCut}
+use Rattle.uv_grammar.specs.declared.plain_links.PlainStart.{PlainStart}
 use Rattle.uv_grammar.specs.Slices.{chars_of, chars_of_option}
 
 -- the prefix of so many bytes is ASCII
@@ -77,6 +78,20 @@ pub record IsPartCut (mark : ℕ) (text : List ℕ) (part : Option (List ℕ)) (
   pub joined : text ≡ written_behind mark part ++ rest
   pub units : MayBeUnits part
 
+-- the texts of a special scheme, a domain and a port, and what follows them
+pub record IsStartCut (text scheme name form : List ℕ) (port_text : Option (List ℕ)) (port : Option ℕ) (after : List ℕ)
+    : Type 0 where
+  pub behind : List ℕ
+  pub rest : List ℕ
+  pub special : IsSpecialCut text scheme behind
+  pub named : IsNameCut behind name form rest
+  pub port_cut : IsPortCut (default_port scheme) rest port_text port after
+
+-- the text begins a path behind an authority, a query or a fragment, or is empty
+abbrev pub begins_behind : List ℕ → Bool
+begins_behind [] = true
+begins_behind (c ∷ rest) = (c == slash) || ((c == question_mark) || (c == number_sign))
+
 -- the texts of a plain link
 pub record IsPlainLink (text scheme name form : List ℕ) (port_text : Option (List ℕ)) (port : Option ℕ) (path : List ℕ)
     (query fragment : Option (List ℕ)) : Type 0 where
@@ -97,3 +112,9 @@ abbrev pub IsPlainCut : List ℕ → PlainCut → Type 0
 IsPlainCut text cut =
     IsPlainLink text (chars_of cut.scheme) (chars_of cut.name) cut.name.now (chars_of_option cut.port_text) cut.port
     (chars_of cut.path_text) (chars_of_option cut.query) (chars_of_option cut.fragment)
+
+-- the text has this plain start
+abbrev pub IsPlainStart : List ℕ → PlainStart → Type 0
+IsPlainStart text start =
+    IsStartCut text (chars_of start.scheme) (chars_of start.name) start.name.now (chars_of_option start.port_text)
+    start.port (chars start.rest)

@@ -1,18 +1,22 @@
 //! The checker of valid URL strings.
-ghost use Rattle.std.specs.Prelude.{IfOk, IsOk, Some, option_copied};
+ghost use Rattle.std.specs.Prelude.{◌≡◌, IfOk, IsOk, Some, option_copied, true};
 ghost use Rattle.std.specs.Str.{chars};
 ghost use Rattle.uv_model.specs.Records.Url.{Url};
 ghost use Rattle.uv_grammar.specs.Bases.{IsOfKind, as_base};
 ghost use Rattle.uv_grammar.specs.NoMemory.{TakesNoMemoryAgainst};
+ghost use Rattle.uv_grammar.specs.PlainLinks.{IsPlainStart, begins_behind};
 ghost use Rattle.uv_grammar.specs.Verdict.{IsVerdict};
 
 use crate::authority::{judge_host_part, judge_port_part};
 use crate::bases::{Base, BaseKind};
 use crate::built::build;
-use crate::cut::cut_text;
+use crate::cut::{Cut, cut_text};
 use crate::judged::Judged;
+use crate::marks::split_at_mark;
 use crate::parts::Parts;
-use crate::plain_links::plain_link;
+use crate::parts_host::{AsciiText, PartsHost};
+use crate::plain_links::{PlainStart, begins_behind, plain_cut, plain_parts, plain_start};
+use crate::setting::Setting;
 use crate::start_rules::start_fault;
 use crate::unit_faults::fault_behind_authority;
 use std::alloc::{AllocError, Global};
@@ -38,9 +42,12 @@ pub fn check<'t>(
     ensures answer { IfOk result (IsVerdict profile (option_copied base.entry) (chars text.now)) }
     ensures memory { TakesNoMemoryAgainst profile (option_copied base.entry) (chars text.now) → IsOk result }
 {
-    match plain_link(text) {
-        Some(parts) => Ok(Verdict::Yes(parts)),
-        None => check_by_parts(alloc, text, Base::whole(base), profile),
+    let Some(start) = plain_start(text) else {
+        return check_by_parts(alloc, text, Base::whole(base), profile);
+    };
+    match plain_cut(&start) {
+        Some(cut) => Ok(Verdict::Yes(plain_parts(&cut))),
+        None => check_from(alloc, text, start, Base::whole(base), profile),
     }
 }
 
@@ -55,9 +62,64 @@ pub fn check_of_kind<'t>(
     ensures memory { (url : Url) → IsOfKind url base → TakesNoMemoryAgainst profile (Some url) (chars text.now)
         → IsOk result }
 {
-    match plain_link(text) {
-        Some(parts) => Ok(Verdict::Yes(parts)),
-        None => check_by_parts(alloc, text, Some(Base::Kind(base)), profile),
+    let Some(start) = plain_start(text) else {
+        return check_by_parts(alloc, text, Some(Base::Kind(base)), profile);
+    };
+    match plain_cut(&start) {
+        Some(cut) => Ok(Verdict::Yes(plain_parts(&cut))),
+        None => check_from(alloc, text, start, Some(Base::Kind(base)), profile),
+    }
+}
+
+/// The verdict on a text of which the start is known to be plain. It is never inlined, as plain links would then have to
+/// keep registers free for it.
+#[inline(never)]
+pub(crate) fn check_from<'t>(
+    alloc: Global,
+    text: &'t str,
+    start: PlainStart<'t>,
+    base: Option<Base<'_>>,
+    profile: Profile,
+) -> Result<Verdict<'t>, AllocError>
+    requires { IsPlainStart (chars text.now) start }
+    ensures answer { IfOk result (IsVerdict profile (as_base base.entry) (chars text.now)) }
+    ensures memory { TakesNoMemoryAgainst profile (as_base base.entry) (chars text.now) → IsOk result }
+{
+    if begins_behind(start.rest.as_str()) {
+        Ok(check_behind(text, &start, base, profile))
+    } else {
+        check_by_parts(alloc, text, base, profile)
+    }
+}
+
+// The same, where a path, a query or a fragment follows, or nothing: these are judged.
+fn check_behind<'t>(
+    text: &'t str,
+    start: &PlainStart<'t>,
+    base: Option<Base<'_>>,
+    profile: Profile,
+) -> Verdict<'t>
+    requires start { IsPlainStart (chars text.now) start.now }
+    requires behind { begins_behind (chars start.now.rest) ≡ true }
+    ensures { IsVerdict profile (as_base base.entry) (chars text.now) result }
+{
+    let (prefix, fragment) = split_at_mark(start.rest.as_str(), '#');
+    let (path_text, query) = split_at_mark(prefix, '?');
+    let cut = Cut {
+        scheme: Some(start.scheme),
+        host_text: Some(start.name),
+        port_text: start.port_text,
+        path_text,
+        query,
+        fragment,
+    };
+    let setting = Setting::of(base, Some(start.scheme), profile);
+    match fault_behind_authority(&cut, &setting) {
+        Some(refusal) => Verdict::No(refusal),
+        None => {
+            let host = PartsHost::Plain(AsciiText::of(start.name));
+            Verdict::Yes(build(cut, Some(host), start.port))
+        }
     }
 }
 

@@ -1,20 +1,22 @@
 //! The links that people write, judged at one pass: a special scheme, a plain domain, a port or none, and a path, a
-//! query and a fragment of URL units. All others are judged by their parts.
+//! query and a fragment of URL units. Where only what stands before the path is so, that is known of the text, and all
+//! other texts are judged by their parts.
 ghost use Rattle.std.specs.Prelude.{◌≡◌, ◌≢◌, ◌++◌, ◌∷◌, ◌<◌, [], ℕ, List, false, true, Option, IfSome, IsTrue, drop};
 ghost use Rattle.std.specs.Prelude.{length};
 ghost use Rattle.std.specs.Char.{is_ascii_digit};
 ghost use Rattle.std.specs.List.{prefix_len};
-ghost use Rattle.std.specs.Str.{chars};
+ghost use Rattle.std.specs.Str.{IsAscii, chars};
 ghost use Rattle.uv_model.specs.declared.profile.Profile.{Profile};
 ghost use Rattle.uv_model.specs.Ascii.{slash};
 ghost use Rattle.uv_model.specs.Cut.{starts_with_two_slashes};
 ghost use Rattle.uv_model.specs.Path.{starts_with_slash};
 ghost use Rattle.uv_model.specs.Records.Url.{Url};
 ghost use Rattle.uv_model.specs.Scheme.{default_port};
-ghost use Rattle.uv_grammar.specs.PlainLinks.{HasAsciiPrefix, IsPrefixCut, IsNameCut, IsPartCut, IsPathCut, IsPlainCut};
-ghost use Rattle.uv_grammar.specs.PlainLinks.{IsPortCut, IsSpecialCut, IsSpecialPrefix};
+ghost use Rattle.uv_grammar.specs.PlainLinks.{HasAsciiPrefix, IsPrefixCut, IsNameCut, IsPartCut, IsPathCut};
+ghost use Rattle.uv_grammar.specs.PlainLinks.{IsPlainCut, IsPlainStart, IsPortCut, IsSpecialCut, IsSpecialPrefix};
+ghost use Rattle.uv_grammar.specs.PlainLinks.{begins_behind};
 ghost use Rattle.uv_grammar.specs.Slices.{chars_of, chars_of_option};
-ghost use Rattle.uv_grammar.specs.Verdict.{IsAccepted, IsValidity};
+ghost use Rattle.uv_grammar.specs.Verdict.{IsAccepted};
 
 use crate::authority::without_default;
 use crate::cut::{Cut, split_scheme};
@@ -29,9 +31,20 @@ use uv_host::{is_plain_domain, name_prefix};
 use uv_model::{Class, class_of, default_port};
 use uv_text::{Tail, UnitClass, split_tail};
 
-// The texts of the parts of a plain link, and its port.
+/// The texts of the scheme, the domain and the port of a text, where they are those of a plain link, and what follows
+/// them.
+#[derive(Drop)]
+pub(crate) struct PlainStart<'t> {
+    pub(crate) scheme: &'t str,
+    pub(crate) name: &'t str,
+    pub(crate) port_text: Option<&'t str>,
+    pub(crate) port: Option<u16>,
+    pub(crate) rest: Tail<'t>,
+}
+
+/// The texts of the parts of a plain link, and its port.
 #[derive(Clone, Copy)]
-struct PlainCut<'t> {
+pub(crate) struct PlainCut<'t> {
     scheme: &'t str,
     name: &'t str,
     port_text: Option<&'t str>,
@@ -41,48 +54,33 @@ struct PlainCut<'t> {
     fragment: Option<&'t str>,
 }
 
-/// The parts of a link that is plain: a special scheme, `://`, a domain that is its own ASCII form, a port or none, and
-/// a path, a query and a fragment of URL units. By each profile and against any base it is valid with these parts.
-/// Where there are none, that says nothing.
+/// The parts of a plain link. By each profile and against any base it is valid with these.
 #[inline(always)]
-pub(crate) fn plain_link<'t>(text: &'t str) -> Option<Parts<'t>>
-    ensures { IfSome result (λ parts. (profile : Profile) (base : Option Url)
-        → IsAccepted profile base (chars text.now) parts) }
+pub(crate) fn plain_parts<'t>(cut: &PlainCut<'t>) -> Parts<'t>
+    requires { IsAscii cut.now.name.now }
+    ensures { (text : List ℕ) (profile : Profile) (base : Option Url) → IsPlainCut text cut.now
+        → IsAccepted profile base text result }
 {
-    match plain_cut(text) {
-        Some(cut) => Some(Parts {
-            form: Form::SchemeAuthority,
-            cut: Cut {
-                scheme: Some(cut.scheme),
-                host_text: Some(cut.name),
-                port_text: cut.port_text,
-                path_text: cut.path_text,
-                query: cut.query,
-                fragment: cut.fragment,
-            },
-            host: Some(PartsHost::Plain(AsciiText::of(cut.name))),
-            port: cut.port,
-        }),
-        None => None,
+    Parts {
+        form: Form::SchemeAuthority,
+        cut: Cut {
+            scheme: Some(cut.scheme),
+            host_text: Some(cut.name),
+            port_text: cut.port_text,
+            path_text: cut.path_text,
+            query: cut.query,
+            fragment: cut.fragment,
+        },
+        host: Some(PartsHost::Plain(AsciiText::of(cut.name))),
+        port: cut.port,
     }
 }
 
-/// Whether a link is plain, and so by each profile and against any base valid. Where the answer is no, that says
-/// nothing.
+/// The texts of a plain start: a special scheme, `://`, a domain that is its own ASCII form, and a port or none. Where
+/// there are none, that says nothing.
 #[inline(always)]
-pub(crate) fn is_plain_link(text: &str) -> bool
-    ensures { IsTrue result → (profile : Profile) (base : Option Url) → IsValidity profile base (chars text.now) true }
-{
-    match plain_cut(text) {
-        Some(_) => true,
-        None => false,
-    }
-}
-
-// The texts of a plain link.
-#[inline(always)]
-fn plain_cut<'t>(text: &'t str) -> Option<PlainCut<'t>>
-    ensures { IfSome result (IsPlainCut (chars text.now)) }
+pub(crate) fn plain_start<'t>(text: &'t str) -> Option<PlainStart<'t>>
+    ensures { IfSome result (IsPlainStart (chars text.now)) }
 {
     let Some((scheme, behind)) = split_special(text) else {
         return None;
@@ -93,7 +91,22 @@ fn plain_cut<'t>(text: &'t str) -> Option<PlainCut<'t>>
     let Some((port_text, port, rest)) = split_port(rest, scheme) else {
         return None;
     };
-    let Some((path_text, rest)) = split_path(&rest) else {
+    Some(PlainStart {
+        scheme,
+        name,
+        port_text,
+        port,
+        rest,
+    })
+}
+
+/// The texts of a plain link that begins so: a path, a query and a fragment of URL units follow. Where there are none,
+/// that says nothing.
+#[inline(always)]
+pub(crate) fn plain_cut<'t>(start: &PlainStart<'t>) -> Option<PlainCut<'t>>
+    ensures { IfSome result (λ cut. (text : List ℕ) → IsPlainStart text start.now → IsPlainCut text cut) }
+{
+    let Some((path_text, rest)) = split_path(&start.rest) else {
         return None;
     };
     let (query, rest) = split_part(rest, b'?');
@@ -102,14 +115,31 @@ fn plain_cut<'t>(text: &'t str) -> Option<PlainCut<'t>>
         return None;
     }
     Some(PlainCut {
-        scheme,
-        name,
-        port_text,
-        port,
+        scheme: start.scheme,
+        name: start.name,
+        port_text: start.port_text,
+        port: start.port,
         path_text,
         query,
         fragment,
     })
+}
+
+/// Whether a text is empty, or begins a path behind an authority, a query or a fragment.
+pub(crate) fn begins_behind(text: &str) -> bool
+    ensures { IsTrue result → begins_behind (chars text.now) ≡ true }
+{
+    has_behind(text.as_bytes())
+}
+
+// The same of bytes.
+fn has_behind(bytes: &[u8]) -> bool
+    ensures { result ≡ begins_behind bytes.now }
+{
+    match bytes {
+        [first, ..] => *first == b'/' || (*first == b'?' || *first == b'#'),
+        [] => true,
+    }
 }
 
 // A special scheme but `file`, in lower case or with a capital at its start, and what stands behind its `://`.

@@ -14,6 +14,7 @@ use uv_model::Refusal;
 use uv_text::first_fault;
 
 /// The least refusal of what stands behind the authority: the path with its start, the query and the fragment.
+#[inline(always)]
 pub(crate) fn fault_behind_authority(cut: &Cut, setting: &Setting) -> Option<Refusal>
     requires { IsCountable cut.now }
     ensures { IsLeast (BehindAuthority setting.now cut.now) result }

@@ -4,11 +4,12 @@ ghost use Rattle.std.specs.Str.{chars};
 ghost use Rattle.uv_model.specs.Records.Url.{Url};
 ghost use Rattle.uv_grammar.specs.Bases.{IsOfKind, as_base};
 ghost use Rattle.uv_grammar.specs.NoMemory.{TakesNoMemoryAgainst};
+ghost use Rattle.uv_grammar.specs.PlainLinks.{IsPlainStart};
 ghost use Rattle.uv_grammar.specs.Verdict.{IsValidity};
 
 use crate::bases::{Base, BaseKind};
-use crate::checker::{Verdict, check_by_parts};
-use crate::plain_links::is_plain_link;
+use crate::checker::{Verdict, check_by_parts, check_from};
+use crate::plain_links::{PlainStart, plain_cut, plain_start};
 use std::alloc::{AllocError, Global};
 use uv_model::{Profile, Record};
 
@@ -23,10 +24,13 @@ pub fn is_valid(
     ensures answer { IfOk result (IsValidity profile (option_copied base.entry) (chars text.now)) }
     ensures memory { TakesNoMemoryAgainst profile (option_copied base.entry) (chars text.now) → IsOk result }
 {
-    if is_plain_link(text) {
-        return Ok(true);
+    let Some(start) = plain_start(text) else {
+        return is_valid_by_parts(alloc, text, Base::whole(base), profile);
+    };
+    match plain_cut(&start) {
+        Some(_) => Ok(true),
+        None => is_valid_from(alloc, text, start, Base::whole(base), profile),
     }
-    is_valid_by_parts(alloc, text, Base::whole(base), profile)
 }
 
 /// The same against every base of a kind.
@@ -40,10 +44,31 @@ pub fn is_valid_of_kind(
     ensures memory { (url : Url) → IsOfKind url base → TakesNoMemoryAgainst profile (Some url) (chars text.now)
         → IsOk result }
 {
-    if is_plain_link(text) {
-        return Ok(true);
+    let Some(start) = plain_start(text) else {
+        return is_valid_by_parts(alloc, text, Some(Base::Kind(base)), profile);
+    };
+    match plain_cut(&start) {
+        Some(_) => Ok(true),
+        None => is_valid_from(alloc, text, start, Some(Base::Kind(base)), profile),
     }
-    is_valid_by_parts(alloc, text, Some(Base::Kind(base)), profile)
+}
+
+// Whether a text of a plain start is valid.
+fn is_valid_from(
+    alloc: Global,
+    text: &str,
+    start: PlainStart<'_>,
+    base: Option<Base<'_>>,
+    profile: Profile,
+) -> Result<bool, AllocError>
+    requires { IsPlainStart (chars text.now) start }
+    ensures answer { IfOk result (IsValidity profile (as_base base.entry) (chars text.now)) }
+    ensures memory { TakesNoMemoryAgainst profile (as_base base.entry) (chars text.now) → IsOk result }
+{
+    match check_from(alloc, text, start, base, profile)? {
+        Verdict::Yes(..) => Ok(true),
+        Verdict::No(..) => Ok(false),
+    }
 }
 
 // Whether any text is valid.

@@ -1,6 +1,18 @@
 -- A plain link is valid against any base.
 use Rattle.std.specs.Prelude.{option_copied}
+use Rattle.std.specs.Str.{chars}
+use Rattle.uv_model.specs.declared.profile.Profile.TheVariants.{Standard}
+use Rattle.uv_model.proofs.Hosts.DomainLemmas.{IsAscii-form}
+use Rattle.uv_grammar.specs.Slices.{chars_of}
 use Rattle.uv_grammar.proofs.checker.check.Goals as goal
 
-pub returns-in-Some-clause-answer : goal.returns-in-Some-clause-answer
-returns-in-Some-clause-answer c = c.in-Some.ensures c.args.profile (option_copied c.args.base)
+pub plain_parts-requires : goal.plain_parts-requires
+plain_parts-requires c =
+    let name = c.in-Some-plain_cut.cut.name in
+    let plain = c.in-Some-plain_cut.ensures (chars c.args.text.now) c.in-Some.ensures in
+    IsAscii-form Standard (chars_of name) name.now (plain.named.domain Standard).0
+
+pub returns-in-Some-plain_cut-clause-answer : goal.returns-in-Some-plain_cut-clause-answer
+returns-in-Some-plain_cut-clause-answer c =
+    c.plain_parts.ensures (chars c.args.text.now) c.args.profile (option_copied c.args.base)
+    (c.in-Some-plain_cut.ensures (chars c.args.text.now) c.in-Some.ensures)

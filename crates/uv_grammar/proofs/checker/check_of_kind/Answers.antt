@@ -2,25 +2,51 @@
 use Rattle.std.specs.Prelude.{Some}
 use Rattle.std.specs.Str.{chars}
 use Rattle.std.proofs.lemmas.Result.{IfOk-weaker}
+use Rattle.uv_model.specs.declared.profile.Profile.TheVariants.{Standard}
+use Rattle.uv_model.proofs.Hosts.DomainLemmas.{IsAscii-form}
 use Rattle.uv_grammar.specs.Bases.{url_of_kind}
+use Rattle.uv_grammar.specs.Slices.{chars_of}
 use Rattle.uv_grammar.specs.Verdict.{IsVerdict}
 use Rattle.uv_grammar.proofs.KindLemmas.{flip, kind_alike, memory_alike, verdict_alike}
 use Rattle.uv_grammar.proofs.checker.check_of_kind.Goals as goal
 
-pub returns-in-Some-clause-answer : goal.returns-in-Some-clause-answer
-returns-in-Some-clause-answer c = λ url is. c.in-Some.ensures c.args.profile (Some url)
+pub plain_parts-requires : goal.plain_parts-requires
+plain_parts-requires c =
+    let name = c.in-Some-plain_cut.cut.name in
+    let plain = c.in-Some-plain_cut.ensures (chars c.args.text.now) c.in-Some.ensures in
+    IsAscii-form Standard (chars_of name) name.now (plain.named.domain Standard).0
 
-pub returns-in-None-clause-answer : goal.returns-in-None-clause-answer
-returns-in-None-clause-answer c = λ url is.
+pub returns-in-Some-plain_cut-clause-answer : goal.returns-in-Some-plain_cut-clause-answer
+returns-in-Some-plain_cut-clause-answer c = λ url is.
+    c.plain_parts.ensures (chars c.args.text.now) c.args.profile (Some url)
+    (c.in-Some-plain_cut.ensures (chars c.args.text.now) c.in-Some.ensures)
+
+pub returns-in_default-clause-answer : goal.returns-in_default-clause-answer
+returns-in_default-clause-answer c = λ url is.
     let text = chars c.args.text.now in
     let base = url_of_kind c.args.base in
     IfOk-weaker c.check_by_parts.result (IsVerdict c.args.profile (Some base) text)
     (IsVerdict c.args.profile (Some url) text)
     (verdict_alike c.args.profile base url text (kind_alike url c.args.base is)) c.check_by_parts.ensures.answer
 
+pub returns-in_default-clause-memory : goal.returns-in_default-clause-memory
+returns-in_default-clause-memory c = λ url is takes.
+    let base = url_of_kind c.args.base in
+    c.check_by_parts.ensures.memory
+    (memory_alike c.args.profile url base (chars c.args.text.now)
+    (flip base url (kind_alike url c.args.base is)) takes)
+
+pub returns-in-None-clause-answer : goal.returns-in-None-clause-answer
+returns-in-None-clause-answer c = λ url is.
+    let text = chars c.args.text.now in
+    let base = url_of_kind c.args.base in
+    IfOk-weaker c.check_from.result (IsVerdict c.args.profile (Some base) text)
+    (IsVerdict c.args.profile (Some url) text)
+    (verdict_alike c.args.profile base url text (kind_alike url c.args.base is)) c.check_from.ensures.answer
+
 pub returns-in-None-clause-memory : goal.returns-in-None-clause-memory
 returns-in-None-clause-memory c = λ url is takes.
     let base = url_of_kind c.args.base in
-    c.check_by_parts.ensures.memory
+    c.check_from.ensures.memory
     (memory_alike c.args.profile url base (chars c.args.text.now)
     (flip base url (kind_alike url c.args.base is)) takes)

@@ -8,16 +8,16 @@ use Rattle.uv_grammar.proofs.HostLemmas.{no_chars}
 use Rattle.uv_grammar.proofs.plain_links.plain_cut.Goals as goal
 
 pub returns : goal.returns
-returns c = record {
-  behind = chars c.in-Some.behind;
-  rest = chars c.in-Some-split_name.rest;
-  after = chars c.in-Some-split_port.rest;
-  tail = chars c.in-Some-split_path.rest;
+returns c = λ text start. record {
+  behind = start.behind;
+  rest = start.rest;
+  after = chars c.args.start.now.rest;
+  tail = chars c.in-Some.rest;
   end = chars c.split_part-rest.result.1;
-  special = c.in-Some.ensures;
-  named = c.in-Some-split_name.ensures;
-  port_cut = c.in-Some-split_port.ensures;
-  path_cut = c.in-Some-split_path.ensures;
+  special = start.special;
+  named = start.named;
+  port_cut = start.port_cut;
+  path_cut = c.in-Some.ensures;
   query_cut = c.split_part-rest.ensures;
   fragment_cut =
       subst

@@ -1,11 +1,10 @@
--- The validity by the parts against the base as it stands.
-use Rattle.std.proofs.Common.{Option, chars, option_copied, subst}
-use Rattle.std.specs.Prelude.{IfOk}
-use Rattle.uv_model.specs.Records.Url.{Url}
-use Rattle.uv_grammar.specs.Verdict.{IsValidity}
+-- A plain link is valid against any base.
+use Rattle.std.specs.Prelude.{option_copied}
+use Rattle.std.specs.Str.{chars}
+use Rattle.uv_grammar.proofs.PlainLinkLemmas.{plain_valid}
 use Rattle.uv_grammar.proofs.validity.is_valid.Goals as goal
 
-pub returns-clause-answer : goal.returns-clause-answer
-returns-clause-answer c =
-    subst (λ (base : Option Url). IfOk c.is_valid_by_parts.result
-    (IsValidity c.args.profile base (chars c.args.text.now))) c.whole.ensures c.is_valid_by_parts.ensures.answer
+pub returns-in-Some-plain_cut-clause-answer : goal.returns-in-Some-plain_cut-clause-answer
+returns-in-Some-plain_cut-clause-answer c =
+    plain_valid (chars c.args.text.now) c.in-Some-plain_cut.field-0
+    (c.in-Some-plain_cut.ensures (chars c.args.text.now) c.in-Some.ensures) c.args.profile (option_copied c.args.base)

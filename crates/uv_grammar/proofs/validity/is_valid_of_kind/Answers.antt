@@ -5,19 +5,40 @@ use Rattle.std.proofs.lemmas.Result.{IfOk-weaker}
 use Rattle.uv_grammar.specs.Bases.{url_of_kind}
 use Rattle.uv_grammar.specs.Verdict.{IsValidity}
 use Rattle.uv_grammar.proofs.KindLemmas.{flip, kind_alike, memory_alike, validity_alike}
+use Rattle.uv_grammar.proofs.PlainLinkLemmas.{plain_valid}
 use Rattle.uv_grammar.proofs.validity.is_valid_of_kind.Goals as goal
 
-pub returns-clause-answer : goal.returns-clause-answer
-returns-clause-answer c = λ url is.
+pub returns-in-Some-plain_cut-clause-answer : goal.returns-in-Some-plain_cut-clause-answer
+returns-in-Some-plain_cut-clause-answer c = λ url is.
+    plain_valid (chars c.args.text.now) c.in-Some-plain_cut.field-0
+    (c.in-Some-plain_cut.ensures (chars c.args.text.now) c.in-Some.ensures) c.args.profile (Some url)
+
+pub returns-in_default-clause-answer : goal.returns-in_default-clause-answer
+returns-in_default-clause-answer c = λ url is.
     let text = chars c.args.text.now in
     let base = url_of_kind c.args.base in
     IfOk-weaker c.is_valid_by_parts.result (IsValidity c.args.profile (Some base) text)
     (IsValidity c.args.profile (Some url) text)
     (validity_alike c.args.profile base url text (kind_alike url c.args.base is)) c.is_valid_by_parts.ensures.answer
 
-pub returns-clause-memory : goal.returns-clause-memory
-returns-clause-memory c = λ url is takes.
+pub returns-in_default-clause-memory : goal.returns-in_default-clause-memory
+returns-in_default-clause-memory c = λ url is takes.
     let base = url_of_kind c.args.base in
     c.is_valid_by_parts.ensures.memory
+    (memory_alike c.args.profile url base (chars c.args.text.now)
+    (flip base url (kind_alike url c.args.base is)) takes)
+
+pub returns-in-None-clause-answer : goal.returns-in-None-clause-answer
+returns-in-None-clause-answer c = λ url is.
+    let text = chars c.args.text.now in
+    let base = url_of_kind c.args.base in
+    IfOk-weaker c.is_valid_from.result (IsValidity c.args.profile (Some base) text)
+    (IsValidity c.args.profile (Some url) text)
+    (validity_alike c.args.profile base url text (kind_alike url c.args.base is)) c.is_valid_from.ensures.answer
+
+pub returns-in-None-clause-memory : goal.returns-in-None-clause-memory
+returns-in-None-clause-memory c = λ url is takes.
+    let base = url_of_kind c.args.base in
+    c.is_valid_from.ensures.memory
     (memory_alike c.args.profile url base (chars c.args.text.now)
     (flip base url (kind_alike url c.args.base is)) takes)

@@ -65,3 +65,40 @@ fn judges_names_of_each_length(rt: HostRuntime) -> Result<(), AllocError> {
     }
     Ok(())
 }
+
+// A start, so many letters, and `^`, which is refused where it stands.
+fn is_refused_behind(
+    rt: &(impl Abort + AllocGlobal),
+    start: &str,
+    length: usize,
+) -> Result<(), AllocError> {
+    let mut text = String::from_str(rt.alloc(), start)?;
+    for _ in 0..length {
+        text.push('a')?;
+    }
+    let place = text.as_str().len();
+    text.push_str("^a")?;
+    let text = text.as_str();
+    let refused = Refusal {
+        place,
+        rule: uv_model::Rule::CodePoint,
+    };
+    match check(rt.alloc(), text, None, Profile::Standard)? {
+        Verdict::Yes(_) => assert!(rt; false, "{text}"),
+        Verdict::No(refusal) => assert!(rt; refusal == refused, "{text}"),
+    }
+    let alone = is_valid(rt.alloc(), text, None, Profile::Standard)?;
+    assert!(rt; !alone, "{text}");
+    Ok(())
+}
+
+// The start has 9 bytes, so that the place is before, at and behind each end of 32 bytes.
+#[test]
+fn refuses_behind_a_plain_start_of_each_length(rt: HostRuntime) -> Result<(), AllocError> {
+    for length in 0..=70usize {
+        is_refused_behind(&rt, "http://h/", length)?;
+        is_refused_behind(&rt, "http://h?", length)?;
+        is_refused_behind(&rt, "http://h#", length)?;
+    }
+    Ok(())
+}

@@ -62,6 +62,48 @@ fn refuses_what_is_nearly_plain(rt: HostRuntime) -> Result<(), AllocError> {
 }
 
 #[test]
+fn judges_what_follows_a_plain_start(rt: HostRuntime) -> Result<(), AllocError> {
+    are_lines(
+        &rt,
+        None,
+        Profile::Standard,
+        &[
+            ("http://h/a b", "no 10 code-point"),
+            ("http://h/%zz", "no 9 percent"),
+            ("http://h?a^", "no 10 code-point"),
+            ("http://h#a#b", "no 10 code-point"),
+            ("http://h:80/^?b c#d e", "no 12 code-point"),
+            ("http://h/a?b c#d e", "no 12 code-point"),
+            ("http://h/a?b#c%", "no 14 percent"),
+            ("http://h?//a b", "no 12 code-point"),
+            ("http://h//a b", "no 9 first-segment-empty"),
+            ("http://h//a", "no 9 first-segment-empty"),
+            ("HTTP://h/\u{E9}^", "no 10 code-point"),
+            ("http://h a/", "no 7 host-domain"),
+            ("http://h\\a", "no 7 host-domain"),
+        ],
+    )
+}
+
+#[test]
+fn judges_what_follows_a_plain_start_by_the_wide_profile(
+    rt: HostRuntime,
+) -> Result<(), AllocError> {
+    are_lines(
+        &rt,
+        None,
+        Profile::Wide,
+        &[
+            (
+                "http://h:8080//a",
+                "scheme-authority scheme http host h is domain h port 8080 is 8080 path //a () (a)",
+            ),
+            ("http://h//a b", "no 11 code-point"),
+        ],
+    )
+}
+
+#[test]
 fn distinguishes_numbers_from_words(rt: HostRuntime) -> Result<(), AllocError> {
     are_lines(
         &rt,
