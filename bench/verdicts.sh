@@ -1,126 +1,217 @@
 #!/usr/bin/env bash
-# Verdicts on a million mixed links: this checker, with the parts and alone, Ada's can_parse and Rust's crate `url`,
-# whichever are at hand, a run of each in turn for so many rounds. It prints the least processor time a link, or its instructions by callgrind,
-# reading taken off, the ratios to Ada, and how many verdicts differ from ours: the others say whether a text parses, and
-# this checker whether it is valid. It fails where a figure is missing or below the floor, and where a list that it made
-# has other counts than it was made with, or a verdict alone on plain links costs more than 0.75 of a check.
-# Usage: bench/verdicts.sh [--ada FOLDER] [--links FILE | --seed SEED] [--count COUNT] [--kind KIND] [--rounds ROUNDS]
-#        [--by time|instructions]
-# Without Ada, 100,000 links of seed 1 are compared by instructions with those that it took when they were measured.
+# What this checker takes for texts of a kind, beside Ada and, where it is at hand, Rust's crate `url`. bench/kinds has
+# the kinds: what is made, the call, the profile, the base and the bound. `check` and `is_valid` stand beside Ada's
+# can_parse, `resolve` with its record's text beside Ada's parse with its href; both sides keep the base. It prints the
+# instructions a text by callgrind, or the least processor time of so many rounds with a run of each in turn, reading
+# taken off, and the ratios to Ada.
+# It fails where a figure is missing or below the floor, and where an answer isn't the wanted one: so many texts are
+# valid, Ada parses each, and writes each record as `resolve` does. By instructions it also fails where a call passes
+# the kind's bound, where a verdict alone on plain links takes more than 0.75 of a check, and where plain links cost
+# more by the parser's profile than by the standard one.
+# Usage: bench/verdicts.sh [--ada FOLDER] [--kind KIND|all] [--by instructions|time] [--rounds ROUNDS] [--count COUNT]
+#        [--seed SEED] [--links FILE] [--store FOLDER]
+# A folder of Ada's sources is built; a program that was built from one is taken as it is. Without Ada, texts of seed 1
+# are compared with what it took for them when it was measured, which bench/verdicts/ada.stored has. With `all` the
+# output of each kind is stored in the folder of --store too, and, where Ada was measured, its figures.
 set -euo pipefail
 top=$(dirname "$(dirname "$(realpath "$0")")")
-ada='' links='' seed=1 count=1000000 kind='' rounds=5 by='time' wanted=''
+ada='' links='' seed=1 count='' kind=mixed rounds=5 by=instructions store=''
 . "$top/bench/words.sh"
-words ada links seed count kind rounds by -- "$@"
-[ -z "$links" ] || links=$(realpath "$links")
+. "$top/bench/peers/build.sh"
+words ada links seed count kind rounds by store -- "$@"
 room=$(mktemp -d)
 trap 'rm -rf "$room"' EXIT
 driver=$top/crates/bench_check/out/bench_check
 [ -x "$driver" ] || (cd "$top/crates/bench_check" && rt run -- check 1 <stdin >&2)
-if [ -z "$links" ]; then
-    links=$room/links
-    python3 "$top/bench/links.py" "$count" "$seed" $kind >"$links" 2>"$room/valid"
-    wanted=$(cat "$room/valid")
-fi
-lines=$(grep -c . "$links")
-[ "$lines" -gt 0 ] || { echo 'no links'; exit 2; }
-
-declare -A program
-program[ours]=$driver
-program[alone]=$driver
-names=(ours alone)
-if [ -n "$ada" ] && command -v g++ >/dev/null; then
-    g++ -std=c++20 -O2 -I"$ada/include" -I"$ada/src" -o "$room/ada" "$top/bench/peers/ada.cpp" "$ada/src/ada.cpp"
-    program[ada]=$room/ada
-    names+=(ada)
-elif [ "$by $count $seed $links" = "instructions 100000 1 $room/links" ]; then
-    adas=$(awk -v kind="${kind:-mixed}" '$1 == kind { print $2 }' "$top/bench/verdicts/ada.stored")
-    [ -z "$adas" ] || echo "ada: $adas instructions a link, as they were measured once"
-else
-    echo 'without Ada: give the folder of a release by --ada, and have g++'
-fi
-if command -v cargo >/dev/null && [ -d /usr/share/cargo/registry ] && ls /usr/share/cargo/registry | grep -q '^url-'; then
-    mkdir -p "$room/url/src" "$room/url/.cargo"
-    cp "$top/bench/peers/url.rs" "$room/url/src/main.rs"
-    printf '[package]\nname = "peer"\nversion = "0.1.0"\nedition = "2021"\n[dependencies]\nurl = "2"\n' >"$room/url/Cargo.toml"
-    printf '[source.crates-io]\nreplace-with = "debian"\n[source.debian]\ndirectory = "/usr/share/cargo/registry"\n' \
-        >"$room/url/.cargo/config.toml"
-    if (cd "$room/url" && cargo build --release --offline --quiet) 2>"$room/cargo"; then
-        program[url]=$room/url/target/release/peer
-        names+=(url)
-    else
-        echo "without url: $(tail -n 1 "$room/cargo")"
-    fi
-else
-    echo "without url: install cargo and Debian's librust-url-dev"
-fi
+failed=0
+fail() {
+    echo "FAILED: $*"
+    failed=1
+}
 
 # By time a figure is in nanoseconds, of five passes; instructions are the same in each run, so one pass does.
 case $by in
-    time) unit='ns' passes=5 floor=1 ;;
-    instructions) unit='instructions' passes=1 floor=50 rounds=1 ;;
+    time) unit=ns passes=5 floor=1 ;;
+    instructions) unit=instructions passes=1 floor=50 rounds=1 ;;
     *) echo "no such figure: $by"; exit 2 ;;
 esac
 [ $by = time ] || command -v valgrind >/dev/null || { echo 'instructions are counted by valgrind'; exit 2; }
+if [ -d "$ada" ]; then
+    build_ada "$ada" "$room/ada" || exit 2
+    ada=$room/ada
+fi
+[ -z "$ada" ] || [ -x "$ada" ] || { echo "no folder of Ada: $ada"; exit 2; }
 
-# spent PROGRAM MODE : what one run costs
+# Every kind, by a run of this script for each.
+if [ "$kind" = all ]; then
+    store=${store:-$room}
+    while read -r each _; do
+        bash "$0" "$@" ${ada:+--ada "$ada"} --kind "$each" </dev/null >"$store/$each.txt" || failed=1
+        cat "$store/$each.txt"
+    done < <(grep -v '^#' "$top/bench/kinds")
+    if [ -n "$ada" ] && [ "$by $seed $count" = 'instructions 1 ' ]; then
+        {
+            echo '# Instructions a text, Ada 2.9.2 by g++ 12 -O3 -march=x86-64-v2: the texts of bench/kinds, seed 1'
+            (cd "$store" && awk '$1 == "kind:" { kind = $2 } $1 == "ada:" { print kind, $2 }' ./*.txt)
+        } >"$room/ada.stored"
+        cp "$room/ada.stored" "$store/ada.stored"
+    fi
+    exit $failed
+fi
+
+# The texts, and what is asked of them.
+call=check profile=standard base=- known='' wanted='' bound='' name='the lines of a file'
+if [ -n "$links" ]; then
+    kind=list
+else
+    row=$(awk -v kind="$kind" '$1 == kind' "$top/bench/kinds")
+    [ -n "$row" ] || { echo "no such kind: $kind"; exit 2; }
+    read -r _ made call profile base known bound name <<<"$row"
+    # Time wants more texts than instructions do.
+    if [ $by = time ]; then : "${count:=$((10 * known))}"; else : "${count:=$known}"; fi
+    links=$room/links
+    python3 "$top/bench/links.py" "$count" "$seed" "$made" >"$links" 2>"$room/valid"
+    wanted=$(cat "$room/valid")
+fi
+lines=$(grep -c . "$links" || true)
+[ "$lines" -gt 0 ] || { echo 'no texts'; exit 2; }
+against=("$profile")
+[ "$base" = - ] || against+=("$base")
+
+# What is measured: a program and a mode each.
+declare -A program mode
+names=("$call")
+program[$call]=$driver mode[$call]=$call
+if [ "$call" = check ]; then
+    names+=(is_valid)
+    program[is_valid]=$driver mode[is_valid]=valid
+fi
+if [ "$kind" = plain_parser ]; then
+    names+=(standard)
+    program[standard]=$driver mode[standard]=check
+fi
+adas=''
+if [ -n "$ada" ]; then
+    names+=(ada)
+    program[ada]=$ada mode[ada]=$call
+elif [ "$by $seed $links $count" = "instructions 1 $room/links $known" ]; then
+    adas=$(awk -v kind="$kind" '$1 == kind { print $2 }' "$top/bench/verdicts/ada.stored")
+    [ -n "$adas" ] || fail "bench/verdicts/ada.stored has no figure of $kind"
+else
+    echo 'without Ada: give the folder of a release by --ada'
+fi
+
+if [ "$call $base" = 'check -' ] && has_url && build_url "$room/url"; then
+    names+=(url)
+    program[url]=$room/url/target/release/peer mode[url]=check
+fi
+
+# words_of NAME : the profile and the base behind a mode
+words_of() {
+    if [ "$1" = standard ]; then echo standard; else printf '%s\n' "${against[@]}"; fi
+}
+
+# spent NAME MODE : what one run costs
 spent() {
-    local TIMEFORMAT=%U+%S
+    local TIMEFORMAT=%U+%S words
+    mapfile -t words < <(words_of "$1")
     if [ $by = time ]; then
-        { time "$1" "$2" $passes <"$links" >"$room/said"; } 2>&1 | awk -F+ '{ printf "%.0f\n", ($1 + $2) * 1e9 }'
+        { time "${program[$1]}" "$2" $passes "${words[@]}" <"$links" >"$room/said"; } 2>&1 |
+            awk -F+ '{ printf "%.0f\n", ($1 + $2) * 1e9 }'
     else
-        valgrind --tool=callgrind --callgrind-out-file=/dev/null "$1" "$2" $passes <"$links" 2>&1 >"$room/said" |
-            sed -n 's/.*Collected : //p'
+        valgrind --tool=callgrind --callgrind-out-file=/dev/null "${program[$1]}" "$2" $passes "${words[@]}" \
+            <"$links" 2>&1 >"$room/said" | sed -n 's/.*Collected : //p'
     fi
 }
 
-# mode NAME : what a program is asked for
-mode() {
-    if [ "$1" = alone ]; then echo valid; else echo check; fi
-}
-
-declare -A whole reading
+declare -A whole reading said cost
 for ((round = 0; round < rounds; round++)); do
-    for name in "${names[@]}"; do
-        spent=$(spent "${program[$name]}" "$(mode "$name")")
-        read=$(spent "${program[$name]}" read)
-        [ -n "$spent" ] && [ -n "$read" ] || { echo "FAILED: $name gave no figure"; exit 1; }
-        if [ -z "${whole[$name]:-}" ] || ((spent < whole[$name])); then whole[$name]=$spent; fi
-        if [ -z "${reading[$name]:-}" ] || ((read < reading[$name])); then reading[$name]=$read; fi
+    for each in "${names[@]}"; do
+        read=$(spent "$each" read)
+        spent=$(spent "$each" "${mode[$each]}")
+        said[$each]=$(sed 's/.*, \(.*\) valid/\1/' "$room/said")
+        [ -n "$spent" ] && [ -n "$read" ] || { echo "FAILED: $each gave no figure"; exit 1; }
+        if [ -z "${whole[$each]:-}" ] || ((spent < whole[$each])); then whole[$each]=$spent; fi
+        if [ -z "${reading[$each]:-}" ] || ((read < reading[$each])); then reading[$each]=$read; fi
     done
 done
 
-echo "$lines links, least of $rounds rounds of $passes passes"
-for name in "${names[@]}"; do
-    cost=$(awk -v w="${whole[$name]}" -v r="${reading[$name]}" -v n="$lines" 'BEGIN { printf "%.1f", (w - r) / n / '"$passes"' }')
-    awk -v c="$cost" -v f=$floor 'BEGIN { exit c < f }' || { echo "FAILED: $name: $cost $unit a link are too few"; exit 1; }
-    line="$name: $cost $unit a link"
-    if [ "$name" = ada ]; then adas=$cost; fi
-    costs+=("$name $cost")
-    if [ "$name" = alone ]; then
-        known=$("$driver" valid 1 <"$links" | sed 's/.*, \(.*\) valid/\1/')
-        [ "$known" = "$valid" ] || { echo "FAILED: alone, $known links are valid, and not $valid"; exit 1; }
-        echo "$line"
-        continue
+# answers NAME MODE : what a program answers on each text
+answers() {
+    "${program[$1]}" "$2" 1 "${against[@]}" <"$links" >"$room/$1.$2"
+    if [ "$2" = verdicts ]; then
+        tr -d '\n' <"$room/$1.$2" | fold -w 1 >"$room/split"
+        mv "$room/split" "$room/$1.$2"
+        echo >>"$room/$1.$2"
     fi
-    "${program[$name]}" verdicts <"$links" | tr -d '\n' | fold -w 1 >"$room/$name.verdicts"
-    [ "$(grep -c . "$room/$name.verdicts")" = "$lines" ] || { echo "$name gave no verdict on some links"; exit 1; }
-    if [ "$name" = ours ]; then
-        valid=$(grep -c 1 "$room/ours.verdicts" || true)
-        [ -z "$wanted" ] || [ "$valid" = "$wanted" ] || { echo "FAILED: $valid links are valid, and not $wanted"; exit 1; }
-    else
-        line+=", $(paste "$room/ours.verdicts" "$room/$name.verdicts" | awk '$1 != $2 && $2 == 1 { n++ } END { print n + 0 }')"
-        line+=" parse that aren't valid, $(paste "$room/ours.verdicts" "$room/$name.verdicts" | awk '$1 != $2 && $2 == 0 { n++ } END { print n + 0 }')"
-        line+=" are valid that don't parse"
-    fi
+    [ "$(grep -c '' "$room/$1.$2")" = "$lines" ] || { echo "FAILED: $1 gave no answer on some texts"; exit 1; }
+}
+
+# differing A B : how many texts have this verdict by this checker and that by the peer
+differing() {
+    paste -d '\0' "$room/$call.verdicts" "$room/$each.verdicts" | grep -c "^$1$2\$" || true
+}
+
+echo "kind: $kind ($name), $lines texts, $by"
+answers "$call" verdicts
+valid=$(grep -c 1 "$room/$call.verdicts" || true)
+[ -z "$wanted" ] || [ "$valid" = "$wanted" ] || fail "$valid texts are valid, and not $wanted"
+for each in "${names[@]}"; do
+    cost[$each]=$(awk -v w="${whole[$each]}" -v r="${reading[$each]}" -v n=$((lines * passes)) \
+        'BEGIN { printf "%.1f", (w - r) / n }')
+    awk -v c="${cost[$each]}" -v f=$floor 'BEGIN { exit c < f }' ||
+        fail "$each: ${cost[$each]} $unit a text are too few"
+    line="$each: ${cost[$each]} $unit a text, ${said[$each]} of $lines"
+    case $each in
+        ada | url)
+            answers $each verdicts
+            silent=$(differing 0 1) loud=$(differing 1 0)
+            line+=" parse, of which $silent aren't valid; $loud are valid that don't parse"
+            [ $each = url ] || [ "$loud" = 0 ] || fail "$loud texts are valid that don't parse by Ada"
+            [ $each = url ] || [ -z "$wanted" ] || [ "${said[ada]}" = "$lines" ] || fail "some texts don't parse by Ada"
+            ;;
+        *)
+            [ "${said[$each]}" = "$valid" ] || fail "$each: ${said[$each]} texts are valid, and not $valid"
+            line+=' are valid'
+            ;;
+    esac
     echo "$line"
 done
-share=$(awk -v o="${costs[0]#* }" -v a="${costs[1]#* }" 'BEGIN { printf "%.2f", a / o }')
-echo "alone to ours: $share"
-[ "$by" != instructions ] || [ "$kind" != plain ] || awk -v s="$share" 'BEGIN { exit s > 0.75 }' ||
-    { echo "FAILED: a verdict alone costs $share of a check, and at most 0.75 is wanted"; exit 1; }
-if [ -n "${adas:-}" ]; then
-    for cost in "${costs[@]}"; do
-        awk -v n="${cost% *}" -v c="${cost#* }" -v a="$adas" 'BEGIN { printf "%s to Ada: %.2f\n", n, c / a }'
-    done
+if [ "$call" = resolve ] && [ -n "$ada" ]; then
+    answers resolve texts
+    answers ada texts
+    unlike=$(paste "$room/resolve.texts" "$room/ada.texts" |
+        awk -F '\t' '$1 != "" && $1 != $2 { n++ } END { print n + 0 }')
+    [ "$unlike" = 0 ] || fail "the records of $unlike texts are written otherwise by Ada"
 fi
+
+# ratio A B : of two figures
+ratio() { awk -v a="$1" -v b="$2" 'BEGIN { printf "%.2f", a / b }'; }
+
+# holds NAME SHARE MOST : a ratio of instructions that may not pass this
+holds() {
+    [ $by = time ] || awk -v s="$2" -v m="$3" 'BEGIN { exit s > m }' || fail "$1: $2, and at most $3 is wanted"
+}
+
+if [ -n "$adas" ]; then
+    echo "ada: $adas instructions a text, stored: they were measured once"
+else
+    adas=${cost[ada]:-}
+fi
+for each in "${names[@]}"; do
+    if [ -z "$adas" ] || [ $each = ada ] || [ $each = standard ]; then continue; fi
+    share=$(ratio "${cost[$each]}" "$adas")
+    echo "$each to Ada: $share"
+    if [ -n "$bound" ] && [ $each != url ]; then holds "$each to Ada" "$share" "$bound"; fi
+done
+if [ "$call" = check ]; then
+    share=$(ratio "${cost[is_valid]}" "${cost[check]}")
+    echo "is_valid to check: $share"
+    if [ "$kind" = plain ]; then holds 'is_valid to check' "$share" 0.75; fi
+fi
+if [ "$kind" = plain_parser ]; then
+    share=$(ratio "${cost[check]}" "${cost[standard]}")
+    echo "by the parser's profile to the standard one: $share"
+    holds "by the parser's profile to the standard one" "$share" 1.00
+fi
+exit $failed

@@ -1,46 +1,65 @@
-//! Judges the lines of standard input, as often as is asked: the driver of the benches. Its words are a mode and a
-//! number of rounds. `read` cuts the input into lines and does no more, `check` judges each line in each round, `valid`
-//! asks for no more than whether it is valid, and all three say how many lines there are and how many were valid;
-//! `verdicts` writes `1` or `0` for each line.
+//! Judges the lines of standard input, as often as is asked: the driver of the benches. Its words are a mode, a number
+//! of rounds, a profile's name and a base; with none of them it checks once, alone, by the standard profile. The base
+//! is resolved once.
+//!
+//! `read` cuts the input into lines and does no more. In each round `check` judges each line, `valid` asks for no more
+//! than whether it is valid, and `resolve` makes its record and the record's text; all four say how many lines there
+//! are and how many were valid. `verdicts` writes `1` or `0` for each line, and `texts` the text of its record, or
+//! nothing where it has none.
 #![tactic(auto)]
 
 use std::alloc::{AllocError, Global};
 use std::io::{self, Error, ErrorKind, Read};
 use std::{env, str};
 use uv_grammar::{Verdict, check, is_valid};
-use uv_model::Profile;
+use uv_model::{Profile, Record};
+use uv_resolve::{ResolveFault, resolve, resolve_base};
+
+// What a line is judged against.
+#[derive(Clone, Copy)]
+struct Setting<'s> {
+    alloc: Global,
+    base: Option<&'s Record>,
+    profile: Profile,
+}
 
 fn main(rt: HostRuntime) -> io::Result<()> {
     let words: Vec<String> = env::args(&rt)?.collect(rt.alloc())?;
     let mut bytes = Vec::new(rt.alloc());
     rt.reader().read_to_end(&mut bytes)?;
     let texts = texts_in(rt.alloc(), &bytes)?;
-    let mode = match words.get(1) {
+    let Some(profile) = Profile::of_name(word_at(&words, 3, "standard")) else {
+        return Err(Error::from(ErrorKind::InvalidInput));
+    };
+    let base = words.get(4).map(|word| word.as_str());
+    let Ok(base) = resolve_base(rt.alloc(), base, profile) else {
+        return Err(Error::from(ErrorKind::InvalidInput));
+    };
+    let setting = Setting {
+        alloc: rt.alloc(),
+        base: base.as_ref(),
+        profile,
+    };
+    let rounds = word_at(&words, 2, "1").parse::<u32>().unwrap_or(1);
+    let said = match word_at(&words, 1, "check") {
+        "verdicts" => verdicts_on(&texts, setting)?,
+        "texts" => texts_of(&texts, setting)?,
+        mode => {
+            let lines = texts.len();
+            let valid = count_in_rounds(mode, rounds, &texts, setting)?;
+            format!(in rt.alloc(); "{lines} lines, {valid} valid\n")?
+        }
+    };
+    let said = said.as_str();
+    print!(rt; "{said}")
+}
+
+// A word, or what stands for it where it isn't given.
+fn word_at<'w>(words: &'w [String], at: usize, otherwise: &'w str) -> &'w str {
+    match words.get(at) {
         Some(word) => word.as_str(),
-        None => "check",
-    };
-    let rounds = match words.get(2) {
-        Some(word) => word.as_str().parse::<u32>().unwrap_or(1),
-        None => 1,
-    };
-    if mode == "verdicts" {
-        let verdicts = verdicts_on(rt.alloc(), &texts)?;
-        let verdicts = verdicts.as_str();
-        return println!(rt; "{verdicts}");
+        None => otherwise,
     }
-    let mut valid = 0;
-    if mode == "check" {
-        for _ in 0..rounds {
-            valid = count_valid(rt.alloc(), &texts)?;
-        }
-    }
-    if mode == "valid" {
-        for _ in 0..rounds {
-            valid = count_known_valid(rt.alloc(), &texts)?;
-        }
-    }
-    let lines = texts.len();
-    println!(rt; "{lines} lines, {valid} valid")
 }
 
 // The lines that are text and not empty.
@@ -56,11 +75,30 @@ fn texts_in<'b>(alloc: Global, bytes: &'b [u8]) -> Result<Vec<&'b str>, AllocErr
     Ok(texts)
 }
 
-// How many of the texts are valid.
-fn count_valid(alloc: Global, texts: &[&str]) -> Result<usize, AllocError> {
+// How many of the texts are valid, asked so many times; none where the mode doesn't ask.
+fn count_in_rounds(
+    mode: &str,
+    rounds: u32,
+    texts: &[&str],
+    setting: Setting<'_>,
+) -> Result<usize, AllocError> {
+    let mut valid = 0;
+    for _ in 0..rounds {
+        valid = match mode {
+            "check" => count_checked(texts, setting)?,
+            "valid" => count_valid(texts, setting)?,
+            "resolve" => count_resolved(texts, setting)?,
+            _ => 0,
+        };
+    }
+    Ok(valid)
+}
+
+// How many of the texts are valid, by their verdicts.
+fn count_checked(texts: &[&str], setting: Setting<'_>) -> Result<usize, AllocError> {
     let mut valid = 0usize;
     for text in texts {
-        if let Verdict::Yes(_) = check(alloc, text, None, Profile::Standard)? {
+        if let Verdict::Yes(_) = check(setting.alloc, text, setting.base, setting.profile)? {
             valid = valid.saturating_add(1);
         }
     }
@@ -68,24 +106,57 @@ fn count_valid(alloc: Global, texts: &[&str]) -> Result<usize, AllocError> {
 }
 
 // The same by the verdict alone.
-fn count_known_valid(alloc: Global, texts: &[&str]) -> Result<usize, AllocError> {
+fn count_valid(texts: &[&str], setting: Setting<'_>) -> Result<usize, AllocError> {
     let mut valid = 0usize;
     for text in texts {
-        if is_valid(alloc, text, None, Profile::Standard)? {
+        if is_valid(setting.alloc, text, setting.base, setting.profile)? {
             valid = valid.saturating_add(1);
         }
     }
     Ok(valid)
 }
 
-// A `1` for each valid text and a `0` for each other.
-fn verdicts_on(alloc: Global, texts: &[&str]) -> Result<String, AllocError> {
-    let mut verdicts = String::new(alloc);
+// The same by their records' texts.
+fn count_resolved(texts: &[&str], setting: Setting<'_>) -> Result<usize, AllocError> {
+    let mut valid = 0usize;
     for text in texts {
-        match check(alloc, text, None, Profile::Standard)? {
+        if text_of_record(text, setting)?.is_some() {
+            valid = valid.saturating_add(1);
+        }
+    }
+    Ok(valid)
+}
+
+// The text of a text's record, or none where the text is refused.
+fn text_of_record(text: &str, setting: Setting<'_>) -> Result<Option<String>, AllocError> {
+    match resolve(setting.alloc, text, setting.base, setting.profile) {
+        Ok(record) => Ok(Some(record.text(setting.alloc)?)),
+        Err(ResolveFault::Refused(_)) => Ok(None),
+        Err(ResolveFault::Memory(error)) => Err(error),
+    }
+}
+
+// A `1` for each valid text and a `0` for each other, and a line's end.
+fn verdicts_on(texts: &[&str], setting: Setting<'_>) -> Result<String, AllocError> {
+    let mut verdicts = String::new(setting.alloc);
+    for text in texts {
+        match check(setting.alloc, text, setting.base, setting.profile)? {
             Verdict::Yes(_) => verdicts.push('1')?,
             Verdict::No(_) => verdicts.push('0')?,
         }
     }
+    verdicts.push('\n')?;
     Ok(verdicts)
+}
+
+// A line for each text, with the text of its record where it has one.
+fn texts_of(texts: &[&str], setting: Setting<'_>) -> Result<String, AllocError> {
+    let mut lines = String::new(setting.alloc);
+    for text in texts {
+        if let Some(written) = text_of_record(text, setting)? {
+            lines.push_str(written.as_str())?;
+        }
+        lines.push('\n')?;
+    }
+    Ok(lines)
 }
