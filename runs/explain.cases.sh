@@ -12,7 +12,7 @@ names_sections() {
 
 # names_sentences FILE : the names of the rules, and what is wrong at the place, in the other table
 names_sentences() {
-    awk -F ' *[|] *' '/^[|] Rule / { within = 1; next } !/^[|]/ { within = 0 }
+    awk -F ' *[|] *' '/^[|] Rule [|] What is wrong / { within = 1; next } !/^[|]/ { within = 0 }
         within && $2 !~ /^-/ { gsub(/`/, "", $2); gsub(/`/, "", $3); print $2 "\t" $3 }' "$1"
 }
 
