@@ -55,8 +55,8 @@ unread_verdict profile bytes finding (inr (utf8, inr x)) =
 pub unprofiled : (number : ℕ) (base bytes : List ℕ) (held : Base) → IsPreparedBase number base held
     → held.found.verdict ≡ 6
     → IsUnjudged number (Some base) bytes held.found
-unprofiled number base bytes held (inl (inl x)) six = inl x
-unprofiled number base bytes held (inl (inr (profile, is, x))) six =
+unprofiled number base bytes held (inl (inl x, numbers)) six = inl x
+unprofiled number base bytes held (inl (inr (profile, is, x), numbers)) six =
     absurd ((unread_verdict profile base held.found x).0 six)
 unprofiled number base bytes held (inr (kind, of_kind, same)) six =
     let valid : held.found.verdict ≡ 0 = ap (λ (b : Base). b.found.verdict) same in absurd (omega arith)
@@ -65,9 +65,9 @@ unprofiled number base bytes held (inr (kind, of_kind, same)) six =
 pub no_text : (number : ℕ) (base bytes : List ℕ) (held : Base) (finding : Finding) → IsPreparedBase number base held
     → held.found.verdict ≢ 6 → IsNoText NoUtf8 bytes finding
     → IsUnjudged number (Some base) bytes finding
-no_text number base bytes held finding (inl (inl x)) other text =
+no_text number base bytes held finding (inl (inl x, numbers)) other text =
     absurd (other (ap (λ (f : Finding). f.verdict) x.1))
-no_text number base bytes held finding (inl (inr (profile, is, x))) other text = inr (profile, is, inl text)
+no_text number base bytes held finding (inl (inr (profile, is, x), numbers)) other text = inr (profile, is, inl text)
 no_text number base bytes held finding (inr (kind, of_kind, same)) other text =
     inr (of_kind.profile, of_kind.profile_is, inl text)
 
@@ -75,9 +75,9 @@ no_text number base bytes held finding (inr (kind, of_kind, same)) other text =
 pub no_base : (number : ℕ) (base bytes : List ℕ) (held : Base) → IsPreparedBase number base held
     → held.found.verdict ≢ 6 → held.found.verdict ≢ 0 → IsUtf8 bytes
     → IsUnjudged number (Some base) bytes held.found
-no_base number base bytes held (inl (inl x)) other unread utf8 =
+no_base number base bytes held (inl (inl x, numbers)) other unread utf8 =
     absurd (other (ap (λ (f : Finding). f.verdict) x.1))
-no_base number base bytes held (inl (inr (profile, is, x))) other unread utf8 = inr (profile, is, inr (utf8, x))
+no_base number base bytes held (inl (inr (profile, is, x), numbers)) other unread utf8 = inr (profile, is, inr (utf8, x))
 no_base number base bytes held (inr (kind, of_kind, same)) other unread utf8 =
     absurd (unread (ap (λ (b : Base). b.found.verdict) same))
 
@@ -88,9 +88,9 @@ pub read_base : (number : ℕ) (base bytes : List ℕ) (held : Base) (profile : 
     → IsPreparedBase number base held → held.found.verdict ≡ 0 → profile_of held.profile ≡ Some profile
     → kind_in held ≡ Some kind → IsUtf8 bytes
     → (url : Url) × IsRequest number (Some base) bytes profile (Some url) × IsOfKind url kind
-read_base number base bytes held profile kind (inl (inl x)) valid by says utf8 =
+read_base number base bytes held profile kind (inl (inl x, numbers)) valid by says utf8 =
     let six : held.found.verdict ≡ 6 = ap (λ (f : Finding). f.verdict) x.1 in absurd (omega arith)
-read_base number base bytes held profile kind (inl (inr (other, is, x))) valid by says utf8 =
+read_base number base bytes held profile kind (inl (inr (other, is, x), numbers)) valid by says utf8 =
     absurd ((unread_verdict other base held.found x).1 valid)
 read_base number base bytes held profile kind (inr (made, of_kind, same)) valid by says utf8 =
     let given : profile_of number ≡ Some profile = sym (ap (λ (b : Base). profile_of b.profile) same) ∙ by in
@@ -108,9 +108,9 @@ read_base number base bytes held profile kind (inr (made, of_kind, same)) valid 
 -- the numbers of a base that is valid say a profile
 pub some_profile : (number : ℕ) (base : List ℕ) (held : Base) → IsPreparedBase number base held
     → held.found.verdict ≡ 0 → profile_of held.profile ≡ None → ⊥
-some_profile number base held (inl (inl x)) valid none =
+some_profile number base held (inl (inl x, numbers)) valid none =
     let six : held.found.verdict ≡ 6 = ap (λ (f : Finding). f.verdict) x.1 in omega arith
-some_profile number base held (inl (inr (other, is, x))) valid none =
+some_profile number base held (inl (inr (other, is, x), numbers)) valid none =
     (unread_verdict other base held.found x).1 valid
 some_profile number base held (inr (made, of_kind, same)) valid none =
     none-some of_kind.profile
@@ -119,9 +119,9 @@ some_profile number base held (inr (made, of_kind, same)) valid none =
 -- and a kind
 pub some_kind : (number : ℕ) (base : List ℕ) (held : Base) → IsPreparedBase number base held
     → held.found.verdict ≡ 0 → kind_in held ≡ None → ⊥
-some_kind number base held (inl (inl x)) valid none =
+some_kind number base held (inl (inl x, numbers)) valid none =
     let six : held.found.verdict ≡ 6 = ap (λ (f : Finding). f.verdict) x.1 in omega arith
-some_kind number base held (inl (inr (other, is, x))) valid none =
+some_kind number base held (inl (inr (other, is, x), numbers)) valid none =
     (unread_verdict other base held.found x).1 valid
 some_kind number base held (inr (made, of_kind, same)) valid none =
     none-some made (sym none ∙ (ap kind_in same ∙ kind_back number made))

@@ -50,6 +50,10 @@ held_base number kind = record {
   empty_host = flag_number kind.has_empty_host;
 }
 
+-- a base from which nothing is read by the profile with this number, for this reason
+abbrev pub unread_base : ℕ → Finding → Base
+unread_base number why = record { found = why; profile = number; scheme = 0; opaque_path = 0; empty_host = 0 }
+
 -- the kind with a scheme, and what else the numbers of a base say
 abbrev pub kind_with : Base → BaseScheme → BaseKind
 kind_with base scheme = record {
@@ -86,7 +90,7 @@ IsKindRead number bytes (Err finding) = IsUnread number bytes finding
 -- what was read of the bytes: the kind of what they denote, or why they denote nothing
 abbrev pub IsPreparedBase : ℕ → List ℕ → Base → Type 0
 IsPreparedBase number bytes base =
-    IsUnread number bytes base.found
+    (IsUnread number bytes base.found × (base ≡ unread_base number base.found))
     ⊎ ((kind : BaseKind) × IsBaseOfKind number bytes kind × (base ≡ held_base number kind))
 
 -- ---- what is judged against it

@@ -1,7 +1,7 @@
 //! A base that is judged once and held between calls.
 ghost use Rattle.std.specs.Prelude.{◌≡◌, ◌==◌, ℕ, List, not};
 ghost use Rattle.urlcheck_c.specs.Base.{IsKindRead, IsPreparedBase, IsPreparedWith, flag_number, held_base, kind_in};
-ghost use Rattle.urlcheck_c.specs.Base.{scheme_number, scheme_with};
+ghost use Rattle.urlcheck_c.specs.Base.{scheme_number, scheme_with, unread_base};
 
 use crate::finding::{CallOutcome, Finding};
 use crate::request::{base_of, profile_of, text_of};
@@ -64,7 +64,7 @@ impl Base {
 
     // A base that isn't valid, or isn't judged.
     fn refused(profile: u32, found: Finding) -> Base
-        ensures { result.found ≡ found }
+        ensures { result ≡ unread_base profile found }
     {
         Base {
             found,
