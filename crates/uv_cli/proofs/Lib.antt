@@ -1,5 +1,7 @@
+mod ArgumentLemmas
 mod CheckLemmas
 mod LintLemmas
 mod ListLemmas
 mod MendLemmas
+mod ProgramLemmas
 mod ReportLemmas

@@ -1,8 +1,11 @@
+pub mod Arguments
+pub mod Calls
 pub mod Check
 pub mod CheckText
 pub mod Stream
 pub mod Ends
 pub mod Explain
+pub mod Flushed
 pub mod Jobs
 pub mod Lint
 pub mod Linted
@@ -10,4 +13,5 @@ pub mod Mend
 pub mod Filtered
 pub mod Filter
 pub mod Messages
+pub mod Program
 pub mod Unread

@@ -9,13 +9,15 @@ use Rattle.uv_cli.specs.declared.unread.FileFault.TheVariants as file
 use Rattle.uv_cli.specs.declared.unread.Unread.{Unread}
 use Rattle.uv_cli.specs.declared.unread.Unread.TheVariants as unread
 
--- the reason is right, by the kind of the library's error, if that is known
+-- the reason is that of the kind of the library's error, if that is known: each of these kinds has its own, and only
+-- what is none of them has no name
 abbrev pub IsReason : Option ErrorKind → Unread → Type 0
 IsReason kind unread.Missing = kind ≡ Some NotFound
 IsReason kind unread.Folder = kind ≡ Some IsADirectory
 IsReason kind unread.NoFolder = kind ≡ Some NotADirectory
 IsReason kind unread.NotPermitted = kind ≡ Some PermissionDenied
-IsReason kind unread.Other = Unit {0}
+IsReason kind unread.Other =
+    (kind ≢ Some NotFound) × (kind ≢ Some IsADirectory) × (kind ≢ Some NotADirectory) × (kind ≢ Some PermissionDenied)
 
 -- a file isn't read since memory ran out, or for another reason
 abbrev pub IsFault : ErrorKind → FileFault → Type 0

@@ -1,4 +1,7 @@
 //! The arguments of the process.
+ghost use Rattle.std.specs.Prelude.{◌≡◌, ℕ, List, Option, IfOk, map, option_map, string_bytes};
+ghost use Rattle.std.specs.Io.{WritesAtMost};
+ghost use Rattle.uv_cli.specs.Arguments.{AreWords, Fills, IsWord, IsWordAt, has_hyphen, mark_text};
 
 use std::alloc::{AllocError, Global};
 use std::env::FillError;
@@ -12,32 +15,74 @@ const MARK: char = '\0';
 // How many bytes of an argument are read at first.
 const ROOM: usize = 256;
 
-/// The arguments of the process, of which the first is the program's name. For one that isn't UTF-8 stands a text that
-/// says so, by its number, and ends with `MARK`: it can be no file's name.
-pub(crate) fn arguments<R: Env + AllocGlobal>(rt: &R) -> Result<Vec<String>, AllocError> {
-    let mut texts = Vec::new(rt.alloc());
-    let mut room = vec![in rt.alloc(); 0u8; ROOM]?;
-    for number in 0..usize::MAX {
-        match read_argument(rt, number, &mut room)? {
-            Some(length) => {
-                let bytes = room.as_slice().get(..length).unwrap_or(&[]);
-                texts.push(text_of(rt.alloc(), number, bytes)?)?;
-            }
-            None => break,
-        }
-    }
-    Ok(texts)
+/// What gives the arguments of a process, each by its number. The first is the program's name.
+pub(crate) trait Arguments {
+    // The argument with a number may be these bytes, or not be there.
+    ghost gives: { Self → ℕ → Option (List ℕ) → Type 0 };
+
+    /// Puts an argument at the start of the room, and says how many bytes it has.
+    fn argument(&self, number: usize, room: &mut [u8]) -> Result<usize, FillError>
+        ensures bound { WritesAtMost result room.new }
+        ensures fills { Fills (gives self.now number) result room.new };
 }
 
-// Reads an argument to the start of the room, which grows until it suffices, and gives how many bytes it has.
-fn read_argument<R: Env>(
-    rt: &R,
+/// The arguments of this process, as the runtime gives them.
+#[derive(Drop)]
+pub(crate) struct OwnArguments<'a, R> {
+    rt: &'a R,
+}
+
+impl<'a, R: Env> OwnArguments<'a, R> {
+    /// Those that this runtime gives.
+    pub(crate) fn new(rt: &'a R) -> OwnArguments<'a, R> {
+        OwnArguments { rt }
+    }
+}
+
+impl<R: Env> Arguments for OwnArguments<'_, R> {
+    // The library doesn't say what the system gives.
+    ghost gives = { λ own number argument. Unit {0} };
+
+    fn argument(&self, number: usize, room: &mut [u8]) -> Result<usize, FillError> {
+        self.rt.arg(number, room)
+    }
+}
+
+/// The words of all arguments, in order. For an argument that isn't UTF-8 stands a text that says so, by its number,
+/// and ends with a NUL: it can be no file's name.
+pub(crate) fn words_of<A: Arguments>(
+    alloc: Global,
+    arguments: &A,
+) -> Result<Vec<String>, AllocError>
+    ensures { IfOk result (λ words. AreWords (A.gives arguments.now) (map string_bytes words.items)) }
+{
+    let mut words = Vec::new(alloc);
+    let mut room = vec![in alloc; 0u8; ROOM]?;
+    for number in 0..usize::MAX {
+        match read_word(alloc, arguments, number, &mut room)? {
+            Some(word) => words.push(word)?,
+            None => return Ok(words),
+        }
+    }
+    Err(AllocError)
+}
+
+// Reads the word of the argument with a number, if there is one, by a room that grows until it suffices.
+fn read_word<A: Arguments>(
+    alloc: Global,
+    arguments: &A,
     number: usize,
     room: &mut Vec<u8>,
-) -> Result<Option<usize>, AllocError> {
+) -> Result<Option<String>, AllocError>
+    ensures { IfOk result (λ word.
+        IsWordAt (A.gives arguments.now number) number (option_map string_bytes word)) }
+{
     for _ in 0..usize::BITS {
-        match rt.arg(number, room.as_mut_slice()) {
-            Ok(length) => return Ok(Some(length)),
+        match arguments.argument(number, room.as_mut_slice()) {
+            Ok(count) => {
+                let argument = &room.as_slice()[..count];
+                return Ok(Some(word_of(alloc, number, argument)?));
+            }
             Err(FillError::NotPresent) => return Ok(None),
             Err(FillError::TooLong) => {
                 let length = room.len().saturating_mul(2);
@@ -48,15 +93,35 @@ fn read_argument<R: Env>(
     Err(AllocError)
 }
 
-// An argument's text, or what stands for it where its bytes aren't UTF-8: behind `-` where it begins so, since it may
-// be an option then.
-fn text_of(alloc: Global, number: usize, bytes: &[u8]) -> Result<String, AllocError> {
-    match from_utf8(bytes) {
+// The word of an argument.
+fn word_of(alloc: Global, number: usize, argument: &[u8]) -> Result<String, AllocError>
+    ensures { IfOk result (λ word. IsWord number argument.now (string_bytes word)) }
+{
+    match from_utf8(argument) {
         Ok(text) => text.to_string(alloc),
-        Err(_) if bytes.starts_with(b"-") => {
-            format!(in alloc; "-argument {number} isn't UTF-8\0")
-        }
-        Err(_) => format!(in alloc; "argument {number} isn't UTF-8\0"),
+        Err(_) => mark(alloc, number, has_hyphen(argument)),
+    }
+}
+
+// Whether a text begins with a hyphen.
+fn has_hyphen(argument: &[u8]) -> bool
+    ensures { result ≡ has_hyphen argument.now }
+{
+    match argument {
+        [first, ..] => *first == b'-',
+        [] => false,
+    }
+}
+
+// What stands for an argument that isn't UTF-8.
+#[tactic(auto, unfolding(crate::specs::Arguments::mark_text))]
+fn mark(alloc: Global, number: usize, hyphen: bool) -> Result<String, AllocError>
+    ensures { IfOk result (λ mark. string_bytes mark ≡ mark_text number hyphen) }
+{
+    if hyphen {
+        format!(in alloc; "-argument {number} isn't UTF-8\0")
+    } else {
+        format!(in alloc; "argument {number} isn't UTF-8\0")
     }
 }
 

@@ -12,7 +12,7 @@ use crate::ends::End;
 use crate::linted::Linted;
 use crate::messages::{message_line, say};
 use crate::unread::{Unread, report_unread};
-use crate::watched::Watched;
+use crate::watched::WatchedReader;
 use std::alloc::{AllocError, Global};
 use std::fs;
 use std::fs::Files;
@@ -278,7 +278,7 @@ fn lint_opened<R: Files + Eprint + AllocGlobal, S: Sink>(
     }
     match fs::open(rt, file) {
         Ok(opened) => {
-            let mut source = FromReader::new(Watched::new(opened));
+            let mut source = FromReader::new(WatchedReader::new(opened));
             let answer = run_lint(rt.alloc(), &mut source, out, file, is_first, setting);
             report_failed_read(rt, file, answer.1, source.into_reader().fault());
             answer

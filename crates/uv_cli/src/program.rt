@@ -1,18 +1,24 @@
 //! The program `urlcheck` over a runtime: its arguments, its streams and its exit status.
+ghost use Rattle.std.specs.Prelude.{◌≡◌, ◌-◌, ◌^◌, ◌<◌, MatchResult, OnErr, false};
+ghost use Rattle.std.specs.IoError.{error_kind};
+ghost use Rattle.std.specs.Io.KnownBytes.{Keeps};
+ghost use Rattle.uv_cli.specs.Calls.{is_closed_by};
+ghost use Rattle.uv_cli.specs.Flushed.{ended_after, open_end};
+ghost use Rattle.uv_cli.specs.Program.{HasAnswered, HasEndedJob, HasFile, HasRun, HasShown, IsStatus};
 
-use crate::arguments::{arguments, refused};
+use crate::arguments::{OwnArguments, refused, words_of};
 use crate::ends::{End, end_after_output, end_without_file, end_without_job, error_line, status};
 use crate::jobs::run_job;
 use crate::messages::{message_line, message_lines, say};
 use crate::unknown::unknown_lines;
 use crate::unread::{FileFault, read_vector_file, report_unread};
-use crate::watched::Watched;
+use crate::watched::WatchedWriter;
 use std::alloc::{AllocError, Global};
 use std::fs::Files;
 use std::io;
 use std::io::{ErrorKind, Write};
 use std::rt::Env;
-use uv_model::{FromReader, ToWriter};
+use uv_model::{FromReader, Source, ToWriter};
 use uv_vectors::CliFault;
 use uv_words::{Job, WordsFault, read_words};
 
@@ -43,7 +49,7 @@ pub fn run<R: Env + Files + Input + Print + Eprint + AllocGlobal>(rt: &R) -> u8 
 fn outcome<R: Env + Files + Input + Print + Eprint + AllocGlobal>(
     rt: &R,
 ) -> Result<Ended, AllocError> {
-    let words = arguments(rt)?;
+    let words = words_of(rt.alloc(), &OwnArguments::new(rt))?;
     let texts: Vec<&str> = words.iter().map(|word| word.as_str()).collect(rt.alloc())?;
     let asked = read_words(rt.alloc(), texts.as_slice());
     let job = match &asked {
@@ -53,21 +59,35 @@ fn outcome<R: Env + Files + Input + Print + Eprint + AllocGlobal>(
     if let Some(said) = refused(words.as_slice(), job) {
         return Ok(refusal(rt, said));
     }
-    match &asked {
-        Ok(Some(job)) => Ok(done(rt, job)),
-        Ok(None) => Ok(refusal(rt, NO_JOB)),
-        Err(fault) => Ok(shown(rt, fault)),
+    Ok(answered(rt, &asked))
+}
+
+// Does what the arguments ask for, or says why there is nothing to do.
+fn answered<R: Files + Input + Print + Eprint + AllocGlobal>(
+    rt: &R,
+    asked: &Result<Option<Job>, WordsFault>,
+) -> Ended
+    ensures { HasAnswered asked.now result }
+{
+    match asked {
+        Ok(Some(job)) => done(rt, job),
+        Ok(None) => refusal(rt, NO_JOB),
+        Err(fault) => shown(rt, fault),
     }
 }
 
 // Says why the arguments are refused.
-fn refusal<R: Eprint + AllocGlobal>(rt: &R, why: &str) -> Ended {
+fn refusal<R: Eprint + AllocGlobal>(rt: &R, why: &str) -> Ended
+    ensures { result ≡ open_end End.Words }
+{
     say(rt, message_line(rt.alloc(), why));
     open(End::Words)
 }
 
 // An end behind which the output is still read.
-fn open(end: End) -> Ended {
+fn open(end: End) -> Ended
+    ensures { result ≡ open_end end }
+{
     Ended {
         end,
         is_closed: false,
@@ -75,20 +95,44 @@ fn open(end: End) -> Ended {
 }
 
 // Does a job over the runtime's streams.
-fn done<R: Files + Input + Print + Eprint + AllocGlobal>(rt: &R, job: &Job) -> Ended {
+fn done<R: Files + Input + Print + Eprint + AllocGlobal>(rt: &R, job: &Job) -> Ended
+    ensures { HasEndedJob job.now result }
+{
     let file = match file_of(rt, job) {
         Ok(file) => file,
         Err(fault) => return open(end_without_file(fault)),
     };
     let mut input = FromReader::new(rt.reader());
-    let mut out = ToWriter::new(Watched::new(io::writer(rt)));
-    let end = run_job(rt, job, file.as_slice(), &mut input, &mut out);
+    let (ended, _) = done_over(rt, job, file.as_slice(), &mut input, io::writer(rt));
+    ended
+}
+
+// Does a job over an input and a writer, which is flushed behind the last write, and given back.
+fn done_over<R: Files + Eprint + AllocGlobal, I: Source, W: Write + Drop>(
+    rt: &R,
+    job: &Job,
+    file: &[u8],
+    input: &mut I,
+    writer: W,
+) -> (Ended, WatchedWriter<W>)
+    requires { I.failed input.old < 2 ^ 64 - 1 }
+    ensures { HasRun job.now file.now result.0
+        (record { bytes = I.remaining input.old; failed = I.failed input.old })
+        (record { bytes = I.remaining input.new; failed = I.failed input.new })
+        (W.contents writer) (W.contents result.1.writer) result.1.is_flushed result.1.fault }
+{
+    let mut out = ToWriter::new(WatchedWriter::new(writer));
+    let end = run_job(rt, job, file, input, &mut out);
     say(rt, unknown_lines(rt.alloc(), job, end));
-    finished(end, out.into_writer())
+    let mut out = out.into_writer();
+    let ended = finished(end, &mut out);
+    (ended, out)
 }
 
 // The bytes of the job's file, and none where it has no file. It is reported why a file isn't read.
-fn file_of<R: Files + Eprint + AllocGlobal>(rt: &R, job: &Job) -> Result<Vec<u8>, FileFault> {
+fn file_of<R: Files + Eprint + AllocGlobal>(rt: &R, job: &Job) -> Result<Vec<u8>, FileFault>
+    ensures { OnErr result (HasFile job.now) }
+{
     let Job::Vectors { file } = job else {
         return Ok(Vec::new(rt.alloc()));
     };
@@ -100,30 +144,49 @@ fn file_of<R: Files + Eprint + AllocGlobal>(rt: &R, job: &Job) -> Result<Vec<u8>
 }
 
 /// The end once the output is flushed, or once that failed.
-pub(crate) fn finished<W: Write + Drop>(end: End, out: Watched<W>) -> Ended {
-    let mut out = out;
+pub(crate) fn finished<W: Write>(end: End, out: &mut WatchedWriter<W>) -> Ended
+    ensures ended { result ≡ ended_after end out.new.is_flushed out.new.fault }
+    ensures bytes { Keeps (W.contents out.old.writer) (W.contents out.new.writer) }
+{
     let is_out = out.flush().is_ok();
     Ended {
         end: end_after_output(end, is_out),
-        is_closed: out.fault() == Some(ErrorKind::BrokenPipe),
+        is_closed: is_closed_by(out.fault()),
     }
 }
 
+// Whether whoever read the output has gone, by the kind of the last error.
+fn is_closed_by(fault: Option<ErrorKind>) -> bool
+    ensures { result ≡ is_closed_by fault }
+{
+    matches!(fault, Some(ErrorKind::BrokenPipe))
+}
+
 // Shows what the reader of the arguments says: help on standard output, a refusal on standard error.
-fn shown<R: Print + Eprint + AllocGlobal>(rt: &R, fault: &WordsFault) -> Ended {
+fn shown<R: Print + Eprint + AllocGlobal>(rt: &R, fault: &WordsFault) -> Ended
+    ensures { HasShown fault.now result }
+{
     let end = end_without_job(fault);
     let WordsFault::Words(error) = fault else {
         return open(end);
     };
-    if error.use_stderr() {
-        say(rt, clap_lines(rt.alloc(), error));
-        return open(end);
+    if fault.asks_to_show() {
+        return printed(end, error.print(rt));
     }
-    match error.print(rt) {
+    say(rt, clap_lines(rt.alloc(), error));
+    open(end)
+}
+
+// The end once help is printed, or once that failed.
+fn printed(end: End, answer: io::Result<()>) -> Ended
+    ensures { MatchResult answer (λ done. result ≡ open_end end)
+        (λ error. result ≡ ended_after end false (Some (error_kind error))) }
+{
+    match answer {
         Ok(()) => open(end),
         Err(error) => Ended {
             end: end_after_output(end, false),
-            is_closed: error.kind() == ErrorKind::BrokenPipe,
+            is_closed: is_closed_by(Some(error.kind())),
         },
     }
 }
@@ -135,7 +198,9 @@ fn clap_lines(alloc: Global, error: &clap::Error) -> Result<String, AllocError> 
 
 // Says on standard error how the program ends, and gives the exit status. A failed write there has nowhere to be
 // reported.
-fn end_with<R: Eprint + AllocGlobal>(rt: &R, end: End) -> u8 {
+fn end_with<R: Eprint + AllocGlobal>(rt: &R, end: End) -> u8
+    ensures { IsStatus end result }
+{
     match error_line(rt.alloc(), end) {
         Ok(line) => {
             let _ = rt.eprint(line.as_str());

@@ -1,34 +1,46 @@
-//! A reader or a writer that keeps why a call of it failed, where the product's own keep only that one did.
+//! Readers and writers that keep why a call of them failed, where the product's own keep only that one did.
+ghost use Rattle.std.specs.Prelude.{◌≡◌, false, is_ok};
+ghost use Rattle.std.specs.Io.{ReadsAtMost, WritesAtMost};
+ghost use Rattle.std.specs.Io.KnownBytes.{Keeps, ReadConsumes, WriteAppends};
+ghost use Rattle.uv_cli.specs.Calls.{fault_after};
 
 use std::io::{self, ErrorKind, Read, Write};
 
-/// A reader or a writer, with the kind of its last error, if a call of it has failed.
+/// A reader, with the kind of its last error, if a read of it has failed.
 #[derive(Drop)]
-pub(crate) struct Watched<D> {
-    stream: D,
+pub(crate) struct WatchedReader<R> {
+    reader: R,
     fault: Option<ErrorKind>,
 }
 
-impl<D> Watched<D> {
-    /// The reader or writer, of which no call has failed yet.
-    pub(crate) fn new(stream: D) -> Watched<D> {
-        Watched {
-            stream,
+impl<R> WatchedReader<R> {
+    /// The reader, of which no read has failed yet.
+    pub(crate) fn new(reader: R) -> WatchedReader<R>
+        ensures { result ≡ record { reader = reader; fault = None } }
+    {
+        WatchedReader {
+            reader,
             fault: None,
         }
     }
 
     /// The kind of the last error.
-    pub(crate) fn fault(&self) -> Option<ErrorKind> {
+    pub(crate) fn fault(&self) -> Option<ErrorKind>
+        ensures { result ≡ self.now.fault }
+    {
         self.fault
     }
 }
 
-impl<R: Read> Read for Watched<R> {
-    ghost remaining = { λ w. R.remaining w.stream };
+impl<R: Read> Read for WatchedReader<R> {
+    ghost remaining = { λ w. R.remaining w.reader };
 
-    fn read(&mut self, buf: &mut [u8]) -> io::Result<usize> {
-        match self.stream.read(buf) {
+    fn read(&mut self, buf: &mut [u8]) -> io::Result<usize>
+        ensures bound { ReadsAtMost result buf.new }
+        ensures bytes { ReadConsumes (R.remaining self.old.reader) (R.remaining self.new.reader) result buf.new }
+        ensures fault { self.new.fault ≡ fault_after self.old.fault result }
+    {
+        match self.reader.read(buf) {
             Ok(given) => Ok(given),
             Err(error) => {
                 self.fault = Some(error.kind());
@@ -38,11 +50,46 @@ impl<R: Read> Read for Watched<R> {
     }
 }
 
-impl<W: Write> Write for Watched<W> {
-    ghost contents = { λ w. W.contents w.stream };
+/// A writer, with the kind of its last error, if a write or a flush of it has failed, and whether it is flushed: no
+/// write came behind the last flush, and that didn't fail.
+#[derive(Drop)]
+pub(crate) struct WatchedWriter<W> {
+    writer: W,
+    fault: Option<ErrorKind>,
+    is_flushed: bool,
+}
 
-    fn write(&mut self, buf: &[u8]) -> io::Result<usize> {
-        match self.stream.write(buf) {
+impl<W> WatchedWriter<W> {
+    /// The writer, of which no call has failed yet, and that isn't flushed.
+    pub(crate) fn new(writer: W) -> WatchedWriter<W>
+        ensures { result ≡ record { writer = writer; fault = None; is_flushed = false } }
+    {
+        WatchedWriter {
+            writer,
+            fault: None,
+            is_flushed: false,
+        }
+    }
+
+    /// The kind of the last error.
+    pub(crate) fn fault(&self) -> Option<ErrorKind>
+        ensures { result ≡ self.now.fault }
+    {
+        self.fault
+    }
+}
+
+impl<W: Write> Write for WatchedWriter<W> {
+    ghost contents = { λ w. W.contents w.writer };
+
+    fn write(&mut self, buf: &[u8]) -> io::Result<usize>
+        ensures bound { WritesAtMost result buf.now }
+        ensures bytes { WriteAppends (W.contents self.old.writer) (W.contents self.new.writer) result buf.now }
+        ensures fault { self.new.fault ≡ fault_after self.old.fault result }
+        ensures flushed { self.new.is_flushed ≡ false }
+    {
+        self.is_flushed = false;
+        match self.writer.write(buf) {
             Ok(taken) => Ok(taken),
             Err(error) => {
                 self.fault = Some(error.kind());
@@ -51,10 +98,18 @@ impl<W: Write> Write for Watched<W> {
         }
     }
 
-    fn flush(&mut self) -> io::Result<()> {
-        match self.stream.flush() {
-            Ok(()) => Ok(()),
+    fn flush(&mut self) -> io::Result<()>
+        ensures bytes { Keeps (W.contents self.old.writer) (W.contents self.new.writer) }
+        ensures fault { self.new.fault ≡ fault_after self.old.fault result }
+        ensures flushed { self.new.is_flushed ≡ is_ok result }
+    {
+        match self.writer.flush() {
+            Ok(()) => {
+                self.is_flushed = true;
+                Ok(())
+            }
             Err(error) => {
+                self.is_flushed = false;
                 self.fault = Some(error.kind());
                 Err(error)
             }

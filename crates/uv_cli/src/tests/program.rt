@@ -6,7 +6,7 @@ use crate::ends::{End, status};
 use crate::messages::message_lines;
 use crate::program::finished;
 use crate::unknown::unknown_lines;
-use crate::watched::Watched;
+use crate::watched::WatchedWriter;
 use std::io::{self, ErrorKind, Write};
 use std::test::Fail;
 use uv_vectors::CliFault;
@@ -34,13 +34,13 @@ impl Write for Held {
 // A flush that fails is reported, with the status of a write; of a closed pipe nothing is said.
 #[test]
 fn reports_a_failed_flush(rt: HostRuntime) {
-    let whole = finished(End::Valid, Watched::new(Held { fails: None }));
+    let whole = finished(End::Valid, &mut WatchedWriter::new(Held { fails: None }));
     assert!(rt; whole.end == End::Valid && !whole.is_closed);
     let fails = Some(ErrorKind::StorageFull);
-    let failed = finished(End::Valid, Watched::new(Held { fails }));
+    let failed = finished(End::Valid, &mut WatchedWriter::new(Held { fails }));
     assert!(rt; failed.end == End::Fault(CliFault::Write) && !failed.is_closed);
     let fails = Some(ErrorKind::BrokenPipe);
-    let closed = finished(End::Refused, Watched::new(Held { fails }));
+    let closed = finished(End::Refused, &mut WatchedWriter::new(Held { fails }));
     assert!(rt; status(closed.end) == 3 && closed.is_closed);
 }
 
