@@ -157,7 +157,7 @@ static void refuse_stray_bases(void) {
     const uint8_t bytes[] = "http://h/";
     urlcheck_base held = urlcheck_prepare(bytes, 9, URLCHECK_STANDARD);
     if (urlcheck_check_with(bytes, 9, &held).found.verdict != URLCHECK_VALID) fail("a base that is held");
-    held.profile = 2;
+    held.profile = 3;
     if (urlcheck_check_with(bytes, 9, &held).found.verdict != URLCHECK_NO_BASE) fail("a base of no profile");
     if (urlcheck_check_with(bytes, 9, &zeros).found.verdict != URLCHECK_NO_BASE) fail("a base of zeros");
     if (urlcheck_check_with(bytes, 9, NULL).found.verdict != URLCHECK_NO_BASE) fail("a null base");
