@@ -28,11 +28,17 @@ abbrev pub AreFirstParts : {S : Type 0} → (S → Option (List ℕ) → List �
     → Type 0
 AreFirstParts begins before line parts = (parts ≡ []) ⊎ begins before line parts
 
--- what a fault within a line leaves of what waited before and of the first parts of what is said of the line: all of
--- it is written or waits, or behind a failed write a prefix of it is written
+-- what a fault leaves of what waited before and of such parts of what is said: all of it is written or waits, or behind
+-- a failed write a prefix of it is written
+abbrev pub LeavesParts : {F : Type 0} → (List ℕ → Type 0) → ReportFault F → List ℕ → Option (List ℕ) → List ℕ
+    → Option (List ℕ) → Type 0
+LeavesParts AreParts (Reporter fault) waited old waits new =
+    (parts : List ℕ) × AreParts parts × Passes (waited ++ parts) old new waits
+LeavesParts AreParts Write waited old waits new =
+    (parts : List ℕ) × AreParts parts × CutsOff (waited ++ parts) old new
+
+-- the same of the first parts of what is said of a line
 abbrev pub LeavesLine : {S F : Type 0} → (S → Option (List ℕ) → List ℕ → Type 0) → ReportFault F → S → List ℕ
     → Option (List ℕ) → Option (List ℕ) → List ℕ → Option (List ℕ) → Type 0
-LeavesLine begins (Reporter fault) before waited old line waits new =
-    (parts : List ℕ) × AreFirstParts begins before line parts × Passes (waited ++ parts) old new waits
-LeavesLine begins Write before waited old line waits new =
-    (parts : List ℕ) × AreFirstParts begins before line parts × CutsOff (waited ++ parts) old new
+LeavesLine begins fault before waited old line waits new =
+    LeavesParts (AreFirstParts begins before line) fault waited old waits new

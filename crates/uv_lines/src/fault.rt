@@ -1,10 +1,6 @@
 //! Why a run over the lines of a list stopped.
 ghost use Rattle.std.specs.Prelude.{◌≡◌};
 ghost use Rattle.uv_lines.specs.Fault as spec;
-ghost use Rattle.uv_lines.specs.declared.fault.ReportFault.TheVariants as within;
-
-use std::alloc::AllocError;
-use uv_model::DeviceFault;
 
 /// Why a run over the lines of a list stopped, and what it had written by then. How far the reader was read is open.
 #[derive(Clone, Copy, Debug, PartialEq, Eq)]
@@ -43,22 +39,6 @@ impl<F> ReportFault<F> {
             ReportFault::Reporter(fault) => LineFault::Report(fault),
             ReportFault::Write => LineFault::Write,
         }
-    }
-}
-
-impl<F> From<DeviceFault> for ReportFault<F> {
-    ghost from_gives = { λ _ given. given ≡ within.Write };
-
-    fn from(_fault: DeviceFault) -> ReportFault<F> {
-        ReportFault::Write
-    }
-}
-
-impl From<AllocError> for ReportFault<AllocError> {
-    ghost from_gives = { λ error given. given ≡ within.Reporter error };
-
-    fn from(error: AllocError) -> ReportFault<AllocError> {
-        ReportFault::Reporter(error)
     }
 }
 

@@ -1,6 +1,6 @@
 //! Runs over lists written out, in a frame, with a reporter that says the number of each line and how many bytes it
 //! has.
-ghost use Rattle.std.specs.Prelude.{◌≤◌, None, [], codes};
+ghost use Rattle.std.specs.Prelude.{◌≡◌, ℕ, ◌≤◌, ◌++◌, List, OnErr, OnOk, codes};
 
 use super::*;
 use std::alloc::{AllocError, Global};
@@ -32,17 +32,13 @@ impl Reporter for Lengths {
         text: &mut Vec<u8>,
         _writer: &mut W,
     ) -> Result<(), ReportFault<AllocError>> {
-        let number = self.lines + 1;
-        let said = match line {
-            Some(line) => {
-                let size = line.len();
-                format!(in alloc; "{number}:{size} ")?
+        match push_length(alloc, self.lines + 1, line, text) {
+            Ok(()) => {
+                self.lines += 1;
+                Ok(())
             }
-            None => format!(in alloc; "{number}:- ")?,
-        };
-        text.extend_from_slice(said.as_bytes())?;
-        self.lines = number;
-        Ok(())
+            Err(AllocError) => Err(ReportFault::Reporter(AllocError)),
+        }
     }
 
     fn line_count(&self) -> u64 {
@@ -54,6 +50,26 @@ impl Reporter for Lengths {
     fn last(&self, alloc: Global) -> Result<String, AllocError> {
         String::from_str(alloc, ".")
     }
+}
+
+// Pushes what is said of a line with this number.
+fn push_length(
+    alloc: Global,
+    number: u64,
+    line: Option<&[u8]>,
+    text: &mut Vec<u8>,
+) -> Result<(), AllocError>
+    ensures said { OnOk result ((said : List ℕ) × (text.new.items ≡ text.old.items ++ said)) }
+    ensures none { OnErr result (text.new.items ≡ text.old.items) }
+{
+    let said = match line {
+        Some(line) => {
+            let size = line.len();
+            format!(in alloc; "{number}:{size} ")?
+        }
+        None => format!(in alloc; "{number}:- ")?,
+    };
+    text.extend_from_slice(said.as_bytes())
 }
 
 // What a run over these bytes answers and writes, and how many lines it reported on.

@@ -1,5 +1,5 @@
 //! What is said of a list, and of one line, is written in parts.
-ghost use Rattle.std.specs.Prelude.{◌^◌, ◌-◌, ◌<◌, None, []};
+ghost use Rattle.std.specs.Prelude.{◌≡◌, None, []};
 
 use crate::{Frame, LineFault, LineLimits, ReportFault, Reporter, end_part, run_lines};
 use std::alloc::{AllocError, Global};
@@ -31,8 +31,12 @@ impl Reporter for Thousands {
         writer: &mut W,
     ) -> Result<(), ReportFault<AllocError>> {
         for _part in 0..self.parts {
-            text.extend_from_slice(&[b'.'; 1_000])?;
-            end_part(text, writer)?;
+            if let Err(AllocError) = text.extend_from_slice(&[b'.'; 1_000]) {
+                return Err(ReportFault::Reporter(AllocError));
+            }
+            if let Err(DeviceFault) = end_part(text, writer) {
+                return Err(ReportFault::Write);
+            }
         }
         if !self.is_whole {
             return Err(ReportFault::Reporter(AllocError));
