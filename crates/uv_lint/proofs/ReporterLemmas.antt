@@ -1,7 +1,7 @@
 -- A line that was reported on.
 use Rattle.std.proofs.Common.{◌≡◌, ℕ, ◌+◌, List, [], ◌∷◌, ◌++◌, Option, Some, None, true, false, length, refl, sym, ap}
 use Rattle.std.proofs.Common.{◌∙◌, append-nil, append_assoc, subst, arith, eqb-true, Result, Ok, Err, OnOk, IfErr, inl, inr}
-use Rattle.std.specs.Prelude.{◌==◌, if◌then◌else◌}
+use Rattle.std.specs.Prelude.{◌==◌, if◌then◌else◌, option_copied}
 use Rattle.std.specs.Result.{is_ok}
 use Rattle.std.specs.declared.alloc.AllocError.{AllocError}
 use Rattle.uv_report.specs.declared.line_violation.LineViolation.{LineViolation}
@@ -9,11 +9,13 @@ use Rattle.uv_lines.specs.declared.fault.ReportFault.{ReportFault}
 use Rattle.uv_lines.specs.declared.fault.ReportFault.TheVariants as within
 use Rattle.uv_lines.specs.Waiting.{Adds, AreFirstParts, CutsOff, LeavesParts, Passes}
 use Rattle.uv_lines.proofs.WaitingLemmas.{cuts_more, passes_more, passes_none}
-use Rattle.uv_lint.specs.Findings.{AreFindings, Findings, IsMended, MendedText, text_by}
+use Rattle.uv_lint.specs.declared.reported_line.Place.{Place}
+use Rattle.uv_lint.specs.Findings.{AreFindings, Findings, IsMended, MendedText, shown, text_by}
 use Rattle.uv_lint.specs.LineViolations.{AreViolations, link_of}
 use Rattle.uv_lint.specs.Located.{LocatedLink}
 use Rattle.uv_lint.specs.Report.{judged_line, line_text, reported_by}
-use Rattle.uv_lint.specs.Reporting.{Begins, HasBegunLine, HasReportedLine, Linting, Says, with_line}
+use Rattle.uv_lint.specs.ReportedView.{place_view, shown_at}
+use Rattle.uv_lint.specs.Reporting.{Begins, HasBegun, HasBegunLine, HasReportedLine, Linting, Says, with_line}
 
 -- a list without items
 pub none_found : (violations : List LineViolation) → (length violations == 0) ≡ true → [] ≡ violations
@@ -129,6 +131,15 @@ adds_line before now after lines line judged found reported counted waited a b w
       count = ap (λ r. r.lines) left;
       passes = has.2;
     }
+
+-- what was said first of what is shown of a text was said of the line that stands there
+pub line_begun : (before : Linting) (line : Option (List ℕ)) (place : Place) (text : List ℕ)
+    (violations : List LineViolation) (parts : List ℕ)
+    → place_view place ≡ reported_by before.setting.file (before.lines + 1) line (link_of before.setting.form line)
+    → text ≡ shown (option_copied place.bytes) → HasBegun before (shown_at place text) violations parts
+    → HasBegunLine before line violations parts
+line_begun before line place text violations parts stands is begun =
+    subst (λ r. HasBegun before r violations parts) (ap (λ t. shown_at place t) is ∙ stands) begun
 
 -- what was said first of it
 begins_line : (before : Linting) (line : Option (List ℕ)) (found : List LineViolation) (parts : List ℕ)

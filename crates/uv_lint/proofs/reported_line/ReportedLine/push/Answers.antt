@@ -1,6 +1,6 @@
 -- A diagnostic more, and at the end no violation is left.
 use Rattle.std.proofs.Common.{◌≡◌, ◌+◌, ◌++◌, ◌∙◌, [], false, None, arith, get_or, option_map, take, take_all, refl}
-use Rattle.std.proofs.Common.{sym, ap, subst, append_assoc}
+use Rattle.std.proofs.Common.{sym, ap, subst, append-nil, append_assoc}
 use Rattle.std.proofs.lemmas.List.{take_more}
 use Rattle.uv_model.specs.declared.rule.Rule.TheVariants.{NoScheme}
 use Rattle.uv_report.specs.declared.line_violation.LineViolation.{LineViolation}
@@ -8,16 +8,31 @@ use Rattle.uv_report.specs.declared.line_violation.LineViolation.TheVariants.{Re
 use Rattle.uv_report.specs.Report.{diagnostic_text}
 use Rattle.uv_lines.specs.Fault.{failed_within}
 use Rattle.uv_lines.specs.Waiting.{Passes}
-use Rattle.uv_lines.proofs.WaitingLemmas.{passes_more}
+use Rattle.uv_lines.proofs.WaitingLemmas.{passes_more, passes_none}
 use Rattle.uv_lint.specs.Report.{AreFirstDiagnostics, diagnostics_text, framed_text, mended_on}
 use Rattle.uv_lint.specs.Reporting.{IsNoneOr}
 use Rattle.uv_lint.specs.ReportedView.{lent_if_mended, mended_line_view, reported_view}
-use Rattle.uv_lint.proofs.DiagnosticLemmas.{IsSaidBefore, first_with, said_first, said_more}
+use Rattle.uv_lint.proofs.DiagnosticLemmas.{IsSaidBefore, first_with, said_first, said_more, said_none}
 use Rattle.uv_lint.proofs.ReporterLemmas.{parts_behind}
 use Rattle.uv_lint.proofs.reported_line.ReportedLine.push.Goals as goal
 
 pub loop-violation-init : goal.loop-violation-init
-loop-violation-init g c = ?
+loop-violation-init g c =
+    let line = c.args.self.now in
+    let setting = c.args.setting in
+    let waited = c.args.text.now.items in
+    let mended = mended_on setting.columns (reported_view line) (option_map mended_line_view c.args.mended.now) in
+    record {
+      said = (
+        [],
+        rw (append-nil waited) (passes_none waited (g.W.Sink.contents c.args.writer.now)),
+        subst (λ told. IsSaidBefore setting.form setting.format setting.columns (reported_view line) c.args.is_first
+            mended [] [] c.args.is_first told) (sym c.mended_in_place-told.ensures)
+            (said_none setting.form setting.format setting.columns (reported_view line) c.args.is_first mended),
+      );
+      quiet = refl;
+      counter = c.new-counter.ensures;
+    }
 
 pub loop-violation-preserved : goal.loop-violation-preserved
 loop-violation-preserved g c =
