@@ -13,8 +13,8 @@ returns-in-Ok-report_line-clause-added g c =
     lines c.judged_line-line.ensures c.in-Ok.ensures c.as_slice.ensures.value c.in-Ok-report_line.ensures.text
     c.in-Ok-report_line.ensures.same c.as_slice-in-Ok-report_line.ensures.value c.count.ensures
 
-pub returns-in-Err-clause-fault : goal.returns-in-Err-clause-fault
-returns-in-Err-clause-fault g c =
+pub returns-clause-fault : goal.returns-clause-fault
+returns-clause-fault g c =
     let before = c.args.self.now in
     let lines = sym (ap (λ r. r.lines) c.self.view_is) in
     leaves_line c.in-Err.fault before _ _ (option_copied c.judged_line-line.result) _ _ _ _ _ _ lines
