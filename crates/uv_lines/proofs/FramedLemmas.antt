@@ -11,31 +11,32 @@ use Rattle.uv_lines.specs.declared.fault.LineFault.TheVariants.{Report, Memory, 
 use Rattle.uv_lines.specs.declared.limits.LineLimits.{LineLimits}
 use Rattle.uv_lines.specs.Fault.{is_write, may_write}
 use Rattle.uv_lines.specs.Lines.{closed_lines, lines_of}
-use Rattle.uv_lines.specs.Reported.{Cut, Reported, Wrote}
+use Rattle.uv_lines.specs.Reported.{Cut, Wrote}
 use Rattle.uv_lines.specs.Run.{Leaves, WroteAll, WroteFirst, WrotePrefix, reads_failed, writes_failed}
 use Rattle.uv_lines.specs.Framed.{Ends, FailsReads, Follows, FollowsFault, Framed, LeavesPart}
 use Rattle.uv_lines.proofs.PassLemmas.{closed_few, quiet_writes}
 
 -- ---- what a fault leaves of another report
 
--- from what was written of one report to what was written of another
-pub Leaves-map : {S T F : Type 0} (P : List (List ℕ) → List ℕ → S → Type 0) (Q : List (List ℕ) → List ℕ → T → Type 0)
-    (limits : LineLimits) (e : LineFault F) (a b c d : Option (List ℕ)) (read : List ℕ) (at_end : Type 0) (s : S)
-    (t : T)
+-- from what was written of one report to what was written of another, and so of their parts
+pub Leaves-map : {S T F : Type 0} (P P' : List (List ℕ) → List ℕ → S → Type 0)
+    (Q Q' : List (List ℕ) → List ℕ → T → Type 0) (limits : LineLimits) (e : LineFault F) (a b c d : Option (List ℕ))
+    (read : List ℕ) (at_end : Type 0) (s : S) (t : T)
     → (is_write e ≡ false → (lines : List (List ℕ)) → Wrote P lines a b s → Wrote Q lines c d t)
-    → (is_write e ≡ true → (lines : List (List ℕ)) → Cut P lines a b s → Cut Q lines c d t)
-    → Leaves P limits e a read at_end s b → Leaves Q limits e c read at_end t d
-Leaves-map P Q limits (Report fault) a b c d read at_end s t whole cut left =
+    → (is_write e ≡ false → (lines : List (List ℕ)) → Wrote P' lines a b s → Wrote Q' lines c d t)
+    → (is_write e ≡ true → (lines : List (List ℕ)) → Cut P' lines a b s → Cut Q' lines c d t)
+    → Leaves P P' limits e a read at_end s b → Leaves Q Q' limits e c read at_end t d
+Leaves-map P P' Q Q' limits (Report fault) a b c d read at_end s t whole part cut left =
+    (left.0, left.1, left.2, part refl (take left.0 (lines_of read)) left.3)
+Leaves-map P P' Q Q' limits Memory a b c d read at_end s t whole part cut left =
     (left.0, left.1, left.2, whole refl (take left.0 (lines_of read)) left.3)
-Leaves-map P Q limits Memory a b c d read at_end s t whole cut left =
-    (left.0, left.1, left.2, whole refl (take left.0 (lines_of read)) left.3)
-Leaves-map P Q limits Read a b c d read at_end s t whole cut left =
+Leaves-map P P' Q Q' limits Read a b c d read at_end s t whole part cut left =
     whole refl (take (length (closed_lines read)) (lines_of read)) left
-Leaves-map P Q limits Write a b c d read at_end s t whole cut left =
+Leaves-map P P' Q Q' limits Write a b c d read at_end s t whole part cut left =
     (left.0, left.1, cut refl (take left.0 (lines_of read)) left.2)
-Leaves-map P Q limits TooManyLines a b c d read at_end s t whole cut left =
+Leaves-map P P' Q Q' limits TooManyLines a b c d read at_end s t whole part cut left =
     (whole refl (take limits.lines (lines_of read)) left.0, left.1)
-Leaves-map P Q limits Endless a b c d read at_end s t whole cut left =
+Leaves-map P P' Q Q' limits Endless a b c d read at_end s t whole part cut left =
     (whole refl (take (length (closed_lines read)) (lines_of read)) left.0, left.1)
 
 -- one report was written where another was
@@ -55,34 +56,45 @@ Cut-map P Q lines old new s t is cut =
     record { text = cut.text; reported = is lines cut.text cut.reported; prefix = cut.prefix; wrote = cut.wrote }
 
 -- what a fault leaves of one is what it leaves of the other, where a whole report is one of its own parts
-pub LeavesPart-map : {S T F : Type 0} (P W : List (List ℕ) → List ℕ → S → Type 0)
-    (Q : List (List ℕ) → List ℕ → T → Type 0) (limits : LineLimits) (e : LineFault F) (old new : Option (List ℕ))
+pub LeavesPart-map : {S T F : Type 0} (P P' W : List (List ℕ) → List ℕ → S → Type 0)
+    (Q Q' : List (List ℕ) → List ℕ → T → Type 0) (limits : LineLimits) (e : LineFault F) (old new : Option (List ℕ))
     (read : List ℕ) (at_end : Type 0) (s : S) (t : T)
     → ((lines : List (List ℕ)) (text : List ℕ) → P lines text s → Q lines text t)
-    → ((lines : List (List ℕ)) (text : List ℕ) → W lines text s → Q lines text t)
-    → LeavesPart P W limits e old read at_end s new → Leaves Q limits e old read at_end t new
-LeavesPart-map P W Q limits e old new read at_end s t part whole (inl left) =
-    Leaves-map P Q limits e old new old new read at_end s t (λ _ lines. Wrote-map P Q lines old new s t part)
-    (λ _ lines. Cut-map P Q lines old new s t part) left
-LeavesPart-map P W Q limits e old new read at_end s t part whole (inr cut) =
-    subst (λ f. Leaves Q limits f old read at_end t new) (sym cut.0) (
+    → ((lines : List (List ℕ)) (text : List ℕ) → P' lines text s → Q' lines text t)
+    → ((lines : List (List ℕ)) (text : List ℕ) → W lines text s → Q' lines text t)
+    → LeavesPart P P' W limits e old read at_end s new → Leaves Q Q' limits e old read at_end t new
+LeavesPart-map P P' W Q Q' limits e old new read at_end s t report part whole (inl left) =
+    Leaves-map P P' Q Q' limits e old new old new read at_end s t
+    (λ _ lines. Wrote-map P Q lines old new s t report) (λ _ lines. Wrote-map P' Q' lines old new s t part)
+    (λ _ lines. Cut-map P' Q' lines old new s t part) left
+LeavesPart-map P P' W Q Q' limits e old new read at_end s t report part whole (inr cut) =
+    subst (λ f. Leaves Q Q' limits f old read at_end t new) (sym cut.0) (
       length (lines_of read),
       omega arith,
-      rw (take-length (lines_of read)) (Cut-map W Q (lines_of read) old new s t whole cut.1),
+      rw (take-length (lines_of read)) (Cut-map W Q' (lines_of read) old new s t whole cut.1),
     )
 
--- after each fault but one of a write the report on some of the first lines was written
-some_first : {S F : Type 0} (P : List (List ℕ) → List ℕ → S → Type 0) (limits : LineLimits) (e : LineFault F)
-    (old new : Option (List ℕ)) (read : List ℕ) (at_end : Type 0) (s : S) → is_write e ≡ false
-    → Leaves P limits e old read at_end s new
-    → (count : ℕ) × (count ≤ length (lines_of read)) × WroteFirst P old read count s new
-some_first P limits (Report fault) old new read at_end s is left = (left.0, left.1, left.3)
-some_first P limits Memory old new read at_end s is left = (left.0, left.1, left.3)
-some_first P limits Read old new read at_end s is left = (length (closed_lines read), closed_few read, left)
-some_first P limits Write old new read at_end s is left = cc
-some_first P limits TooManyLines old new read at_end s is left =
-    (limits.lines, (let more = left.1 in omega (arith, more)), left.0)
-some_first P limits Endless old new read at_end s is left = (length (closed_lines read), closed_few read, left.0)
+-- after each fault but one of a write the report on some of the first lines was written, or a part of it
+some_first : {S F : Type 0} (P P' : List (List ℕ) → List ℕ → S → Type 0) (limits : LineLimits) (e : LineFault F)
+    (old new : Option (List ℕ)) (read : List ℕ) (at_end : Type 0) (s : S)
+    → ((lines : List (List ℕ)) (text : List ℕ) → P lines text s → P' lines text s) → is_write e ≡ false
+    → Leaves P P' limits e old read at_end s new
+    → (count : ℕ) × (count ≤ length (lines_of read)) × WroteFirst P' old read count s new
+some_first P P' limits (Report fault) old new read at_end s lift is left = (left.0, left.1, left.3)
+some_first P P' limits Memory old new read at_end s lift is left =
+    (left.0, left.1, Wrote-map P P' (take left.0 (lines_of read)) old new s s lift left.3)
+some_first P P' limits Read old new read at_end s lift is left =
+    let count = length (closed_lines read) in
+    (count, closed_few read, Wrote-map P P' (take count (lines_of read)) old new s s lift left)
+some_first P P' limits Write old new read at_end s lift is left = cc
+some_first P P' limits TooManyLines old new read at_end s lift is left = (
+  limits.lines,
+  (let more = left.1 in omega (arith, more)),
+  Wrote-map P P' (take limits.lines (lines_of read)) old new s s lift left.0,
+)
+some_first P P' limits Endless old new read at_end s lift is left =
+    let count = length (closed_lines read) in
+    (count, closed_few read, Wrote-map P P' (take count (lines_of read)) old new s s lift left.0)
 
 -- ---- the frame
 
@@ -101,22 +113,20 @@ wrote_three old mid now new begin text end first second third =
     Appends-trans old mid new begin (text ++ end) first (Appends-trans mid now new text end second third)
 
 -- the report was written, with what stands around it
-framed_wrote : {S : Type 0} (reports : S → Option (List ℕ) → List ℕ → S → Type 0) (n : ℕ) (begin : List ℕ)
-    (behind : S → List ℕ) (start : S) (lines : List (List ℕ)) (old mid now new : Option (List ℕ)) (q : S)
-    → Appends old mid begin → Wrote (Reported reports n start) lines mid now q → Appends now new (behind q)
-    → Wrote (Framed reports n begin behind start) lines old new q
-framed_wrote reports n begin behind start lines old mid now new q begun all ended = record {
+framed_wrote : {S : Type 0} (P : List (List ℕ) → List ℕ → S → Type 0) (begin : List ℕ) (behind : S → List ℕ)
+    (lines : List (List ℕ)) (old mid now new : Option (List ℕ)) (q : S) → Appends old mid begin
+    → Wrote P lines mid now q → Appends now new (behind q) → Wrote (Framed P begin behind) lines old new q
+framed_wrote P begin behind lines old mid now new q begun all ended = record {
   text = begin ++ (all.text ++ behind q);
   reported = record { said = all.text; reported = all.reported; whole = refl };
   wrote = wrote_three old mid now new begin all.text (behind q) begun all.wrote ended;
 }
 
 -- what stands after it was cut
-framed_cut : {S : Type 0} (reports : S → Option (List ℕ) → List ℕ → S → Type 0) (n : ℕ) (begin : List ℕ)
-    (behind : S → List ℕ) (start : S) (lines : List (List ℕ)) (old mid now new : Option (List ℕ)) (q : S) (prefix : ℕ)
-    → Appends old mid begin → Wrote (Reported reports n start) lines mid now q
-    → Appends now new (take prefix (behind q)) → Cut (Framed reports n begin behind start) lines old new q
-framed_cut reports n begin behind start lines old mid now new q prefix begun all cut = record {
+framed_cut : {S : Type 0} (P : List (List ℕ) → List ℕ → S → Type 0) (begin : List ℕ) (behind : S → List ℕ)
+    (lines : List (List ℕ)) (old mid now new : Option (List ℕ)) (q : S) (prefix : ℕ) → Appends old mid begin
+    → Wrote P lines mid now q → Appends now new (take prefix (behind q)) → Cut (Framed P begin behind) lines old new q
+framed_cut P begin behind lines old mid now new q prefix begun all cut = record {
   text = begin ++ (all.text ++ behind q);
   reported = record { said = all.text; reported = all.reported; whole = refl };
   prefix = length begin + (length all.text + prefix);
@@ -127,11 +137,10 @@ framed_cut reports n begin behind start lines old mid now new q prefix begun all
 }
 
 -- it was cut itself
-framed_prefix : {S : Type 0} (reports : S → Option (List ℕ) → List ℕ → S → Type 0) (n : ℕ) (begin : List ℕ)
-    (behind : S → List ℕ) (start : S) (lines : List (List ℕ)) (old mid new : Option (List ℕ)) (q : S)
-    → Appends old mid begin → Cut (Reported reports n start) lines mid new q
-    → Cut (Framed reports n begin behind start) lines old new q
-framed_prefix reports n begin behind start lines old mid new q begun all =
+framed_prefix : {S : Type 0} (P : List (List ℕ) → List ℕ → S → Type 0) (begin : List ℕ) (behind : S → List ℕ)
+    (lines : List (List ℕ)) (old mid new : Option (List ℕ)) (q : S) → Appends old mid begin → Cut P lines mid new q
+    → Cut (Framed P begin behind) lines old new q
+framed_prefix P begin behind lines old mid new q begun all =
     let prefix = prefix_of all.prefix all.text (behind q) in
     record {
       text = begin ++ (all.text ++ behind q);
@@ -142,16 +151,16 @@ framed_prefix reports n begin behind start lines old mid new q begun all =
     }
 
 -- what stands before it was cut
-pub begin_cut : {S : Type 0} (reports : S → Option (List ℕ) → List ℕ → S → Type 0) (n : ℕ) (begin : List ℕ)
-    (behind : S → List ℕ) (start : S) (old new : Option (List ℕ)) (k : ℕ)
-    → Appends old new (take k begin) → WrotePrefix (Framed reports n begin behind start) old [] start new
-begin_cut reports n begin behind start old new k wrote =
+pub begin_cut : {S : Type 0} (P : List (List ℕ) → List ℕ → S → Type 0) (begin : List ℕ) (behind : S → List ℕ)
+    (start : S) (old new : Option (List ℕ)) (k : ℕ) → P [] [] start → Appends old new (take k begin)
+    → WrotePrefix (Framed P begin behind) old [] start new
+begin_cut P begin behind start old new k none wrote =
     let prefix = prefix_of k begin ([] ++ behind start) in (
       0,
       omega arith,
       record {
         text = begin ++ ([] ++ behind start);
-        reported = record { said = []; reported = (refl, refl); whole = refl };
+        reported = record { said = []; reported = none; whole = refl };
         prefix = prefix.0;
         wrote = rw prefix.1 wrote;
       },
@@ -200,116 +209,123 @@ follows_cut first piece reported old new before after n some cut failed =
 -- ---- a run
 
 -- what a run over lines leaves, by its answer
-abbrev pub Ran : {S F : Type 0} → (List (List ℕ) → List ℕ → S → Type 0) → LineLimits
-    → Result (Unit {0}) (LineFault F) → Option (List ℕ) → List ℕ → Type 0 → S → Option (List ℕ) → Type 0
-Ran P limits (Ok u) old read at_end q new = at_end × WroteAll P limits old read q new
-Ran P limits (Err e) old read at_end q new = Leaves P limits e old read at_end q new
+abbrev pub Ran : {S F : Type 0} → (List (List ℕ) → List ℕ → S → Type 0) → (List (List ℕ) → List ℕ → S → Type 0)
+    → LineLimits → Result (Unit {0}) (LineFault F) → Option (List ℕ) → List ℕ → Type 0 → S → Option (List ℕ) → Type 0
+Ran P P' limits (Ok u) old read at_end q new = at_end × WroteAll P limits old read q new
+Ran P P' limits (Err e) old read at_end q new = Leaves P P' limits e old read at_end q new
 
 -- and what one in a frame does
 abbrev pub Ended : {S F : Type 0} → (List (List ℕ) → List ℕ → S → Type 0) → (List (List ℕ) → List ℕ → S → Type 0)
-    → LineLimits → Result (Unit {0}) (LineFault F) → Option (List ℕ) → List ℕ → Type 0 → S → Option (List ℕ) → Type 0
-Ended P W limits (Ok u) old read at_end q new = at_end × WroteAll W limits old read q new
-Ended P W limits (Err e) old read at_end q new = LeavesPart P W limits e old read at_end q new
+    → (List (List ℕ) → List ℕ → S → Type 0) → LineLimits → Result (Unit {0}) (LineFault F) → Option (List ℕ)
+    → List ℕ → Type 0 → S → Option (List ℕ) → Type 0
+Ended P P' W limits (Ok u) old read at_end q new = at_end × WroteAll W limits old read q new
+Ended P P' W limits (Err e) old read at_end q new = LeavesPart P P' W limits e old read at_end q new
 
 -- all lines are the first of them
-all_first : {S : Type 0} (P : List (List ℕ) → List ℕ → S → Type 0) (limits : LineLimits) (old new : Option (List ℕ))
-    (read : List ℕ) (q : S) → WroteAll P limits old read q new → WroteFirst P old read (length (lines_of read)) q new
-all_first P limits old new read q all = rw (take-length (lines_of read)) all.wrote
+all_first : {S : Type 0} (P P' : List (List ℕ) → List ℕ → S → Type 0) (limits : LineLimits)
+    (old new : Option (List ℕ)) (read : List ℕ) (q : S)
+    → ((lines : List (List ℕ)) (text : List ℕ) → P lines text q → P' lines text q)
+    → WroteAll P limits old read q new → WroteFirst P' old read (length (lines_of read)) q new
+all_first P P' limits old new read q lift all =
+    rw (take-length (lines_of read)) (Wrote-map P P' (lines_of read) old new q q lift all.wrote)
 
 -- after a fault
-ended_fault : {S F : Type 0} (reports : S → Option (List ℕ) → List ℕ → S → Type 0) (limits : LineLimits)
-    (begin end : List ℕ) (W : List (List ℕ) → List ℕ → S → Type 0) (start : S) (e : LineFault F)
+ended_fault : {S F : Type 0} (P P' : List (List ℕ) → List ℕ → S → Type 0) (limits : LineLimits)
+    (begin end : List ℕ) (W : List (List ℕ) → List ℕ → S → Type 0) (e : LineFault F)
     (result : Result (Unit {0}) (LineFault F)) (old mid now new : Option (List ℕ)) (read : List ℕ) (at_end : Type 0)
-    (q : S) (before after : ℕ) (is : Bool) → is_write e ≡ is → Appends old mid begin
-    → Leaves (Reported reports limits.line_bytes start) limits e mid read at_end q now
+    (q : S) (before after : ℕ) (is : Bool)
+    → ((lines : List (List ℕ)) (text : List ℕ) → P lines text q → P' lines text q) → is_write e ≡ is
+    → Appends old mid begin → Leaves P P' limits e mid read at_end q now
     → FollowsFault is end e result now new before after
-    → Ended (Framed reports limits.line_bytes begin (λ _. end) start) W limits result old read at_end q new
-ended_fault reports limits begin end W start e result old mid now new read at_end q before after true is begun ran
+    → Ended (Framed P begin (λ _. end)) (Framed P' begin (λ _. end)) W limits result old read at_end q new
+ended_fault P P' limits begin end W e result old mid now new read at_end q before after true lift is begun ran
     (reported, same, quiet) =
-    let n = limits.line_bytes in
-    let P = Framed reports n begin (λ _. end) start in
-    subst (λ r. Ended P W limits r old read at_end q new) (sym reported)
-    (inl (Leaves-map (Reported reports n start) P limits e mid now old new read at_end q q
-    (λ no. let never : true ≡ false = sym is ∙ no in cc)
-    (λ _ lines cut. subst (λ o. Cut P lines old o q) (sym same)
-    (framed_prefix reports n begin (λ _. end) start lines old mid now q begun cut)) ran))
-ended_fault reports limits begin end W start e result old mid now new read at_end q before after false is begun ran
+    let R = Framed P begin (λ _. end) in
+    let R' = Framed P' begin (λ _. end) in
+    subst (λ r. Ended R R' W limits r old read at_end q new) (sym reported)
+    (inl (Leaves-map P P' R R' limits e mid now old new read at_end q q
+    (λ no. let never : true ≡ false = sym is ∙ no in cc) (λ no. let never : true ≡ false = sym is ∙ no in cc)
+    (λ _ lines cut. subst (λ o. Cut R' lines old o q) (sym same)
+    (framed_prefix P' begin (λ _. end) lines old mid now q begun cut)) ran))
+ended_fault P P' limits begin end W e result old mid now new read at_end q before after false lift is begun ran
     (inl writes) =
-    let n = limits.line_bytes in
-    let P = Framed reports n begin (λ _. end) start in
-    subst (λ r. Ended P W limits r old read at_end q new) (sym writes.reported)
-    (inl (Leaves-map (Reported reports n start) P limits e mid now old new read at_end q q
-    (λ _ lines all. framed_wrote reports n begin (λ _. end) start lines old mid now new q begun all writes.wrote)
-    (λ yes. let never : true ≡ false = sym yes ∙ is in cc) ran))
-ended_fault reports limits begin end W start e result old mid now new read at_end q before after false is begun ran
+    let R = Framed P begin (λ _. end) in
+    let R' = Framed P' begin (λ _. end) in
+    subst (λ r. Ended R R' W limits r old read at_end q new) (sym writes.reported)
+    (inl (Leaves-map P P' R R' limits e mid now old new read at_end q q
+    (λ _ lines all. framed_wrote P begin (λ _. end) lines old mid now new q begun all writes.wrote)
+    (λ _ lines all. framed_wrote P' begin (λ _. end) lines old mid now new q begun all writes.wrote)
+    (λ yes. let never : false ≡ true = sym is ∙ yes in cc) ran))
+ended_fault P P' limits begin end W e result old mid now new read at_end q before after false lift is begun ran
     (inr cuts) =
-    let n = limits.line_bytes in
-    let P = Framed reports n begin (λ _. end) start in
-    let first = some_first (Reported reports n start) limits e mid now read at_end q is ran in
-    subst (λ r. Ended P W limits r old read at_end q new) (sym cuts.reported) (inl (
+    let R = Framed P begin (λ _. end) in
+    let R' = Framed P' begin (λ _. end) in
+    let first = some_first P P' limits e mid now read at_end q lift is ran in
+    subst (λ r. Ended R R' W limits r old read at_end q new) (sym cuts.reported) (inl (
       first.0,
       first.1,
-      framed_cut reports n begin (λ _. end) start (take first.0 (lines_of read)) old mid now new q cuts.prefix begun
+      framed_cut P' begin (λ _. end) (take first.0 (lines_of read)) old mid now new q cuts.prefix begun
           first.2 cuts.wrote,
     ))
 
 -- what was written after the lines makes the report on them whole, or leaves a part of it
-pub ended : {S F : Type 0} (reports : S → Option (List ℕ) → List ℕ → S → Type 0) (limits : LineLimits)
-    (begin end : List ℕ) (last : S → List ℕ) (start : S) (answer result : Result (Unit {0}) (LineFault F))
+pub ended : {S F : Type 0} (P P' : List (List ℕ) → List ℕ → S → Type 0) (limits : LineLimits)
+    (begin end : List ℕ) (last : S → List ℕ) (answer result : Result (Unit {0}) (LineFault F))
     (old mid now new : Option (List ℕ)) (read : List ℕ) (at_end : Type 0) (q : S) (before after : ℕ)
-    → Appends old mid begin → Ran (Reported reports limits.line_bytes start) limits answer mid read at_end q now
+    → ((lines : List (List ℕ)) (text : List ℕ) → P lines text q → P' lines text q)
+    → Appends old mid begin → Ran P P' limits answer mid read at_end q now
     → Ends (last q) end answer result now new before after
-    → Ended (Framed reports limits.line_bytes begin (λ _. end) start)
-    (Framed reports limits.line_bytes begin (λ s. last s ++ end) start) limits result old read at_end q new
-ended reports limits begin end last start (Ok u) result old mid now new read at_end q before after begun ran
+    → Ended (Framed P begin (λ _. end)) (Framed P' begin (λ _. end)) (Framed P begin (λ s. last s ++ end)) limits result
+    old read at_end q new
+ended P P' limits begin end last (Ok u) result old mid now new read at_end q before after lift begun ran
     (inl (inl writes)) =
-    let n = limits.line_bytes in
-    let P = Framed reports n begin (λ _. end) start in
-    let W = Framed reports n begin (λ s. last s ++ end) start in
-    subst (λ r. Ended P W limits r old read at_end q new) (sym writes.reported) (
+    let R = Framed P begin (λ _. end) in
+    let R' = Framed P' begin (λ _. end) in
+    let W = Framed P begin (λ s. last s ++ end) in
+    subst (λ r. Ended R R' W limits r old read at_end q new) (sym writes.reported) (
       ran.0,
       record {
-        wrote = framed_wrote reports n begin (λ s. last s ++ end) start (lines_of read) old mid now new q begun
+        wrote = framed_wrote P begin (λ s. last s ++ end) (lines_of read) old mid now new q begun
             ran.1.wrote writes.wrote;
         few = ran.1.few;
       },
     )
-ended reports limits begin end last start (Ok u) result old mid now new read at_end q before after begun ran
+ended P P' limits begin end last (Ok u) result old mid now new read at_end q before after lift begun ran
     (inl (inr cuts)) =
-    let n = limits.line_bytes in
-    let P = Framed reports n begin (λ _. end) start in
-    let W = Framed reports n begin (λ s. last s ++ end) start in
-    subst (λ r. Ended P W limits r old read at_end q new) (sym cuts.reported) (inr (
+    let R = Framed P begin (λ _. end) in
+    let R' = Framed P' begin (λ _. end) in
+    let W = Framed P begin (λ s. last s ++ end) in
+    subst (λ r. Ended R R' W limits r old read at_end q new) (sym cuts.reported) (inr (
       refl,
-      framed_cut reports n begin (λ s. last s ++ end) start (lines_of read) old mid now new q cuts.prefix begun
+      framed_cut P begin (λ s. last s ++ end) (lines_of read) old mid now new q cuts.prefix begun
           ran.1.wrote cuts.wrote,
     ))
-ended reports limits begin end last start (Ok u) result old mid now new read at_end q before after begun ran
+ended P P' limits begin end last (Ok u) result old mid now new read at_end q before after lift begun ran
     (inr (fault, inl writes)) =
-    let n = limits.line_bytes in
-    let P = Framed reports n begin (λ _. end) start in
-    let W = Framed reports n begin (λ s. last s ++ end) start in
-    subst (λ r. Ended P W limits r old read at_end q new) (sym writes.reported) (inl (
+    let R = Framed P begin (λ _. end) in
+    let R' = Framed P' begin (λ _. end) in
+    let W = Framed P begin (λ s. last s ++ end) in
+    subst (λ r. Ended R R' W limits r old read at_end q new) (sym writes.reported) (inl (
       length (lines_of read),
       omega arith,
       inr ran.0,
-      framed_wrote reports n begin (λ _. end) start (take (length (lines_of read)) (lines_of read)) old mid now new q
-          begun (all_first (Reported reports n start) limits mid now read q ran.1) writes.wrote,
+      framed_wrote P' begin (λ _. end) (take (length (lines_of read)) (lines_of read)) old mid now new q
+          begun (all_first P P' limits mid now read q lift ran.1) writes.wrote,
     ))
-ended reports limits begin end last start (Ok u) result old mid now new read at_end q before after begun ran
+ended P P' limits begin end last (Ok u) result old mid now new read at_end q before after lift begun ran
     (inr (fault, inr cuts)) =
-    let n = limits.line_bytes in
-    let P = Framed reports n begin (λ _. end) start in
-    let W = Framed reports n begin (λ s. last s ++ end) start in
-    subst (λ r. Ended P W limits r old read at_end q new) (sym cuts.reported) (inl (
+    let R = Framed P begin (λ _. end) in
+    let R' = Framed P' begin (λ _. end) in
+    let W = Framed P begin (λ s. last s ++ end) in
+    subst (λ r. Ended R R' W limits r old read at_end q new) (sym cuts.reported) (inl (
       length (lines_of read),
       omega arith,
-      framed_cut reports n begin (λ _. end) start (take (length (lines_of read)) (lines_of read)) old mid now new q
-          cuts.prefix begun (all_first (Reported reports n start) limits mid now read q ran.1) cuts.wrote,
+      framed_cut P' begin (λ _. end) (take (length (lines_of read)) (lines_of read)) old mid now new q
+          cuts.prefix begun (all_first P P' limits mid now read q lift ran.1) cuts.wrote,
     ))
-ended reports limits begin end last start (Err e) result old mid now new read at_end q before after begun ran follows =
-    ended_fault reports limits begin end (Framed reports limits.line_bytes begin (λ s. last s ++ end) start) start e
-    result old mid now new read at_end q before after (is_write e) refl begun ran follows
+ended P P' limits begin end last (Err e) result old mid now new read at_end q before after lift begun ran follows =
+    ended_fault P P' limits begin end (Framed P begin (λ s. last s ++ end)) e
+    result old mid now new read at_end q before after (is_write e) lift refl begun ran follows
 
 -- ---- failed reads and writes
 
@@ -394,30 +410,30 @@ fails last end (Err e) result now new reads reads' writes writes' writes'' stop 
 -- ---- from the clauses of the calls, and to those of a run
 
 -- what a run over lines leaves
-pub ran : {S F : Type 0} (P : List (List ℕ) → List ℕ → S → Type 0) (limits : LineLimits)
+pub ran : {S F : Type 0} (P P' : List (List ℕ) → List ℕ → S → Type 0) (limits : LineLimits)
     (answer : Result (Unit {0}) (LineFault F)) (C : List ℕ → Type 0) (old : Option (List ℕ)) (at_end : Type 0) (q : S)
     (new : Option (List ℕ))
     → OnOk answer ((read : List ℕ) × C read × at_end × WroteAll P limits old read q new)
-    → IfErr answer (λ e. (read : List ℕ) × C read × Leaves P limits e old read at_end q new)
-    → (read : List ℕ) × C read × Ran P limits answer old read at_end q new
-ran P limits (Ok u) C old at_end q new ok err = (ok.0, ok.1, (ok.2, ok.3))
-ran P limits (Err e) C old at_end q new ok err = err
+    → IfErr answer (λ e. (read : List ℕ) × C read × Leaves P P' limits e old read at_end q new)
+    → (read : List ℕ) × C read × Ran P P' limits answer old read at_end q new
+ran P P' limits (Ok u) C old at_end q new ok err = (ok.0, ok.1, (ok.2, ok.3))
+ran P P' limits (Err e) C old at_end q new ok err = err
 
 -- a run in a frame that answers no fault
-pub ended_ok : {S F : Type 0} (P W : List (List ℕ) → List ℕ → S → Type 0) (limits : LineLimits)
+pub ended_ok : {S F : Type 0} (P P' W : List (List ℕ) → List ℕ → S → Type 0) (limits : LineLimits)
     (result : Result (Unit {0}) (LineFault F)) (C : List ℕ → Type 0) (old : Option (List ℕ)) (read : List ℕ)
-    (at_end : Type 0) (q : S) (new : Option (List ℕ)) → C read → Ended P W limits result old read at_end q new
+    (at_end : Type 0) (q : S) (new : Option (List ℕ)) → C read → Ended P P' W limits result old read at_end q new
     → OnOk result ((read : List ℕ) × C read × at_end × WroteAll W limits old read q new)
-ended_ok P W limits (Ok u) C old read at_end q new consumed end = (read, consumed, end.0, end.1)
-ended_ok P W limits (Err e) C old read at_end q new consumed end = tt {0}
+ended_ok P P' W limits (Ok u) C old read at_end q new consumed end = (read, consumed, end.0, end.1)
+ended_ok P P' W limits (Err e) C old read at_end q new consumed end = tt {0}
 
 -- and one that does
-pub ended_err : {S F : Type 0} (P W : List (List ℕ) → List ℕ → S → Type 0) (limits : LineLimits)
+pub ended_err : {S F : Type 0} (P P' W : List (List ℕ) → List ℕ → S → Type 0) (limits : LineLimits)
     (result : Result (Unit {0}) (LineFault F)) (C : List ℕ → Type 0) (old : Option (List ℕ)) (read : List ℕ)
-    (at_end : Type 0) (q : S) (new : Option (List ℕ)) → C read → Ended P W limits result old read at_end q new
-    → IfErr result (λ e. (read : List ℕ) × C read × LeavesPart P W limits e old read at_end q new)
-ended_err P W limits (Ok u) C old read at_end q new consumed end = tt {0}
-ended_err P W limits (Err e) C old read at_end q new consumed end = (read, consumed, end)
+    (at_end : Type 0) (q : S) (new : Option (List ℕ)) → C read → Ended P P' W limits result old read at_end q new
+    → IfErr result (λ e. (read : List ℕ) × C read × LeavesPart P P' W limits e old read at_end q new)
+ended_err P P' W limits (Ok u) C old read at_end q new consumed end = tt {0}
+ended_err P P' W limits (Err e) C old read at_end q new consumed end = (read, consumed, end)
 
 -- its failed reads and writes
 pub stops : {F : Type 0} (answer : Result (Unit {0}) (LineFault F)) (reads reads' writes writes' : ℕ)

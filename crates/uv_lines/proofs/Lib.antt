@@ -1,4 +1,5 @@
 pub mod LineLemmas
+pub mod WaitingLemmas
 mod ReportedLemmas
 mod StandsLemmas
 mod PassLemmas

@@ -1,20 +1,26 @@
 -- What is written between two pieces and at the end of the list.
-use Rattle.std.proofs.Common.{◌≡◌, ℕ, ◌+◌, ◌<◌, ◌≤◌, Bool, true, false, not, Result, Ok, Err, List, [], ◌++◌, Option}
-use Rattle.std.proofs.Common.{length, take, refl, sym, ap, ◌∙◌, subst, arith, append-nil, inl, inr}
+use Rattle.std.proofs.Common.{◌≡◌, ℕ, ◌+◌, ◌<◌, ◌≤◌, Bool, true, false, not, Result, Ok, Err, List, [], ◌∷◌, ◌++◌}
+use Rattle.std.proofs.Common.{Option}
+use Rattle.std.proofs.Common.{IfErr, OnOk, length, take, refl, subst, arith, append-nil, inl, inr}
 use Rattle.std.proofs.lemmas.List.{length-append}
-use Rattle.std.proofs.Math.Seq.{take-append-add, take-length}
-use Rattle.std.proofs.KnownBytes.{Appends-trans, Appends-nil, Consumes-trans}
+use Rattle.std.proofs.Math.Seq.{take-length}
+use Rattle.std.proofs.KnownBytes.{Appends-nil, Consumes-trans}
 use Rattle.std.specs.Io.KnownBytes.{Appends, Consumes, IsAtEnd}
 use Rattle.uv_lines.specs.declared.fault.LineFault.{LineFault}
 use Rattle.uv_lines.specs.declared.fault.LineFault.TheVariants.{Report, Memory, Read, Write, TooManyLines, Endless}
+use Rattle.uv_lines.specs.declared.fault.ReportFault.{ReportFault}
+use Rattle.uv_lines.specs.declared.fault.ReportFault.TheVariants as within
 use Rattle.uv_lines.specs.declared.limits.LineLimits.{LineLimits}
-use Rattle.uv_lines.specs.Fault.{is_write, may_write}
-use Rattle.uv_lines.specs.Lines.{split, closed_lines, open_lines, lines_of}
-use Rattle.uv_lines.specs.Progress.{Stands, IsReportOfFirst, TakeFault}
-use Rattle.uv_lines.specs.Reported.{Reported, Wrote}
-use Rattle.uv_lines.specs.Run.{At, WaitFault, Waits, WroteFirst, WrotePrefix, WroteLines, Leaves, PassFault}
+use Rattle.uv_lines.specs.Fault.{failed_within, fault_of_run, is_write, may_write}
+use Rattle.uv_lines.specs.Lines.{line_feed, short_line, split, closed_lines, open_lines, lines_of}
+use Rattle.uv_lines.specs.Progress.{Stands, IsPartOfFirst, IsReportOfFirst, TakeFault}
+use Rattle.uv_lines.specs.Reported.{Reported, ReportedPart, Wrote}
+use Rattle.uv_lines.specs.Run.{At, EndFault, WaitFault, Waits, WroteFirst, WrotePrefix, WroteLines, Leaves, PassFault}
 use Rattle.uv_lines.specs.Run.{FinishFault, reads_failed, writes_failed}
-use Rattle.uv_lines.proofs.StandsLemmas.{Stands-start, prefix_count, prefix_report}
+use Rattle.uv_lines.specs.Waiting.{Adds, AreFirstParts, CutsOff, LeavesLine, Passes}
+use Rattle.uv_lines.proofs.StandsLemmas.{Ends-begun, Ends-empty, Stands-closed, Stands-growing, Stands-start, closing}
+use Rattle.uv_lines.proofs.StandsLemmas.{closing-left, end-left, many-left, prefix_count, prefix_report, room-left}
+use Rattle.uv_lines.proofs.WaitingLemmas.{cuts_more, cuts_on, passes_more, passes_none, passes_on, passes_written}
 
 -- before the first piece
 pub At-start : {S : Type 0} (reports : S → Option (List ℕ) → List ℕ → S → Type 0) (lines : S → ℕ) (n : ℕ) (p : S)
@@ -22,99 +28,255 @@ pub At-start : {S : Type 0} (reports : S → Option (List ℕ) → List ℕ → 
     → At reports lines n p old [] p begun text old
 At-start reports lines n p old begun text count none empty = record {
   waits = record {
-    written = [];
-    wrote = Appends-nil old;
-    stands = Stands-start reports lines n p begun text count none empty;
+    said = [];
+    passes = rw empty (passes_none [] old);
+    stands = Stands-start reports lines n p begun count none;
   };
   none = empty;
 }
 
--- what waited was written
+-- what waited was written, or a beginning of it
 pub Waits-written : {S : Type 0} (reports : S → Option (List ℕ) → List ℕ → S → Type 0) (lines : S → ℕ) (n : ℕ)
-    (start : S) (old now new : Option (List ℕ)) (read : List ℕ) (q r : S) (begun text left none : List ℕ)
-    → Waits reports lines n start old read q begun text now → Appends now new text
-    → r ≡ q → left ≡ begun → none ≡ [] → Waits reports lines n start old read r left none new
-Waits-written reports lines n start old now new read q r begun text left none waits wrote same kept empty =
-    let all = waits.written ++ text in
-    record {
-      written = all;
-      wrote = Appends-trans old now new waits.written text waits.wrote wrote;
-      stands = record {
-        reported = rw same (subst (λ t. Reported reports n start (closed_lines read) t q)
-            (sym (ap (λ t. all ++ t) empty ∙ append-nil all)) waits.stands.reported);
-        kept = kept ∙ waits.stands.kept;
-        count = ap lines same ∙ waits.stands.count;
-      };
-    }
-
--- behind a fault that isn't a write's the report on some lines waits
-pub waits-left : {S F : Type 0} (reports : S → Option (List ℕ) → List ℕ → S → Type 0) (limits : LineLimits)
-    (start : S) (e : LineFault F) (old : Option (List ℕ)) (read : List ℕ) (q : S) (text : List ℕ)
-    (new : Option (List ℕ)) (written : List ℕ) → is_write e ≡ false → Appends old new written
-    → TakeFault reports limits start e read q (written ++ text)
-    → WaitFault (is_write e) reports limits start e old read q text new
-waits-left reports limits start e old read q text new written is wrote left =
-    subst (λ b. WaitFault b reports limits start e old read q text new) (sym is) (written, wrote, left)
+    (start : S) (old now new : Option (List ℕ)) (read : List ℕ) (q r : S) (begun text left waits : List ℕ)
+    → Waits reports lines n start old read q begun text now → Passes text now new waits
+    → r ≡ q → left ≡ begun → Waits reports lines n start old read r left waits new
+Waits-written reports lines n start old now new read q r begun text left waits all passes same kept = record {
+  said = all.said;
+  passes = passes_on all.said old now new text waits all.passes passes;
+  stands = rw (same, kept) all.stands;
+}
 
 -- no more lines are closed than there are
 pub closed_few : (read : List ℕ) → length (closed_lines read) ≤ length (lines_of read)
 closed_few read = rw (length-append (closed_lines read) (open_lines (split read).1)) (omega arith)
 
--- ---- what waits to be written is the report on whole lines
+-- ---- a line that ends in a piece
+
+-- it was reported on
+pub Waits-closed : {S : Type 0} (reports : S → Option (List ℕ) → List ℕ → S → Type 0) (lines : S → ℕ) (n : ℕ)
+    (start : S) (old now new : Option (List ℕ)) (read prefix : List ℕ) (line : Option (List ℕ)) (p q : S)
+    (begun text left waits : List ℕ) → split prefix ≡ ([], prefix)
+    → Waits reports lines n start old read p begun text now
+    → line ≡ short_line n (closing read prefix) → Adds reports lines p text now line q waits new → left ≡ []
+    → Waits reports lines n start old (read ++ (prefix ++ line_feed ∷ [])) q left waits new
+Waits-closed reports lines n start old now new read prefix line p q begun text left waits none all is adds empty =
+    record {
+      said = all.said ++ adds.said;
+      passes = passes_more all.said adds.said old now new text waits all.passes adds.passes;
+      stands = Stands-closed reports lines n start all.said adds.said read prefix p q begun left none all.stands
+          (subst (λ l. reports p l adds.said q) is adds.reported) adds.count empty;
+    }
+
+-- it wasn't reported on whole
+pub closing-fault : {S F : Type 0} (reports : S → Option (List ℕ) → List ℕ → S → Type 0)
+    (begins : S → Option (List ℕ) → List ℕ → Type 0) (lines : S → ℕ) (limits : LineLimits) (start : S)
+    (e : ReportFault F) (old now new : Option (List ℕ)) (read prefix rest : List ℕ) (line : Option (List ℕ)) (p q : S)
+    (begun text waits : List ℕ) → split prefix ≡ ([], prefix)
+    → Waits reports lines limits.line_bytes start old read p begun text now
+    → line ≡ short_line limits.line_bytes (closing read prefix) → LeavesLine begins e p text now line waits new
+    → q ≡ p
+    → WaitFault (is_write (fault_of_run e)) reports begins limits start (fault_of_run e) old
+    (read ++ (prefix ++ line_feed ∷ rest)) q waits new
+closing-fault reports begins lines limits start (within.Reporter fault) old now new read prefix rest line p q begun text
+    waits none all is left same =
+    let n = limits.line_bytes in
+    let parts = left.0 in
+    let part = closing-left reports begins lines n start all.said parts read prefix rest p begun none all.stands
+    (subst (λ l. AreFirstParts begins p l parts) is left.1) in (
+      all.said ++ parts,
+      passes_more all.said parts old now new text waits all.passes left.2,
+      (part.0, part.1, rw same part.2),
+    )
+closing-fault reports begins lines limits start within.Write old now new read prefix rest line p q begun text
+    waits none all is left same =
+    let n = limits.line_bytes in
+    let parts = left.0 in
+    let part = closing-left reports begins lines n start all.said parts read prefix rest p begun none all.stands
+    (subst (λ l. AreFirstParts begins p l parts) is left.1) in
+    let few = closed_few (read ++ (prefix ++ line_feed ∷ rest)) in
+    let below = part.1 in
+    let cut = cuts_more all.said parts old now new text all.passes left.2 in (
+      part.0,
+      omega (arith, few, below),
+      record { text = all.said ++ parts; reported = rw same part.2; prefix = cut.0; wrote = cut.1 },
+    )
+
+-- as many writes have failed
+pub run_failed : {F : Type 0} (e : ReportFault F) (before after : ℕ) → after ≡ before + failed_within e
+    → after ≡ before + writes_failed (fault_of_run e)
+run_failed (within.Reporter fault) before after failed = failed
+run_failed within.Write before after failed = failed
+
+-- no memory was left for it
+pub memory-fault : {S : Type 0} (reports : S → Option (List ℕ) → List ℕ → S → Type 0) (lines : S → ℕ)
+    (limits : LineLimits) (start : S)
+    (old now : Option (List ℕ)) (read rest : List ℕ) (p q : S) (begun text waits : List ℕ)
+    → Waits reports lines limits.line_bytes start old read p begun text now → q ≡ p → waits ≡ text
+    → (said : List ℕ) × Passes said old now waits
+    × ((count : ℕ) × (count ≤ length (closed_lines (read ++ rest)))
+    × IsReportOfFirst reports limits.line_bytes start (read ++ rest) count q said)
+memory-fault reports lines limits start old now read rest p q begun text waits all same kept =
+    let left = room-left reports lines limits.line_bytes start all.said read rest p q begun all.stands same in
+    (all.said, rw kept all.passes, left)
+
+-- it began behind as many as may come
+pub many-fault : {S : Type 0} (reports : S → Option (List ℕ) → List ℕ → S → Type 0) (lines : S → ℕ)
+    (limits : LineLimits) (start : S)
+    (old now : Option (List ℕ)) (read rest : List ℕ) (p : S) (begun text : List ℕ)
+    → Waits reports lines limits.line_bytes start old read p begun text now → lines p ≡ limits.lines
+    → 0 < length rest
+    → (said : List ℕ) × Passes said old now text
+    × (IsReportOfFirst reports limits.line_bytes start (read ++ rest) limits.lines p said
+    × (limits.lines < length (lines_of (read ++ rest))))
+many-fault reports lines limits start old now read rest p begun text all full more = (
+  all.said,
+  all.passes,
+  many-left reports lines limits.line_bytes limits.lines start all.said read rest p begun all.stands full more,
+)
+
+-- nothing of it came
+pub waits_nothing : {S : Type 0} (reports : S → Option (List ℕ) → List ℕ → S → Type 0) (lines : S → ℕ) (n : ℕ)
+    (start : S) (old now : Option (List ℕ)) (read rest : List ℕ) (p : S) (begun text : List ℕ) → rest ≡ []
+    → Waits reports lines n start old read p begun text now
+    → Waits reports lines n start old (read ++ rest) p begun text now
+waits_nothing reports lines n start old now read rest p begun text none all =
+    rw (none, append-nil read) all
+
+-- it goes on
+pub Waits-growing : {S : Type 0} (reports : S → Option (List ℕ) → List ℕ → S → Type 0) (lines : S → ℕ) (n : ℕ)
+    (start : S) (old now : Option (List ℕ)) (read rest : List ℕ) (p q : S) (begun kept text waits : List ℕ)
+    → split rest ≡ ([], rest) → Waits reports lines n start old read p begun text now
+    → kept ≡ take (n + 2) (begun ++ rest) → q ≡ p → waits ≡ text
+    → Waits reports lines n start old (read ++ rest) q kept waits now
+Waits-growing reports lines n start old now read rest p q begun kept text waits none all is same left = record {
+  said = all.said;
+  passes = rw left all.passes;
+  stands = rw same (Stands-growing reports lines n start all.said read rest p begun kept none all.stands is);
+}
+
+-- ---- the last line, where no LF ends it
+
+-- there is none
+pub end-empty : {S : Type 0} (reports : S → Option (List ℕ) → List ℕ → S → Type 0) (lines : S → ℕ) (n : ℕ)
+    (start : S) (old now : Option (List ℕ)) (read : List ℕ) (p : S) (begun text : List ℕ)
+    → Waits reports lines n start old read p begun text now → begun ≡ []
+    → (said : List ℕ) × Passes said old now text × Reported reports n start (lines_of read) said p
+    × (lines p ≡ length (lines_of read))
+end-empty reports lines n start old now read p begun text all none =
+    let ends = Ends-empty reports lines n start all.said read p begun all.stands none in
+    (all.said, all.passes, ends.0, ends.1)
+
+-- it was reported on
+pub end-begun : {S : Type 0} (reports : S → Option (List ℕ) → List ℕ → S → Type 0) (lines : S → ℕ) (n : ℕ)
+    (start : S) (old now new : Option (List ℕ)) (read : List ℕ) (p q : S) (begun text waits : List ℕ)
+    → Waits reports lines n start old read p begun text now → 0 < length begun
+    → Adds reports lines p text now (short_line n begun) q waits new
+    → (said : List ℕ) × Passes said old new waits × Reported reports n start (lines_of read) said q
+    × (lines q ≡ length (lines_of read))
+end-begun reports lines n start old now new read p q begun text waits all some adds =
+    let ends = Ends-begun reports lines n start all.said adds.said read p q begun all.stands some adds.reported
+    adds.count in (
+      all.said ++ adds.said,
+      passes_more all.said adds.said old now new text waits all.passes adds.passes,
+      ends.0,
+      ends.1,
+    )
+
+-- it wasn't reported on whole
+pub end-fault : {S F : Type 0} (reports : S → Option (List ℕ) → List ℕ → S → Type 0)
+    (begins : S → Option (List ℕ) → List ℕ → Type 0) (lines : S → ℕ) (limits : LineLimits) (start : S)
+    (e : ReportFault F) (old now new : Option (List ℕ)) (read : List ℕ) (p q : S) (begun text waits : List ℕ)
+    → Waits reports lines limits.line_bytes start old read p begun text now → 0 < length begun
+    → LeavesLine begins e p text now (short_line limits.line_bytes begun) waits new → q ≡ p
+    → EndFault reports begins limits start e old read q waits new
+end-fault reports begins lines limits start (within.Reporter fault) old now new read p q begun text waits all some left
+    same =
+    let part = end-left reports begins lines limits.line_bytes start all.said left.0 read p begun all.stands some left.1
+    in (
+      all.said ++ left.0,
+      passes_more all.said left.0 old now new text waits all.passes left.2,
+      part.0,
+      part.1,
+      rw same part.2,
+    )
+end-fault reports begins lines limits start within.Write old now new read p q begun text waits all some left same =
+    let part = end-left reports begins lines limits.line_bytes start all.said left.0 read p begun all.stands some left.1
+    in
+    let cut = cuts_more all.said left.0 old now new text all.passes left.2 in (
+      part.0,
+      part.1,
+      record { text = all.said ++ left.0; reported = rw same part.2; prefix = cut.0; wrote = cut.1 },
+    )
+
+-- ---- what was said is a part of the report on some of the first lines
 
 -- on the closed lines
 pub stands_first : {S : Type 0} (reports : S → Option (List ℕ) → List ℕ → S → Type 0) (lines : S → ℕ) (n : ℕ)
-    (start : S) (written read : List ℕ) (q : S) (begun text : List ℕ)
-    → Stands reports lines n start written read q begun text
-    → IsReportOfFirst reports n start read (length (closed_lines read)) q (written ++ text)
-stands_first reports lines n start written read q begun text stands =
-    subst (λ bytes. IsReportOfFirst reports n start bytes (length (closed_lines read)) q (written ++ text))
-    (append-nil read) (prefix_report reports lines n start written read [] q begun text stands)
+    (start : S) (said read : List ℕ) (q : S) (begun : List ℕ)
+    → Stands reports lines n start said read q begun
+    → IsReportOfFirst reports n start read (length (closed_lines read)) q said
+stands_first reports lines n start said read q begun stands =
+    subst (λ bytes. IsReportOfFirst reports n start bytes (length (closed_lines read)) q said)
+    (append-nil read) (prefix_report reports lines n start said read [] q begun stands)
 
--- some of the first lines
-abbrev pub IsReportOfSome : {S : Type 0} → (S → Option (List ℕ) → List ℕ → S → Type 0) → ℕ → S → List ℕ → S
-    → List ℕ → Type 0
-IsReportOfSome reports n start read now text =
-    (count : ℕ) × (count ≤ length (lines_of read)) × IsReportOfFirst reports n start read count now text
+-- on some of the first lines
+abbrev pub IsPartOfSome : {S : Type 0} → (S → Option (List ℕ) → List ℕ → S → Type 0)
+    → (S → Option (List ℕ) → List ℕ → Type 0) → ℕ → S → List ℕ → S → List ℕ → Type 0
+IsPartOfSome reports begins n start read now text =
+    (count : ℕ) × (count ≤ length (lines_of read)) × IsPartOfFirst reports begins n start read count now text
 
--- so what waits is the report on some of the first lines
-pub waits_standing : {S : Type 0} (reports : S → Option (List ℕ) → List ℕ → S → Type 0) (lines : S → ℕ) (n : ℕ)
-    (start : S) (written read : List ℕ) (q : S) (begun text : List ℕ)
-    → Stands reports lines n start written read q begun text
-    → IsReportOfSome reports n start read q (written ++ text)
-waits_standing reports lines n start written read q begun text stands =
-    (length (closed_lines read), closed_few read, stands_first reports lines n start written read q begun text stands)
+-- it is where a run stands
+pub waits_standing : {S : Type 0} (reports : S → Option (List ℕ) → List ℕ → S → Type 0)
+    (begins : S → Option (List ℕ) → List ℕ → Type 0) (lines : S → ℕ) (n : ℕ)
+    (start : S) (said read : List ℕ) (q : S) (begun : List ℕ)
+    → Stands reports lines n start said read q begun → IsPartOfSome reports begins n start read q said
+waits_standing reports begins lines n start said read q begun stands =
+    (length (closed_lines read), closed_few read, inl (stands_first reports lines n start said read q begun stands))
 
 -- after a fault too
-pub waits_faulty : {S F : Type 0} (reports : S → Option (List ℕ) → List ℕ → S → Type 0) (limits : LineLimits)
-    (start : S) (fault : LineFault F) (read : List ℕ) (q : S) (text : List ℕ)
-    → TakeFault reports limits start fault read q text → IsReportOfSome reports limits.line_bytes start read q text
-waits_faulty reports limits start (Report fault) read q text left =
+pub waits_faulty : {S F : Type 0} (reports : S → Option (List ℕ) → List ℕ → S → Type 0)
+    (begins : S → Option (List ℕ) → List ℕ → Type 0) (limits : LineLimits) (start : S) (fault : LineFault F)
+    (read : List ℕ) (q : S) (text : List ℕ) → TakeFault reports begins limits start fault read q text
+    → IsPartOfSome reports begins limits.line_bytes start read q text
+waits_faulty reports begins limits start (Report fault) read q text left =
     (left.0, (let few = closed_few read in let below = left.1 in omega (arith, few, below)), left.2)
-waits_faulty reports limits start Memory read q text left =
-    (left.0, (let few = closed_few read in let below = left.1 in omega (arith, few, below)), left.2)
-waits_faulty reports limits start TooManyLines read q text left =
-    (limits.lines, (let below = left.1 in omega (arith, below)), left.0)
-waits_faulty reports limits start Read read q text left = absurd left
-waits_faulty reports limits start Write read q text left = absurd left
-waits_faulty reports limits start Endless read q text left = absurd left
+waits_faulty reports begins limits start Memory read q text left =
+    (left.0, (let few = closed_few read in let below = left.1 in omega (arith, few, below)), inl left.2)
+waits_faulty reports begins limits start TooManyLines read q text left =
+    (limits.lines, (let below = left.1 in omega (arith, below)), inl left.0)
+waits_faulty reports begins limits start Read read q text left = absurd left
+waits_faulty reports begins limits start Write read q text left = absurd left
+waits_faulty reports begins limits start Endless read q text left = absurd left
 
 -- at the end all lines are the first of them
-pub waits_ended : {S : Type 0} (reports : S → Option (List ℕ) → List ℕ → S → Type 0) (n : ℕ)
-    (start : S) (read : List ℕ) (q : S) (text : List ℕ)
-    → Reported reports n start (lines_of read) text q → IsReportOfSome reports n start read q text
-waits_ended reports n start read q text all =
-    (length (lines_of read), omega arith, rw (take-length (lines_of read)) all)
+pub waits_ended : {S : Type 0} (reports : S → Option (List ℕ) → List ℕ → S → Type 0)
+    (begins : S → Option (List ℕ) → List ℕ → Type 0) (n : ℕ) (start : S) (read : List ℕ) (q : S) (text : List ℕ)
+    → Reported reports n start (lines_of read) text q → IsPartOfSome reports begins n start read q text
+waits_ended reports begins n start read q text all =
+    (length (lines_of read), omega arith, inl (rw (take-length (lines_of read)) all))
 
--- ---- what a piece has come to
+-- ---- answers
 
--- by the answer of what has taken it
-abbrev pub Taken : {S F : Type 0} → (S → Option (List ℕ) → List ℕ → S → Type 0) → (S → ℕ) → LineLimits → S
-    → Result (Unit {0}) (LineFault F) → Option (List ℕ) → List ℕ → S → List ℕ → List ℕ → Option (List ℕ) → Type 0
-Taken reports lines limits start (Ok u) old read q begun text now =
+-- what holds of each answer
+pub of_answer : {E : Type 0} (answer : Result (Unit {0}) E) (A : Type 0) (B : E → Type 0)
+    (C : Result (Unit {0}) E → Type 0) → ((u : Unit {0}) → A → C (Ok u)) → ((e : E) → B e → C (Err e))
+    → OnOk answer A → IfErr answer B → C answer
+of_answer (Ok u) A B C ok err a b = ok u a
+of_answer (Err e) A B C ok err a b = err e b
+
+-- what a piece has come to, by the answer of what has taken it
+abbrev pub Taken : {S F : Type 0} → (S → Option (List ℕ) → List ℕ → S → Type 0)
+    → (S → Option (List ℕ) → List ℕ → Type 0) → (S → ℕ) → LineLimits → S → Result (Unit {0}) (LineFault F)
+    → Option (List ℕ) → List ℕ → S → List ℕ → List ℕ → Option (List ℕ) → Type 0
+Taken reports begins lines limits start (Ok u) old read q begun text now =
     Waits reports lines limits.line_bytes start old read q begun text now
-Taken reports lines limits start (Err e) old read q begun text now =
-    WaitFault (is_write e) reports limits start e old read q text now
+Taken reports begins lines limits start (Err e) old read q begun text now =
+    WaitFault (is_write e) reports begins limits start e old read q text now
+
+-- how many writes have failed by then, of so many before
+abbrev pub Failed : {F : Type 0} → ℕ → ℕ → Result (Unit {0}) (LineFault F) → Type 0
+Failed before after (Ok u) = after ≡ before
+Failed before after (Err e) = after ≡ before + writes_failed e
 
 -- what isn't false is true
 not_false : (b : Bool) → not b ≡ false → b ≡ true
@@ -138,155 +300,176 @@ quiet_writes Write is = cc
 quiet_writes TooManyLines is = refl
 quiet_writes Endless is = refl
 
+-- nor does such an answer
+pub failed_none : {F : Type 0} (before after : ℕ) (answer : Result (Unit {0}) (LineFault F)) → may_write answer ≡ true
+    → Failed before after answer → after ≡ before
+failed_none before after (Ok u) may failed = failed
+failed_none before after (Err e) may failed =
+    let none = quiet_writes e (no_write e may) in omega (arith, failed, none)
+
+-- each other one fails one
+pub failed_one : {F : Type 0} (before after : ℕ) (answer : Result (Unit {0}) (LineFault F)) → may_write answer ≡ false
+    → Failed before after answer → after ≡ before + 1
+failed_one before after (Ok u) may failed = cc
+failed_one before after (Err Write) may failed = failed
+failed_one before after (Err (Report fault)) may failed = cc
+failed_one before after (Err Memory) may failed = cc
+failed_one before after (Err Read) may failed = cc
+failed_one before after (Err TooManyLines) may failed = cc
+failed_one before after (Err Endless) may failed = cc
+
 -- a write failed
-pub taken_cut : {S F : Type 0} (reports : S → Option (List ℕ) → List ℕ → S → Type 0) (lines : S → ℕ)
-    (limits : LineLimits) (start : S) (answer : Result (Unit {0}) (LineFault F)) (old : Option (List ℕ))
-    (read : List ℕ) (q : S) (begun text : List ℕ) (now : Option (List ℕ)) → may_write answer ≡ false
-    → Taken reports lines limits start answer old read q begun text now
-    → WrotePrefix (Reported reports limits.line_bytes start) old read q now
-taken_cut reports lines limits start (Ok u) old read q begun text now none taken = cc
-taken_cut reports lines limits start (Err e) old read q begun text now none taken =
-    subst (λ b. WaitFault b reports limits start e old read q text now) (not_false (is_write e) none) taken
+pub taken_cut : {S F : Type 0} (reports : S → Option (List ℕ) → List ℕ → S → Type 0)
+    (begins : S → Option (List ℕ) → List ℕ → Type 0) (lines : S → ℕ) (limits : LineLimits) (start : S)
+    (answer : Result (Unit {0}) (LineFault F)) (old : Option (List ℕ)) (read : List ℕ) (q : S) (begun text : List ℕ)
+    (now : Option (List ℕ)) → may_write answer ≡ false
+    → Taken reports begins lines limits start answer old read q begun text now
+    → WrotePrefix (ReportedPart reports begins limits.line_bytes start) old read q now
+taken_cut reports begins lines limits start (Ok u) old read q begun text now none taken = cc
+taken_cut reports begins lines limits start (Err e) old read q begun text now none taken =
+    subst (λ b. WaitFault b reports begins limits start e old read q text now) (not_false (is_write e) none) taken
 
 -- none did
-pub taken_waits : {S F : Type 0} (reports : S → Option (List ℕ) → List ℕ → S → Type 0) (lines : S → ℕ)
-    (limits : LineLimits) (start : S) (answer : Result (Unit {0}) (LineFault F)) (old : Option (List ℕ))
-    (read : List ℕ) (q : S) (begun text : List ℕ) (now : Option (List ℕ)) → may_write answer ≡ true
-    → Taken reports lines limits start answer old read q begun text now
-    → (written : List ℕ) × Appends old now written
-    × IsReportOfSome reports limits.line_bytes start read q (written ++ text)
-taken_waits reports lines limits start (Ok u) old read q begun text now may taken = (
-  taken.written,
-  taken.wrote,
-  waits_standing reports lines limits.line_bytes start taken.written read q begun text taken.stands,
+pub taken_waits : {S F : Type 0} (reports : S → Option (List ℕ) → List ℕ → S → Type 0)
+    (begins : S → Option (List ℕ) → List ℕ → Type 0) (lines : S → ℕ) (limits : LineLimits) (start : S)
+    (answer : Result (Unit {0}) (LineFault F)) (old : Option (List ℕ)) (read : List ℕ) (q : S) (begun text : List ℕ)
+    (now : Option (List ℕ)) → may_write answer ≡ true
+    → Taken reports begins lines limits start answer old read q begun text now
+    → (said : List ℕ) × Passes said old now text × IsPartOfSome reports begins limits.line_bytes start read q said
+taken_waits reports begins lines limits start (Ok u) old read q begun text now may taken = (
+  taken.said,
+  taken.passes,
+  waits_standing reports begins lines limits.line_bytes start taken.said read q begun taken.stands,
 )
-taken_waits reports lines limits start (Err e) old read q begun text now may taken =
-    let left = subst (λ b. WaitFault b reports limits start e old read q text now) (no_write e may) taken in
-    (left.0, left.1, waits_faulty reports limits start e read q (left.0 ++ text) left.2)
+taken_waits reports begins lines limits start (Err e) old read q begun text now may taken =
+    let left = subst (λ b. WaitFault b reports begins limits start e old read q text now) (no_write e may) taken in
+    (left.0, left.1, waits_faulty reports begins limits start e read q left.0 left.2)
 
 -- ---- what a fault leaves
 
 -- a write failed
-pub write-left : {S : Type 0} (reports : S → Option (List ℕ) → List ℕ → S → Type 0) (limits : LineLimits)
-    (start : S) (old now new : Option (List ℕ)) (written read text : List ℕ) (q r : S) (n : ℕ)
-    → Appends old now written → IsReportOfSome reports limits.line_bytes start read q (written ++ text) → r ≡ q
-    → Appends now new (take n text) → WrotePrefix (Reported reports limits.line_bytes start) old read r new
-write-left reports limits start old now new written read text q r n before report same part = (
-  report.0,
-  report.1,
-  record {
-    text = written ++ text;
-    reported = rw same report.2;
-    prefix = length written + n;
-    wrote = rw (take-append-add written text n) (Appends-trans old now new written (take n text) before part);
-  },
-)
+pub write-left : {S : Type 0} (reports : S → Option (List ℕ) → List ℕ → S → Type 0)
+    (begins : S → Option (List ℕ) → List ℕ → Type 0) (n : ℕ) (start : S) (old now new : Option (List ℕ))
+    (said read text : List ℕ) (q r : S) → Passes said old now text
+    → IsPartOfSome reports begins n start read q said → r ≡ q
+    → CutsOff text now new → WrotePrefix (ReportedPart reports begins n start) old read r new
+write-left reports begins n start old now new said read text q r passes report same cut =
+    let prefix = cuts_on said old now new text passes cut in (
+      report.0,
+      report.1,
+      record { text = said; reported = rw same report.2; prefix = prefix.0; wrote = prefix.1 },
+    )
 
 -- the same in the midst of a piece
-pub write-cut : {S : Type 0} (reports : S → Option (List ℕ) → List ℕ → S → Type 0) (lines : S → ℕ) (n : ℕ) (start : S)
-    (old now new : Option (List ℕ)) (read rest : List ℕ) (p q : S) (begun text : List ℕ) (k : ℕ)
-    → Waits reports lines n start old read p begun text now → q ≡ p → Appends now new (take k text)
-    → WrotePrefix (Reported reports n start) old (read ++ rest) q new
-write-cut reports lines n start old now new read rest p q begun text k waits same part =
+pub write-cut : {S : Type 0} (reports : S → Option (List ℕ) → List ℕ → S → Type 0)
+    (begins : S → Option (List ℕ) → List ℕ → Type 0) (lines : S → ℕ) (n : ℕ) (start : S)
+    (old now new : Option (List ℕ)) (read rest : List ℕ) (p q : S) (begun text : List ℕ)
+    → Waits reports lines n start old read p begun text now → q ≡ p → CutsOff text now new
+    → WrotePrefix (ReportedPart reports begins n start) old (read ++ rest) q new
+write-cut reports begins lines n start old now new read rest p q begun text waits same cut =
     let few = closed_few (read ++ rest) in
-    let more = prefix_count read rest in (
+    let more = prefix_count read rest in
+    let prefix = cuts_on waits.said old now new text waits.passes cut in (
       length (closed_lines read),
       omega (arith, few, more),
       record {
-        text = waits.written ++ text;
-        reported = rw same (prefix_report reports lines n start waits.written read rest p begun text waits.stands);
-        prefix = length waits.written + k;
-        wrote = rw (take-append-add waits.written text k)
-            (Appends-trans old now new waits.written (take k text) waits.wrote part);
+        text = waits.said;
+        reported = inl (rw same (prefix_report reports lines n start waits.said read rest p begun waits.stands));
+        prefix = prefix.0;
+        wrote = prefix.1;
       },
     )
 
--- the report on whole lines was written
-pub wrote_lines : {S : Type 0} (reports : S → Option (List ℕ) → List ℕ → S → Type 0) (n : ℕ) (start : S)
-    (lines : List (List ℕ)) (old now new : Option (List ℕ)) (written text : List ℕ) (q r : S)
-    → Appends old now written → Reported reports n start lines (written ++ text) q → r ≡ q
-    → Appends now new text → Wrote (Reported reports n start) lines old new r
-wrote_lines reports n start lines old now new written text q r before report same wrote = record {
-  text = written ++ text;
-  reported = rw same report;
-  wrote = Appends-trans old now new written text before wrote;
-}
+-- what waited was written
+pub wrote_waiting : {S : Type 0} (P : List (List ℕ) → List ℕ → S → Type 0) (lines : List (List ℕ))
+    (old now new : Option (List ℕ)) (said text : List ℕ) (q r : S) → Passes said old now text → P lines said q
+    → r ≡ q → Appends now new text → Wrote P lines old new r
+wrote_waiting P lines old now new said text q r passes report same wrote =
+    record { text = said; reported = rw same report; wrote = passes_written said old now new text passes wrote }
 
 -- a line of the piece couldn't be reported on, and what was said of those before it was written
-pub pass-left : {S F : Type 0} (reports : S → Option (List ℕ) → List ℕ → S → Type 0) (limits : LineLimits)
-    (start : S) (fault : LineFault F) (old now new : Option (List ℕ)) (written read text : List ℕ) (q r : S)
-    → Appends old now written → TakeFault reports limits start fault read q (written ++ text) → r ≡ q
-    → Appends now new text → PassFault reports limits start fault old read r new
-pass-left reports limits start (Report fault) old now new written read text q r before left same wrote = (
+pub pass-left : {S F : Type 0} (reports : S → Option (List ℕ) → List ℕ → S → Type 0)
+    (begins : S → Option (List ℕ) → List ℕ → Type 0) (limits : LineLimits) (start : S) (fault : LineFault F)
+    (old now new : Option (List ℕ)) (said read text : List ℕ) (q r : S) → Passes said old now text
+    → TakeFault reports begins limits start fault read q said → r ≡ q
+    → Appends now new text → PassFault reports begins limits start fault old read r new
+pass-left reports begins limits start (Report fault) old now new said read text q r passes left same wrote = (
   left.0,
   left.1,
-  wrote_lines reports limits.line_bytes start (take left.0 (lines_of read)) old now new written text
-      q r before left.2 same wrote,
+  wrote_waiting (ReportedPart reports begins limits.line_bytes start) (take left.0 (lines_of read)) old now new said
+      text q r passes left.2 same wrote,
 )
-pass-left reports limits start Memory old now new written read text q r before left same wrote = (
+pass-left reports begins limits start Memory old now new said read text q r passes left same wrote = (
   left.0,
   left.1,
-  wrote_lines reports limits.line_bytes start (take left.0 (lines_of read)) old now new written text
-      q r before left.2 same wrote,
+  wrote_waiting (Reported reports limits.line_bytes start) (take left.0 (lines_of read)) old now new said
+      text q r passes left.2 same wrote,
 )
-pass-left reports limits start TooManyLines old now new written read text q r before left same wrote = (
-  wrote_lines reports limits.line_bytes start (take limits.lines (lines_of read)) old now new written text
-      q r before left.0 same wrote,
+pass-left reports begins limits start TooManyLines old now new said read text q r passes left same wrote = (
+  wrote_waiting (Reported reports limits.line_bytes start) (take limits.lines (lines_of read)) old now new said
+      text q r passes left.0 same wrote,
   left.1,
 )
-pass-left reports limits start Read old now new written read text q r before left same wrote = absurd left
-pass-left reports limits start Write old now new written read text q r before left same wrote = absurd left
-pass-left reports limits start Endless old now new written read text q r before left same wrote = absurd left
+pass-left reports begins limits start Read old now new said read text q r passes left same wrote = absurd left
+pass-left reports begins limits start Write old now new said read text q r passes left same wrote = absurd left
+pass-left reports begins limits start Endless old now new said read text q r passes left same wrote = absurd left
 
 -- such a fault is no failed read
-pub passing_reads : {S F : Type 0} (reports : S → Option (List ℕ) → List ℕ → S → Type 0) (limits : LineLimits)
-    (start : S) (fault : LineFault F) (old : Option (List ℕ)) (read : List ℕ) (q : S) (new : Option (List ℕ))
-    → PassFault reports limits start fault old read q new → reads_failed fault ≡ 0
-passing_reads reports limits start (Report fault) old read q new left = refl
-passing_reads reports limits start Memory old read q new left = refl
-passing_reads reports limits start TooManyLines old read q new left = refl
-passing_reads reports limits start Read old read q new left = absurd left
-passing_reads reports limits start Write old read q new left = refl
-passing_reads reports limits start Endless old read q new left = refl
+pub passing_reads : {S F : Type 0} (reports : S → Option (List ℕ) → List ℕ → S → Type 0)
+    (begins : S → Option (List ℕ) → List ℕ → Type 0) (limits : LineLimits) (start : S) (fault : LineFault F)
+    (old : Option (List ℕ)) (read : List ℕ) (q : S) (new : Option (List ℕ))
+    → PassFault reports begins limits start fault old read q new → reads_failed fault ≡ 0
+passing_reads reports begins limits start (Report fault) old read q new left = refl
+passing_reads reports begins limits start Memory old read q new left = refl
+passing_reads reports begins limits start TooManyLines old read q new left = refl
+passing_reads reports begins limits start Read old read q new left = absurd left
+passing_reads reports begins limits start Write old read q new left = refl
+passing_reads reports begins limits start Endless old read q new left = refl
 
 -- nor is one behind the last piece
-pub finishing_reads : {S F : Type 0} (reports : S → Option (List ℕ) → List ℕ → S → Type 0) (limits : LineLimits)
-    (start : S) (fault : LineFault F) (old : Option (List ℕ)) (read : List ℕ) (q : S) (new : Option (List ℕ))
-    → FinishFault reports limits start fault old read q new → reads_failed fault ≡ 0
-finishing_reads reports limits start (Report fault) old read q new left = refl
-finishing_reads reports limits start Memory old read q new left = refl
-finishing_reads reports limits start TooManyLines old read q new left = refl
-finishing_reads reports limits start Read old read q new left = absurd left
-finishing_reads reports limits start Write old read q new left = refl
-finishing_reads reports limits start Endless old read q new left = refl
+pub finishing_reads : {S F : Type 0} (reports : S → Option (List ℕ) → List ℕ → S → Type 0)
+    (begins : S → Option (List ℕ) → List ℕ → Type 0) (limits : LineLimits) (start : S) (fault : LineFault F)
+    (old : Option (List ℕ)) (read : List ℕ) (q : S) (new : Option (List ℕ))
+    → FinishFault reports begins limits start fault old read q new → reads_failed fault ≡ 0
+finishing_reads reports begins limits start (Report fault) old read q new left = refl
+finishing_reads reports begins limits start Memory old read q new left = refl
+finishing_reads reports begins limits start TooManyLines old read q new left = refl
+finishing_reads reports begins limits start Read old read q new left = absurd left
+finishing_reads reports begins limits start Write old read q new left = refl
+finishing_reads reports begins limits start Endless old read q new left = refl
 
 -- ---- a run
 
 -- what a piece's fault leaves is what the run's fault leaves
-pub pass_to_run : {S F : Type 0} (reports : S → Option (List ℕ) → List ℕ → S → Type 0) (limits : LineLimits)
-    (start : S) (fault : LineFault F) (old : Option (List ℕ)) (read : List ℕ) (at_end : Type 0) (q : S)
-    (new : Option (List ℕ)) → PassFault reports limits start fault old read q new
-    → Leaves (Reported reports limits.line_bytes start) limits fault old read at_end q new
-pass_to_run reports limits start (Report fault) old read at_end q new left =
+pub pass_to_run : {S F : Type 0} (reports : S → Option (List ℕ) → List ℕ → S → Type 0)
+    (begins : S → Option (List ℕ) → List ℕ → Type 0) (limits : LineLimits) (start : S) (fault : LineFault F)
+    (old : Option (List ℕ)) (read : List ℕ) (at_end : Type 0) (q : S) (new : Option (List ℕ))
+    → PassFault reports begins limits start fault old read q new
+    → Leaves (Reported reports limits.line_bytes start) (ReportedPart reports begins limits.line_bytes start) limits
+    fault old read at_end q new
+pass_to_run reports begins limits start (Report fault) old read at_end q new left =
     (left.0, (let few = closed_few read in let below = left.1 in omega (arith, few, below)), inl left.1, left.2)
-pass_to_run reports limits start Memory old read at_end q new left =
+pass_to_run reports begins limits start Memory old read at_end q new left =
     (left.0, (let few = closed_few read in let below = left.1 in omega (arith, few, below)), inl left.1, left.2)
-pass_to_run reports limits start TooManyLines old read at_end q new left = left
-pass_to_run reports limits start Write old read at_end q new left = left
-pass_to_run reports limits start Read old read at_end q new left = absurd left
-pass_to_run reports limits start Endless old read at_end q new left = absurd left
+pass_to_run reports begins limits start TooManyLines old read at_end q new left = left
+pass_to_run reports begins limits start Write old read at_end q new left = left
+pass_to_run reports begins limits start Read old read at_end q new left = absurd left
+pass_to_run reports begins limits start Endless old read at_end q new left = absurd left
 
 -- and so at the end, where no byte is left to come
-pub finish_to_run : {S F : Type 0} (reports : S → Option (List ℕ) → List ℕ → S → Type 0) (limits : LineLimits)
-    (start : S) (fault : LineFault F) (old : Option (List ℕ)) (read : List ℕ) (at_end : Type 0) (q : S)
-    (new : Option (List ℕ)) → at_end → FinishFault reports limits start fault old read q new
-    → Leaves (Reported reports limits.line_bytes start) limits fault old read at_end q new
-finish_to_run reports limits start (Report fault) old read at_end q new is left = (left.0, left.1, inr is, left.2)
-finish_to_run reports limits start Write old read at_end q new is left = left
-finish_to_run reports limits start Memory old read at_end q new is left = absurd left
-finish_to_run reports limits start TooManyLines old read at_end q new is left = absurd left
-finish_to_run reports limits start Read old read at_end q new is left = absurd left
-finish_to_run reports limits start Endless old read at_end q new is left = absurd left
+pub finish_to_run : {S F : Type 0} (reports : S → Option (List ℕ) → List ℕ → S → Type 0)
+    (begins : S → Option (List ℕ) → List ℕ → Type 0) (limits : LineLimits) (start : S) (fault : LineFault F)
+    (old : Option (List ℕ)) (read : List ℕ) (at_end : Type 0) (q : S) (new : Option (List ℕ)) → at_end
+    → FinishFault reports begins limits start fault old read q new
+    → Leaves (Reported reports limits.line_bytes start) (ReportedPart reports begins limits.line_bytes start) limits
+    fault old read at_end q new
+finish_to_run reports begins limits start (Report fault) old read at_end q new is left =
+    (left.0, left.1, inr is, left.2)
+finish_to_run reports begins limits start Write old read at_end q new is left = left
+finish_to_run reports begins limits start Memory old read at_end q new is left = absurd left
+finish_to_run reports begins limits start TooManyLines old read at_end q new is left = absurd left
+finish_to_run reports begins limits start Read old read at_end q new is left = absurd left
+finish_to_run reports begins limits start Endless old read at_end q new is left = absurd left
 
 -- before the first read nothing is reported
 pub nothing_written : {S : Type 0} (reports : S → Option (List ℕ) → List ℕ → S → Type 0) (limits : LineLimits)
@@ -305,11 +488,9 @@ pub at_first : {S : Type 0} (reports : S → Option (List ℕ) → List ℕ → 
     → At reports lines limits.line_bytes start old read p begun text new
     → WroteFirst (Reported reports limits.line_bytes start) old read (length (closed_lines read)) p new
 at_first reports lines limits start old new read p begun text at = record {
-  text = at.waits.written;
-  reported = subst (λ t. IsReportOfFirst reports limits.line_bytes start read (length (closed_lines read)) p t)
-      (ap (λ t. at.waits.written ++ t) at.none ∙ append-nil at.waits.written)
-      (stands_first reports lines limits.line_bytes start at.waits.written read p begun text at.waits.stands);
-  wrote = at.waits.wrote;
+  text = at.waits.said;
+  reported = stands_first reports lines limits.line_bytes start at.waits.said read p begun at.waits.stands;
+  wrote = passes_written at.waits.said old new new text at.waits.passes (rw at.none (Appends-nil new));
 }
 
 -- a read that gives nothing has come to the end

@@ -1,7 +1,9 @@
 -- Which faults of a run are those of a write, after which nothing more is written.
-use Rattle.std.specs.Prelude.{Bool, true, false, not, Result, Ok, Err}
+use Rattle.std.specs.Prelude.{ℕ, Bool, true, false, not, Result, Ok, Err}
 use Rattle.uv_lines.specs.declared.fault.LineFault.{LineFault}
-use Rattle.uv_lines.specs.declared.fault.LineFault.TheVariants.{Write}
+use Rattle.uv_lines.specs.declared.fault.LineFault.TheVariants.{Report, Write}
+use Rattle.uv_lines.specs.declared.fault.ReportFault.{ReportFault}
+use Rattle.uv_lines.specs.declared.fault.ReportFault.TheVariants as within
 
 -- whether a fault is that of a write
 abbrev pub is_write : {F : Type 0} → LineFault F → Bool
@@ -12,3 +14,13 @@ is_write _ = false
 abbrev pub may_write : {F : Type 0} → Result (Unit {0}) (LineFault F) → Bool
 may_write (Ok u) = true
 may_write (Err fault) = not (is_write fault)
+
+-- a run's fault where one comes within a line
+abbrev pub fault_of_run : {F : Type 0} → ReportFault F → LineFault F
+fault_of_run (within.Reporter fault) = Report fault
+fault_of_run within.Write = Write
+
+-- how many failed writes a fault within a line stands for
+abbrev pub failed_within : {F : Type 0} → ReportFault F → ℕ
+failed_within (within.Reporter fault) = 0
+failed_within within.Write = 1

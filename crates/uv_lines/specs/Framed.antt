@@ -7,22 +7,23 @@ use Rattle.uv_lines.specs.declared.fault.LineFault.TheVariants.{Report, Read, Wr
 use Rattle.uv_lines.specs.declared.limits.LineLimits.{LineLimits}
 use Rattle.uv_lines.specs.Fault.{is_write}
 use Rattle.uv_lines.specs.Lines.{lines_of}
-use Rattle.uv_lines.specs.Reported.{Cut, Reported}
+use Rattle.uv_lines.specs.Reported.{Cut}
 use Rattle.uv_lines.specs.Run.{Leaves}
 
 -- the text is a beginning, the report on the lines, and what stands after it
-pub record Framed {S : Type 0} (reports : S → Option (List ℕ) → List ℕ → S → Type 0) (line_bytes : ℕ) (begin : List ℕ)
-    (behind : S → List ℕ) (start : S) (lines : List (List ℕ)) (text : List ℕ) (now : S) : Type 0 where
+pub record Framed {S : Type 0} (IsReport : List (List ℕ) → List ℕ → S → Type 0) (begin : List ℕ)
+    (behind : S → List ℕ) (lines : List (List ℕ)) (text : List ℕ) (now : S) : Type 0 where
   pub said : List ℕ
-  pub reported : Reported reports line_bytes start lines said now
+  pub reported : IsReport lines said now
   pub whole : text ≡ begin ++ (said ++ behind now)
 
--- what a fault leaves: a part of the report, or a prefix of the whole one on all lines, where a write failed after them
+-- what a fault leaves: the report on some lines or a part of it, or a prefix of the whole one on all lines, where a
+-- write failed after them
 abbrev pub LeavesPart : {S F : Type 0} → (List (List ℕ) → List ℕ → S → Type 0)
-    → (List (List ℕ) → List ℕ → S → Type 0) → LineLimits → LineFault F → Option (List ℕ) → List ℕ → Type 0 → S
-    → Option (List ℕ) → Type 0
-LeavesPart IsPart IsWhole limits fault old read at_end now new =
-    Leaves IsPart limits fault old read at_end now new
+    → (List (List ℕ) → List ℕ → S → Type 0) → (List (List ℕ) → List ℕ → S → Type 0) → LineLimits → LineFault F
+    → Option (List ℕ) → List ℕ → Type 0 → S → Option (List ℕ) → Type 0
+LeavesPart IsReport IsPart IsWhole limits fault old read at_end now new =
+    Leaves IsReport IsPart limits fault old read at_end now new
     ⊎ ((fault ≡ Write) × Cut IsWhole (lines_of read) old new now)
 
 -- How many reads have failed after a fault, of so many before: one more for a read. A failed write comes after a

@@ -1,5 +1,6 @@
 pub mod Fault
 pub mod Lines
+pub mod Waiting
 pub mod Reported
 pub mod Progress
 pub mod Run

@@ -1,27 +1,19 @@
 -- Where a run stands between two pieces, and what its faults leave.
-use Rattle.std.specs.Prelude.{◌≡◌, ℕ, ◌+◌, ◌≤◌, ◌<◌, Bool, true, false, List, ◌++◌, Option, length, take}
+use Rattle.std.specs.Prelude.{◌≡◌, ℕ, ◌+◌, ◌≤◌, ◌<◌, Bool, true, false, List, Option, length, take}
 use Rattle.std.specs.Str.Lines.{strip_carriage_return}
 use Rattle.uv_lines.specs.declared.fault.LineFault.{LineFault}
 use Rattle.uv_lines.specs.declared.fault.LineFault.TheVariants.{Report, Memory, TooManyLines}
 use Rattle.uv_lines.specs.declared.limits.LineLimits.{LineLimits}
 use Rattle.uv_lines.specs.Lines.{split, closed_lines, lines_of}
-use Rattle.uv_lines.specs.Reported.{Reported}
+use Rattle.uv_lines.specs.Reported.{Reported, ReportedPart}
 
--- The run has read these bytes and written a text: of the begun line a prefix is kept, which decides what is said of
--- it; the text and what waits to be written are the report on each line that an LF ended.
+-- The run has read these bytes and said a text: of the begun line a prefix is kept, which decides what is said of it;
+-- the text is the report on each line that an LF ended.
 pub record Stands {S : Type 0} (reports : S → Option (List ℕ) → List ℕ → S → Type 0) (lines : S → ℕ)
-    (line_bytes : ℕ) (start : S) (written read : List ℕ) (now : S) (begun text : List ℕ) : Type 0 where
-  pub reported : Reported reports line_bytes start (closed_lines read) (written ++ text) now
+    (line_bytes : ℕ) (start : S) (said read : List ℕ) (now : S) (begun : List ℕ) : Type 0 where
+  pub reported : Reported reports line_bytes start (closed_lines read) said now
   pub kept : begun ≡ take (line_bytes + 2) (split read).1
   pub count : lines now ≡ length (closed_lines read)
-
--- a line was reported on, and what was said of it waits to be written
-pub record Adds {S : Type 0} (reports : S → Option (List ℕ) → List ℕ → S → Type 0) (lines : S → ℕ)
-    (before : S) (old : List ℕ) (line : Option (List ℕ)) (after : S) (new : List ℕ) : Type 0 where
-  pub said : List ℕ
-  pub reported : reports before line said after
-  pub count : lines after ≡ lines before + 1
-  pub appended : new ≡ old ++ said
 
 -- a line as its end leaves it: an LF takes the CR before it with it
 abbrev pub ended : Bool → List ℕ → List ℕ
@@ -34,25 +26,23 @@ abbrev pub IsReportOfFirst : {S : Type 0} → (S → Option (List ℕ) → List 
 IsReportOfFirst reports line_bytes start read count now text =
     Reported reports line_bytes start (take count (lines_of read)) text now
 
--- what a fault leaves while lines are taken: the report on some of the first lines, and on as many as may come where
--- there are too many
-abbrev pub TakeFault : {S F : Type 0} → (S → Option (List ℕ) → List ℕ → S → Type 0) → LineLimits → S → LineFault F
-    → List ℕ → S → List ℕ → Type 0
-TakeFault reports limits start (Report fault) read now text =
+-- the same, or the last of these lines was begun
+abbrev pub IsPartOfFirst : {S : Type 0} → (S → Option (List ℕ) → List ℕ → S → Type 0)
+    → (S → Option (List ℕ) → List ℕ → Type 0) → ℕ → S → List ℕ → ℕ → S → List ℕ → Type 0
+IsPartOfFirst reports begins line_bytes start read count now text =
+    ReportedPart reports begins line_bytes start (take count (lines_of read)) text now
+
+-- what a fault leaves while lines are taken: the report on some of the first lines, perhaps with the parts that begin
+-- it on a further one, and on as many as may come where there are too many
+abbrev pub TakeFault : {S F : Type 0} → (S → Option (List ℕ) → List ℕ → S → Type 0)
+    → (S → Option (List ℕ) → List ℕ → Type 0) → LineLimits → S → LineFault F → List ℕ → S → List ℕ → Type 0
+TakeFault reports begins limits start (Report fault) read now text =
+    (count : ℕ) × (count ≤ length (closed_lines read))
+    × IsPartOfFirst reports begins limits.line_bytes start read count now text
+TakeFault reports begins limits start Memory read now text =
     (count : ℕ) × (count ≤ length (closed_lines read))
     × IsReportOfFirst reports limits.line_bytes start read count now text
-TakeFault reports limits start Memory read now text =
-    (count : ℕ) × (count ≤ length (closed_lines read))
-    × IsReportOfFirst reports limits.line_bytes start read count now text
-TakeFault reports limits start TooManyLines read now text =
+TakeFault reports begins limits start TooManyLines read now text =
     IsReportOfFirst reports limits.line_bytes start read limits.lines now text
     × (limits.lines < length (lines_of read))
-TakeFault reports limits start _ read now text = ⊥
-
--- the same at the end of the list, where the reporter alone has faults
-abbrev pub EndFault : {S F : Type 0} → (S → Option (List ℕ) → List ℕ → S → Type 0) → LineLimits → S → LineFault F
-    → List ℕ → S → List ℕ → Type 0
-EndFault reports limits start (Report fault) read now text =
-    (count : ℕ) × (count ≤ length (lines_of read))
-    × IsReportOfFirst reports limits.line_bytes start read count now text
-EndFault reports limits start _ read now text = ⊥
+TakeFault reports begins limits start _ read now text = ⊥

@@ -1,12 +1,14 @@
 -- What a run has written, and what its faults leave.
-use Rattle.std.specs.Prelude.{◌≡◌, ℕ, ◌-◌, ◌^◌, ◌≤◌, ◌<◌, ◌⊎◌, Bool, true, false, List, [], ◌++◌, Option, length, take}
-use Rattle.std.specs.Io.KnownBytes.{Appends}
+use Rattle.std.specs.Prelude.{◌≡◌, ℕ, ◌-◌, ◌^◌, ◌≤◌, ◌<◌, ◌⊎◌, Bool, true, false, List, [], Option, length, take}
 use Rattle.uv_lines.specs.declared.fault.LineFault.{LineFault}
 use Rattle.uv_lines.specs.declared.fault.LineFault.TheVariants.{Report, Memory, Read, Write, TooManyLines, Endless}
+use Rattle.uv_lines.specs.declared.fault.ReportFault.{ReportFault}
+use Rattle.uv_lines.specs.declared.fault.ReportFault.TheVariants as within
 use Rattle.uv_lines.specs.declared.limits.LineLimits.{LineLimits}
 use Rattle.uv_lines.specs.Lines.{closed_lines, lines_of}
-use Rattle.uv_lines.specs.Progress.{Stands, TakeFault}
-use Rattle.uv_lines.specs.Reported.{Cut, Reported, Wrote}
+use Rattle.uv_lines.specs.Progress.{IsPartOfFirst, Stands, TakeFault}
+use Rattle.uv_lines.specs.Reported.{Cut, Reported, ReportedPart, Wrote}
+use Rattle.uv_lines.specs.Waiting.{Passes}
 
 -- the report on the bytes was written, on no more lines than may come
 pub record WroteAll {S : Type 0} (IsReport : List (List ℕ) → List ℕ → S → Type 0) (limits : LineLimits)
@@ -33,17 +35,18 @@ WroteLines IsReport old read at_end now new =
     (count : ℕ) × (count ≤ length (lines_of read)) × ((count ≤ length (closed_lines read)) ⊎ at_end)
     × WroteFirst IsReport old read count now new
 
--- what a fault of a run leaves, when these bytes were read
-abbrev pub Leaves : {S F : Type 0} → (List (List ℕ) → List ℕ → S → Type 0) → LineLimits → LineFault F
-    → Option (List ℕ) → List ℕ → Type 0 → S → Option (List ℕ) → Type 0
-Leaves IsReport limits (Report fault) old read at_end now new = WroteLines IsReport old read at_end now new
-Leaves IsReport limits Memory old read at_end now new = WroteLines IsReport old read at_end now new
-Leaves IsReport limits Read old read at_end now new =
+-- What a fault of a run leaves, when these bytes were read. Where the reporter can't report on a line, or a write fails
+-- within one, what was written is a part of a report: the last of its lines may have been begun alone.
+abbrev pub Leaves : {S F : Type 0} → (List (List ℕ) → List ℕ → S → Type 0) → (List (List ℕ) → List ℕ → S → Type 0)
+    → LineLimits → LineFault F → Option (List ℕ) → List ℕ → Type 0 → S → Option (List ℕ) → Type 0
+Leaves IsReport IsPart limits (Report fault) old read at_end now new = WroteLines IsPart old read at_end now new
+Leaves IsReport IsPart limits Memory old read at_end now new = WroteLines IsReport old read at_end now new
+Leaves IsReport IsPart limits Read old read at_end now new =
     WroteFirst IsReport old read (length (closed_lines read)) now new
-Leaves IsReport limits Write old read at_end now new = WrotePrefix IsReport old read now new
-Leaves IsReport limits TooManyLines old read at_end now new =
+Leaves IsReport IsPart limits Write old read at_end now new = WrotePrefix IsPart old read now new
+Leaves IsReport IsPart limits TooManyLines old read at_end now new =
     WroteFirst IsReport old read limits.lines now new × (limits.lines < length (lines_of read))
-Leaves IsReport limits Endless old read at_end now new =
+Leaves IsReport IsPart limits Endless old read at_end now new =
     WroteFirst IsReport old read (length (closed_lines read)) now new × (2 ^ 64 - 1 ≤ length read)
 
 -- how many failed reads and writes a fault stands for
@@ -56,13 +59,13 @@ abbrev pub writes_failed : {F : Type 0} → LineFault F → ℕ
 writes_failed Write = 1
 writes_failed _ = 0
 
--- what was written, and what waits to be
+-- what was said of the lines: a beginning was written, and the rest waits to be
 pub record Waits {S : Type 0} (reports : S → Option (List ℕ) → List ℕ → S → Type 0) (lines : S → ℕ) (line_bytes : ℕ)
     (start : S) (old : Option (List ℕ)) (read : List ℕ) (now : S) (begun text : List ℕ) (new : Option (List ℕ))
     : Type 0 where
-  pub written : List ℕ
-  pub wrote : Appends old new written
-  pub stands : Stands reports lines line_bytes start written read now begun text
+  pub said : List ℕ
+  pub passes : Passes said old new text
+  pub stands : Stands reports lines line_bytes start said read now begun
 
 -- between two pieces nothing waits to be written
 pub record At {S : Type 0} (reports : S → Option (List ℕ) → List ℕ → S → Type 0) (lines : S → ℕ) (line_bytes : ℕ)
@@ -71,37 +74,50 @@ pub record At {S : Type 0} (reports : S → Option (List ℕ) → List ℕ → S
   pub waits : Waits reports lines line_bytes start old read now begun text new
   pub none : text ≡ []
 
--- What a fault leaves while lines are taken: behind a failed write a prefix of the report on some of the first lines
--- was written, behind each other one the report on some of them was written or waits to be.
-abbrev pub WaitFault : {S F : Type 0} → Bool → (S → Option (List ℕ) → List ℕ → S → Type 0) → LineLimits → S
-    → LineFault F → Option (List ℕ) → List ℕ → S → List ℕ → Option (List ℕ) → Type 0
-WaitFault true reports limits start fault old read now text new =
-    WrotePrefix (Reported reports limits.line_bytes start) old read now new
-WaitFault false reports limits start fault old read now text new =
-    (written : List ℕ) × Appends old new written × TakeFault reports limits start fault read now (written ++ text)
+-- What a fault leaves while lines are taken: behind a failed write a prefix of a part of the report was written, behind
+-- each other one such a part was written or waits to be.
+abbrev pub WaitFault : {S F : Type 0} → Bool → (S → Option (List ℕ) → List ℕ → S → Type 0)
+    → (S → Option (List ℕ) → List ℕ → Type 0) → LineLimits → S → LineFault F → Option (List ℕ) → List ℕ → S → List ℕ
+    → Option (List ℕ) → Type 0
+WaitFault true reports begins limits start fault old read now text new =
+    WrotePrefix (ReportedPart reports begins limits.line_bytes start) old read now new
+WaitFault false reports begins limits start fault old read now text new =
+    (said : List ℕ) × Passes said old new text × TakeFault reports begins limits start fault read now said
 
 -- what a fault leaves while a piece is passed on
-abbrev pub PassFault : {S F : Type 0} → (S → Option (List ℕ) → List ℕ → S → Type 0) → LineLimits → S → LineFault F
-    → Option (List ℕ) → List ℕ → S → Option (List ℕ) → Type 0
-PassFault reports limits start Write old read now new =
-    WrotePrefix (Reported reports limits.line_bytes start) old read now new
-PassFault reports limits start (Report fault) old read now new =
+abbrev pub PassFault : {S F : Type 0} → (S → Option (List ℕ) → List ℕ → S → Type 0)
+    → (S → Option (List ℕ) → List ℕ → Type 0) → LineLimits → S → LineFault F → Option (List ℕ) → List ℕ → S
+    → Option (List ℕ) → Type 0
+PassFault reports begins limits start Write old read now new =
+    WrotePrefix (ReportedPart reports begins limits.line_bytes start) old read now new
+PassFault reports begins limits start (Report fault) old read now new =
+    (count : ℕ) × (count ≤ length (closed_lines read))
+    × WroteFirst (ReportedPart reports begins limits.line_bytes start) old read count now new
+PassFault reports begins limits start Memory old read now new =
     (count : ℕ) × (count ≤ length (closed_lines read))
     × WroteFirst (Reported reports limits.line_bytes start) old read count now new
-PassFault reports limits start Memory old read now new =
-    (count : ℕ) × (count ≤ length (closed_lines read))
-    × WroteFirst (Reported reports limits.line_bytes start) old read count now new
-PassFault reports limits start TooManyLines old read now new =
+PassFault reports begins limits start TooManyLines old read now new =
     WroteFirst (Reported reports limits.line_bytes start) old read limits.lines now new
     × (limits.lines < length (lines_of read))
-PassFault reports limits start _ old read now new = ⊥
+PassFault reports begins limits start _ old read now new = ⊥
 
--- and at the end of the list
-abbrev pub FinishFault : {S F : Type 0} → (S → Option (List ℕ) → List ℕ → S → Type 0) → LineLimits → S → LineFault F
-    → Option (List ℕ) → List ℕ → S → Option (List ℕ) → Type 0
-FinishFault reports limits start Write old read now new =
-    WrotePrefix (Reported reports limits.line_bytes start) old read now new
-FinishFault reports limits start (Report fault) old read now new =
+-- what a fault leaves of the last line, where no LF ends it
+abbrev pub EndFault : {S F : Type 0} → (S → Option (List ℕ) → List ℕ → S → Type 0)
+    → (S → Option (List ℕ) → List ℕ → Type 0) → LineLimits → S → ReportFault F → Option (List ℕ) → List ℕ → S → List ℕ
+    → Option (List ℕ) → Type 0
+EndFault reports begins limits start within.Write old read now text new =
+    WrotePrefix (ReportedPart reports begins limits.line_bytes start) old read now new
+EndFault reports begins limits start (within.Reporter fault) old read now text new =
+    (said : List ℕ) × Passes said old new text × (count : ℕ) × (count ≤ length (lines_of read))
+    × IsPartOfFirst reports begins limits.line_bytes start read count now said
+
+-- the same where what waited was written
+abbrev pub FinishFault : {S F : Type 0} → (S → Option (List ℕ) → List ℕ → S → Type 0)
+    → (S → Option (List ℕ) → List ℕ → Type 0) → LineLimits → S → LineFault F → Option (List ℕ) → List ℕ → S
+    → Option (List ℕ) → Type 0
+FinishFault reports begins limits start Write old read now new =
+    WrotePrefix (ReportedPart reports begins limits.line_bytes start) old read now new
+FinishFault reports begins limits start (Report fault) old read now new =
     (count : ℕ) × (count ≤ length (lines_of read))
-    × WroteFirst (Reported reports limits.line_bytes start) old read count now new
-FinishFault reports limits start _ old read now new = ⊥
+    × WroteFirst (ReportedPart reports begins limits.line_bytes start) old read count now new
+FinishFault reports begins limits start _ old read now new = ⊥

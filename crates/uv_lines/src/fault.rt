@@ -5,7 +5,8 @@ ghost use Rattle.uv_lines.specs.Fault as spec;
 /// Why a run over the lines of a list stopped, and what it had written by then. How far the reader was read is open.
 #[derive(Clone, Copy, Debug, PartialEq, Eq)]
 pub enum LineFault<F> {
-    /// The reporter couldn't report on a line. The report on all lines before it was written.
+    /// The reporter couldn't report on a line. The report on all lines before it was written, and perhaps whole parts
+    /// of what it says of that line.
     Report(F),
     /// An allocation failed. The report on whole lines was written.
     Memory,
@@ -18,6 +19,27 @@ pub enum LineFault<F> {
     TooManyLines,
     /// 2^64 - 1 reads gave bytes, and none the end. The report on whole lines was written.
     Endless,
+}
+
+/// Why a line wasn't reported on whole.
+#[derive(Clone, Copy, Debug, PartialEq, Eq)]
+pub enum ReportFault<F> {
+    /// The reporter couldn't report on the line, or on more of it.
+    Reporter(F),
+    /// A write failed.
+    Write,
+}
+
+impl<F> ReportFault<F> {
+    /// The same fault of a run.
+    pub(crate) fn of_run(self) -> LineFault<F>
+        ensures { result ≡ spec.fault_of_run self }
+    {
+        match self {
+            ReportFault::Reporter(fault) => LineFault::Report(fault),
+            ReportFault::Write => LineFault::Write,
+        }
+    }
 }
 
 /// Whether a further write may come behind this answer: none does behind a failed one.

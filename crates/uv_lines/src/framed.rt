@@ -4,6 +4,7 @@ ghost use Rattle.std.specs.Prelude.{OnOk, take};
 ghost use Rattle.std.specs.Io.KnownBytes.{Appends, Consumes, IsAtEnd};
 ghost use Rattle.uv_lines.specs.Fault.{may_write};
 ghost use Rattle.uv_lines.specs.Framed.{Ends, FailsReads, Follows, Framed, LeavesPart};
+ghost use Rattle.uv_lines.specs.Reported.{Reported, ReportedPart};
 ghost use Rattle.uv_lines.specs.Run.{WroteAll, writes_failed};
 
 use crate::fault::LineFault;
@@ -39,9 +40,10 @@ impl Frame<'static> {
 /// reported left it.
 ///
 /// A line ends with LF, and one CR before that is no part of it; a last part without LF is a line where it isn't empty.
-/// What is said of the lines that a read has ended is written before the next read. What the reporter says after the
-/// last line is written where no fault came, and the frame's end after each fault but one of a write. The writer isn't
-/// flushed. After a fault nothing is tried again, and how far the reader was read is open.
+/// What is said of the lines that a read has ended is written before the next read, and no more than 262,143 bytes wait
+/// where a line or a part has ended. What the reporter says after the last line is written where no fault came, and the
+/// frame's end after each fault but one of a write, also where the reporter's came between two parts of a line. The
+/// writer isn't flushed. After a fault nothing is tried again, and how far the reader was read is open.
 #[tactic(none)]
 pub fn run_lines<R: Source, W: Sink, T: Reporter>(
     alloc: Global,
@@ -58,13 +60,17 @@ pub fn run_lines<R: Source, W: Sink, T: Reporter>(
     requires start { T.lines reporter ≡ 0 }
     ensures report { OnOk result.1 ((read : List ℕ)
         × Consumes (R.remaining reader.old) (R.remaining reader.new) read × IsAtEnd (R.remaining reader.new)
-        × WroteAll (Framed T.reports limits.line_bytes frame.entry.begin.now
-        (λ now. T.last now ++ frame.entry.end.now) reporter) limits (W.contents writer.old) read result.0
+        × WroteAll (Framed (Reported T.reports limits.line_bytes reporter) frame.entry.begin.now
+        (λ now. T.last now ++ frame.entry.end.now)) limits (W.contents writer.old) read result.0
         (W.contents writer.new)) }
     ensures fault { IfErr result.1 (λ e. (read : List ℕ)
         × Consumes (R.remaining reader.old) (R.remaining reader.new) read
-        × LeavesPart (Framed T.reports limits.line_bytes frame.entry.begin.now (λ _. frame.entry.end.now) reporter)
-        (Framed T.reports limits.line_bytes frame.entry.begin.now (λ now. T.last now ++ frame.entry.end.now) reporter)
+        × LeavesPart (Framed (Reported T.reports limits.line_bytes reporter) frame.entry.begin.now
+        (λ _. frame.entry.end.now))
+        (Framed (ReportedPart T.reports T.begins limits.line_bytes reporter) frame.entry.begin.now
+        (λ _. frame.entry.end.now))
+        (Framed (Reported T.reports limits.line_bytes reporter) frame.entry.begin.now
+        (λ now. T.last now ++ frame.entry.end.now))
         limits e (W.contents writer.old) read (IsAtEnd (R.remaining reader.new)) result.0 (W.contents writer.new)) }
     ensures failed { IfErr result.1 (λ e.
         FailsReads frame.entry.end.now e (R.failed reader.old) (R.failed reader.new)

@@ -1,18 +1,15 @@
 //! Pieces of a list passed on: what is said of the lines of a piece is written before the next one is read.
-ghost use Rattle.std.specs.Prelude.{◌≡◌, ℕ, ◌+◌, ◌-◌, ◌^◌, ◌<◌, ◌++◌, List, [], Option, IfErr, OnOk, OnErr, length};
-ghost use Rattle.std.specs.Prelude.{take};
-ghost use Rattle.std.specs.Io.KnownBytes.{Appends};
+ghost use Rattle.std.specs.Prelude.{◌≡◌, ℕ, ◌+◌, ◌-◌, ◌^◌, ◌<◌, ◌++◌, List, Option, IfErr, OnOk, OnErr, length};
 ghost use Rattle.uv_lines.specs.Reported.{Reported};
 ghost use Rattle.uv_lines.specs.Run.{At, FinishFault, PassFault, Waits, WroteAll, writes_failed};
+ghost use Rattle.uv_lines.specs.Waiting.{CutsOff};
 
-use crate::fault::{LineFault, may_write};
+use crate::fault::{LineFault, ReportFault, may_write};
 use crate::progress::Progress;
 use crate::reporter::Reporter;
+use crate::waiting::{end_part, write_out};
 use std::alloc::Global;
-use uv_model::{DeviceFault, Sink, write_whole};
-
-// How many bytes may wait to be written when a line has ended, less than so many.
-const MUCH_BYTES: usize = 262_144;
+use uv_model::{DeviceFault, Sink};
 
 impl<R: Reporter> Progress<R> {
     /// Takes a piece and writes what is said of its lines, also where a line can't be reported on.
@@ -33,7 +30,7 @@ impl<R: Reporter> Progress<R> {
         ensures fault { IfErr result (λ e. (start : R) (old : Option (List ℕ)) (read : List ℕ)
             → At R.reports R.lines self.old.limits.line_bytes start old read self.old.reporter self.old.begun.items
             self.old.text.items (W.contents writer.old)
-            → PassFault R.reports self.old.limits start e old (read ++ piece.now) self.new.reporter
+            → PassFault R.reports R.begins self.old.limits start e old (read ++ piece.now) self.new.reporter
             (W.contents writer.new)
             × (W.failed writer.new ≡ W.failed writer.old + writes_failed e)) }
     {
@@ -41,7 +38,7 @@ impl<R: Reporter> Progress<R> {
         if !may_write(&taken) {
             return Err(LineFault::Write);
         }
-        if let Err(DeviceFault) = self.write_out(writer) {
+        if let Err(DeviceFault) = write_out(&mut self.text, writer) {
             return Err(LineFault::Write);
         }
         match taken {
@@ -67,16 +64,20 @@ impl<R: Reporter> Progress<R> {
         ensures fault { IfErr result (λ e. (start : R) (old : Option (List ℕ)) (read : List ℕ)
             → At R.reports R.lines self.old.limits.line_bytes start old read self.old.reporter self.old.begun.items
             self.old.text.items (W.contents writer.old)
-            → FinishFault R.reports self.old.limits start e old read self.new.reporter (W.contents writer.new)
+            → FinishFault R.reports R.begins self.old.limits start e old read self.new.reporter
+            (W.contents writer.new)
             × (W.failed writer.new ≡ W.failed writer.old + writes_failed e)) }
     {
-        let ended = self.take_end(alloc);
-        if let Err(DeviceFault) = self.write_out(writer) {
-            return Err(LineFault::Write);
-        }
-        match ended {
-            Ok(()) => Ok(()),
-            Err(fault) => Err(LineFault::Report(fault)),
+        match self.take_end(alloc, writer) {
+            Ok(()) => match write_out(&mut self.text, writer) {
+                Ok(()) => Ok(()),
+                Err(DeviceFault) => Err(LineFault::Write),
+            },
+            Err(ReportFault::Reporter(fault)) => match write_out(&mut self.text, writer) {
+                Ok(()) => Err(LineFault::Report(fault)),
+                Err(DeviceFault) => Err(LineFault::Write),
+            },
+            Err(ReportFault::Write) => Err(LineFault::Write),
         }
     }
 
@@ -92,36 +93,11 @@ impl<R: Reporter> Progress<R> {
             → Waits R.reports R.lines self.old.limits.line_bytes start old read self.new.reporter
             self.new.begun.items self.new.text.items (W.contents writer.new)) }
         ensures quiet { OnOk result (W.failed writer.new ≡ W.failed writer.old) }
-        ensures prefix { OnErr result ((n : ℕ)
-            × Appends (W.contents writer.old) (W.contents writer.new) (take n self.old.text.items)) }
+        ensures prefix { OnErr result (CutsOff self.old.text.items (W.contents writer.old) (W.contents writer.new)) }
         ensures failed { OnErr result (W.failed writer.new ≡ W.failed writer.old + 1) }
     {
-        if self.text.len() < MUCH_BYTES {
-            return Ok(());
-        }
-        match self.write_out(writer) {
+        match end_part(&mut self.text, writer) {
             Ok(()) => Ok(()),
-            Err(DeviceFault) => Err(DeviceFault),
-        }
-    }
-
-    // Writes what waits to be written.
-    fn write_out<W: Sink>(&mut self, writer: &mut W) -> Result<(), DeviceFault>
-        requires { W.failed writer.old < 2 ^ 64 - 1 }
-        ensures whole { OnOk result (Appends (W.contents writer.old) (W.contents writer.new) self.old.text.items) }
-        ensures none { OnOk result (self.new.text.items ≡ []) }
-        ensures rest { (self.new.reporter ≡ self.old.reporter) × (self.new.limits ≡ self.old.limits)
-            × (self.new.begun.items ≡ self.old.begun.items) }
-        ensures quiet { OnOk result (W.failed writer.new ≡ W.failed writer.old) }
-        ensures prefix { OnErr result ((n : ℕ)
-            × Appends (W.contents writer.old) (W.contents writer.new) (take n self.old.text.items)) }
-        ensures failed { OnErr result (W.failed writer.new ≡ W.failed writer.old + 1) }
-    {
-        match write_whole(writer, self.text.as_slice()) {
-            Ok(()) => {
-                self.text.clear();
-                Ok(())
-            }
             Err(DeviceFault) => Err(DeviceFault),
         }
     }

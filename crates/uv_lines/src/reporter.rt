@@ -1,9 +1,12 @@
 //! What reports on the lines of a list.
-ghost use Rattle.std.specs.Prelude.{◌≡◌, ℕ, ◌+◌, ◌-◌, ◌^◌, ◌<◌, List, Option, IfOk, OnOk, OnErr, option_copied};
+ghost use Rattle.std.specs.Prelude.{◌≡◌, ℕ, ◌+◌, ◌-◌, ◌^◌, ◌<◌, List, Option, IfErr, IfOk, OnOk, OnErr, option_copied};
 ghost use Rattle.std.specs.Prelude.{string_bytes};
-ghost use Rattle.uv_lines.specs.Progress.{Adds};
+ghost use Rattle.uv_lines.specs.Fault.{failed_within};
+ghost use Rattle.uv_lines.specs.Waiting.{Adds, LeavesLine};
 
+use crate::fault::ReportFault;
 use std::alloc::Global;
+use uv_model::Sink;
 
 /// What reports on the lines of a list, one after the other. What it says of a line may depend on those before it.
 pub trait Reporter: Drop {
@@ -17,19 +20,32 @@ pub trait Reporter: Drop {
     // more bytes than a line may have.
     ghost reports: { Self → Option (List ℕ) → List ℕ → Self → Type 0 };
 
-    /// Appends what is said of the next line. None stands for a line that has more bytes than a line may have.
+    // In this state it begins what it says of a line with these parts, and may come no further. A reporter that ends no
+    // part within a line has none.
+    ghost begins: { Self → Option (List ℕ) → List ℕ → Type 0 };
+
+    /// Appends what is said of the next line to the text that waits to be written. It may end parts of it (`end_part`),
+    /// so that no more waits however much is said of a line. None stands for a line that has more bytes than a line may
+    /// have.
     ///
-    /// After a fault the text and the reporter are as they were.
-    fn report(
+    /// After a fault the reporter is as it was. After one of its own nothing or whole parts of what it says of the line
+    /// came to what waits; after a failed write a prefix of that was written.
+    fn report<W: Sink>(
         &mut self,
         alloc: Global,
         line: Option<&[u8]>,
         text: &mut Vec<u8>,
-    ) -> Result<(), Self::Fault>
-        requires { lines self.old < 2 ^ 64 - 1 }
-        ensures added { OnOk result (Adds reports lines self.old text.old.items (option_copied line.entry)
-            self.new text.new.items) }
-        ensures none { OnErr result ((self.new ≡ self.old) × (text.new.items ≡ text.old.items)) };
+        writer: &mut W,
+    ) -> Result<(), ReportFault<Self::Fault>>
+        requires few { lines self.old < 2 ^ 64 - 1 }
+        requires writes { W.failed writer.old < 2 ^ 64 - 1 }
+        ensures added { OnOk result (Adds reports lines self.old text.old.items (W.contents writer.old)
+            (option_copied line.entry) self.new text.new.items (W.contents writer.new)) }
+        ensures quiet { OnOk result (W.failed writer.new ≡ W.failed writer.old) }
+        ensures same { OnErr result (self.new ≡ self.old) }
+        ensures fault { IfErr result (λ e. LeavesLine begins e self.old text.old.items (W.contents writer.old)
+            (option_copied line.entry) text.new.items (W.contents writer.new)) }
+        ensures failed { IfErr result (λ e. W.failed writer.new ≡ W.failed writer.old + failed_within e) };
 
     /// How many lines it has reported on.
     fn line_count(&self) -> u64

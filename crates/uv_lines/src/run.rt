@@ -1,7 +1,7 @@
 //! A run over the lines of a list, without what stands around the report.
 ghost use Rattle.std.specs.Prelude.{◌≡◌, ℕ, ◌+◌, ◌-◌, ◌^◌, ◌<◌, ◌≤◌, List, [], IfErr, IfOk, OnOk, length, vec_len};
 ghost use Rattle.std.specs.Io.KnownBytes.{Consumes, IsAtEnd};
-ghost use Rattle.uv_lines.specs.Reported.{Reported};
+ghost use Rattle.uv_lines.specs.Reported.{Reported, ReportedPart};
 ghost use Rattle.uv_lines.specs.Run.{Leaves, WroteAll, reads_failed, writes_failed};
 
 use crate::fault::LineFault;
@@ -35,7 +35,8 @@ pub(crate) fn run_between<R: Source, W: Sink, T: Reporter>(
         (W.contents writer.new)) }
     ensures fault { IfErr result.1 (λ e. (read : List ℕ)
         × Consumes (R.remaining reader.old) (R.remaining reader.new) read
-        × Leaves (Reported T.reports limits.line_bytes reporter) limits e (W.contents writer.old) read
+        × Leaves (Reported T.reports limits.line_bytes reporter)
+        (ReportedPart T.reports T.begins limits.line_bytes reporter) limits e (W.contents writer.old) read
         (IsAtEnd (R.remaining reader.new)) result.0 (W.contents writer.new)) }
     ensures failed { IfErr result.1 (λ e. (R.failed reader.new ≡ R.failed reader.old + reads_failed e)
         × (W.failed writer.new ≡ W.failed writer.old + writes_failed e)) }
@@ -78,7 +79,8 @@ fn run_pieces<R: Source, W: Sink, T: Reporter>(
         progress.new.reporter (W.contents writer.new)) }
     ensures fault { IfErr result (λ e. (read : List ℕ)
         × Consumes (R.remaining reader.old) (R.remaining reader.new) read
-        × Leaves (Reported T.reports progress.old.limits.line_bytes progress.old.reporter) progress.old.limits e
+        × Leaves (Reported T.reports progress.old.limits.line_bytes progress.old.reporter)
+        (ReportedPart T.reports T.begins progress.old.limits.line_bytes progress.old.reporter) progress.old.limits e
         (W.contents writer.old) read
         (IsAtEnd (R.remaining reader.new)) progress.new.reporter (W.contents writer.new)
         × (R.failed reader.new ≡ R.failed reader.old + reads_failed e)

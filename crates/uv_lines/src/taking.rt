@@ -1,13 +1,14 @@
 //! The lines of a piece, each reported on where it ends.
 ghost use Rattle.std.specs.Prelude.{◌≡◌, ℕ, ◌+◌, ◌-◌, ◌^◌, ◌<◌, List, [], ◌∷◌, ◌++◌, IfErr, IfSome, None, OnOk, OnErr};
-ghost use Rattle.std.specs.Prelude.{Option, drop, false, length, take, true, vec_len};
+ghost use Rattle.std.specs.Prelude.{Option, drop, false, length, take, vec_len};
 ghost use Rattle.std.specs.Str.Lines.{strip_carriage_return};
 ghost use Rattle.uv_lines.specs.Lines.{line_feed, short_line, split};
-ghost use Rattle.uv_lines.specs.Fault.{is_write, may_write};
-ghost use Rattle.uv_lines.specs.Progress.{Adds, Stands, TakeFault, ended};
-ghost use Rattle.uv_lines.specs.Run.{WaitFault, Waits};
+ghost use Rattle.uv_lines.specs.Fault.{failed_within, is_write};
+ghost use Rattle.uv_lines.specs.Progress.{ended};
+ghost use Rattle.uv_lines.specs.Run.{WaitFault, Waits, writes_failed};
+ghost use Rattle.uv_lines.specs.Waiting.{Adds, LeavesLine};
 
-use crate::fault::LineFault;
+use crate::fault::{LineFault, ReportFault};
 use crate::line_parts::{line_end, line_text, without_return};
 use crate::progress::Progress;
 use crate::reporter::Reporter;
@@ -18,8 +19,8 @@ impl<R: Reporter> Progress<R> {
     /// Takes a piece of the list: reports on each line that ends in it, writes what was said where that is much, and
     /// keeps what of the next line decides what is said of it.
     ///
-    /// After a fault but one of a write the text that waits holds the report on whole lines: on as many as may come,
-    /// where a further line began.
+    /// After a fault but one of a write the text that waits ends what is said of lines: of as many as may come, where a
+    /// further line began.
     pub(crate) fn take_piece<W: Sink>(
         &mut self,
         alloc: Global,
@@ -33,17 +34,17 @@ impl<R: Reporter> Progress<R> {
             self.old.begun.items self.old.text.items (W.contents writer.old)
             → Waits R.reports R.lines self.old.limits.line_bytes start old (read ++ piece.now) self.new.reporter
             self.new.begun.items self.new.text.items (W.contents writer.new)) }
+        ensures quiet { OnOk result (W.failed writer.new ≡ W.failed writer.old) }
         ensures fault { IfErr result (λ e. (start : R) (old : Option (List ℕ)) (read : List ℕ)
             → Waits R.reports R.lines self.old.limits.line_bytes start old read self.old.reporter
             self.old.begun.items self.old.text.items (W.contents writer.old)
-            → WaitFault (is_write e) R.reports self.old.limits start e old (read ++ piece.now) self.new.reporter
-            self.new.text.items (W.contents writer.new)) }
-        ensures quiet { may_write result ≡ true → W.failed writer.new ≡ W.failed writer.old }
-        ensures failed { may_write result ≡ false → W.failed writer.new ≡ W.failed writer.old + 1 }
+            → WaitFault (is_write e) R.reports R.begins self.old.limits start e old (read ++ piece.now)
+            self.new.reporter self.new.text.items (W.contents writer.new)) }
+        ensures failed { IfErr result (λ e. W.failed writer.new ≡ W.failed writer.old + writes_failed e) }
     {
         let mut start = 0;
         while let Some(length) = line_end(&piece[start..]) {
-            if let Err(fault) = self.close_line(alloc, &piece[start..start + length]) {
+            if let Err(fault) = self.close_line(alloc, writer, &piece[start..start + length]) {
                 return Err(fault);
             }
             if let Err(DeviceFault) = self.write_much(writer) {
@@ -58,23 +59,32 @@ impl<R: Reporter> Progress<R> {
     }
 
     // Reports on the line that an LF ends behind this prefix of a piece.
-    fn close_line(&mut self, alloc: Global, prefix: &[u8]) -> Result<(), LineFault<R::Fault>>
-        requires { split prefix.now ≡ ([], prefix.now) }
-        ensures kind { IfErr result (λ e. is_write e ≡ false) }
+    fn close_line<W: Sink>(
+        &mut self,
+        alloc: Global,
+        writer: &mut W,
+        prefix: &[u8],
+    ) -> Result<(), LineFault<R::Fault>>
+        requires line { split prefix.now ≡ ([], prefix.now) }
+        requires writes { W.failed writer.old < 2 ^ 64 - 1 }
         ensures setting { self.new.limits ≡ self.old.limits }
-        ensures stands { OnOk result ((start : R) (written read : List ℕ)
-            → Stands R.reports R.lines self.old.limits.line_bytes start written read self.old.reporter
-            self.old.begun.items self.old.text.items
-            → Stands R.reports R.lines self.old.limits.line_bytes start written
-            (read ++ (prefix.now ++ line_feed ∷ [])) self.new.reporter self.new.begun.items self.new.text.items) }
-        ensures fault { IfErr result (λ e. (start : R) (written read rest : List ℕ)
-            → Stands R.reports R.lines self.old.limits.line_bytes start written read self.old.reporter
-            self.old.begun.items self.old.text.items
-            → TakeFault R.reports self.old.limits start e (read ++ (prefix.now ++ line_feed ∷ rest)) self.new.reporter
-            (written ++ self.new.text.items)) }
+        ensures waits { OnOk result ((start : R) (old : Option (List ℕ)) (read : List ℕ)
+            → Waits R.reports R.lines self.old.limits.line_bytes start old read self.old.reporter
+            self.old.begun.items self.old.text.items (W.contents writer.old)
+            → Waits R.reports R.lines self.old.limits.line_bytes start old
+            (read ++ (prefix.now ++ line_feed ∷ [])) self.new.reporter self.new.begun.items self.new.text.items
+            (W.contents writer.new)) }
+        ensures quiet { OnOk result (W.failed writer.new ≡ W.failed writer.old) }
+        ensures fault { IfErr result (λ e. (start : R) (old : Option (List ℕ)) (read rest : List ℕ)
+            → Waits R.reports R.lines self.old.limits.line_bytes start old read self.old.reporter
+            self.old.begun.items self.old.text.items (W.contents writer.old)
+            → WaitFault (is_write e) R.reports R.begins self.old.limits start e old
+            (read ++ (prefix.now ++ line_feed ∷ rest)) self.new.reporter self.new.text.items
+            (W.contents writer.new)) }
+        ensures failed { IfErr result (λ e. W.failed writer.new ≡ W.failed writer.old + writes_failed e) }
     {
         if !self.begun.is_empty() {
-            return match self.close_begun_line(alloc, prefix) {
+            return match self.close_begun_line(alloc, writer, prefix) {
                 Ok(()) => Ok(()),
                 Err(fault) => Err(fault),
             };
@@ -82,35 +92,44 @@ impl<R: Reporter> Progress<R> {
         if self.reporter.line_count() == self.limits.lines {
             return Err(LineFault::TooManyLines);
         }
-        match self.report_whole(alloc, without_return(prefix)) {
+        match self.report_whole(alloc, writer, without_return(prefix)) {
             Ok(()) => Ok(()),
-            Err(fault) => Err(LineFault::Report(fault)),
+            Err(fault) => Err(fault.of_run()),
         }
     }
 
     // The same where a line has begun.
-    fn close_begun_line(&mut self, alloc: Global, prefix: &[u8]) -> Result<(), LineFault<R::Fault>>
+    fn close_begun_line<W: Sink>(
+        &mut self,
+        alloc: Global,
+        writer: &mut W,
+        prefix: &[u8],
+    ) -> Result<(), LineFault<R::Fault>>
         requires begun { 0 < vec_len self.old.begun }
         requires line { split prefix.now ≡ ([], prefix.now) }
-        ensures kind { IfErr result (λ e. is_write e ≡ false) }
+        requires writes { W.failed writer.old < 2 ^ 64 - 1 }
         ensures setting { self.new.limits ≡ self.old.limits }
-        ensures stands { OnOk result ((start : R) (written read : List ℕ)
-            → Stands R.reports R.lines self.old.limits.line_bytes start written read self.old.reporter
-            self.old.begun.items self.old.text.items
-            → Stands R.reports R.lines self.old.limits.line_bytes start written
-            (read ++ (prefix.now ++ line_feed ∷ [])) self.new.reporter self.new.begun.items self.new.text.items) }
-        ensures fault { IfErr result (λ e. (start : R) (written read rest : List ℕ)
-            → Stands R.reports R.lines self.old.limits.line_bytes start written read self.old.reporter
-            self.old.begun.items self.old.text.items
-            → TakeFault R.reports self.old.limits start e (read ++ (prefix.now ++ line_feed ∷ rest)) self.new.reporter
-            (written ++ self.new.text.items)) }
+        ensures waits { OnOk result ((start : R) (old : Option (List ℕ)) (read : List ℕ)
+            → Waits R.reports R.lines self.old.limits.line_bytes start old read self.old.reporter
+            self.old.begun.items self.old.text.items (W.contents writer.old)
+            → Waits R.reports R.lines self.old.limits.line_bytes start old
+            (read ++ (prefix.now ++ line_feed ∷ [])) self.new.reporter self.new.begun.items self.new.text.items
+            (W.contents writer.new)) }
+        ensures quiet { OnOk result (W.failed writer.new ≡ W.failed writer.old) }
+        ensures fault { IfErr result (λ e. (start : R) (old : Option (List ℕ)) (read rest : List ℕ)
+            → Waits R.reports R.lines self.old.limits.line_bytes start old read self.old.reporter
+            self.old.begun.items self.old.text.items (W.contents writer.old)
+            → WaitFault (is_write e) R.reports R.begins self.old.limits start e old
+            (read ++ (prefix.now ++ line_feed ∷ rest)) self.new.reporter self.new.text.items
+            (W.contents writer.new)) }
+        ensures failed { IfErr result (λ e. W.failed writer.new ≡ W.failed writer.old + writes_failed e) }
     {
         if let Err(AllocError) = self.keep(prefix) {
             return Err(LineFault::Memory);
         }
-        match self.report_begun(alloc, true) {
+        match self.report_begun(alloc, writer, true) {
             Ok(()) => Ok(()),
-            Err(fault) => Err(LineFault::Report(fault)),
+            Err(fault) => Err(fault.of_run()),
         }
     }
 
@@ -119,16 +138,16 @@ impl<R: Reporter> Progress<R> {
         requires { split rest.now ≡ ([], rest.now) }
         ensures kind { IfErr result (λ e. is_write e ≡ false) }
         ensures setting { self.new.limits ≡ self.old.limits }
-        ensures stands { OnOk result ((start : R) (written read : List ℕ)
-            → Stands R.reports R.lines self.old.limits.line_bytes start written read self.old.reporter
-            self.old.begun.items self.old.text.items
-            → Stands R.reports R.lines self.old.limits.line_bytes start written (read ++ rest.now) self.new.reporter
-            self.new.begun.items self.new.text.items) }
-        ensures fault { IfErr result (λ e. (start : R) (written read : List ℕ)
-            → Stands R.reports R.lines self.old.limits.line_bytes start written read self.old.reporter
-            self.old.begun.items self.old.text.items
-            → TakeFault R.reports self.old.limits start e (read ++ rest.now) self.new.reporter
-            (written ++ self.new.text.items)) }
+        ensures waits { OnOk result ((start : R) (old new : Option (List ℕ)) (read : List ℕ)
+            → Waits R.reports R.lines self.old.limits.line_bytes start old read self.old.reporter
+            self.old.begun.items self.old.text.items new
+            → Waits R.reports R.lines self.old.limits.line_bytes start old (read ++ rest.now) self.new.reporter
+            self.new.begun.items self.new.text.items new) }
+        ensures fault { IfErr result (λ e. (start : R) (old new : Option (List ℕ)) (read : List ℕ)
+            → Waits R.reports R.lines self.old.limits.line_bytes start old read self.old.reporter
+            self.old.begun.items self.old.text.items new
+            → WaitFault (is_write e) R.reports R.begins self.old.limits start e old (read ++ rest.now)
+            self.new.reporter self.new.text.items new) }
     {
         if rest.is_empty() {
             return Ok(());
@@ -161,34 +180,69 @@ impl<R: Reporter> Progress<R> {
     }
 
     // Reports on a line of which no prefix is kept.
-    fn report_whole(&mut self, alloc: Global, line: &[u8]) -> Result<(), R::Fault>
+    fn report_whole<W: Sink>(
+        &mut self,
+        alloc: Global,
+        writer: &mut W,
+        line: &[u8],
+    ) -> Result<(), ReportFault<R::Fault>>
         requires few { R.lines self.old.reporter < self.old.limits.lines }
         requires none { vec_len self.old.begun ≡ 0 }
+        requires writes { W.failed writer.old < 2 ^ 64 - 1 }
         ensures setting { self.new.limits ≡ self.old.limits }
         ensures begun { self.new.begun.items ≡ self.old.begun.items }
         ensures added { OnOk result (Adds R.reports R.lines self.old.reporter self.old.text.items
-            (short_line self.old.limits.line_bytes line.now) self.new.reporter self.new.text.items) }
-        ensures none { OnErr result ((self.new.reporter ≡ self.old.reporter)
-            × (self.new.text.items ≡ self.old.text.items)) }
+            (W.contents writer.old) (short_line self.old.limits.line_bytes line.now) self.new.reporter
+            self.new.text.items (W.contents writer.new)) }
+        ensures quiet { OnOk result (W.failed writer.new ≡ W.failed writer.old) }
+        ensures same { OnErr result (self.new.reporter ≡ self.old.reporter) }
+        ensures fault { IfErr result (λ e. LeavesLine R.begins e self.old.reporter self.old.text.items
+            (W.contents writer.old) (short_line self.old.limits.line_bytes line.now) self.new.text.items
+            (W.contents writer.new)) }
+        ensures failed { IfErr result (λ e. W.failed writer.new ≡ W.failed writer.old + failed_within e) }
     {
         let line_bytes = self.limits.line_bytes;
-        report_on(alloc, &mut self.reporter, line_bytes, line, &mut self.text)
+        report_on(
+            alloc,
+            &mut self.reporter,
+            line_bytes,
+            line,
+            &mut self.text,
+            writer,
+        )
     }
 
     /// Reports on the line that has begun, which an LF has ended or the end of the list.
-    pub(crate) fn report_begun(&mut self, alloc: Global, is_closed: bool) -> Result<(), R::Fault>
-        requires { R.lines self.old.reporter < self.old.limits.lines }
+    pub(crate) fn report_begun<W: Sink>(
+        &mut self,
+        alloc: Global,
+        writer: &mut W,
+        is_closed: bool,
+    ) -> Result<(), ReportFault<R::Fault>>
+        requires few { R.lines self.old.reporter < self.old.limits.lines }
+        requires writes { W.failed writer.old < 2 ^ 64 - 1 }
         ensures setting { self.new.limits ≡ self.old.limits }
         ensures begun { OnOk result (self.new.begun.items ≡ []) }
         ensures added { OnOk result (Adds R.reports R.lines self.old.reporter self.old.text.items
-            (short_line self.old.limits.line_bytes (ended is_closed self.old.begun.items)) self.new.reporter
-            self.new.text.items) }
-        ensures none { OnErr result ((self.new.reporter ≡ self.old.reporter)
-            × (self.new.text.items ≡ self.old.text.items)) }
+            (W.contents writer.old) (short_line self.old.limits.line_bytes (ended is_closed self.old.begun.items))
+            self.new.reporter self.new.text.items (W.contents writer.new)) }
+        ensures quiet { OnOk result (W.failed writer.new ≡ W.failed writer.old) }
+        ensures same { OnErr result (self.new.reporter ≡ self.old.reporter) }
+        ensures fault { IfErr result (λ e. LeavesLine R.begins e self.old.reporter self.old.text.items
+            (W.contents writer.old) (short_line self.old.limits.line_bytes (ended is_closed self.old.begun.items))
+            self.new.text.items (W.contents writer.new)) }
+        ensures failed { IfErr result (λ e. W.failed writer.new ≡ W.failed writer.old + failed_within e) }
     {
         let line_bytes = self.limits.line_bytes;
         let line = line_text(self.begun.as_slice(), is_closed);
-        match report_on(alloc, &mut self.reporter, line_bytes, line, &mut self.text) {
+        match report_on(
+            alloc,
+            &mut self.reporter,
+            line_bytes,
+            line,
+            &mut self.text,
+            writer,
+        ) {
             Ok(()) => {
                 self.begun.clear();
                 Ok(())
@@ -199,21 +253,27 @@ impl<R: Reporter> Progress<R> {
 }
 
 // Reports on a line, which may have more bytes than a line may have.
-fn report_on<R: Reporter>(
+fn report_on<R: Reporter, W: Sink>(
     alloc: Global,
     reporter: &mut R,
     line_bytes: usize,
     line: &[u8],
     text: &mut Vec<u8>,
-) -> Result<(), R::Fault>
-    requires { R.lines reporter.old < 2 ^ 64 - 1 }
-    ensures added { OnOk result (Adds R.reports R.lines reporter.old text.old.items (short_line line_bytes line.now)
-        reporter.new text.new.items) }
-    ensures none { OnErr result ((reporter.new ≡ reporter.old) × (text.new.items ≡ text.old.items)) }
+    writer: &mut W,
+) -> Result<(), ReportFault<R::Fault>>
+    requires few { R.lines reporter.old < 2 ^ 64 - 1 }
+    requires writes { W.failed writer.old < 2 ^ 64 - 1 }
+    ensures added { OnOk result (Adds R.reports R.lines reporter.old text.old.items (W.contents writer.old)
+        (short_line line_bytes line.now) reporter.new text.new.items (W.contents writer.new)) }
+    ensures quiet { OnOk result (W.failed writer.new ≡ W.failed writer.old) }
+    ensures same { OnErr result (reporter.new ≡ reporter.old) }
+    ensures fault { IfErr result (λ e. LeavesLine R.begins e reporter.old text.old.items (W.contents writer.old)
+        (short_line line_bytes line.now) text.new.items (W.contents writer.new)) }
+    ensures failed { IfErr result (λ e. W.failed writer.new ≡ W.failed writer.old + failed_within e) }
 {
     if line.len() <= line_bytes {
-        reporter.report(alloc, Some(line), text)
+        reporter.report(alloc, Some(line), text, writer)
     } else {
-        reporter.report(alloc, None, text)
+        reporter.report(alloc, None, text, writer)
     }
 }

@@ -1,11 +1,13 @@
 //! Runs over lists written out, in a frame, with a reporter that says the number of each line and how many bytes it
 //! has.
-ghost use Rattle.std.specs.Prelude.{◌≤◌, None, [], codes};
+ghost use Rattle.std.specs.Prelude.{◌≡◌, ℕ, ◌≤◌, ◌++◌, List, OnErr, OnOk, codes};
 
 use super::*;
 use std::alloc::{AllocError, Global};
 use std::test::Fail;
-use uv_model::{DeviceFault, FromReader, Sink, ToWriter};
+use uv_model::{FromReader, Sink, ToWriter};
+
+mod parts;
 
 // Says `NUMBER:BYTES `, `NUMBER:- ` of a line that is too long, and `.` behind the last line.
 #[derive(Drop)]
@@ -20,23 +22,23 @@ impl Reporter for Lengths {
 
     ghost reports = { λ before line text after. Unit {0} };
 
-    fn report(
+    ghost begins = { λ before line parts. ⊥ };
+
+    #[tactic(auto, using(crate::proofs::WaitingLemmas::adds_waiting, crate::proofs::WaitingLemmas::leaves_none))]
+    fn report<W: Sink>(
         &mut self,
         alloc: Global,
         line: Option<&[u8]>,
         text: &mut Vec<u8>,
-    ) -> Result<(), AllocError> {
-        let number = self.lines + 1;
-        let said = match line {
-            Some(line) => {
-                let size = line.len();
-                format!(in alloc; "{number}:{size} ")?
+        _writer: &mut W,
+    ) -> Result<(), ReportFault<AllocError>> {
+        match push_length(alloc, self.lines + 1, line, text) {
+            Ok(()) => {
+                self.lines += 1;
+                Ok(())
             }
-            None => format!(in alloc; "{number}:- ")?,
-        };
-        text.extend_from_slice(said.as_bytes())?;
-        self.lines = number;
-        Ok(())
+            Err(AllocError) => Err(ReportFault::Reporter(AllocError)),
+        }
     }
 
     fn line_count(&self) -> u64 {
@@ -48,6 +50,26 @@ impl Reporter for Lengths {
     fn last(&self, alloc: Global) -> Result<String, AllocError> {
         String::from_str(alloc, ".")
     }
+}
+
+// Pushes what is said of a line with this number.
+fn push_length(
+    alloc: Global,
+    number: u64,
+    line: Option<&[u8]>,
+    text: &mut Vec<u8>,
+) -> Result<(), AllocError>
+    ensures said { OnOk result ((said : List ℕ) × (text.new.items ≡ text.old.items ++ said)) }
+    ensures none { OnErr result (text.new.items ≡ text.old.items) }
+{
+    let said = match line {
+        Some(line) => {
+            let size = line.len();
+            format!(in alloc; "{number}:{size} ")?
+        }
+        None => format!(in alloc; "{number}:- ")?,
+    };
+    text.extend_from_slice(said.as_bytes())
 }
 
 // What a run over these bytes answers and writes, and how many lines it reported on.
@@ -120,87 +142,4 @@ fn stops_behind_the_last_line_that_may_come(rt: HostRuntime) -> Result<(), Fail>
         assert_eq!(rt; written.as_slice(), text.as_bytes());
     }
     Ok(())
-}
-
-// Says a thousand bytes of each line.
-#[derive(Drop)]
-struct Thousand {
-    lines: u64,
-}
-
-impl Reporter for Thousand {
-    type Fault = AllocError;
-
-    ghost lines = { λ r. r.lines };
-
-    ghost reports = { λ before line text after. Unit {0} };
-
-    fn report(
-        &mut self,
-        _alloc: Global,
-        _line: Option<&[u8]>,
-        text: &mut Vec<u8>,
-    ) -> Result<(), AllocError> {
-        text.extend_from_slice(&[b'.'; 1_000])?;
-        self.lines += 1;
-        Ok(())
-    }
-
-    fn line_count(&self) -> u64 {
-        self.lines
-    }
-
-    ghost last = { λ _. [] };
-
-    fn last(&self, alloc: Global) -> Result<String, AllocError> {
-        Ok(String::new(alloc))
-    }
-}
-
-// Takes all bytes, and keeps how many came at once at most, and how many in all.
-#[derive(Drop)]
-struct Sizes {
-    most: usize,
-    all: usize,
-}
-
-impl Sink for Sizes {
-    ghost contents = { λ _. None };
-
-    ghost failed = { λ _. 0 };
-
-    fn write(&mut self, from: &[u8]) -> Result<usize, DeviceFault> {
-        self.most = self.most.max(from.len());
-        self.all = self.all.saturating_add(from.len());
-        Ok(from.len())
-    }
-
-    fn failures(&self) -> u64 {
-        0
-    }
-}
-
-// What is said of 2,000 lines of one piece is 2,000,000 bytes. It is written where 262,144 bytes or more wait, which
-// are the 263,000 of 263 lines.
-#[test]
-fn writes_what_is_much_in_the_midst_of_a_piece(rt: HostRuntime) {
-    let list = [b'\n'; 2_000];
-    let limits = LineLimits {
-        line_bytes: 4,
-        lines: 2_000,
-    };
-    let mut reader = FromReader::new(list.as_slice());
-    let mut writer = Sizes { most: 0, all: 0 };
-    let reporter = Thousand { lines: 0 };
-    let (reporter, answer) = run_lines(
-        rt.alloc(),
-        &mut reader,
-        &mut writer,
-        reporter,
-        limits,
-        Frame::none(),
-    );
-    assert_eq!(rt; answer, Ok(()));
-    assert_eq!(rt; reporter.lines, 2_000);
-    assert_eq!(rt; (writer.most, writer.all), (263_000, 2_000_000));
 }

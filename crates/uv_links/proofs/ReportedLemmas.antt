@@ -10,8 +10,9 @@ use Rattle.uv_lines.specs.declared.fault.LineFault.{LineFault}
 use Rattle.uv_lines.specs.declared.fault.LineFault.TheVariants as stopped
 use Rattle.uv_lines.specs.Lines.{short_line, closed_lines, lines_of}
 use Rattle.uv_lines.specs.Framed.{FailsReads, Framed, LeavesPart}
-use Rattle.uv_lines.specs.Reported.{Reported}
+use Rattle.uv_lines.specs.Reported.{Reported, ReportedPart}
 use Rattle.uv_lines.specs.Run as run
+use Rattle.uv_lines.proofs.FramedLemmas.{Wrote-map}
 use Rattle.uv_links.specs.declared.counts.Counts.{Counts}
 use Rattle.uv_links.specs.declared.fault.LinkFault.{LinkFault}
 use Rattle.uv_links.specs.declared.fault.LinkFault.TheVariants.{Memory, Read, Write, Overflow, BaseDiffers}
@@ -126,11 +127,33 @@ fresh setting = record { setting = setting; counts = none_counted }
 
 -- the report on lines, in a frame that is empty
 abbrev pub Lines : ListSetting → List (List ℕ) → List ℕ → Reporting → Type 0
-Lines s = Framed Says s.line_bytes [] (λ _. []) (fresh s)
+Lines s = Framed (Reported Says s.line_bytes (fresh s)) [] (λ _. [])
+
+-- a line that is begun: none is
+abbrev pub begins_none : Reporting → Option (List ℕ) → List ℕ → Type 0
+begins_none before line parts = ⊥
+
+-- a part of the report, in that frame
+abbrev pub Parts : ListSetting → List (List ℕ) → List ℕ → Reporting → Type 0
+Parts s = Framed (ReportedPart Says begins_none s.line_bytes (fresh s)) [] (λ _. [])
 
 -- the same with the line of counts
 abbrev pub Whole : ListSetting → List (List ℕ) → List ℕ → Reporting → Type 0
-Whole s = Framed Says s.line_bytes [] (λ r. count_line r.counts ++ []) (fresh s)
+Whole s = Framed (Reported Says s.line_bytes (fresh s)) [] (λ r. count_line r.counts ++ [])
+
+-- since no line is begun, a part is the report on whole lines
+reported_lines : (n : ℕ) (p q : Reporting) (lines : List (List ℕ)) (text : List ℕ)
+    → ReportedPart Says begins_none n p lines text q → Reported Says n p lines text q
+reported_lines n p q lines text (inl reported) = reported
+reported_lines n p q lines text (inr begun) = absurd begun.begun
+
+part_lines : (s : ListSetting) (q : Reporting) (lines : List (List ℕ)) (text : List ℕ) → Parts s lines text q
+    → Lines s lines text q
+part_lines s q lines text part = record {
+  said = part.said;
+  reported = reported_lines s.line_bytes (fresh s) q lines part.said part.reported;
+  whole = part.whole;
+}
 
 first_report : (s : ListSetting) (q : Reporting) (read text : List ℕ) (count : ℕ)
     → Lines s (take count (lines_of read)) text q → IsReportOfFirst s read count text
@@ -162,6 +185,16 @@ wrote_some : (s : ListSetting) (old new : Option (List ℕ)) (read : List ℕ) (
     → run.WroteLines (Lines s) old read at_end q new → WroteLines s old read at_end new
 wrote_some s old new read at_end q all = (all.0, all.1, all.2, wrote_first s old new read all.0 q all.3)
 
+wrote_parts : (s : ListSetting) (old new : Option (List ℕ)) (read : List ℕ) (at_end : Type 0) (q : Reporting)
+    → run.WroteLines (Parts s) old read at_end q new → WroteLines s old read at_end new
+wrote_parts s old new read at_end q all = (
+  all.0,
+  all.1,
+  all.2,
+  wrote_first s old new read all.0 q (Wrote-map (Parts s) (Lines s) (take all.0 (lines_of read)) old new q q
+      (λ lines text. part_lines s q lines text) all.3),
+)
+
 -- the whole report was written
 pub run-reports : (s : ListSetting) (most : ℕ) (old new : Option (List ℕ)) (read : List ℕ) (q : Reporting)
     → run.WroteAll (Whole s) (record { line_bytes = s.line_bytes; lines = most }) old read q new
@@ -176,10 +209,10 @@ run-reports s most old new read q all = record {
 -- a fault left a part of its lines
 part-left : (e : LineFault RoomFault) (s : ListSetting) (most : ℕ) (old : Option (List ℕ)) (read : List ℕ)
     (at_end : Type 0) (q : Reporting) (new : Option (List ℕ))
-    → run.Leaves (Lines s) (record { line_bytes = s.line_bytes; lines = most }) e old read at_end q new
+    → run.Leaves (Lines s) (Parts s) (record { line_bytes = s.line_bytes; lines = most }) e old read at_end q new
     → Leaves (fault_of_run e) s most old read at_end new
-part-left (stopped.Report room.Memory) s most old read at_end q new left = wrote_some s old new read at_end q left
-part-left (stopped.Report room.Overflow) s most old read at_end q new left = wrote_some s old new read at_end q left
+part-left (stopped.Report room.Memory) s most old read at_end q new left = wrote_parts s old new read at_end q left
+part-left (stopped.Report room.Overflow) s most old read at_end q new left = wrote_parts s old new read at_end q left
 part-left stopped.Memory s most old read at_end q new left = wrote_some s old new read at_end q left
 part-left stopped.Read s most old read at_end q new left =
     wrote_first s old new read (length (closed_lines read)) q left
@@ -187,7 +220,12 @@ part-left stopped.Write s most old read at_end q new left =
     let cut = left.2 in
     record {
       text = cut.text;
-      report = inr (left.0, left.1, first_report s q read cut.text left.0 cut.reported);
+      report = inr (
+        left.0,
+        left.1,
+        first_report s q read cut.text left.0
+            (part_lines s q (take left.0 (lines_of read)) cut.text cut.reported),
+      );
       prefix = cut.prefix;
       wrote = cut.wrote;
     }
@@ -198,7 +236,7 @@ part-left stopped.Endless s most old read at_end q new left =
 -- or of the whole report
 pub run-left : (e : LineFault RoomFault) (s : ListSetting) (most : ℕ) (old : Option (List ℕ)) (read : List ℕ)
     (at_end : Type 0) (q : Reporting) (new : Option (List ℕ))
-    → LeavesPart (Lines s) (Whole s) (record { line_bytes = s.line_bytes; lines = most }) e old read at_end q new
+    → LeavesPart (Lines s) (Parts s) (Whole s) (record { line_bytes = s.line_bytes; lines = most }) e old read at_end q new
     → Leaves (fault_of_run e) s most old read at_end new
 run-left e s most old read at_end q new (inl left) = part-left e s most old read at_end q new left
 run-left e s most old read at_end q new (inr (is, cut)) =

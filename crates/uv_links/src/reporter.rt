@@ -1,6 +1,6 @@
 //! The report on the lines of a list.
-ghost use Rattle.std.specs.Prelude.{◌≡◌, ◌+◌, ◌-◌, ◌^◌, ◌<◌, ◌++◌, OnOk, IfOk, OnErr, option_copied, string_bytes};
-ghost use Rattle.uv_lines.specs.Progress.{Adds};
+ghost use Rattle.std.specs.Prelude.{◌≡◌, ℕ, ◌+◌, ◌-◌, ◌^◌, ◌<◌, ◌++◌, List, OnOk, IfErr, IfOk, OnErr, option_copied};
+ghost use Rattle.std.specs.Prelude.{string_bytes};
 ghost use Rattle.uv_links.specs.Judgement.{judged_said};
 ghost use Rattle.uv_links.specs.Report.{counted, report_line};
 ghost use Rattle.uv_links.specs.Reporting.{IsSaidOf, Says, none_counted};
@@ -11,7 +11,8 @@ use crate::judgement::Judgement;
 use crate::outcome::push_line;
 use std::alloc::{AllocError, Global};
 use std::marker::Model;
-use uv_lines::Reporter;
+use uv_lines::{ReportFault, Reporter};
+use uv_model::Sink;
 use uv_second::RoomFault;
 
 /// What reports on a list of links: the judge of its lines, and the counts of the lines before.
@@ -53,6 +54,25 @@ impl<'b> LinkReporter<'b> {
         self.counts
     }
 
+    // Appends the report's line of the next line, and counts it.
+    fn say(
+        &mut self,
+        alloc: Global,
+        line: Option<&[u8]>,
+        text: &mut Vec<u8>,
+    ) -> Result<(), RoomFault>
+        requires { self.old.counts.lines < 2 ^ 64 - 1 }
+        ensures said { OnOk result ((said : List ℕ) × Says self.old (option_copied line.entry) said self.new
+            × (text.new.items ≡ text.old.items ++ said)) }
+        ensures none { OnErr result ((self.new ≡ self.old) × (text.new.items ≡ text.old.items)) }
+    {
+        let judgement = judge_line(alloc, &self.judge, line)?;
+        match self.add(judgement, text) {
+            Ok(()) => Ok(()),
+            Err(AllocError) => Err(RoomFault::Memory),
+        }
+    }
+
     // Appends the line of the report, and counts it.
     fn add(&mut self, judgement: Judgement, text: &mut Vec<u8>) -> Result<(), AllocError>
         requires { self.old.counts.lines < 2 ^ 64 - 1 }
@@ -86,16 +106,19 @@ impl<'b> Reporter for LinkReporter<'b> {
 
     ghost reports = { Says };
 
-    fn report(
+    ghost begins = { λ before line parts. ⊥ };
+
+    // A line of the report is no longer than 20 digits and a few words, so that no part ends within it.
+    fn report<W: Sink>(
         &mut self,
         alloc: Global,
         line: Option<&[u8]>,
         text: &mut Vec<u8>,
-    ) -> Result<(), RoomFault> {
-        let judgement = judge_line(alloc, &self.judge, line)?;
-        match self.add(judgement, text) {
+        _writer: &mut W,
+    ) -> Result<(), ReportFault<RoomFault>> {
+        match self.say(alloc, line, text) {
             Ok(()) => Ok(()),
-            Err(AllocError) => Err(RoomFault::Memory),
+            Err(fault) => Err(ReportFault::Reporter(fault)),
         }
     }
 

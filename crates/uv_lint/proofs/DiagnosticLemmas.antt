@@ -1,5 +1,6 @@
 -- The text of a diagnostic is that of its texts, wherever those stand.
-use Rattle.std.proofs.Common.{◌≡◌, ℕ, Bool, false, List, ◌∷◌, ◌++◌, Option, Some, None, refl, ap, ◌∙◌, append_assoc}
+use Rattle.std.proofs.Common.{◌≡◌, ℕ, Bool, false, List, [], ◌∷◌, ◌++◌, Option, Some, None, refl, sym, ap, ◌∙◌}
+use Rattle.std.proofs.Common.{◌+◌, append_assoc, append-nil, inl, inr, take}
 use Rattle.std.specs.Borrow.{Bor}
 use Rattle.uv_report.specs.declared.column.Columns.{Columns}
 use Rattle.uv_report.specs.declared.line_violation.LineViolation.{LineViolation}
@@ -16,7 +17,9 @@ use Rattle.uv_report.specs.Column.{column_at}
 use Rattle.uv_report.specs.LineViolation.{violation_place}
 use Rattle.uv_report.specs.Report.{diagnostic_text}
 use Rattle.uv_lint.specs.declared.setting.LineForm.{LineForm}
-use Rattle.uv_lint.specs.Report.{ReportedText, diagnostic_on, diagnostics_text, framed_text, lent}
+use Rattle.uv_lint.specs.Report.{AreFirstDiagnostics, ReportedText, diagnostic_on, diagnostics_text, framed_text}
+use Rattle.uv_lint.specs.Report.{lent}
+use Rattle.uv_lint.specs.Reporting.{IsNoneOr}
 use Rattle.uv_lint.specs.ReportedView.{lent_if_mended}
 
 -- a diagnostic's text is the same with its texts behind other references
@@ -66,3 +69,69 @@ push_one form format columns file text line start column is_first mended violati
     (rw here (diagnostic_text-lent format is_first file text line (column_at columns start text.now
     (violation_place violation)) violation mended)))
     ∙ append_assoc old one more
+
+-- ---- the diagnostics so far, and what follows them
+
+-- The diagnostics on the violations before this one were said. Whatever follows them, they and what is to be said of
+-- that are the diagnostics on all of it.
+abbrev pub IsSaidBefore : LineForm → Format → Columns → ReportedText → Bool → Option Mended → List LineViolation
+    → List ℕ → Bool → Option Mended → Type 0
+IsSaidBefore form format columns reported is_first mended before said now_first told =
+    (rest : List LineViolation) → said ++ diagnostics_text form format columns reported now_first told rest
+    ≡ diagnostics_text form format columns reported is_first mended (before ++ rest)
+
+-- where none is said
+pub said_none : (form : LineForm) (format : Format) (columns : Columns) (reported : ReportedText) (is_first : Bool)
+    (mended : Option Mended) → IsSaidBefore form format columns reported is_first mended [] [] is_first mended
+said_none form format columns reported is_first mended = λ rest. refl
+
+-- they are the first diagnostics
+pub said_first : (form : LineForm) (format : Format) (columns : Columns) (reported : ReportedText) (is_first : Bool)
+    (mended : Option Mended) (before : List LineViolation) (said : List ℕ) (now_first : Bool) (told : Option Mended)
+    → IsSaidBefore form format columns reported is_first mended before said now_first told
+    → said ≡ diagnostics_text form format columns reported is_first mended before
+said_first form format columns reported is_first mended before said now_first told is =
+    sym (append-nil said) ∙ is []
+    ∙ ap (λ vs. diagnostics_text form format columns reported is_first mended vs) (append-nil before)
+
+-- one more
+pub said_more : (form : LineForm) (format : Format) (columns : Columns) (file text : Bor (List ℕ))
+    (line start column : ℕ) (is_first now_first : Bool) (mended : Option Mended) (told : Option Mended)
+    (before : List LineViolation) (violation : LineViolation) (said : List ℕ)
+    → column ≡ column_at columns start text.now (violation_place violation)
+    → IsSaidBefore form format columns (reported_of file text line start) is_first mended before said now_first
+    (lent_if_mended told)
+    → IsSaidBefore form format columns (reported_of file text line start) is_first mended (before ++ violation ∷ [])
+    (said ++ framed_text form format file.now (diagnostic_text format now_first
+    (record { file = file; line = line; column = column; violation = violation; text = text; mended = told }))) false
+    None
+said_more form format columns file text line start column is_first now_first mended told before violation said here is =
+    λ rest.
+    push_one form format columns file text line start column now_first told violation rest said
+    (said ++ framed_text form format file.now (diagnostic_text format now_first
+    (record { file = file; line = line; column = column; violation = violation; text = text; mended = told }))) here
+    refl
+    ∙ is (violation ∷ rest)
+    ∙ ap (λ vs. diagnostics_text form format columns (reported_of file text line start) is_first mended vs)
+    (sym (append_assoc before (violation ∷ []) rest))
+
+-- of one that may be said too the first diagnostics are those before it, or with it
+pub first_with : (form : LineForm) (format : Format) (columns : Columns) (reported : ReportedText) (is_first : Bool)
+    (mended : Option Mended) (violations : List LineViolation) (i : ℕ) (said one : List ℕ) (now_first : Bool)
+    (told : Option Mended) (parts : List ℕ)
+    → IsSaidBefore form format columns reported is_first mended (take i violations) said now_first told
+    → IsSaidBefore form format columns reported is_first mended (take (i + 1) violations) (said ++ one) false None
+    → IsNoneOr one parts → AreFirstDiagnostics form format columns reported is_first mended violations (said ++ parts)
+first_with form format columns reported is_first mended violations i said one now_first told parts before with_one
+    (inl none) = (
+      i,
+      ap (λ t. said ++ t) none ∙ append-nil said
+          ∙ said_first form format columns reported is_first mended (take i violations) said now_first told before,
+    )
+first_with form format columns reported is_first mended violations i said one now_first told parts before with_one
+    (inr is) = (
+      i + 1,
+      ap (λ t. said ++ t) is
+          ∙ said_first form format columns reported is_first mended (take (i + 1) violations) (said ++ one) false None
+          with_one,
+    )

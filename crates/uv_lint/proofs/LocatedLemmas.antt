@@ -1,6 +1,6 @@
 -- Lemmas on lines that say where their links stand.
 use Rattle.std.proofs.Common.{◌≡◌, ℕ, suc, ◌+◌, ◌<◌, ◌≤◌, ◌^◌, List, [], ◌∷◌, true, false, drop, get_or, length, take}
-use Rattle.std.proofs.Common.{Option, Some, None, Ok, Err, is_some, option_map, refl, sym, ap, ◌∙◌, arith, inl, inr}
+use Rattle.std.proofs.Common.{Option, Some, None, Ok, Err, is_some, option_map, refl, sym, ap, arith, inl, inr}
 use Rattle.std.proofs.Common.{rules}
 use Rattle.std.proofs.Common.{add-one, drop-cons, le-ltb}
 use Rattle.std.specs.Prelude.{◌==◌}

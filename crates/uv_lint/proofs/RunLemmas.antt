@@ -1,6 +1,6 @@
 -- From lines that were reported on one after the other to the report on a file, and to what a run over it leaves.
 use Rattle.std.proofs.Common.{◌≡◌, ℕ, ◌+◌, Bool, List, [], ◌∷◌, ◌++◌, Option, Result, Ok, Err, OnOk, IfErr, map, ap}
-use Rattle.std.proofs.Common.{◌∙◌, subst, arith, sum_by, inl, inr, zero-add}
+use Rattle.std.proofs.Common.{◌∙◌, subst, arith, sum_by, inl, inr, zero-add, sym, append-nil, append_assoc}
 use Rattle.std.proofs.lemmas.List.Sums.{sum_by-append}
 use Rattle.std.specs.declared.alloc.AllocError.{AllocError}
 use Rattle.uv_lines.specs.declared.fault.LineFault.{LineFault}
@@ -9,16 +9,18 @@ use Rattle.uv_lines.specs.declared.limits.LineLimits.{LineLimits}
 use Rattle.uv_lines.specs.Framed as framed
 use Rattle.uv_lines.specs.Framed.{Framed}
 use Rattle.uv_lines.specs.Lines.{short_line}
-use Rattle.uv_lines.specs.Reported.{Reported}
+use Rattle.uv_lines.specs.Reported.{Reported, ReportedBegun, ReportedPart}
 use Rattle.uv_lines.specs.Run as run
+use Rattle.uv_lines.proofs.FramedLemmas.{Wrote-map}
 use Rattle.uv_lint.specs.declared.counts.LintCounts.{LintCounts}
 use Rattle.uv_lint.specs.declared.fault.LintFault.{LintFault}
 use Rattle.uv_lint.specs.Findings.{AreAllFindings, Findings}
 use Rattle.uv_lint.specs.LineViolations.{FileSetting}
-use Rattle.uv_lint.specs.Report.{IsReport, counted, judged_line, judged_lines, judged_of, line_text, lines_text}
+use Rattle.uv_lint.specs.Report.{IsReport, IsReportBegun, first_found}
+use Rattle.uv_lint.specs.Report.{counted, judged_line, judged_lines, judged_of, line_text, lines_text}
 use Rattle.uv_lint.specs.Report.{lines_within, list_begin_text, list_end_text, none_counted, refused_in, tally}
-use Rattle.uv_lint.specs.Reporting.{Linting, Says, with_line}
-use Rattle.uv_lint.specs.Run.{FailsReads, IsReportWithin, Leaves, answer_of_run, fault_of_run, writes_failed}
+use Rattle.uv_lint.specs.Reporting.{Begins, Linting, Says, with_line}
+use Rattle.uv_lint.specs.Run.{FailsReads, IsPartWithin, IsReportWithin, Leaves, answer_of_run, fault_of_run, writes_failed}
 
 -- ---- what is said of lines
 
@@ -79,6 +81,49 @@ was_reported n p q (l ∷ ls) text all =
           (judged_lines (p.lines + 1) (map (short_line n) ls)) more.findings;
     }
 
+-- the same, and of a further line the first diagnostics alone
+record WasBegun (n : ℕ) (p : Linting) (ls : List (List ℕ)) (l : List ℕ) (text : List ℕ) (q : Linting) : Type 0 where
+  findings : List Findings
+  last : Findings
+  found : AreAllFindings p.setting (judged_lines p.lines (map (short_line n) (ls ++ l ∷ []))) (findings ++ last ∷ [])
+  count : ℕ
+  lines : text
+      ≡ lines_text p.setting (p.lines + 1) p.is_first (judged_lines p.lines (map (short_line n) (ls ++ l ∷ [])))
+      (findings ++ first_found count last ∷ [])
+  counts : q.counts ≡ plus p.counts (tally (judged_lines p.lines (map (short_line n) ls)) findings)
+
+was_begun : (n : ℕ) (p q : Linting) (ls : List (List ℕ)) (l said parts : List ℕ) → Reported Says n p ls said q
+    → Begins q (short_line n l) parts → WasBegun n p ls l (said ++ parts) q
+was_begun n p q [] l said parts all begun =
+    let first : Begins p (short_line n l) parts = subst (λ s. Begins s (short_line n l) parts) all.1 begun in
+    record {
+      findings = [];
+      last = first.findings;
+      found = (first.found, tt {0});
+      count = first.count;
+      lines = ap (λ t. t ++ parts) all.0 ∙ first.written
+          ∙ sym (append-nil (line_text p.setting (p.lines + 1) (judged_line p.lines (short_line n l)) p.is_first
+          (first_found first.count first.findings)));
+      counts = ap (λ r. r.counts) all.1 ∙ plus-no_lines p.counts;
+    }
+was_begun n p q (k ∷ ls) l said parts all begun =
+    let rest = all.1 in
+    let says = all.3 in
+    let line = judged_line p.lines (short_line n k) in
+    let more : WasBegun n (with_line p line says.findings.violations) ls l (rest ++ parts) q =
+    subst (λ s. WasBegun n s ls l (rest ++ parts) q) says.left (was_begun n all.2 q ls l rest parts all.4 begun) in
+    record {
+      findings = says.findings ∷ more.findings;
+      last = more.last;
+      found = (says.found, more.found);
+      count = more.count;
+      lines = ap (λ t. t ++ parts) (all.5 ∙ ap (λ t. t ++ rest) says.written)
+          ∙ append_assoc (line_text p.setting (p.lines + 1) line p.is_first says.findings) rest parts
+          ∙ ap (λ t. line_text p.setting (p.lines + 1) line p.is_first says.findings ++ t) more.lines;
+      counts = more.counts ∙ plus-counted p.counts line says.findings
+          (judged_lines (p.lines + 1) (map (short_line n) ls)) more.findings;
+    }
+
 -- ---- from a run over lines to the report
 
 -- before the first line
@@ -95,7 +140,7 @@ end_of setting = list_end_text setting.form setting.format
 -- a report in the frame of a file is one on the file
 pub is_report : (s : FileSetting) (n : ℕ) (is_first : Bool) (begin end : List ℕ) (p q : Linting)
     (ls : List (List ℕ)) (text : List ℕ) → p ≡ fresh s is_first → begin ≡ begin_of s → end ≡ end_of s
-    → Framed Says n begin (λ _. end) p ls text q → IsReport s n is_first ls text q.counts
+    → Framed (Reported Says n p) begin (λ _. end) ls text q → IsReport s n is_first ls text q.counts
 is_report s n is_first begin end p q ls text starts begins ends framed =
     let reported = was_reported n (fresh s is_first) q ls framed.said
     (subst (λ start. Reported Says n start ls framed.said q) starts framed.reported) in
@@ -107,15 +152,62 @@ is_report s n is_first begin end p q ls text starts begins ends framed =
       counts_are = reported.counts ∙ plus-none (tally (lines_within n ls) reported.findings);
     }
 
+-- where the last of the lines was begun
+begun_of : (s : FileSetting) (n : ℕ) (is_first : Bool) (begin end : List ℕ) (p q : Linting)
+    (ls : List (List ℕ)) (said text : List ℕ) → p ≡ fresh s is_first → begin ≡ begin_of s → end ≡ end_of s
+    → text ≡ begin ++ (said ++ end) → ReportedBegun Says Begins n p ls said q
+    → IsReportBegun s n is_first ls text q.counts
+begun_of s n is_first begin end p q ls said text starts begins ends whole begun =
+    let was = was_begun n (fresh s is_first) q begun.before begun.line begun.said begun.parts
+    (subst (λ start. Reported Says n start begun.before begun.said q) starts begun.reported) begun.begun in
+    record {
+      before = begun.before;
+      line = begun.line;
+      are = begun.are;
+      findings = was.findings;
+      last = was.last;
+      found = was.found;
+      count = was.count;
+      whole = whole ∙ ap (λ t. t ++ (said ++ end)) begins ∙ ap (λ t. begin_of s ++ (said ++ t)) ends
+          ∙ ap (λ t. begin_of s ++ (t ++ end_of s)) (begun.whole ∙ was.lines);
+      counts_are = was.counts ∙ plus-none (tally (lines_within n begun.before) was.findings);
+    }
+
+-- the report, or one of which the last line was begun
+part_of : (s : FileSetting) (limits : LineLimits) (is_first : Bool) (begin end : List ℕ) (p q : Linting)
+    (ls : List (List ℕ)) (said text : List ℕ) → p ≡ fresh s is_first → begin ≡ begin_of s → end ≡ end_of s
+    → text ≡ begin ++ (said ++ end) → ReportedPart Says Begins limits.line_bytes p ls said q
+    → IsPartWithin s limits is_first ls text q.counts
+part_of s limits is_first begin end p q ls said text starts begins ends whole (inl reported) =
+    inl (is_report s limits.line_bytes is_first begin end p q ls text starts begins ends
+    (record { said = said; reported = reported; whole = whole }))
+part_of s limits is_first begin end p q ls said text starts begins ends whole (inr begun) =
+    inr (begun_of s limits.line_bytes is_first begin end p q ls said text starts begins ends whole begun)
+
+-- and so is a part of one
+pub is_part : (s : FileSetting) (limits : LineLimits) (is_first : Bool) (begin end : List ℕ) (p q : Linting)
+    (ls : List (List ℕ)) (text : List ℕ) → p ≡ fresh s is_first → begin ≡ begin_of s → end ≡ end_of s
+    → Framed (ReportedPart Says Begins limits.line_bytes p) begin (λ _. end) ls text q
+    → IsPartWithin s limits is_first ls text q.counts
+is_part s limits is_first begin end p q ls text starts begins ends framed =
+    part_of s limits is_first begin end p q ls framed.said text starts begins ends framed.whole framed.reported
+
 -- ---- the answer
 
 -- what a fault of a run over lines leaves is what that of a run over a file does
 pub left : (e : LineFault AllocError) (s : FileSetting) (limits : LineLimits) (is_first : Bool)
     (old : Option (List ℕ)) (read : List ℕ) (at_end : Type 0) (counts : LintCounts) (new : Option (List ℕ))
-    → run.Leaves (IsReportWithin s limits is_first) limits e old read at_end counts new
+    → run.Leaves (IsReportWithin s limits is_first) (IsPartWithin s limits is_first) limits e old read at_end counts new
     → Leaves (fault_of_run e) s limits is_first old read at_end counts new
 left (stopped.Report fault) s limits is_first old read at_end counts new leaves = inr leaves
-left stopped.Memory s limits is_first old read at_end counts new leaves = inr leaves
+left stopped.Memory s limits is_first old read at_end counts new leaves =
+    inr (
+      leaves.0,
+      leaves.1,
+      leaves.2,
+      Wrote-map (IsReportWithin s limits is_first) (IsPartWithin s limits is_first) _ old
+          new counts counts (λ lines text all. inl all) leaves.3,
+    )
 left stopped.Read s limits is_first old read at_end counts new leaves = leaves
 left stopped.Write s limits is_first old read at_end counts new leaves = leaves
 left stopped.TooManyLines s limits is_first old read at_end counts new leaves = leaves

@@ -1,5 +1,5 @@
 -- A line that says where its link stands: `FILE:LINE:COLUMN:LINK`, as `rg --vimgrep -o` writes it.
-use Rattle.std.specs.Prelude.{ℕ, ◌+◌, ◌==◌, ◌^◌, Bool, ◌&&◌, List, [], ◌∷◌, Option, Some, None, drop, if◌then◌else◌}
+use Rattle.std.specs.Prelude.{ℕ, ◌+◌, ◌==◌, ◌^◌, ◌&&◌, List, [], ◌∷◌, Option, Some, None, drop, if◌then◌else◌}
 use Rattle.std.specs.Prelude.{is_some, nat_lt, option_map, take}
 use Rattle.std.specs.Char.{is_ascii_digit}
 use Rattle.std.specs.List.{prefix_len}

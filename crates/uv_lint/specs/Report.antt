@@ -1,7 +1,7 @@
 -- The report on a file: what stands before its diagnostics, the diagnostics on each line, in order and numbered from 1,
 -- and what stands behind them.
-use Rattle.std.specs.Prelude.{◌≡◌, ℕ, ◌+◌, ◌-◌, ◌^◌, ◌==◌, Bool, false, List, [], ◌∷◌, ◌++◌, Option, Some, None, drop}
-use Rattle.std.specs.Prelude.{if◌then◌else◌, length, map, min, option_map, sum_by, take}
+use Rattle.std.specs.Prelude.{◌≡◌, ℕ, ◌+◌, ◌==◌, Bool, false, List, [], ◌∷◌, ◌++◌, Option, Some, None, drop}
+use Rattle.std.specs.Prelude.{if◌then◌else◌, length, map, option_map, sum_by, take}
 use Rattle.std.specs.Borrow.{Bor}
 use Rattle.std.specs.Str.{bytes_eq, chars}
 use Rattle.uv_report.specs.declared.column.Columns.{Columns}
@@ -82,6 +82,12 @@ diagnostics_text form format columns reported is_first mended (violation ∷ res
     (diagnostic_text format is_first (diagnostic_on columns reported mended violation))
     ++ diagnostics_text form format columns reported false None rest
 
+-- some of the first of these diagnostics
+abbrev pub AreFirstDiagnostics : LineForm → Format → Columns → ReportedText → Bool → Option Mended
+    → List LineViolation → List ℕ → Type 0
+AreFirstDiagnostics form format columns reported is_first mended violations text =
+    (count : ℕ) × (text ≡ diagnostics_text form format columns reported is_first mended (take count violations))
+
 -- the diagnostics on a text of which this was found
 abbrev pub text_diagnostics : FileSetting → ReportedText → Bool → Findings → List ℕ
 text_diagnostics setting reported is_first findings =
@@ -98,6 +104,11 @@ reported_by file number line None = record { file = file; line = number; start =
 abbrev pub line_text : FileSetting → ℕ → Option (List ℕ) → Bool → Findings → List ℕ
 line_text setting number line is_first findings =
     text_diagnostics setting (reported_by setting.file number line (link_of setting.form line)) is_first findings
+
+-- what was found, of the violations so many of the first
+abbrev pub first_found : ℕ → Findings → Findings
+first_found count findings =
+    record { violations = take count findings.violations; mended = findings.mended }
 
 -- no diagnostic was written yet, nor for these violations
 abbrev pub is_still_first : Bool → List LineViolation → Bool
@@ -179,3 +190,20 @@ pub record IsReport (setting : FileSetting) (line_bytes : ℕ) (is_first : Bool)
       ++ (lines_text setting 1 is_first (lines_within line_bytes lines) findings
       ++ list_end_text setting.form setting.format)
   pub counts_are : counts ≡ tally (lines_within line_bytes lines) findings
+
+-- The text is the report on lines, on the last of which it has only some of the first diagnostics; its end stands behind
+-- them. The counts are those of the lines before that.
+pub record IsReportBegun (setting : FileSetting) (line_bytes : ℕ) (is_first : Bool) (lines : List (List ℕ))
+    (text : List ℕ) (counts : LintCounts) : Type 0 where
+  pub before : List (List ℕ)
+  pub line : List ℕ
+  pub are : lines ≡ before ++ line ∷ []
+  pub findings : List Findings
+  pub last : Findings
+  pub found : AreAllFindings setting (lines_within line_bytes (before ++ line ∷ [])) (findings ++ last ∷ [])
+  pub count : ℕ
+  pub whole : text
+      ≡ list_begin_text setting.form setting.format setting.file
+      ++ (lines_text setting 1 is_first (lines_within line_bytes (before ++ line ∷ []))
+      (findings ++ first_found count last ∷ []) ++ list_end_text setting.form setting.format)
+  pub counts_are : counts ≡ tally (lines_within line_bytes before) findings

@@ -1,11 +1,12 @@
 -- What reports on the lines of a file: what it is between two lines, and what it says of the next one.
-use Rattle.std.specs.Prelude.{◌≡◌, ℕ, ◌+◌, Bool, List, ◌++◌, Option}
+use Rattle.std.specs.Prelude.{◌≡◌, ℕ, ◌+◌, ◌⊎◌, Bool, List, [], ◌++◌, Option}
 use Rattle.uv_report.specs.declared.line_violation.LineViolation.{LineViolation}
+use Rattle.uv_lines.specs.Waiting.{Passes}
 use Rattle.uv_lint.specs.declared.counts.LintCounts.{LintCounts}
 use Rattle.uv_lint.specs.Findings.{AreFindings, Findings, IsMended, MendedText}
 use Rattle.uv_lint.specs.LineViolations.{FileSetting, link_of}
-use Rattle.uv_lint.specs.Report.{ReportedText, counted, is_still_first, judged_line, line_text, reported_by}
-use Rattle.uv_lint.specs.Report.{text_diagnostics}
+use Rattle.uv_lint.specs.Report.{ReportedText, counted, first_found, is_still_first, judged_line, line_text}
+use Rattle.uv_lint.specs.Report.{reported_by, text_diagnostics}
 
 -- the file's setting, whether no diagnostic of the report was written yet, how many lines came, and the counts of those
 pub record Linting : Type 0 where
@@ -23,19 +24,39 @@ with_line before line violations = record {
   counts = counted before.counts line violations;
 }
 
--- the diagnostics on a text of which this was found are appended, with what to write in its place
-abbrev pub HasReported : Linting → ReportedText → List LineViolation → List ℕ → List ℕ → Type 0
-HasReported before reported violations old new =
+-- a text, or nothing
+abbrev pub IsNoneOr : List ℕ → List ℕ → Type 0
+IsNoneOr text said = (said ≡ []) ⊎ (said ≡ text)
+
+-- the diagnostics on a text of which this was found came to what waited, with what to write in its place
+abbrev pub HasReported : Linting → ReportedText → List LineViolation → List ℕ → Option (List ℕ) → Option (List ℕ)
+    → List ℕ → Type 0
+HasReported before reported violations waited old new waits =
     (mended : Option MendedText)
     × IsMended before.setting.format before.setting.profile before.setting.base violations reported.text mended
-    × (new ≡ old ++ text_diagnostics before.setting reported before.is_first
-    (record { violations = violations; mended = mended }))
+    × Passes (waited ++ text_diagnostics before.setting reported before.is_first
+    (record { violations = violations; mended = mended })) old new waits
+
+-- some of the first of them, or none
+abbrev pub HasBegun : Linting → ReportedText → List LineViolation → List ℕ → Type 0
+HasBegun before reported violations parts =
+    (parts ≡ []) ⊎ ((mended : Option MendedText)
+    × IsMended before.setting.format before.setting.profile before.setting.base violations reported.text mended
+    × ((count : ℕ) × (parts ≡ text_diagnostics before.setting reported before.is_first
+    (first_found count (record { violations = violations; mended = mended })))))
 
 -- the same of the next line
-abbrev pub HasReportedLine : Linting → Option (List ℕ) → List LineViolation → List ℕ → List ℕ → Type 0
-HasReportedLine before line violations old new =
+abbrev pub HasReportedLine : Linting → Option (List ℕ) → List LineViolation → List ℕ → Option (List ℕ)
+    → Option (List ℕ) → List ℕ → Type 0
+HasReportedLine before line violations waited old new waits =
     HasReported before
-    (reported_by before.setting.file (before.lines + 1) line (link_of before.setting.form line)) violations old new
+    (reported_by before.setting.file (before.lines + 1) line (link_of before.setting.form line)) violations waited old
+    new waits
+
+abbrev pub HasBegunLine : Linting → Option (List ℕ) → List LineViolation → List ℕ → Type 0
+HasBegunLine before line violations parts =
+    HasBegun before
+    (reported_by before.setting.file (before.lines + 1) line (link_of before.setting.form line)) violations parts
 
 -- the diagnostics on the next line, and what it leaves
 pub record Says (before : Linting) (line : Option (List ℕ)) (text : List ℕ) (after : Linting) : Type 0 where
@@ -44,3 +65,12 @@ pub record Says (before : Linting) (line : Option (List ℕ)) (text : List ℕ) 
   pub written : text
       ≡ line_text before.setting (before.lines + 1) (judged_line before.lines line) before.is_first findings
   pub left : after ≡ with_line before (judged_line before.lines line) findings.violations
+
+-- some of the first diagnostics on the next line
+pub record Begins (before : Linting) (line : Option (List ℕ)) (text : List ℕ) : Type 0 where
+  pub findings : Findings
+  pub found : AreFindings before.setting (judged_line before.lines line) findings
+  pub count : ℕ
+  pub written : text
+      ≡ line_text before.setting (before.lines + 1) (judged_line before.lines line) before.is_first
+      (first_found count findings)

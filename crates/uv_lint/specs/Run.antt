@@ -11,7 +11,7 @@ use Rattle.uv_lint.specs.declared.counts.LintCounts.{LintCounts}
 use Rattle.uv_lint.specs.declared.fault.LintFault.{LintFault}
 use Rattle.uv_lint.specs.declared.fault.LintFault.TheVariants.{Memory, Read, Write, TooManyLines, Endless}
 use Rattle.uv_lint.specs.LineViolations.{FileSetting}
-use Rattle.uv_lint.specs.Report.{IsReport, none_counted}
+use Rattle.uv_lint.specs.Report.{IsReport, IsReportBegun, none_counted}
 
 -- how many bytes a line may have, and how many lines may come
 abbrev pub line_limits : LineLimits
@@ -20,6 +20,12 @@ line_limits = record { line_bytes = 65536; lines = 1000000000 }
 -- what the report on a file is, where a line may have so many bytes
 abbrev pub IsReportWithin : FileSetting → LineLimits → Bool → List (List ℕ) → List ℕ → LintCounts → Type 0
 IsReportWithin setting limits is_first = IsReport setting limits.line_bytes is_first
+
+-- the same, or of the last of the lines it has only some of the first diagnostics
+abbrev pub IsPartWithin : FileSetting → LineLimits → Bool → List (List ℕ) → List ℕ → LintCounts → Type 0
+IsPartWithin setting limits is_first lines text counts =
+    IsReport setting limits.line_bytes is_first lines text counts
+    ⊎ IsReportBegun setting limits.line_bytes is_first lines text counts
 
 -- the report on the bytes was written, on no more lines than may come, and these are its counts
 abbrev pub Reports : FileSetting → LineLimits → Bool → Option (List ℕ) → List ℕ → LintCounts → Option (List ℕ)
@@ -35,16 +41,18 @@ pub record WroteNothing (old : Option (List ℕ)) (read : List ℕ) (counts : Li
   pub none : counts ≡ none_counted
 
 -- What a fault of a run leaves, when these bytes were read. What was written is the report on some of the first lines
--- with its end, or a prefix of that behind a failed write.
+-- with its end, or a prefix of that behind a failed write. Where memory ran out, or a write failed, that report may have
+-- only some of the first diagnostics on the last of these lines; each of those is whole, but for the one that a failed
+-- write has cut.
 abbrev pub Leaves : LintFault → FileSetting → LineLimits → Bool → Option (List ℕ) → List ℕ → Type 0 → LintCounts
     → Option (List ℕ) → Type 0
 Leaves Memory setting limits is_first old read at_end counts new =
     WroteNothing old read counts new
-    ⊎ WroteLines (IsReportWithin setting limits is_first) old read at_end counts new
+    ⊎ WroteLines (IsPartWithin setting limits is_first) old read at_end counts new
 Leaves Read setting limits is_first old read at_end counts new =
     WroteFirst (IsReportWithin setting limits is_first) old read (length (closed_lines read)) counts new
 Leaves Write setting limits is_first old read at_end counts new =
-    WrotePrefix (IsReportWithin setting limits is_first) old read counts new
+    WrotePrefix (IsPartWithin setting limits is_first) old read counts new
 Leaves TooManyLines setting limits is_first old read at_end counts new =
     WroteFirst (IsReportWithin setting limits is_first) old read limits.lines counts new
     × (limits.lines < length (lines_of read))

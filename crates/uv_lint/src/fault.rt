@@ -8,7 +8,8 @@ use uv_lines::LineFault;
 /// Why a run over a file stopped, and what it had written by then. How far the file was read is open.
 #[derive(Clone, Copy, Debug, PartialEq, Eq)]
 pub enum LintFault {
-    /// An allocation failed. The report on some of the first lines was written, with its end, or nothing at all.
+    /// An allocation failed. The report on some of the first lines was written, with its end, or nothing at all. On the
+    /// last of these lines it may have only the first diagnostics, each of them whole.
     Memory,
     /// A read failed. The report on every line whose LF was read was written, with its end.
     Read,

@@ -1,15 +1,21 @@
 //! The diagnostics on a line.
-ghost use Rattle.std.specs.Prelude.{◌≡◌, ◌++◌, IfOk, OnOk, option_copied, option_map, string_bytes};
+ghost use Rattle.std.specs.Prelude.{◌≡◌, ◌+◌, ◌-◌, ◌^◌, ◌<◌, ◌++◌, IfErr, IfOk, OnErr, OnOk, option_copied, option_map};
+ghost use Rattle.std.specs.Prelude.{string_bytes};
+ghost use Rattle.uv_lines.specs.Fault.{failed_within};
+ghost use Rattle.uv_lines.specs.Waiting.{LeavesParts, Passes};
 ghost use Rattle.uv_report.specs.Report.{diagnostic_text};
 ghost use Rattle.uv_lint.specs.LocatedViews.{link_view};
 ghost use Rattle.uv_lint.specs.Findings.{shown};
-ghost use Rattle.uv_lint.specs.Report.{diagnostics_text, framed_text, mended_on, reported_by};
+ghost use Rattle.uv_lint.specs.Report.{AreFirstDiagnostics, diagnostics_text, framed_text, mended_on, reported_by};
+ghost use Rattle.uv_lint.specs.Reporting.{IsNoneOr};
 ghost use Rattle.uv_lint.specs.ReportedView.{mended_line_view, place_view, reported_view};
 
 use crate::located::LocatedLink;
 use crate::mended_line::{MendedLine, mended_in_place};
 use crate::setting::{LineForm, LintSetting};
 use std::alloc::{AllocError, Global};
+use uv_lines::{ReportFault, end_part};
+use uv_model::{DeviceFault, Sink};
 use uv_report::{
     ColumnCounter, Diagnostic, LineViolation, push_diagnostic, push_file_begin, push_file_end,
 };
@@ -66,9 +72,9 @@ pub(crate) struct ReportedLine<'l> {
 }
 
 impl<'l> ReportedLine<'l> {
-    /// Pushes a diagnostic for each violation, the first of which says what to write. It is given whether the first of
-    /// them is the first one of the report.
-    pub(crate) fn push(
+    /// Says a diagnostic for each violation, the first of which says what to write. It is given whether the first of
+    /// them is the first one of the report. A part ends behind each diagnostic; room for one is given.
+    pub(crate) fn push<W: Sink>(
         &self,
         alloc: Global,
         reported: &mut String,
@@ -76,11 +82,21 @@ impl<'l> ReportedLine<'l> {
         is_first: bool,
         mended: &'l Option<MendedLine>,
         violations: &[LineViolation],
-    ) -> Result<(), AllocError>
-        ensures { OnOk result (string_bytes reported.new ≡ string_bytes reported.old
+        text: &mut Vec<u8>,
+        writer: &mut W,
+    ) -> Result<(), ReportFault<AllocError>>
+        requires { W.failed writer.old < 2 ^ 64 - 1 }
+        ensures text { OnOk result (Passes (text.old.items
             ++ diagnostics_text setting.entry.form setting.entry.format setting.entry.columns
             (reported_view self.now) is_first (mended_on setting.entry.columns (reported_view self.now)
-            (option_map mended_line_view mended.entry.now)) violations.now) }
+            (option_map mended_line_view mended.entry.now)) violations.now)
+            (W.contents writer.old) (W.contents writer.new) text.new.items) }
+        ensures quiet { OnOk result (W.failed writer.new ≡ W.failed writer.old) }
+        ensures fault { IfErr result (λ e. LeavesParts (AreFirstDiagnostics setting.entry.form setting.entry.format
+            setting.entry.columns (reported_view self.now) is_first (mended_on setting.entry.columns
+            (reported_view self.now) (option_map mended_line_view mended.entry.now)) violations.now) e text.old.items
+            (W.contents writer.old) text.new.items (W.contents writer.new)) }
+        ensures failed { IfErr result (λ e. W.failed writer.new ≡ W.failed writer.old + failed_within e) }
     {
         let mut counter = ColumnCounter::new(setting.columns, self.start, self.text);
         let mut is_first = is_first;
@@ -94,12 +110,70 @@ impl<'l> ReportedLine<'l> {
                 text: self.text,
                 mended: told,
             };
-            push_framed(alloc, reported, setting, &diagnostic, is_first)?;
+            if let Err(fault) = say_framed(
+                alloc,
+                reported,
+                setting,
+                &diagnostic,
+                is_first,
+                text,
+                writer,
+            ) {
+                return Err(fault);
+            }
             is_first = false;
             told = None;
         }
         Ok(())
     }
+}
+
+// Says a diagnostic, and ends a part behind it.
+fn say_framed<W: Sink>(
+    alloc: Global,
+    reported: &mut String,
+    setting: LintSetting<'_>,
+    diagnostic: &Diagnostic<'_>,
+    is_first: bool,
+    text: &mut Vec<u8>,
+    writer: &mut W,
+) -> Result<(), ReportFault<AllocError>>
+    requires { W.failed writer.old < 2 ^ 64 - 1 }
+    ensures text { OnOk result (Passes (text.old.items ++ framed_text setting.entry.form setting.entry.format
+        diagnostic.now.file.now (diagnostic_text setting.entry.format is_first diagnostic.now))
+        (W.contents writer.old) (W.contents writer.new) text.new.items) }
+    ensures quiet { OnOk result (W.failed writer.new ≡ W.failed writer.old) }
+    ensures fault { IfErr result (λ e. LeavesParts (IsNoneOr (framed_text setting.entry.form setting.entry.format
+        diagnostic.now.file.now (diagnostic_text setting.entry.format is_first diagnostic.now))) e text.old.items
+        (W.contents writer.old) text.new.items (W.contents writer.new)) }
+    ensures failed { IfErr result (λ e. W.failed writer.new ≡ W.failed writer.old + failed_within e) }
+{
+    if let Err(AllocError) = append_framed(alloc, reported, setting, diagnostic, is_first, text) {
+        return Err(ReportFault::Reporter(AllocError));
+    }
+    match end_part(text, writer) {
+        Ok(()) => Ok(()),
+        Err(DeviceFault) => Err(ReportFault::Write),
+    }
+}
+
+// Appends a diagnostic whole, or nothing.
+fn append_framed(
+    alloc: Global,
+    reported: &mut String,
+    setting: LintSetting<'_>,
+    diagnostic: &Diagnostic<'_>,
+    is_first: bool,
+    text: &mut Vec<u8>,
+) -> Result<(), AllocError>
+    ensures text { OnOk result (text.new.items ≡ text.old.items ++ framed_text setting.entry.form
+        setting.entry.format diagnostic.now.file.now
+        (diagnostic_text setting.entry.format is_first diagnostic.now)) }
+    ensures none { OnErr result (text.new.items ≡ text.old.items) }
+{
+    reported.clear();
+    push_framed(alloc, reported, setting, diagnostic, is_first)?;
+    text.extend_from_slice(reported.as_bytes())
 }
 
 // Pushes a diagnostic. Where lines say where their links stand, what stands round the diagnostics of its file stands

@@ -1,11 +1,13 @@
 //! What reports on the lines of a file.
-ghost use Rattle.std.specs.Prelude.{◌≡◌, ◌+◌, ◌-◌, ◌^◌, ◌<◌, ◌++◌, [], IfOk, OnErr, OnOk, if◌then◌else◌, option_copied};
+ghost use Rattle.std.specs.Prelude.{◌≡◌, ◌+◌, ◌-◌, ◌^◌, ◌<◌, ◌++◌, [], IfErr, IfOk, OnOk, if◌then◌else◌, option_copied};
 ghost use Rattle.std.specs.Prelude.{string_bytes};
+ghost use Rattle.uv_lines.specs.Fault.{failed_within};
+ghost use Rattle.uv_lines.specs.Waiting.{LeavesParts};
 ghost use Rattle.uv_lint.specs.LineViolations.{file_setting};
 ghost use Rattle.uv_lint.specs.Report.{judged_of, none_counted};
 ghost use Rattle.uv_lint.specs.Report as spec;
 ghost use Rattle.uv_lint.specs.ReportedView.{shown_at};
-ghost use Rattle.uv_lint.specs.Reporting.{HasReported, HasReportedLine, with_line};
+ghost use Rattle.uv_lint.specs.Reporting.{HasBegun, HasBegunLine, HasReported, HasReportedLine, with_line};
 
 use crate::counts::LintCounts;
 use crate::located::link_of;
@@ -14,8 +16,8 @@ use crate::reported_line::{Place, ReportedLine, shown_text};
 use crate::setting::{LineForm, LintSetting};
 use std::alloc::{AllocError, Global};
 use std::marker::Model;
-use uv_lines::Reporter;
-use uv_model::{Extent, Profile, Record};
+use uv_lines::{ReportFault, Reporter};
+use uv_model::{Extent, Profile, Record, Sink};
 use uv_report::LineViolation;
 
 /// What reports on the lines of a file: what they are judged by, whether no diagnostic of the report was written yet,
@@ -28,7 +30,7 @@ pub(crate) struct LintReporter<'a> {
     // All lines, also the empty ones: they are numbered too.
     lines: u64,
     counts: LintCounts,
-    // The diagnostics on a line, whose memory is kept for the next one.
+    // A diagnostic, whose memory is kept for the next one.
     reported: String,
 }
 
@@ -112,48 +114,64 @@ impl<'a> LintReporter<'a> {
         self.setting.form
     }
 
-    // Appends the diagnostics on the next line.
-    fn report_line(
+    // Says the diagnostics on the next line, if any.
+    fn report_line<W: Sink>(
         &mut self,
         alloc: Global,
         line: Option<&[u8]>,
         violations: &[LineViolation],
         text: &mut Vec<u8>,
-    ) -> Result<(), AllocError>
-        requires { self.old.lines < 2 ^ 64 - 1 }
+        writer: &mut W,
+    ) -> Result<(), ReportFault<AllocError>>
+        requires few { self.old.lines < 2 ^ 64 - 1 }
+        requires writes { W.failed writer.old < 2 ^ 64 - 1 }
         ensures text { OnOk result (HasReportedLine self.old (option_copied line.entry) violations.now
-            text.old.items text.new.items) }
-        ensures none { OnErr result (text.new.items ≡ text.old.items) }
+            text.old.items (W.contents writer.old) (W.contents writer.new) text.new.items) }
         ensures same { self.new ≡ self.old }
+        ensures quiet { OnOk result (W.failed writer.new ≡ W.failed writer.old) }
+        ensures fault { IfErr result (λ e. LeavesParts (HasBegunLine self.old (option_copied line.entry)
+            violations.now) e text.old.items (W.contents writer.old) text.new.items (W.contents writer.new)) }
+        ensures failed { IfErr result (λ e. W.failed writer.new ≡ W.failed writer.old + failed_within e) }
     {
+        if violations.is_empty() {
+            return Ok(());
+        }
         let link = link_of(self.setting.form, line);
         let place = Place::of(self.file, self.lines + 1, line, link);
-        let shown = shown_text(alloc, place.bytes)?;
-        self.report_text(alloc, place, shown.as_str(), violations, text)
+        let Ok(shown) = shown_text(alloc, place.bytes) else {
+            return Err(ReportFault::Reporter(AllocError));
+        };
+        self.report_text(alloc, place, shown.as_str(), violations, text, writer)
     }
 
-    // Appends the diagnostics on what is shown of a text that stands there, with what to write in its place.
-    fn report_text<'x>(
+    // Says the diagnostics on what is shown of a text that stands there, with what to write in its place.
+    fn report_text<'x, W: Sink>(
         &mut self,
         alloc: Global,
         place: Place<'x>,
         shown: &'x str,
         violations: &[LineViolation],
         text: &mut Vec<u8>,
-    ) -> Result<(), AllocError>
+        writer: &mut W,
+    ) -> Result<(), ReportFault<AllocError>>
+        requires { W.failed writer.old < 2 ^ 64 - 1 }
         ensures text { OnOk result (HasReported self.old (shown_at place.entry shown.entry.now) violations.now
-            text.old.items text.new.items) }
-        ensures none { OnErr result (text.new.items ≡ text.old.items) }
+            text.old.items (W.contents writer.old) (W.contents writer.new) text.new.items) }
         ensures same { self.new ≡ self.old }
+        ensures quiet { OnOk result (W.failed writer.new ≡ W.failed writer.old) }
+        ensures fault { IfErr result (λ e. LeavesParts (HasBegun self.old (shown_at place.entry shown.entry.now)
+            violations.now) e text.old.items (W.contents writer.old) text.new.items (W.contents writer.new)) }
+        ensures failed { IfErr result (λ e. W.failed writer.new ≡ W.failed writer.old + failed_within e) }
     {
-        let mended = mended_line(alloc, self.setting, violations, shown)?;
+        let Ok(mended) = mended_line(alloc, self.setting, violations, shown) else {
+            return Err(ReportFault::Reporter(AllocError));
+        };
         let reported_line = ReportedLine {
             file: place.file,
             line: place.line,
             start: place.start,
             text: shown,
         };
-        self.reported.clear();
         reported_line.push(
             alloc,
             &mut self.reported,
@@ -161,8 +179,9 @@ impl<'a> LintReporter<'a> {
             self.is_first,
             &mended,
             violations,
-        )?;
-        text.extend_from_slice(self.reported.as_bytes())
+            text,
+            writer,
+        )
     }
 
     // Counts a line of which this was found.
@@ -182,7 +201,7 @@ impl<'a> LintReporter<'a> {
 }
 
 impl<'a> Reporter for LintReporter<'a> {
-    ghost use Rattle.uv_lint.specs.Reporting.{Says};
+    ghost use Rattle.uv_lint.specs.Reporting.{Begins, Says};
 
     type Fault = AllocError;
 
@@ -190,19 +209,26 @@ impl<'a> Reporter for LintReporter<'a> {
 
     ghost reports = { Says };
 
-    fn report(
+    ghost begins = { Begins };
+
+    fn report<W: Sink>(
         &mut self,
         alloc: Global,
         line: Option<&[u8]>,
         text: &mut Vec<u8>,
-    ) -> Result<(), AllocError> {
+        writer: &mut W,
+    ) -> Result<(), ReportFault<AllocError>> {
         let line = judged_line(self.lines, line);
-        let violations = self.violations(alloc, line)?;
-        if !violations.is_empty() {
-            self.report_line(alloc, line, violations.as_slice(), text)?;
+        let Ok(violations) = self.violations(alloc, line) else {
+            return Err(ReportFault::Reporter(AllocError));
+        };
+        match self.report_line(alloc, line, violations.as_slice(), text, writer) {
+            Ok(()) => {
+                self.count(line, violations.as_slice());
+                Ok(())
+            }
+            Err(fault) => Err(fault),
         }
-        self.count(line, violations.as_slice());
-        Ok(())
     }
 
     fn line_count(&self) -> u64 {

@@ -154,3 +154,34 @@ fn reports_a_failed_write_behind_a_failed_read(rt: HostRuntime) -> Result<(), Fa
     assert_eq!(rt; writer.bytes(), written.as_bytes());
     Ok(())
 }
+
+// Where each code point of a line is wrong, its first diagnostics are written before the others are said. The second
+// write fails: those of the first write are whole, and the line isn't counted.
+#[test]
+fn writes_a_long_line_in_parts(rt: HostRuntime) -> Result<(), Fail> {
+    let mut line = Vec::new(rt.alloc());
+    line.extend_from_slice(b"urn:")?;
+    let mut report = String::new(rt.alloc());
+    for column in 5..7_000u32 {
+        line.push(b'^')?;
+        let diagnostic = format!(in rt.alloc();
+            "list:1:{column}: error: U+005E CIRCUMFLEX ACCENT may not stand in a URL [code-point]\n"
+        )?;
+        report.push_str(diagnostic.as_str())?;
+    }
+    let all = LintSetting {
+        extent: Extent::All,
+        format: Format::Gnu,
+        ..SETTING
+    };
+    let mut reader = FromReader::new(line.as_slice());
+    let mut writer = ScriptSink::new(rt.alloc(), 1_000_000, &[Ok(1_000_000)])?;
+    let (counts, answer) = run_lint(rt.alloc(), &mut reader, &mut writer, "list", true, all);
+    assert_eq!(rt; answer, Err(LintFault::Write));
+    assert_eq!(rt; (counts.lines, counts.refused), (0, 0));
+    assert!(rt; report.as_bytes().starts_with(writer.bytes()));
+    assert!(rt; writer.bytes().ends_with(b"[code-point]\n"));
+    assert!(rt; (262_144..262_300).contains(&writer.bytes().len()));
+    reports(&rt, line.as_slice(), all, report.as_str(), (1, 1));
+    Ok(())
+}

@@ -2,7 +2,7 @@
 use Rattle.std.proofs.Common.{◌++◌, [], subst, inl, refl}
 use Rattle.std.proofs.KnownBytes.{Consumes-nil}
 use Rattle.std.specs.Io.KnownBytes.{Consumes, IsAtEnd}
-use Rattle.uv_lines.specs.Reported.{Reported}
+use Rattle.uv_lines.specs.Reported.{Reported, ReportedPart}
 use Rattle.uv_lines.specs.Framed.{Framed}
 use Rattle.uv_lines.proofs.FramedLemmas.{Fails, begin_cut, ended, ended_err, ended_ok, fails, fails_err, fails_ok}
 use Rattle.uv_lines.proofs.FramedLemmas.{may_go_on, ran, stops}
@@ -43,9 +43,9 @@ returns-in-Err-clause-fault g c =
     let prefix = c.in-Err.ensures.prefix in (
       [],
       Consumes-nil (g.R.Source.remaining c.args.reader.now),
-      inl (begin_cut g.T.Reporter.reports c.args.limits.line_bytes c.args.frame.begin.now (λ _. c.args.frame.end.now)
-          c.args.reporter (g.W.Sink.contents c.args.writer.now) (g.W.Sink.contents c.write_whole.new.out) prefix.0
-          prefix.1),
+      inl (begin_cut (ReportedPart g.T.Reporter.reports g.T.Reporter.begins c.args.limits.line_bytes c.args.reporter)
+          c.args.frame.begin.now (λ _. c.args.frame.end.now) c.args.reporter (g.W.Sink.contents c.args.writer.now)
+          (g.W.Sink.contents c.write_whole.new.out) prefix.0 (inl (refl, refl)) prefix.1),
     )
 
 pub returns-in-Err-clause-failed : goal.returns-in-Err-clause-failed
@@ -55,11 +55,11 @@ returns-in-Err-clause-failed g c = (inl refl, c.in-Err.ensures.failed)
 pub returns-clause-report : goal.returns-clause-report
 returns-clause-report g c =
     let limits = c.args.limits in
-    let reports = g.T.Reporter.reports in
+    let P = Reported g.T.Reporter.reports limits.line_bytes c.args.reporter in
+    let P' = ReportedPart g.T.Reporter.reports g.T.Reporter.begins limits.line_bytes c.args.reporter in
     let last = g.T.Reporter.last in
     let begin = c.args.frame.begin.now in
     let end = c.args.frame.end.now in
-    let start = c.args.reporter in
     let old = g.W.Sink.contents c.args.writer.now in
     let mid = g.W.Sink.contents c.write_whole.new.out in
     let now = g.W.Sink.contents c.run_between-reporter.new.writer in
@@ -68,23 +68,22 @@ returns-clause-report g c =
     let left = g.R.Source.remaining c.run_between-reporter.new.reader in
     let answer = c.run_between-reporter.result.1 in
     let q = c.run_between-reporter.result.0 in
-    let lines = ran (Reported reports limits.line_bytes start) limits answer (λ read. Consumes bytes left read) mid
+    let lines = ran P P' limits answer (λ read. Consumes bytes left read) mid
     (IsAtEnd left) q now c.run_between-reporter.ensures.report c.run_between-reporter.ensures.fault in
-    ended_ok (Framed reports limits.line_bytes begin (λ _. end) start)
-    (Framed reports limits.line_bytes begin (λ s. last s ++ end) start) limits c.write_end-answer.result
-    (λ read. Consumes bytes left read) old lines.0 (IsAtEnd left) q new lines.1
-    (ended reports limits begin end last start answer c.write_end-answer.result old mid now new lines.0 (IsAtEnd left) q
+    ended_ok (Framed P begin (λ _. end)) (Framed P' begin (λ _. end)) (Framed P begin (λ s. last s ++ end)) limits
+    c.write_end-answer.result (λ read. Consumes bytes left read) old lines.0 (IsAtEnd left) q new lines.1
+    (ended P P' limits begin end last answer c.write_end-answer.result old mid now new lines.0 (IsAtEnd left) q
     (g.W.Sink.failed c.run_between-reporter.new.writer) (g.W.Sink.failed c.write_end-answer.new.writer)
-    c.in_default.ensures.whole lines.2 c.write_end-answer.ensures)
+    (λ lines text all. inl all) c.in_default.ensures.whole lines.2 c.write_end-answer.ensures)
 
 pub returns-clause-fault : goal.returns-clause-fault
 returns-clause-fault g c =
     let limits = c.args.limits in
-    let reports = g.T.Reporter.reports in
+    let P = Reported g.T.Reporter.reports limits.line_bytes c.args.reporter in
+    let P' = ReportedPart g.T.Reporter.reports g.T.Reporter.begins limits.line_bytes c.args.reporter in
     let last = g.T.Reporter.last in
     let begin = c.args.frame.begin.now in
     let end = c.args.frame.end.now in
-    let start = c.args.reporter in
     let old = g.W.Sink.contents c.args.writer.now in
     let mid = g.W.Sink.contents c.write_whole.new.out in
     let now = g.W.Sink.contents c.run_between-reporter.new.writer in
@@ -93,14 +92,13 @@ returns-clause-fault g c =
     let left = g.R.Source.remaining c.run_between-reporter.new.reader in
     let answer = c.run_between-reporter.result.1 in
     let q = c.run_between-reporter.result.0 in
-    let lines = ran (Reported reports limits.line_bytes start) limits answer (λ read. Consumes bytes left read) mid
+    let lines = ran P P' limits answer (λ read. Consumes bytes left read) mid
     (IsAtEnd left) q now c.run_between-reporter.ensures.report c.run_between-reporter.ensures.fault in
-    ended_err (Framed reports limits.line_bytes begin (λ _. end) start)
-    (Framed reports limits.line_bytes begin (λ s. last s ++ end) start) limits c.write_end-answer.result
-    (λ read. Consumes bytes left read) old lines.0 (IsAtEnd left) q new lines.1
-    (ended reports limits begin end last start answer c.write_end-answer.result old mid now new lines.0 (IsAtEnd left) q
+    ended_err (Framed P begin (λ _. end)) (Framed P' begin (λ _. end)) (Framed P begin (λ s. last s ++ end)) limits
+    c.write_end-answer.result (λ read. Consumes bytes left read) old lines.0 (IsAtEnd left) q new lines.1
+    (ended P P' limits begin end last answer c.write_end-answer.result old mid now new lines.0 (IsAtEnd left) q
     (g.W.Sink.failed c.run_between-reporter.new.writer) (g.W.Sink.failed c.write_end-answer.new.writer)
-    c.in_default.ensures.whole lines.2 c.write_end-answer.ensures)
+    (λ lines text all. inl all) c.in_default.ensures.whole lines.2 c.write_end-answer.ensures)
 
 pub returns-clause-failed : goal.returns-clause-failed
 returns-clause-failed g c =

@@ -2,7 +2,7 @@
 use Rattle.std.proofs.Common.{◌≡◌, ◌+◌, ℕ, List, [], Ok, Err, IfErr, arith, sym, add-zero}
 use Rattle.std.proofs.KnownBytes.{Consumes-nil}
 use Rattle.std.specs.Io.KnownBytes.{Consumes, IsAtEnd}
-use Rattle.uv_lines.specs.Reported.{Reported}
+use Rattle.uv_lines.specs.Reported.{Reported, ReportedPart}
 use Rattle.uv_lines.specs.Run.{Leaves, reads_failed, writes_failed}
 use Rattle.uv_lines.proofs.PassLemmas.{nothing_written}
 use Rattle.uv_lines.proofs.run.run_between.Goals as goal
@@ -60,7 +60,8 @@ returns-clause-fault g c =
     (elim c.run_pieces-answer.result as (λ answer. IfErr answer (λ e. (read : List ℕ)
     × Consumes (g.R.Source.remaining c.args.reader.now) (g.R.Source.remaining c.run_pieces-answer.new.reader) read
     × Leaves (Reported g.T.Reporter.reports c.new-progress.result.limits.line_bytes c.new-progress.result.reporter)
-    c.new-progress.result.limits e
+    (ReportedPart g.T.Reporter.reports g.T.Reporter.begins c.new-progress.result.limits.line_bytes
+    c.new-progress.result.reporter) c.new-progress.result.limits e
     (g.W.Sink.contents c.args.writer.now) read (IsAtEnd (g.R.Source.remaining c.run_pieces-answer.new.reader))
     c.run_pieces-answer.new.progress.reporter (g.W.Sink.contents c.run_pieces-answer.new.writer)
     × (g.R.Source.failed c.run_pieces-answer.new.reader ≡ g.R.Source.failed c.args.reader.now + reads_failed e)
@@ -68,7 +69,8 @@ returns-clause-fault g c =
     → IfErr answer (λ e. (read : List ℕ)
     × Consumes (g.R.Source.remaining c.args.reader.now) (g.R.Source.remaining c.run_pieces-answer.new.reader) read
     × Leaves (Reported g.T.Reporter.reports c.new-progress.result.limits.line_bytes c.new-progress.result.reporter)
-    c.new-progress.result.limits e
+    (ReportedPart g.T.Reporter.reports g.T.Reporter.begins c.new-progress.result.limits.line_bytes
+    c.new-progress.result.reporter) c.new-progress.result.limits e
     (g.W.Sink.contents c.args.writer.now) read (IsAtEnd (g.R.Source.remaining c.run_pieces-answer.new.reader))
     c.run_pieces-answer.new.progress.reporter (g.W.Sink.contents c.run_pieces-answer.new.writer))) [
       | Ok _ ↦ λ left. tt
@@ -80,7 +82,8 @@ returns-clause-failed g c =
     elim c.run_pieces-answer.result as (λ answer. IfErr answer (λ e. (read : List ℕ)
     × Consumes (g.R.Source.remaining c.args.reader.now) (g.R.Source.remaining c.run_pieces-answer.new.reader) read
     × Leaves (Reported g.T.Reporter.reports c.new-progress.result.limits.line_bytes c.new-progress.result.reporter)
-    c.new-progress.result.limits e
+    (ReportedPart g.T.Reporter.reports g.T.Reporter.begins c.new-progress.result.limits.line_bytes
+    c.new-progress.result.reporter) c.new-progress.result.limits e
     (g.W.Sink.contents c.args.writer.now) read (IsAtEnd (g.R.Source.remaining c.run_pieces-answer.new.reader))
     c.run_pieces-answer.new.progress.reporter (g.W.Sink.contents c.run_pieces-answer.new.writer)
     × (g.R.Source.failed c.run_pieces-answer.new.reader ≡ g.R.Source.failed c.args.reader.now + reads_failed e)

@@ -3,7 +3,7 @@ use Rattle.std.proofs.Common.{◌≡◌, ◌+◌, ◌<◌, ◌++◌, ◌∙◌, 
 use Rattle.std.proofs.Common.{arith, refl, sym, ap, add-zero, length-append}
 use Rattle.std.proofs.KnownBytes.{Consumes-nil, Consumes-kept, Consumes-trans}
 use Rattle.std.specs.Io.KnownBytes.{Consumes, IsAtEnd}
-use Rattle.uv_lines.specs.Reported.{Reported}
+use Rattle.uv_lines.specs.Reported.{Reported, ReportedPart}
 use Rattle.uv_lines.specs.Run.{At, FinishFault, Leaves, PassFault, WroteAll, reads_failed, writes_failed}
 use Rattle.uv_lines.proofs.PassLemmas.{At-start, at_first, read_end, pass_to_run, finish_to_run, passing_reads}
 use Rattle.uv_lines.proofs.PassLemmas.{finishing_reads}
@@ -123,6 +123,7 @@ returns-then-count-eq0-clause-fault g c =
     let q = c.loop-turn.progress in
     let r = c.finish.new.self in
     let reports = g.T.Reporter.reports in
+    let begins = g.T.Reporter.begins in
     let old = g.W.Sink.contents c.args.writer.now in
     let new = g.W.Sink.contents c.finish.new.writer in
     let at_end = IsAtEnd (g.R.Source.remaining c.read.new.self) in
@@ -134,24 +135,27 @@ returns-then-count-eq0-clause-fault g c =
     bytes.0 bytes.1 in
     elim c.finish.result as (λ answer. IfErr answer (λ e. (start : g.row.T.Denot) (old : Option (List ℕ))
     (read : List ℕ) → At reports g.T.Reporter.lines q.limits.line_bytes start old read q.reporter q.begun.items
-    q.text.items (g.W.Sink.contents c.loop-turn.writer) → FinishFault reports q.limits start e old read r.reporter new
+    q.text.items (g.W.Sink.contents c.loop-turn.writer)
+    → FinishFault reports begins q.limits start e old read r.reporter new
     × (g.W.Sink.failed c.finish.new.writer ≡ g.W.Sink.failed c.loop-turn.writer + writes_failed e))
     → IfErr answer (λ e. (read : List ℕ)
     × Consumes (g.R.Source.remaining c.args.reader.now) (g.R.Source.remaining c.read.new.self) read
-    × Leaves (Reported reports p.limits.line_bytes p.reporter) p.limits e old read at_end r.reporter new
+    × Leaves (Reported reports p.limits.line_bytes p.reporter)
+    (ReportedPart reports begins p.limits.line_bytes p.reporter) p.limits e old read at_end r.reporter new
     × (g.R.Source.failed c.read.new.self ≡ g.R.Source.failed c.args.reader.now + reads_failed e)
     × (g.W.Sink.failed c.finish.new.writer ≡ g.W.Sink.failed c.args.writer.now + writes_failed e))) [
       | Ok _ ↦ λ left. tt
       | Err e ↦ λ left. (
           let fault = left p.reporter old s.0 (rw i.limits s.2) in
-          let same : FinishFault reports p.limits p.reporter e old s.0 r.reporter new = rw (← i.limits) fault.0 in (
+          let same : FinishFault reports begins p.limits p.reporter e old s.0 r.reporter new =
+          rw (← i.limits) fault.0 in (
             s.0,
             ends.0,
-            finish_to_run reports p.limits p.reporter e old s.0 at_end r.reporter new ends.1 same,
+            finish_to_run reports begins p.limits p.reporter e old s.0 at_end r.reporter new ends.1 same,
             c.in-Ok.ensures.count ∙ add-zero (g.R.Source.failed c.loop-turn.reader) ∙ i.reads
                 ∙ sym (add-zero (g.R.Source.failed c.args.reader.now))
                 ∙ ap (λ n. g.R.Source.failed c.args.reader.now + n)
-                (sym (finishing_reads reports p.limits p.reporter e old s.0 r.reporter new same)),
+                (sym (finishing_reads reports begins p.limits p.reporter e old s.0 r.reporter new same)),
             fault.1 ∙ ap (λ n. n + writes_failed e) i.writes,
           ))
     ] c.finish.ensures.fault
@@ -163,6 +167,7 @@ returns-in-Err-pass-clause-fault g c =
     let p = c.args.progress.now in
     let r = c.pass.new.self in
     let reports = g.T.Reporter.reports in
+    let begins = g.T.Reporter.begins in
     let old = g.W.Sink.contents c.args.writer.now in
     let new = g.W.Sink.contents c.pass.new.writer in
     let e = c.in-Err-pass.fault in
@@ -170,14 +175,14 @@ returns-in-Err-pass-clause-fault g c =
     let more = take c.in-Ok.count c.read.new.into in
     let all = s.0 ++ more in
     let fault = c.in-Err-pass.ensures.fault p.reporter old s.0 (rw i.limits s.2) in
-    let same : PassFault reports p.limits p.reporter e old all r.reporter new = rw (← i.limits) fault.0 in (
+    let same : PassFault reports begins p.limits p.reporter e old all r.reporter new = rw (← i.limits) fault.0 in (
       all,
       Consumes-trans _ (g.R.Source.remaining c.loop-turn.reader) _ s.0 more s.1 c.in-Ok.ensures.bytes.0,
-      pass_to_run reports p.limits p.reporter e old all at_end r.reporter new same,
+      pass_to_run reports begins p.limits p.reporter e old all at_end r.reporter new same,
       c.in-Ok.ensures.count ∙ add-zero (g.R.Source.failed c.loop-turn.reader) ∙ i.reads
           ∙ sym (add-zero (g.R.Source.failed c.args.reader.now))
           ∙ ap (λ n. g.R.Source.failed c.args.reader.now + n)
-          (sym (passing_reads reports p.limits p.reporter e old all r.reporter new same)),
+          (sym (passing_reads reports begins p.limits p.reporter e old all r.reporter new same)),
       fault.1 ∙ ap (λ n. n + writes_failed e) i.writes,
     )
 

@@ -4,11 +4,13 @@ use Rattle.std.proofs.KnownBytes.{Consumes-nil}
 use Rattle.std.specs.Io.KnownBytes.{IsAtEnd}
 use Rattle.uv_lines.specs.declared.limits.LineLimits.{LineLimits}
 use Rattle.uv_lines.specs.Framed.{Framed, LeavesPart}
+use Rattle.uv_lines.specs.Reported.{Reported, ReportedPart}
 use Rattle.uv_lines.specs.Run as run
 use Rattle.uv_links.specs.Report.{ListSetting, count_line}
 use Rattle.uv_links.specs.Reporting.{Says}
 use Rattle.uv_links.specs.Run.{Leaves, Reports}
-use Rattle.uv_links.proofs.ReportedLemmas.{Lines, Whole, base-left, fresh, run-failed, run-left, run-reports}
+use Rattle.uv_links.proofs.ReportedLemmas.{Lines, Parts, Whole, base-left, begins_none, fresh, run-failed, run-left}
+use Rattle.uv_links.proofs.ReportedLemmas.{run-reports}
 use Rattle.uv_links.proofs.run.run_links.Goals as goal
 
 pub new-requires : goal.new-requires
@@ -68,15 +70,16 @@ returns-in-Ok-answer-clause-report g c =
     let at_end = IsAtEnd (g.R.Source.remaining c.run_lines-reporter.new.reader) in
     let begin = c.none.result.begin.now in
     let end = c.none.result.end.now in
+    let start = c.new-reporter.result in
     let r = rw c.in-Ok-answer.is at c.run_lines-reporter.ensures.report in
     let all : run.WroteAll (Whole setting) limits old r.0 q new =
-    subst (λ p. run.WroteAll (Framed Says setting.line_bytes [] (λ s. count_line s.counts ++ []) p) limits old r.0 q
-    new) starts
-    (subst (λ e. run.WroteAll (Framed Says setting.line_bytes [] (λ s. count_line s.counts ++ e) c.new-reporter.result)
+    subst (λ p. run.WroteAll (Framed (Reported Says setting.line_bytes p) [] (λ s. count_line s.counts ++ [])) limits
+    old r.0 q new) starts
+    (subst (λ e. run.WroteAll (Framed (Reported Says setting.line_bytes start) [] (λ s. count_line s.counts ++ e))
     limits old r.0 q new) c.none.ensures.end
-    (subst (λ b. run.WroteAll (Framed Says setting.line_bytes b (λ s. count_line s.counts ++ end)
-    c.new-reporter.result) limits old r.0 q new) c.none.ensures.begin
-    (subst (λ l. run.WroteAll (Framed Says l.line_bytes begin (λ s. count_line s.counts ++ end) c.new-reporter.result)
+    (subst (λ b. run.WroteAll (Framed (Reported Says setting.line_bytes start) b (λ s. count_line s.counts ++ end))
+    limits old r.0 q new) c.none.ensures.begin
+    (subst (λ l. run.WroteAll (Framed (Reported Says l.line_bytes start) begin (λ s. count_line s.counts ++ end))
     l old r.0 q new) same_limits r.3))) in (
       r.0,
       r.1,
@@ -112,19 +115,25 @@ returns-clause-fault g c =
     let at_end = IsAtEnd (g.R.Source.remaining c.run_lines-reporter.new.reader) in
     let begin = c.none.result.begin.now in
     let end = c.none.result.end.now in
+    let start = c.new-reporter.result in
     let e = c.in-Err-answer.fault in
     let r = rw c.in-Err-answer.is at c.run_lines-reporter.ensures.fault in
-    let left : LeavesPart (Lines setting) (Whole setting) limits e old r.0 at_end q new =
-    subst (λ p. LeavesPart (Framed Says setting.line_bytes [] (λ _. []) p)
-    (Framed Says setting.line_bytes [] (λ s. count_line s.counts ++ []) p) limits e old r.0 at_end q new) starts
-    (subst (λ t. LeavesPart (Framed Says setting.line_bytes [] (λ _. t) c.new-reporter.result)
-    (Framed Says setting.line_bytes [] (λ s. count_line s.counts ++ t) c.new-reporter.result) limits e old r.0 at_end q
+    let left : LeavesPart (Lines setting) (Parts setting) (Whole setting) limits e old r.0 at_end q new =
+    subst (λ p. LeavesPart (Framed (Reported Says setting.line_bytes p) [] (λ _. []))
+    (Framed (ReportedPart Says begins_none setting.line_bytes p) [] (λ _. []))
+    (Framed (Reported Says setting.line_bytes p) [] (λ s. count_line s.counts ++ [])) limits e old r.0 at_end q new)
+    starts
+    (subst (λ t. LeavesPart (Framed (Reported Says setting.line_bytes start) [] (λ _. t))
+    (Framed (ReportedPart Says begins_none setting.line_bytes start) [] (λ _. t))
+    (Framed (Reported Says setting.line_bytes start) [] (λ s. count_line s.counts ++ t)) limits e old r.0 at_end q
     new) c.none.ensures.end
-    (subst (λ b. LeavesPart (Framed Says setting.line_bytes b (λ _. end) c.new-reporter.result)
-    (Framed Says setting.line_bytes b (λ s. count_line s.counts ++ end) c.new-reporter.result) limits e old r.0 at_end q
+    (subst (λ b. LeavesPart (Framed (Reported Says setting.line_bytes start) b (λ _. end))
+    (Framed (ReportedPart Says begins_none setting.line_bytes start) b (λ _. end))
+    (Framed (Reported Says setting.line_bytes start) b (λ s. count_line s.counts ++ end)) limits e old r.0 at_end q
     new) c.none.ensures.begin
-    (subst (λ l. LeavesPart (Framed Says l.line_bytes begin (λ _. end) c.new-reporter.result)
-    (Framed Says l.line_bytes begin (λ s. count_line s.counts ++ end) c.new-reporter.result) l e old r.0 at_end q new)
+    (subst (λ l. LeavesPart (Framed (Reported Says l.line_bytes start) begin (λ _. end))
+    (Framed (ReportedPart Says begins_none l.line_bytes start) begin (λ _. end))
+    (Framed (Reported Says l.line_bytes start) begin (λ s. count_line s.counts ++ end)) l e old r.0 at_end q new)
     same_limits r.2))) in (
       r.0,
       r.1,

@@ -4,12 +4,13 @@ use Rattle.std.proofs.KnownBytes.{Consumes-nil, Keeps-refl}
 use Rattle.std.specs.Io.KnownBytes.{Consumes, IsAtEnd}
 use Rattle.uv_lines.specs.Framed as framed
 use Rattle.uv_lines.specs.Framed.{Framed, LeavesPart}
+use Rattle.uv_lines.specs.Reported.{Reported, ReportedPart}
 use Rattle.uv_lines.specs.Run as run
 use Rattle.uv_lines.proofs.FramedLemmas.{LeavesPart-map, Wrote-map}
 use Rattle.uv_lint.specs.LineViolations.{file_setting}
-use Rattle.uv_lint.specs.Reporting.{Says}
-use Rattle.uv_lint.specs.Run.{FailsReads, IsReportWithin, Leaves, Reports, writes_failed}
-use Rattle.uv_lint.proofs.RunLemmas.{answers_err, answers_ok, failed, is_report, left}
+use Rattle.uv_lint.specs.Reporting.{Begins, Says}
+use Rattle.uv_lint.specs.Run.{FailsReads, IsPartWithin, IsReportWithin, Leaves, Reports, writes_failed}
+use Rattle.uv_lint.proofs.RunLemmas.{answers_err, answers_ok, failed, is_part, is_report, left}
 use Rattle.uv_lint.proofs.run.run_within.Goals as goal
 
 pub run_lines-reporter-requires-clause-reads : goal.run_lines-reporter-requires-clause-reads
@@ -74,7 +75,7 @@ returns-clause-report g c =
     let end = c.as_bytes-2.result.now in
     let start = c.new-reporter.result in
     let q = c.run_lines-reporter.result.0 in
-    let P = Framed Says n begin (λ _. end) start in
+    let P = Framed (Reported Says n start) begin (λ _. end) in
     let Q = IsReportWithin setting limits is_first in
     rw (c.counts-2.ensures, c.answer_of_run.ensures) (answers_ok c.run_lines-reporter.result.1
     ((read : List ℕ) × Consumes bytes rest read × IsAtEnd rest × run.WroteAll P limits old read q new)
@@ -107,21 +108,28 @@ returns-clause-fault g c =
     let end = c.as_bytes-2.result.now in
     let start = c.new-reporter.result in
     let q = c.run_lines-reporter.result.0 in
-    let P = Framed Says n begin (λ _. end) start in
+    let P = Framed (Reported Says n start) begin (λ _. end) in
+    let P' = Framed (ReportedPart Says Begins n start) begin (λ _. end) in
     let Q = IsReportWithin setting limits is_first in
+    let Q' = IsPartWithin setting limits is_first in
+    let part : (lines : List (List ℕ)) (text : List ℕ) → P' lines text q → Q' lines text q.counts =
+    λ lines text. is_part setting limits is_first begin end start q lines text
+    c.new-reporter.ensures (c.as_bytes.ensures.value ∙ c.in-Ok.ensures)
+    (c.as_bytes-2.ensures.value ∙ c.in-Ok-list_end.ensures) in
     let is : (lines : List (List ℕ)) (text : List ℕ) → P lines text q → Q lines text q.counts =
     λ lines text. is_report setting n is_first begin end start q lines text
     c.new-reporter.ensures (c.as_bytes.ensures.value ∙ c.in-Ok.ensures)
     (c.as_bytes-2.ensures.value ∙ c.in-Ok-list_end.ensures) in
     rw (c.counts-2.ensures, c.answer_of_run.ensures) (answers_err c.run_lines-reporter.result.1
-    (λ e. (read : List ℕ) × Consumes bytes rest read × LeavesPart P P limits e old read (IsAtEnd rest) q new)
+    (λ e. (read : List ℕ) × Consumes bytes rest read × LeavesPart P P' P limits e old read (IsAtEnd rest) q new)
     (λ e. (read : List ℕ) × Consumes bytes rest read
     × Leaves e setting limits is_first old read (IsAtEnd rest) q.counts new)
     (λ e all. (
       all.0,
       all.1,
       left e setting limits is_first old all.0 (IsAtEnd rest) q.counts new
-          (LeavesPart-map P P Q limits e old new all.0 (IsAtEnd rest) q q.counts is is all.2),
+          (LeavesPart-map P P' P Q Q' limits e old new all.0 (IsAtEnd rest) q q.counts is part
+          (λ lines text whole. inl (is lines text whole)) all.2),
     ))
     c.run_lines-reporter.ensures.fault)
 

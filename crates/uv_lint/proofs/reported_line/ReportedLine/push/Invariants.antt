@@ -1,17 +1,20 @@
--- The diagnostics so far stand, and those that are left make the rest. The columns are those of the text's places.
-use Rattle.std.proofs.Common.{◌≡◌, ◌++◌, drop, option_map, string_bytes}
-use Rattle.uv_lint.specs.Report.{diagnostics_text, mended_on}
+-- The diagnostics so far were said: a beginning of them was written, and the rest waits. The columns are those of the
+-- text's places.
+use Rattle.std.proofs.Common.{◌≡◌, ◌++◌, ℕ, List, option_map, take}
+use Rattle.uv_lines.specs.Waiting.{Passes}
+use Rattle.uv_lint.specs.Report.{mended_on}
 use Rattle.uv_lint.specs.ReportedView.{lent_if_mended, mended_line_view, reported_view}
+use Rattle.uv_lint.proofs.DiagnosticLemmas.{IsSaidBefore}
 use Rattle.uv_lint.proofs.reported_line.ReportedLine.push.Given as goal
 
 abbrev pub invariant-loop-violation : goal.invariant-loop-violation
-invariant-loop-violation l = record {
-  text : string_bytes l.reported
-      ++ diagnostics_text l.setting.form l.setting.format l.setting.columns (reported_view l.self) l.is_first
-      (lent_if_mended l.told) (drop l.violation-index l.violations)
-      ≡ string_bytes l.initial.reported
-      ++ diagnostics_text l.setting.form l.setting.format l.setting.columns (reported_view l.self) l.is_first-2
-      (mended_on l.setting.columns (reported_view l.self) (option_map mended_line_view l.mended)) l.violations;
+invariant-loop-violation g l = record {
+  said : (said : List ℕ) × Passes (l.initial.text.items ++ said) (g.W.Sink.contents l.initial.writer)
+      (g.W.Sink.contents l.writer) l.text.items
+      × IsSaidBefore l.setting.form l.setting.format l.setting.columns (reported_view l.self) l.is_first-2
+      (mended_on l.setting.columns (reported_view l.self) (option_map mended_line_view l.mended))
+      (take l.violation-index l.violations) said l.is_first (lent_if_mended l.told);
+  quiet : g.W.Sink.failed l.writer ≡ g.W.Sink.failed l.initial.writer;
   counter : l.counter ≡ record {
     columns = l.setting.columns;
     start = l.self.start;

@@ -1,19 +1,31 @@
--- What is asked for is what the first diagnostic says, and the diagnostics on the text are appended.
-use Rattle.std.proofs.Common.{◌++◌, ◌∙◌, ap, option_map, subst}
+-- What is asked for is what the first diagnostic says, and the diagnostics on the text come to what waits.
+use Rattle.std.proofs.Common.{option_map, subst, refl, inl, inr}
 use Rattle.uv_lint.specs.ReportedView.{mended_line_view, shown_at}
-use Rattle.uv_lint.specs.Reporting.{HasReported}
-use Rattle.uv_lint.proofs.ReporterLemmas.{appended_to_none, on_appended}
+use Rattle.uv_lint.specs.Reporting.{HasBegun, HasReported}
+use Rattle.uv_lint.proofs.ReporterLemmas.{left_none, on_ok, parts_left}
 use Rattle.uv_lint.proofs.reporter.LintReporter.report_text.Goals as goal
 
+pub returns-in_default-clause-fault : goal.returns-in_default-clause-fault
+returns-in_default-clause-fault g c =
+    left_none (HasBegun c.args.self.now (shown_at c.args.place c.args.shown.now) c.args.violations.now)
+    c.args.text.now.items c.args.text.now.items (g.W.Sink.contents c.args.writer.now) (inl refl) refl
+
 pub returns-clause-text : goal.returns-clause-text
-returns-clause-text c =
-    let old = c.args.text.now.items in
-    let new = c.extend_from_slice.new.self.items in
+returns-clause-text g c =
     let reported = shown_at c.args.place c.args.shown.now in
-    on_appended c.extend_from_slice.result old c.as_bytes.result.now new _ c.extend_from_slice.ensures.items
-    (λ added. subst (λ p. HasReported p reported c.args.violations.now old new) c.self.view_is (
-      option_map mended_line_view c.in_ok-mended.mended,
-      c.in_ok-mended.ensures,
-      added ∙ ap (λ t. old ++ t) (c.as_bytes.ensures.value
-          ∙ appended_to_none _ _ _ c.clear.ensures.bytes c.in_ok-push.ensures),
-    ))
+    let old = g.W.Sink.contents c.args.writer.now in
+    let new = g.W.Sink.contents c.push.new.writer in
+    on_ok c.push.result _ _
+    (λ passes. subst (λ p. HasReported p reported c.args.violations.now c.args.text.now.items old new
+    c.push.new.text.items) c.self.view_is (option_map mended_line_view c.in-Ok.mended, c.in-Ok.ensures, passes))
+    c.push.ensures.text
+
+pub returns-clause-fault : goal.returns-clause-fault
+returns-clause-fault g c =
+    let reported = shown_at c.args.place c.args.shown.now in
+    let old = g.W.Sink.contents c.args.writer.now in
+    let new = g.W.Sink.contents c.push.new.writer in
+    parts_left c.push.result _ (HasBegun c.args.self.now reported c.args.violations.now) c.args.text.now.items old
+    c.push.new.text.items new
+    (λ parts first. subst (λ p. HasBegun p reported c.args.violations.now parts) c.self.view_is
+    (inr (option_map mended_line_view c.in-Ok.mended, c.in-Ok.ensures, (first.0, first.1)))) c.push.ensures.fault

@@ -1,26 +1,26 @@
--- What is said of a line where something is found with it, and where nothing is.
-use Rattle.std.proofs.Common.{◌≡◌, ◌∙◌, ◌++◌, [], option_copied, refl, sym, ap}
-use Rattle.std.specs.Prelude.{◌==◌}
-use Rattle.uv_lint.proofs.ReporterLemmas.{adds_line, none_found, none_reported}
+-- What is said of a line, and what a fault leaves of it.
+use Rattle.std.proofs.Common.{option_copied, refl, sym, ap, inl}
+use Rattle.uv_lines.specs.Waiting.{AreFirstParts}
+use Rattle.uv_lint.specs.Reporting.{Begins}
+use Rattle.uv_lint.proofs.ReporterLemmas.{adds_line, leaves_line, left_none}
 use Rattle.uv_lint.proofs.reporter.LintReporterReporter.report.Goals as goal
-use Rattle.uv_lint.proofs.reporter.LintReporterReporter.report.Goals.{then-not-is_empty+in_ok-report_line, else-not-is_empty}
 
-pub returns-clause-added : goal.returns-clause-added
-returns-clause-added c =
+pub returns-in-Ok-report_line-clause-added : goal.returns-in-Ok-report_line-clause-added
+returns-in-Ok-report_line-clause-added g c =
     let before = c.args.self.now in
     let lines = sym (ap (λ r. r.lines) c.self.view_is) in
-    let judged = option_copied c.judged_line-line.result in
-    elim c.if-not-is_empty.branch [
-      | then-not-is_empty+in_ok-report_line w ↦
-          adds_line before c.if-not-is_empty.self c.count.new.self _ _ judged _ _ _ _ _ _ lines
-          c.judged_line-line.ensures c.in_ok-violations.ensures w.as_slice.ensures.value (ap (λ t. t.items) w.text-is)
-          w.in_ok-report_line.ensures.text (w.self-is ∙ w.in_ok-report_line.ensures.same) c.as_slice-2.ensures.value
-          c.count.ensures
-      | else-not-is_empty w ↦
-          adds_line before c.if-not-is_empty.self c.count.new.self _ _ judged _ _ _ _ _ _ lines
-          c.judged_line-line.ensures c.in_ok-violations.ensures
-          (none_found c.in_ok-violations.violations.items (ap (λ n. n == 0) (sym c.in_ok-violations.violations.ok.0)
-          ∙ sym c.is_empty.ensures ∙ w.if-not-is_empty.false))
-          (ap (λ t. t.items) w.text-is) (none_reported before judged c.args.text.now.items) w.self-is
-          c.as_slice-2.ensures.value c.count.ensures
-    ]
+    adds_line before c.report_line.new.self c.count.new.self _ _ (option_copied c.judged_line-line.result) _ _ _ _ _ _ _
+    lines c.judged_line-line.ensures c.in-Ok.ensures c.as_slice.ensures.value c.in-Ok-report_line.ensures.text
+    c.in-Ok-report_line.ensures.same c.as_slice-in-Ok-report_line.ensures.value c.count.ensures
+
+pub returns-clause-fault : goal.returns-clause-fault
+returns-clause-fault g c =
+    let before = c.args.self.now in
+    let lines = sym (ap (λ r. r.lines) c.self.view_is) in
+    leaves_line c.in-Err.fault before _ _ (option_copied c.judged_line-line.result) _ _ _ _ _ _ lines
+    c.judged_line-line.ensures c.in-Ok.ensures c.as_slice.ensures.value c.in-Err.ensures.fault
+
+pub returns-in_default-clause-fault : goal.returns-in_default-clause-fault
+returns-in_default-clause-fault g c =
+    left_none (AreFirstParts Begins c.args.self.now (option_copied c.args.line)) c.args.text.now.items
+    c.args.text.now.items (g.W.Sink.contents c.args.writer.now) (inl refl) refl

@@ -1,0 +1,53 @@
+//! What is said of lines and waits to be written.
+ghost use Rattle.std.specs.Prelude.{◌≡◌, ℕ, ◌+◌, ◌-◌, ◌^◌, ◌<◌, [], OnOk, OnErr, length, take};
+ghost use Rattle.std.specs.Io.KnownBytes.{Appends};
+ghost use Rattle.uv_lines.specs.Waiting.{Passes};
+
+use uv_model::{DeviceFault, Sink, write_whole};
+
+// How many bytes may wait to be written where a part has ended, less than so many.
+const MUCH_BYTES: usize = 262_144;
+
+/// Ends a part of what is said of a line, or of a list: writes what waits to be written, where that has 262,144 bytes
+/// or more.
+///
+/// A reporter may end a part between any two bytes of what it says of a line. After a fault a prefix of what waited was
+/// written.
+#[tactic(auto, using(crate::proofs::WaitingLemmas::passes_none, crate::proofs::WaitingLemmas::passes_all))]
+pub fn end_part<W: Sink>(text: &mut Vec<u8>, writer: &mut W) -> Result<(), DeviceFault>
+    requires { W.failed writer.old < 2 ^ 64 - 1 }
+    ensures passes { OnOk result (Passes text.old.items (W.contents writer.old) (W.contents writer.new)
+        text.new.items) }
+    ensures much { OnOk result (length text.new.items < 262144) }
+    ensures quiet { OnOk result (W.failed writer.new ≡ W.failed writer.old) }
+    ensures prefix { OnErr result ((n : ℕ)
+        × Appends (W.contents writer.old) (W.contents writer.new) (take n text.old.items)) }
+    ensures failed { OnErr result (W.failed writer.new ≡ W.failed writer.old + 1) }
+{
+    if text.len() < MUCH_BYTES {
+        return Ok(());
+    }
+    match write_out(text, writer) {
+        Ok(()) => Ok(()),
+        Err(DeviceFault) => Err(DeviceFault),
+    }
+}
+
+/// Writes what waits to be written.
+pub(crate) fn write_out<W: Sink>(text: &mut Vec<u8>, writer: &mut W) -> Result<(), DeviceFault>
+    requires { W.failed writer.old < 2 ^ 64 - 1 }
+    ensures whole { OnOk result (Appends (W.contents writer.old) (W.contents writer.new) text.old.items) }
+    ensures none { OnOk result (text.new.items ≡ []) }
+    ensures quiet { OnOk result (W.failed writer.new ≡ W.failed writer.old) }
+    ensures prefix { OnErr result ((n : ℕ)
+        × Appends (W.contents writer.old) (W.contents writer.new) (take n text.old.items)) }
+    ensures failed { OnErr result (W.failed writer.new ≡ W.failed writer.old + 1) }
+{
+    match write_whole(writer, text.as_slice()) {
+        Ok(()) => {
+            text.clear();
+            Ok(())
+        }
+        Err(DeviceFault) => Err(DeviceFault),
+    }
+}
