@@ -1,8 +1,13 @@
--- The code point at a place of a line.
-use Rattle.std.proofs.Common.{◌≡◌, ℕ, List, refl, inl, inr, length, nat_lt, slice_get, lt-ltb, le-ltb}
+-- The code point at a place of a line, and what stands from there on.
+use Rattle.std.proofs.Common.{◌≡◌, ◌∙◌, ℕ, zero, suc, List, [], ◌∷◌, ◌++◌, refl, sym, ap, inl, inr, length, nat_lt}
+use Rattle.std.proofs.Common.{drop, take, slice_get, lt-ltb, le-ltb}
+use Rattle.std.specs.Str.{IsAscii, chars}
 use Rattle.std.specs.Option.{is_some}
+use Rattle.std.proofs.Math.Seq.{drop-append_seam}
 use Rattle.std.proofs.lemmas.Bool.{cases_lt}
+use Rattle.std.proofs.lemmas.List.{take-append-drop}
 use Rattle.std.proofs.lemmas.Option.{slice_get-get_or, slice_get_past}
+use Rattle.std.proofs.lemmas.Str.{IsUtf8-from_ascii, chars-IsAscii, chars-append}
 
 -- there is one where the line is longer
 pub is_some-slice_get : (points : List ℕ) (place : ℕ)
@@ -12,3 +17,22 @@ is_some-slice_get points place =
       | inl small ↦ rw (slice_get-get_or points place 0 small, lt-ltb place (length points) small) refl
       | inr high ↦ rw (slice_get_past points place high, le-ltb place (length points) high) refl
     ]
+
+-- the first code point from a place on is the one at that place
+pub slice_get_first : (points : List ℕ) (place : ℕ) → slice_get (drop place points) 0 ≡ slice_get points place
+slice_get_first [] zero = refl
+slice_get_first [] (suc n) = refl
+slice_get_first (c ∷ points) zero = refl
+slice_get_first (c ∷ points) (suc n) = slice_get_first points n
+
+-- behind ASCII bytes stand the code points behind as many code points
+pub chars_behind_ascii : (line : List ℕ) (place : ℕ) → length (take place line) ≡ place → IsAscii (take place line)
+    → chars (drop place line) ≡ drop place (chars line)
+chars_behind_ascii line place long ascii =
+    let front = take place line in
+    let rest = drop place line in
+    let cut : chars line ≡ front ++ chars rest =
+    ap chars (sym (take-append-drop place line)) ∙ chars-append front rest (IsUtf8-from_ascii front ascii)
+    ∙ ap (λ t. t ++ chars rest) (chars-IsAscii front ascii) in
+    sym (ap (drop place) cut ∙ ap (λ n. drop n (front ++ chars rest)) (sym long)
+    ∙ drop-append_seam front (chars rest))

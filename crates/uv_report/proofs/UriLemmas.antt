@@ -1,14 +1,14 @@
 -- The set of bytes that the code hands to the library is that of the bytes that a path can't hold as they are.
-use Rattle.std.proofs.Common.{◌≡◌, ℕ, ◌<◌, ◌≤◌, Bool, true, false, not, ◌==◌, ◌||◌, List, [], ◌∷◌, ◌++◌, flat_map}
-use Rattle.std.proofs.Common.{refl, sym, ap, ◌∙◌, inl, inr, arith, rules, lt-ltb, le-ltb, ne_eqb}
+use Rattle.std.proofs.Common.{◌≡◌, ℕ, ◌<◌, ◌≤◌, Bool, true, false, not, List, [], ◌∷◌, ◌++◌}
+use Rattle.std.proofs.Common.{refl, ap, inl, inr, arith, lt-ltb, le-ltb, ne_eqb}
 use Rattle.std.specs.Prelude.{if◌then◌else◌, ◌≢◌, Option, Some, None, MatchOption, option_map}
 use Rattle.std.specs.Borrow.{Bor}
-use Rattle.std.proofs.lemmas.Bool.{agree_below_at, cases_lt, cases_Bool, cases_eq}
+use Rattle.std.proofs.lemmas.Bool.{agree_below_at, cases_lt, cases_eq}
 use Rattle.std.proofs.lemmas.Bool.Decides.{nat_tests}
 use Rattle.percent_encoding.specs.AsciiSet.{contains, should_percent_encode}
 use Rattle.percent_encoding.specs.Percent.{percent_encode_byte, encode_byte, percent_encode}
 use Rattle.uv_report.specs.declared.uri.TheConstants.{ESCAPED}
-use Rattle.uv_report.specs.Uri.{behind_slash, is_unreserved, stays, uri_byte, uri_part}
+use Rattle.uv_report.specs.Uri.{behind_slash, stays, uri_byte, uri_part}
 
 -- below 128 the set holds just the bytes that don't stay
 escaped-ascii : (b : ℕ) → b < 128 → contains ESCAPED b ≡ not (stays b)

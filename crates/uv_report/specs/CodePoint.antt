@@ -1,5 +1,5 @@
 -- How a code point is named: by `U+` and its number, and by its name, where it is an ASCII code point.
-use Rattle.std.specs.Prelude.{ℕ, ◌-◌, ◌^◌, Bool, true, false, List, [], ◌∷◌, ◌++◌, codes, encode_utf8, if◌then◌else◌}
+use Rattle.std.specs.Prelude.{ℕ, ◌-◌, ◌^◌, true, false, List, [], ◌∷◌, ◌++◌, codes, encode_utf8, if◌then◌else◌}
 use Rattle.std.specs.Prelude.{Option, Some, None, slice_get}
 use Rattle.std.specs.Fmt.{digits, format_spec, padded_integral}
 use Rattle.uv_report.specs.Escapes.{is_hidden}

@@ -7,7 +7,7 @@ ghost use Rattle.uv_report.specs.Message as spec;
 use crate::code_point::point_text;
 use crate::escapes::{Escapes, push_escaped};
 use crate::line_violation::LineViolation;
-use crate::window::point_at;
+use crate::window::{point_at, rest_at};
 use std::alloc::{AllocError, Global};
 use uv_model::{Refusal, Rule};
 
@@ -111,7 +111,7 @@ fn has_credentials(line: &str, place: usize) -> bool
 fn part_end(line: &str, place: usize) -> Option<char>
     ensures { result ≡ spec.part_end line.now place }
 {
-    line.chars().skip(place).find(|c| ends_part(*c))
+    rest_at(line, place).chars().find(|c| ends_part(*c))
 }
 
 // Whether a code point ends credentials or an authority.

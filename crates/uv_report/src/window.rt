@@ -1,9 +1,10 @@
 //! What is shown of a line: all of it, or of a long one a window around a place.
-ghost use Rattle.std.specs.Prelude.{◌≡◌, ◌++◌, IfOk, OnOk, slice_get, string_bytes};
+ghost use Rattle.std.specs.Prelude.{◌≡◌, ◌++◌, IfOk, OnOk, drop, encode_utf8, flat_map, slice_get, string_bytes, take};
 ghost use Rattle.std.specs.Str.{chars};
 ghost use Rattle.uv_report.specs.Window as spec;
 
 use std::alloc::{AllocError, Global};
+use uv_model::{behind_code_points, first_code_point};
 
 /// What is shown of a line of which a place is reported: the line, where it has at most 200 code points, else a window
 /// of it, with `…` on each side that is cut.
@@ -61,25 +62,33 @@ fn is_longer(line: &str, most: usize) -> bool
 pub(crate) fn point_at(line: &str, place: usize) -> Option<char>
     ensures { result ≡ slice_get (chars line.now) place }
 {
-    line.chars().nth(place)
+    match first_code_point(rest_at(line, place)) {
+        Some((c, _)) => Some(c),
+        None => None,
+    }
 }
 
-// Whether a line has more code points than so many behind a start.
-fn has_more(line: &str, start: usize, most: usize) -> bool
-    ensures { result ≡ spec.has_more most line.now start }
+/// What stands from a place of a line on: nothing, where it has no such place.
+pub(crate) fn rest_at(line: &str, place: usize) -> &str
+    ensures { chars result.now ≡ drop place (chars line.now) }
 {
-    line.chars().skip(start).nth(most).is_some()
+    // A line with many violations is asked for each of their places, so ASCII isn't walked by code points.
+    match line.split_at_checked(place) {
+        Some((front, rest)) if front.is_ascii() => rest,
+        _ => behind_code_points(line, place),
+    }
 }
 
 // The window from a start on, with `…` on each side where more of the line stands.
-#[tactic(auto, unfolding(crate::specs::Window::cut_out))]
+#[tactic(auto, unfolding(crate::specs::Window::cut_out, crate::specs::Window::window_points))]
 fn cut_out(alloc: Global, line: &str, start: usize) -> Result<String, AllocError>
     ensures { IfOk result (λ shown. string_bytes shown ≡ spec.cut_out line.now start) }
 {
+    let rest = rest_at(line, start);
     let mut shown = String::new(alloc);
     shown.push_str(cut_mark(start > 0))?;
-    push_points(&mut shown, line, start)?;
-    shown.push_str(cut_mark(has_more(line, start, 198)))?;
+    push_points(&mut shown, rest)?;
+    shown.push_str(cut_mark(is_longer(rest, 198)))?;
     Ok(shown)
 }
 
@@ -90,11 +99,12 @@ fn cut_mark(is_cut: bool) -> &'static str
     if is_cut { "…" } else { "" }
 }
 
-// Pushes 198 code points of a line from a start on.
-fn push_points(text: &mut String, line: &str, start: usize) -> Result<(), AllocError>
-    ensures { OnOk result (string_bytes text.new ≡ string_bytes text.old ++ spec.window_points line.now start) }
+// Pushes the first 198 code points of a text.
+fn push_points(text: &mut String, from: &str) -> Result<(), AllocError>
+    ensures { OnOk result (string_bytes text.new
+        ≡ string_bytes text.old ++ flat_map encode_utf8 (take 198 (chars from.now))) }
 {
-    for c in line.chars().skip(start).take(198) {
+    for c in from.chars().take(198) {
         text.push(c)?;
     }
     Ok(())

@@ -1,12 +1,15 @@
--- The item at the place.
-use Rattle.std.proofs.Common.{sym, ◌∙◌}
-use Rattle.std.proofs.lemmas.Iterator.{YieldsList-from_chars}
-use Rattle.std.proofs.lemmas.Iterator.Adapters.{option_map_id}
-use Rattle.std.proofs.lemmas.Iterator.Consumers.{nth_from_yields_List}
+-- The first code point from the place on.
+use Rattle.std.proofs.Common.{◌∙◌, ap, sym, slice_get}
+use Rattle.std.specs.Str.{chars}
+use Rattle.uv_report.proofs.PlaceLemmas.{slice_get_first}
 use Rattle.uv_report.proofs.window.point_at.Goals as goal
 
-pub returns : goal.returns
-returns c =
-    sym (option_map_id c.nth.result)
-    ∙ nth_from_yields_List c.nth.result _ c.args.place c.nth.ensures.ran
-    (YieldsList-from_chars c.args.line.now c.utf8.line cc)
+pub returns-in-Some : goal.returns-in-Some
+returns-in-Some c =
+    ap (λ cs. slice_get cs 0) (sym c.in-Some.ensures ∙ c.rest_at.ensures)
+    ∙ slice_get_first (chars c.args.line.now) c.args.place
+
+pub returns-in-None : goal.returns-in-None
+returns-in-None c =
+    ap (λ cs. slice_get cs 0) (sym c.in-None.ensures ∙ c.rest_at.ensures)
+    ∙ slice_get_first (chars c.args.line.now) c.args.place
