@@ -2,9 +2,10 @@
 # Shows that the cost of a check, of all faults (`check --all`), of a mended text (`mend`) and of a line of a list
 # (`links`) grows with the text and no faster: instructions by callgrind for each shape, the reading of the same text
 # taken off. Ten times the length costs at most eleven times: a line at a hundredth, a tenth and the whole of the length
-# that it may have, all else at 10 thousand, 100 thousand and a million code points. It fails where a figure is missing
-# or below one instruction for 32 bytes, and where an answer isn't the wanted one. It needs valgrind.
-# Usage: bench/growth.sh [--only check|faults|mend|links] [COUNT..]
+# that it may have, all else at 10 thousand, 100 thousand and a million code points. So it is with the bytes that `lint
+# --all` writes of a line in which each code point is wrong, in each format. It fails where a figure is missing or below
+# one instruction for 32 bytes, and where an answer isn't the wanted one. It needs valgrind.
+# Usage: bench/growth.sh [--only check|faults|mend|links|written] [COUNT..]
 set -euo pipefail
 export LC_ALL=C.UTF-8
 top=$(dirname "$(dirname "$(realpath "$0")")")
@@ -199,10 +200,22 @@ of_links() {
     right="links 1 bad $bad"
 }
 
+# of_written SHAPE COUNT : how many bytes `lint --all` writes of the text as a line in the format, each fault once
+of_written() {
+    local wanted rule
+    wanted=$(wanted "$1" "$2")
+    rule=${wanted##* }
+    reading=0
+    "$urlcheck" lint --quiet --all --format "$format" - <"$room/text" >"$room/said" || true
+    whole=$(wc -c <"$room/said")
+    said="$(grep -cE "\\[$rule\\]\$|\"rule(Id)?\":\"$rule\"|title=$rule::|\"urlcheck\.$rule\"" "$room/said") faults"
+    right="${wanted%% *} faults"
+}
+
 # grows WHAT SHAPE COUNT.. : the figures of a shape at each length, which grow no faster than the text
 grows() {
     local what=$1 shape=$2 count before=0 cost whole reading said right
-    printf '%-6s %-20s' "$what" "$shape"
+    printf '%-6s %-20s' "$what${format:+ $format}" "$shape"
     for count in "${@:3}"; do
         shaped "$shape" "$count" >"$room/text"
         "of_$what" "$shape" "$count"
@@ -235,6 +248,7 @@ line_counts() {
     esac
 }
 
+format=''
 for what in check faults mend links; do
     if [ -n "$only" ] && [ "$only" != "$what" ]; then continue; fi
     for shape in "${shapes[@]}"; do
@@ -246,4 +260,9 @@ for what in check faults mend links; do
         esac
     done
 done
+if [ -z "$only" ] || [ "$only" = written ]; then
+    for format in gnu caret json github sarif checkstyle; do
+        for shape in bad_host path+% 'path+[' 'query+['; do grows written "$shape" $(line_counts "$shape"); done
+    done
+fi
 exit $failed
