@@ -7,6 +7,7 @@ mod faults;
 mod filter;
 mod lint;
 mod memory;
+mod mend;
 mod program;
 mod streams;
 

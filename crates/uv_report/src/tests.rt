@@ -2,7 +2,7 @@
 
 use crate::{
     ColumnCounter, Columns, Completion, Diagnostic, Format, LineViolation, Mended, end_of,
-    push_begin, push_diagnostic, push_file_begin, push_file_end,
+    push_begin, push_diagnostic, push_file_begin, push_file_end, push_shown,
 };
 use serde_json::Value;
 use std::alloc::{AllocError, Global};
@@ -577,4 +577,13 @@ fn stops_at_the_greatest_column(rt: HostRuntime) {
             assert_eq!(rt; counter.column(place), u64::MAX);
         }
     }
+}
+
+// A control, the end of a line and a turn of direction are shown as U+FFFD, and a tab as it is.
+#[test]
+fn shows_a_text_as_a_terminal_may(rt: HostRuntime) -> Result<(), Fail> {
+    let mut text = String::from_str(rt.alloc(), "<")?;
+    push_shown(&mut text, "a\tb\u{1B}[1m\n\u{202E}c\u{65E5}")?;
+    assert_eq!(rt; text.as_str(), "<a\tb\u{FFFD}[1m\u{FFFD}\u{FFFD}c\u{65E5}");
+    Ok(())
 }
