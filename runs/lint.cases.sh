@@ -326,11 +326,12 @@ ends_with 2 $? "urlcheck: links.txt: can't be read: it may not be read\\nurlchec
 printf '%b' "$other" | cmp -s - "$room/out" || fail "lint of a file that isn't permitted: it wrote $(cat "$room/out")"
 chmod 644 "$room/links.txt"
 
-# Each file is opened by the very name that was given: with spaces, a `%`, a `:`, `..`, of 255 bytes, beyond ASCII, and
-# also through a folder; beside each stands a file whose name is nearly the same.
+# Each file is opened by the very name that was given: with spaces, a `%`, a `:`, a `#`, `..`, of 255 bytes, beyond
+# ASCII, through a folder, and by a path of 4,004 bytes; beside each stands a file whose name is nearly the same.
 name_255=$(printf 'n%.0s' {1..255})
 mkdir "$room/folder"
-names=('two  words ' 'a%20b' '%' 'a:b' ' ' '~' '$HOME' 'a\b' "$name_255" $'\u00e9\u4e2d' 'folder/../dots' './here' 'folder//twice' '*')
+names=('two  words ' 'a%20b' '%' 'a:b' 'a#b' ' ' ' leads' '~' '$HOME' 'a\b' "$name_255" $'\u00e9\u4e2d' \
+    'folder/../dots' './here' 'folder//twice' "$(printf './%.0s' {1..2000})long" '*')
 for name in "${names[@]}"; do
     printf 'x\n' >"$room/$name"
     shown=${name//\\/\\\\}
@@ -343,7 +344,16 @@ expect 2 '' "urlcheck: right.txt/: can't be read: a part of its path is no folde
 expect 2 '' "urlcheck: folder/: can't be read: it is a folder\\n" lint -q folder/
 expect 2 '' "urlcheck: ${name_255}n: can't be read\\n" lint -q "${name_255}n"
 for name in "${names[@]}"; do rm -f -- "$room/$name"; done
-rmdir "$room/folder"
+printf 'x\n' >"$room/"$'ends\n'
+expect 1 'ends\0357\0277\0275:1:1: error: there is no scheme and no base [no-scheme]\n' '' lint -q $'ends\n'
+# The system follows `..`: from a folder that isn't there it leads nowhere, and from a link to where that leads.
+expect 2 '' "urlcheck: missing/../right.txt: can't be read: there is no such file\n" lint -q missing/../right.txt
+mkdir "$room/folder/below"
+ln -s folder/below "$room/link"
+printf 'x\n' >"$room/beside"
+printf 'urn:a\n' >"$room/folder/beside"
+expect 0 '' '' lint -q link/../beside
+rm -rf "$room/folder" "$room/link" "$room/beside" "$room/"$'ends\n'
 
 # A name that isn't UTF-8 is reported by its number, and the other files are judged.
 printf 'x\n' >"$room/"$'\xff'
@@ -487,4 +497,4 @@ ends_with 1 $? 'urlcheck: 1000000 lines, 10000 refused\n' 'lint of a million lin
 grep -qxF "$room/million:1000000:11: error: U+0020 SPACE may not stand in a URL [code-point]" "$room/out" ||
     fail "lint of a million lines: it ends with $(tail -n 1 "$room/out")"
 rm -f "$room/million" "$room"/hostile.* "$room"/none.*
-all_cases 170
+all_cases 176

@@ -58,6 +58,17 @@ expect 3 '' "urlcheck: vectors.json/x: can't be read: a part of its path is no f
     vectors vectors.json/x
 expect 3 '' "urlcheck: /proc/self/mem: can't be read\\nread\\n" vectors /proc/self/mem
 
+# The file is opened by the very name that was given, and the system follows `..`.
+for name in 'two  words ' ' leads' 'a%20b' 'a:b' 'a#b' 'a\b' Upper "$(printf 'n%.0s' {1..255})" $'\u00e9\u4e2d' $'ends\n' \
+    "$(printf './%.0s' {1..2000})long"; do
+    printf '[]' >"$room/$name"
+    expect 0 'vectors 0 pass 0 fail 0\n' '' vectors -- "$name"
+    rm -f -- "$room/$name"
+done
+expect 3 '' "urlcheck: vectors.json/: can't be read: a part of its path is no folder\\nread\\n" vectors vectors.json/
+expect 3 '' "urlcheck: missing/../vectors.json: can't be read: there is no such file\\nread\\n" \
+    vectors missing/../vectors.json
+
 # A file that may not be read. Root may read every file, so root runs the program as nobody.
 chmod 755 "$room"
 cp "$program" "$room/program"
@@ -79,4 +90,4 @@ count=$((count + 1))
 if ! sed -n '/r##"/,/^"##;$/p' "$suite" | sed '1s/.*r##"//; $d' | cmp -s - "$vectors/standard.json"; then
     fail 'the suite of the tests and vectors/standard.json differ'
 fi
-all_cases 31
+all_cases 44

@@ -46,7 +46,7 @@ unread_verdict profile bytes finding (inr (utf8, inl x)) =
     let is : finding.verdict ≡ 3 = ap (λ (f : Finding). f.verdict) x.said in
     (λ six. omega arith, λ valid. omega arith)
 unread_verdict profile bytes finding (inr (utf8, inr x)) =
-    let is : finding.verdict ≡ 5 = ap (λ (f : Finding). f.verdict) x in
+    let is : finding.verdict ≡ 5 = ap (λ (f : Finding). f.verdict) x.0 in
     (λ six. omega arith, λ valid. omega arith)
 
 -- ---- why nothing is judged

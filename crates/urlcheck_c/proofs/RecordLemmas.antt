@@ -14,4 +14,6 @@ pub written_is_answer : (profile : Profile) (given base : Option Url) (bytes old
     → IsRecordAnswer profile base bytes old new answer
 written_is_answer profile given base bytes old new url answer same denotes (inl prefix) =
     inl (url, subst (λ (b : Option Url). Denotes profile b (chars bytes) url) same denotes, prefix)
-written_is_answer profile given base bytes old new url answer same denotes (inr wanting) = inr (inr wanting)
+written_is_answer profile given base bytes old new url answer same denotes (inr wanting) =
+    let known = subst (λ (b : Option Url). Denotes profile b (chars bytes) url) same denotes in
+    inr (inr (wanting.0, wanting.1, λ free. free.1 known.0 known.1))

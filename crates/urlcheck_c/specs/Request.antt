@@ -4,7 +4,10 @@ use Rattle.std.specs.Borrow.{Bor}
 use Rattle.std.specs.Str.{chars}
 use Rattle.uv_model.specs.declared.profile.Profile.{Profile}
 use Rattle.uv_model.specs.declared.rule.Refusal.{Refusal}
+use Rattle.uv_model.specs.Parts.{Parts}
 use Rattle.uv_model.specs.Records.Url.{Url}
+use Rattle.uv_model.specs.Valid.{Valid}
+use Rattle.uv_grammar.specs.NoMemory.{TakesNoMemoryAgainst}
 use Rattle.uv_grammar.specs.Verdict.{IsRefused}
 use Rattle.uv_resolve.specs.Resolve.{Denotes}
 use Rattle.urlcheck_c.specs.declared.finding.Finding.{Finding}
@@ -31,16 +34,26 @@ pub record IsRefusedText (outcome : CallOutcome) (profile : Profile) (base : Opt
 abbrev pub IsMemory : Finding → Type 0
 IsMemory finding = finding ≡ plain_finding Memory
 
+-- the bytes are refused against the base, and are judged without memory
+abbrev pub IsRefusedWithoutMemory : Profile → Option Url → List ℕ → Type 0
+IsRefusedWithoutMemory profile base bytes =
+    TakesNoMemoryAgainst profile base (chars bytes) × ((parts : Parts) → ¬ (Valid profile base (chars bytes) parts))
+
+-- memory ran out, of bytes that aren't refused without it
+abbrev pub LacksMemory : Profile → Option Url → List ℕ → Finding → Type 0
+LacksMemory profile base bytes finding = IsMemory finding × ¬ (IsRefusedWithoutMemory profile base bytes)
+
 -- the bytes of a text, or why they are none
 abbrev pub IsTextRead : CallOutcome → List ℕ → Result (Bor (List ℕ)) Finding → Type 0
 IsTextRead outcome bytes (Ok text) = (text.now ≡ bytes) × IsUtf8 bytes
 IsTextRead outcome bytes (Err finding) = IsNoText outcome bytes finding
 
--- the bytes of a base are no UTF-8; else they are refused alone, or memory ran out
+-- the bytes of a base are no UTF-8; else they are refused alone, or memory ran out where it is asked for
 abbrev pub IsNoBase : Profile → List ℕ → Finding → Type 0
 IsNoBase profile bytes finding =
     IsNoText BaseNoUtf8 bytes finding
-    ⊎ (IsUtf8 bytes × (IsRefusedText BaseRefused profile None bytes finding ⊎ IsMemory finding))
+    ⊎ (IsUtf8 bytes
+    × (IsRefusedText BaseRefused profile None bytes finding ⊎ LacksMemory profile None bytes finding))
 
 -- what the bytes of a base denote alone, or why they denote nothing
 abbrev pub IsBaseRead : Profile → List ℕ → Result Url Finding → Type 0

@@ -9,7 +9,7 @@ use Rattle.urlcheck_c.specs.declared.finding.CallOutcome.TheVariants.{Valid, Ref
 use Rattle.urlcheck_c.specs.declared.records.Resolved.{Resolved}
 use Rattle.urlcheck_c.specs.Buffer.{IsWritten}
 use Rattle.urlcheck_c.specs.Finding.{plain_finding}
-use Rattle.urlcheck_c.specs.Request.{IsRefusedText, IsRequest, IsUnjudged}
+use Rattle.urlcheck_c.specs.Request.{IsRefusedText, IsRefusedWithoutMemory, IsRequest, IsUnjudged}
 
 -- out of memory
 abbrev pub no_memory : Resolved
@@ -31,11 +31,16 @@ pub record IsRefusedAnswer (profile : Profile) (base : Option Url) (bytes old ne
   pub length : answer.length ≡ 0
   pub same : new ≡ old
 
+-- memory ran out, of a text that isn't refused without it, and nothing was written
+abbrev pub IsOutOfMemory : Profile → Option Url → List ℕ → List ℕ → List ℕ → Resolved → Type 0
+IsOutOfMemory profile base bytes old new answer =
+    (answer ≡ no_memory) × (new ≡ old) × ¬ (IsRefusedWithoutMemory profile base bytes)
+
 -- the text denotes a URL whose text is written, or it is refused, or memory ran out
 abbrev pub IsRecordAnswer : Profile → Option Url → List ℕ → List ℕ → List ℕ → Resolved → Type 0
 IsRecordAnswer profile base bytes old new answer =
     ((url : Url) × Denotes profile base (chars bytes) url × IsInPrefix url old new answer)
-    ⊎ (IsRefusedAnswer profile base bytes old new answer ⊎ ((answer ≡ no_memory) × (new ≡ old)))
+    ⊎ (IsRefusedAnswer profile base bytes old new answer ⊎ IsOutOfMemory profile base bytes old new answer)
 
 -- the text isn't judged, and nothing was written; or it is judged against the base, if one is given
 abbrev pub IsResolvedAnswer : ℕ → Option (List ℕ) → List ℕ → List ℕ → List ℕ → Resolved → Type 0

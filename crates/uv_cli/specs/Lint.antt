@@ -1,9 +1,11 @@
 -- What a lint of files has read and written, and what it has come to.
-use Rattle.std.specs.Prelude.{◌≡◌, ℕ, ◌+◌, ◌-◌, ◌^◌, Bool, true, false, List, [], ◌∷◌, ◌⊎◌, Option, Some, None}
+use Rattle.std.specs.Prelude.{◌≡◌, ◌≢◌, ℕ, ◌+◌, ◌-◌, ◌^◌, Bool, true, false, List, [], ◌∷◌, ◌⊎◌, Option, Some, None}
 use Rattle.std.specs.Prelude.{Result, Ok, Err, codes, map, string_bytes, take}
 use Rattle.std.specs.Borrow.{Bor}
 use Rattle.std.specs.Io.KnownBytes.{Appends, Consumes, IsAtEnd}
 use Rattle.std.specs.Str.{bytes_eq}
+use Rattle.std.specs.declared.io.ErrorKind.{ErrorKind}
+use Rattle.std.specs.declared.io.ErrorKind.TheVariants.{OutOfMemory}
 use Rattle.uv_model.specs.Records.Url.{Url}
 use Rattle.uv_report.specs.declared.column.Columns.{Columns}
 use Rattle.uv_report.specs.declared.column.Columns.TheVariants.{CodePoints}
@@ -101,6 +103,12 @@ abbrev pub IsUnopened : Result (Unit {0}) LintFault → Type 0
 IsUnopened (Err Read) = Unit {0}
 IsUnopened (Err Memory) = Unit {0}
 IsUnopened _ = ⊥
+
+-- a file wasn't opened since memory ran out, or for another reason, by the kind of the library's error
+abbrev pub IsWhyUnopened : ErrorKind → LintFault → Type 0
+IsWhyUnopened kind Memory = kind ≡ OutOfMemory
+IsWhyUnopened kind Read = kind ≢ OutOfMemory
+IsWhyUnopened kind _ = ⊥
 
 -- the input isn't read where its count of failed reads stands at its end
 abbrev pub IsUnreadable : Result (Unit {0}) LintFault → Stream → Type 0

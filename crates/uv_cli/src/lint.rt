@@ -4,7 +4,8 @@ ghost use Rattle.std.specs.Str.{bytes_eq};
 ghost use Rattle.uv_lint.specs.LineViolations.{file_setting};
 ghost use Rattle.uv_report.specs.Report.{begin_text};
 ghost use Rattle.uv_cli.specs.Lint.{HasLinted, HasLintedAgainst, LintsAll, LintsNamed, LintsNext, LintsNothing};
-ghost use Rattle.uv_cli.specs.Lint.{LintsOpened, IsUnopened, WritesPiece, columns_of, form_of, format_of};
+ghost use Rattle.uv_cli.specs.Lint.{LintsOpened, IsUnopened, IsWhyUnopened, WritesPiece, columns_of, form_of};
+ghost use Rattle.uv_cli.specs.Lint.{format_of};
 ghost use Rattle.uv_cli.specs.Linted.{is_stopped, is_writable};
 
 use crate::arguments::said_of;
@@ -301,7 +302,8 @@ fn report_failed_read<R: Eprint + AllocGlobal>(
 
 // Why a file isn't opened. What isn't out of memory is reported.
 fn unopened<R: Eprint + AllocGlobal>(rt: &R, file: &str, kind: ErrorKind) -> LintFault
-    ensures { IsUnopened (Err result) }
+    ensures fault { IsUnopened (Err result) }
+    ensures why { IsWhyUnopened kind result }
 {
     if kind == ErrorKind::OutOfMemory {
         return LintFault::Memory;
