@@ -128,7 +128,10 @@ impl<'b> Reporter for LinkReporter<'b> {
 
     ghost last = { λ r. count_line r.counts };
 
-    fn last(&self, alloc: Global) -> Result<String, RoomFault> {
+    fn last(&self, alloc: Global) -> Result<String, RoomFault>
+        ensures text { IfOk result (λ text. string_bytes text ≡ count_line self.now.counts) }
+        ensures memory { IfErr result (λ fault. fault ≡ RoomFault.Memory) }
+    {
         Ok(count_text(alloc, self.counts)?)
     }
 }
