@@ -7,4 +7,4 @@ use Rattle.urlcheck_c.proofs.bases.urlcheck_prepare.Goals as goal
 pub returns-in-Err : goal.returns-in-Err
 returns-in-Err c =
     subst (λ (base : Base). IsPreparedBase c.args.profile c.args.base.now base) (sym c.refused.ensures)
-        (inl (c.in-Err.ensures, refl))
+    (inl (c.in-Err.ensures, refl))
