@@ -105,6 +105,7 @@ pub(crate) fn row_end(bytes: &[u8], place: usize, rows: &[u8; 16]) -> usize
 }
 
 // The same of a run that goes on: where 32 bytes are left, a load begins at its place.
+#[inline(always)]
 fn far_end(bytes: &[u8], place: usize, rows: &[u8; 16]) -> usize
     requires { place ≤ length bytes.now }
     ensures { result ≡ place + prefix_len (is_in_rows rows.now) (drop place bytes.now) }
