@@ -4,7 +4,7 @@ use Rattle.std.proofs.Common.{◌≡◌, ◌≢◌, ℕ, Bool, true, false, not,
 use Rattle.std.proofs.Common.{String, Global, chars, encode_utf8_all, IsUtf8, length, refl, sym, ap}
 use Rattle.std.proofs.Common.{◌∙◌, subst, inl, inr, arith, ne_eqb, string_bytes, option_map}
 use Rattle.std.specs.Prelude.{MatchOption}
-use Rattle.std.specs.List.{list_any}
+use Rattle.std.specs.List.{list_all, list_any}
 use Rattle.std.specs.Str.{is_utf8}
 use Rattle.std.proofs.lemmas.Bool.{and_from, and_parts, cases_Bool, false≢true, not_from_false}
 use Rattle.std.proofs.lemmas.Option.{none-some, same_Some}
@@ -12,14 +12,19 @@ use Rattle.std.proofs.lemmas.Str.{IsUtf8-from_is_utf8, encodes-chars}
 use Rattle.idna.specs.declared.deny_list.TheConstants.AsciiDenyList.{EMPTY}
 use Rattle.idna.specs.declared.options.DnsLength.TheVariants.{Ignore}
 use Rattle.idna.specs.declared.options.Hyphens.TheVariants.{Allow}
+use Rattle.idna.specs.Labels.{labels_of}
 use Rattle.idna.specs.Uts46.{domain_to_ascii, process_utf8}
-use Rattle.idna.proofs.Uts46Lemmas.{to_ascii-invalid}
+use Rattle.idna.specs.Validity.{passes_hyphens}
+use Rattle.idna.proofs.Uts46Lemmas.{to_ascii-invalid, to_ascii-plain}
 use Rattle.percent_encoding.specs.Percent.{percent_decode}
 use Rattle.uv_model.specs.declared.profile.Profile.TheVariants.{Parser}
-use Rattle.uv_model.specs.Hosts.Domain.{HasNoForm, IsDecoded, IsForm, IsParserForm, is_forbidden_domain, parser_form}
+use Rattle.uv_model.specs.Hosts.Domain.{HasNoForm, IsDecoded, IsForm, IsParserForm, is_forbidden_domain}
+use Rattle.uv_model.specs.Hosts.Domain.{is_form_code_point, parser_form}
 use Rattle.uv_model.specs.Hosts.OpaqueHost.{starts_with_bracket}
 use Rattle.uv_model.proofs.Hosts.DomainLemmas.{parser_form-is}
 use Rattle.uv_host.specs.ParserHosts.{is_taken, taken, taken_form}
+use Rattle.uv_host.proofs.LowerLemmas.{form_plain}
+use Rattle.uv_host.proofs.ParserFormLemmas.{allowed_form}
 
 -- ---- what ToASCII takes
 
@@ -73,6 +78,15 @@ taken_was (Some other) form e =
           (ap (λ (f : List ℕ). Some f) same, subst (λ (f : List ℕ). is_taken f ≡ true) same is)
       | inr other_is ↦ absurd (none-some form (rw other_is at e))
     ]
+
+-- what ToASCII leaves as it is, of a form's code points, is taken
+pub own_taken : (name : List ℕ) → name ≢ [] → list_all (is_form_code_point Parser) name ≡ true
+    → list_all (passes_hyphens Allow) (labels_of name) ≡ true → taken_form name ≡ Some name
+own_taken name some letters placed =
+    let own : domain_to_ascii EMPTY name ≡ Some name
+    = to_ascii-plain EMPTY Allow name (form_plain Parser name letters placed) in
+    let is = is_taken_from name some (allowed_form name letters) in
+    ap taken own ∙ rw is refl
 
 -- ---- texts
 

@@ -3,6 +3,7 @@ pub mod ChainLemmas
 pub mod DecodedLemmas
 pub mod LowerLemmas
 pub mod NameBitsLemmas
+pub mod NameKindsLemmas
 pub mod NamePrefixLemmas
 pub mod NumberTextLemmas
 pub mod OpaqueHostLemmas

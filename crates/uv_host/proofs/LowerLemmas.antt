@@ -58,7 +58,7 @@ form_byte profile c h =
     form_lower Parser c h = grind (arith, nat_tests)
 
 -- ToASCII at the settings of the URL parser leaves a name of such code points without `xn--` as it is
-form_plain : (profile : Profile) (name : List ℕ) → list_all (is_form_code_point profile) name ≡ true
+pub form_plain : (profile : Profile) (name : List ℕ) → list_all (is_form_code_point profile) name ≡ true
     → list_all (passes_hyphens Allow) (labels_of name) ≡ true → IsPlain EMPTY Allow name
 form_plain profile name letters placed = record {
   valid =

@@ -1,20 +1,18 @@
 //! Domains of special URLs (URL Standard, sections 3.3 to 3.5; UTS #46, section 4).
 ghost use Rattle.std.specs.Cow.{cow_str_bytes};
 ghost use Rattle.std.specs.Prelude.{chars, encode_utf8_all, false, IfOk, IfSome, IsSome, IsTrue, List, MatchOption};
-ghost use Rattle.std.specs.Prelude.{option_map, slice_index, string_bytes, true, ◌≡◌, ◌==◌, ℕ};
+ghost use Rattle.std.specs.Prelude.{option_map, string_bytes, true, ◌≡◌, ℕ};
 ghost use Rattle.std.specs.Str.{IsAscii};
 ghost use Rattle.idna.specs.Uts46.{to_ascii};
-ghost use Rattle.std.specs.List.{list_all};
-ghost use Rattle.idna.specs.Display.{IsPlain};
-ghost use Rattle.idna.specs.Labels.{labels_of};
-ghost use Rattle.idna.specs.Validity.{passes_hyphens};
 ghost use Rattle.uv_host.specs.Domains.{HasFormByLengths, IsAnswer, IsOwnForm, IsPlainAnswer, fits_lengths};
-ghost use Rattle.uv_host.specs.Domains.{is_lower_name, is_plain_name, is_simple, takes_hyphens};
+ghost use Rattle.uv_host.specs.Domains.{is_lower_name, is_plain_name, takes_hyphens};
 ghost use Rattle.uv_model.specs.Hosts.Domain as spec;
 ghost use Rattle.uv_model.specs.declared.profile.Profile.{Profile};
 ghost use Rattle.uv_model.specs.WrittenProfiles.{IsWritten};
 
+use crate::names::Name;
 use crate::parser_hosts::parser_form;
+use crate::plain_names::ends_in_word;
 use idna::uts46::{DnsLength, Hyphens, Uts46, verify_dns_length};
 use idna::{AsciiDenyList, Errors};
 use std::alloc::{AllocError, Global};
@@ -44,13 +42,11 @@ pub fn domain(alloc: Global, text: &str, profile: Profile) -> Result<DomainAnswe
     ensures refused { IsWritten profile → spec.has_permitted profile (chars text.now) ≡ false
         → result ≡ Ok DomainAnswer.Not }
 {
-    if is_plain(text.as_bytes()) {
-        return plain_domain(alloc, text, profile);
-    }
-    if !is_written_so(text, profile) {
+    let name = Name::of(text.as_bytes());
+    if !is_written_so(text, &name, profile) {
         return Ok(DomainAnswer::Not);
     }
-    match lower_form(alloc, text, profile)? {
+    match lower_form(alloc, text, &name, profile)? {
         Some(form) => Ok(judge_form(form, profile)),
         None => mapped_domain(alloc, text, profile),
     }
@@ -58,12 +54,13 @@ pub fn domain(alloc: Global, text: &str, profile: Profile) -> Result<DomainAnswe
 
 /// Whether all ASCII code points of the text are letters, digits and marks of a domain, where the profile asks for
 /// that.
-fn is_written_so(text: &str, profile: Profile) -> bool
+fn is_written_so(text: &str, name: &Name<'_>, profile: Profile) -> bool
+    requires { name.now ≡ text.now }
     ensures value { IsWritten profile → result ≡ spec.has_permitted profile (chars text.now) }
     ensures written { result ≡ false → IsWritten profile }
 {
     match profile {
-        Profile::Standard | Profile::Wide => has_permitted(text, profile),
+        Profile::Standard | Profile::Wide => has_permitted(text, name, profile),
         Profile::Parser => true,
     }
 }
@@ -88,55 +85,43 @@ fn mapped_domain(alloc: Global, text: &str, profile: Profile) -> Result<DomainAn
 pub(crate) fn lower_form(
     alloc: Global,
     text: &str,
+    name: &Name<'_>,
     profile: Profile,
 ) -> Result<Option<String>, AllocError>
-    requires { IsWritten profile → spec.has_permitted profile (chars text.now) ≡ true }
+    requires name { name.now ≡ text.now }
+    requires permitted { IsWritten profile → spec.has_permitted profile (chars text.now) ≡ true }
     ensures { IfOk result (λ answer. IfSome answer
         (λ form. HasFormByLengths profile (chars text.now) (string_bytes form))) }
 {
-    if !text.is_ascii() || is_mapped_in_vain(text, profile) {
+    if !name.is_ascii() || is_mapped_in_vain(name, profile) {
         return Ok(None);
     }
     let form = text.to_ascii_lowercase(alloc)?;
-    if is_own_form(form.as_str().as_bytes(), profile) {
+    if is_own_form(&Name::of(form.as_str().as_bytes()), profile) {
         Ok(Some(form))
     } else {
         Ok(None)
     }
 }
 
-/// Whether a text that is no plain name is its own lower case, which by the standard profile is then no form either. No
-/// verdict rests on the answer, and only the time of one does.
-fn is_mapped_in_vain(text: &str, profile: Profile) -> bool {
+/// Whether the lower case of an ASCII text is no form: by the standard profile for its hyphens, by the others for its
+/// code points. No verdict rests on the answer, and only the time of one does.
+fn is_mapped_in_vain(name: &Name<'_>, profile: Profile) -> bool {
     match profile {
-        Profile::Standard => !text.as_bytes().iter().any(|b| b.is_ascii_uppercase()),
-        Profile::Wide | Profile::Parser => false,
+        Profile::Standard => !name.has_placed_hyphens(),
+        Profile::Wide | Profile::Parser => !name.is_permitted(profile),
     }
 }
 
 /// Whether ToASCII with the settings of the profile leaves a name as it is. Where the answer is no, that says nothing.
-fn is_own_form(name: &[u8], profile: Profile) -> bool
+fn is_own_form(name: &Name<'_>, profile: Profile) -> bool
     ensures { IsTrue result → IsOwnForm profile name.now }
 {
     match profile {
-        Profile::Standard => is_plain(name),
-        Profile::Wide => is_form(name, Profile::Wide) && is_without_punycode(name),
-        Profile::Parser => is_form(name, Profile::Parser) && is_without_punycode(name),
+        Profile::Standard => name.is_form(Profile::Standard) && name.has_placed_hyphens(),
+        Profile::Wide => name.is_form(Profile::Wide) && name.is_without_punycode(),
+        Profile::Parser => name.is_form(Profile::Parser) && name.is_without_punycode(),
     }
-}
-
-/// Whether no label begins with `xn--`.
-fn is_without_punycode(name: &[u8]) -> bool
-    ensures { result ≡ list_all (passes_hyphens Hyphens.Allow) (labels_of name.now) }
-{
-    name.split(|b| *b == b'.').all(|label| has_no_prefix(label))
-}
-
-#[tactic(auto, unfolding(idna::specs::Validity::passes_hyphens, idna::specs::Validity::has_ace_prefix))]
-fn has_no_prefix(label: &[u8]) -> bool
-    ensures { result ≡ passes_hyphens Hyphens.Allow label.now }
-{
-    !label.starts_with(b"xn--")
 }
 
 /// The answer on every text whose form this is but for its lengths.
@@ -173,14 +158,14 @@ pub fn plain_answer(name: &str, profile: Profile) -> Option<PlainAnswer>
     ensures answer { IfSome result (IsPlainAnswer profile (chars name.now) name.now) }
     ensures plain { is_plain_name (chars name.now) ≡ true → IsSome result }
 {
-    let bytes = name.as_bytes();
-    if is_simple(bytes) {
+    let known = Name::of(name.as_bytes());
+    if known.is_simple() {
         return Some(judge_own(name, profile));
     }
-    if !is_lower_name(bytes, profile) {
+    if !is_lower_name(&known, profile) {
         return None;
     }
-    if takes_hyphens(bytes, profile) {
+    if takes_hyphens(&known, profile) {
         Some(judge_own(name, profile))
     } else {
         Some(PlainAnswer::Not)
@@ -188,89 +173,20 @@ pub fn plain_answer(name: &str, profile: Profile) -> Option<PlainAnswer>
 }
 
 /// Lower-case letters, digits and the marks of a domain, with no label that begins with `xn--`.
-fn is_lower_name(name: &[u8], profile: Profile) -> bool
+fn is_lower_name(name: &Name<'_>, profile: Profile) -> bool
     ensures { result ≡ is_lower_name profile name.now }
 {
-    has_form_bytes(name, profile) && is_without_punycode(name)
-}
-
-/// Lower-case letters, digits and the marks of a domain: a walk for each profile, which asks for it once.
-fn has_form_bytes(name: &[u8], profile: Profile) -> bool
-    ensures { result ≡ list_all (spec.is_form_code_point profile) name.now }
-{
-    match profile {
-        Profile::Standard => is_form(name, Profile::Standard),
-        Profile::Wide => is_form(name, Profile::Wide),
-        Profile::Parser => is_form(name, Profile::Parser),
-    }
+    name.is_form(profile) && name.is_without_punycode()
 }
 
 /// Whether the profile takes the hyphens of a name as they stand, where no label begins with `xn--`.
-fn takes_hyphens(name: &[u8], profile: Profile) -> bool
+fn takes_hyphens(name: &Name<'_>, profile: Profile) -> bool
     ensures { result ≡ takes_hyphens profile name.now }
 {
     match profile {
-        Profile::Standard => has_placed_hyphens(name),
+        Profile::Standard => name.has_placed_hyphens(),
         Profile::Wide | Profile::Parser => true,
     }
-}
-
-/// Whether a name is its own form at both settings, but for its lengths: lower-case letters, digits, full stops, and
-/// hyphens where the strict settings take them.
-fn is_plain(name: &[u8]) -> bool
-    ensures value { result ≡ is_plain_name name.now }
-    ensures plain { IsTrue result → IsPlain AsciiDenyList.STD3 Hyphens.Check name.now }
-{
-    is_simple(name) || (is_form(name, Profile::Standard) && has_placed_hyphens(name))
-}
-
-/// Lower-case letters, digits and full stops.
-fn is_simple(name: &[u8]) -> bool
-    ensures { result ≡ list_all is_simple name.now }
-{
-    name.iter().all(|b| is_simple_byte(*b))
-}
-
-fn is_simple_byte(b: u8) -> bool
-    ensures { result ≡ is_simple b }
-{
-    b.is_ascii_lowercase() || (b.is_ascii_digit() || b == b'.')
-}
-
-/// Lower-case letters, digits and the marks of a domain.
-#[inline(always)]
-fn is_form(name: &[u8], profile: Profile) -> bool
-    ensures { result ≡ list_all (spec.is_form_code_point profile) name.now }
-{
-    name.iter().all(|b| is_form_byte(*b, profile))
-}
-
-fn is_form_byte(b: u8, profile: Profile) -> bool
-    ensures { result ≡ spec.is_form_code_point profile b }
-{
-    b.is_ascii_lowercase() || (b.is_ascii_digit() || is_domain_mark(char::from(b), profile))
-}
-
-/// Whether no label begins or ends with a hyphen, or has two as its third and fourth bytes.
-fn has_placed_hyphens(name: &[u8]) -> bool
-    ensures { result ≡ list_all (passes_hyphens Hyphens.Check) (labels_of name.now) }
-{
-    name.split(|b| *b == b'.').all(|label| has_placed(label))
-}
-
-#[tactic(auto, unfolding(idna::specs::Validity::passes_hyphens))]
-fn has_placed(label: &[u8]) -> bool
-    ensures { result ≡ passes_hyphens Hyphens.Check label.now }
-{
-    let third = is_hyphen_at(label, 2) && is_hyphen_at(label, 3);
-    let outer = is_hyphen_at(label, 0) || is_hyphen_at(label, label.len().saturating_sub(1));
-    !third & !outer
-}
-
-fn is_hyphen_at(label: &[u8], at: usize) -> bool
-    ensures { result ≡ (slice_index label.now at == 45) }
-{
-    at < label.len() && label[at] == b'-'
 }
 
 /// The answer on a name that is its own form but for its lengths.
@@ -287,21 +203,20 @@ fn judge_own(name: &str, profile: Profile) -> PlainAnswer
     }
 }
 
-/// The answer on a plain name by a profile, with its form copied.
-fn plain_domain(alloc: Global, name: &str, profile: Profile) -> Result<DomainAnswer, AllocError>
-    requires { IsPlain AsciiDenyList.STD3 Hyphens.Check name.now }
-    ensures { IfOk result (IsAnswer profile (chars name.now)) }
+/// Whether all ASCII code points of the text are letters, digits and marks of a domain.
+fn has_permitted(text: &str, name: &Name<'_>, profile: Profile) -> bool
+    requires { name.now ≡ text.now }
+    ensures { result ≡ spec.has_permitted profile (chars text.now) }
 {
-    match judge_own(name, profile) {
-        PlainAnswer::Domain => Ok(DomainAnswer::Ascii(String::from_str(alloc, name)?)),
-        PlainAnswer::Number => Ok(DomainAnswer::Number),
-        PlainAnswer::Not => Ok(DomainAnswer::Not),
+    if name.is_ascii() {
+        return name.is_permitted(profile);
     }
+    has_permitted_beyond(text, profile)
 }
 
-/// Whether all ASCII code points of the text are letters, digits and marks of a domain.
+/// The same of a text beyond ASCII.
 #[tactic(auto, unfolding(uv_model::specs::Hosts::Domain::has_permitted))]
-fn has_permitted(text: &str, profile: Profile) -> bool
+fn has_permitted_beyond(text: &str, profile: Profile) -> bool
     ensures { result ≡ spec.has_permitted profile (chars text.now) }
 {
     text.chars().all(|c| is_permitted(c, profile))
@@ -358,7 +273,7 @@ fn wide_form(alloc: Global, text: &str) -> Result<Option<CowStr<'_>>, AllocError
     if !has_lengths(form.as_str()) {
         return Ok(None);
     }
-    if is_form(form.as_str().as_bytes(), Profile::Wide) {
+    if Name::of(form.as_str().as_bytes()).is_form(Profile::Wide) {
         Ok(Some(form))
     } else {
         Ok(None)
@@ -404,6 +319,9 @@ pub(crate) fn is_number(form: &str) -> bool
     requires { IsAscii form.now }
     ensures { result ≡ spec.ends_in_number form.now }
 {
+    if ends_in_word(form.as_bytes()) {
+        return false;
+    }
     ends_in_number(form)
 }
 

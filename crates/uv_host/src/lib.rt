@@ -3,6 +3,7 @@
 
 mod addresses;
 mod domains;
+mod names;
 mod numbers;
 mod opaque_hosts;
 mod parser_hosts;

@@ -2,7 +2,7 @@
 //! 3.5).
 ghost use Rattle.std.specs.Cow.{cow_str_bytes};
 ghost use Rattle.std.specs.List.{list_any};
-ghost use Rattle.std.specs.Prelude.{◌≡◌, ℕ, List, IfOk, MatchOption, chars, option_map, string_bytes};
+ghost use Rattle.std.specs.Prelude.{◌≡◌, ℕ, List, IfOk, IfSome, MatchOption, Some, chars, option_map, string_bytes};
 ghost use Rattle.std.specs.Str.{IsAscii};
 ghost use Rattle.idna.specs.Uts46.{domain_to_ascii};
 ghost use Rattle.uv_model.specs.declared.profile.Profile.{Profile};
@@ -10,12 +10,14 @@ ghost use Rattle.uv_model.specs.Hosts.Domain as spec;
 ghost use Rattle.uv_host.specs.ParserHosts.{IsParserAnswer, is_taken, taken_form};
 
 use crate::domains::{is_number, lower_form};
+use crate::names::Name;
 use crate::numbers::numbers_value;
 use crate::opaque_hosts::starts_with_bracket;
 use idna::{AsciiDenyList, Errors, domain_to_ascii_cow};
 use percent_encoding::percent_decode;
 use std::alloc::{AllocError, Global};
 use std::borrow::CowStr;
+use std::str;
 use uv_model::{Profile, is_forbidden_domain};
 
 /// What the host parser makes of a text that isn't in brackets.
@@ -63,7 +65,7 @@ fn any_form(alloc: Global, text: &str) -> Result<Option<String>, AllocError>
     ensures { IfOk result (λ answer. MatchOption answer (spec.HasNoForm Profile.Parser (chars text.now))
         (λ form. spec.IsForm Profile.Parser (chars text.now) (string_bytes form))) }
 {
-    match lower_form(alloc, text, Profile::Parser)? {
+    match lower_form(alloc, text, &Name::of(text.as_bytes()), Profile::Parser)? {
         Some(form) if form.as_str().is_empty() => Ok(None),
         Some(form) => Ok(Some(form)),
         None => parser_form(alloc, text),
@@ -86,6 +88,9 @@ pub(crate) fn parser_form(alloc: Global, text: &str) -> Result<Option<String>, A
 fn taken_form(alloc: Global, decoded: &[u8]) -> Result<Option<String>, AllocError>
     ensures { IfOk result (λ form. option_map string_bytes form ≡ taken_form decoded.now) }
 {
+    if let Some(form) = own_form(decoded) {
+        return Ok(Some(String::from_str(alloc, form)?));
+    }
     let Some(form) = ascii_form(alloc, decoded)? else {
         return Ok(None);
     };
@@ -93,6 +98,21 @@ fn taken_form(alloc: Global, decoded: &[u8]) -> Result<Option<String>, AllocErro
         Ok(Some(form.into_owned(alloc)?))
     } else {
         Ok(None)
+    }
+}
+
+// The bytes themselves, where they are the code points of a form and ToASCII leaves them as they are. Where there is no
+// answer, that says nothing.
+fn own_form(decoded: &[u8]) -> Option<&str>
+    ensures { IfSome result (λ form. taken_form decoded.now ≡ Some form.now) }
+{
+    let name = Name::of(decoded);
+    if decoded.is_empty() || !name.is_form(Profile::Parser) || !name.is_without_punycode() {
+        return None;
+    }
+    match str::from_utf8(decoded) {
+        Ok(form) => Some(form),
+        Err(_) => None,
     }
 }
 

@@ -77,7 +77,7 @@ pub fn is_plain_domain(name: &str) -> bool
 
 // Whether the last label ends with a letter that stands in no number, as most do. Where the answer is no, that says
 // nothing.
-fn ends_in_word(name: &[u8]) -> bool
+pub(crate) fn ends_in_word(name: &[u8]) -> bool
     ensures { IsTrue result → spec.ends_in_number name.now ≡ false }
 {
     match name {

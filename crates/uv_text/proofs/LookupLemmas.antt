@@ -1,14 +1,15 @@
 -- Look-ups by the halves of bytes, lane by lane.
-use Rattle.std.proofs.Common.{◌≡◌, ℕ, zero, suc, Bool, inl, inr, not, ◌+◌, ◌*◌, ◌/◌, ◌^◌, ◌%◌, ◌<◌, ◌≤◌, eqb, cond}
-use Rattle.std.proofs.Common.{[], ◌∷◌, List, length, map, get_or, take, drop, ◌++◌, replicate, bit_and, refl}
+use Rattle.std.proofs.Common.{◌≡◌, ◌≢◌, ℕ, zero, suc, Bool, inl, inr, not, ◌+◌, ◌*◌, ◌/◌, ◌^◌, ◌%◌, ◌<◌, ◌≤◌, eqb, cond}
+use Rattle.std.proofs.Common.{[], ◌∷◌, List, length, map, get_or, take, take_all, drop, ◌++◌, replicate, bit_and, refl}
 use Rattle.std.proofs.Common.{sym, ap, ◌∙◌, arith, w8, Fits}
-use Rattle.std.proofs.lemmas.List.{get_or-map, length-map, ext_get_or}
+use Rattle.std.proofs.lemmas.List.{get_or-map, length-map, length-take, ext_get_or}
+use Rattle.std.proofs.lemmas.List.Sums.{prefix_len-le-length}
 use Rattle.std.proofs.lemmas.Nat.{and_le_r}
 use Rattle.std.proofs.lemmas.Simd.{Each1-all, Each1-weaker, Each1-zip2, Each2-splat, Each1-get_or, below_from_Fits}
 use Rattle.std.proofs.lemmas.Simd.{length-zip2, swz_l, SwzOk, SwzOk-from_below, length-swz_l, get_or-swz_l_below}
 use Rattle.std.proofs.lemmas.Simd.{bitmask_splat, map-map, zip2_of_maps}
 use Rattle.std.specs.List.{prefix_len}
-use Rattle.std.proofs.lemmas.Bool.{cases_Bool}
+use Rattle.std.proofs.lemmas.Bool.{cases_Bool, cases_lt}
 use lib.Lanes.{zip2, Each1, mask_l, top}
 use Rattle.std.specs.Prelude.{slice_index}
 use Rattle.uv_text.specs.Rows.{StandsTwice}
@@ -104,3 +105,27 @@ module _ (p : ℕ → Bool) where
   pub prefix_before : (xs ys : List ℕ) → prefix_len p ys ≡ 0 → prefix_len p (xs ++ ys) ≡ prefix_len p xs
   prefix_before [] ys none = none
   prefix_before (x ∷ xs) ys none = ap (λ k. cond (p x) (1 + k) 0) (prefix_before xs ys none)
+
+-- a prefix of so many of the next 32
+module _ (p : ℕ → Bool) (rest : List ℕ) (ahead : ℕ) (is : ahead ≡ prefix_len p (take 32 rest)) where
+  -- no more than are left
+  pub ahead_inside : (ahead ≤ 32) × (ahead ≤ length rest)
+  ahead_inside =
+      let bound = prefix_len-le-length p (take 32 rest) in
+      let long = length-take 32 rest in
+      (omega arith, omega arith)
+
+  -- all of them
+  pub ahead_past : ahead ≡ 32 → prefix_len p rest ≡ ahead + prefix_len p (drop ahead rest)
+  ahead_past all =
+      let room = ahead_inside.1 in
+      rw all (prefix_past p 32 rest (omega arith) (sym is ∙ all))
+
+  -- fewer
+  pub ahead_ends : ahead ≢ 32 → prefix_len p rest ≡ ahead
+  ahead_ends fewer =
+      let fits = ahead_inside.0 in
+      elim (cases_lt (length rest) 32) [
+        | inl short ↦ ap (prefix_len p) (sym (take_all 32 rest (omega arith))) ∙ sym is
+        | inr room ↦ prefix_in p 32 rest room (omega arith) ∙ sym is
+      ]

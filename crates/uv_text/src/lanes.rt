@@ -1,6 +1,6 @@
 //! Prefixes of bytes by lanes, 32 bytes a turn: the longest whose bytes are all in a class, and the longest of a class
 //! and of percent-encoded bytes.
-ghost use Rattle.std.specs.Prelude.{◌≡◌, ◌+◌, ◌≤◌, drop, length, map, take};
+ghost use Rattle.std.specs.Prelude.{◌≡◌, ◌+◌, ◌≤◌, ◌==◌, drop, length, map, take};
 ghost use Rattle.std.specs.Simd.Lanes.{mask_l};
 ghost use Rattle.std.specs.List.{prefix_len};
 ghost use Rattle.uv_text.specs.Rows.{StandsTwice, high_bit, is_in_rows, row_at};
@@ -97,13 +97,36 @@ pub(crate) fn row_end(bytes: &[u8], place: usize, rows: &[u8; 16]) -> usize
     requires { place ≤ length bytes.now }
     ensures { result ≡ place + prefix_len (is_in_rows rows.now) (drop place bytes.now) }
 {
-    let mut end = place;
-    let mut ahead = row_prefix(bytes, end, rows);
-    while ahead == 32 {
-        end += ahead;
-        ahead = row_prefix(bytes, end, rows);
+    let ahead = row_prefix(bytes, place, rows);
+    if ahead < 32 {
+        return place + ahead;
     }
-    end + ahead
+    far_end(bytes, place + ahead, rows)
+}
+
+// The same of a run that goes on: where 32 bytes are left, a load begins at its place.
+#[inline(always)]
+fn far_end(bytes: &[u8], place: usize, rows: &[u8; 16]) -> usize
+    requires { place ≤ length bytes.now }
+    ensures { result ≡ place + prefix_len (is_in_rows rows.now) (drop place bytes.now) }
+{
+    let mut end = place;
+    while is_whole(bytes, end, rows) {
+        end += 32;
+    }
+    end + row_prefix(bytes, end, rows)
+}
+
+// Whether 32 bytes are left from a place on, and all of them are in the rows.
+#[inline(always)]
+fn is_whole(bytes: &[u8], place: usize, rows: &[u8; 16]) -> bool
+    requires { place ≤ length bytes.now }
+    ensures { result ≡ (prefix_len (is_in_rows rows.now) (take 32 (drop place bytes.now)) == 32) }
+{
+    if bytes.len() - place < 32 {
+        return false;
+    }
+    lane_bits(u8x32::from_slice(&bytes[place..]), rows).trailing_ones() == 32
 }
 
 // How many of the 32 bytes from a place on are in the rows, or `%` with two hex digits behind it among the 32, before

@@ -1,5 +1,5 @@
 -- A name of a form's code points without `xn--` is its own form, or its hyphens are refused; a plain name is one.
-use Rattle.std.proofs.Common.{◌≡◌, true, false, ap, chars, sym, ◌∙◌}
+use Rattle.std.proofs.Common.{◌≡◌, false, ap, sym, ◌∙◌}
 use Rattle.std.specs.List.{list_all}
 use Rattle.std.proofs.lemmas.Bool.{false≢true}
 use Rattle.uv_host.specs.Domains.{is_lower_name, is_simple, takes_hyphens}
@@ -11,12 +11,13 @@ pub judge_own-requires : goal.judge_own-requires
 judge_own-requires c =
     plain_own_form c.args.profile c.args.name.now c.utf8.name
     (plain_from_simple c.args.name.now
-    (ap (list_all is_simple) (sym c.as_bytes-bytes.ensures.value) ∙ (sym c.is_simple.ensures ∙ c.if-is_simple.true)))
+    (ap (list_all is_simple) (sym (c.of-known.ensures ∙ c.as_bytes.ensures.value))
+    ∙ (sym c.is_simple.ensures ∙ c.if-is_simple.true)))
 
 pub returns-then-not-is_lower_name-clause-plain : goal.returns-then-not-is_lower_name-clause-plain
 returns-then-not-is_lower_name-clause-plain c = λ plain.
     let other : is_lower_name c.args.profile c.args.name.now ≡ false
-    = ap (is_lower_name c.args.profile) (sym c.as_bytes-bytes.ensures.value)
+    = ap (is_lower_name c.args.profile) (sym (c.of-known.ensures ∙ c.as_bytes.ensures.value))
     ∙ (sym c.is_lower_name.ensures ∙ c.if-not-is_lower_name.true) in
     absurd (false≢true (sym other
     ∙ plain_lower c.args.profile c.args.name.now (plain_bytes c.args.name.now c.utf8.name plain)))
@@ -24,15 +25,15 @@ returns-then-not-is_lower_name-clause-plain c = λ plain.
 pub judge_own-requires-then-takes_hyphens : goal.judge_own-requires-then-takes_hyphens
 judge_own-requires-then-takes_hyphens c =
     lower_own_form c.args.profile c.args.name.now c.utf8.name
-    (ap (is_lower_name c.args.profile) (sym c.as_bytes-bytes.ensures.value)
+    (ap (is_lower_name c.args.profile) (sym (c.of-known.ensures ∙ c.as_bytes.ensures.value))
     ∙ (sym c.is_lower_name.ensures ∙ c.if-not-is_lower_name.false))
-    (ap (takes_hyphens c.args.profile) (sym c.as_bytes-bytes.ensures.value)
+    (ap (takes_hyphens c.args.profile) (sym (c.of-known.ensures ∙ c.as_bytes.ensures.value))
     ∙ (sym c.takes_hyphens.ensures ∙ c.if-takes_hyphens.true))
 
 pub returns-else-takes_hyphens-clause-answer : goal.returns-else-takes_hyphens-clause-answer
 returns-else-takes_hyphens-clause-answer c =
     hyphens_no_form c.args.profile c.args.name.now c.utf8.name
-    (ap (is_lower_name c.args.profile) (sym c.as_bytes-bytes.ensures.value)
+    (ap (is_lower_name c.args.profile) (sym (c.of-known.ensures ∙ c.as_bytes.ensures.value))
     ∙ (sym c.is_lower_name.ensures ∙ c.if-not-is_lower_name.false))
-    (ap (takes_hyphens c.args.profile) (sym c.as_bytes-bytes.ensures.value)
+    (ap (takes_hyphens c.args.profile) (sym (c.of-known.ensures ∙ c.as_bytes.ensures.value))
     ∙ (sym c.takes_hyphens.ensures ∙ c.if-takes_hyphens.false))

@@ -30,7 +30,7 @@ returns-then-is_form c =
     sym c.in_ok-form.ensures ∙ ap (option_map cow_str_bytes) c.in-Some.is in
     let lengths : has_lengths form ≡ true =
     rw (← c.as_str.ensures.value) (sym c.has_lengths.ensures ∙ c.if-not-has_lengths.false) in
-    let bytes = c.as_bytes.ensures.value ∙ c.as_str-2.ensures.value in
+    let bytes = c.of.ensures ∙ (c.as_bytes.ensures.value ∙ c.as_str-2.ensures.value) in
     let letters : list_all (is_form_code_point Wide) form ≡ true =
     ap (list_all (is_form_code_point Wide)) (sym bytes) ∙ (sym c.is_form.ensures ∙ c.if-is_form.true) in
     IsForm-wide text form c.requires parsed letters lengths
@@ -41,7 +41,7 @@ returns c =
     let form = cow_str_bytes c.in-Some.form in
     let parsed : domain_to_ascii EMPTY (encode_utf8_all text) ≡ Some form =
     sym c.in_ok-form.ensures ∙ ap (option_map cow_str_bytes) c.in-Some.is in
-    let bytes = c.as_bytes.ensures.value ∙ c.as_str-2.ensures.value in
+    let bytes = c.of.ensures ∙ (c.as_bytes.ensures.value ∙ c.as_str-2.ensures.value) in
     let wrong : list_all (is_form_code_point Wide) form ≡ false =
     ap (list_all (is_form_code_point Wide)) (sym bytes) ∙ (sym c.is_form.ensures ∙ c.if-is_form.false) in
     no_letters Wide text form tt parsed wrong
