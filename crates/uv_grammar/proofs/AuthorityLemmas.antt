@@ -1,25 +1,25 @@
 -- Lemmas on the `:` of a port in the bytes of an authority and in its code points.
-use Rattle.std.proofs.Common.{◌≡◌, ◌≢◌, ℕ, ◌+◌, ◌<◌, ◌≤◌, List, [], ◌∷◌, ◌++◌, Bool, true, false, not, ◌==◌, take, drop}
-use Rattle.std.proofs.Common.{refl, sym, ap, ◌∙◌, inl, inr, arith, Option, Some, None, lit<, ne_eqb, append-nil}
-use Rattle.std.specs.Prelude.{◌⊎◌, if◌then◌else◌, option_map, slice_range, IsSome}
+use Rattle.std.proofs.Common.{◌≡◌, ◌≢◌, ℕ, ◌+◌, ◌<◌, ◌≤◌, List, [], ◌∷◌, ◌++◌, Bool, true, false, ◌==◌, take, drop}
+use Rattle.std.proofs.Common.{refl, sym, ap, ◌∙◌, inl, inr, arith, Option, Some, None, lit<, ne_eqb, length}
+use Rattle.std.proofs.Common.{◌-◌, subst, suc}
+use Rattle.std.specs.Prelude.{◌⊎◌, if◌then◌else◌, option_map, slice_range}
 use Rattle.std.specs.Str.{chars, IsUtf8, IsCharBoundary}
-use Rattle.std.proofs.lemmas.Bool.{cases_lt, cases_Bool, false≢true}
+use Rattle.std.proofs.lemmas.Bool.{cases_lt, cases_Bool, eqb-true, false≢true}
+use Rattle.std.proofs.lemmas.List.{drop-drop, get_or-drop, length-drop, length-take, take_all}
 use Rattle.std.proofs.lemmas.Str.{encode_ascii, encodes-chars, encodes_same, IsCharBoundary-after_ascii}
+use Rattle.std.proofs.Math.Seq.{take-append-add}
 use Rattle.std.proofs.Math.Utf8.{encodes, encode}
-use Rattle.uv_grammar.specs.TextSplits.{IsFirstMark, IsPortMark, SplitsHost, SplitsScheme}
+use Rattle.uv_grammar.specs.TextSplits.{IsFirstMark, IsPortMark, SplitsHost}
 use Rattle.uv_grammar.proofs.SliceLemmas.{around}
 use Rattle.uv_model.specs.declared.scheme.Class.{Class}
 use Rattle.uv_model.specs.declared.scheme.Class.TheVariants.{Special, Other}
-use Rattle.uv_model.specs.Parts.{written_behind}
+use Rattle.uv_model.specs.Hosts.OpaqueHost.{starts_with_bracket}
 use Rattle.uv_model.specs.Path.{is_without}
-use Rattle.uv_model.specs.Scheme.{is_scheme}
-use Rattle.uv_model.specs.Scheme.{starts_with_scheme}
 use Rattle.uv_model.proofs.Texts.AsciiLemmas.{AreBeyond, AreBeyond-encode}
-use Rattle.uv_model.proofs.Texts.MarkLemmas.{has_mark, is_without-cons, text_before-mark}
-use Rattle.uv_model.proofs.Cuts.SchemeCutLemmas.{scheme_without_colon, splits_at_scheme}
+use Rattle.uv_model.proofs.Texts.MarkLemmas.{is_without-cons}
 use Rattle.uv_model.proofs.Cuts.AuthorityCutLemmas.{host_cut-is, written_host_cut}
 use Rattle.uv_model.specs.Ascii.{colon, left_bracket, right_bracket}
-use Rattle.uv_model.specs.Cut.{host_before, host_cut, port_cut, text_before, is_port_mark, is_within, port_behind}
+use Rattle.uv_model.specs.Cut.{host_before, host_cut, port_cut, is_port_mark, is_within, port_behind}
 use Rattle.uv_text.proofs.SplitsLemmas.{prefix_slice}
 
 -- a byte beyond ASCII is no `:`
@@ -145,32 +145,7 @@ pub mark_boundary : (bytes : List ℕ) (end : ℕ) → IsUtf8 bytes → IsPortMa
 mark_boundary bytes end utf8 mark =
     IsCharBoundary-after_ascii bytes end utf8 mark.0 (rw mark.1 (lit< tt))
 
--- ---- texts without a scheme
-
--- what stands before the first `:` isn't a scheme
-pub no_scheme_prefix : (prefix rest : List ℕ) → is_without colon prefix ≡ true → is_scheme prefix ≡ false
-    → starts_with_scheme (prefix ++ colon ∷ rest) ≡ false
-no_scheme_prefix prefix rest none other =
-    elim (cases_Bool (starts_with_scheme (prefix ++ colon ∷ rest))) [
-      | inl starts ↦
-          let s = splits_at_scheme (prefix ++ colon ∷ rest) starts in
-          let first : prefix ≡ s.scheme
-          = sym (text_before-mark colon prefix rest none) ∙ (ap (λ t. text_before colon t) s.joined
-          ∙ text_before-mark colon s.scheme s.rest (scheme_without_colon s.scheme s.is)) in
-          absurd (false≢true (sym other ∙ (ap is_scheme first ∙ s.is)))
-      | inr not ↦ not
-    ]
-
--- a text without `:` has no scheme
-pub no_scheme_alone : (text : List ℕ) → is_without colon text ≡ true → starts_with_scheme text ≡ false
-no_scheme_alone text none =
-    elim (cases_Bool (starts_with_scheme text)) [
-      | inl starts ↦
-          let s = splits_at_scheme text starts in
-          absurd (false≢true (sym (has_mark colon s.scheme s.rest)
-          ∙ (ap (λ t. is_without colon t) (sym s.joined) ∙ none)))
-      | inr other ↦ other
-    ]
+-- ---- the host and the port by the class
 
 -- a host and a port that are those of the class
 pub splits_host : (class : Class) (authority host : List ℕ) (port : Option (List ℕ)) → host ≡ host_cut class authority
@@ -186,15 +161,6 @@ splits_before_port class authority host port (inl same) is_host is_port =
     rw same (splits_host Special authority host port is_host is_port)
 splits_before_port class authority host port (inr same) is_host is_port =
     rw same (splits_host Other authority host port is_host is_port)
-
--- a text whose prefix before the first `:` is no scheme is a rest alone
-pub splits_no_scheme : (text prefix : List ℕ) (rest : Option (List ℕ)) → text ≡ prefix ++ written_behind colon rest
-    → is_without colon prefix ≡ true → (IsSome rest → is_scheme prefix ≡ false) → SplitsScheme text None text
-splits_no_scheme text prefix None joined none other =
-    let whole : text ≡ prefix = joined ∙ append-nil prefix in
-    record { joined = refl; scheme = rw whole (no_scheme_alone prefix none) }
-splits_no_scheme text prefix (Some rest) joined none other =
-    record { joined = refl; scheme = rw joined (no_scheme_prefix prefix rest none (other refl)) }
 
 -- without a `:` there is no port
 pub no_port : (bytes : List ℕ) → is_without colon bytes ≡ true → IsPortMark bytes None
@@ -235,3 +201,99 @@ first_port bytes end first none =
         let brackets = is_without-cons left_bracket c prefix closed in
         let more = before prefix rest marks.1 brackets.1 in
         rw (marks.0, outside c brackets.0) (ap (λ s. c ∷ s) more.0, more.1)
+
+-- ---- an authority that begins with `[`
+
+-- within brackets no `:` is that of a port
+no_mark_within : (c : ℕ) → is_port_mark true c ≡ false
+no_mark_within c = elim (cases_Bool (c == colon)) [ inl same ↦ rw same refl | inr other ↦ rw other refl ]
+
+-- only `]` ends them
+still_within : (c : ℕ) → (c == right_bracket) ≡ false → is_within true c ≡ true
+still_within c other = elim (cases_Bool (c == left_bracket)) [
+  | inl same ↦ rw same refl
+  | inr more ↦ rw (more, other) refl
+]
+
+-- the search within brackets that aren't closed
+within_to_end : (text : List ℕ) → is_without right_bracket text ≡ true
+    → (host_before true text ≡ text) × (port_behind true text ≡ None)
+within_to_end [] none = (refl, refl)
+within_to_end (c ∷ rest) none =
+    let parts = is_without-cons right_bracket c rest none in
+    let more = within_to_end rest parts.1 in
+    rw (no_mark_within c, still_within c parts.0) (ap (λ s. c ∷ s) more.0, more.1)
+
+-- the search within brackets up to the first `]`
+within_to_bracket : (prefix rest : List ℕ) → is_without right_bracket prefix ≡ true
+    → (host_before true (prefix ++ right_bracket ∷ rest) ≡ prefix ++ right_bracket ∷ host_before false rest)
+    × (port_behind true (prefix ++ right_bracket ∷ rest) ≡ port_behind false rest)
+within_to_bracket [] rest none = (refl, refl)
+within_to_bracket (c ∷ prefix) rest none =
+    let parts = is_without-cons right_bracket c prefix none in
+    let more = within_to_bracket prefix rest parts.1 in
+    rw (no_mark_within c, still_within c parts.0) (ap (λ s. c ∷ s) more.0, more.1)
+
+-- without a `]` no port follows a `[`
+pub no_port_in_brackets : (bytes : List ℕ) → starts_with_bracket bytes ≡ true → is_without right_bracket bytes ≡ true
+    → IsPortMark bytes None
+no_port_in_brackets [] starts none = absurd (false≢true starts)
+no_port_in_brackets (c ∷ rest) starts none =
+    let parts = is_without-cons right_bracket c rest none in
+    let more = within_to_end rest parts.1 in
+    rw (eqb-true c left_bracket starts) (ap (λ s. left_bracket ∷ s) more.0, more.1)
+
+-- a slice from a place to the end
+pub from_place : (place : ℕ) (bytes : List ℕ) → take (length bytes - place) (drop place bytes) ≡ drop place bytes
+from_place place bytes =
+    take_all (length bytes - place) (drop place bytes) (let size = length-drop place bytes in omega (arith, size))
+
+-- behind the first `]` the search begins anew
+anew_behind_bracket : (prefix rest : List ℕ) → starts_with_bracket (prefix ++ right_bracket ∷ rest) ≡ true
+    → is_without right_bracket prefix ≡ true
+    → (host_before false (prefix ++ right_bracket ∷ rest) ≡ prefix ++ right_bracket ∷ host_before false rest)
+    × (port_behind false (prefix ++ right_bracket ∷ rest) ≡ port_behind false rest)
+anew_behind_bracket [] rest starts none = absurd (false≢true starts)
+anew_behind_bracket (c ∷ prefix) rest starts none =
+    let parts = is_without-cons right_bracket c prefix none in
+    let more = within_to_bracket prefix rest parts.1 in
+    rw (eqb-true c left_bracket starts) (ap (λ s. left_bracket ∷ s) more.0, more.1)
+
+module _ (bytes : List ℕ) (end : ℕ) (starts : starts_with_bracket bytes ≡ true)
+    (first : IsFirstMark right_bracket bytes (Some end)) where
+  -- what stands behind the first `]`
+  abbrev pub rest : List ℕ
+  rest = drop (end + 1) bytes
+
+  whole : bytes ≡ take end bytes ++ right_bracket ∷ rest
+  whole = around bytes end right_bracket first.0 first.1
+
+  sides : (host_before false bytes ≡ take end bytes ++ right_bracket ∷ host_before false rest)
+      × (port_behind false bytes ≡ port_behind false rest)
+  sides =
+      let both = anew_behind_bracket (take end bytes) rest
+      (subst (λ (s : List ℕ). starts_with_bracket s ≡ true) whole starts) first.2 in
+      (ap (host_before false) whole ∙ both.0, ap (port_behind false) whole ∙ both.1)
+
+  -- no port follows the first `]`
+  pub no_port_behind_bracket : IsPortMark rest None → IsPortMark bytes None
+  no_port_behind_bracket none =
+      (sides.0 ∙ (ap (λ s. take end bytes ++ right_bracket ∷ s) none.0 ∙ sym whole), sides.1 ∙ none.1)
+
+  -- a port follows it
+  pub port_behind_bracket : (place : ℕ) → IsPortMark rest (Some place) → IsPortMark bytes (Some (end + 1 + place))
+  port_behind_bracket place mark =
+      let size = length-take end bytes in
+      let left = length-drop (end + 1) bytes in
+      let further : length (take end bytes) + suc place ≡ end + 1 + place = omega (arith, size, first.0) in
+      let before : take end bytes ++ right_bracket ∷ take place rest ≡ take (end + 1 + place) bytes
+      = sym (take-append-add (take end bytes) (right_bracket ∷ rest) (suc place))
+      ∙ (ap (λ n. take n (take end bytes ++ right_bracket ∷ rest)) further
+      ∙ ap (take (end + 1 + place)) (sym whole)) in
+      let behind : drop (place + 1) rest ≡ drop (end + 1 + place + 1) bytes
+      = drop-drop (place + 1) (end + 1) bytes ∙ ap (λ n. drop n bytes) (omega arith) in (
+        omega (arith, mark.0, left, first.0),
+        sym (get_or-drop (end + 1) bytes place 0) ∙ mark.1,
+        sides.0 ∙ (ap (λ s. take end bytes ++ right_bracket ∷ s) mark.2 ∙ before),
+        sides.1 ∙ (mark.3 ∙ ap (λ s. Some s) behind),
+      )

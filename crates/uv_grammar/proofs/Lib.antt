@@ -2,6 +2,7 @@ pub mod AuthorityLemmas
 pub mod BuiltLemmas
 pub mod HostLemmas
 pub mod KindLemmas
+pub mod MarkSplitLemmas
 pub mod PartFaultLemmas
 pub mod PartLemmas
 pub mod PieceLemmas
@@ -11,6 +12,7 @@ pub mod PortLemmas
 pub mod ScanLemmas
 pub mod SpacedPathLemmas
 pub mod SearchLemmas
+pub mod SchemeEndLemmas
 pub mod SegmentLemmas
 pub mod SettingLemmas
 pub mod SliceLemmas

@@ -15,7 +15,7 @@ use Rattle.uv_model.proofs.Texts.MarkLemmas.{is_without-more}
 use Rattle.uv_grammar.specs.TextSplits.{IsFirstMark}
 
 -- a text at none of whose places the mark stands
-nowhere : (mark : ℕ) (bytes : List ℕ) → ((k : ℕ) → k < length bytes → slice_index bytes k ≢ mark)
+pub nowhere : (mark : ℕ) (bytes : List ℕ) → ((k : ℕ) → k < length bytes → slice_index bytes k ≢ mark)
     → is_without mark bytes ≡ true
 nowhere mark [] none = refl
 nowhere mark (c ∷ rest) none =

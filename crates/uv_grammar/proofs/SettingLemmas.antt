@@ -1,10 +1,12 @@
 -- The class of a scheme by its default port.
 use Rattle.std.proofs.Common.{◌≡◌, ℕ, List, true, false, Some, None, refl, sym, ap, ◌∙◌, inl, inr}
 use Rattle.std.specs.Prelude.{codes}
-use Rattle.std.specs.Str.{bytes_eq}
+use Rattle.std.specs.Str.{bytes_eq, chars}
 use Rattle.std.proofs.lemmas.Bool.{cases_Bool}
 use Rattle.std.proofs.lemmas.Option.{none-some}
 use Rattle.std.proofs.lemmas.Slice.Eq.{bytes_eq-Decides}
+use Rattle.std.proofs.lemmas.Str.{chars-IsAscii}
+use Rattle.uv_model.proofs.Texts.AsciiLemmas.{IsAscii-from_test}
 use Rattle.uv_model.specs.declared.scheme.Class.TheVariants.{Special, File, Other}
 use Rattle.uv_model.specs.Scheme.{default_port, lowercase, port_beside, scheme_class, special_schemes}
 
@@ -32,3 +34,21 @@ pub class_without_port : (scheme : List ℕ) → bytes_eq (lowercase scheme) (co
     → None ≡ default_port scheme → Other ≡ scheme_class scheme
 unfolding scheme_class
 class_without_port scheme other none = rw (other, sym none) refl
+
+-- the default port of bytes that are `https`
+pub port_of_https : (bytes : List ℕ) → bytes_eq bytes (codes "https") ≡ true → Some 443 ≡ default_port (chars bytes)
+unfolding default_port
+port_of_https bytes same =
+    let is = (bytes_eq-Decides bytes (codes "https")).0 same in
+    let read : chars bytes ≡ codes "https"
+    = ap chars is ∙ chars-IsAscii (codes "https") (IsAscii-from_test (codes "https") refl) in
+    rw read refl
+
+-- the default port of bytes that are `http`
+pub port_of_http : (bytes : List ℕ) → bytes_eq bytes (codes "http") ≡ true → Some 80 ≡ default_port (chars bytes)
+unfolding default_port
+port_of_http bytes same =
+    let is = (bytes_eq-Decides bytes (codes "http")).0 same in
+    let read : chars bytes ≡ codes "http"
+    = ap chars is ∙ chars-IsAscii (codes "http") (IsAscii-from_test (codes "http") refl) in
+    rw read refl

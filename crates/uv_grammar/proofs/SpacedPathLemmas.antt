@@ -19,9 +19,8 @@ use Rattle.uv_model.specs.Violations.Violation.{Behind, PathContentViolation, ha
 use Rattle.uv_model.proofs.Violations.RefusalLemmas.{IsLeast-like}
 use Rattle.uv_model.proofs.Violations.SpacedPathLemmas.{path_violation-unit}
 use Rattle.uv_grammar.specs.Faults.{AddsViolations}
-use Rattle.uv_grammar.specs.PartViolations.{OfPath}
 use Rattle.uv_grammar.specs.SpacedPaths.{may_be_spaced, takes_spaces}
-use Rattle.uv_grammar.proofs.ScanLemmas.{adds_like, space_whole, units_scan}
+use Rattle.uv_grammar.proofs.ScanLemmas.{adds_like, units_scan}
 
 -- ---- which violations are asked for
 

@@ -130,17 +130,18 @@ starts_with_drive_segment-chars bytes utf8 = prefix_test starts_with_drive_segme
       any = λ other. passed;
     }
 
+-- a URL-scheme string is ASCII
+pub scheme_ascii : (text : List ℕ) → is_scheme text ≡ true → IsAscii text
+scheme_ascii [] passed = absurd cc
+scheme_ascii (c ∷ rest) passed =
+    let parts = and_parts (is_ascii_alphabetic c) (list_all is_scheme_code_point rest) passed in
+    IsAscii-from_test (c ∷ rest)
+    (and_true (scheme_first-ascii c parts.0)
+    (passes-weaker is_scheme_code_point is_ascii scheme_code_point-ascii rest parts.1))
+
 -- the code points are a URL-scheme string where the bytes are
 pub is_scheme-chars : (bytes : List ℕ) → IsUtf8 bytes → is_scheme (chars bytes) ≡ is_scheme bytes
-is_scheme-chars bytes utf8 = ascii_test is_scheme ascii bytes utf8
-  where
-    ascii : (text : List ℕ) → is_scheme text ≡ true → IsAscii text
-    ascii [] passed = absurd cc
-    ascii (c ∷ rest) passed =
-        let parts = and_parts (is_ascii_alphabetic c) (list_all is_scheme_code_point rest) passed in
-        IsAscii-from_test (c ∷ rest)
-        (and_true (scheme_first-ascii c parts.0)
-        (passes-weaker is_scheme_code_point is_ascii scheme_code_point-ascii rest parts.1))
+is_scheme-chars bytes utf8 = ascii_test is_scheme scheme_ascii bytes utf8
 
 -- the code points are digits where the bytes are
 pub digits-chars : (bytes : List ℕ) → IsUtf8 bytes

@@ -1,7 +1,7 @@
 -- The opaque paths that may hold spaces, after the URL Standard, section 4.4, opaque path state.
 use Rattle.std.specs.Prelude.{Bool, false}
 use Rattle.uv_model.specs.declared.profile.Profile.{Profile}
-use Rattle.uv_model.specs.declared.profile.Profile.TheVariants.{Standard, Wide, Parser}
+use Rattle.uv_model.specs.declared.profile.Profile.TheVariants.{Parser}
 use Rattle.uv_model.specs.Cut.{Cut}
 use Rattle.uv_model.specs.Setting.{Setting}
 use Rattle.uv_model.specs.Violations.Violation.{has_opaque_path}

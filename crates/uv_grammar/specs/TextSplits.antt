@@ -2,16 +2,29 @@
 use Rattle.std.specs.Prelude.{◌≡◌, ◌≢◌, ℕ, ◌+◌, ◌<◌, true, false, List, [], ◌∷◌, ◌++◌, length, take, drop}
 use Rattle.std.specs.Prelude.{slice_index, Option, Some, None}
 use Rattle.uv_model.specs.declared.scheme.Class.{Class}
-use Rattle.uv_model.specs.Ascii.{slash, colon}
+use Rattle.uv_model.specs.Ascii.{colon, number_sign, question_mark, slash}
 use Rattle.uv_model.specs.Cut.{IsAuthorityCut, IsSchemeCut, IsHostCut, host_before, port_behind}
 use Rattle.uv_model.specs.Parts.{written_authority, written_behind, written_scheme}
 use Rattle.uv_model.specs.Path.{is_without, starts_with_slash}
+use Rattle.uv_model.specs.Scheme.{is_scheme, starts_with_scheme}
 
 -- the place of the first such byte
 abbrev pub IsFirstMark : ℕ → List ℕ → Option ℕ → Type 0
 IsFirstMark mark bytes None = is_without mark bytes ≡ true
 IsFirstMark mark bytes (Some place) =
     (place < length bytes) × (slice_index bytes place ≡ mark) × (is_without mark (take place bytes) ≡ true)
+
+-- the text is a start without `?` and `#`, a query without `#` behind `?`, and a fragment behind `#`
+pub record SplitsMarks (text start : List ℕ) (query fragment : Option (List ℕ)) : Type 0 where
+  pub joined : text ≡ (start ++ written_behind question_mark query) ++ written_behind number_sign fragment
+  pub prefix : is_without number_sign (start ++ written_behind question_mark query) ≡ true
+  pub no_question_mark : is_without question_mark start ≡ true
+
+-- the place of the `:` behind the scheme with which the text begins
+abbrev pub IsSchemeEnd : List ℕ → Option ℕ → Type 0
+IsSchemeEnd text None = starts_with_scheme text ≡ false
+IsSchemeEnd text (Some place) =
+    (place < length text) × (slice_index text place ≡ colon) × (is_scheme (take place text) ≡ true)
 
 -- the text is a scheme and `:`, where it begins with such, and the rest
 pub record SplitsScheme (text : List ℕ) (name : Option (List ℕ)) (rest : List ℕ) : Type 0 where

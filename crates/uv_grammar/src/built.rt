@@ -11,7 +11,8 @@ use crate::marks::beginnings::has_slash;
 use crate::parts::Parts;
 use crate::parts_host::PartsHost;
 
-/// The parts of a cut text.
+/// The parts of a cut text. It is inlined, as each part would else be copied once more.
+#[inline(always)]
 pub(crate) fn build<'t>(cut: Cut<'t>, host: Option<PartsHost<'t>>, port: Option<u16>) -> Parts<'t>
     ensures { result ≡ built cut.entry (option_map as_host host.entry) port }
 {

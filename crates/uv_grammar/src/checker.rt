@@ -12,7 +12,7 @@ use crate::bases::{Base, BaseKind};
 use crate::built::build;
 use crate::cut::{Cut, cut_text};
 use crate::judged::Judged;
-use crate::marks::split_at_mark;
+use crate::marks::split_marks;
 use crate::parts::Parts;
 use crate::parts_host::{AsciiText, PartsHost};
 use crate::plain_links::{PlainStart, begins_behind, plain_cut, plain_parts, plain_start};
@@ -103,8 +103,7 @@ fn check_behind<'t>(
     requires behind { begins_behind (chars start.now.rest) ≡ true }
     ensures { IsVerdict profile (as_base base.entry) (chars text.now) result }
 {
-    let (prefix, fragment) = split_at_mark(start.rest.as_str(), '#');
-    let (path_text, query) = split_at_mark(prefix, '?');
+    let (path_text, query, fragment) = split_marks(start.rest.as_str());
     let cut = Cut {
         scheme: Some(start.scheme),
         host_text: Some(start.name),
@@ -123,7 +122,9 @@ fn check_behind<'t>(
     }
 }
 
-/// The verdict on any text, part by part in the order of their places.
+/// The verdict on any text, part by part in the order of their places. It is never inlined, as plain links would then
+/// have to keep registers free for it.
+#[inline(never)]
 pub(crate) fn check_by_parts<'t>(
     alloc: Global,
     text: &'t str,

@@ -1,16 +1,17 @@
 //! The cut of a text into the texts of its parts, none of them judged.
-ghost use Rattle.std.specs.Prelude.{◌≡◌, MatchOption, false};
+ghost use Rattle.std.specs.Prelude.{◌≡◌, MatchOption, false, true};
 ghost use Rattle.std.specs.Str.{chars};
 ghost use Rattle.uv_model.specs.Cut.{IsCut, host_before, is_within, port_behind, starts_with_two_slashes};
+ghost use Rattle.uv_model.specs.Hosts.OpaqueHost.{starts_with_bracket};
 ghost use Rattle.uv_model.specs.Setting.{setting_of};
 ghost use Rattle.uv_grammar.specs.Bases.{as_base};
 ghost use Rattle.uv_grammar.specs.Slices.{chars_of, chars_of_option};
 ghost use Rattle.uv_grammar.specs.TextSplits.{IsPortMark, SplitsAuthority, SplitsHost, SplitsMiddle, SplitsScheme};
 
 use crate::bases::Base;
-use crate::marks::beginnings::is_scheme_text;
+use crate::marks::beginnings::{bracket_first, scheme_end};
 use crate::marks::search::first_mark;
-use crate::marks::{behind_slash, split_at_mark, split_at_slash};
+use crate::marks::{behind_slash, split_at_slash, split_marks};
 use crate::setting::Setting;
 use std::marker::Model;
 use uv_model::{Class, Profile};
@@ -42,9 +43,9 @@ impl<'t> Model for Cut<'t> {
     } };
 }
 
-/// The cut of a text against a base, and what the text is read against. It is never inlined, as plain links, which
-/// need no cut, would then have to keep registers free for it.
-#[inline(never)]
+/// The cut of a text against a base, and what the text is read against. It is inlined, as the texts would else be
+/// stored and loaded once more.
+#[inline(always)]
 pub(crate) fn cut_text<'t, 'b>(
     text: &'t str,
     base: Option<Base<'b>>,
@@ -53,8 +54,7 @@ pub(crate) fn cut_text<'t, 'b>(
     ensures cut { IsCut (as_base base.entry) (chars text.now) result.0 }
     ensures setting { result.1 ≡ setting_of profile (as_base base.entry) result.0.scheme }
 {
-    let (prefix, fragment) = split_at_mark(text, '#');
-    let (start, query) = split_at_mark(prefix, '?');
+    let (start, query, fragment) = split_marks(text);
     let (scheme, middle) = split_scheme(start);
     let setting = Setting::of(base, scheme, profile);
     let (host_text, port_text, path_text) = split_middle(middle, setting.class);
@@ -87,15 +87,9 @@ fn split_middle<'t>(text: &'t str, class: Class) -> (Option<&'t str>, Option<&'t
 pub(crate) fn split_scheme<'t>(text: &'t str) -> (Option<&'t str>, &'t str)
     ensures { SplitsScheme (chars text.now) (chars_of_option result.0) (chars_of result.1) }
 {
-    match split_at_mark(text, ':') {
-        (prefix, Some(rest)) => {
-            if is_scheme_text(prefix) {
-                (Some(prefix), rest)
-            } else {
-                (None, text)
-            }
-        }
-        (_, None) => (None, text),
+    match scheme_end(text.as_bytes()) {
+        Some(end) => (Some(&text[..end]), &text[end + 1..]),
+        None => (None, text),
     }
 }
 
@@ -138,10 +132,28 @@ fn split_port<'t>(authority: &'t str) -> (&'t str, Option<&'t str>)
 fn port_mark(bytes: &[u8]) -> Option<usize>
     ensures { IsPortMark bytes.now result }
 {
+    if bracket_first(bytes) {
+        return port_mark_behind_bracket(bytes);
+    }
     match first_mark(bytes, b':') {
         Some(end) => match first_mark(&bytes[..end], b'[') {
             Some(_) => port_mark_by_brackets(bytes),
             None => Some(end),
+        },
+        None => None,
+    }
+}
+
+// The same, where the authority begins with `[`: no `:` before the first `]` is that of a port, so the many in an IPv6
+// address are passed by one search.
+fn port_mark_behind_bracket(bytes: &[u8]) -> Option<usize>
+    requires { starts_with_bracket bytes.now ≡ true }
+    ensures { IsPortMark bytes.now result }
+{
+    match first_mark(bytes, b']') {
+        Some(end) => match port_mark_by_brackets(&bytes[end + 1..]) {
+            Some(place) => Some(end + 1 + place),
+            None => None,
         },
         None => None,
     }

@@ -1,16 +1,18 @@
 //! Texts cut at ASCII marks, in `search` the search for these, and in `beginnings` the tests of how a text begins.
-ghost use Rattle.std.specs.Prelude.{◌≡◌, ◌<◌, ◌++◌, ◌∷◌, MatchOption, false, true};
+ghost use Rattle.std.specs.Prelude.{◌≡◌, ◌<◌, ◌++◌, ◌∷◌, ◌==◌, MatchOption, Some, false, length, slice_index, true};
 ghost use Rattle.std.specs.Str.{chars};
-ghost use Rattle.uv_model.specs.Ascii.{slash};
+ghost use Rattle.memchr.specs.Find.{IsFirstByte, is_byte2};
+ghost use Rattle.uv_model.specs.Ascii.{number_sign, question_mark, slash};
 ghost use Rattle.uv_model.specs.Path.{is_without, starts_with_slash};
 ghost use Rattle.uv_model.specs.Parts.{written_behind};
 ghost use Rattle.uv_grammar.specs.Slices.{chars_of, chars_of_option};
-ghost use Rattle.uv_grammar.specs.TextSplits.{SplitsAtSlash};
+ghost use Rattle.uv_grammar.specs.TextSplits.{SplitsAtSlash, SplitsMarks};
 
 pub(crate) mod beginnings;
 pub(crate) mod search;
 
 use crate::marks::search::first_mark;
+use memchr::memchr2;
 
 /// What stands before the first such mark, and what follows it where there is one.
 pub(crate) fn split_at_mark<'t>(text: &'t str, mark: char) -> (&'t str, Option<&'t str>)
@@ -22,6 +24,50 @@ pub(crate) fn split_at_mark<'t>(text: &'t str, mark: char) -> (&'t str, Option<&
         Some(end) => (&text[..end], Some(&text[end + 1..])),
         None => (text, None),
     }
+}
+
+/// What stands before the first `?` or `#`, the query where `?` comes first, and the fragment behind the first `#`. In
+/// a text of 32 bytes or more both are searched for at once, since most texts have neither.
+pub(crate) fn split_marks<'t>(text: &'t str) -> (&'t str, Option<&'t str>, Option<&'t str>)
+    ensures { SplitsMarks (chars text.now) (chars_of result.0) (chars_of_option result.1) (chars_of_option result.2) }
+{
+    if text.len() < 32 {
+        return split_marks_in_turn(text);
+    }
+    match memchr2(b'?', b'#', text.as_bytes()) {
+        Some(end) => split_behind_mark(text, end),
+        None => (text, None, None),
+    }
+}
+
+// The same by a search for each.
+fn split_marks_in_turn<'t>(text: &'t str) -> (&'t str, Option<&'t str>, Option<&'t str>)
+    ensures { SplitsMarks (chars text.now) (chars_of result.0) (chars_of_option result.1) (chars_of_option result.2) }
+{
+    let (prefix, fragment) = split_at_mark(text, '#');
+    let (start, query) = split_at_mark(prefix, '?');
+    (start, query, fragment)
+}
+
+// The same, where this is the place of the first of both.
+fn split_behind_mark<'t>(text: &'t str, end: usize) -> (&'t str, Option<&'t str>, Option<&'t str>)
+    requires { IsFirstByte (is_byte2 question_mark number_sign) text.now (Some end) }
+    ensures { SplitsMarks (chars text.now) (chars_of result.0) (chars_of_option result.1) (chars_of_option result.2) }
+{
+    let (start, rest) = (&text[..end], &text[end + 1..]);
+    if has_question_mark(text.as_bytes(), end) {
+        let (query, fragment) = split_at_mark(rest, '#');
+        (start, Some(query), fragment)
+    } else {
+        (start, None, Some(rest))
+    }
+}
+
+fn has_question_mark(bytes: &[u8], place: usize) -> bool
+    requires { place < length bytes.now }
+    ensures { result ≡ (slice_index bytes.now place == question_mark) }
+{
+    bytes[place] == b'?'
 }
 
 /// What stands before the first `/`, and what begins with it.

@@ -40,7 +40,7 @@ impl<'b> Setting<'b> {
         ensures { result ≡ setting_of profile (as_base base.entry) (chars_of_option scheme.entry) }
     {
         let scheme = scheme_against(base, scheme);
-        let default_port = default_port(scheme);
+        let default_port = port_of(scheme);
         Setting {
             profile,
             base,
@@ -59,6 +59,19 @@ fn scheme_against<'s>(base: Option<Base<'s>>, scheme: Option<&'s str>) -> &'s st
         (None, Some(base)) => base.scheme(),
         (None, None) => "",
     }
+}
+
+// The default port of a scheme. Those that most links have are known as they are mostly written.
+fn port_of(scheme: &str) -> Option<u16>
+    ensures { result ≡ default_port (chars scheme.now) }
+{
+    if scheme == "https" {
+        return Some(443);
+    }
+    if scheme == "http" {
+        return Some(80);
+    }
+    default_port(scheme)
 }
 
 // The class of a scheme with this default port.

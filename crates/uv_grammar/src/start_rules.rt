@@ -60,6 +60,7 @@ fn base_fault(text: &str, base: Option<Base<'_>>) -> Option<Refusal>
 }
 
 /// The least refusal of the start of the path.
+#[inline(always)]
 pub(crate) fn path_start_fault(cut: &Cut, setting: &Setting) -> Option<Refusal>
     requires { IsCountable cut.now }
     ensures { IsLeast (OfPathStart setting.now cut.now) result }
@@ -71,6 +72,7 @@ pub(crate) fn path_start_fault(cut: &Cut, setting: &Setting) -> Option<Refusal>
 }
 
 // The same, its place counted in code points from the path's start.
+#[inline(always)]
 fn first_segment_fault(cut: &Cut, setting: &Setting) -> Option<Refusal>
     ensures { IsLeast (PathStartViolation setting.now cut.now) result }
 {

@@ -32,6 +32,7 @@ pub(crate) fn fault_behind_authority(cut: &Cut, setting: &Setting) -> Option<Ref
 }
 
 // The least refusal of what the path holds.
+#[inline(always)]
 fn path_fault(cut: &Cut, setting: &Setting) -> Option<Refusal>
     requires { IsCountable cut.now }
     ensures { IsLeast (OfPath setting.now cut.now) result }
@@ -43,6 +44,7 @@ fn path_fault(cut: &Cut, setting: &Setting) -> Option<Refusal>
 }
 
 // The same, its place counted from the path's start.
+#[inline(always)]
 fn path_text_fault(cut: &Cut, setting: &Setting) -> Option<Refusal>
     ensures { IsLeast (PathContentViolation setting.now cut.now) result }
 {
@@ -53,7 +55,8 @@ fn path_text_fault(cut: &Cut, setting: &Setting) -> Option<Refusal>
     }
 }
 
-// The least refusal of the query.
+// The least refusal of the query. Most texts have none, for which no call is worth its cost; so for the fragment.
+#[inline(always)]
 fn query_fault(cut: &Cut) -> Option<Refusal>
     requires { IsCountable cut.now }
     ensures { IsLeast (OfQuery cut.now) result }
@@ -68,6 +71,7 @@ fn query_fault(cut: &Cut) -> Option<Refusal>
 }
 
 // The least refusal of the fragment.
+#[inline(always)]
 fn fragment_fault(cut: &Cut) -> Option<Refusal>
     requires { IsCountable cut.now }
     ensures { IsLeast (OfFragment cut.now) result }

@@ -1,13 +1,16 @@
 //! Tests of the start of a text, and of schemes and digits.
-ghost use Rattle.std.specs.Prelude.{◌≡◌};
-ghost use Rattle.std.specs.List.{list_all};
-ghost use Rattle.std.specs.Char.{is_ascii_digit};
+ghost use Rattle.std.specs.Prelude.{◌≡◌, ◌≤◌, ◌&&◌, ◌==◌, drop, length};
+ghost use Rattle.std.specs.List.{list_all, prefix_len};
+ghost use Rattle.std.specs.Char.{is_ascii_alphabetic, is_ascii_digit};
 ghost use Rattle.std.specs.Str.{chars};
+ghost use Rattle.uv_model.specs.Ascii.{colon};
 ghost use Rattle.uv_model.specs.Violations.Violation.{starts_with_number_sign};
 ghost use Rattle.uv_model.specs.Cut.{starts_with_two_slashes};
 ghost use Rattle.uv_model.specs.Hosts.OpaqueHost.{starts_with_bracket};
 ghost use Rattle.uv_model.specs.Path.{starts_with_drive_segment, starts_with_slash};
-ghost use Rattle.uv_model.specs.Scheme.{is_scheme, is_scheme_code_point};
+ghost use Rattle.uv_model.specs.Scheme.{is_scheme_code_point};
+ghost use Rattle.uv_text.specs.Splits.{starts_in};
+ghost use Rattle.uv_grammar.specs.TextSplits.{IsSchemeEnd};
 
 use uv_model::is_drive_letter;
 
@@ -84,7 +87,8 @@ pub(crate) fn has_bracket(text: &str) -> bool
     bracket_first(text.as_bytes())
 }
 
-fn bracket_first(bytes: &[u8]) -> bool
+/// The same of bytes.
+pub(crate) fn bracket_first(bytes: &[u8]) -> bool
     ensures { result ≡ starts_with_bracket bytes.now }
 {
     match bytes {
@@ -93,26 +97,50 @@ fn bracket_first(bytes: &[u8]) -> bool
     }
 }
 
-/// Whether the text is a URL-scheme string (URL Standard, section 4.3).
-pub(crate) fn is_scheme_text(text: &str) -> bool
-    ensures { result ≡ is_scheme (chars text.now) }
+/// The place of the `:` behind the URL-scheme string with which the bytes begin (URL Standard, section 4.3). The search
+/// ends at the first byte that no scheme holds, so that it doesn't go through the whole of a text without a scheme.
+pub(crate) fn scheme_end(bytes: &[u8]) -> Option<usize>
+    ensures { IsSchemeEnd bytes.now result }
 {
-    are_scheme_bytes(text.as_bytes())
+    let end = scheme_prefix(bytes);
+    if ends_scheme(bytes, end) {
+        Some(end)
+    } else {
+        None
+    }
 }
 
-fn are_scheme_bytes(bytes: &[u8]) -> bool
-    ensures { result ≡ is_scheme bytes.now }
+// How many bytes that a scheme may hold the bytes begin with.
+fn scheme_prefix(bytes: &[u8]) -> usize
+    ensures { result ≡ prefix_len is_scheme_code_point bytes.now }
+{
+    bytes.iter().take_while(|b| is_scheme_byte(**b)).count()
+}
+
+// Whether a letter stands at the start, and `:` at a place.
+fn ends_scheme(bytes: &[u8], end: usize) -> bool
+    requires { end ≤ length bytes.now }
+    ensures { result ≡ (starts_in is_ascii_alphabetic bytes.now && starts_in (λ c. c == colon) (drop end bytes.now)) }
+{
+    letter_first(bytes) && colon_first(&bytes[end..])
+}
+
+fn letter_first(bytes: &[u8]) -> bool
+    ensures { result ≡ starts_in is_ascii_alphabetic bytes.now }
 {
     match bytes {
-        [first, rest @ ..] => first.is_ascii_alphabetic() && follow_in_scheme(rest),
+        [first, ..] => first.is_ascii_alphabetic(),
         [] => false,
     }
 }
 
-fn follow_in_scheme(bytes: &[u8]) -> bool
-    ensures { result ≡ list_all is_scheme_code_point bytes.now }
+fn colon_first(bytes: &[u8]) -> bool
+    ensures { result ≡ starts_in (λ c. c == colon) bytes.now }
 {
-    bytes.iter().all(|b| is_scheme_byte(*b))
+    match bytes {
+        [first, ..] => *first == b':',
+        [] => false,
+    }
 }
 
 fn is_scheme_byte(b: u8) -> bool

@@ -1,21 +1,22 @@
--- A text without a scheme.
-use Rattle.std.proofs.Common.{◌∙◌, sym}
-use Rattle.std.proofs.lemmas.Bool.{false≢true}
-use Rattle.std.specs.Str.{chars}
-use Rattle.uv_grammar.specs.Slices.{chars_of, chars_of_option}
-use Rattle.uv_grammar.proofs.AuthorityLemmas.{splits_no_scheme}
+-- The sides of the `:` behind a scheme, and a text without one.
+use Rattle.std.proofs.Common.{List, ℕ, Some, None, subst}
+use Rattle.uv_grammar.specs.TextSplits.{IsSchemeEnd}
+use Rattle.uv_grammar.proofs.SchemeEndLemmas.{scheme_boundary, splits_at_scheme_end, splits_without_scheme}
 use Rattle.uv_grammar.proofs.cut.split_scheme.Goals as goal
 
-pub returns-else-is_scheme_text : goal.returns-else-is_scheme_text
-returns-else-is_scheme_text c =
-    splits_no_scheme (chars c.args.text.now)
-    (chars_of c.split_at_mark.result.0) (chars_of_option c.split_at_mark.result.1)
-    c.split_at_mark.ensures.joined c.split_at_mark.ensures.first
-    (λ some. sym c.is_scheme_text.ensures ∙ c.if-is_scheme_text.false)
+pub range_from-requires : goal.range_from-requires
+range_from-requires c = λ some.
+    scheme_boundary c.args.text.now c.in-Some.end c.utf8.text
+    (subst (λ (s : List ℕ). IsSchemeEnd s (Some c.in-Some.end)) c.as_bytes.ensures.value c.in-Some.ensures)
 
-pub returns-in_default-None : goal.returns-in_default-None
-returns-in_default-None c =
-    splits_no_scheme (chars c.args.text.now)
-    (chars_of c.split_at_mark.result.0) (chars_of_option c.split_at_mark.result.1)
-    c.split_at_mark.ensures.joined c.split_at_mark.ensures.first
-    (λ some. absurd (false≢true (rw c.in_default-None.is-1 at some)))
+pub returns-in-Some : goal.returns-in-Some
+returns-in-Some c =
+    splits_at_scheme_end c.args.text.now c.range.result.now c.range_from.result.now c.in-Some.end c.utf8.text
+    c.range.utf8
+    (subst (λ (s : List ℕ). IsSchemeEnd s (Some c.in-Some.end)) c.as_bytes.ensures.value c.in-Some.ensures)
+    c.range.ensures.value c.range_from.ensures.value
+
+pub returns-in-None : goal.returns-in-None
+returns-in-None c =
+    splits_without_scheme c.args.text.now c.utf8.text
+    (subst (λ (s : List ℕ). IsSchemeEnd s None) c.as_bytes.ensures.value c.in-None.ensures)

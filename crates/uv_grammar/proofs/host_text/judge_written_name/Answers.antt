@@ -1,10 +1,6 @@
 -- A plain name and a text that no domain holds take no memory.
 use Rattle.std.proofs.Common.{inl, inr, chars}
-use Rattle.std.proofs.lemmas.Bool.{false≢true, true≢false}
-use Rattle.uv_model.specs.declared.profile.Profile.{Profile}
-use Rattle.uv_model.specs.declared.profile.Profile.TheVariants.{Standard, Wide, Parser}
-use Rattle.uv_model.specs.WrittenProfiles.{IsWritten}
-use Rattle.uv_grammar.specs.NoMemory.{MakesNoForm}
+use Rattle.std.proofs.lemmas.Bool.{false≢true}
 use Rattle.uv_grammar.proofs.HostLemmas.{written_no_form}
 use Rattle.uv_grammar.proofs.host_text.judge_written_name.Goals as goal
 

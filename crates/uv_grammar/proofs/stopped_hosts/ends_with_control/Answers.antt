@@ -1,5 +1,4 @@
 -- The code point that was read last decides.
-use Rattle.std.proofs.Common.{chars}
 use Rattle.uv_grammar.proofs.stopped_hosts.ends_with_control.Goals as goal
 
 pub first_code_point-requires-text-text : goal.first_code_point-requires-text-text

@@ -1,6 +1,5 @@
 -- The least violation by what the path holds, with spaces or without.
 use Rattle.std.proofs.Common.{◌∙◌, ap, subst, sym, List, ℕ, Bool, true}
-use Rattle.std.specs.Str.{chars}
 use Rattle.uv_model.specs.Cut.{Cut}
 use Rattle.uv_model.specs.Violations.Refusal.{IsLeast}
 use Rattle.uv_model.specs.declared.profile.Profile.TheVariants.{Parser}
