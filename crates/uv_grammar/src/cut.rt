@@ -185,3 +185,6 @@ fn is_within(within: bool, b: u8) -> bool
         within
     }
 }
+
+#[cfg(test)]
+mod tests;

@@ -28,7 +28,8 @@ use Rattle.uv_model.specs.declared.profile.Profile.{Profile}
 use Rattle.uv_model.specs.declared.profile.Profile.TheVariants.{Parser, Standard, Wide}
 use Rattle.uv_model.specs.Hosts.Domain.{has_permitted, is_form_code_point, is_permitted}
 use Rattle.uv_host.specs.Domains.{is_simple}
-use Rattle.uv_host.specs.NameKinds.{AreSeen, is_of_none}
+use Rattle.uv_host.specs.declared.names.TheConstants.{KINDS}
+use Rattle.uv_host.specs.NameKinds.{AreSeen, is_of_none, kind_of}
 
 -- ---- bits
 
@@ -67,6 +68,21 @@ none_of_both a k m = elim (cases_eq (bit_and a m) 0) [
   | inr other ↦
       rw (ne_eqb (bit_and a m) 0 other, ne_eqb (bit_and (bit_or a k) m) 0 (λ e. other (first_apart a k m e))) refl
 ]
+
+-- ---- the table of kinds
+
+-- equal by its test
+same_by_test : (n m : ℕ) → (n == m) ≡ true → n ≡ m
+same_by_test n m h = elim (cases_eq n m) [
+  | inl same ↦ same
+  | inr other ↦ absurd (false≢true (sym (ne_eqb n m other) ∙ h))
+]
+
+-- it has the kind of each byte
+pub kind_in_table : (b : ℕ) → b < 256 → slice_index KINDS b ≡ kind_of b
+kind_in_table b small =
+    same_by_test (slice_index KINDS b) (kind_of b)
+    (agree_below_at (λ n. slice_index KINDS n == kind_of n) (λ n. true) 256 b refl small)
 
 -- ---- what a name is
 
