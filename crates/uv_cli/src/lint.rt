@@ -274,8 +274,7 @@ fn lint_opened<R: Files + Eprint + AllocGlobal, S: Sink>(
         × IsUnopened result.1) }
 {
     if let Some(said) = said_of(file) {
-        say(rt, message_line(rt.alloc(), said));
-        return (NONE_COUNTED, Err(LintFault::Read));
+        return (NONE_COUNTED, Err(unnamed(rt, said)));
     }
     match fs::open(rt, file) {
         Ok(opened) => {
@@ -298,6 +297,14 @@ fn report_failed_read<R: Eprint + AllocGlobal>(
     if answer == Err(LintFault::Read) {
         report_unread(rt, file, Unread::of(kind));
     }
+}
+
+// A file whose name isn't UTF-8 is never read, which is reported.
+fn unnamed<R: Eprint + AllocGlobal>(rt: &R, said: &str) -> LintFault
+    ensures { result ≡ LintFault.Read }
+{
+    say(rt, message_line(rt.alloc(), said));
+    LintFault::Read
 }
 
 // Why a file isn't opened. What isn't out of memory is reported.
