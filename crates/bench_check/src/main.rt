@@ -3,9 +3,9 @@
 //! is resolved once.
 //!
 //! `read` cuts the input into lines and does no more. In each round `check` judges each line, `valid` asks for no more
-//! than whether it is valid, and `resolve` makes its record and the record's text; all four say how many lines there
-//! are and how many were valid. `verdicts` writes `1` or `0` for each line, and `texts` the text of its record, or
-//! nothing where it has none.
+//! than whether it is valid, `resolve` makes the URL that it denotes, serialized, and `record` its record and the
+//! record's text; all five say how many lines there are and how many were valid. `verdicts` writes `1` or `0` for each
+//! line, `texts` its serialized URL, and `records` the text of its record, or nothing where it has none.
 #![tactic(auto)]
 
 use std::alloc::{AllocError, Global};
@@ -13,7 +13,7 @@ use std::io::{self, Error, ErrorKind, Read};
 use std::{env, str};
 use uv_grammar::{Verdict, check, is_valid};
 use uv_model::{Profile, Record};
-use uv_resolve::{ResolveFault, resolve, resolve_base};
+use uv_resolve::{ResolveFault, resolve, resolve_base, resolve_serialized};
 
 // What a line is judged against.
 #[derive(Clone, Copy)]
@@ -21,6 +21,13 @@ struct Setting<'s> {
     alloc: Global,
     base: Option<&'s Record>,
     profile: Profile,
+}
+
+// How the text of a URL is made: written from the parts, or from the record.
+#[derive(Clone, Copy)]
+enum Written {
+    Serialized,
+    Record,
 }
 
 fn main(rt: HostRuntime) -> io::Result<()> {
@@ -43,7 +50,8 @@ fn main(rt: HostRuntime) -> io::Result<()> {
     let rounds = word_at(&words, 2, "1").parse::<u32>().unwrap_or(1);
     let said = match word_at(&words, 1, "check") {
         "verdicts" => verdicts_on(&texts, setting)?,
-        "texts" => texts_of(&texts, setting)?,
+        "texts" => texts_of(&texts, setting, Written::Serialized)?,
+        "records" => texts_of(&texts, setting, Written::Record)?,
         mode => {
             let lines = texts.len();
             let valid = count_in_rounds(mode, rounds, &texts, setting)?;
@@ -87,7 +95,8 @@ fn count_in_rounds(
         valid = match mode {
             "check" => count_checked(texts, setting)?,
             "valid" => count_valid(texts, setting)?,
-            "resolve" => count_resolved(texts, setting)?,
+            "resolve" => count_resolved(texts, setting, Written::Serialized)?,
+            "record" => count_resolved(texts, setting, Written::Record)?,
             _ => 0,
         };
     }
@@ -116,24 +125,44 @@ fn count_valid(texts: &[&str], setting: Setting<'_>) -> Result<usize, AllocError
     Ok(valid)
 }
 
-// The same by their records' texts.
-fn count_resolved(texts: &[&str], setting: Setting<'_>) -> Result<usize, AllocError> {
+// The same by the texts of their URLs.
+fn count_resolved(
+    texts: &[&str],
+    setting: Setting<'_>,
+    written: Written,
+) -> Result<usize, AllocError> {
     let mut valid = 0usize;
     for text in texts {
-        if text_of_record(text, setting)?.is_some() {
+        if url_text(text, setting, written)?.is_some() {
             valid = valid.saturating_add(1);
         }
     }
     Ok(valid)
 }
 
-// The text of a text's record, or none where the text is refused.
-fn text_of_record(text: &str, setting: Setting<'_>) -> Result<Option<String>, AllocError> {
-    match resolve(setting.alloc, text, setting.base, setting.profile) {
-        Ok(record) => Ok(Some(record.text(setting.alloc)?)),
+// The text of a text's URL, or none where the text is refused.
+fn url_text(
+    text: &str,
+    setting: Setting<'_>,
+    written: Written,
+) -> Result<Option<String>, AllocError> {
+    let answer = match written {
+        Written::Serialized => {
+            resolve_serialized(setting.alloc, text, setting.base, setting.profile)
+        }
+        Written::Record => record_text(text, setting),
+    };
+    match answer {
+        Ok(text) => Ok(Some(text)),
         Err(ResolveFault::Refused(_)) => Ok(None),
         Err(ResolveFault::Memory(error)) => Err(error),
     }
+}
+
+// The text of a text's record.
+fn record_text(text: &str, setting: Setting<'_>) -> Result<String, ResolveFault> {
+    let record = resolve(setting.alloc, text, setting.base, setting.profile)?;
+    Ok(record.text(setting.alloc)?)
 }
 
 // A `1` for each valid text and a `0` for each other, and a line's end.
@@ -149,12 +178,12 @@ fn verdicts_on(texts: &[&str], setting: Setting<'_>) -> Result<String, AllocErro
     Ok(verdicts)
 }
 
-// A line for each text, with the text of its record where it has one.
-fn texts_of(texts: &[&str], setting: Setting<'_>) -> Result<String, AllocError> {
+// A line for each text, with the text of its URL where it has one.
+fn texts_of(texts: &[&str], setting: Setting<'_>, written: Written) -> Result<String, AllocError> {
     let mut lines = String::new(setting.alloc);
     for text in texts {
-        if let Some(written) = text_of_record(text, setting)? {
-            lines.push_str(written.as_str())?;
+        if let Some(text) = url_text(text, setting, written)? {
+            lines.push_str(text.as_str())?;
         }
         lines.push('\n')?;
     }

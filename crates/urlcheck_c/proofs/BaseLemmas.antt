@@ -1,8 +1,8 @@
 -- What a base that is held says of the bytes from which it was prepared.
-use Rattle.std.proofs.Common.{◌≡◌, ◌≢◌, ℕ, Bool, true, false, List, Some, None, IsUtf8, refl, sym, ap, ◌∙◌, inl, inr}
+use Rattle.std.proofs.Common.{◌≡◌, ◌≢◌, ℕ, Bool, true, false, List, Some, IsUtf8, refl, sym, ap, ◌∙◌, inl, inr}
 use Rattle.std.proofs.Common.{subst, arith}
 use Rattle.std.specs.Prelude.{not, ◌==◌}
-use Rattle.std.proofs.lemmas.Option.{none-some, same_Some}
+use Rattle.std.proofs.lemmas.Option.{same_Some}
 use Rattle.uv_model.specs.declared.profile.Profile.{Profile}
 use Rattle.uv_model.specs.Records.Url.{Url}
 use Rattle.uv_grammar.specs.declared.bases.BaseKind.{BaseKind}
@@ -51,16 +51,6 @@ unread_verdict profile bytes finding (inr (utf8, inr x)) =
 
 -- ---- why nothing is judged
 
--- no profile has the number
-pub unprofiled : (number : ℕ) (base bytes : List ℕ) (held : Base) → IsPreparedBase number base held
-    → held.found.verdict ≡ 6
-    → IsUnjudged number (Some base) bytes held.found
-unprofiled number base bytes held (inl (inl x, numbers)) six = inl x
-unprofiled number base bytes held (inl (inr (profile, is, x), numbers)) six =
-    absurd ((unread_verdict profile base held.found x).0 six)
-unprofiled number base bytes held (inr (kind, of_kind, same)) six =
-    let valid : held.found.verdict ≡ 0 = ap (λ (b : Base). b.found.verdict) same in absurd (omega arith)
-
 -- the text is no UTF-8
 pub no_text : (number : ℕ) (base bytes : List ℕ) (held : Base) (finding : Finding) → IsPreparedBase number base held
     → held.found.verdict ≢ 6 → IsNoText NoUtf8 bytes finding
@@ -104,24 +94,3 @@ read_base number base bytes held profile kind (inr (made, of_kind, same)) valid 
       },
       subst (λ (k : BaseKind). IsOfKind of_kind.url k) kinds of_kind.kind_is,
     )
-
--- the numbers of a base that is valid say a profile
-pub some_profile : (number : ℕ) (base : List ℕ) (held : Base) → IsPreparedBase number base held
-    → held.found.verdict ≡ 0 → profile_of held.profile ≡ None → ⊥
-some_profile number base held (inl (inl x, numbers)) valid none =
-    let six : held.found.verdict ≡ 6 = ap (λ (f : Finding). f.verdict) x.1 in omega arith
-some_profile number base held (inl (inr (other, is, x), numbers)) valid none =
-    (unread_verdict other base held.found x).1 valid
-some_profile number base held (inr (made, of_kind, same)) valid none =
-    none-some of_kind.profile
-    (sym none ∙ (ap (λ (b : Base). profile_of b.profile) same ∙ of_kind.profile_is))
-
--- and a kind
-pub some_kind : (number : ℕ) (base : List ℕ) (held : Base) → IsPreparedBase number base held
-    → held.found.verdict ≡ 0 → kind_in held ≡ None → ⊥
-some_kind number base held (inl (inl x, numbers)) valid none =
-    let six : held.found.verdict ≡ 6 = ap (λ (f : Finding). f.verdict) x.1 in omega arith
-some_kind number base held (inl (inr (other, is, x), numbers)) valid none =
-    (unread_verdict other base held.found x).1 valid
-some_kind number base held (inr (made, of_kind, same)) valid none =
-    none-some made (sym none ∙ (ap kind_in same ∙ kind_back number made))

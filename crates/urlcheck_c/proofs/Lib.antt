@@ -1,3 +1,4 @@
+mod AsciiLemmas
 mod BaseLemmas
 mod PlaceLemmas
 mod RecordLemmas

@@ -4,8 +4,8 @@ use Rattle.uv_model.specs.declared.profile.Profile.{Profile}
 use Rattle.uv_model.specs.Records.Url.{Url}
 use Rattle.uv_mend.specs.declared.answer.Mending.{Mending}
 use Rattle.uv_mend.specs.declared.answer.Mending.TheVariants as answer
-use Rattle.uv_mend.specs.declared.answer.MendKind.{MendKind}
-use Rattle.uv_mend.specs.declared.answer.MendKind.TheVariants.{Same, Escaped, Changed}
+use Rattle.uv_model.specs.declared.mend_kind.MendKind.{MendKind}
+use Rattle.uv_model.specs.declared.mend_kind.MendKind.TheVariants.{Same, Escaped, Changed}
 use Rattle.uv_mend.specs.Mending.{IsMending}
 use Rattle.urlcheck_c.specs.declared.finding.Finding.{Finding}
 use Rattle.urlcheck_c.specs.declared.finding.CallOutcome.TheVariants as outcome

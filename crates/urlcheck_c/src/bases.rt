@@ -76,6 +76,7 @@ impl Base {
     }
 
     // The kind of a valid base.
+    #[inline(always)]
     fn kind(&self) -> Option<BaseKind>
         ensures { result ≡ kind_in self.now }
     {
@@ -130,6 +131,7 @@ pub(crate) struct HeldRequest<'t> {
 
 /// What is to be judged of the bytes of a text against a base that is held, or why nothing is. The order is that of a
 /// base that is judged with the text: a profile, the text, and then the base.
+#[inline(always)]
 pub(crate) fn prepared_with<'t>(text: &'t [u8], base: &Base) -> Result<HeldRequest<'t>, Finding>
     ensures { (number : ℕ) (bytes : List ℕ) → IsPreparedBase number bytes base.now
         → IsPreparedWith number bytes text.now result }

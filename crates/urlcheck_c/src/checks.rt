@@ -58,6 +58,7 @@ pub extern "C" fn urlcheck_check_with(alloc: Global, text: &[u8], base: &Base) -
 }
 
 // The answer on bytes, alone or against those of a base.
+#[inline(always)]
 fn answered(alloc: Global, text: &[u8], base: Option<&[u8]>, profile: u32) -> Answer
     ensures { IsAnswer profile (option_copied base.entry) text.now result }
 {
@@ -68,6 +69,7 @@ fn answered(alloc: Global, text: &[u8], base: Option<&[u8]>, profile: u32) -> An
 }
 
 // The answer on a text that is judged.
+#[inline(always)]
 fn judged(alloc: Global, request: &Request<'_>) -> Answer
     ensures { IsJudged request.now.profile request.now.base request.now.text.now result }
 {
@@ -83,6 +85,7 @@ fn judged(alloc: Global, request: &Request<'_>) -> Answer
 }
 
 // The answer on a text that is judged against a base that is held.
+#[inline(always)]
 fn judged_with(alloc: Global, request: &HeldRequest<'_>) -> Answer
     ensures { (url : Url) → IsOfKind url request.now.base
         → IsJudged request.now.profile (Some url) request.now.text.now result }
@@ -99,6 +102,7 @@ fn judged_with(alloc: Global, request: &HeldRequest<'_>) -> Answer
 }
 
 // An answer without parts.
+#[inline(always)]
 fn unjudged(found: Finding) -> Answer
     ensures found { result.found ≡ found }
     ensures parts { result.parts ≡ no_spans }

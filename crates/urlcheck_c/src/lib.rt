@@ -3,6 +3,7 @@
 //! Each export takes any bytes and any number as profile, keeps nothing and may be called from any thread.
 #![tactic(auto)]
 
+mod ascii;
 mod bases;
 mod buffers;
 mod checks;

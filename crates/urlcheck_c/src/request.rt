@@ -3,6 +3,7 @@ ghost use Rattle.std.specs.Prelude.{◌≡◌, option_copied};
 ghost use Rattle.urlcheck_c.specs.Finding.{profile_of};
 ghost use Rattle.urlcheck_c.specs.Request.{IsBaseRead, IsPrepared, IsTextRead};
 
+use crate::ascii::ascii_text;
 use crate::finding::{CallOutcome, Finding};
 use simdutf8::compat::from_utf8;
 use std::alloc::Global;
@@ -21,6 +22,7 @@ pub(crate) struct Request<'t> {
 }
 
 /// What is to be judged of the bytes of a text and of a base, or why nothing is.
+#[inline(always)]
 pub(crate) fn prepared<'t>(
     alloc: Global,
     text: &'t [u8],
@@ -48,6 +50,7 @@ pub(crate) fn prepared<'t>(
 }
 
 /// The profile with this number: 0 is the standard profile, 1 the wide one, 2 the parser's.
+#[inline(always)]
 pub(crate) fn profile_of(number: u32) -> Option<Profile>
     ensures { result ≡ profile_of number }
 {
@@ -60,7 +63,19 @@ pub(crate) fn profile_of(number: u32) -> Option<Profile>
 }
 
 /// The bytes as a text.
+#[inline(always)]
 pub(crate) fn text_of(bytes: &[u8], fault: CallOutcome) -> Result<&str, Finding>
+    ensures { IsTextRead fault bytes.now result }
+{
+    match ascii_text(bytes) {
+        Some(text) => Ok(text),
+        None => text_beyond_ascii(bytes, fault),
+    }
+}
+
+// The same of bytes that aren't all ASCII.
+#[inline(never)]
+fn text_beyond_ascii(bytes: &[u8], fault: CallOutcome) -> Result<&str, Finding>
     ensures { IsTextRead fault bytes.now result }
 {
     match from_utf8(bytes) {

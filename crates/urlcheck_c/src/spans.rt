@@ -41,6 +41,7 @@ pub struct Spans {
 
 impl Spans {
     /// The spans of a text without parts.
+    #[inline(always)]
     pub(crate) fn none() -> Spans
         ensures { result ≡ no_spans }
     {
@@ -61,6 +62,7 @@ impl Spans {
 }
 
 /// The places of the parts of a valid text.
+#[inline(always)]
 pub(crate) fn placed(text: &str, parts: &Parts<'_>) -> Spans
     requires { (profile : Profile) × (base : Option Url) × Valid profile base (chars text.now) parts.now }
     ensures { AreSpans text.now parts.now result }
@@ -69,6 +71,7 @@ pub(crate) fn placed(text: &str, parts: &Parts<'_>) -> Spans
 }
 
 // The places of parts that stand one behind the other, with their delimiters.
+#[inline(always)]
 fn laid(whole: usize, parts: &Parts<'_>) -> Spans
     requires { whole ≡ whole_extent parts.now }
     ensures { result ≡ spans_of parts.now }
@@ -90,6 +93,7 @@ fn laid(whole: usize, parts: &Parts<'_>) -> Spans
 
 // How many bytes a part takes with its delimiter.
 #[tactic(auto, using(crate::proofs::SeenLemmas::encoded_length))]
+#[inline(always)]
 fn taken(mark: usize, part: Option<&str>) -> usize
     requires { mark < 3 }
     ensures { result ≡ extent mark (chars_of_option part.entry) }
@@ -102,6 +106,7 @@ fn taken(mark: usize, part: Option<&str>) -> usize
 
 // The place of a part behind its delimiter.
 #[tactic(auto, using(crate::proofs::SeenLemmas::encoded_length))]
+#[inline(always)]
 fn one_place(at: usize, mark: usize, part: Option<&str>) -> Span
     requires mark { mark < 3 }
     requires fits { at + extent mark (chars_of_option part) < 2 ^ 64 }

@@ -12,7 +12,8 @@ use Rattle.uv_cli.specs.declared.program.Ended.{Ended}
 
 -- help was printed, or printing it failed
 pub shown-printed : (fault : WordsFault) (end : End) (answer : Result (Unit {0}) Error) (ended : Ended)
-    → MatchResult answer (λ done. ended ≡ open_end end) (λ error. ended ≡ ended_after end false (Some (error_kind error)))
+    → MatchResult answer (λ done. ended ≡ open_end end)
+    (λ error. ended ≡ ended_after end false (Some (error_kind error)))
     → end ≡ end_without_job fault → asks_to_show fault ≡ true → HasShown fault ended
 shown-printed fault end (Ok done) ended is same asks = inl (subst (λ (e : End). ended ≡ open_end e) same is)
 shown-printed fault end (Err error) ended is same asks =

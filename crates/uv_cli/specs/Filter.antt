@@ -7,8 +7,8 @@ use Rattle.uv_filter.specs.Fates.{Mender}
 use Rattle.uv_filter.specs.Filtered.{Filtering, starting}
 use Rattle.uv_filter.specs.Lines.{all_lines}
 use Rattle.uv_filter.specs.Run.{Leaves, Wrote, reads_failed, writes_failed}
-use Rattle.uv_mend.specs.declared.answer.MendKind.{MendKind}
-use Rattle.uv_mend.specs.Kinds.{named_kind}
+use Rattle.uv_model.specs.declared.mend_kind.MendKind.{MendKind}
+use Rattle.uv_model.specs.MendKindName.{named_kind}
 use Rattle.uv_model.specs.Records.Url.{Url}
 use Rattle.uv_resolve.specs.Base.{IsBase, IsBaseRefused}
 use Rattle.uv_vectors.specs.declared.fault.CliFault.TheVariants as cli

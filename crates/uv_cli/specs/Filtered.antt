@@ -51,6 +51,7 @@ mended_text counts =
 unfoldable pub refused_text : ℕ → List ℕ
 refused_text count = codes ", " ++ (decimal count ++ codes " refused\n")
 
+-- the line of counts
 abbrev pub counts_text : FilterCounts → List ℕ
 counts_text counts =
     lines_text counts.lines ++ (mended_text counts ++ refused_text (refused_count counts))

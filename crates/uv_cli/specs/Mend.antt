@@ -6,7 +6,7 @@ use Rattle.uv_model.specs.declared.profile.Profile.{Profile}
 use Rattle.uv_model.specs.Records.Url.{Url}
 use Rattle.uv_mend.specs.declared.answer.Mending.{Mending}
 use Rattle.uv_mend.specs.declared.answer.Mending.TheVariants as mending
-use Rattle.uv_mend.specs.Kinds.{kind_name}
+use Rattle.uv_model.specs.MendKindName.{kind_name}
 use Rattle.uv_mend.specs.Mending.{IsMending}
 use Rattle.uv_resolve.specs.Base.{IsBase, IsBaseRefused}
 use Rattle.uv_vectors.specs.declared.fault.CliFault.TheVariants as cli

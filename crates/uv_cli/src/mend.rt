@@ -1,6 +1,6 @@
 //! The command `mend`: what to write in place of one text, alone or against a base.
 ghost use Rattle.std.specs.Prelude.{◌≡◌, ◌+◌, ◌-◌, ◌^◌, ◌<◌, ◌++◌, IfOk, OnOk, codes, option_copied, string_bytes};
-ghost use Rattle.uv_mend.specs.Kinds.{kind_name};
+ghost use Rattle.uv_model.specs.MendKindName.{kind_name};
 ghost use Rattle.uv_cli.specs.Mend as spec;
 ghost use Rattle.uv_cli.specs.Mend.{HasWrittenMending, HasWrittenMendingPrefix, SaysMending, WritesMending};
 ghost use Rattle.uv_cli.specs.Mend.{WritesMendingPrefix, mending_text};

@@ -1,9 +1,9 @@
 -- What the faults of a run leave.
-use Rattle.std.proofs.Common.{◌≡◌, ℕ, ◌+◌, ◌<◌, Bool, true, false, List, [], ◌∷◌, ◌++◌, Option, length, take, refl}
+use Rattle.std.proofs.Common.{◌≡◌, ℕ, ◌+◌, Bool, true, false, List, [], ◌∷◌, ◌++◌, Option, length, take, refl}
 use Rattle.std.proofs.Common.{sym, ap, ◌∙◌, subst, arith, append_assoc, append-nil, inl}
-use Rattle.std.proofs.KnownBytes.{Appends-trans, Appends-nil, Consumes-trans}
+use Rattle.std.proofs.KnownBytes.{Appends-trans, Appends-nil}
 use Rattle.std.proofs.Math.Seq.{take-append-add, take-length}
-use Rattle.std.specs.Io.KnownBytes.{Appends, Consumes, IsAtEnd}
+use Rattle.std.specs.Io.KnownBytes.{Appends}
 use Rattle.uv_lines.specs.Lines.{line_feed, split}
 use Rattle.uv_lines.proofs.FramedLemmas.{prefix_of}
 use Rattle.uv_filter.specs.declared.fault.FilterFault.{FilterFault}
@@ -240,13 +240,4 @@ nothing_written start old at_end = (
   omega arith,
   inl (omega arith),
   record { text = []; filtered = (refl, refl); wrote = Appends-nil old },
-)
-
--- a read that gives nothing has come to the end
-pub read_end : (a b c : Option (List ℕ)) (read into : List ℕ) (n : ℕ) → n ≡ 0 → 0 < length into → Consumes a b read
-    → Consumes b c (take n into) → (n ≡ 0 → 0 < length into → IsAtEnd c) → Consumes a c read × IsAtEnd c
-read_end a b c read into n none room before given ends = (
-  subst (λ l. Consumes a c l) (append-nil read)
-      (Consumes-trans a b c read [] before (subst (λ k. Consumes b c (take k into)) none given)),
-  ends none room,
 )

@@ -1,7 +1,7 @@
 -- What has become of lines, counted.
 use Rattle.std.specs.Prelude.{ℕ, ◌+◌, ◌-◌, ◌^◌, min}
-use Rattle.uv_mend.specs.declared.answer.MendKind.{MendKind}
-use Rattle.uv_mend.specs.declared.answer.MendKind.TheVariants.{Same, Escaped, Changed}
+use Rattle.uv_model.specs.declared.mend_kind.MendKind.{MendKind}
+use Rattle.uv_model.specs.declared.mend_kind.MendKind.TheVariants.{Same, Escaped, Changed}
 use Rattle.uv_filter.specs.declared.counts.FilterCounts.{FilterCounts}
 use Rattle.uv_filter.specs.declared.fate.Fate.{Fate}
 use Rattle.uv_filter.specs.declared.fate.Fate.TheVariants as fate

@@ -5,8 +5,8 @@ use Rattle.std.specs.Str.{IsUtf8}
 use Rattle.uv_model.specs.declared.profile.Profile.{Profile}
 use Rattle.uv_model.specs.declared.rule.Refusal.{Refusal}
 use Rattle.uv_model.specs.Records.Url.{Url}
-use Rattle.uv_mend.specs.declared.answer.MendKind.{MendKind}
-use Rattle.uv_mend.specs.declared.answer.MendKind.TheVariants as kind
+use Rattle.uv_model.specs.declared.mend_kind.MendKind.{MendKind}
+use Rattle.uv_model.specs.declared.mend_kind.MendKind.TheVariants as kind
 use Rattle.uv_mend.specs.declared.answer.Mending.TheVariants as answer
 use Rattle.uv_mend.specs.Mending.{IsMended, IsMending}
 use Rattle.uv_mend.specs.Repairs.{IsValid}

@@ -23,10 +23,11 @@ feed_of false = []
 abbrev pub whole : Line → List ℕ
 whole line = line.bytes ++ feed_of line.closed
 
--- a line that an LF ends, and one that none does
+-- a line that an LF ends
 abbrev pub ended_line : List ℕ → Line
 ended_line bytes = record { bytes = bytes; closed = true }
 
+-- a line that no LF ends
 abbrev pub open_line : List ℕ → Line
 open_line bytes = record { bytes = bytes; closed = false }
 

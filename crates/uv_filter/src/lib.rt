@@ -16,6 +16,3 @@ pub use counts::FilterCounts;
 pub use fault::FilterFault;
 pub use run::run_filter;
 pub use setting::FilterSetting;
-
-#[cfg(test)]
-mod tests;

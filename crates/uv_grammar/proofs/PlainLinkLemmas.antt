@@ -1,7 +1,7 @@
 -- A link of plain parts is valid with them, and a text with a plain start is judged by what stands behind that.
 use Rattle.std.proofs.Common.{◌≡◌, ◌≢◌, ℕ, Bool, true, false, ◌==◌, List, [], ◌∷◌, ◌++◌, Option, Some, None, refl, sym, ap}
 use Rattle.std.proofs.Common.{◌∙◌, ◌<◌, ◌^◌, ◌||◌, length, subst, inl, inr, arith, append_assoc, append-nil}
-use Rattle.std.specs.Char.{is_ascii_digit}
+use Rattle.std.specs.Char.{is_ascii_alphabetic, is_ascii_digit}
 use Rattle.std.specs.List.{list_all}
 use Rattle.std.specs.Str.{chars, IsUtf8}
 use Rattle.std.proofs.lemmas.Bool.{and_parts, cases_Bool, false≢true}
@@ -24,13 +24,14 @@ use Rattle.uv_model.specs.Violations.Refusal.{IsLeast}
 use Rattle.uv_model.specs.Violations.Violation.{HostPartViolation, HostTextViolation, HostViolation, IsStarted}
 use Rattle.uv_model.specs.Violations.Violation.{MayBeUnitViolation, PathStartViolation, PortPartViolation}
 use Rattle.uv_model.specs.Violations.Violation.{has_opaque_path}
-use Rattle.uv_model.specs.Cut.{Cut, IsCut, EndsAtPort, IsHostCut, is_within, is_within_at_end, written_cut}
+use Rattle.uv_model.specs.Cut.{Cut, IsCut, EndsAtPort, IsHostCut, IsSchemeCut, is_within, is_within_at_end, written_cut}
 use Rattle.uv_model.specs.Cut.{ends_at_host, is_followed, written_start, starts_with_two_slashes}
 use Rattle.uv_model.specs.Hosts.Domain.{IsDomain, is_form_code_point}
-use Rattle.uv_model.specs.Parts.{written_behind}
+use Rattle.uv_model.specs.Parts.{written_authority, written_behind, written_scheme}
 use Rattle.uv_model.specs.Path.{is_without, starts_with_slash}
 use Rattle.uv_model.specs.Records.Url.{Url}
-use Rattle.uv_model.specs.Setting.{Setting, setting_of}
+use Rattle.uv_model.specs.Scheme.{is_scheme_code_point, scheme_class}
+use Rattle.uv_model.specs.Setting.{Setting, scheme_or, setting_of}
 use Rattle.uv_model.proofs.Hosts.DomainLemmas.{IsAscii-form}
 use Rattle.uv_model.proofs.Cuts.HostCutLemmas.{is_without-passes}
 use Rattle.uv_model.proofs.Cuts.ValidCutLemmas.{scheme_without}
@@ -43,7 +44,8 @@ use Rattle.uv_grammar.specs.Built.{built}
 use Rattle.uv_grammar.specs.PartViolations.{BehindAuthority, IsCountable}
 use Rattle.uv_grammar.specs.PartValues.{FitsHostPart, FitsPortPart}
 use Rattle.uv_grammar.specs.declared.plain_links.PlainCut.{PlainCut}
-use Rattle.uv_grammar.specs.PlainLinks.{IsPlainCut, IsPlainLink, IsPortCut, IsStartCut, MayBeUnits, begins_behind}
+use Rattle.uv_grammar.specs.PlainLinks.{IsPlainCut, IsPlainLink, IsPortCut, IsSpecialStart, IsStartCut, MayBeUnits}
+use Rattle.uv_grammar.specs.PlainLinks.{begins_behind}
 use Rattle.uv_grammar.specs.Slices.{chars_of, chars_of_option}
 use Rattle.uv_grammar.specs.Verdict.{IsAccepted, IsRefused, IsValidity}
 use Rattle.uv_grammar.proofs.VerdictLemmas.{accepted, countable, refused_behind}
@@ -57,9 +59,9 @@ form_each name form is = list_all-from_AllPass (is_form_code_point Standard) for
 -- ---- the cut
 
 -- the cut of a plain link
-abbrev pub plain_cut : List ℕ → List ℕ → Option (List ℕ) → List ℕ → Option (List ℕ) → Option (List ℕ) → Cut
+abbrev pub plain_cut : Option (List ℕ) → List ℕ → Option (List ℕ) → List ℕ → Option (List ℕ) → Option (List ℕ) → Cut
 plain_cut scheme name port_text path query fragment = record {
-  scheme = Some scheme;
+  scheme = scheme;
   host_text = Some name;
   port_text = port_text;
   path_text = path;
@@ -68,12 +70,12 @@ plain_cut scheme name port_text path query fragment = record {
 }
 
 -- what stands before the query lacks a mark that each part lacks
-start_without : (mark : ℕ) (scheme name port path : List ℕ) → (slash == mark) ≡ false
-    → is_without mark (scheme ++ colon ∷ []) ≡ true → is_without mark name ≡ true → is_without mark port ≡ true
+start_without : (mark : ℕ) (before name port path : List ℕ) → (slash == mark) ≡ false
+    → is_without mark before ≡ true → is_without mark name ≡ true → is_without mark port ≡ true
     → is_without mark path ≡ true
-    → is_without mark ((scheme ++ colon ∷ []) ++ ((slash ∷ slash ∷ (name ++ port)) ++ path)) ≡ true
-start_without mark scheme name port path slash_other a b p c =
-    is_without-append mark (scheme ++ colon ∷ []) ((slash ∷ slash ∷ (name ++ port)) ++ path) a
+    → is_without mark (before ++ ((slash ∷ slash ∷ (name ++ port)) ++ path)) ≡ true
+start_without mark before name port path slash_other a b p c =
+    is_without-append mark before ((slash ∷ slash ∷ (name ++ port)) ++ path) a
     (is_without-append mark (slash ∷ slash ∷ (name ++ port)) path
     (is_without-more mark slash (slash ∷ (name ++ port)) slash_other
     (is_without-more mark slash (name ++ port) slash_other (is_without-append mark name port b p)))
@@ -118,81 +120,123 @@ ends_at_port name port_text each =
 own_form : (name form : List ℕ) → IsDomain Standard name form → chars form ≡ name → name ≡ form
 own_form name form is same = sym same ∙ chars-IsAscii form (IsAscii-form Standard name form is.0)
 
-start_joined : (scheme middle query fragment : List ℕ)
-    → (((scheme ++ colon ∷ []) ++ (slash ∷ slash ∷ middle)) ++ query) ++ fragment
-    ≡ scheme ++ colon ∷ slash ∷ slash ∷ ((middle ++ query) ++ fragment)
+-- a text with a special start is what its scheme is written as, `//` and a rest
+special_joined : (base : Option Url) (text : List ℕ) (scheme : Option (List ℕ)) (behind : List ℕ)
+    → IsSpecialStart base text scheme behind → text ≡ written_scheme scheme ++ slash ∷ slash ∷ behind
+special_joined base text (Some scheme) behind special =
+    special.joined ∙ sym (append_assoc scheme (colon ∷ []) (slash ∷ slash ∷ behind))
+special_joined None text None behind special = absurd special
+special_joined (Some url) text None behind special = special.joined
+
+-- its class is that of its scheme, or of the base's
+special_class : (base : Option Url) (text : List ℕ) (scheme : Option (List ℕ)) (behind : List ℕ)
+    → IsSpecialStart base text scheme behind → scheme_class (scheme_or base scheme) ≡ Special
+special_class base text (Some scheme) behind special = special.special
+special_class None text None behind special = absurd special
+special_class (Some url) text None behind special = special.special
+
+-- the scheme, where there is one, is a URL-scheme string, and `/` begins none
+special_scheme : (base : Option Url) (text : List ℕ) (scheme : Option (List ℕ)) (behind name : List ℕ)
+    (port_text : Option (List ℕ)) (path : List ℕ) → IsSpecialStart base text scheme behind
+    → IsSchemeCut scheme (written_authority (Some name) port_text ++ path)
+special_scheme base text (Some scheme) behind name port_text path special = special.named
+special_scheme base text None behind name port_text path special = refl
+
+-- nor has it a mark that no scheme has
+special_without : (mark : ℕ) (base : Option Url) (text : List ℕ) (scheme : Option (List ℕ)) (behind : List ℕ)
+    → is_scheme_code_point mark ≡ false → is_ascii_alphabetic mark ≡ false → (colon == mark) ≡ false
+    → IsSpecialStart base text scheme behind → is_without mark (written_scheme scheme) ≡ true
+special_without mark base text (Some scheme) behind other letter differs special =
+    scheme_without mark scheme other letter differs special.named
+special_without mark base text None behind other letter differs special = refl
+
+start_joined : (before middle query fragment : List ℕ)
+    → ((before ++ (slash ∷ slash ∷ middle)) ++ query) ++ fragment
+    ≡ before ++ slash ∷ slash ∷ ((middle ++ query) ++ fragment)
 start_joined [] middle query fragment = refl
-start_joined (c ∷ scheme) middle query fragment = ap (λ (s : List ℕ). c ∷ s) (start_joined scheme middle query fragment)
+start_joined (c ∷ before) middle query fragment = ap (λ (s : List ℕ). c ∷ s) (start_joined before middle query fragment)
 
 middle_joined : (name port path query fragment : List ℕ)
     → (((name ++ port) ++ path) ++ query) ++ fragment ≡ name ++ (port ++ (path ++ (query ++ fragment)))
 middle_joined name port path query fragment = simp append_assoc
 
-arranged : (scheme name port path query fragment : List ℕ)
-    → scheme ++ colon ∷ slash ∷ slash ∷ (name ++ (port ++ (path ++ (query ++ fragment))))
-    ≡ (((scheme ++ colon ∷ []) ++ ((slash ∷ slash ∷ (name ++ port)) ++ path)) ++ query) ++ fragment
-arranged scheme name port path query fragment =
-    ap (λ (s : List ℕ). scheme ++ colon ∷ slash ∷ slash ∷ s) (sym (middle_joined name port path query fragment))
-    ∙ sym (start_joined scheme ((name ++ port) ++ path) query fragment)
+arranged : (before name port path query fragment : List ℕ)
+    → before ++ slash ∷ slash ∷ (name ++ (port ++ (path ++ (query ++ fragment))))
+    ≡ ((before ++ ((slash ∷ slash ∷ (name ++ port)) ++ path)) ++ query) ++ fragment
+arranged before name port path query fragment =
+    ap (λ (s : List ℕ). before ++ slash ∷ slash ∷ s) (sym (middle_joined name port path query fragment))
+    ∙ sym (start_joined before ((name ++ port) ++ path) query fragment)
 
-plain_whole : (text scheme name form : List ℕ) (port_text : Option (List ℕ)) (port : Option ℕ) (path : List ℕ)
-    (query fragment : Option (List ℕ))
-    → IsPlainLink text scheme name form port_text port path query fragment
+plain_whole : (base : Option Url) (text : List ℕ) (scheme : Option (List ℕ)) (name form : List ℕ)
+    (port_text : Option (List ℕ)) (port : Option ℕ) (path : List ℕ) (query fragment : Option (List ℕ))
+    → IsPlainLink base text scheme name form port_text port path query fragment
     → text ≡ written_cut (plain_cut scheme name port_text path query fragment)
-plain_whole text scheme name form port_text port path query fragment l =
-    l.special.joined
-    ∙ ap (λ s. scheme ++ colon ∷ slash ∷ slash ∷ s)
+plain_whole base text scheme name form port_text port path query fragment l =
+    special_joined base text scheme l.behind l.special
+    ∙ ap (λ s. written_scheme scheme ++ slash ∷ slash ∷ s)
     (l.named.joined ∙ ap (λ s. name ++ s) (l.port_cut.joined ∙ ap (λ s. written_behind colon port_text ++ s)
     (l.path_cut.joined ∙ ap (λ s. path ++ s) (l.query_cut.joined ∙ ap (λ s. written_behind question_mark query ++ s)
     (l.fragment_cut.joined ∙ append-nil _)))))
-    ∙ arranged scheme name (written_behind colon port_text) path (written_behind question_mark query)
+    ∙ arranged (written_scheme scheme) name (written_behind colon port_text) path (written_behind question_mark query)
     (written_behind number_sign fragment)
 
-plain_is_cut : (base : Option Url) (text scheme name form : List ℕ) (port_text : Option (List ℕ)) (port : Option ℕ)
-    (path : List ℕ) (query fragment : Option (List ℕ)) → name ≡ form
-    → IsPlainLink text scheme name form port_text port path query fragment
+plain_is_cut : (base : Option Url) (text : List ℕ) (scheme : Option (List ℕ)) (name form : List ℕ)
+    (port_text : Option (List ℕ)) (port : Option ℕ) (path : List ℕ) (query fragment : Option (List ℕ)) → name ≡ form
+    → IsPlainLink base text scheme name form port_text port path query fragment
     → IsCut base text (plain_cut scheme name port_text path query fragment)
 plain_is_cut base text scheme name form port_text port path query fragment own l =
     let each : list_all (is_form_code_point Standard) name ≡ true
     = ap (list_all (is_form_code_point Standard)) own ∙ form_each name form (l.named.domain Standard) in
     let ported = written_behind colon port_text in
     record {
-      whole = plain_whole text scheme name form port_text port path query fragment l;
+      whole = plain_whole base text scheme name form port_text port path query fragment l;
       prefix =
           is_without-append number_sign (written_start (plain_cut scheme name port_text path query fragment))
           (written_behind question_mark query)
-          (start_without number_sign scheme name ported path refl
-          (scheme_without number_sign scheme refl refl refl l.special.named)
+          (start_without number_sign (written_scheme scheme) name ported path refl
+          (special_without number_sign base text scheme l.behind refl refl refl l.special)
           (is_without-passes (is_form_code_point Standard) number_sign name refl each)
           (port_without number_sign port_text refl refl l.port_cut.valid)
           l.path_cut.units.no_number_sign)
           (part_without query l.query_cut.units);
       start =
-          start_without question_mark scheme name ported path refl
-          (scheme_without question_mark scheme refl refl refl l.special.named)
+          start_without question_mark (written_scheme scheme) name ported path refl
+          (special_without question_mark base text scheme l.behind refl refl refl l.special)
           (is_without-passes (is_form_code_point Standard) question_mark name refl each)
           (port_without question_mark port_text refl refl l.port_cut.valid)
           (l.path_cut.units.no_question_mark refl);
-      scheme = l.special.named;
+      scheme = special_scheme base text scheme l.behind name port_text path l.special;
       authority = (
         is_without-append slash name ported (is_without-passes (is_form_code_point Standard) slash name refl each)
             (port_without slash port_text refl refl l.port_cut.valid),
         l.path_cut.slashed,
-        subst (λ k. IsHostCut k name port_text) (sym l.special.special) (ends_at_port name port_text each),
+        subst (λ k. IsHostCut k name port_text) (sym (special_class base text scheme l.behind l.special))
+            (ends_at_port name port_text each),
       );
     }
 
 -- ---- the rules
 
-plain_started : (setting : Setting) (text scheme name : List ℕ) (port_text : Option (List ℕ)) (path : List ℕ)
-    (query fragment : Option (List ℕ))
-    → IsStarted setting text (plain_cut scheme name port_text path query fragment)
-plain_started setting text scheme name port_text path query fragment place NoScheme h = none-some scheme (sym h.0)
-plain_started setting text scheme name port_text path query fragment place OpaqueBase h = none-some scheme (sym h.0)
-plain_started setting text scheme name port_text path query fragment place TwoSlashes h = none-some name (sym h.0.2)
-plain_started setting text scheme name port_text path query fragment place _ h = absurd h
+plain_started : (profile : Profile) (base : Option Url) (text : List ℕ) (scheme : Option (List ℕ))
+    (behind name : List ℕ) (port_text : Option (List ℕ)) (path : List ℕ) (query fragment : Option (List ℕ))
+    → IsSpecialStart base text scheme behind
+    → IsStarted (setting_of profile base scheme) text (plain_cut scheme name port_text path query fragment)
+plain_started profile base text (Some scheme) behind name port_text path query fragment special place NoScheme h =
+    none-some scheme (sym h.0)
+plain_started profile None text None behind name port_text path query fragment special place NoScheme h = absurd special
+plain_started profile (Some url) text None behind name port_text path query fragment special place NoScheme h =
+    none-some url (sym h.1)
+plain_started profile base text (Some scheme) behind name port_text path query fragment special place OpaqueBase h =
+    none-some scheme (sym h.0)
+plain_started profile None text None behind name port_text path query fragment special place OpaqueBase h =
+    absurd special
+plain_started profile (Some url) text None behind name port_text path query fragment special place OpaqueBase h =
+    false≢true (sym special.segments ∙ h.1)
+plain_started profile base text scheme behind name port_text path query fragment special place TwoSlashes h =
+    none-some name (sym h.0.2)
+plain_started profile base text scheme behind name port_text path query fragment special place _ h = absurd h
 
-plain_path_start : (setting : Setting) (scheme name : List ℕ) (port_text : Option (List ℕ)) (path : List ℕ)
+plain_path_start : (setting : Setting) (scheme : Option (List ℕ)) (name : List ℕ) (port_text : Option (List ℕ)) (path : List ℕ)
     (query fragment : Option (List ℕ)) (place : ℕ) (rule : Rule)
     → setting.class ≡ Special → starts_with_two_slashes path ≡ false
     → PathStartViolation setting (plain_cut scheme name port_text path query fragment) place rule → ⊥
@@ -207,21 +251,21 @@ part_silent : (start : ℕ) (part : Option (List ℕ)) (place : ℕ) (rule : Rul
 part_silent start None place rule units h = h
 part_silent start (Some text) place rule units h = no_violation-faultless text units.units h.inner rule h.holds
 
-plain_silent : (setting : Setting) (text scheme name form : List ℕ) (port_text : Option (List ℕ)) (port : Option ℕ)
+plain_silent : (setting : Setting) (base : Option Url) (text : List ℕ) (scheme : Option (List ℕ)) (name form : List ℕ) (port_text : Option (List ℕ)) (port : Option ℕ)
     (path : List ℕ) (query fragment : Option (List ℕ))
-    → setting.class ≡ Special → IsPlainLink text scheme name form port_text port path query fragment → (place : ℕ)
+    → setting.class ≡ Special → IsPlainLink base text scheme name form port_text port path query fragment → (place : ℕ)
     (rule : Rule)
     → BehindAuthority setting (plain_cut scheme name port_text path query fragment) place rule → ⊥
-plain_silent setting text scheme name form port_text port path query fragment special l place rule (inl h) =
+plain_silent setting base text scheme name form port_text port path query fragment special l place rule (inl h) =
     plain_path_start setting scheme name port_text path query fragment h.inner rule special l.path_cut.single h.holds
-plain_silent setting text scheme name form port_text port path query fragment special l place rule (inr (inl h)) =
+plain_silent setting base text scheme name form port_text port path query fragment special l place rule (inr (inl h)) =
     no_violation-faultless path l.path_cut.units.units h.inner rule
     (path_violation-unit setting.profile
     (has_opaque_path setting.class (plain_cut scheme name port_text path query fragment))
     (is_followed (plain_cut scheme name port_text path query fragment)) path h.inner rule h.holds)
-plain_silent setting text scheme name form port_text port path query fragment special l place rule (inr (inr (inl h))) =
+plain_silent setting base text scheme name form port_text port path query fragment special l place rule (inr (inr (inl h))) =
     part_silent _ query place rule l.query_cut.units h
-plain_silent setting text scheme name form port_text port path query fragment special l place rule (inr (inr (inr h))) =
+plain_silent setting base text scheme name form port_text port path query fragment special l place rule (inr (inr (inr h))) =
     part_silent _ fragment place rule l.fragment_cut.units h
 
 -- a domain has a code point
@@ -237,7 +281,7 @@ plain_not_stopped Standard last name form is = refl
 plain_not_stopped Wide last name form is = refl
 plain_not_stopped Parser last name form is = wide_host_not_stopped Special last name (Domain form) is
 
-plain_host : (setting : Setting) (scheme name form : List ℕ) (port_text : Option (List ℕ)) (path : List ℕ)
+plain_host : (setting : Setting) (scheme : Option (List ℕ)) (name form : List ℕ) (port_text : Option (List ℕ)) (path : List ℕ)
     (query fragment : Option (List ℕ)) → name ≡ form
     → setting.class ≡ Special → ((profile : Profile) → IsDomain profile name form)
     → FitsHostPart setting (plain_cut scheme name port_text path query fragment) (Some (Domain form))
@@ -252,42 +296,43 @@ plain_host setting scheme name form port_text path query fragment own special is
       ),
     ))
 
-plain_port : (setting : Setting) (scheme name : List ℕ) (port_text : Option (List ℕ)) (port : Option ℕ) (path : List ℕ)
+plain_port : (setting : Setting) (scheme : Option (List ℕ)) (name : List ℕ) (port_text : Option (List ℕ)) (port : Option ℕ) (path : List ℕ)
     (query fragment : Option (List ℕ)) (rest after : List ℕ) → IsPortCut setting.default_port rest port_text port after
     → FitsPortPart setting (plain_cut scheme name port_text path query fragment) port
 plain_port setting scheme name None port path query fragment rest after cut = cut.given
 plain_port setting scheme name (Some text) port path query fragment rest after cut = (cut.valid, cut.given)
 
 -- a plain link is valid with its parts
-pub plain_accepted : (profile : Profile) (base : Option Url) (text scheme name form : List ℕ) (port_text : Option
-    (List ℕ))
-    (port : Option ℕ) (path : List ℕ) (query fragment : Option (List ℕ))
-    → chars form ≡ name → IsPlainLink text scheme name form port_text port path query fragment
+pub plain_accepted : (profile : Profile) (base : Option Url) (text : List ℕ) (scheme : Option (List ℕ))
+    (name form : List ℕ) (port_text : Option (List ℕ)) (port : Option ℕ) (path : List ℕ)
+    (query fragment : Option (List ℕ))
+    → chars form ≡ name → IsPlainLink base text scheme name form port_text port path query fragment
     → IsAccepted profile base text (built (plain_cut scheme name port_text path query fragment) (Some
     (Domain form)) port)
 plain_accepted profile base text scheme name form port_text port path query fragment same l =
     let own = own_form name form (l.named.domain Standard) same in
     let cut = plain_cut scheme name port_text path query fragment in
-    let setting = setting_of profile base (Some scheme) in
+    let setting = setting_of profile base scheme in
+    let special = special_class base text scheme l.behind l.special in
     accepted profile base text cut setting
     (plain_is_cut base text scheme name form port_text port path query fragment own l) refl
-    (plain_started setting text scheme name port_text path query fragment) (built cut (Some (Domain form)) port)
+    (plain_started profile base text scheme l.behind name port_text path query fragment l.special)
+    (built cut (Some (Domain form)) port)
     (record {
       host = Some (Domain form);
       port = port;
       built = refl;
-      fits_host =
-          plain_host setting scheme name form port_text path query fragment own l.special.special l.named.domain;
+      fits_host = plain_host setting scheme name form port_text path query fragment own special l.named.domain;
       fits_port = plain_port setting scheme name port_text port path query fragment l.rest l.after l.port_cut;
-      silent = plain_silent setting text scheme name form port_text port path query fragment l.special.special l;
+      silent = plain_silent setting base text scheme name form port_text port path query fragment special l;
     })
 
 -- so it is valid
-pub plain_valid : (text : List ℕ) (cut : PlainCut) → IsPlainCut text cut → (profile : Profile) (base : Option Url)
-    → IsValidity profile base text true
-plain_valid text cut plain profile base = (
+pub plain_valid : (base : Option Url) (text : List ℕ) (cut : PlainCut) → IsPlainCut base text cut
+    → (profile : Profile) → IsValidity profile base text true
+plain_valid base text cut plain profile = (
   _,
-  (plain_accepted profile base text (chars_of cut.scheme) (chars_of cut.name) cut.name.now
+  (plain_accepted profile base text (chars_of_option cut.scheme) (chars_of cut.name) cut.name.now
       (chars_of_option cut.port_text) cut.port (chars_of cut.path_text) (chars_of_option cut.query)
       (chars_of_option cut.fragment) refl plain).valid,
 )
@@ -344,9 +389,9 @@ behind_joined after path query fragment b =
     b.joined ∙ ap (λ (s : List ℕ). s ++ written_behind number_sign fragment) b.split
     ∙ append_assoc path (written_behind question_mark query) (written_behind number_sign fragment)
 
-start_is_cut : (base : Option Url) (text scheme name form : List ℕ) (port_text : Option (List ℕ)) (port : Option ℕ)
+start_is_cut : (base : Option Url) (text : List ℕ) (scheme : Option (List ℕ)) (name form : List ℕ) (port_text : Option (List ℕ)) (port : Option ℕ)
     (after path : List ℕ) (query fragment : Option (List ℕ)) → name ≡ form
-    → IsStartCut text scheme name form port_text port after → IsBehindCut after path query fragment
+    → IsStartCut base text scheme name form port_text port after → IsBehindCut after path query fragment
     → IsCut base text (plain_cut scheme name port_text path query fragment)
 start_is_cut base text scheme name form port_text port after path query fragment own l b =
     let each : list_all (is_form_code_point Standard) name ≡ true
@@ -358,29 +403,30 @@ start_is_cut base text scheme name form port_text port after path query fragment
     (subst (λ (s : List ℕ). is_without number_sign s ≡ true) b.split b.no_number_sign) in
     record {
       whole =
-          l.special.joined
-          ∙ ap (λ s. scheme ++ colon ∷ slash ∷ slash ∷ s)
+          special_joined base text scheme l.behind l.special
+          ∙ ap (λ s. written_scheme scheme ++ slash ∷ slash ∷ s)
           (l.named.joined ∙ ap (λ s. name ++ s) (l.port_cut.joined ∙ ap (λ s. ported ++ s) joined))
-          ∙ arranged scheme name ported path asked (written_behind number_sign fragment);
+          ∙ arranged (written_scheme scheme) name ported path asked (written_behind number_sign fragment);
       prefix =
           is_without-append number_sign (written_start (plain_cut scheme name port_text path query fragment)) asked
-          (start_without number_sign scheme name ported path refl
-          (scheme_without number_sign scheme refl refl refl l.special.named)
+          (start_without number_sign (written_scheme scheme) name ported path refl
+          (special_without number_sign base text scheme l.behind refl refl refl l.special)
           (is_without-passes (is_form_code_point Standard) number_sign name refl each)
           (port_without number_sign port_text refl refl l.port_cut.valid) parts.0)
           parts.1;
       start =
-          start_without question_mark scheme name ported path refl
-          (scheme_without question_mark scheme refl refl refl l.special.named)
+          start_without question_mark (written_scheme scheme) name ported path refl
+          (special_without question_mark base text scheme l.behind refl refl refl l.special)
           (is_without-passes (is_form_code_point Standard) question_mark name refl each)
           (port_without question_mark port_text refl refl l.port_cut.valid) b.no_question_mark;
-      scheme = l.special.named;
+      scheme = special_scheme base text scheme l.behind name port_text path l.special;
       authority = (
         is_without-append slash name ported (is_without-passes (is_form_code_point Standard) slash name refl each)
             (port_without slash port_text refl refl l.port_cut.valid),
         begins_slashed after path (asked ++ written_behind number_sign fragment) b.begins joined parts.0
             b.no_question_mark,
-        subst (λ k. IsHostCut k name port_text) (sym l.special.special) (ends_at_port name port_text each),
+        subst (λ k. IsHostCut k name port_text) (sym (special_class base text scheme l.behind l.special))
+            (ends_at_port name port_text each),
       );
     }
 
@@ -392,7 +438,7 @@ no_host_violation : (profile : Profile) (last : Bool) (text : List ℕ) (port_te
 no_host_violation profile last text port_text path_text some none place HostMissing h = some h.0
 no_host_violation profile last text port_text path_text some none place rule h = none rule h.0
 
-start_host : (setting : Setting) (scheme name form : List ℕ) (port_text : Option (List ℕ)) (path : List ℕ)
+start_host : (setting : Setting) (scheme : Option (List ℕ)) (name form : List ℕ) (port_text : Option (List ℕ)) (path : List ℕ)
     (query fragment : Option (List ℕ)) → name ≡ form → setting.class ≡ Special
     → ((profile : Profile) → IsDomain profile name form)
     → IsLeast (HostPartViolation setting (plain_cut scheme name port_text path query fragment)) None
@@ -404,61 +450,64 @@ start_host setting scheme name form port_text path query fragment own special is
     (subst (λ k. HostViolation setting.profile k last name port_text path h.inner rule) special h.holds)
 
 -- and so is its port
-start_port : (scheme name : List ℕ) (port_text : Option (List ℕ)) (path : List ℕ) (query fragment : Option (List ℕ))
+start_port : (scheme : Option (List ℕ)) (name : List ℕ) (port_text : Option (List ℕ)) (path : List ℕ) (query fragment : Option (List ℕ))
     → MayBePortText port_text → IsLeast (PortPartViolation (plain_cut scheme name port_text path query fragment)) None
 start_port scheme name None path query fragment valid place rule h = h
 start_port scheme name (Some port_text) path query fragment valid place rule h =
     port_faultless port_text valid h.inner rule h.holds
 
 -- a text with a plain start is refused by the least violation of what stands behind it
-pub start_refused : (profile : Profile) (base : Option Url) (text scheme name form : List ℕ)
+pub start_refused : (profile : Profile) (base : Option Url) (text : List ℕ) (scheme : Option (List ℕ)) (name form : List ℕ)
     (port_text : Option (List ℕ)) (port : Option ℕ) (after path : List ℕ) (query fragment : Option (List ℕ))
-    (refusal : Refusal) → chars form ≡ name → IsStartCut text scheme name form port_text port after
+    (refusal : Refusal) → chars form ≡ name → IsStartCut base text scheme name form port_text port after
     → IsBehindCut after path query fragment
-    → IsLeast (BehindAuthority (setting_of profile base (Some scheme))
+    → IsLeast (BehindAuthority (setting_of profile base scheme)
     (plain_cut scheme name port_text path query fragment)) (Some refusal)
     → IsRefused profile base text refusal
 start_refused profile base text scheme name form port_text port after path query fragment refusal same l b least =
     let own = own_form name form (l.named.domain Standard) same in
-    let setting = setting_of profile base (Some scheme) in
+    let setting = setting_of profile base scheme in
     refused_behind profile base text (plain_cut scheme name port_text path query fragment) setting refusal
     (start_is_cut base text scheme name form port_text port after path query fragment own l b) refl
-    (plain_started setting text scheme name port_text path query fragment)
-    (start_host setting scheme name form port_text path query fragment own l.special.special l.named.domain)
+    (plain_started profile base text scheme l.behind name port_text path query fragment l.special)
+    (start_host setting scheme name form port_text path query fragment own
+    (special_class base text scheme l.behind l.special) l.named.domain)
     (start_port scheme name port_text path query fragment l.port_cut.valid) least
 
 -- and is valid where there is none
-pub start_accepted : (profile : Profile) (base : Option Url) (text scheme name form : List ℕ)
+pub start_accepted : (profile : Profile) (base : Option Url) (text : List ℕ) (scheme : Option (List ℕ)) (name form : List ℕ)
     (port_text : Option (List ℕ)) (port : Option ℕ) (after path : List ℕ) (query fragment : Option (List ℕ))
-    → chars form ≡ name → IsStartCut text scheme name form port_text port after
+    → chars form ≡ name → IsStartCut base text scheme name form port_text port after
     → IsBehindCut after path query fragment
-    → IsLeast (BehindAuthority (setting_of profile base (Some scheme))
+    → IsLeast (BehindAuthority (setting_of profile base scheme)
     (plain_cut scheme name port_text path query fragment)) None
     → IsAccepted profile base text (built (plain_cut scheme name port_text path query fragment) (Some
     (Domain form)) port)
 start_accepted profile base text scheme name form port_text port after path query fragment same l b silent =
     let own = own_form name form (l.named.domain Standard) same in
     let cut = plain_cut scheme name port_text path query fragment in
-    let setting = setting_of profile base (Some scheme) in
+    let setting = setting_of profile base scheme in
     accepted profile base text cut setting
     (start_is_cut base text scheme name form port_text port after path query fragment own l b) refl
-    (plain_started setting text scheme name port_text path query fragment) (built cut (Some (Domain form)) port)
+    (plain_started profile base text scheme l.behind name port_text path query fragment l.special) (built cut (Some (Domain form)) port)
     (record {
       host = Some (Domain form);
       port = port;
       built = refl;
       fits_host =
-          plain_host setting scheme name form port_text path query fragment own l.special.special l.named.domain;
+          plain_host setting scheme name form port_text path query fragment own
+          (special_class base text scheme l.behind l.special) l.named.domain;
       fits_port = plain_port setting scheme name port_text port path query fragment l.rest after l.port_cut;
       silent = silent;
     })
 
 -- such a text is countable
-pub start_countable : (bytes scheme name form : List ℕ) (port_text : Option (List ℕ)) (port : Option ℕ)
+pub start_countable : (base : Option Url) (bytes : List ℕ) (scheme : Option (List ℕ)) (name form : List ℕ)
+    (port_text : Option (List ℕ)) (port : Option ℕ)
     (after path : List ℕ) (query fragment : Option (List ℕ)) → IsUtf8 bytes → length bytes < 2 ^ 64
-    → chars form ≡ name → IsStartCut (chars bytes) scheme name form port_text port after
+    → chars form ≡ name → IsStartCut base (chars bytes) scheme name form port_text port after
     → IsBehindCut after path query fragment → IsCountable (plain_cut scheme name port_text path query fragment)
-start_countable bytes scheme name form port_text port after path query fragment utf8 small same l b =
+start_countable base bytes scheme name form port_text port after path query fragment utf8 small same l b =
     countable bytes (plain_cut scheme name port_text path query fragment) utf8 small
-    (start_is_cut None (chars bytes) scheme name form port_text port after path query fragment
+    (start_is_cut base (chars bytes) scheme name form port_text port after path query fragment
     (own_form name form (l.named.domain Standard) same) l b).whole

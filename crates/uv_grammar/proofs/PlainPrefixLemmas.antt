@@ -14,14 +14,16 @@ use Rattle.uv_model.specs.declared.profile.Profile.TheVariants.{Standard}
 use Rattle.uv_model.specs.declared.scheme.Class.TheVariants.{Special}
 use Rattle.uv_model.specs.Ascii.{slash, colon}
 use Rattle.uv_model.specs.Hosts.Domain.{is_form_code_point}
+use Rattle.uv_model.specs.Records.Url.{Url}
 use Rattle.uv_model.specs.Scheme.{default_port, is_scheme, scheme_class}
+use Rattle.uv_model.specs.Setting.{scheme_or}
 use Rattle.uv_model.proofs.Texts.AsciiLemmas.{IsAscii-from_test}
 use Rattle.uv_model.proofs.SchemeLemmas.{is_ascii-scheme}
 use Rattle.uv_text.specs.Class.{HoldsUrlBytes, HasHexDigits}
 use Rattle.uv_text.specs.Splits.{IsUnitSplit}
 use Rattle.uv_grammar.specs.PartValues.{FitsPort, without_default}
 use Rattle.uv_grammar.specs.PlainLinks.{HasAsciiPrefix, IsPrefixCut, IsPartCut, IsPortCut, IsSpecialCut}
-use Rattle.uv_grammar.specs.PlainLinks.{IsSpecialPrefix}
+use Rattle.uv_grammar.specs.PlainLinks.{IsReferenceStart, IsSpecialBase, IsSpecialPrefix}
 use Rattle.uv_grammar.specs.TextSplits.{SplitsScheme}
 use Rattle.uv_grammar.proofs.PlainUnitLemmas.{split_joined, url_units}
 use Rattle.uv_grammar.proofs.PartLemmas.{given_number}
@@ -123,6 +125,30 @@ scheme_cut text scheme rest behind split slashes special = record {
 pub cut_joined : (bytes prefix rest : List ℕ) (end : ℕ) → IsPrefixCut bytes end prefix rest → chars bytes
     ≡ chars prefix ++ chars rest
 cut_joined bytes prefix rest end cut = cut.joined ∙ ap (λ s. s ++ chars rest) (sym cut.code_points)
+
+-- two slashes are ASCII
+pub slashes_ascii : (bytes behind : List ℕ) → bytes ≡ slash ∷ slash ∷ behind → HasAsciiPrefix bytes 2
+slashes_ascii bytes behind same = rw same (omega arith, refl)
+
+-- the cut behind them
+pub slashes_cut : (bytes none rest behind : List ℕ) → bytes ≡ slash ∷ slash ∷ behind → IsPrefixCut bytes 2 none rest
+    → chars bytes ≡ slash ∷ slash ∷ chars rest
+slashes_cut bytes none rest behind same cut = cut.joined ∙ ap (λ s. s ++ chars rest) (ap (take 2) same)
+
+-- what stands behind them is behind the start of a reference, against a base of a special scheme
+pub reference_cut : (base : Option Url) (text behind scheme : List ℕ) → text ≡ slash ∷ slash ∷ behind
+    → IsSpecialBase base scheme → IsReferenceStart base text behind
+reference_cut None text behind scheme joined is = absurd is
+reference_cut (Some url) text behind scheme joined is = record {
+  joined = joined;
+  special = ap scheme_class is.0 ∙ is.1;
+  segments = is.2;
+}
+
+-- the scheme of such a base is that of the text
+pub base_scheme : (base : Option Url) (scheme : List ℕ) → IsSpecialBase base scheme → scheme_or base None ≡ scheme
+base_scheme None scheme is = absurd is
+base_scheme (Some url) scheme is = is.0
 
 -- a list that begins with a number is it and a rest
 pub first_byte : (mark : ℕ) (bytes : List ℕ) → 1 ≤ length bytes → get_or bytes 0 0 ≡ mark → bytes ≡ mark ∷ drop 1 bytes

@@ -11,7 +11,9 @@ use Rattle.uv_model.specs.Cut.{starts_with_two_slashes}
 use Rattle.uv_model.specs.Hosts.Domain.{IsDomain}
 use Rattle.uv_model.specs.Parts.{written_behind}
 use Rattle.uv_model.specs.Path.{is_without, starts_with_slash}
+use Rattle.uv_model.specs.Records.Url.{Url, is_opaque}
 use Rattle.uv_model.specs.Scheme.{default_port, is_scheme, scheme_class}
+use Rattle.uv_model.specs.Setting.{scheme_or}
 use Rattle.uv_model.specs.Units.{is_faultless}
 use Rattle.uv_model.specs.Valid.{MayBePortText, port_given}
 use Rattle.uv_grammar.specs.declared.plain_links.PlainCut.{PlainCut}
@@ -42,6 +44,28 @@ pub record IsSpecialCut (text scheme rest : List ℕ) : Type 0 where
   pub joined : text ≡ scheme ++ colon ∷ slash ∷ slash ∷ rest
   pub named : is_scheme scheme ≡ true
   pub special : scheme_class scheme ≡ Special
+
+-- the text is `//` and a rest, and the base has a special scheme and no opaque path
+pub record IsReferenceCut (base : Url) (text rest : List ℕ) : Type 0 where
+  pub joined : text ≡ slash ∷ slash ∷ rest
+  pub special : scheme_class base.scheme ≡ Special
+  pub segments : is_opaque base.path ≡ false
+
+-- the same where there is a base
+abbrev pub IsReferenceStart : Option Url → List ℕ → List ℕ → Type 0
+IsReferenceStart None text rest = ⊥
+IsReferenceStart (Some base) text rest = IsReferenceCut base text rest
+
+-- what stands before the host of a special URL: its scheme and `://`, or `//` against a base
+abbrev pub IsSpecialStart : Option Url → List ℕ → Option (List ℕ) → List ℕ → Type 0
+IsSpecialStart base text (Some scheme) rest = IsSpecialCut text scheme rest
+IsSpecialStart base text None rest = IsReferenceStart base text rest
+
+-- the base has this scheme, which is special, and no opaque path
+abbrev pub IsSpecialBase : Option Url → List ℕ → Type 0
+IsSpecialBase None scheme = ⊥
+IsSpecialBase (Some base) scheme =
+    (base.scheme ≡ scheme) × (scheme_class scheme ≡ Special) × (is_opaque base.path ≡ false)
 
 -- the text is by each profile a domain of this form, and a rest
 pub record IsNameCut (text name form rest : List ℕ) : Type 0 where
@@ -78,14 +102,14 @@ pub record IsPartCut (mark : ℕ) (text : List ℕ) (part : Option (List ℕ)) (
   pub joined : text ≡ written_behind mark part ++ rest
   pub units : MayBeUnits part
 
--- the texts of a special scheme, a domain and a port, and what follows them
-pub record IsStartCut (text scheme name form : List ℕ) (port_text : Option (List ℕ)) (port : Option ℕ) (after : List ℕ)
-    : Type 0 where
+-- the texts of a special scheme or of none against a special base, a domain and a port, and what follows them
+pub record IsStartCut (base : Option Url) (text : List ℕ) (scheme : Option (List ℕ)) (name form : List ℕ)
+    (port_text : Option (List ℕ)) (port : Option ℕ) (after : List ℕ) : Type 0 where
   pub behind : List ℕ
   pub rest : List ℕ
-  pub special : IsSpecialCut text scheme behind
+  pub special : IsSpecialStart base text scheme behind
   pub named : IsNameCut behind name form rest
-  pub port_cut : IsPortCut (default_port scheme) rest port_text port after
+  pub port_cut : IsPortCut (default_port (scheme_or base scheme)) rest port_text port after
 
 -- the text begins a path behind an authority, a query or a fragment, or is empty
 abbrev pub begins_behind : List ℕ → Bool
@@ -93,28 +117,29 @@ begins_behind [] = true
 begins_behind (c ∷ rest) = (c == slash) || ((c == question_mark) || (c == number_sign))
 
 -- the texts of a plain link
-pub record IsPlainLink (text scheme name form : List ℕ) (port_text : Option (List ℕ)) (port : Option ℕ) (path : List ℕ)
-    (query fragment : Option (List ℕ)) : Type 0 where
+pub record IsPlainLink (base : Option Url) (text : List ℕ) (scheme : Option (List ℕ)) (name form : List ℕ)
+    (port_text : Option (List ℕ)) (port : Option ℕ) (path : List ℕ) (query fragment : Option (List ℕ)) : Type 0 where
   pub behind : List ℕ
   pub rest : List ℕ
   pub after : List ℕ
   pub tail : List ℕ
   pub end : List ℕ
-  pub special : IsSpecialCut text scheme behind
+  pub special : IsSpecialStart base text scheme behind
   pub named : IsNameCut behind name form rest
-  pub port_cut : IsPortCut (default_port scheme) rest port_text port after
+  pub port_cut : IsPortCut (default_port (scheme_or base scheme)) rest port_text port after
   pub path_cut : IsPathCut after path tail
   pub query_cut : IsPartCut question_mark tail query end
   pub fragment_cut : IsPartCut number_sign end fragment []
 
--- the text is a plain link of these texts and this port
-abbrev pub IsPlainCut : List ℕ → PlainCut → Type 0
-IsPlainCut text cut =
-    IsPlainLink text (chars_of cut.scheme) (chars_of cut.name) cut.name.now (chars_of_option cut.port_text) cut.port
-    (chars_of cut.path_text) (chars_of_option cut.query) (chars_of_option cut.fragment)
+-- the text, against the base, is a plain link of these texts and this port
+abbrev pub IsPlainCut : Option Url → List ℕ → PlainCut → Type 0
+IsPlainCut base text cut =
+    IsPlainLink base text (chars_of_option cut.scheme) (chars_of cut.name) cut.name.now
+    (chars_of_option cut.port_text) cut.port (chars_of cut.path_text) (chars_of_option cut.query)
+    (chars_of_option cut.fragment)
 
--- the text has this plain start
-abbrev pub IsPlainStart : List ℕ → PlainStart → Type 0
-IsPlainStart text start =
-    IsStartCut text (chars_of start.scheme) (chars_of start.name) start.name.now (chars_of_option start.port_text)
-    start.port (chars start.rest)
+-- the text, against the base, has this plain start
+abbrev pub IsPlainStart : Option Url → List ℕ → PlainStart → Type 0
+IsPlainStart base text start =
+    IsStartCut base text (chars_of_option start.scheme) (chars_of start.name) start.name.now
+    (chars_of_option start.port_text) start.port (chars start.rest)

@@ -216,6 +216,3 @@ fn push_fault(found: &mut Vec<Refusal>, fault: Option<Refusal>) -> Result<(), Al
         None => Ok(()),
     }
 }
-
-#[cfg(test)]
-mod tests;

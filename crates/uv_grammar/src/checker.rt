@@ -12,10 +12,13 @@ use crate::bases::{Base, BaseKind};
 use crate::built::build;
 use crate::cut::{Cut, cut_text};
 use crate::judged::Judged;
+use crate::marks::beginnings::has_slash;
 use crate::marks::split_marks;
 use crate::parts::Parts;
 use crate::parts_host::{AsciiText, PartsHost};
-use crate::plain_links::{PlainStart, begins_behind, plain_cut, plain_parts, plain_start};
+use crate::plain_links::{
+    PlainStart, begins_behind, plain_cut, plain_parts, plain_start, reference_start,
+};
 use crate::setting::Setting;
 use crate::start_rules::start_fault;
 use crate::unit_faults::fault_behind_authority;
@@ -43,11 +46,11 @@ pub fn check<'t>(
     ensures memory { TakesNoMemoryAgainst profile (option_copied base.entry) (chars text.now) → IsOk result }
 {
     let Some(start) = plain_start(text) else {
-        return check_by_parts(alloc, text, Base::whole(base), profile);
+        return check_otherwise(alloc, text, Base::whole(base), profile);
     };
     match plain_cut(&start) {
         Some(cut) => Ok(Verdict::Yes(plain_parts(&cut))),
-        None => check_from(alloc, text, start, Base::whole(base), profile),
+        None => check_from(alloc, text, start.renewed(), Base::whole(base), profile),
     }
 }
 
@@ -63,11 +66,17 @@ pub fn check_of_kind<'t>(
         → IsOk result }
 {
     let Some(start) = plain_start(text) else {
-        return check_by_parts(alloc, text, Some(Base::Kind(base)), profile);
+        return check_otherwise(alloc, text, Some(Base::Kind(base)), profile);
     };
     match plain_cut(&start) {
         Some(cut) => Ok(Verdict::Yes(plain_parts(&cut))),
-        None => check_from(alloc, text, start, Some(Base::Kind(base)), profile),
+        None => check_from(
+            alloc,
+            text,
+            start.renewed(),
+            Some(Base::Kind(base)),
+            profile,
+        ),
     }
 }
 
@@ -81,7 +90,7 @@ pub(crate) fn check_from<'t>(
     base: Option<Base<'_>>,
     profile: Profile,
 ) -> Result<Verdict<'t>, AllocError>
-    requires { IsPlainStart (chars text.now) start }
+    requires { IsPlainStart (as_base base) (chars text.now) start }
     ensures answer { IfOk result (IsVerdict profile (as_base base.entry) (chars text.now)) }
     ensures memory { TakesNoMemoryAgainst profile (as_base base.entry) (chars text.now) → IsOk result }
 {
@@ -99,26 +108,65 @@ fn check_behind<'t>(
     base: Option<Base<'_>>,
     profile: Profile,
 ) -> Verdict<'t>
-    requires start { IsPlainStart (chars text.now) start.now }
+    requires start { IsPlainStart (as_base base) (chars text.now) start.now }
     requires behind { begins_behind (chars start.now.rest) ≡ true }
     ensures { IsVerdict profile (as_base base.entry) (chars text.now) result }
 {
     let (path_text, query, fragment) = split_marks(start.rest.as_str());
     let cut = Cut {
-        scheme: Some(start.scheme),
+        scheme: start.scheme,
         host_text: Some(start.name),
         port_text: start.port_text,
         path_text,
         query,
         fragment,
     };
-    let setting = Setting::of(base, Some(start.scheme), profile);
+    let setting = Setting::of(base, start.scheme, profile);
     match fault_behind_authority(&cut, &setting) {
         Some(refusal) => Verdict::No(refusal),
         None => {
             let host = PartsHost::Plain(AsciiText::of(start.name));
             Verdict::Yes(build(cut, Some(host), start.port))
         }
+    }
+}
+
+/// The verdict on a text that doesn't begin as a plain link with a scheme: where it begins with `/` it may begin as one
+/// without.
+#[inline(always)]
+pub(crate) fn check_otherwise<'t>(
+    alloc: Global,
+    text: &'t str,
+    base: Option<Base<'_>>,
+    profile: Profile,
+) -> Result<Verdict<'t>, AllocError>
+    ensures answer { IfOk result (IsVerdict profile (as_base base.entry) (chars text.now)) }
+    ensures memory { TakesNoMemoryAgainst profile (as_base base.entry) (chars text.now) → IsOk result }
+{
+    if has_slash(text) {
+        check_reference(alloc, text, base, profile)
+    } else {
+        check_by_parts(alloc, text, base, profile)
+    }
+}
+
+// The verdict on a reference. It is never inlined, as other texts would then have to keep registers free for it.
+#[inline(never)]
+fn check_reference<'t>(
+    alloc: Global,
+    text: &'t str,
+    base: Option<Base<'_>>,
+    profile: Profile,
+) -> Result<Verdict<'t>, AllocError>
+    ensures answer { IfOk result (IsVerdict profile (as_base base.entry) (chars text.now)) }
+    ensures memory { TakesNoMemoryAgainst profile (as_base base.entry) (chars text.now) → IsOk result }
+{
+    let Some(start) = reference_start(text, base) else {
+        return check_by_parts(alloc, text, base, profile);
+    };
+    match plain_cut(&start) {
+        Some(cut) => Ok(Verdict::Yes(plain_parts(&cut))),
+        None => check_from(alloc, text, start.renewed(), base, profile),
     }
 }
 
@@ -151,6 +199,3 @@ pub(crate) fn check_by_parts<'t>(
         None => Ok(Verdict::Yes(build(cut, host, port))),
     }
 }
-
-#[cfg(test)]
-mod tests;

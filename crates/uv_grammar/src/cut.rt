@@ -185,6 +185,3 @@ fn is_within(within: bool, b: u8) -> bool
         within
     }
 }
-
-#[cfg(test)]
-mod tests;

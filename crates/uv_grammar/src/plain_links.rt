@@ -1,8 +1,8 @@
 //! The links that people write, judged at one pass: a special scheme, a plain domain, a port or none, and a path, a
-//! query and a fragment of URL units. Where only what stands before the path is so, that is known of the text, and all
-//! other texts are judged by their parts.
-ghost use Rattle.std.specs.Prelude.{◌≡◌, ◌≢◌, ◌++◌, ◌∷◌, ◌<◌, [], ℕ, List, false, true, Option, IfSome, IsTrue, drop};
-ghost use Rattle.std.specs.Prelude.{length};
+//! query and a fragment of URL units; against a base of a special scheme also without the scheme. Where only what stands
+//! before the path is so, that is known of the text, and all other texts are judged by their parts.
+ghost use Rattle.std.specs.Prelude.{◌≡◌, ◌≢◌, ◌++◌, ◌∷◌, ◌<◌, [], ℕ, List, false, true, Option, IfSome, IsTrue};
+ghost use Rattle.std.specs.Prelude.{drop, length};
 ghost use Rattle.std.specs.Char.{is_ascii_digit};
 ghost use Rattle.std.specs.List.{prefix_len};
 ghost use Rattle.std.specs.Str.{IsAscii, chars};
@@ -12,40 +12,60 @@ ghost use Rattle.uv_model.specs.Cut.{starts_with_two_slashes};
 ghost use Rattle.uv_model.specs.Path.{starts_with_slash};
 ghost use Rattle.uv_model.specs.Records.Url.{Url};
 ghost use Rattle.uv_model.specs.Scheme.{default_port};
+ghost use Rattle.uv_grammar.specs.Bases.{as_base};
 ghost use Rattle.uv_grammar.specs.PlainLinks.{HasAsciiPrefix, IsPrefixCut, IsNameCut, IsPartCut, IsPathCut};
-ghost use Rattle.uv_grammar.specs.PlainLinks.{IsPlainCut, IsPlainStart, IsPortCut, IsSpecialCut, IsSpecialPrefix};
-ghost use Rattle.uv_grammar.specs.PlainLinks.{begins_behind};
+ghost use Rattle.uv_grammar.specs.PlainLinks.{IsPlainCut, IsPlainStart, IsPortCut, IsSpecialBase, IsSpecialCut};
+ghost use Rattle.uv_grammar.specs.PlainLinks.{IsSpecialPrefix, begins_behind};
 ghost use Rattle.uv_grammar.specs.Slices.{chars_of, chars_of_option};
 ghost use Rattle.uv_grammar.specs.Verdict.{IsAccepted};
 
 use crate::authority::without_default;
+use crate::bases::Base;
+use crate::built::build;
 use crate::cut::{Cut, split_scheme};
-use crate::form::Form;
 use crate::judged::Judged;
 use crate::marks::beginnings::{has_slash, has_two_slashes};
 use crate::marks::behind_slash;
 use crate::parts::Parts;
 use crate::parts_host::{AsciiText, PartsHost};
 use crate::port::judge_port;
+use crate::setting::known_class;
 use uv_host::{is_plain_domain, name_prefix};
 use uv_model::{Class, class_of, default_port};
 use uv_text::{Tail, UnitClass, split_tail};
 
 /// The texts of the scheme, the domain and the port of a text, where they are those of a plain link, and what follows
-/// them.
+/// them. A reference has no scheme.
 #[derive(Drop)]
 pub(crate) struct PlainStart<'t> {
-    pub(crate) scheme: &'t str,
+    pub(crate) scheme: Option<&'t str>,
     pub(crate) name: &'t str,
     pub(crate) port_text: Option<&'t str>,
     pub(crate) port: Option<u16>,
     pub(crate) rest: Tail<'t>,
 }
 
+impl<'t> PlainStart<'t> {
+    /// The same in a new place: what is handed to a call by its address has to be stored before the call is known to be
+    /// needed, and for plain links it isn't.
+    #[inline(always)]
+    pub(crate) fn renewed(self) -> PlainStart<'t>
+        ensures { result ≡ self.entry }
+    {
+        PlainStart {
+            scheme: self.scheme,
+            name: self.name,
+            port_text: self.port_text,
+            port: self.port,
+            rest: self.rest,
+        }
+    }
+}
+
 /// The texts of the parts of a plain link, and its port.
 #[derive(Clone, Copy)]
 pub(crate) struct PlainCut<'t> {
-    scheme: &'t str,
+    scheme: Option<&'t str>,
     name: &'t str,
     port_text: Option<&'t str>,
     port: Option<u16>,
@@ -54,33 +74,30 @@ pub(crate) struct PlainCut<'t> {
     fragment: Option<&'t str>,
 }
 
-/// The parts of a plain link. By each profile and against any base it is valid with these.
+/// The parts of a plain link. By each profile it is valid with these.
 #[inline(always)]
 pub(crate) fn plain_parts<'t>(cut: &PlainCut<'t>) -> Parts<'t>
     requires { IsAscii cut.now.name.now }
-    ensures { (text : List ℕ) (profile : Profile) (base : Option Url) → IsPlainCut text cut.now
+    ensures { (text : List ℕ) (profile : Profile) (base : Option Url) → IsPlainCut base text cut.now
         → IsAccepted profile base text result }
 {
-    Parts {
-        form: Form::SchemeAuthority,
-        cut: Cut {
-            scheme: Some(cut.scheme),
-            host_text: Some(cut.name),
-            port_text: cut.port_text,
-            path_text: cut.path_text,
-            query: cut.query,
-            fragment: cut.fragment,
-        },
-        host: Some(PartsHost::Plain(AsciiText::of(cut.name))),
-        port: cut.port,
-    }
+    let texts = Cut {
+        scheme: cut.scheme,
+        host_text: Some(cut.name),
+        port_text: cut.port_text,
+        path_text: cut.path_text,
+        query: cut.query,
+        fragment: cut.fragment,
+    };
+    let host = PartsHost::Plain(AsciiText::of(cut.name));
+    build(texts, Some(host), cut.port)
 }
 
-/// The texts of a plain start: a special scheme, `://`, a domain that is its own ASCII form, and a port or none. Where
-/// there are none, that says nothing.
+/// The texts of a plain start: a special scheme, `://`, a domain that is its own ASCII form, and a port or none. They
+/// are so against any base. Where there are none, that says nothing.
 #[inline(always)]
 pub(crate) fn plain_start<'t>(text: &'t str) -> Option<PlainStart<'t>>
-    ensures { IfSome result (IsPlainStart (chars text.now)) }
+    ensures { IfSome result (λ start. (base : Option Url) → IsPlainStart base (chars text.now) start) }
 {
     let Some((scheme, behind)) = split_special(text) else {
         return None;
@@ -92,7 +109,33 @@ pub(crate) fn plain_start<'t>(text: &'t str) -> Option<PlainStart<'t>>
         return None;
     };
     Some(PlainStart {
-        scheme,
+        scheme: Some(scheme),
+        name,
+        port_text,
+        port,
+        rest,
+    })
+}
+
+/// The same of a reference: `//` in place of the scheme and `://`, against a base of a special scheme.
+#[inline(always)]
+pub(crate) fn reference_start<'t>(text: &'t str, base: Option<Base<'_>>) -> Option<PlainStart<'t>>
+    ensures { IfSome result (IsPlainStart (as_base base.entry) (chars text.now)) }
+{
+    let Some(behind) = split_slashes(text) else {
+        return None;
+    };
+    let Some(scheme) = special_base(base) else {
+        return None;
+    };
+    let Some((name, rest)) = split_name(&behind) else {
+        return None;
+    };
+    let Some((port_text, port, rest)) = split_port(rest, scheme) else {
+        return None;
+    };
+    Some(PlainStart {
+        scheme: None,
         name,
         port_text,
         port,
@@ -104,7 +147,8 @@ pub(crate) fn plain_start<'t>(text: &'t str) -> Option<PlainStart<'t>>
 /// that says nothing.
 #[inline(always)]
 pub(crate) fn plain_cut<'t>(start: &PlainStart<'t>) -> Option<PlainCut<'t>>
-    ensures { IfSome result (λ cut. (text : List ℕ) → IsPlainStart text start.now → IsPlainCut text cut) }
+    ensures { IfSome result (λ cut. (base : Option Url) (text : List ℕ) → IsPlainStart base text start.now
+        → IsPlainCut base text cut) }
 {
     let Some((path_text, rest)) = split_path(&start.rest) else {
         return None;
@@ -190,6 +234,35 @@ fn behind_two_slashes<'t>(text: &'t str) -> Option<&'t str>
     match behind_slash(text) {
         Some(rest) => behind_slash(rest),
         None => None,
+    }
+}
+
+// What stands behind `//` at the text's start.
+#[inline(always)]
+fn split_slashes<'t>(text: &'t str) -> Option<Tail<'t>>
+    ensures { IfSome result (λ rest. chars text.now ≡ slash ∷ slash ∷ chars rest) }
+{
+    if !has_prefix(text.as_bytes(), b"//") {
+        return None;
+    }
+    let (_, rest) = split_prefix(&Tail::of(text), 2);
+    Some(rest)
+}
+
+// The scheme of a base, where it is a special one and the path isn't opaque.
+fn special_base<'b>(base: Option<Base<'b>>) -> Option<&'b str>
+    ensures { IfSome result (λ scheme. IsSpecialBase (as_base base.entry) (chars_of scheme)) }
+{
+    let Some(base) = base else {
+        return None;
+    };
+    if base.has_opaque_path() {
+        return None;
+    }
+    let name = base.scheme();
+    match known_class(name) {
+        Class::Special => Some(name),
+        Class::File | Class::Other => None,
     }
 }
 

@@ -8,7 +8,7 @@ ghost use Rattle.uv_grammar.specs.PlainLinks.{IsPlainStart};
 ghost use Rattle.uv_grammar.specs.Verdict.{IsValidity};
 
 use crate::bases::{Base, BaseKind};
-use crate::checker::{Verdict, check_by_parts, check_from};
+use crate::checker::{Verdict, check_from, check_otherwise};
 use crate::plain_links::{PlainStart, plain_cut, plain_start};
 use std::alloc::{AllocError, Global};
 use uv_model::{Profile, Record};
@@ -25,11 +25,11 @@ pub fn is_valid(
     ensures memory { TakesNoMemoryAgainst profile (option_copied base.entry) (chars text.now) → IsOk result }
 {
     let Some(start) = plain_start(text) else {
-        return is_valid_by_parts(alloc, text, Base::whole(base), profile);
+        return is_valid_otherwise(alloc, text, Base::whole(base), profile);
     };
     match plain_cut(&start) {
         Some(_) => Ok(true),
-        None => is_valid_from(alloc, text, start, Base::whole(base), profile),
+        None => is_valid_from(alloc, text, start.renewed(), Base::whole(base), profile),
     }
 }
 
@@ -45,11 +45,17 @@ pub fn is_valid_of_kind(
         → IsOk result }
 {
     let Some(start) = plain_start(text) else {
-        return is_valid_by_parts(alloc, text, Some(Base::Kind(base)), profile);
+        return is_valid_otherwise(alloc, text, Some(Base::Kind(base)), profile);
     };
     match plain_cut(&start) {
         Some(_) => Ok(true),
-        None => is_valid_from(alloc, text, start, Some(Base::Kind(base)), profile),
+        None => is_valid_from(
+            alloc,
+            text,
+            start.renewed(),
+            Some(Base::Kind(base)),
+            profile,
+        ),
     }
 }
 
@@ -61,7 +67,7 @@ fn is_valid_from(
     base: Option<Base<'_>>,
     profile: Profile,
 ) -> Result<bool, AllocError>
-    requires { IsPlainStart (chars text.now) start }
+    requires { IsPlainStart (as_base base) (chars text.now) start }
     ensures answer { IfOk result (IsValidity profile (as_base base.entry) (chars text.now)) }
     ensures memory { TakesNoMemoryAgainst profile (as_base base.entry) (chars text.now) → IsOk result }
 {
@@ -71,8 +77,8 @@ fn is_valid_from(
     }
 }
 
-// Whether any text is valid.
-fn is_valid_by_parts(
+// Whether a text that doesn't begin as a plain link with a scheme is valid.
+fn is_valid_otherwise(
     alloc: Global,
     text: &str,
     base: Option<Base<'_>>,
@@ -81,7 +87,7 @@ fn is_valid_by_parts(
     ensures answer { IfOk result (IsValidity profile (as_base base.entry) (chars text.now)) }
     ensures memory { TakesNoMemoryAgainst profile (as_base base.entry) (chars text.now) → IsOk result }
 {
-    match check_by_parts(alloc, text, base, profile)? {
+    match check_otherwise(alloc, text, base, profile)? {
         Verdict::Yes(_) => Ok(true),
         Verdict::No(_) => Ok(false),
     }

@@ -2,6 +2,7 @@
 use Rattle.std.proofs.Common.{◌≡◌, ℕ, ◌<◌, true, false, List, chars, sym, ap, ◌∙◌, subst, IsUtf8, arith}
 use Rattle.std.specs.Char.{is_ascii_uppercase}
 use Rattle.std.specs.List.{list_all}
+use Rattle.std.specs.Str.{IsAscii}
 use Rattle.std.proofs.lemmas.Bool.{and_from, and_parts, false≢true}
 use Rattle.std.proofs.lemmas.Bool.Decides.{nat_tests}
 use Rattle.std.proofs.lemmas.List.Elements.{All-weaker}
@@ -38,6 +39,10 @@ lower_name : (profile : Profile) (name : List ℕ) → list_all (is_form_code_po
 lower_name profile name letters =
     All-weaker (λ c. is_form_code_point profile c ≡ true) (λ c. (c < 128) × (is_ascii_uppercase c ≡ false))
     (form_lower profile) name (AllPass-from_list_all (is_form_code_point profile) name letters)
+
+-- so it is ASCII
+pub form_ascii : (profile : Profile) (name : List ℕ) → list_all (is_form_code_point profile) name ≡ true → IsAscii name
+form_ascii profile name letters = IsAscii-lowercase name (lower_name profile name letters)
 
 same_lower : (profile : Profile) (name : List ℕ) → list_all (is_form_code_point profile) name ≡ true
     → lowercase name ≡ name

@@ -1,8 +1,8 @@
 //! Hosts of special URLs as the URL parser's host parser takes them without an error (URL Standard, sections 3.3 to
 //! 3.5).
-ghost use Rattle.std.specs.Cow.{cow_str_bytes};
+ghost use Rattle.std.specs.Cow.{cow_slice_items, cow_str_bytes};
 ghost use Rattle.std.specs.List.{list_any};
-ghost use Rattle.std.specs.Prelude.{◌≡◌, ℕ, List, IfOk, IfSome, MatchOption, Some, chars, option_map, string_bytes};
+ghost use Rattle.std.specs.Prelude.{◌≡◌, ℕ, List, IfOk, IsTrue, MatchOption, Some, chars, option_map, string_bytes};
 ghost use Rattle.std.specs.Str.{IsAscii};
 ghost use Rattle.idna.specs.Uts46.{domain_to_ascii};
 ghost use Rattle.uv_model.specs.declared.profile.Profile.{Profile};
@@ -16,8 +16,7 @@ use crate::opaque_hosts::starts_with_bracket;
 use idna::{AsciiDenyList, Errors, domain_to_ascii_cow};
 use percent_encoding::percent_decode;
 use std::alloc::{AllocError, Global};
-use std::borrow::CowStr;
-use std::str;
+use std::borrow::{CowSlice, CowStr};
 use uv_model::{Profile, is_forbidden_domain};
 
 /// What the host parser makes of a text that isn't in brackets.
@@ -81,17 +80,18 @@ pub(crate) fn parser_form(alloc: Global, text: &str) -> Result<Option<String>, A
         return Ok(None);
     }
     let decoded = percent_decode(text.as_bytes()).into_cow(alloc)?;
-    taken_form(alloc, decoded.as_slice())
+    taken_form(alloc, decoded)
 }
 
-// What ToASCII gives, where that isn't empty and holds no forbidden domain code point.
-fn taken_form(alloc: Global, decoded: &[u8]) -> Result<Option<String>, AllocError>
-    ensures { IfOk result (λ form. option_map string_bytes form ≡ taken_form decoded.now) }
+// What ToASCII gives, where that isn't empty and holds no forbidden domain code point. Bytes that it leaves as they are
+// are not copied.
+fn taken_form(alloc: Global, decoded: CowSlice<'_, u8>) -> Result<Option<String>, AllocError>
+    ensures { IfOk result (λ form. option_map string_bytes form ≡ taken_form (cow_slice_items decoded.entry)) }
 {
-    if let Some(form) = own_form(decoded) {
-        return Ok(Some(String::from_str(alloc, form)?));
+    if is_own_form(decoded.as_slice()) {
+        return Ok(text_of(decoded.into_owned(alloc)?));
     }
-    let Some(form) = ascii_form(alloc, decoded)? else {
+    let Some(form) = ascii_form(alloc, decoded.as_slice())? else {
         return Ok(None);
     };
     if is_taken(form.as_str()) {
@@ -101,17 +101,26 @@ fn taken_form(alloc: Global, decoded: &[u8]) -> Result<Option<String>, AllocErro
     }
 }
 
-// The bytes themselves, where they are the code points of a form and ToASCII leaves them as they are. Where there is no
-// answer, that says nothing.
-fn own_form(decoded: &[u8]) -> Option<&str>
-    ensures { IfSome result (λ form. taken_form decoded.now ≡ Some form.now) }
+// Whether the bytes are the code points of a form, and ToASCII leaves them as they are. Where the answer is no, that says
+// nothing.
+fn is_own_form(decoded: &[u8]) -> bool
+    ensures ascii { IsTrue result → IsAscii decoded.now }
+    ensures own { IsTrue result → taken_form decoded.now ≡ Some decoded.now }
 {
-    let name = Name::of(decoded);
-    if decoded.is_empty() || !name.is_form(Profile::Parser) || !name.is_without_punycode() {
-        return None;
+    if decoded.is_empty() {
+        return false;
     }
-    match str::from_utf8(decoded) {
-        Ok(form) => Some(form),
+    let name = Name::of(decoded);
+    name.is_form(Profile::Parser) && name.is_without_punycode()
+}
+
+// The text of ASCII bytes, which are not copied.
+fn text_of(bytes: Vec<u8>) -> Option<String>
+    requires { IsAscii bytes.items }
+    ensures { option_map string_bytes result ≡ Some bytes.items }
+{
+    match String::from_utf8(bytes) {
+        Ok(text) => Some(text),
         Err(_) => None,
     }
 }
@@ -139,48 +148,4 @@ fn has_forbidden(form: &[u8]) -> bool
     ensures { result ≡ list_any spec.is_forbidden_domain form.now }
 {
     form.iter().any(|b| is_forbidden_domain(char::from(*b)))
-}
-
-#[cfg(test)]
-mod tests {
-    use super::*;
-
-    // The domain's form, the address in decimal, `(number)` or `(not)`.
-    fn shown(alloc: Global, text: &str) -> Result<String, AllocError> {
-        match parser_host(alloc, text)? {
-            ParserHost::Domain(form) => Ok(form),
-            ParserHost::Address(value) => format!(in alloc; "{value}"),
-            ParserHost::Number => String::from_str(alloc, "(number)"),
-            ParserHost::Not => String::from_str(alloc, "(not)"),
-        }
-    }
-
-    /// By hand from the host parser and the IPv4 parser (URL Standard, section 3.5), where these report no error.
-    #[test]
-    fn reads_hosts(rt: HostRuntime) -> Result<(), AllocError> {
-        for (text, wanted) in [
-            ("example.com", "example.com"),
-            ("A_B", "a_b"),
-            ("a%2Db", "a-b"),
-            ("1.2.3", "16908291"),
-            ("%31.2.3", "16908291"),
-            ("\u{FF11}.2.3", "16908291"),
-            ("0", "0"),
-            ("255.255.255.255", "4294967295"),
-            ("256", "(number)"),
-            ("1.2.3.4.5", "(number)"),
-            ("1.2.3.4.", "(number)"),
-            ("01", "(number)"),
-            ("0x1", "(number)"),
-            ("a.1", "(number)"),
-            ("", "(not)"),
-            ("a%2Fb", "(not)"),
-            ("%ff", "(not)"),
-            ("[1.2.3.4]", "(not)"),
-        ] {
-            let found = shown(rt.alloc(), text)?;
-            assert_eq!(rt; found.as_str(), wanted, "of {text}");
-        }
-        Ok(())
-    }
 }

@@ -1,6 +1,9 @@
 //! Plain names: letters and digits with single marks between them.
-ghost use Rattle.std.specs.Prelude.{◌≡◌, ◌^◌, ◌<◌, ◌≤◌, false, IfSome, IsTrue, chars, drop, length, slice_index, true};
-ghost use Rattle.uv_host.specs.PlainNames.{IsJoined, IsChainPrefix, is_rooted_chain, is_sign, is_word_letter};
+ghost use Rattle.std.specs.Prelude.{◌≡◌, ◌^◌, ◌<◌, ◌≤◌, false, IfSome, IsTrue, chars, drop, length, map, slice_index};
+ghost use Rattle.std.specs.Prelude.{take, true};
+ghost use Rattle.std.specs.Simd.Lanes.{mask_l};
+ghost use Rattle.uv_host.specs.PlainNames.{IsJoined, IsChainPrefix, IsChainPrefixOf, IsShortWideName, is_rooted_chain};
+ghost use Rattle.uv_host.specs.PlainNames.{is_sign, is_word_letter};
 ghost use Rattle.uv_model.specs.declared.profile.Profile.{Profile};
 ghost use Rattle.uv_model.specs.Hosts.Domain as spec;
 
@@ -10,6 +13,11 @@ use uv_text::Tail;
 // The lower-case letters and the digits, by the low half of a byte: a bit for each high half.
 const SIGN_ROWS: [u8; 16] = [
     136, 200, 200, 200, 200, 200, 200, 200, 200, 200, 192, 64, 64, 64, 64, 64,
+];
+
+// The same with the low line.
+const WIDE_SIGN_ROWS: [u8; 16] = [
+    136, 200, 200, 200, 200, 200, 200, 200, 200, 200, 192, 64, 64, 64, 64, 96,
 ];
 
 // The hyphen and the full stop.
@@ -22,7 +30,23 @@ const JOINT_ROWS: [u8; 16] = [0, 0, 0, 0, 0, 0, 0, 0, 0, 0, 0, 0, 0, 4, 4, 0];
 pub fn name_prefix(text: &Tail<'_>) -> Option<usize>
     ensures { IfSome result (IsChainPrefix text.now) }
 {
-    let end = chain_end(text);
+    chain_prefix(text, false)
+}
+
+/// Whether a name has at most 63 bytes and is such a name, where low lines count as letters. Where the answer is no,
+/// that says nothing.
+pub(crate) fn is_short_wide_name(name: &str) -> bool
+    ensures { IsTrue result → IsShortWideName name.now }
+{
+    name.len() <= 63 && chain_prefix(&Tail::of(name), true) == Some(name.len())
+}
+
+// How many bytes such a name has at the start of a text, where `low` says whether low lines count as letters.
+#[inline(always)]
+fn chain_prefix(text: &Tail<'_>, low: bool) -> Option<usize>
+    ensures { IfSome result (IsChainPrefixOf low text.now) }
+{
+    let end = chain_end(text, low);
     if end == 0 || text.as_str().as_bytes()[end - 1] == b'-' {
         return None;
     }
@@ -31,14 +55,14 @@ pub fn name_prefix(text: &Tail<'_>) -> Option<usize>
 
 // Where the bytes end that go on as such a name does, each from the one before it.
 #[inline(always)]
-fn chain_end(text: &Tail<'_>) -> usize
-    ensures { IsJoined false text.now result }
+fn chain_end(text: &Tail<'_>, low: bool) -> usize
+    ensures { IsJoined low false text.now result }
 {
     let mut end = 0;
-    let (mut ahead, mut signed) = chain_run(text, 0, false);
+    let (mut ahead, mut signed) = chain_run(text, 0, false, low);
     while ahead == 32 {
         end += ahead;
-        (ahead, signed) = chain_run(text, end, signed);
+        (ahead, signed) = chain_run(text, end, signed, low);
     }
     end + ahead
 }
@@ -46,13 +70,13 @@ fn chain_end(text: &Tail<'_>) -> usize
 // How many of the 32 bytes from a place on go on so, where `signed` says whether a letter or a digit stands before
 // them; and whether the last of them is one, where all do.
 #[inline(always)]
-fn chain_run(text: &Tail<'_>, place: usize, signed: bool) -> (usize, bool)
+fn chain_run(text: &Tail<'_>, place: usize, signed: bool, low: bool) -> (usize, bool)
     requires { place ≤ length text.now }
-    ensures goes_on { IsJoined signed (drop place text.now) result.0 }
+    ensures goes_on { IsJoined low signed (drop place text.now) result.0 }
     ensures short { length text.now < 2 ^ 64 }
-    ensures signed { result.0 ≡ 32 → result.1 ≡ is_sign (slice_index (drop place text.now) 31) }
+    ensures signed { result.0 ≡ 32 → result.1 ≡ is_sign low (slice_index (drop place text.now) 31) }
 {
-    let signs = text.row_bits(place, &SIGN_ROWS);
+    let signs = sign_bits(text, place, low);
     let joints = text.row_bits(place, &JOINT_ROWS);
     let behind_signs = signs << 1 | u64::from(signed);
     let joined = signs | joints & behind_signs;
@@ -94,6 +118,20 @@ fn is_word_letter(b: u8) -> bool
     b > b'f' && b <= b'z' && b != b'x'
 }
 
+// At each of the 32 bytes from a place on a bit, which is set where the byte is a letter or a digit.
+#[inline(always)]
+fn sign_bits(text: &Tail<'_>, place: usize, low: bool) -> u64
+    requires { place ≤ length text.now }
+    ensures bits { result ≡ mask_l (map (is_sign low) (take 32 (drop place text.now))) }
+    ensures short { length text.now < 2 ^ 64 }
+{
+    if low {
+        text.row_bits(place, &WIDE_SIGN_ROWS)
+    } else {
+        text.row_bits(place, &SIGN_ROWS)
+    }
+}
+
 // Whether such a name has the lengths of a domain, as it has where it has no more bytes than one label may have.
 #[inline(always)]
 fn is_fitting(name: &str) -> bool
@@ -101,63 +139,4 @@ fn is_fitting(name: &str) -> bool
     ensures { result ≡ spec.has_lengths name.now }
 {
     name.len() <= 63 || has_lengths(name)
-}
-
-#[cfg(test)]
-mod tests {
-    use super::*;
-    use std::alloc::{AllocError, Global};
-
-    #[test]
-    fn ends_behind_a_letter_or_a_digit(rt: HostRuntime) {
-        for (text, end) in [
-            ("example.com/", 11),
-            ("a-b.c", 5),
-            ("example.com./", 12),
-            ("a.", 2),
-            ("a..b", 2),
-            ("3d.x1:80", 5),
-            ("a_b", 1),
-        ] {
-            assert_eq!(rt; name_prefix(&Tail::of(text)), Some(end), "of {text}");
-        }
-        for text in ["", ".", ".a", "a-/", "a-.b", "-a", "Ab"] {
-            assert_eq!(rt; name_prefix(&Tail::of(text)), None, "of {text}");
-        }
-    }
-
-    // The name at the start of a label of so many bytes and what stands behind it.
-    fn prefix_of_label(
-        alloc: Global,
-        length: usize,
-        behind: &str,
-    ) -> Result<Option<usize>, AllocError> {
-        let mut text = String::new(alloc);
-        for _ in 0..length {
-            text.push('a')?;
-        }
-        text.push_str(behind)?;
-        Ok(name_prefix(&Tail::of(text.as_str())))
-    }
-
-    #[test]
-    fn ends_alike_at_each_length(rt: HostRuntime) -> Result<(), AllocError> {
-        for length in 1..70usize {
-            for (behind, end) in [
-                ("/", Some(length)),
-                (".com/a", Some(length + 4)),
-                ("-b:80", Some(length + 2)),
-                ("./", Some(length + 1)),
-                ("..b", Some(length + 1)),
-                (".-b", Some(length + 1)),
-                ("--b", None),
-                ("-.b", None),
-                ("-", None),
-            ] {
-                let found = prefix_of_label(rt.alloc(), length, behind)?;
-                assert_eq!(rt; found, end, "of {length} before {behind}");
-            }
-        }
-        Ok(())
-    }
 }

@@ -2,5 +2,5 @@ pub mod LineLemmas
 pub mod WaitingLemmas
 mod ReportedLemmas
 mod StandsLemmas
-mod PassLemmas
+pub mod PassLemmas
 pub mod FramedLemmas

@@ -20,6 +20,3 @@ pub use limits::LineLimits;
 pub use line_parts::{line_end, line_text, without_mark};
 pub use reporter::Reporter;
 pub use waiting::end_part;
-
-#[cfg(test)]
-mod tests;

@@ -1,3 +1,2 @@
 pub mod ReportedLemmas
 pub mod ReportRowsLemmas
-pub mod OwnTextLemmas

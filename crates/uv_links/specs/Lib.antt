@@ -2,7 +2,6 @@ pub mod Fault
 pub mod Judgement
 pub mod Limits
 pub mod Outcome
-pub mod OwnText
 pub mod Report
 pub mod ReportRows
 pub mod Reporting

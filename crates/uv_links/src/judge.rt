@@ -1,7 +1,6 @@
 //! The judgement of a line.
-ghost use Rattle.std.specs.Prelude.{◌≡◌, ◌≤◌, ◌++◌, ◌∷◌, [], IfOk, IfErr, Some, length, option_copied};
+ghost use Rattle.std.specs.Prelude.{◌≡◌, ◌≤◌, IfOk, IfErr, Some, length, option_copied};
 ghost use Rattle.std.specs.Str.{IsUtf8};
-ghost use Rattle.uv_model.specs.Ascii.{slash};
 ghost use Rattle.uv_links.specs.Fault.{IsBaseFault};
 ghost use Rattle.uv_links.specs.Judgement.{judged_said};
 ghost use Rattle.uv_links.specs.Report.{IsSaid};
@@ -10,14 +9,13 @@ ghost use Rattle.uv_second.specs.Second.{AgreesOnBase, IsReadAs, second_base};
 
 use crate::fault::{LinkFault, fault_of_room};
 use crate::judgement::Judgement;
-use crate::own_text::{is_own_root, is_own_text};
 use std::alloc::{AllocError, Global};
 use std::marker::Model;
 use std::str::from_utf8;
 use url::Url;
 use uv_grammar::{Verdict, check};
 use uv_model::{Profile, Record};
-use uv_resolve::{ResolveFault, resolve};
+use uv_resolve::serialize_parts;
 use uv_second::{RoomFault, read_as};
 
 /// What the lines are judged against: the profile, the base, the base as the second parser reads it, and how many bytes
@@ -96,43 +94,12 @@ impl<'b> Judge<'b> {
     {
         match check(alloc, text, self.base, self.profile) {
             Ok(Verdict::Yes(parts)) => {
-                if is_own_text(text, &parts) {
-                    self.compare(alloc, text, text)
-                } else if is_own_root(text, &parts) {
-                    self.compare_root(alloc, text)
-                } else {
-                    self.judge_by_record(alloc, text)
-                }
+                let written = serialize_parts(alloc, text, parts, self.base)?;
+                self.compare(alloc, text, written.as_str())
             }
             Ok(Verdict::No(refusal)) => Ok(Judgement::Refused(refusal)),
             Err(AllocError) => Err(RoomFault::Memory),
         }
-    }
-
-    // The same, with the record that the text denotes.
-    fn judge_by_record(&self, alloc: Global, text: &str) -> Result<Judgement, RoomFault>
-        requires { length text.now ≤ self.now.line_bytes }
-        ensures { IfOk result (λ j. IsSaid self.now text.now (judged_said j)) }
-    {
-        match resolve(alloc, text, self.base, self.profile) {
-            Ok(record) => {
-                let written = record.text(alloc)?;
-                self.compare(alloc, text, written.as_str())
-            }
-            Err(ResolveFault::Refused(refusal)) => Ok(Judgement::Refused(refusal)),
-            Err(ResolveFault::Memory(_)) => Err(RoomFault::Memory),
-        }
-    }
-
-    // What is said of a text that denotes a URL with this text and a `/` behind it.
-    fn compare_root(&self, alloc: Global, text: &str) -> Result<Judgement, RoomFault>
-        requires short { length text.now ≤ self.now.line_bytes }
-        requires denotes { DenotesText self.now.profile self.now.base text.now (text.now ++ slash ∷ []) }
-        ensures { IfOk result (λ j. IsSaid self.now text.now (judged_said j)) }
-    {
-        let mut written = String::from_str(alloc, text)?;
-        written.push_str("/")?;
-        self.compare(alloc, text, written.as_str())
     }
 
     // What is said of a text that denotes a URL with this text.

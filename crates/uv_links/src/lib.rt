@@ -8,7 +8,6 @@ mod judgement;
 pub mod laws;
 mod limits;
 mod outcome;
-mod own_text;
 mod reporter;
 mod run;
 
@@ -17,6 +16,3 @@ pub use fault::LinkFault;
 pub use limits::LinkLimits;
 pub use outcome::{Outcome, line_text};
 pub use run::run_links;
-
-#[cfg(test)]
-mod tests;

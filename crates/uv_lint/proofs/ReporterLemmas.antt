@@ -1,7 +1,7 @@
 -- A line that was reported on.
-use Rattle.std.proofs.Common.{◌≡◌, ℕ, ◌+◌, List, [], ◌∷◌, ◌++◌, Option, Some, None, true, length, refl, sym, ap}
-use Rattle.std.proofs.Common.{◌∙◌, append-nil, subst, arith, eqb-true, Result, Ok, Err, OnOk, IfErr, inl, inr}
-use Rattle.std.specs.Prelude.{◌==◌, if◌then◌else◌, option_copied}
+use Rattle.std.proofs.Common.{◌≡◌, ℕ, ◌+◌, List, [], ◌++◌, Option, Some, None, refl, sym, ap}
+use Rattle.std.proofs.Common.{◌∙◌, append-nil, subst, Result, Ok, Err, OnOk, IfErr, inl, inr}
+use Rattle.std.specs.Prelude.{if◌then◌else◌, option_copied}
 use Rattle.std.specs.Result.{is_ok}
 use Rattle.std.specs.declared.alloc.AllocError.{AllocError}
 use Rattle.uv_report.specs.declared.line_violation.LineViolation.{LineViolation}
@@ -16,11 +16,6 @@ use Rattle.uv_lint.specs.Located.{LocatedLink}
 use Rattle.uv_lint.specs.Report.{judged_line, line_text, reported_by}
 use Rattle.uv_lint.specs.ReportedView.{place_view, shown_at}
 use Rattle.uv_lint.specs.Reporting.{Begins, HasBegun, HasBegunLine, HasReportedLine, Linting, Says, with_line}
-
--- a list without items
-pub none_found : (violations : List LineViolation) → (length violations == 0) ≡ true → [] ≡ violations
-none_found [] none = refl
-none_found (violation ∷ rest) none = absurd (omega (arith, eqb-true (length (violation ∷ rest)) 0 none))
 
 -- what follows from what was appended holds where memory was found
 pub on_appended : (answer : Result (Unit {0}) AllocError) (old more new : List ℕ) (B : Type 0)
@@ -59,13 +54,6 @@ on_ok (Ok u) A B is holds = is holds
 on_ok (Err e) A B is holds = tt {0}
 
 -- ---- a line
-
--- nothing is reported of a line with which nothing is found
-pub none_reported : (before : Linting) (line : Option (List ℕ)) (violations : List LineViolation) (old : List ℕ)
-    (a : Option (List ℕ)) → [] ≡ violations → HasReportedLine before line violations old a a old
-none_reported before line violations old a none =
-    subst (λ vs. HasReportedLine before line vs old a a old) none
-    (None, refl, rw (append-nil old) (passes_none old a))
 
 -- the text that is reported of a line is the one that it is judged by
 reported_text : (file : List ℕ) (number : ℕ) (line : Option (List ℕ)) (link : Option LocatedLink)

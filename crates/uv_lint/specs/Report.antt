@@ -26,12 +26,13 @@ use Rattle.uv_lint.specs.Located.{LocatedLink}
 abbrev pub lent : List ℕ → Bor (List ℕ)
 lent text = record { ref_ptr = (0, 0); now = text }
 
--- What stands before the diagnostics of a file and behind them. Where lines say where their links stand, each
--- diagnostic is about a file of its own, and these stand round each diagnostic.
+-- What stands before the diagnostics of a file. Where lines say where their links stand, each diagnostic is about a file
+-- of its own, and this stands before each diagnostic.
 abbrev pub list_begin_text : LineForm → Format → List ℕ → List ℕ
 list_begin_text Plain format file = file_begin_text format file
 list_begin_text Located format file = []
 
+-- and what stands behind them
 abbrev pub list_end_text : LineForm → Format → List ℕ
 list_end_text Plain format = file_end_text format
 list_end_text Located format = []

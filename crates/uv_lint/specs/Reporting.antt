@@ -53,6 +53,7 @@ HasReportedLine before line violations waited old new waits =
     (reported_by before.setting.file (before.lines + 1) line (link_of before.setting.form line)) violations waited old
     new waits
 
+-- what is reported of the next line has begun
 abbrev pub HasBegunLine : Linting → Option (List ℕ) → List LineViolation → List ℕ → Type 0
 HasBegunLine before line violations parts =
     HasBegun before

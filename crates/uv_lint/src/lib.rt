@@ -14,8 +14,5 @@ mod setting;
 
 pub use counts::LintCounts;
 pub use fault::LintFault;
-pub use run::run_lint;
+pub use run::{run_lint, run_within};
 pub use setting::{LineForm, LintSetting};
-
-#[cfg(test)]
-mod tests;

@@ -61,9 +61,9 @@ pub fn run_lint<R: Source, W: Sink>(
     run_within(alloc, reader, writer, file, is_first, setting, LINE_LIMITS)
 }
 
-/// The same within other limits.
+/// The same within other limits: a line may have no more bytes than these say, and no more lines may come.
 #[tactic(none)]
-pub(crate) fn run_within<R: Source, W: Sink>(
+pub fn run_within<R: Source, W: Sink>(
     alloc: Global,
     reader: &mut R,
     writer: &mut W,

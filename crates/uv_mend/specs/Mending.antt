@@ -5,7 +5,7 @@ use Rattle.uv_model.specs.Records.Url.{Url}
 use Rattle.uv_grammar.specs.Verdict.{IsRefused}
 use Rattle.uv_mend.specs.declared.answer.Mending.{Mending}
 use Rattle.uv_mend.specs.declared.answer.Mending.TheVariants as answer
-use Rattle.uv_mend.specs.declared.answer.MendKind.{MendKind}
+use Rattle.uv_model.specs.declared.mend_kind.MendKind.{MendKind}
 use Rattle.uv_mend.specs.Edits.{cleaned}
 use Rattle.uv_mend.specs.Kinds.{IsKind}
 use Rattle.uv_mend.specs.Repairs.{IsValid, Repairs}

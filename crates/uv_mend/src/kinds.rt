@@ -4,13 +4,12 @@ ghost use Rattle.uv_mend.specs.Escapes.{escaped};
 ghost use Rattle.uv_mend.specs.Kinds.{IsKind};
 ghost use Rattle.uv_second.specs.Second.{ReadsSame};
 
-use crate::answer::MendKind;
 use crate::code_points::{code_points, text_of};
 use crate::escaped::escaped;
 use crate::second::reading;
 use std::alloc::{AllocError, Global};
 use url::Url;
-use uv_model::Record;
+use uv_model::{MendKind, Record};
 use uv_second::serial;
 
 /// The kind of a mended text. The error is out of memory.

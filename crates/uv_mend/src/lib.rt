@@ -16,8 +16,6 @@ mod repairs;
 mod second;
 mod slashes;
 
-pub use answer::{MendKind, Mending};
+pub use answer::Mending;
 pub use mender::mend;
-
-#[cfg(test)]
-mod tests;
+pub use uv_model::MendKind;

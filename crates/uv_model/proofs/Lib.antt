@@ -6,3 +6,4 @@ pub mod Paths
 pub mod Cuts
 pub mod Violations
 pub mod Records
+pub mod Deciding

@@ -9,6 +9,7 @@ pub mod Path
 pub mod Hosts
 pub mod Parts
 pub mod ProfileName
+pub mod MendKindName
 pub mod WrittenProfiles
 pub mod Setting
 pub mod Cut

@@ -47,38 +47,3 @@ pub fn starts_with_two_hex(text: &str) -> bool
         None => false,
     }
 }
-
-#[cfg(test)]
-mod tests {
-    use super::*;
-
-    #[test]
-    fn takes_one_code_point(rt: HostRuntime) {
-        assert_eq!(rt; first_code_point(""), None);
-        assert_eq!(rt; first_code_point("a"), Some(('a', "")));
-        assert_eq!(rt; first_code_point("\u{10FFFD}b"), Some(('\u{10FFFD}', "b")));
-    }
-
-    #[test]
-    fn passes_code_points(rt: HostRuntime) {
-        for (count, left) in [
-            (0, "a\u{E9}\u{10FFFD}"),
-            (1, "\u{E9}\u{10FFFD}"),
-            (2, "\u{10FFFD}"),
-            (3, ""),
-            (4, ""),
-        ] {
-            assert_eq!(rt; behind_code_points("a\u{E9}\u{10FFFD}", count), left);
-        }
-    }
-
-    #[test]
-    fn sees_two_hex_digits(rt: HostRuntime) {
-        for text in ["00", "aF", "3Ax"] {
-            assert!(rt; starts_with_two_hex(text), "of {text}");
-        }
-        for text in ["", "0", "g0", "0g", "\u{FF10}0"] {
-            assert!(rt; !starts_with_two_hex(text), "of {text}");
-        }
-    }
-}

@@ -95,29 +95,3 @@ fn all_hexadecimal(label: &[u8]) -> bool
 {
     label.iter().all(|b| b.is_ascii_hexdigit())
 }
-
-#[cfg(test)]
-mod tests {
-    use super::*;
-
-    /// By hand from the ends-in-a-number checker (URL Standard, section 3.5), with `0x` in lower case as a form has it.
-    #[test]
-    fn finds_numbers(rt: HostRuntime) {
-        for (text, ends) in [
-            ("1.2.3", true),
-            ("a.1.", true),
-            ("\u{E9}.1", true),
-            ("0x", true),
-            ("a.0x1F", true),
-            ("", false),
-            (".", false),
-            ("1.a", false),
-            ("a.1..", false),
-            ("a.0xg", false),
-            ("a.0X1F", false),
-            ("\u{FF11}", false),
-        ] {
-            assert_eq!(rt; ends_in_number(text), ends, "{text}");
-        }
-    }
-}

@@ -67,26 +67,3 @@ fn ipv6_text(alloc: Global, pieces: [u16; 8]) -> Result<String, AllocError>
     let groups = Ipv6Addr::from_segments(pieces).hex_groups();
     format!(in alloc; "[{groups}]")
 }
-
-#[cfg(test)]
-mod tests {
-    use super::*;
-    use std::test::Fail;
-
-    #[test]
-    fn writes_addresses(rt: HostRuntime) -> Result<(), Fail> {
-        for (pieces, want) in [
-            ([1, 2, 3, 4, 5, 6, 7, 0], "[1:2:3:4:5:6:7:0]"),
-            ([0, 0, 0, 0, 0, 0xFFFF, 0x102, 0x304], "[::ffff:102:304]"),
-            ([0, 0, 0, 0, 0, 0, 0, 0], "[::]"),
-            ([1, 0, 0, 2, 0, 0, 0, 3], "[1:0:0:2::3]"),
-            ([1, 0, 0, 2, 3, 0, 0, 4], "[1::2:3:0:0:4]"),
-        ] {
-            let text = Host::V6(pieces).text(rt.alloc())?;
-            assert_eq!(rt; text.as_str(), want);
-        }
-        let text = Host::V4(3232235521).text(rt.alloc())?;
-        assert_eq!(rt; text.as_str(), "192.168.0.1");
-        Ok(())
-    }
-}

@@ -64,9 +64,9 @@ pub fn addresses_are_read_back()
     ensures { AddressesAreReadBack }
 {}
 
-/// The record that a valid text of any profile denotes, alone or against a base that is well formed by the same profile,
-/// is well formed by it (URL Standard, sections 4.1 and 4.3). Against any record it is well formed by the parser's
-/// profile.
+/// The record that a valid text of any profile denotes, alone or against a base that is well formed by the same
+/// profile, is well formed by it (URL Standard, sections 4.1 and 4.3). Against any record it is well formed by the
+/// parser's profile.
 pub fn denoted_records_are_well_formed()
     ensures { DenotedRecordsAreWellFormed }
 {}
@@ -80,9 +80,9 @@ pub fn standard_texts_are_wide()
     ensures records { StandardRecordsAreWide }
 {}
 
-/// A valid text of the wide profile is one of the parser's profile, alone or against the same base, with the same parts,
-/// and so it denotes the same record. A domain of the wide profile is one of the parser's profile with the same form,
-/// and a record that is well formed by the wide profile is so by the parser's profile.
+/// A valid text of the wide profile is one of the parser's profile, alone or against the same base, with the same
+/// parts, and so it denotes the same record. A domain of the wide profile is one of the parser's profile with the same
+/// form, and a record that is well formed by the wide profile is so by the parser's profile.
 pub fn wide_texts_are_parsers()
     ensures texts { WideTextsAreParsers }
     ensures domains { WideDomainsAreParsers }

@@ -7,6 +7,7 @@ mod domain;
 mod extent;
 mod host;
 pub mod laws;
+mod mend_kind;
 mod opaque_host;
 mod path;
 mod profile;
@@ -26,6 +27,7 @@ pub use code_points::{behind_code_points, first_code_point, starts_with_two_hex}
 pub use domain::{ends_in_number, is_domain_mark, is_forbidden_domain};
 pub use extent::Extent;
 pub use host::Host;
+pub use mend_kind::MendKind;
 pub use opaque_host::is_forbidden_host;
 pub use path::UrlPath;
 pub use profile::Profile;

@@ -13,18 +13,3 @@ pub fn is_forbidden_host(c: char) -> bool
         _ => false,
     }
 }
-
-#[cfg(test)]
-mod tests {
-    use super::*;
-
-    #[test]
-    fn names_the_forbidden_host_code_points(rt: HostRuntime) {
-        for c in "\0\t\n\r #/:<>?@[\\]^|".chars() {
-            assert!(rt; is_forbidden_host(c), "of {c}");
-        }
-        for c in "az09%!$&'()*+,-.;=_~\"`{}\u{7F}\u{E9}".chars() {
-            assert!(rt; !is_forbidden_host(c), "of {c}");
-        }
-    }
-}

@@ -11,8 +11,8 @@ use crate::text::Text;
 use std::alloc::{AllocError, Global};
 use std::marker::Model;
 
-/// A URL's record (URL Standard, section 4.1) without credentials. It is well formed by the parser's profile, and so may
-/// be one of any profile.
+/// A URL's record (URL Standard, section 4.1) without credentials. It is well formed by the parser's profile, and so
+/// may be one of any profile.
 #[derive(Debug, Drop)]
 pub struct Record {
     scheme: Text,
@@ -201,6 +201,3 @@ fn as_text(text: &Option<Text>) -> Option<&str>
         None => None,
     }
 }
-
-#[cfg(test)]
-mod tests;

@@ -58,31 +58,3 @@ pub fn is_name(text: &str, name: &str) -> bool
 {
     text.eq_ignore_ascii_case(name)
 }
-
-#[cfg(test)]
-mod tests {
-    use super::*;
-
-    // The table of section 4.2 of the URL Standard, and schemes that it doesn't have.
-    #[test]
-    fn knows_the_special_schemes(rt: HostRuntime) {
-        for (scheme, port) in [
-            ("ftp", Some(21)),
-            ("http", Some(80)),
-            ("HTTPS", Some(443)),
-            ("ws", Some(80)),
-            ("wSs", Some(443)),
-        ] {
-            assert_eq!(rt; class_of(scheme), Class::Special, "{scheme}");
-            assert_eq!(rt; default_port(scheme), port, "{scheme}");
-        }
-        for scheme in ["file", "FiLe"] {
-            assert_eq!(rt; class_of(scheme), Class::File, "{scheme}");
-            assert_eq!(rt; default_port(scheme), None, "{scheme}");
-        }
-        for scheme in ["", "foo", "https2", "htt", "\u{212A}"] {
-            assert_eq!(rt; class_of(scheme), Class::Other, "{scheme}");
-            assert_eq!(rt; default_port(scheme), None, "{scheme}");
-        }
-    }
-}

@@ -149,6 +149,3 @@ fn push_behind(out: &mut String, mark: char, text: Option<&str>) -> Result<(), A
     out.push(mark)?;
     out.push_str(text)
 }
-
-#[cfg(test)]
-mod tests;

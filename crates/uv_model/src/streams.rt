@@ -11,6 +11,3 @@ pub use script_sink::ScriptSink;
 pub use script_source::ScriptSource;
 pub use stream::{DeviceFault, Sink, Source, write_whole};
 pub use writers::ToWriter;
-
-#[cfg(test)]
-mod tests;

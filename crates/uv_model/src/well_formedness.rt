@@ -167,6 +167,3 @@ fn is_url_fragment(fragment: Option<&str>) -> bool
         Some(fragment) => is_ascii_units(fragment.as_bytes()),
     }
 }
-
-#[cfg(test)]
-mod tests;

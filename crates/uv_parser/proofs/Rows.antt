@@ -2,7 +2,7 @@
 pub mod Computing
 pub mod Shown
 pub mod RowsLemmas
-pub mod HostViolations
+pub mod DecidedHosts
 pub mod AddressParsers
 pub mod Definitions
 pub mod Denotation

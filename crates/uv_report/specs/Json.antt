@@ -2,7 +2,7 @@
 use Rattle.std.specs.Prelude.{ℕ, List, ◌++◌, codes, Option, Some, None}
 use Rattle.serde_json.specs.Data.{Data, Members, boolean, number, unsigned, string, object, member, no_members, put}
 use Rattle.serde_json.specs.Written.{compact_text}
-use Rattle.uv_mend.specs.Kinds.{kind_name}
+use Rattle.uv_model.specs.MendKindName.{kind_name}
 use Rattle.uv_report.specs.declared.diagnostic.Diagnostic.{Diagnostic}
 use Rattle.uv_report.specs.declared.mended.Mended.{Mended}
 use Rattle.uv_report.specs.LineViolation.{violation_name, violation_place}

@@ -1,10 +1,11 @@
--- A diagnostic as a result of SARIF 2.1.0 (sections 3.27 to 3.30, and 3.55 to 3.57), and the document round the results.
+-- A diagnostic as a result of SARIF 2.1.0 (sections 3.27 to 3.30, and 3.55 to 3.57), and the document round the
+-- results.
 use Rattle.std.specs.Prelude.{ℕ, Bool, true, false, List, [], ◌++◌, codes, flat_map, Option, Some, None}
 use Rattle.serde_json.specs.Data.{Data, Members, boolean, number, unsigned, string, array, no_items, item, object}
 use Rattle.serde_json.specs.Data.{member, no_members}
 use Rattle.serde_json.specs.Written.{compact_text}
-use Rattle.uv_mend.specs.declared.answer.MendKind.{MendKind}
-use Rattle.uv_mend.specs.declared.answer.MendKind.TheVariants.{Same, Escaped, Changed}
+use Rattle.uv_model.specs.declared.mend_kind.MendKind.{MendKind}
+use Rattle.uv_model.specs.declared.mend_kind.MendKind.TheVariants.{Same, Escaped, Changed}
 use Rattle.uv_model.specs.declared.rule.Rule.{Rule}
 use Rattle.uv_model.specs.Violations.Rule.{rules_in_order}
 use Rattle.uv_report.specs.declared.column.Columns.{Columns}

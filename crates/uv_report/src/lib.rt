@@ -34,6 +34,3 @@ pub use format::Format;
 pub use line_violation::LineViolation;
 pub use mended::Mended;
 pub use report::{end_of, push_begin, push_diagnostic, push_file_begin, push_file_end};
-
-#[cfg(test)]
-mod tests;

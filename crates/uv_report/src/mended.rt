@@ -1,6 +1,6 @@
 //! What to write in place of a refused text.
 
-use uv_mend::MendKind;
+use uv_model::MendKind;
 
 /// What to write in place of the text that a diagnostic is about.
 #[derive(Clone, Copy)]

@@ -13,8 +13,7 @@ use crate::uri::push_uri_path;
 use crate::window::{carried, is_cut};
 use serde_json::{Value, json};
 use std::alloc::{AllocError, Global};
-use uv_mend::MendKind;
-use uv_model::{Refusal, Rule};
+use uv_model::{MendKind, Refusal, Rule};
 
 /// Pushes the document up to its results: the version, what columns count, the tool and its rules.
 #[tactic(auto, unfolding(crate::specs::Sarif::sarif_begin))]

@@ -1,3 +1,4 @@
+pub mod OwnTextLemmas
 pub mod RecordLemmas
 pub mod SpacedEndLemmas
 pub mod RunLemmas

@@ -1,5 +1,7 @@
 pub mod Base
 pub mod Laws
 pub mod ParserAnswer
+pub mod OwnText
 pub mod Resolve
+pub mod Serialized
 pub mod Walk

@@ -5,14 +5,14 @@
 mod base;
 mod fault;
 pub mod laws;
+mod own_text;
 mod paths;
 mod records;
 mod resolver;
+mod serialized;
 mod walker;
 
 pub use base::resolve_base;
 pub use fault::ResolveFault;
 pub use resolver::resolve;
-
-#[cfg(test)]
-mod tests;
+pub use serialized::{resolve_serialized, serialize_parts};

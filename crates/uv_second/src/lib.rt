@@ -8,6 +8,3 @@ mod readings;
 pub use answer::{read_as, serial};
 pub use fault::RoomFault;
 pub use readings::reading;
-
-#[cfg(test)]
-mod tests;

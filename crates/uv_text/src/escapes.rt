@@ -23,37 +23,3 @@ pub fn encode(alloc: Global, text: &str, quote: bool) -> Result<String, AllocErr
     utf8_percent_encode(text, set).append_to(&mut out)?;
     Ok(out)
 }
-
-#[cfg(test)]
-mod tests {
-    use super::*;
-    use std::test::Fail;
-
-    #[test]
-    fn encodes_the_quote_where_asked(rt: HostRuntime) -> Result<(), Fail> {
-        for (text, quote, wanted) in [
-            ("\u{E9}'", true, "%C3%A9%27"),
-            ("\u{E9}'", false, "%C3%A9'"),
-            ("x='y'", true, "x=%27y%27"),
-        ] {
-            let encoded = encode(rt.alloc(), text, quote)?;
-            assert_eq!(rt; encoded.as_str(), wanted);
-        }
-        Ok(())
-    }
-
-    #[test]
-    fn encodes_beyond_ascii_and_keeps_all_else(rt: HostRuntime) -> Result<(), Fail> {
-        for (text, wanted) in [
-            ("\u{20AC}", "%E2%82%AC"),
-            ("\u{10FFFD}", "%F4%8F%BF%BD"),
-            ("", ""),
-            ("%e9%E9", "%e9%E9"),
-            ("aZ09!$&'()*+,-./:;=?@_~", "aZ09!$&'()*+,-./:;=?@_~"),
-        ] {
-            let encoded = encode(rt.alloc(), text, false)?;
-            assert_eq!(rt; encoded.as_str(), wanted);
-        }
-        Ok(())
-    }
-}

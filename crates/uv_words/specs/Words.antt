@@ -122,6 +122,7 @@ mend_by filtered None rows profile = filter (filter_in rows profile)
 mend_by true (Some text) rows profile = filter_of_text
 mend_by false (Some text) rows profile = mend text (base_in rows) profile
 
+-- the same from its entries alone
 abbrev pub mend_in : List Row → Profile → Option Request
 mend_in rows profile = Some (mend_by (is_filtered rows) (first_of (codes "TEXT") rows) rows profile)
 

@@ -202,13 +202,6 @@ no_parsed_lengths profile text form written e wrong other h =
     let is = as_written profile text other written h in
     false≢true (sym wrong ∙ ap has_lengths (parsed_form profile text form other e is) ∙ is.lengths)
 
--- a text whose two forms differ has no form by the standard profile
-pub other_parsed : (text form parsed : List ℕ) → strict_form text ≡ Some form →
-    domain_to_ascii EMPTY (encode_utf8_all text) ≡ Some parsed → form ≢ parsed → HasNoForm Standard text
-other_parsed text form parsed e f differ other h =
-    let strict = same_Some form other (sym e ∙ h.fits.ascii) in
-    differ (strict ∙ sym (parsed_form Standard text parsed other f h))
-
 -- what a text decodes to is one text
 pub decoded_unique : (text a b : List ℕ) → IsDecoded text a → IsDecoded text b → a ≡ b
 decoded_unique text a b ha hb = ha.spelled ∙ sym hb.spelled

@@ -35,8 +35,10 @@ host_unique profile text (Domain a) (V6 b) is is' =
     absurd (not_bracketed text b (form_no_bracket profile text a is.0) is')
 host_unique profile text (V6 a) (Domain b) is is' =
     absurd (not_bracketed text a (form_no_bracket profile text b is'.0) is)
-host_unique profile text (V4 a) (V6 b) is is' = absurd (not_bracketed text b (ipv4_text_no_bracket profile text a is) is')
-host_unique profile text (V6 a) (V4 b) is is' = absurd (not_bracketed text a (ipv4_text_no_bracket profile text b is') is)
+host_unique profile text (V4 a) (V6 b) is is' =
+    absurd (not_bracketed text b (ipv4_text_no_bracket profile text a is) is')
+host_unique profile text (V6 a) (V4 b) is is' =
+    absurd (not_bracketed text a (ipv4_text_no_bracket profile text b is') is)
 host_unique profile text (Opaque a) other is is' = absurd is
 host_unique profile text Empty other is is' = absurd is
 host_unique profile text value (Opaque b) is is' = absurd is'

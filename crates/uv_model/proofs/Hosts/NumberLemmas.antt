@@ -1,40 +1,31 @@
 -- IPv4 addresses by the profiles: what one to four numbers are written with, that a text has one value, and that it has
 -- 32 bits.
-use Rattle.std.proofs.Common.{◌≡◌, ◌≢◌, ℕ, ◌^◌, ◌<◌, ◌≤◌, true, false, ◌||◌, ◌==◌, List, [], ◌∷◌, ◌++◌, length, get_or}
-use Rattle.std.proofs.Common.{map, decimal, All, Some, refl, sym, ap, ◌∙◌, inl, inr, lit≤, lit<, append_assoc}
-use Rattle.std.proofs.Common.{append-nil, length-append, ne_eqb, arith}
-use Rattle.std.specs.Char.{digit_value, encode_utf8, is_ascii_lowercase, is_ascii_digit}
+use Rattle.std.proofs.Common.{◌≡◌, ◌≢◌, ℕ, ◌^◌, ◌<◌, ◌≤◌, true, false, List, [], ◌∷◌, ◌++◌, length, get_or}
+use Rattle.std.proofs.Common.{map, decimal, All, refl, sym, ap, ◌∙◌, inl, inr, lit≤, lit<, append_assoc}
+use Rattle.std.proofs.Common.{append-nil, length-append, arith}
+use Rattle.std.specs.Char.{digit_value, is_ascii_digit}
 use Rattle.std.specs.List.{join_with_byte, list_all}
-use Rattle.std.specs.Str.{chars}
 use Rattle.std.specs.Str.Parse.{AllDigits, digits_value}
-use Rattle.std.proofs.Math.Seq.{get_or-append_seam}
 use Rattle.std.proofs.lemmas.Bool.{and_parts}
 use Rattle.std.proofs.lemmas.Bool.Decides.{nat_tests}
 use Rattle.std.proofs.lemmas.Fmt.{decimal_is_IsNumeral}
-use Rattle.std.proofs.lemmas.List.Elements.{All-append, All-cons, All-from_get_or, All-head, All-nil, All-weaker}
+use Rattle.std.proofs.lemmas.List.Elements.{All-append, All-cons, All-from_get_or, All-nil}
 use Rattle.std.proofs.lemmas.Option.{same_Some}
-use Rattle.std.proofs.lemmas.Str.{encodes-IsAscii}
-use Rattle.std.proofs.lemmas.Str.Ascii.{IsAscii-from_all}
 use Rattle.std.proofs.lemmas.Str.Parse.{digit_at}
 use Rattle.std.proofs.NetLemmas.Alphabet.{IsDigitOrDot}
-use Rattle.idna.specs.declared.deny_list.TheConstants.AsciiDenyList.{EMPTY}
 use Rattle.idna.specs.Labels.{is_full_stop}
-use Rattle.idna.specs.Uts46.{domain_to_ascii}
-use Rattle.idna.proofs.Computing.{idna}
-use Rattle.idna.proofs.Uts46Lemmas.{domain_to_ascii-alphanumeric}
-use Rattle.percent_encoding.specs.Percent.{percent_decode}
 use Rattle.uv_model.specs.declared.profile.Profile.{Profile}
 use Rattle.uv_model.specs.declared.profile.Profile.TheVariants.{Standard, Wide, Parser}
-use Rattle.uv_model.specs.Ascii.{full_stop, left_bracket}
+use Rattle.uv_model.specs.Ascii.{full_stop}
 use Rattle.uv_model.specs.Hosts.Address.{IsIpv4}
-use Rattle.uv_model.specs.Hosts.Domain.{IsParserForm, ends_in_number, last_label, parser_form}
+use Rattle.uv_model.specs.Hosts.Domain.{IsParserForm, ends_in_number, parser_form}
 use Rattle.uv_model.specs.Hosts.Numbers.{AreBytes, AreNumbers, IsIpv4Text, IsNumbersText, numbers_value}
 use Rattle.uv_model.specs.Hosts.OpaqueHost.{starts_with_bracket}
 use Rattle.uv_model.proofs.Addresses.AddressSizes.{ipv4_small}
 use Rattle.uv_model.proofs.Addresses.AddressUniqueness.{ipv4_no_bracket, ipv4_unique}
-use Rattle.uv_model.proofs.Hosts.DomainLemmas.{parser_form-is}
-use Rattle.uv_model.proofs.Hosts.Ipv4Domains.{ascii_byte, digits_alone, ends_in_number-decimal}
-use Rattle.uv_model.proofs.Hosts.LastLabelLemmas.{HasNoStop, after_last_none, from_end, without_root-other}
+use Rattle.uv_model.proofs.Hosts.DomainLemmas.{nothing_formed}
+use Rattle.uv_model.proofs.Hosts.Ipv4Domains.{ends_in_number-decimal}
+use Rattle.uv_model.proofs.Hosts.LastLabelLemmas.{HasNoStop}
 
 -- ---- the text of numbers
 
@@ -124,37 +115,7 @@ numbers_not_empty numbers text are nothing =
     let lengths = length-append (decimal is.first) (behind_text is.rest) in
     omega (arith, ap length (sym nothing ∙ is.spelled), lengths, numeral.0)
 
--- a text of digits and full stops doesn't begin with `[`
-pub simple_no_bracket : (text : List ℕ) → All IsDigitOrDot text → starts_with_bracket text ≡ false
-simple_no_bracket [] all = refl
-simple_no_bracket (c ∷ rest) all = first (All-head IsDigitOrDot c rest all)
-  where
-    first : IsDigitOrDot c → (c == left_bracket) ≡ false
-    first (inl digit) = ne_eqb c left_bracket (λ e. absurd (omega (arith, digit.0, digit.1)))
-    first (inr dot) = rw dot refl
-
--- nor does one of numbers
-pub numbers_no_bracket : (text : List ℕ) (value : ℕ) → IsNumbersText text value → starts_with_bracket text ≡ false
-numbers_no_bracket text value (numbers, are, valued) = simple_no_bracket text (simple_numbers numbers text are)
-
--- ---- its form
-
--- a digit or a full stop stays as it is in ToASCII
-simple_byte : (b : ℕ) → IsDigitOrDot b → (is_ascii_lowercase b || is_ascii_digit b || is_full_stop b) ≡ true
-simple_byte b (inl digit) = let low = digit.0 in let high = digit.1 in grind (arith, nat_tests)
-simple_byte b (inr dot) = rw dot refl
-
--- the parser's form of digits and full stops is the text
-pub parser_form-simple : (text : List ℕ) → All IsDigitOrDot text → parser_form text ≡ Some text
-parser_form-simple text simple =
-    let ascii = IsAscii-from_all text (All-weaker IsDigitOrDot (λ x. x < 128) ascii_byte text simple) in
-    let IsPlain : ℕ → Type 0 = λ x. (is_ascii_lowercase x || is_ascii_digit x || is_full_stop x) ≡ true in
-    parser_form-is text ∙ ap (domain_to_ascii EMPTY) (encodes-IsAscii text ascii)
-    ∙ domain_to_ascii-alphanumeric EMPTY text (All-weaker IsDigitOrDot IsPlain simple_byte text simple)
-
--- and so is that of numbers
-pub parser_form-numbers : (text : List ℕ) (value : ℕ) → IsNumbersText text value → parser_form text ≡ Some text
-parser_form-numbers text value (numbers, are, valued) = parser_form-simple text (simple_numbers numbers text are)
+-- ---- its last label
 
 -- a digit is no full stop
 not_stop : (c : ℕ) → is_ascii_digit c ≡ true → is_full_stop c ≡ false
@@ -167,28 +128,7 @@ digits_no_stop (c ∷ rest) each =
     let parts = and_parts (is_ascii_digit c) (list_all is_ascii_digit rest) each in
     All-cons (λ b. is_full_stop b ≡ false) c rest (not_stop c parts.0) (digits_no_stop rest parts.1)
 
--- a text without a full stop is its last label
-last_label-alone : (label : List ℕ) → HasNoStop label → last_label label ≡ label
-last_label-alone label none =
-    elim (from_end label) [
-      | inl empty ↦ rw empty refl
-      | inr (others, c, shown) ↦
-          let within : length others < length label =
-          omega (arith, ap length shown, length-append others (c ∷ [])) in
-          let at : get_or label (length others) 0 ≡ c = rw shown (get_or-append_seam others c [] 0) in
-          let other : is_full_stop c ≡ false = rw at at (none (length others) 0 within) in
-          rw (shown, without_root-other others c other, ← shown) (after_last_none label none)
-    ]
-
--- one number ends in a number
-ends_in_number-one : (n : ℕ) → n < 256 → ends_in_number (decimal n) ≡ true
-unfolding ends_in_number
-ends_in_number-one n small =
-    let digits = digits_alone n small in
-    let none = digits_no_stop (decimal n) (and_parts _ (list_all is_ascii_digit (decimal n)) digits).1 in
-    rw (last_label-alone (decimal n) none, digits) refl
-
--- so does a text behind which numbers follow
+-- a text behind which numbers follow ends in a number
 ends_in_number-more : (prefix : List ℕ) (n : ℕ) (rest : List ℕ) → n < 256 → AreBytes rest
     → ends_in_number (prefix ++ full_stop ∷ (decimal n ++ behind_text rest)) ≡ true
 ends_in_number-more prefix n [] small fit =
@@ -198,18 +138,6 @@ ends_in_number-more prefix n (next ∷ rest) small fit =
     let behind = full_stop ∷ (decimal next ++ behind_text rest) in
     ap ends_in_number (sym (append_assoc prefix (full_stop ∷ decimal n) behind))
     ∙ ends_in_number-more (prefix ++ full_stop ∷ decimal n) next rest fit.0 fit.1
-
--- the numbers of a text end it in a number
-ends_in_number-first : (n : ℕ) (rest : List ℕ) → n < 256 → AreBytes rest
-    → ends_in_number (decimal n ++ behind_text rest) ≡ true
-ends_in_number-first n [] small fit = ap ends_in_number (append-nil (decimal n)) ∙ ends_in_number-one n small
-ends_in_number-first n (next ∷ rest) small fit = ends_in_number-more (decimal n) next rest fit.0 fit.1
-
--- a text of numbers ends in a number
-pub ends_in_number-numbers : (text : List ℕ) (value : ℕ) → IsNumbersText text value → ends_in_number text ≡ true
-ends_in_number-numbers text value (numbers, are, valued) =
-    let is = first_number numbers text are in
-    ap ends_in_number is.spelled ∙ ends_in_number-first is.first is.rest is.small is.fit
 
 -- ---- one value
 
@@ -296,14 +224,6 @@ pub numbers_text_small : (text : List ℕ) (value : ℕ) → IsNumbersText text 
 numbers_text_small text value (numbers, are, valued) = rw valued (numbers_small numbers are.fit are.few)
 
 -- ---- by the profile
-
--- the empty text has no form of the parser's profile
-pub nothing_formed : (form : List ℕ) → IsParserForm [] form → ⊥
-unfolding chars percent_decode encode_utf8 parser_form idna
-nothing_formed form is =
-    let decoded : is.decoded ≡ [] = is.decodes.spelled in
-    let formed : Some [] ≡ Some form = rw decoded at is.formed in
-    is.some (sym (same_Some [] form formed))
 
 -- a text has one form of the parser's profile
 pub parser_form_unique : (text a b : List ℕ) → IsParserForm text a → IsParserForm text b → a ≡ b

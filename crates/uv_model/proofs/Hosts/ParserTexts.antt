@@ -1,7 +1,7 @@
 -- What is valid or well formed by the wide profile is so by the parser's profile.
-use Rattle.std.proofs.Common.{◌≡◌, ℕ, Bool, true, false, ◌==◌, List, [], ◌∷◌, Option, Some, None, refl, inl, inr, arith}
+use Rattle.std.proofs.Common.{◌≡◌, ℕ, Bool, true, List, [], ◌∷◌, Option, Some, None, refl, inl, inr, arith}
 use Rattle.std.specs.List.{list_all}
-use Rattle.std.proofs.lemmas.Bool.{and_from, and_parts, or_right}
+use Rattle.std.proofs.lemmas.Bool.{and_from, and_parts}
 use Rattle.std.proofs.lemmas.Bool.Decides.{nat_tests}
 use Rattle.uv_model.specs.declared.profile.Profile.TheVariants.{Wide, Parser}
 use Rattle.uv_model.specs.declared.scheme.Class.{Class}
@@ -10,56 +10,32 @@ use Rattle.uv_model.specs.declared.host.Host.{Host}
 use Rattle.uv_model.specs.declared.host.Host.TheVariants.{Domain, V4, V6, Opaque, Empty}
 use Rattle.uv_model.specs.declared.path.UrlPath.{UrlPath}
 use Rattle.uv_model.specs.declared.path.UrlPath.TheVariants as path
-use Rattle.uv_model.specs.Ascii.{space}
 use Rattle.uv_model.specs.Cut.{IsCut, ends_at_host, texts_of}
 use Rattle.uv_model.specs.Hosts.Domain.{is_form_code_point}
 use Rattle.uv_model.specs.Laws.Wholes.{WideTextsAreParsers}
 use Rattle.uv_model.specs.Parts.{Form, SchemeAuthority, SchemePath, SchemeOpaque, Authority, PathAbsolute}
 use Rattle.uv_model.specs.Parts.{PathRelative, NoPath, Parts}
-use Rattle.uv_model.specs.Path.{IsPathRelative, IsSpacedPath, IsTakenSpacedPath, ends_with_space, is_spaced}
+use Rattle.uv_model.specs.Path.{IsPathRelative, IsTakenSpacedPath}
 use Rattle.uv_model.specs.Records.Url.{Url}
 use Rattle.uv_model.specs.Records.WellFormed.{IsEncodedSpacedPath, IsUnspacedPath, IsUrlDomain, IsUrlHost, IsUrlPath}
 use Rattle.uv_model.specs.Records.WellFormed.{WideRecordsAreParsers}
 use Rattle.uv_model.specs.Setting.{setting_of}
-use Rattle.uv_model.specs.Units.{is_faultless, is_unit_at}
 use Rattle.uv_model.specs.Valid.{FitsAuthority, FitsDrive, FitsForm, FitsHostText, Valid}
 use Rattle.uv_model.proofs.Cuts.ValidCutLemmas.{valid_is_cut}
 use Rattle.uv_model.proofs.Hosts.ParserForms.{wide_file_host_not_stopped, wide_file_hosts_are_parsers}
 use Rattle.uv_model.proofs.Hosts.ParserForms.{wide_host_not_stopped, wide_hosts_are_parsers}
-use Rattle.uv_model.proofs.Paths.JoinedSegments.{faultless_path, without_path}
-use Rattle.uv_model.proofs.Paths.OpaquePaths.{unit_not_space}
+use Rattle.uv_model.proofs.Paths.JoinedSegments.{faultless_path}
+use Rattle.uv_model.proofs.Paths.SpacedPaths.{ends_faultless, spaced_path, spaced_units}
 use Rattle.uv_model.proofs.Texts.UnitsLemmas.{is_faultless-units}
 
 -- ---- opaque paths
 
--- a text without a fault of units is one of units and spaces
-pub spaced_units : (text : List ℕ) → is_faultless text ≡ true → is_spaced text ≡ true
-spaced_units [] units = refl
-spaced_units (c ∷ rest) units =
-    let parts = and_parts (is_unit_at c rest) (is_faultless rest) units in
-    and_from _ _ (or_right (c == space) (is_unit_at c rest) parts.0) (spaced_units rest parts.1)
-
--- and doesn't end with a space
-pub units_end : (text : List ℕ) → is_faultless text ≡ true → ends_with_space text ≡ false
-units_end [] units = refl
-units_end (c ∷ []) units = unit_not_space c [] (and_parts (is_unit_at c []) true units).0
-units_end (c ∷ next ∷ rest) units =
-    units_end (next ∷ rest) (and_parts (is_unit_at c (next ∷ rest)) (is_faultless (next ∷ rest)) units).1
-
--- a path-relative string is one of units and spaces
-pub spaced_path : (segments : List (List ℕ)) (text : List ℕ) → IsPathRelative segments text → IsSpacedPath text
-spaced_path segments text path = record {
-  units = spaced_units text (faultless_path segments text path);
-  no_question_mark = without_path segments text path;
-  start = path.start;
-}
-
--- on which the parser is silent
+-- a path-relative string is an opaque path on which the parser is silent
 pub taken_path : (followed : Bool) (segments : List (List ℕ)) (text : List ℕ) → IsPathRelative segments text
     → IsTakenSpacedPath followed text
 taken_path followed segments text path = record {
   spaced = spaced_path segments text path;
-  end = λ alone. units_end text (faultless_path segments text path);
+  end = λ alone. ends_faultless text (faultless_path segments text path);
 }
 
 -- ---- texts
@@ -187,7 +163,7 @@ parsers_opaque_path text is =
         start = is.start;
       };
       ascii = is.units.ascii;
-      end = units_end text units;
+      end = ends_faultless text units;
     }
 
 -- a path

@@ -51,7 +51,7 @@ spaced_path segments text path = record {
 -- ---- units and spaces
 
 -- a space or no fault stays one with more text behind it
-spaced_ahead : (c : ℕ) (xs ys : List ℕ) → ((c == space) || is_unit_at c xs) ≡ true
+pub spaced_ahead : (c : ℕ) (xs ys : List ℕ) → ((c == space) || is_unit_at c xs) ≡ true
     → ((c == space) || is_unit_at c (xs ++ ys)) ≡ true
 spaced_ahead c xs ys is =
     elim (cases_Bool (c == space)) [
@@ -222,7 +222,7 @@ spaced_encoded (c ∷ rest) is =
     ]
 
 -- a text without a fault doesn't end with a space
-ends_faultless : (text : List ℕ) → is_faultless text ≡ true → ends_with_space text ≡ false
+pub ends_faultless : (text : List ℕ) → is_faultless text ≡ true → ends_with_space text ≡ false
 ends_faultless [] is = refl
 ends_faultless (c ∷ []) is = unit_not_space c [] (and_parts (is_unit_at c []) true is).0
 ends_faultless (c ∷ next ∷ rest) is =

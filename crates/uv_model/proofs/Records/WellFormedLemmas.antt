@@ -1,9 +1,9 @@
 -- Well-formed records: what the encoded parts of a valid text are.
 use Rattle.std.proofs.Common.{◌≡◌, ℕ, ◌<◌, Bool, true, false, not, List, [], ◌∷◌, Option, Some, None, refl, ap, ◌∙◌}
 use Rattle.std.proofs.Common.{◌==◌, ◌≢◌, inl, inr, sym}
-use Rattle.std.specs.Char.{is_ascii, is_ascii_alphanumeric, is_ascii_digit, is_ascii_lowercase, is_ascii_uppercase}
+use Rattle.std.specs.Char.{is_ascii, is_ascii_digit, is_ascii_lowercase, is_ascii_uppercase}
 use Rattle.std.specs.Prelude.{encode_utf8_all, ◌&&◌}
-use Rattle.std.proofs.Common.{arith, lt-ltb}
+use Rattle.std.proofs.Common.{lt-ltb}
 use Rattle.std.specs.Prelude.{if◌then◌else◌, option_map}
 use Rattle.std.specs.Fmt.{digit_glyph}
 use Rattle.std.proofs.lemmas.Bool.{agree_below_at, and_from, and_parts, cases_Bool, false≢true, not-true, true≢false}
@@ -27,7 +27,6 @@ use Rattle.idna.specs.declared.deny_list.TheConstants.AsciiDenyList.{EMPTY}
 use Rattle.idna.specs.declared.options.DnsLength.TheVariants.{Ignore}
 use Rattle.idna.specs.declared.options.Hyphens.TheVariants.{Allow}
 use Rattle.idna.proofs.Uts46Lemmas.{All-to_ascii, IsOutputByte}
-use Rattle.std.proofs.lemmas.Bool.Decides.{nat_tests}
 use Rattle.std.proofs.lemmas.List.Elements.{All-weaker}
 use Rattle.uv_model.specs.Hosts.OpaqueHost.{IsOpaqueHost, is_forbidden_host}
 use Rattle.uv_model.proofs.Paths.DotSegmentLemmas.{is_double_dot-encoded, is_single_dot-encoded}

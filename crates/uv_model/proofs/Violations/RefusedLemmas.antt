@@ -90,7 +90,8 @@ second_slash_within (c ∷ d ∷ rest) =
     let most : second_slash (c ∷ d ∷ rest) ≤ 1 = one_at_most (starts_with_two_slashes (c ∷ d ∷ rest)) in
     omega arith
 
-path_begins : (setting : Setting) (cut : Cut) → Begins (FromPath setting cut) (path_place cut + second_slash cut.path_text) 13
+path_begins : (setting : Setting) (cut : Cut)
+    → Begins (FromPath setting cut) (path_place cut + second_slash cut.path_text) 13
 path_begins setting cut =
     let within = second_slash_within cut.path_text in
     let query = query_behind_path cut in
@@ -245,7 +246,8 @@ pub path_refuses : (setting : Setting) (cut : Cut) (refusal : Refusal) → IsLea
 path_refuses setting cut refusal = least_first (OfPath setting cut) (FromQuery cut) refusal (path_first setting cut)
 
 -- where the path has none, they decide
-pub path_passes : (setting : Setting) (cut : Cut) (least : Option Refusal) → IsLeast (OfPath setting cut) None → IsLeast (FromQuery cut) least
+pub path_passes : (setting : Setting) (cut : Cut) (least : Option Refusal) → IsLeast (OfPath setting cut) None
+    → IsLeast (FromQuery cut) least
     → IsLeast (FromPath setting cut) least
 path_passes setting cut least = least_second (OfPath setting cut) (FromQuery cut) least
 

@@ -282,14 +282,7 @@ path_start_begins setting cut = record {
       (let bounds = path_start_bounds setting cut h.inner rule h.holds in (omega (arith, h.moved), bounds.1));
 }
 
--- the violations of units of a text that begins at a place
-pub held_ends : (start : ℕ) (text : List ℕ) → Ends (Behind start (UnitViolation text)) (start + length text) 0
-held_ends start text = record {
-  by = λ place rule h.
-      (let bounds = unit_violation_bounds text h.inner rule h.holds in inl (omega (arith, h.moved)));
-}
-
--- and they begin at that place, by rule 13 or 14
+-- the violations of units of a text that begins at a place begin there, by rule 13 or 14
 pub held_begins : (start : ℕ) (text : List ℕ) → Begins (Behind start (UnitViolation text)) start 13
 held_begins start text = record {
   from = λ place rule h.

@@ -56,6 +56,3 @@ impl<R: Read> Source for FromReader<R> {
         self.failures
     }
 }
-
-#[cfg(test)]
-mod tests;

@@ -1,13 +1,13 @@
 -- A text without a scheme, against a base: how its run stops; and where the base has an opaque path, that it is valid
 -- by the parser's profile, or stops.
-use Rattle.std.proofs.Common.{◌≡◌, ℕ, true, false, List, [], ◌∷◌, ◌++◌, Option, Some, None, refl, sym, ap}
-use Rattle.std.proofs.Common.{subst, ◌∙◌, inl, inr, eqb-true}
+use Rattle.std.proofs.Common.{◌≡◌, ℕ, true, false, List, [], ◌∷◌, ◌++◌, Option, Some, None, refl, sym}
+use Rattle.std.proofs.Common.{subst, ◌∙◌, inl, inr}
 use Rattle.std.specs.Prelude.{IsSome}
 use Rattle.std.proofs.lemmas.Bool.{cases_Bool, false≢true}
 use Rattle.uv_model.specs.declared.host.Host.{Host}
 use Rattle.uv_model.specs.Ascii.{number_sign}
 use Rattle.uv_model.specs.Cut.{Cut, IsCut}
-use Rattle.uv_parser.specs.Machine.{with_fragment, begins}
+use Rattle.uv_parser.specs.Machine.{with_fragment}
 use Rattle.uv_parser.specs.Machine.{NoSchemeState}
 use Rattle.uv_parser.specs.Machine.{empty_variables}
 use Rattle.uv_parser.specs.Machine.{with_opaque_base}
@@ -80,11 +80,6 @@ module _ (url : Url) (text : List ℕ) (host_text port_text : Option (List ℕ))
   free = record { question_mark = have.path_question_mark; number_sign = have.path_number_sign; query = have.query }
 
 -- ---- a base with an opaque path
-
--- a text that begins with `#` has a rest behind it
-begins_mark : (xs : List ℕ) → begins number_sign xs ≡ true → (rest : List ℕ) × (xs ≡ number_sign ∷ rest)
-begins_mark [] e = absurd (false≢true e)
-begins_mark (c ∷ rest) e = (rest, ap (λ x. x ∷ rest) (eqb-true c number_sign e))
 
 -- against a base with an opaque path, `#` and a fragment alone are read
 fragment_alone : (url : Url) (text : List ℕ) (port_text : Option (List ℕ)) (fragment : List ℕ)

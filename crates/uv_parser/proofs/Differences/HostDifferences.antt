@@ -1,5 +1,5 @@
 -- A host text of the parser's profile is a valid one, or it has a difference with a name.
-use Rattle.std.proofs.Common.{◌≡◌, ◌≢◌, ℕ, ◌/◌, ◌%◌, true, ◌⊎◌, List, [], ◌∷◌, ◌++◌, All, length, Option, Some}
+use Rattle.std.proofs.Common.{◌≡◌, ◌≢◌, ℕ, true, ◌⊎◌, List, [], ◌∷◌, ◌++◌, All, length, Option, Some}
 use Rattle.std.proofs.Common.{None, codes, decimal, encode_utf8_all, refl, sym, ap, subst, ◌∙◌, append_assoc, inl, inr}
 use Rattle.std.proofs.Common.{arith, lit<}
 use Rattle.std.specs.Str.{bytes_eq, is_utf8}
@@ -16,7 +16,6 @@ use Rattle.uv_model.specs.Hosts.Address.{IsFourNumbers, IsIpv4, address_of}
 use Rattle.uv_model.specs.Hosts.Domain.{IsDomain, IsParserForm, has_lengths, has_permitted, is_permitted, parser_form}
 use Rattle.uv_model.specs.Hosts.Domain.{strict_form}
 use Rattle.uv_model.specs.Hosts.Numbers.{AreNumbers, IsIpv4Text}
-use Rattle.uv_model.specs.Records.Serialize.{serial_ipv4}
 use Rattle.uv_model.specs.Valid.{IsHostText}
 use Rattle.uv_model.proofs.Hosts.DomainLemmas.{IsForm-from, decoded_unique, parser_form-is}
 use Rattle.uv_model.proofs.Hosts.NumberLemmas.{four_numbers, ipv4_text_unique, numbers_unique}
@@ -27,16 +26,6 @@ use Rattle.uv_parser.proofs.HostParsing.Ipv4ParserLemmas.{numbers_read}
 use Rattle.uv_parser.proofs.HostParsing.Ipv4Taken.{numbers_taken}
 
 -- ---- addresses
-
--- an IPv4 text is what is written for its value
-pub ipv4_text_is : (text : List ℕ) (value : ℕ) → IsIpv4 text value → text ≡ serial_ipv4 value
-ipv4_text_is text value (a, b, c, d, is, e) =
-    let fit = is.fit in
-    let first : value / 16777216 % 256 ≡ a = omega (arith, e, fit.0, fit.1, fit.2, fit.3) in
-    let second : value / 65536 % 256 ≡ b = omega (arith, e, fit.0, fit.1, fit.2, fit.3) in
-    let third : value / 256 % 256 ≡ c = omega (arith, e, fit.0, fit.1, fit.2, fit.3) in
-    let fourth : value % 256 ≡ d = omega (arith, e, fit.0, fit.1, fit.2, fit.3) in
-    rw (first, second, third, fourth) is.spelled
 
 -- numbers are four, which are an IPv4 text, or fewer
 four_or_fewer : (numbers text : List ℕ) → AreNumbers numbers text

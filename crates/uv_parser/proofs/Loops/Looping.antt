@@ -20,6 +20,7 @@ use Rattle.uv_parser.specs.Machine.{begins_tail, opaque_space, put, with_more, w
 use Rattle.uv_parser.specs.Machine.{with_opaque_text, with_fragment}
 use Rattle.uv_parser.proofs.Running.Steps.{Reaches, reaches_none, onward_then}
 use Rattle.uv_model.proofs.Paths.OpaquePaths.{unit_not_space}
+use Rattle.uv_model.proofs.Paths.SpacedPaths.{spaced_ahead}
 use Rattle.uv_model.proofs.Texts.MarkLemmas.{is_without-cons}
 
 module _ (base : Option Url) where
@@ -85,15 +86,6 @@ module _ (base : Option Url) where
       elim (cases_Bool (c == space)) [
         | inl same ↦ rw (eqb-true c space same) refl
         | inr not_space ↦ rw (other, unit_not_number_sign c rest (rw not_space at ok)) refl
-      ]
-
-  -- what is a space or no fault is so with more text behind it
-  spaced_ahead : (c : ℕ) (xs ys : List ℕ) → ((c == space) || is_unit_at c xs) ≡ true
-      → ((c == space) || is_unit_at c (xs ++ ys)) ≡ true
-  spaced_ahead c xs ys ok =
-      elim (cases_Bool (c == space)) [
-        | inl same ↦ rw same refl
-        | inr not_space ↦ rw not_space (is_unit_at-ahead c xs ys (rw not_space at ok))
       ]
 
   -- units and spaces without `?` go to the opaque path, encoded, the last space by what follows

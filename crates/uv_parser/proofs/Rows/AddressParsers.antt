@@ -1,12 +1,11 @@
 -- The rows of the IPv4 and IPv6 parsers, by computation.
 use Rattle.std.proofs.Common.{refl}
-use Rattle.uv_parser.specs.Ipv4Parser.{read_behind, read_numbers, parse_ipv4}
-use Rattle.uv_parser.specs.Ipv6Parser.{read_hex, read_digits, read_dotted, main_loop, move, parse_ipv6}
 use Rattle.uv_parser.specs.Rows.AddressParsers.{Ipv4Rows, Ipv6Rows, Ipv6Failures, AddressParserRows}
+use Rattle.uv_parser.proofs.Rows.Computing.{parser}
 
 -- IPv4 texts, and texts that stop the parser
 ipv4_rows : Ipv4Rows
-unfolding read_digits read_behind read_numbers parse_ipv4
+unfolding parser
 ipv4_rows = record {
   zeros = refl;
   largest = refl;
@@ -27,7 +26,7 @@ ipv4_rows = record {
 
 -- IPv6 texts
 ipv6_rows : Ipv6Rows
-unfolding read_hex read_digits read_dotted main_loop move parse_ipv6
+unfolding parser
 ipv6_rows = record {
   nothing_written = refl;
   both_ends = refl;
@@ -39,7 +38,7 @@ ipv6_rows = record {
 
 -- texts on which the IPv6 parser fails
 ipv6_failures : Ipv6Failures
-unfolding read_hex read_digits read_dotted main_loop move parse_ipv6
+unfolding parser
 ipv6_failures = record {
   twice_compressed = refl;
   empty = refl;

@@ -1,109 +1,28 @@
 -- The rows of specs/Rows/Definitions hold: what computes by computation, and addresses by the laws of their parsers.
-use Rattle.std.proofs.Common.{◌≡◌, ℕ, List, zero, suc, ◌<◌, ◌^◌, true, [], ◌∷◌, Option, Some, None, codes, refl, sym}
-use Rattle.std.proofs.Common.{subst, inl, inr, arith}
-use Rattle.std.specs.Prelude.{slice_index}
+use Rattle.std.proofs.Common.{ℕ, List, [], ◌∷◌, Option, Some, None, codes, refl, sym, subst, arith}
+use Rattle.std.specs.Prelude.{IsSome}
 use Rattle.std.proofs.lemmas.Bool.{false≢true, true≢false}
-use Rattle.std.proofs.lemmas.Option.{none-some, same_Some}
-use Rattle.std.proofs.lemmas.List.Sums.{AllPass-from_list_all}
+use Rattle.std.proofs.lemmas.Option.{same_Some}
 use Rattle.uv_model.specs.declared.host.Host.{Host}
 use Rattle.uv_model.specs.declared.host.Host.TheVariants as host
 use Rattle.uv_model.specs.declared.profile.Profile.TheVariants.{Standard, Wide}
-use Rattle.uv_model.specs.declared.rule.Rule.TheVariants.{HostDomain, HostIpv6, HostMissing, HostNumber}
-use Rattle.uv_model.specs.Ascii.{slash}
-use Rattle.uv_model.specs.Violations.Violation.{Violation}
-use Rattle.uv_model.specs.Violations.OpaqueHostViolation.{IsBadIpv6}
-use Rattle.uv_model.specs.Cut.{cut_of}
-use Rattle.uv_model.specs.Hosts.Domain.{IsDomain, IsNumberText, has_permitted, is_form_code_point}
-use Rattle.uv_model.specs.Parts.{written}
-use Rattle.uv_model.specs.Path.{IsPathAbsolute}
+use Rattle.uv_model.specs.declared.rule.Rule.TheVariants.{HostMissing}
+use Rattle.uv_model.specs.Parts.{Parts, SchemeOpaque}
+use Rattle.uv_model.specs.Records.Denote.{denote}
 use Rattle.uv_model.specs.Records.WellFormed.{IsSpecialHost, IsUrlPort, WellFormed}
-use Rattle.uv_model.specs.Scheme.{default_port, scheme_class}
-use Rattle.uv_model.specs.Valid.{IsHostText, MayBePortText, Valid, port_given}
-use Rattle.uv_parser.specs.Rows.{domain, empty_host, ipv4, ipv6, listed, opaque}
+use Rattle.uv_model.specs.Valid.{IsHostText, Valid}
+use Rattle.uv_parser.specs.Rows.{domain, empty_host, ipv4, ipv6, listed}
 use Rattle.uv_parser.specs.Rows.Definitions.{DefinitionRows, ValidRows, WellFormedRows, default_parts, http_url}
 use Rattle.uv_parser.specs.Rows.Definitions.{port_parts, root_parts}
+use Rattle.uv_parser.specs.Rows.Profiles.{parts_of}
+use Rattle.uv_model.proofs.Cuts.CutRowsLemmas.{cut_and_violation_rows}
+use Rattle.uv_model.proofs.Deciding.DecidedTexts.{valid_decision}
+use Rattle.uv_model.proofs.Records.DenotedRecords.{denoted_records_are_well_formed}
 use Rattle.uv_model.proofs.Violations.ViolationsExcludeParts.{faultless}
-use Rattle.uv_model.proofs.Cuts.CutRowsLemmas.{cut_and_violation_rows, judged_row}
-use Rattle.uv_model.proofs.Hosts.DomainLemmas.{not_permitted}
-use Rattle.uv_model.proofs.Records.WellFormedLemmas.{IsUrlSegment-nil}
-use Rattle.uv_model.proofs.Texts.UnitsLemmas.{IsUnits-faultless}
-use Rattle.uv_parser.proofs.HostParsing.HostParserLemmas.{ipv6_hosts_are_parsed}
 use Rattle.uv_parser.proofs.Rows.Computing.{parser}
-use Rattle.uv_parser.proofs.Rows.HostViolations.{domain_violation, should_be_domain}
-use Rattle.uv_parser.proofs.Rows.Profiles.{segment}
+use Rattle.uv_parser.proofs.Rows.DecidedHosts.{hosts, valid_row, violation_row}
 
 -- ---- valid parts
-
--- `h` is a domain
-h_domain : IsDomain Standard (codes "h") (codes "h")
-unfolding parser has_permitted
-h_domain = (
-  record {
-    permitted = refl;
-    parsed = refl;
-    letters = AllPass-from_list_all (is_form_code_point Standard) (codes "h") refl;
-    lengths = refl;
-    fits = record { ascii = refl; shown = refl };
-  },
-  refl,
-)
-
--- `/` and one empty segment
-root : IsPathAbsolute ([] ∷ []) (slash ∷ [])
-root = record {
-  behind = [];
-  slashed = refl;
-  relative = record {
-    joins = record {
-      first = [];
-      others = [];
-      some = refl;
-      each = (segment [] refl refl refl, tt);
-      joined = refl;
-    };
-    start = refl;
-  };
-}
-
--- `http://h`, a port or none, and `/`
-http_valid : (port_text : Option (List ℕ)) (port : Option ℕ) (text : List ℕ)
-    → text ≡ written (record root_parts { port_text = port_text; port = port }) → MayBePortText port_text
-    → port ≡ port_given (default_port (codes "http")) port_text
-    → Valid Standard None text (record root_parts { port_text = port_text; port = port })
-unfolding scheme_class default_port
-http_valid port_text port text whole digits given = record {
-  whole = whole;
-  cut = tt;
-  scheme = refl;
-  against = refl;
-  form = record {
-    unstopped = refl;
-    value = host.Domain (codes "h");
-    host = h_domain;
-    valued = refl;
-    port_text = digits;
-    port = given;
-    path = inr root;
-  };
-  query = tt;
-  fragment = tt;
-}
-
-root_row : Valid Standard None (codes "http://h/") root_parts
-unfolding parser
-root_row = http_valid None None (codes "http://h/") refl tt refl
-
-port_row : Valid Standard None (codes "http://h:81/") port_parts
-unfolding parser
-port_row =
-    http_valid (Some (codes "81")) (Some 81) (codes "http://h:81/") refl
-    (record { digits = refl; range = omega arith }) refl
-
-default_port_row : Valid Standard None (codes "http://h:80/") default_parts
-unfolding parser
-default_port_row =
-    http_valid (Some (codes "80")) None (codes "http://h:80/") refl
-    (record { digits = refl; range = omega arith }) refl
 
 not_its_text_row : ¬ (Valid Standard None (codes "http://h/") port_parts)
 unfolding parser
@@ -119,11 +38,13 @@ not_its_host_row valid =
     let same = same_Some host.Empty valid.form.value valid.form.valued in
     subst (λ value. IsHostText Standard (codes "h") value) (sym same) valid.form.host
 
+-- valid parts, and parts that aren't
 valid_rows : ValidRows
+unfolding parser
 valid_rows = record {
-  root = root_row;
-  port = port_row;
-  default_port = default_port_row;
+  root = valid_row _ _ _ _ refl;
+  port = valid_row _ _ _ _ refl;
+  default_port = valid_row _ _ _ _ refl;
   not_its_text = not_its_text_row;
   not_its_port = not_its_port_row;
   not_its_host = not_its_host_row;
@@ -133,30 +54,29 @@ valid_rows = record {
 
 -- ---- well-formed URLs
 
--- eight pieces of which the last has 16 bits
-last_piece : (k : ℕ) → slice_index (0 ∷ 0 ∷ 0 ∷ 0 ∷ 0 ∷ 0 ∷ 0 ∷ 65535 ∷ []) k < 2 ^ 16
-last_piece zero = omega arith
-last_piece (suc zero) = omega arith
-last_piece (suc (suc zero)) = omega arith
-last_piece (suc (suc (suc zero))) = omega arith
-last_piece (suc (suc (suc (suc zero)))) = omega arith
-last_piece (suc (suc (suc (suc (suc zero))))) = omega arith
-last_piece (suc (suc (suc (suc (suc (suc zero)))))) = omega arith
-last_piece (suc (suc (suc (suc (suc (suc (suc zero))))))) = omega arith
-last_piece (suc (suc (suc (suc (suc (suc (suc (suc k)))))))) = omega arith
+-- what the parts of a valid text denote is well formed
+denoted_well : (text : List ℕ) (parts : Parts) → IsSome (valid_decision hosts Wide None text parts)
+    → WellFormed Wide (denote None parts)
+denoted_well text parts found =
+    denoted_records_are_well_formed.same Wide None text parts tt (valid_row Wide None text parts found)
 
--- a URL of scheme http with the path `/`, by its host and its port
-http_well_formed : (value : Option Host) (port : Option ℕ) → IsSpecialHost Wide value
-    → IsUrlPort (codes "http") value port
-    → WellFormed Wide (http_url value port)
-unfolding parser
-http_well_formed value port host_is port_is = record {
-  scheme = record { spelled = refl; lower = refl };
-  host = host_is;
-  port = port_is;
-  path = (IsUrlSegment-nil, tt);
-  query = tt;
-  fragment = tt;
+-- the parts of `http://`, a host and `/`
+abbrev host_parts : List ℕ → Host → Parts
+host_parts text value = parts_of (codes "http") text value (codes "/") ([] ∷ [])
+
+-- the parts of `urn:a`
+abbrev opaque_parts : Parts
+opaque_parts = record {
+  form = SchemeOpaque;
+  scheme = Some (codes "urn");
+  host_text = None;
+  host = None;
+  port_text = None;
+  port = None;
+  path_text = codes "a";
+  segments = [];
+  query = None;
+  fragment = None;
 }
 
 -- the host and the port of one that is well formed
@@ -164,31 +84,6 @@ http_parts_of : (value : Option Host) (port : Option ℕ) → WellFormed Wide (h
     → IsSpecialHost Wide value × IsUrlPort (codes "http") value port
 unfolding parser
 http_parts_of value port is = (is.host, is.port)
-
-name_row : WellFormed Wide (http_url (domain "h") (Some 65535))
-unfolding parser
-name_row =
-    http_well_formed (domain "h") (Some 65535)
-    (record { first = _; rest = _; some = refl; letters = refl; name = refl }) (refl, refl, omega arith)
-
-opaque_path_row : WellFormed Wide (opaque "urn" "a")
-unfolding parser
-opaque_path_row = record {
-  scheme = record { spelled = refl; lower = refl };
-  host = tt;
-  port = tt;
-  path = (
-    refl,
-    refl,
-    record {
-      units = record { units = IsUnits-faultless (codes "a") refl; ascii = refl };
-      no_question_mark = refl;
-      start = refl;
-    },
-  );
-  query = tt;
-  fragment = tt;
-}
 
 port_without_host_row : ¬ (WellFormed Wide (listed "foo" empty_host (Some 8) []))
 unfolding parser
@@ -222,13 +117,18 @@ no_piece_row is = let parts = http_parts_of _ _ is in omega (arith, parts.0.0)
 large_piece_row : ¬ (WellFormed Wide (http_url (ipv6 (0 ∷ 0 ∷ 0 ∷ 0 ∷ 0 ∷ 0 ∷ 0 ∷ 65536 ∷ [])) None))
 large_piece_row is = let parts = http_parts_of _ _ is in omega (arith, parts.0.1 7)
 
+-- URLs that are well formed, and some that aren't
 well_formed_rows : WellFormedRows
+unfolding parser
 well_formed_rows = record {
-  name = name_row;
-  least_address = http_well_formed (ipv4 0) None (omega arith) tt;
-  last_address = http_well_formed (ipv4 4294967295) None (omega arith) tt;
-  pieces = http_well_formed (ipv6 (0 ∷ 0 ∷ 0 ∷ 0 ∷ 0 ∷ 0 ∷ 0 ∷ 65535 ∷ [])) None (refl, last_piece) tt;
-  opaque_path = opaque_path_row;
+  name = denoted_well (codes "http://h:65535/")
+      (record root_parts { port_text = Some (codes "65535"); port = Some 65535 }) refl;
+  least_address = denoted_well (codes "http://0.0.0.0/") (host_parts (codes "0.0.0.0") (host.V4 0)) refl;
+  last_address = denoted_well (codes "http://255.255.255.255/")
+      (host_parts (codes "255.255.255.255") (host.V4 4294967295)) refl;
+  pieces = denoted_well (codes "http://[::ffff]/")
+      (host_parts (codes "[::ffff]") (host.V6 (0 ∷ 0 ∷ 0 ∷ 0 ∷ 0 ∷ 0 ∷ 0 ∷ 65535 ∷ []))) refl;
+  opaque_path = denoted_well (codes "urn:a") opaque_parts refl;
   large_port = large_port_row;
   default_port = default_row;
   port_without_host = port_without_host_row;
@@ -240,75 +140,18 @@ well_formed_rows = record {
   code_point = code_point_row;
 }
 
--- ---- violations of hosts
-
-domain_row : Violation Standard None (codes "http://a=b/") 7 HostDomain
-unfolding parser cut_of has_permitted
-domain_row =
-    domain_violation Standard (codes "a=b") (codes "http://a=b/")
-    (inr (
-      should_be_domain Standard (codes "a=b") tt (λ same. cc) refl refl,
-      not_permitted Standard (codes "a=b") tt refl,
-    ))
-    refl
-
--- `1.2.3` is the form of itself, and a number
-number_text : IsNumberText Standard (codes "1.2.3")
-unfolding parser has_permitted
-number_text = (
-  codes "1.2.3",
-  record {
-    permitted = refl;
-    parsed = refl;
-    letters = AllPass-from_list_all (is_form_code_point Standard) (codes "1.2.3") refl;
-    lengths = refl;
-    fits = record { ascii = refl; shown = refl };
-  },
-  refl,
-)
-
-number_row : Violation Standard None (codes "http://1.2.3/") 7 HostNumber
-unfolding parser cut_of
-number_row =
-    judged_row Standard None (codes "http://1.2.3/") 7 HostNumber refl refl
-    (inl (record {
-      inner = 0;
-      moved = refl;
-      holds = ((refl, should_be_domain Standard (codes "1.2.3") tt (λ same. cc) refl refl, number_text), refl);
-    }))
-
--- a host with two `::` is no IPv6 text
-bad_ipv6 : IsBadIpv6 (codes "[1::2::3]")
-unfolding parser
-bad_ipv6 = record {
-  bracket = refl;
-  no_value = λ pieces is.
-      none-some (host.V6 pieces) (ipv6_hosts_are_parsed true (codes "[1::2::3]") pieces is);
-}
-
-ipv6_row : Violation Standard None (codes "http://[1::2::3]/") 7 HostIpv6
-unfolding parser cut_of
-ipv6_row =
-    judged_row Standard None (codes "http://[1::2::3]/") 7 HostIpv6 refl refl
-    (inl (record { inner = 0; moved = refl; holds = (bad_ipv6, refl) }))
-
-opaque_ipv6_row : Violation Standard None (codes "foo://[1::2::3]/") 6 HostIpv6
-unfolding parser cut_of
-opaque_ipv6_row =
-    judged_row Standard None (codes "foo://[1::2::3]/") 6 HostIpv6 refl refl
-    (inl (record { inner = 0; moved = refl; holds = (bad_ipv6, refl) }))
-
 -- ---- each row
 
 -- the rows of the definitions hold, each by computation
 pub definition_rows_hold : DefinitionRows
+unfolding parser
 definition_rows_hold = record {
   valid = valid_rows;
   well_formed = well_formed_rows;
   hosts = record {
-    domain = domain_row;
-    number = number_row;
-    ipv6 = ipv6_row;
-    opaque_ipv6 = opaque_ipv6_row;
+    domain = violation_row _ _ _ _ _ refl;
+    number = violation_row _ _ _ _ _ refl;
+    ipv6 = violation_row _ _ _ _ _ refl;
+    opaque_ipv6 = violation_row _ _ _ _ _ refl;
   };
 }

@@ -1,18 +1,13 @@
 -- The rows of specs/Rows/File hold, by computation.
 use Rattle.std.specs.Prelude.{refl}
-use Rattle.uv_parser.specs.Rows.{AllHold}
 use Rattle.uv_parser.specs.Rows.File.{FileRows, host_rows, drive_rows}
 use Rattle.uv_parser.proofs.Rows.Computing.{parser}
 use Rattle.uv_parser.proofs.Rows.RowsLemmas.{all_hold}
 
-host_rows_hold : AllHold host_rows
-unfolding parser
-host_rows_hold = all_hold host_rows refl
-
-drive_rows_hold : AllHold drive_rows
-unfolding parser
-drive_rows_hold = all_hold drive_rows refl
-
 -- the rows of class File hold, each by computation
 pub file_rows_hold : FileRows
-file_rows_hold = (host_rows_hold, drive_rows_hold)
+unfolding parser
+file_rows_hold = (
+  all_hold host_rows refl,
+  all_hold drive_rows refl,
+)

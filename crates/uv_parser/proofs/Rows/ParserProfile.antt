@@ -1,5 +1,5 @@
 -- The rows of specs/Rows/ParserProfile hold: the runs by computation, and the rest by the law that texts are decided.
-use Rattle.std.proofs.Common.{◌≡◌, ℕ, Bool, true, false, not, ◌==◌, List, [], ◌∷◌, Option, Some, None, codes, refl, sym}
+use Rattle.std.proofs.Common.{◌≡◌, ℕ, Bool, true, not, ◌==◌, List, [], ◌∷◌, Option, Some, None, refl, sym}
 use Rattle.std.proofs.Common.{ap, ◌∙◌, inl, inr, eqb-true}
 use Rattle.std.specs.Prelude.{is_some}
 use Rattle.std.specs.List.{list_all}
@@ -7,14 +7,10 @@ use Rattle.std.proofs.lemmas.Bool.{and_parts, false≢true}
 use Rattle.uv_model.specs.declared.profile.Profile.TheVariants.{Parser}
 use Rattle.uv_model.specs.Records.Denote.{denote}
 use Rattle.uv_model.specs.Records.Url.{Url}
-use Rattle.uv_model.specs.Records.WellFormed.{IsEncodedSpacedPath, IsUrlDomain, IsUrlSegment, MayBeWellFormed}
-use Rattle.uv_model.specs.Records.WellFormed.{WellFormed, is_ascii_text}
-use Rattle.uv_model.specs.Ascii.{question_mark, slash}
-use Rattle.uv_model.specs.Path.{is_double_dot, is_single_dot, is_without}
-use Prim.Native.String.{String as Literal}
-use Rattle.uv_model.specs.Units.{is_faultless}
+use Rattle.uv_model.specs.Records.Serialize.{serial}
+use Rattle.uv_model.specs.Records.WellFormed.{MayBeWellFormed, WellFormed}
+use Rattle.uv_model.proofs.Records.DenotedRecords.{denoted_records_are_well_formed}
 use Rattle.uv_parser.specs.Rows.{Row, AllHold, Answer, answer_of, done, goes_on, has_stopped, is_done}
-use Rattle.uv_parser.specs.Rows.{opaque}
 use Rattle.uv_parser.specs.Rows.ParserProfile.{AreJudged, IsJudgedTable, Judges, ParserProfileRows, domain_rows}
 use Rattle.uv_parser.specs.Rows.ParserProfile.{drive_rows, fewer_rows, file_references, file_rows, host_rows}
 use Rattle.uv_parser.specs.Rows.ParserProfile.{number_rows}
@@ -26,78 +22,7 @@ use Rattle.uv_parser.specs.Run.{Outcome, Done, Stopped, Going, run, step_bound}
 use Rattle.uv_parser.specs.Laws.DecidedTexts.{IsDecided}
 use Rattle.uv_parser.proofs.Done.DecidedBases.{texts_are_decided}
 use Rattle.uv_parser.proofs.Rows.Computing.{parser}
-use Rattle.uv_parser.proofs.Rows.Profiles.{segment}
 use Rattle.uv_parser.proofs.Rows.RowsLemmas.{all_hold}
-
--- ---- the runs
-
-pub file_rows_hold : AllHold file_rows
-unfolding parser
-file_rows_hold = all_hold file_rows refl
-
-pub host_rows_hold : AllHold host_rows
-unfolding parser
-host_rows_hold = all_hold host_rows refl
-
-pub domain_rows_hold : AllHold domain_rows
-unfolding parser
-domain_rows_hold = all_hold domain_rows refl
-
-pub number_rows_hold : AllHold number_rows
-unfolding parser
-number_rows_hold = all_hold number_rows refl
-
-pub segment_rows_hold : AllHold segment_rows
-unfolding parser
-segment_rows_hold = all_hold segment_rows refl
-
-pub drive_rows_hold : AllHold drive_rows
-unfolding parser
-drive_rows_hold = all_hold drive_rows refl
-
-pub fewer_rows_hold : AllHold fewer_rows
-unfolding parser
-fewer_rows_hold = all_hold fewer_rows refl
-
-pub space_rows_hold : AllHold space_rows
-unfolding parser
-space_rows_hold = all_hold space_rows refl
-
-plain_rows_hold : AllHold plain_rows
-unfolding parser
-plain_rows_hold = all_hold plain_rows refl
-
-refused_numbers_hold : AllHold refused_numbers
-unfolding parser
-refused_numbers_hold = all_hold refused_numbers refl
-
-refused_domains_hold : AllHold refused_domains
-unfolding parser
-refused_domains_hold = all_hold refused_domains refl
-
-refused_marks_hold : AllHold refused_marks
-unfolding parser
-refused_marks_hold = all_hold refused_marks refl
-
-refused_spaces_hold : AllHold refused_spaces
-unfolding parser
-refused_spaces_hold = all_hold refused_spaces refl
-
-special_references_hold : AllHold special_references
-unfolding parser
-special_references_hold = all_hold special_references refl
-
-file_references_hold : AllHold file_references
-unfolding parser
-file_references_hold = all_hold file_references refl
-
-other_references_hold : AllHold other_references
-unfolding parser
-other_references_hold = all_hold other_references refl
-
-opaque_references_hold : AllHold opaque_references
-unfolding parser
-opaque_references_hold = all_hold opaque_references refl
 
 -- ---- from a run to what the profile says
 
@@ -178,136 +103,69 @@ alone rows hold none up = judged rows hold (well_alone rows none) up
 
 -- ---- the bases
 
--- a segment of a URL
-url_segment : (text : List ℕ) → is_faultless text ≡ true → is_without slash text ≡ true
-    → is_without question_mark text ≡ true → is_ascii_text text ≡ true → is_single_dot text ≡ false
-    → is_double_dot text ≡ false → IsUrlSegment text
-url_segment text units no_slash no_question_mark ascii single double = record {
-  units = segment text units no_slash no_question_mark;
-  ascii = ascii;
-  no_single_dot = single;
-  no_double_dot = double;
-}
-
--- `h` is a domain
-h_domain : IsUrlDomain Parser (codes "h")
-unfolding parser
-h_domain = record { first = _; rest = _; some = refl; letters = refl; name = refl }
+-- a URL with which the run on its own text is done is well formed, as what the parts of a valid text denote is
+own_run : (url : Url) (text : List ℕ) → answer_of (run None text (step_bound text)) ≡ is_done url (serial url)
+    → WellFormed Parser url
+own_run url text e =
+    let (parts, valid, same) = (texts_are_decided None text tt).only url (done_is _ url (serial url) e) in
+    rw same (denoted_records_are_well_formed.same Parser None text parts tt valid)
 
 -- `http://h/`
 root_well : WellFormed Parser root_base
 unfolding parser
-root_well = record {
-  scheme = record { spelled = refl; lower = refl };
-  host = h_domain;
-  port = tt;
-  path = (url_segment [] refl refl refl refl refl refl, tt);
-  query = tt;
-  fragment = tt;
-}
+root_well = own_run root_base (serial root_base) refl
 
 -- `file:///C:/d/f`
 drive_well : WellFormed Parser drive_base
 unfolding parser
-drive_well = record {
-  scheme = record { spelled = refl; lower = refl };
-  host = tt;
-  port = tt;
-  path = (
-    url_segment (codes "C:") refl refl refl refl refl refl,
-    (
-      url_segment (codes "d") refl refl refl refl refl refl,
-      (url_segment (codes "f") refl refl refl refl refl refl, tt),
-    ),
-  );
-  query = tt;
-  fragment = tt;
-}
+drive_well = own_run drive_base (serial drive_base) refl
 
 -- `file://h/a`
 file_host_well : WellFormed Parser file_host_base
 unfolding parser
-file_host_well = record {
-  scheme = record { spelled = refl; lower = refl };
-  host = (h_domain, λ same. cc);
-  port = tt;
-  path = (url_segment (codes "a") refl refl refl refl refl refl, tt);
-  query = tt;
-  fragment = tt;
-}
+file_host_well = own_run file_host_base (serial file_host_base) refl
 
 -- `foo:/a`
 other_well : WellFormed Parser other_base
 unfolding parser
-other_well = record {
-  scheme = record { spelled = refl; lower = refl };
-  host = tt;
-  port = tt;
-  path = (url_segment (codes "a") refl refl refl refl refl refl, tt);
-  query = tt;
-  fragment = tt;
-}
+other_well = own_run other_base (serial other_base) refl
 
--- `urn:` and an opaque path
-opaque_well : (path : Literal) → IsEncodedSpacedPath (codes path) → WellFormed Parser (opaque "urn" path)
-unfolding parser
-opaque_well path is = record {
-  scheme = record { spelled = refl; lower = refl };
-  host = tt;
-  port = tt;
-  path = (refl, refl, is);
-  query = tt;
-  fragment = tt;
-}
-
--- without a space
+-- `urn:a`
 urn_well : WellFormed Parser urn_base
 unfolding parser
-urn_well =
-    opaque_well "a"
-    (record {
-      spaced = record { units = refl; no_question_mark = refl; start = refl };
-      ascii = refl;
-      end = refl;
-    })
+urn_well = own_run urn_base (serial urn_base) refl
 
--- and with a space
+-- `urn:a b`
 spaced_well : WellFormed Parser spaced_base
 unfolding parser
-spaced_well =
-    opaque_well "a b"
-    (record {
-      spaced = record { units = refl; no_question_mark = refl; start = refl };
-      ascii = refl;
-      end = refl;
-    })
+spaced_well = own_run spaced_base (serial spaced_base) refl
 
 -- each table
 pub parser_profile_rows_hold : ParserProfileRows
 unfolding parser
 parser_profile_rows_hold = record {
-  files = judged file_rows file_rows_hold
+  files = judged file_rows (all_hold file_rows refl)
       (tt, (tt, (drive_well, tt))) refl;
-  hosts = alone host_rows host_rows_hold refl refl;
-  domains = alone domain_rows domain_rows_hold refl refl;
-  mapped_numbers = alone number_rows number_rows_hold refl refl;
-  fewer_numbers = alone fewer_rows fewer_rows_hold refl refl;
-  segments = judged segment_rows segment_rows_hold
+  hosts = alone host_rows (all_hold host_rows refl) refl refl;
+  domains = alone domain_rows (all_hold domain_rows refl) refl refl;
+  mapped_numbers = alone number_rows (all_hold number_rows refl) refl refl;
+  fewer_numbers = alone fewer_rows (all_hold fewer_rows refl) refl refl;
+  segments = judged segment_rows (all_hold segment_rows refl)
       (tt, (tt, (tt, (tt, (tt, (tt, (root_well, tt))))))) refl;
-  drives = judged drive_rows drive_rows_hold
+  drives = judged drive_rows (all_hold drive_rows refl)
       (tt, (tt, (file_host_well, tt))) refl;
-  spaces = alone space_rows space_rows_hold refl refl;
-  plain_hosts = alone plain_rows plain_rows_hold refl refl;
-  no_numbers = alone refused_numbers refused_numbers_hold refl refl;
-  no_domains = alone refused_domains refused_domains_hold refl refl;
-  marks = alone refused_marks refused_marks_hold refl refl;
-  no_spaces = alone refused_spaces refused_spaces_hold refl refl;
-  special_base = judged special_references special_references_hold
+  spaces = alone space_rows (all_hold space_rows refl) refl refl;
+  plain_hosts = alone plain_rows (all_hold plain_rows refl) refl refl;
+  no_numbers = alone refused_numbers (all_hold refused_numbers refl) refl refl;
+  no_domains = alone refused_domains (all_hold refused_domains refl) refl refl;
+  marks = alone refused_marks (all_hold refused_marks refl) refl refl;
+  no_spaces = alone refused_spaces (all_hold refused_spaces refl) refl refl;
+  special_base = judged special_references (all_hold special_references refl)
       (root_well, (root_well, tt)) refl;
-  file_base = judged file_references file_references_hold
+  file_base = judged file_references (all_hold file_references refl)
       (drive_well, (drive_well, (file_host_well, (file_host_well, tt)))) refl;
-  other_base = judged other_references other_references_hold
+  other_base = judged other_references (all_hold other_references refl)
       (other_well, (other_well, tt)) refl;
-  opaque_base = judged opaque_references opaque_references_hold
+  opaque_base = judged opaque_references (all_hold opaque_references refl)
       (urn_well, (urn_well, (spaced_well, (spaced_well, tt)))) refl;
 }

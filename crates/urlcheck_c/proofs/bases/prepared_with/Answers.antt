@@ -1,5 +1,5 @@
 -- The numbers of a base that is held say its profile and its kind.
-use Rattle.std.proofs.Common.{◌≡◌, ℕ, arith, sym, ◌∙◌}
+use Rattle.std.proofs.Common.{◌≡◌, arith, sym, ◌∙◌}
 use Rattle.urlcheck_c.proofs.BaseLemmas.{read_base}
 use Rattle.urlcheck_c.proofs.bases.prepared_with.Goals as goal
 

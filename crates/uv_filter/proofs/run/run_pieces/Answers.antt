@@ -7,7 +7,8 @@ use Rattle.uv_filter.specs.Filtered.{Filtering}
 use Rattle.uv_filter.specs.Lines.{all_lines}
 use Rattle.uv_filter.specs.Progress.{Stands}
 use Rattle.uv_filter.specs.Run.{Leaves, TakeFault, Wrote, reads_failed, writes_failed}
-use Rattle.uv_filter.proofs.FaultLemmas.{read_end, ready-wrote, take_to_run, taking_reads}
+use Rattle.uv_lines.proofs.PassLemmas.{read_end}
+use Rattle.uv_filter.proofs.FaultLemmas.{ready-wrote, take_to_run, taking_reads}
 use Rattle.uv_filter.proofs.StandsLemmas.{Stands-start}
 use Rattle.uv_filter.proofs.run.run_pieces.Goals as goal
 

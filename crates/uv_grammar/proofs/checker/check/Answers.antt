@@ -9,10 +9,15 @@ use Rattle.uv_grammar.proofs.checker.check.Goals as goal
 pub plain_parts-requires : goal.plain_parts-requires
 plain_parts-requires c =
     let name = c.in-Some-plain_cut.cut.name in
-    let plain = c.in-Some-plain_cut.ensures (chars c.args.text.now) c.in-Some.ensures in
+    let base = option_copied c.args.base in
+    let plain = c.in-Some-plain_cut.ensures base (chars c.args.text.now) (c.in-Some.ensures base) in
     IsAscii-form Standard (chars_of name) name.now (plain.named.domain Standard).0
 
 pub returns-in-Some-plain_cut-clause-answer : goal.returns-in-Some-plain_cut-clause-answer
 returns-in-Some-plain_cut-clause-answer c =
-    c.plain_parts.ensures (chars c.args.text.now) c.args.profile (option_copied c.args.base)
-    (c.in-Some-plain_cut.ensures (chars c.args.text.now) c.in-Some.ensures)
+    let base = option_copied c.args.base in
+    c.plain_parts.ensures (chars c.args.text.now) c.args.profile base
+    (c.in-Some-plain_cut.ensures base (chars c.args.text.now) (c.in-Some.ensures base))
+
+pub check_from-requires : goal.check_from-requires
+check_from-requires c = rw c.renewed.ensures (c.in-Some.ensures _)

@@ -22,7 +22,7 @@ fault_behind_authority-requires c =
     let path = chars_of c.split_marks.result.0 in
     let query = chars_of_option c.split_marks.result.1 in
     let fragment = chars_of_option c.split_marks.result.2 in
-    start_countable c.args.text.now (chars_of s.scheme) (chars_of s.name) s.name.now (chars_of_option s.port_text)
+    start_countable (as_base c.args.base) c.args.text.now (chars_of_option s.scheme) (chars_of s.name) s.name.now (chars_of_option s.port_text)
     s.port (chars s.rest) path query fragment c.utf8.text (omega arith) refl c.requires.start
     (behind_cut (chars s.rest) (path ++ written_behind question_mark query) path query fragment c.requires.behind
     (ap chars (sym c.as_str.ensures) ∙ c.split_marks.ensures.joined) c.split_marks.ensures.prefix refl
@@ -39,8 +39,8 @@ returns-in-Some c =
     let path = chars_of c.split_marks.result.0 in
     let query = chars_of_option c.split_marks.result.1 in
     let fragment = chars_of_option c.split_marks.result.2 in
-    let cut = plain_cut (chars_of s.scheme) (chars_of s.name) (chars_of_option s.port_text) path query fragment in
-    start_refused c.args.profile (as_base c.args.base) (chars c.args.text.now) (chars_of s.scheme) (chars_of s.name)
+    let cut = plain_cut (chars_of_option s.scheme) (chars_of s.name) (chars_of_option s.port_text) path query fragment in
+    start_refused c.args.profile (as_base c.args.base) (chars c.args.text.now) (chars_of_option s.scheme) (chars_of s.name)
     s.name.now (chars_of_option s.port_text) s.port (chars s.rest) path query fragment c.in-Some.refusal refl
     c.requires.start
     (behind_cut (chars s.rest) (path ++ written_behind question_mark query) path query fragment c.requires.behind
@@ -55,11 +55,11 @@ returns-in-None c =
     let path = chars_of c.split_marks.result.0 in
     let query = chars_of_option c.split_marks.result.1 in
     let fragment = chars_of_option c.split_marks.result.2 in
-    let cut = plain_cut (chars_of s.scheme) (chars_of s.name) (chars_of_option s.port_text) path query fragment in
+    let cut = plain_cut (chars_of_option s.scheme) (chars_of s.name) (chars_of_option s.port_text) path query fragment in
     let text = chars c.args.text.now in
     subst (λ (parts : Parts). IsAccepted c.args.profile (as_base c.args.base) text parts)
     (sym (c.build.ensures ∙ ap (λ (form : List ℕ). built cut (Some (Domain form)) s.port) c.of.ensures))
-    (start_accepted c.args.profile (as_base c.args.base) text (chars_of s.scheme) (chars_of s.name) s.name.now
+    (start_accepted c.args.profile (as_base c.args.base) text (chars_of_option s.scheme) (chars_of s.name) s.name.now
     (chars_of_option s.port_text) s.port (chars s.rest) path query fragment refl c.requires.start
     (behind_cut (chars s.rest) (path ++ written_behind question_mark query) path query fragment c.requires.behind
     (ap chars (sym c.as_str.ensures) ∙ c.split_marks.ensures.joined) c.split_marks.ensures.prefix refl

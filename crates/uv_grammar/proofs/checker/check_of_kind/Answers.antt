@@ -13,26 +13,27 @@ use Rattle.uv_grammar.proofs.checker.check_of_kind.Goals as goal
 pub plain_parts-requires : goal.plain_parts-requires
 plain_parts-requires c =
     let name = c.in-Some-plain_cut.cut.name in
-    let plain = c.in-Some-plain_cut.ensures (chars c.args.text.now) c.in-Some.ensures in
+    let base = Some (url_of_kind c.args.base) in
+    let plain = c.in-Some-plain_cut.ensures base (chars c.args.text.now) (c.in-Some.ensures base) in
     IsAscii-form Standard (chars_of name) name.now (plain.named.domain Standard).0
 
 pub returns-in-Some-plain_cut-clause-answer : goal.returns-in-Some-plain_cut-clause-answer
 returns-in-Some-plain_cut-clause-answer c = λ url is.
     c.plain_parts.ensures (chars c.args.text.now) c.args.profile (Some url)
-    (c.in-Some-plain_cut.ensures (chars c.args.text.now) c.in-Some.ensures)
+    (c.in-Some-plain_cut.ensures (Some url) (chars c.args.text.now) (c.in-Some.ensures (Some url)))
 
 pub returns-in_default-clause-answer : goal.returns-in_default-clause-answer
 returns-in_default-clause-answer c = λ url is.
     let text = chars c.args.text.now in
     let base = url_of_kind c.args.base in
-    IfOk-weaker c.check_by_parts.result (IsVerdict c.args.profile (Some base) text)
+    IfOk-weaker c.check_otherwise.result (IsVerdict c.args.profile (Some base) text)
     (IsVerdict c.args.profile (Some url) text)
-    (verdict_alike c.args.profile base url text (kind_alike url c.args.base is)) c.check_by_parts.ensures.answer
+    (verdict_alike c.args.profile base url text (kind_alike url c.args.base is)) c.check_otherwise.ensures.answer
 
 pub returns-in_default-clause-memory : goal.returns-in_default-clause-memory
 returns-in_default-clause-memory c = λ url is takes.
     let base = url_of_kind c.args.base in
-    c.check_by_parts.ensures.memory
+    c.check_otherwise.ensures.memory
     (memory_alike c.args.profile url base (chars c.args.text.now)
     (flip base url (kind_alike url c.args.base is)) takes)
 
@@ -50,3 +51,6 @@ returns-in-None-clause-memory c = λ url is takes.
     c.check_from.ensures.memory
     (memory_alike c.args.profile url base (chars c.args.text.now)
     (flip base url (kind_alike url c.args.base is)) takes)
+
+pub check_from-requires : goal.check_from-requires
+check_from-requires c = rw c.renewed.ensures (c.in-Some.ensures _)

@@ -6,5 +6,9 @@ use Rattle.uv_grammar.proofs.validity.is_valid.Goals as goal
 
 pub returns-in-Some-plain_cut-clause-answer : goal.returns-in-Some-plain_cut-clause-answer
 returns-in-Some-plain_cut-clause-answer c =
-    plain_valid (chars c.args.text.now) c.in-Some-plain_cut.field-0
-    (c.in-Some-plain_cut.ensures (chars c.args.text.now) c.in-Some.ensures) c.args.profile (option_copied c.args.base)
+    let base = option_copied c.args.base in
+    plain_valid base (chars c.args.text.now) c.in-Some-plain_cut.field-0
+    (c.in-Some-plain_cut.ensures base (chars c.args.text.now) (c.in-Some.ensures base)) c.args.profile
+
+pub is_valid_from-requires : goal.is_valid_from-requires
+is_valid_from-requires c = rw c.renewed.ensures (c.in-Some.ensures _)

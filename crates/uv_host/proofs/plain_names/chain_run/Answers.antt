@@ -11,13 +11,13 @@ bit_of false = refl
 
 pub returns-clause-goes_on : goal.returns-clause-goes_on
 returns-clause-goes_on c =
-    (joined_prefix c.args.signed (drop c.args.place c.args.text.now) c.trailing_ones.result
-    (rw (c.row_bits-signs.ensures.bits, c.row_bits-joints.ensures.bits, c.from.ensures, bit_of c.args.signed) at
+    (joined_prefix c.args.low c.args.signed (drop c.args.place c.args.text.now) c.trailing_ones.result
+    (rw (c.sign_bits-signs.ensures.bits, c.row_bits-joints.ensures.bits, c.from.ensures, bit_of c.args.signed) at
     c.trailing_ones.ensures)).1
 
 pub returns-clause-signed : goal.returns-clause-signed
 returns-clause-signed c = λ all.
-    let run = (joined_prefix c.args.signed (drop c.args.place c.args.text.now) c.trailing_ones.result
-    (rw (c.row_bits-signs.ensures.bits, c.row_bits-joints.ensures.bits, c.from.ensures, bit_of c.args.signed) at
+    let run = (joined_prefix c.args.low c.args.signed (drop c.args.place c.args.text.now) c.trailing_ones.result
+    (rw (c.sign_bits-signs.ensures.bits, c.row_bits-joints.ensures.bits, c.from.ensures, bit_of c.args.signed) at
     c.trailing_ones.ensures)).1 in
-    rw c.row_bits-signs.ensures.bits (last_bit (drop c.args.place c.args.text.now) (rw all at run.inside))
+    rw c.sign_bits-signs.ensures.bits (last_bit c.args.low (drop c.args.place c.args.text.now) (rw all at run.inside))

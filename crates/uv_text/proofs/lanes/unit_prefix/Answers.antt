@@ -10,4 +10,5 @@ returns c =
     let few = length-take 32 rest in
     c.trailing_ones.ensures
     ∙ rw (c.row_bits-held.ensures, c.row_bits-percents.ensures, c.row_bits-digits.ensures)
-    (unit_bits-rows c.args.rows.now (take 32 rest) (omega arith) (taken_fits 32 c.args.place c.args.bytes.now c.type_inv.bytes))
+    (unit_bits-rows c.args.rows.now (take 32 rest) (omega arith)
+    (taken_fits 32 c.args.place c.args.bytes.now c.type_inv.bytes))

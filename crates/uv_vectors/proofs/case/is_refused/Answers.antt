@@ -19,7 +19,8 @@ returns c =
           (let resolved = rw w.in-Err-Refused.is at c.resolve.ensures.resolved in
           let refused : IsRefused c.args.profile base text w.in-Err-Refused.found = search rules in
           subst (λ r. IfOk r (λ is. Decides is (IsRefused c.args.profile base text refusal))) (sym w.result-is)
-          (decides_refusal c.args.profile base text w.in-Err-Refused.found refusal w.is_same.result refused w.is_same.ensures))
+          (decides_refusal c.args.profile base text w.in-Err-Refused.found refusal w.is_same.result refused
+          w.is_same.ensures))
       | in-Err-Memory w ↦
           subst (λ r. IfOk r (λ is. Decides is (IsRefused c.args.profile base text refusal))) (sym w.result-is) tt
     ]

@@ -13,7 +13,9 @@ returns-in-Ok c =
     let text : case.base ≡ option_copied c.self.inside.base = sym (ap (λ (v : Vector). v.base) c.self.view_is) in
     let by : c.self.inside.profile ≡ case.profile = ap (λ (v : Vector). v.profile) c.self.view_is in
     let base = rw (c.in-Ok.is, by) at c.resolve_base.ensures in
-    subst (λ b. IfOk c.is_as_expected.result (λ answer. Decides answer (PassesAgainst case.profile b case.input case.expected)))
+    subst
+    (λ b. IfOk c.is_as_expected.result
+    (λ answer. Decides answer (PassesAgainst case.profile b case.input case.expected)))
     (sym text)
     (IfOk-weaker c.is_as_expected.result
     (λ answer. Decides answer (IsAsExpected case.profile (option_copied c.as_ref.result) case.input case.expected)) _

@@ -1,0 +1,15 @@
+//! Tests of lists: how `uv_lines` cuts one into lines and what a reporter says of each, what `uv_links` and `uv_lint`
+//! report, and what `uv_filter` writes in place of its lines, over readers and writers that fail too. They stand above
+//! these crates, so that none of them is proved twice.
+#![tactic(auto)]
+
+#[cfg(test)]
+mod filter;
+#[cfg(test)]
+mod lines;
+#[cfg(test)]
+mod links;
+#[cfg(test)]
+mod lint;
+#[cfg(test)]
+mod texts;

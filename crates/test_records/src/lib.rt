@@ -1,0 +1,20 @@
+//! Tests of records: what `uv_model` says of code points, names, records and their texts, what its readers and writers
+//! do, and which records `uv_resolve` makes. They stand above these crates, so that none of them is proved twice.
+#![tactic(auto)]
+
+#[cfg(test)]
+mod characters;
+#[cfg(test)]
+mod names;
+#[cfg(test)]
+mod record;
+#[cfg(test)]
+mod resolved;
+#[cfg(test)]
+mod serializer;
+#[cfg(test)]
+mod streams;
+#[cfg(test)]
+mod texts;
+#[cfg(test)]
+mod well_formedness;

@@ -1,0 +1,18 @@
+//! Tests of units and of hosts: how `uv_text` cuts texts and what it finds in their units, and how `uv_host` reads hosts.
+//! They stand above these crates, so that none of them is proved twice.
+#![tactic(auto)]
+
+#[cfg(test)]
+mod classes;
+#[cfg(test)]
+mod domains;
+#[cfg(test)]
+mod hosts;
+#[cfg(test)]
+mod plain_names;
+#[cfg(test)]
+mod splits;
+#[cfg(test)]
+mod units;
+#[cfg(test)]
+mod without_memory;

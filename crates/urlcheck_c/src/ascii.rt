@@ -1,0 +1,98 @@
+//! Texts that are ASCII, as most are: they are found so by lanes, and are UTF-8 then.
+ghost use Rattle.std.specs.Prelude.{◌≡◌, ◌≤◌, ◌<◌, ◌↔◌, IsTrue, IsUtf8, MatchOption, length};
+ghost use Rattle.std.specs.Str.{IsAscii};
+
+use std::simd::prelude::*;
+
+/// The bytes as a text, where they are ASCII.
+#[inline(always)]
+pub(crate) fn ascii_text(bytes: &[u8]) -> Option<&str>
+    ensures { MatchOption result (¬ (IsAscii bytes.now)) (λ text. (text.now ≡ bytes.now) × IsUtf8 bytes.now) }
+{
+    if is_ascii(bytes) {
+        Some(unsafe { std::str::from_utf8_unchecked(bytes) })
+    } else {
+        None
+    }
+}
+
+// Whether all bytes are ASCII. What fills no load is seen by one that begins before it, and few bytes by none.
+#[inline(always)]
+fn is_ascii(bytes: &[u8]) -> bool
+    ensures { IsTrue result ↔ IsAscii bytes.now }
+{
+    if bytes.len() < 16 {
+        return bytes.is_ascii();
+    }
+    if bytes.len() < 32 {
+        let last = u8x16::from_slice(&bytes[bytes.len() - 16..]);
+        return is_half_ascii(u8x16::from_slice(bytes)) && is_half_ascii(last);
+    }
+    are_loads_ascii(bytes)
+}
+
+// The same of 32 bytes and more.
+#[inline(always)]
+fn are_loads_ascii(bytes: &[u8]) -> bool
+    requires { 32 ≤ length bytes.now }
+    ensures { IsTrue result ↔ IsAscii bytes.now }
+{
+    let last = bytes.len() - 32;
+    let mut at = 0;
+    while at < last {
+        if !is_load_ascii(u8x32::from_slice(&bytes[at..])) {
+            return false;
+        }
+        at += 32;
+    }
+    is_load_ascii(u8x32::from_slice(&bytes[last..]))
+}
+
+// Whether 32 bytes are ASCII.
+#[inline(always)]
+fn is_load_ascii(load: u8x32) -> bool
+    ensures { IsTrue result ↔ IsAscii load }
+{
+    load.simd_ge(u8x32::splat(128)).to_bitmask() == 0
+}
+
+// Whether 16 bytes are ASCII.
+#[inline(always)]
+fn is_half_ascii(load: u8x16) -> bool
+    ensures { IsTrue result ↔ IsAscii load }
+{
+    load.simd_ge(u8x16::splat(128)).to_bitmask() == 0
+}
+
+#[cfg(test)]
+mod tests {
+    use super::*;
+    use std::alloc::{AllocError, Global};
+
+    // So many bytes that are the last of ASCII, but for the one at a place, where there is one.
+    fn with_byte(
+        alloc: Global,
+        count: usize,
+        place: usize,
+        byte: u8,
+    ) -> Result<Vec<u8>, AllocError> {
+        let mut bytes = Vec::new(alloc);
+        for at in 0..count {
+            bytes.push(if at == place { byte } else { 0x7F })?;
+        }
+        Ok(bytes)
+    }
+
+    #[test]
+    fn sees_a_byte_beyond_ascii_at_each_place(rt: HostRuntime) -> Result<(), AllocError> {
+        for count in 0..100usize {
+            let ascii = with_byte(rt.alloc(), count, count, 0x80)?;
+            assert!(rt; ascii_text(ascii.as_slice()).is_some(), "{count}");
+            for place in 0..count {
+                let bytes = with_byte(rt.alloc(), count, place, 0x80)?;
+                assert!(rt; ascii_text(bytes.as_slice()).is_none(), "{count}, {place}");
+            }
+        }
+        Ok(())
+    }
+}

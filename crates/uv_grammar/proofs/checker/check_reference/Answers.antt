@@ -1,0 +1,21 @@
+-- A plain reference is valid against its base.
+use Rattle.std.specs.Str.{chars}
+use Rattle.uv_model.specs.declared.profile.Profile.TheVariants.{Standard}
+use Rattle.uv_model.proofs.Hosts.DomainLemmas.{IsAscii-form}
+use Rattle.uv_grammar.specs.Bases.{as_base}
+use Rattle.uv_grammar.specs.Slices.{chars_of}
+use Rattle.uv_grammar.proofs.checker.check_reference.Goals as goal
+
+pub plain_parts-requires : goal.plain_parts-requires
+plain_parts-requires c =
+    let name = c.in-Some-plain_cut.cut.name in
+    let plain = c.in-Some-plain_cut.ensures (as_base c.args.base) (chars c.args.text.now) c.in-Some.ensures in
+    IsAscii-form Standard (chars_of name) name.now (plain.named.domain Standard).0
+
+pub returns-in-Some-plain_cut-clause-answer : goal.returns-in-Some-plain_cut-clause-answer
+returns-in-Some-plain_cut-clause-answer c =
+    c.plain_parts.ensures (chars c.args.text.now) c.args.profile (as_base c.args.base)
+    (c.in-Some-plain_cut.ensures (as_base c.args.base) (chars c.args.text.now) c.in-Some.ensures)
+
+pub check_from-requires : goal.check_from-requires
+check_from-requires c = rw c.renewed.ensures c.in-Some.ensures

@@ -1,0 +1,468 @@
+-- A text that is the text of the URL that it denotes.
+use Rattle.std.proofs.Common.{◌≡◌, ◌≢◌, ℕ, Bool, true, false, not, ◌==◌, ◌<◌, ◌≤◌, List, [], ◌∷◌, ◌++◌, Option, Some}
+use Rattle.std.proofs.Common.{None, codes, refl, sym, ap, ◌∙◌, subst, inl, inr, append_assoc, append-nil, arith}
+use Rattle.std.proofs.Common.{length, slice_index, slice_index_or, suc, ◌+◌, ◌&&◌, drop, drop-cons}
+use Rattle.std.specs.Prelude.{option_map}
+use Rattle.std.specs.List.{list_all, join_with_byte}
+use Rattle.std.specs.Char.{is_ascii, to_ascii_lowercase}
+use Rattle.std.specs.Str.{IsAscii, IsUtf8, bytes_eq, chars}
+use Rattle.std.proofs.lemmas.Str.{chars-IsAscii, encodes-chars, encodes-IsAscii}
+use Rattle.std.proofs.lemmas.Slice.Eq.{bytes_eq-Decides}
+use Rattle.std.proofs.Math.ListN.{drop_of_length-le}
+use Rattle.std.proofs.lemmas.Bool.Decides.{nat_tests}
+use Rattle.std.proofs.lemmas.Bool.{and_parts, and_from, false_from_ne_true, false≢true, not-true}
+use Rattle.std.proofs.lemmas.List.Folds.{list_all-append}
+use Rattle.uv_model.specs.declared.profile.Profile.{Profile}
+use Rattle.uv_model.specs.declared.scheme.Class.{Class}
+use Rattle.uv_model.specs.declared.scheme.Class.TheVariants.{Special}
+use Rattle.uv_model.specs.declared.host.Host.TheVariants.{Domain}
+use Rattle.uv_model.specs.declared.path.UrlPath.TheVariants.{Segments}
+use Rattle.uv_model.specs.Ascii.{apostrophe, slash, colon, question_mark, number_sign}
+use Rattle.uv_model.specs.Encoding.{encoded}
+use Rattle.uv_model.specs.Parts.{SchemeAuthority, Parts, written, written_scheme, written_authority, written_behind}
+use Rattle.uv_model.specs.Path.{MayBePathSlashed, is_double_dot, is_single_dot, walk, walk_one}
+use Rattle.uv_model.specs.Records.Denote.{authority_path, denote, denoted_scheme, denoted_port, denoted_path}
+use Rattle.uv_model.specs.Records.Denote.{denoted_query}
+use Rattle.uv_model.specs.Records.Serialize.{serial, serial_host, serial_segments}
+use Rattle.uv_model.specs.Records.Url.{Url}
+use Rattle.uv_model.specs.Scheme.{default_port, lowercase, scheme_class}
+use Rattle.uv_model.specs.Setting.{Setting, scheme_or, setting_of}
+use Rattle.uv_model.specs.Valid.{FitsAuthority, FitsForm, FitsHostText, IsSpecialAuthority, Valid}
+use Rattle.uv_model.proofs.Paths.SlashedPaths.{slashed_or_none}
+use Rattle.uv_model.proofs.Texts.AsciiLemmas.{IsAscii-from_test}
+use Rattle.uv_model.proofs.Texts.EncodingLemmas.{is_kept, encoded_code_point-kept}
+use Rattle.uv_parser.proofs.RoundTrip.SerializedTexts.{serial_segments-joined}
+use Rattle.uv_grammar.proofs.HostLemmas.{some_chars}
+use Rattle.uv_resolve.proofs.RecordLemmas.{fields, denote-fields}
+use Rattle.uv_resolve.specs.OwnText.{HasOwnPrefix, HasOwnScheme, IsOwnPath, IsOwnRoot, IsOwnScheme, IsOwnText}
+use Rattle.uv_resolve.specs.OwnText.{has_no_dots, is_dot_mark, is_kept_segment, is_never_encoded}
+
+-- ---- texts that no part encodes
+
+-- a code point that no part encodes stands in each encoded text
+kept : (quote : Bool) (c : ℕ) → is_never_encoded c ≡ true → is_kept quote c ≡ true
+kept false c h = and_from _ _ (and_parts (is_ascii c) (not (c == apostrophe)) h).0 refl
+kept true c h = h
+
+-- a text without bytes beyond ASCII and without `'` consists of them
+pub never_encoded_texts : (text : List ℕ) → IsAscii text → ((k : ℕ) → k < length text → slice_index text k ≢ apostrophe)
+    → list_all is_never_encoded text ≡ true
+never_encoded_texts [] ascii none = refl
+never_encoded_texts (c ∷ rest) ascii none =
+    let other : c ≢ apostrophe = none 0 (omega arith) in
+    let small : c < 128 = ascii 0 in
+    let never : is_never_encoded c ≡ true = grind (arith, nat_tests) in
+    and_from _ _ never (never_encoded_texts rest (λ i. ascii (suc i)) (λ k below. none (suc k) (omega (arith, below))))
+
+-- a text that no part encodes is ASCII
+never_encoded-ascii : (text : List ℕ) → list_all is_never_encoded text ≡ true → list_all is_ascii text ≡ true
+never_encoded-ascii [] h = refl
+never_encoded-ascii (c ∷ rest) h =
+    let parts = and_parts (is_never_encoded c) (list_all is_never_encoded rest) h in
+    and_from _ _ (and_parts (is_ascii c) (not (c == apostrophe)) parts.0).0 (never_encoded-ascii rest parts.1)
+
+-- a text of such code points is its own encoded text
+encoded-kept : (quote : Bool) (text : List ℕ) → list_all is_never_encoded text ≡ true → encoded quote text ≡ text
+unfolding encoded
+encoded-kept quote [] h = refl
+encoded-kept quote (c ∷ rest) h =
+    let parts = and_parts (is_never_encoded c) (list_all is_never_encoded rest) h in
+    ap (λ t. t ++ encoded quote rest) (encoded_code_point-kept quote c (kept quote c parts.0))
+    ∙ ap (λ t. c ∷ t) (encoded-kept quote rest parts.1)
+
+-- two texts of such code points
+both : (xs ys : List ℕ) → list_all is_never_encoded (xs ++ ys) ≡ true
+    → (list_all is_never_encoded xs ≡ true) × (list_all is_never_encoded ys ≡ true)
+both xs ys h =
+    and_parts (list_all is_never_encoded xs) (list_all is_never_encoded ys)
+    (sym (list_all-append is_never_encoded xs ys) ∙ h)
+
+-- what stands behind the first of them
+behind : (c : ℕ) (rest : List ℕ) → list_all is_never_encoded (c ∷ rest) ≡ true
+    → list_all is_never_encoded rest ≡ true
+behind c rest h = (and_parts (is_never_encoded c) (list_all is_never_encoded rest) h).1
+
+-- ---- paths
+
+-- a walk keeps a segment that is no dot segment
+walk_one-kept : (class : Class) (last : Bool) (path : List (List ℕ)) (segment : List ℕ) → is_kept_segment segment ≡ true
+    → list_all is_never_encoded segment ≡ true → walk_one class last path segment ≡ path ++ (segment ∷ [])
+walk_one-kept class last path segment no_dots bytes =
+    let parts = and_parts (not (is_double_dot segment)) (not (is_single_dot segment)) no_dots in
+    let double : is_double_dot segment ≡ false = not-true _ parts.0 in
+    let single : is_single_dot segment ≡ false = not-true _ parts.1 in
+    rw (double, single) (ap (λ s. path ++ (s ∷ [])) (encoded-kept false segment bytes))
+
+-- and all of them
+walk-kept : (class : Class) (path segments : List (List ℕ)) → list_all is_kept_segment segments ≡ true
+    → list_all is_never_encoded (serial_segments segments) ≡ true → walk class path segments ≡ path ++ segments
+unfolding walk
+walk-kept class path [] no_dots bytes = sym (append-nil path)
+walk-kept class path (segment ∷ []) no_dots bytes =
+    walk_one-kept class true path segment (and_parts (is_kept_segment segment) true no_dots).0
+    (both segment [] (behind slash (segment ++ []) bytes)).0
+walk-kept class path (segment ∷ next ∷ rest) no_dots bytes =
+    let each = and_parts (is_kept_segment segment) (list_all is_kept_segment (next ∷ rest)) no_dots in
+    let texts = both segment (serial_segments (next ∷ rest))
+    (behind slash (segment ++ serial_segments (next ∷ rest)) bytes) in
+    ap (λ p. walk class p (next ∷ rest)) (walk_one-kept class false path segment each.0 texts.0)
+    ∙ walk-kept class (path ++ (segment ∷ [])) (next ∷ rest) each.1 texts.1
+    ∙ append_assoc path (segment ∷ []) (next ∷ rest)
+
+-- the path behind an authority
+authority_path-kept : (segments : List (List ℕ)) → segments ≢ [] → list_all is_kept_segment segments ≡ true
+    → list_all is_never_encoded (serial_segments segments) ≡ true → authority_path Special segments ≡ segments
+authority_path-kept [] some no_dots bytes = absurd (some refl)
+authority_path-kept (segment ∷ rest) some no_dots bytes = walk-kept Special [] (segment ∷ rest) no_dots bytes
+
+-- a path behind an authority is its segments with `/` before each
+slashed_text : (segments : List (List ℕ)) (text : List ℕ) → segments ≢ [] → MayBePathSlashed segments text
+    → text ≡ serial_segments segments
+slashed_text segments text some (inl none) = absurd (some none.1)
+slashed_text segments text some (inr path) =
+    let joins = path.joins in
+    path.slashed ∙ ap (λ t. slash ∷ t) (joins.joined ∙ ap (join_with_byte slash) joins.some)
+    ∙ sym (serial_segments-joined joins.first joins.others) ∙ sym (ap serial_segments joins.some)
+
+-- a code point that is neither `.` nor `%` is neither in lower case
+lower_mark : (c : ℕ) → is_dot_mark c ≡ false → is_dot_mark (to_ascii_lowercase c) ≡ false
+lower_mark c h = grind (h, arith, nat_tests)
+
+-- a text that begins with another code point isn't a dot segment's word
+other_word : (c m : ℕ) (rest word : List ℕ) → is_dot_mark c ≡ false → is_dot_mark m ≡ true
+    → bytes_eq (c ∷ rest) (m ∷ word) ≡ false
+other_word c m rest word other mark =
+    false_from_ne_true (bytes_eq (c ∷ rest) (m ∷ word))
+    (λ same. let lists : c ∷ rest ≡ m ∷ word = (bytes_eq-Decides (c ∷ rest) (m ∷ word)).0 same in
+    let head : c ≡ m = cc in
+    false≢true (sym other ∙ ap is_dot_mark head ∙ mark))
+
+-- a segment that begins with another code point is kept
+kept_segment : (c : ℕ) (rest : List ℕ) → is_dot_mark c ≡ false → is_kept_segment (c ∷ rest) ≡ true
+unfolding is_double_dot is_single_dot
+kept_segment c rest other =
+    let lower = lower_mark c other in
+    let low = lowercase rest in
+    let x = to_ascii_lowercase c in
+    rw (
+      other_word x 46 low (codes ".") lower refl,
+      other_word x 46 low (codes "%2e") lower refl,
+      other_word x 37 low (codes "2e.") lower refl,
+      other_word x 37 low (codes "2e%2e") lower refl,
+      other_word x 46 low [] lower refl,
+      other_word x 37 low (codes "2e") lower refl,
+    ) refl
+
+-- a text without dots at its start either is one without dots
+no_dots-weaker : (text : List ℕ) → has_no_dots true text ≡ true → has_no_dots false text ≡ true
+no_dots-weaker [] h = refl
+no_dots-weaker (c ∷ rest) h = (and_parts (not (is_dot_mark c)) (has_no_dots (c == slash) rest) h).1
+
+-- and so is what stands behind a prefix
+no_dots-behind : (begins : Bool) (prefix rest : List ℕ) → has_no_dots begins (prefix ++ rest) ≡ true
+    → has_no_dots false rest ≡ true
+no_dots-behind false [] rest h = h
+no_dots-behind true [] rest h = no_dots-weaker rest h
+no_dots-behind begins (c ∷ prefix) rest h =
+    no_dots-behind (c == slash) prefix rest
+    (and_parts (not (begins && is_dot_mark c)) (has_no_dots (c == slash) (prefix ++ rest)) h).1
+
+-- such a text is known by its next byte and what follows it
+no_dots-first : (begins : Bool) (text : List ℕ) (k : ℕ) → k < length text
+    → has_no_dots begins (drop k text) ≡ (not (begins && is_dot_mark (slice_index_or text k 0))
+    && has_no_dots (slice_index_or text k 0 == slash) (drop (k + 1) text))
+no_dots-first begins text k below =
+    let next : suc k ≡ k + 1 = omega arith in
+    ap (has_no_dots begins) (drop-cons text k 0 below)
+    ∙ ap (λ n. not (begins && is_dot_mark (slice_index_or text k 0))
+    && has_no_dots (slice_index_or text k 0 == slash) (drop n text)) next
+
+-- the next byte doesn't begin a dot segment
+pub no_dots-step : (begins : Bool) (text : List ℕ) (k : ℕ) → k < length text
+    → (begins && is_dot_mark (slice_index_or text k 0)) ≡ false
+    → has_no_dots begins (drop k text) ≡ has_no_dots (slice_index_or text k 0 == slash) (drop (k + 1) text)
+no_dots-step begins text k below none =
+    no_dots-first begins text k below
+    ∙ ap (λ b. not b && has_no_dots (slice_index_or text k 0 == slash) (drop (k + 1) text)) none
+
+-- the next byte may begin one
+pub no_dots-found : (begins : Bool) (text : List ℕ) (k : ℕ) → k < length text
+    → (begins && is_dot_mark (slice_index_or text k 0)) ≡ true → has_no_dots begins (drop k text) ≡ false
+no_dots-found begins text k below found =
+    no_dots-first begins text k below
+    ∙ ap (λ b. not b && has_no_dots (slice_index_or text k 0 == slash) (drop (k + 1) text)) found
+
+-- no byte is left
+pub no_dots-end : (begins : Bool) (text : List ℕ) (k : ℕ) → length text ≤ k
+    → has_no_dots begins (drop k text) ≡ true
+no_dots-end begins text k none = ap (has_no_dots begins) (drop_of_length-le text none)
+
+-- a segment in such a text is kept
+kept-first : (segment rest : List ℕ) → has_no_dots true (segment ++ rest) ≡ true → is_kept_segment segment ≡ true
+unfolding is_double_dot is_single_dot
+kept-first [] rest h = refl
+kept-first (c ∷ segment) rest h =
+    kept_segment c segment
+    (not-true _ (and_parts (not (is_dot_mark c)) (has_no_dots (c == slash) (segment ++ rest)) h).0)
+
+-- and so are all
+kept-segments : (segments : List (List ℕ)) → has_no_dots false (serial_segments segments) ≡ true
+    → list_all is_kept_segment segments ≡ true
+kept-segments [] h = refl
+kept-segments (segment ∷ rest) h =
+    and_from _ _ (kept-first segment (serial_segments rest) h)
+    (kept-segments rest (no_dots-behind true segment (serial_segments rest) h))
+
+-- a path text that isn't empty has segments
+some_segments : (segments : List (List ℕ)) (text : List ℕ) → text ≢ [] → MayBePathSlashed segments text → segments ≢ []
+some_segments segments text some (inl none) = absurd (some none.0)
+some_segments segments text some (inr path) =
+    λ none. let both_ways : [] ≡ path.joins.first ∷ path.joins.others = sym none ∙ path.joins.some in absurd cc
+
+-- and an empty one has none
+no_segments : (segments : List (List ℕ)) (text : List ℕ) → MayBePathSlashed segments text → text ≡ [] → segments ≡ []
+no_segments segments text (inl none) is = none.1
+no_segments segments text (inr path) is =
+    let both_ways : [] ≡ slash ∷ path.behind = sym is ∙ path.slashed in absurd cc
+
+-- ---- queries and fragments
+
+-- a query of such code points is denoted as it is
+query-kept : (base : Option Url) (query : Option (List ℕ))
+    → list_all is_never_encoded (written_behind question_mark query) ≡ true
+    → denoted_query base Special SchemeAuthority query ≡ query
+query-kept base None h = refl
+query-kept base (Some query) h = ap Some (encoded-kept true query (behind question_mark query h))
+
+-- and so is such a fragment
+fragment-kept : (fragment : Option (List ℕ)) → list_all is_never_encoded (written_behind number_sign fragment) ≡ true
+    → option_map (encoded false) fragment ≡ fragment
+fragment-kept None h = refl
+fragment-kept (Some fragment) h = ap Some (encoded-kept false fragment (behind number_sign fragment h))
+
+-- ---- the whole text
+
+-- what a text with such a scheme and host is
+abbrev pub spelled : List ℕ → List ℕ → List ℕ → Option (List ℕ) → Option (List ℕ) → List ℕ
+spelled scheme form path query fragment =
+    scheme ++ (colon ∷ ((slash ∷ slash ∷ (form ++ []))
+    ++ (path ++ (written_behind question_mark query ++ written_behind number_sign fragment))))
+
+-- the parts are written so
+written-spelled : (parts : Parts) (scheme form : List ℕ) → parts.scheme ≡ Some scheme → parts.host_text ≡ Some form
+    → parts.port_text ≡ None → written parts ≡ spelled scheme form parts.path_text parts.query parts.fragment
+unfolding written
+written-spelled parts scheme form schemed hosted no_port =
+    ap (λ s. written_scheme s ++ (written_authority parts.host_text parts.port_text ++ (parts.path_text
+    ++ (written_behind question_mark parts.query ++ written_behind number_sign parts.fragment)))) schemed
+    ∙ ap (λ h. (scheme ++ (colon ∷ [])) ++ (written_authority h parts.port_text ++ (parts.path_text
+    ++ (written_behind question_mark parts.query ++ written_behind number_sign parts.fragment)))) hosted
+    ∙ ap (λ p. (scheme ++ (colon ∷ [])) ++ (written_authority (Some form) p ++ (parts.path_text
+    ++ (written_behind question_mark parts.query ++ written_behind number_sign parts.fragment)))) no_port
+    ∙ append_assoc scheme (colon ∷ []) (written_authority (Some form) None ++ (parts.path_text
+    ++ (written_behind question_mark parts.query ++ written_behind number_sign parts.fragment)))
+
+-- the serializer writes such a URL so
+serial-spelled : (scheme form : List ℕ) (segments : List (List ℕ)) (query fragment : Option (List ℕ))
+    → serial (fields scheme (Some (Domain form)) None (Segments segments) query fragment)
+    ≡ spelled scheme form (serial_segments segments) query fragment
+unfolding serial serial_host
+serial-spelled scheme form segments query fragment = refl
+
+-- the path of a text with a special scheme and an authority
+special_path : (profile : Profile) (base : Option Url) (text : List ℕ) (parts : Parts) (scheme form : List ℕ)
+    → Valid profile base text parts → parts.form ≡ SchemeAuthority → parts.scheme ≡ Some scheme
+    → scheme_class scheme ≡ Special → parts.host_text ≡ Some form → MayBePathSlashed parts.segments parts.path_text
+special_path profile base text parts scheme form valid formed schemed special hosted =
+    let setting : Setting = setting_of profile base (Some scheme) in
+    let by_form : FitsForm setting SchemeAuthority parts
+    = subst (λ f. FitsForm setting f parts) formed
+    (subst (λ s. FitsForm (setting_of profile base s) parts.form parts) schemed valid.form)
+    in
+    let by_text : FitsAuthority (scheme_class scheme) setting form parts
+    = subst (λ h. FitsHostText setting parts h) hosted by_form
+    in
+    let fits : IsSpecialAuthority setting form parts
+    = subst (λ k. FitsAuthority k setting form parts) special by_text
+    in
+    slashed_or_none profile parts.segments parts.path_text fits.path
+
+-- a text with such a prefix is spelled with its parts
+prefix-spelled : (profile : Profile) (base : Option Url) (text : List ℕ) (parts : Parts) (scheme : List ℕ)
+    → Valid profile base text parts → (own : HasOwnPrefix text parts) → parts.scheme ≡ Some scheme
+    → text ≡ spelled scheme own.host.form parts.path_text parts.query parts.fragment
+prefix-spelled profile base text parts scheme valid own schemed =
+    valid.whole ∙ written-spelled parts scheme own.host.form schemed own.host.host_text own.port.text
+
+-- the path of such a text is of code points that no part encodes
+prefix-path : (text : List ℕ) (parts : Parts) (scheme : List ℕ) (own : HasOwnPrefix text parts)
+    → text ≡ spelled scheme own.host.form parts.path_text parts.query parts.fragment
+    → (list_all is_never_encoded parts.path_text ≡ true)
+    × (list_all is_never_encoded (written_behind question_mark parts.query
+    ++ written_behind number_sign parts.fragment) ≡ true)
+prefix-path text parts scheme own whole =
+    let form = own.host.form in
+    let bytes : list_all is_never_encoded (spelled scheme form parts.path_text parts.query parts.fragment) ≡ true
+    = sym (ap (list_all is_never_encoded) whole) ∙ own.bytes
+    in
+    let ends = written_behind question_mark parts.query ++ written_behind number_sign parts.fragment in
+    let prefix = slash ∷ slash ∷ (form ++ []) in
+    let from_colon = both scheme (colon ∷ (prefix ++ (parts.path_text ++ ends))) bytes in
+    let from_host = both prefix (parts.path_text ++ ends)
+    (behind colon (prefix ++ (parts.path_text ++ ends)) from_colon.1) in
+    both parts.path_text ends from_host.1
+
+-- the text of the URL that it denotes, by the segments
+prefix-serial : (base : Option Url) (text : List ℕ) (parts : Parts) (scheme : List ℕ) (segments : List (List ℕ))
+    → (own : HasOwnPrefix text parts) → parts.scheme ≡ Some scheme → IsOwnScheme scheme
+    → text ≡ spelled scheme own.host.form parts.path_text parts.query parts.fragment
+    → authority_path Special parts.segments ≡ segments
+    → spelled scheme own.host.form (serial_segments segments) parts.query parts.fragment ≡ serial (denote base parts)
+prefix-serial base text parts scheme segments own schemed is whole path =
+    let form = own.host.form in
+    let query = parts.query in
+    let fragment = parts.fragment in
+    let from_query = both (written_behind question_mark query) (written_behind number_sign fragment)
+    (prefix-path text parts scheme own whole).1 in
+    let denoted : fields scheme (Some (Domain form)) None (Segments segments) query fragment ≡ denote base parts
+    = denote-fields base parts Special scheme (Some (Domain form)) None (Segments segments) query fragment
+    (sym (ap (λ s. scheme_class (scheme_or base s)) schemed ∙ is.special))
+    (sym (ap (λ s. denoted_scheme base s) schemed ∙ is.lower))
+    (rw own.form (rw own.host.host refl))
+    (sym (ap (λ f. denoted_port base f parts) own.form ∙ own.port.port))
+    (sym (ap (λ f. denoted_path base Special f parts) own.form ∙ ap Segments path))
+    (sym (ap (λ f. denoted_query base Special f query) own.form ∙ query-kept base query from_query.0))
+    (sym (fragment-kept fragment from_query.1))
+    in
+    sym (serial-spelled scheme form segments query fragment) ∙ ap serial denoted
+
+-- the text of the URL that a text with its own path denotes, once the scheme is known
+own-schemed : (profile : Profile) (base : Option Url) (text : List ℕ) (parts : Parts) (scheme : List ℕ)
+    → Valid profile base text parts → IsOwnText text parts → parts.scheme ≡ Some scheme → IsOwnScheme scheme
+    → text ≡ serial (denote base parts)
+own-schemed profile base text parts scheme valid own schemed is =
+    let prefix = own.prefix in
+    let form = prefix.host.form in
+    let segments = parts.segments in
+    let whole = prefix-spelled profile base text parts scheme valid prefix schemed in
+    let slashed : MayBePathSlashed segments parts.path_text
+    = special_path profile base text parts scheme form valid prefix.form schemed is.special prefix.host.host_text
+    in
+    let some = some_segments segments parts.path_text own.path.0 slashed in
+    let path : parts.path_text ≡ serial_segments segments
+    = slashed_text segments parts.path_text some slashed
+    in
+    let bytes = (prefix-path text parts scheme prefix whole).0 in
+    let no_dots = subst (λ t. has_no_dots false t ≡ true) path
+    (own.path.1 (never_encoded-ascii parts.path_text bytes)) in
+    whole ∙ ap (λ p. spelled scheme form p parts.query parts.fragment) path
+    ∙ prefix-serial base text parts scheme segments prefix schemed is whole
+    (authority_path-kept segments some (kept-segments segments no_dots)
+    (sym (ap (list_all is_never_encoded) path) ∙ bytes))
+
+-- behind a text that ends in its host stands the `/` of its path
+spelled-host : (scheme form : List ℕ)
+    → spelled scheme form [] None None ++ (slash ∷ []) ≡ spelled scheme form (slash ∷ []) None None
+spelled-host scheme form =
+    append_assoc scheme (colon ∷ slash ∷ slash ∷ ((form ++ []) ++ [])) (slash ∷ [])
+    ∙ ap (λ t. scheme ++ (colon ∷ slash ∷ slash ∷ t)) (append_assoc (form ++ []) [] (slash ∷ []))
+
+-- the text of the URL that a text that ends in its host denotes, once the scheme is known
+root-schemed : (profile : Profile) (base : Option Url) (text : List ℕ) (parts : Parts) (scheme : List ℕ)
+    → Valid profile base text parts → IsOwnRoot text parts → parts.scheme ≡ Some scheme → IsOwnScheme scheme
+    → text ++ (slash ∷ []) ≡ serial (denote base parts)
+root-schemed profile base text parts scheme valid own schemed is =
+    let prefix = own.prefix in
+    let form = prefix.host.form in
+    let ends = own.ends in
+    let whole = prefix-spelled profile base text parts scheme valid prefix schemed in
+    let slashed : MayBePathSlashed parts.segments parts.path_text
+    = special_path profile base text parts scheme form valid prefix.form schemed is.special prefix.host.host_text
+    in
+    let root : authority_path Special parts.segments ≡ [] ∷ []
+    = ap (authority_path Special) (no_segments parts.segments parts.path_text slashed ends.path)
+    in
+    let bare : text ≡ spelled scheme form [] None None
+    = whole ∙ ap (λ p. spelled scheme form p parts.query parts.fragment) ends.path
+    ∙ ap (λ q. spelled scheme form [] q parts.fragment) ends.query
+    ∙ ap (λ f. spelled scheme form [] None f) ends.fragment
+    in
+    ap (λ t. t ++ (slash ∷ [])) bare ∙ spelled-host scheme form
+    ∙ ap (λ q. spelled scheme form (slash ∷ []) q None) (sym ends.query)
+    ∙ ap (λ f. spelled scheme form (slash ∷ []) parts.query f) (sym ends.fragment)
+    ∙ prefix-serial base text parts scheme ([] ∷ []) prefix schemed is whole root
+
+-- the text of the URL that such a text denotes is the text
+own_text : (profile : Profile) (base : Option Url) (text : List ℕ) (parts : Parts)
+    → Valid profile base text parts → IsOwnText text parts → text ≡ serial (denote base parts)
+own_text profile base text parts valid own = go parts.scheme refl own.prefix.scheme
+  where
+    go : (scheme : Option (List ℕ)) → parts.scheme ≡ scheme → HasOwnScheme scheme → text ≡ serial (denote base parts)
+    go None e has = absurd has
+    go (Some scheme) e has = own-schemed profile base text parts scheme valid own e has
+
+-- or the text with a `/` behind it, where it ends in its host
+own_root : (profile : Profile) (base : Option Url) (text : List ℕ) (parts : Parts)
+    → Valid profile base text parts → IsOwnRoot text parts → text ++ (slash ∷ []) ≡ serial (denote base parts)
+own_root profile base text parts valid own = go parts.scheme refl own.prefix.scheme
+  where
+    go : (scheme : Option (List ℕ)) → parts.scheme ≡ scheme → HasOwnScheme scheme
+        → text ++ (slash ∷ []) ≡ serial (denote base parts)
+    go None e has = absurd has
+    go (Some scheme) e has = root-schemed profile base text parts scheme valid own e has
+
+-- ---- what the code sees
+
+-- bytes that are an ASCII text have its code points
+pub ascii_chars : (bytes text : List ℕ) → IsAscii text → bytes ≡ text → chars bytes ≡ text
+ascii_chars bytes text ascii e = ap chars e ∙ chars-IsAscii text ascii
+
+-- a text's bytes as its code points, where these are ASCII
+valid_bytes : (profile : Profile) (base : Option Url) (text : List ℕ) (parts : Parts)
+    → list_all is_never_encoded text ≡ true → Valid profile base (chars text) parts → Valid profile base text parts
+valid_bytes profile base text parts bytes valid =
+    subst (λ t. Valid profile base t parts)
+    (chars-IsAscii text (IsAscii-from_test text (never_encoded-ascii text bytes))) valid
+
+-- a valid text of such parts, given by its bytes, is the text of the URL that it denotes
+pub own_text_written : (profile : Profile) (base : Option Url) (text : List ℕ) (parts : Parts)
+    → Valid profile base (chars text) parts → IsOwnText text parts → text ≡ serial (denote base parts)
+own_text_written profile base text parts valid own =
+    own_text profile base text parts (valid_bytes profile base text parts own.prefix.bytes valid) own
+
+-- or with a `/` behind it, where it ends in its host
+pub own_root_written : (profile : Profile) (base : Option Url) (text : List ℕ) (parts : Parts)
+    → Valid profile base (chars text) parts → IsOwnRoot text parts
+    → text ++ (slash ∷ []) ≡ serial (denote base parts)
+own_root_written profile base text parts valid own =
+    own_root profile base text parts (valid_bytes profile base text parts own.prefix.bytes valid) own
+
+-- the code points of a text: there are some where it has bytes, and ASCII ones are its bytes
+pub own_path : (bytes : List ℕ) → IsUtf8 bytes → (length bytes == 0) ≡ false → has_no_dots false bytes ≡ true
+    → IsOwnPath (chars bytes)
+own_path bytes utf8 some no_dots = (
+  some_chars bytes utf8 some,
+  λ ascii. subst (λ t. has_no_dots false t ≡ true)
+      (sym (encodes-chars bytes utf8) ∙ encodes-IsAscii (chars bytes) (IsAscii-from_test (chars bytes) ascii)) no_dots,
+)
+
+-- the two schemes
+https_is_own : IsOwnScheme (codes "https")
+unfolding scheme_class default_port
+https_is_own = record { special = refl; lower = refl }
+
+http_is_own : IsOwnScheme (codes "http")
+unfolding scheme_class default_port
+http_is_own = record { special = refl; lower = refl }
+
+own_scheme : (bytes name : List ℕ) → IsOwnScheme name → list_all is_ascii name ≡ true → bytes ≡ name
+    → IsOwnScheme (chars bytes)
+own_scheme bytes name own ascii e =
+    subst IsOwnScheme (sym (ascii_chars bytes name (IsAscii-from_test name ascii) e)) own
+
+-- `https` and `http` are schemes that stand as they are written
+pub https : (bytes : List ℕ) → bytes ≡ codes "https" → IsOwnScheme (chars bytes)
+https bytes e = own_scheme bytes (codes "https") https_is_own refl e
+
+pub http : (bytes : List ℕ) → bytes ≡ codes "http" → IsOwnScheme (chars bytes)
+http bytes e = own_scheme bytes (codes "http") http_is_own refl e

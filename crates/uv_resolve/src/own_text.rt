@@ -1,0 +1,154 @@
+//! Texts that are the text of the URL that they denote, but perhaps for a `/` at the end, as most links are: no record
+//! has to be made of them.
+ghost use Rattle.std.specs.Prelude.{◌≡◌, ◌&&◌, [], IsTrue, Some, false, true};
+ghost use Rattle.std.specs.List.{list_all};
+ghost use Rattle.std.specs.Str.{IsAscii, chars};
+ghost use Rattle.uv_grammar.specs.Slices.{chars_of_option};
+ghost use Rattle.uv_resolve.specs.OwnText.{EndsInHost, HasNoPort, HasOwnPrefix, HasOwnHost, HasOwnScheme, IsOwnPath};
+ghost use Rattle.uv_resolve.specs.OwnText.{IsOwnRoot, IsOwnScheme, IsOwnText, has_no_dots, is_dot_mark, is_never_encoded};
+
+use memchr::memchr;
+use uv_grammar::{Form, HostRef, Parts};
+
+/// Whether a valid text with these parts is the text of the URL that it denotes: a special scheme in lower case, a
+/// domain that is its own form, no port, a path without dot segments, and nothing that is encoded. Where the answer is
+/// no, that says nothing.
+pub(crate) fn is_own_text(text: &str, parts: &Parts<'_>) -> bool
+    ensures { IsTrue result → IsOwnText text.now parts.now }
+{
+    has_own_prefix(text, parts) && is_own_path(parts.path_text())
+}
+
+/// The same of a text that ends in its host, where the URL's text has a `/` behind it.
+pub(crate) fn is_own_root(text: &str, parts: &Parts<'_>) -> bool
+    ensures { IsTrue result → IsOwnRoot text.now parts.now }
+{
+    ends_in_host(parts) && has_own_prefix(text, parts)
+}
+
+// Whether no part is encoded, and what stands before the path is written as it is denoted.
+fn has_own_prefix(text: &str, parts: &Parts<'_>) -> bool
+    ensures { IsTrue result → HasOwnPrefix text.now parts.now }
+{
+    match parts.form() {
+        Form::SchemeAuthority => {
+            is_never_encoded(text)
+                && has_own_scheme(parts.scheme())
+                && has_own_host(parts)
+                && has_no_port(parts)
+        }
+        _ => false,
+    }
+}
+
+/// Whether no part encodes a byte of the text.
+pub(crate) fn is_never_encoded(text: &str) -> bool
+    ensures { IsTrue result → list_all is_never_encoded text.now ≡ true }
+{
+    match memchr(b'\'', text.as_bytes()) {
+        None => text.is_ascii(),
+        Some(_) => false,
+    }
+}
+
+// Whether there is a special scheme in lower case.
+fn has_own_scheme(scheme: Option<&str>) -> bool
+    ensures { IsTrue result → HasOwnScheme (chars_of_option scheme.entry) }
+{
+    match scheme {
+        Some(scheme) => is_own_scheme(scheme),
+        None => false,
+    }
+}
+
+// Whether the scheme is one of the two that most links have.
+fn is_own_scheme(scheme: &str) -> bool
+    ensures { IsTrue result → IsOwnScheme (chars scheme.now) }
+{
+    is_text(scheme, "https") || is_text(scheme, "http")
+}
+
+fn is_text(text: &str, other: &str) -> bool
+    ensures { IsTrue result → text.now ≡ other.now }
+{
+    text == other
+}
+
+// Whether the host is a domain that is its own form.
+fn has_own_host(parts: &Parts<'_>) -> bool
+    ensures { IsTrue result → HasOwnHost parts.now }
+{
+    match parts.host() {
+        Some(HostRef::Domain(form)) => is_form(form.as_str(), parts.host_text()),
+        _ => false,
+    }
+}
+
+// Whether the text is the form of its domain.
+fn is_form(form: &str, text: Option<&str>) -> bool
+    requires { IsAscii form.now }
+    ensures { IsTrue result → chars_of_option text.entry ≡ Some form.now }
+{
+    match text {
+        Some(text) => is_text(text, form),
+        None => false,
+    }
+}
+
+// Whether there is no port text.
+fn has_no_port(parts: &Parts<'_>) -> bool
+    ensures { IsTrue result → HasNoPort parts.now }
+{
+    match (parts.port_text(), parts.port()) {
+        (None, None) => true,
+        _ => false,
+    }
+}
+
+// Whether nothing stands behind the host.
+fn ends_in_host(parts: &Parts<'_>) -> bool
+    ensures { IsTrue result → EndsInHost parts.now }
+{
+    match (parts.query(), parts.fragment()) {
+        (None, None) => has_no_path(parts.path_text()),
+        _ => false,
+    }
+}
+
+// Whether a path's text is empty.
+fn has_no_path(text: &str) -> bool
+    ensures { IsTrue result → chars text.now ≡ [] }
+{
+    text.is_empty()
+}
+
+// Whether there is a path, of which no segment begins as a dot segment does.
+fn is_own_path(text: &str) -> bool
+    ensures { IsTrue result → IsOwnPath (chars text.now) }
+{
+    if text.is_empty() {
+        return false;
+    }
+    is_without_dots(text.as_bytes())
+}
+
+// Whether no `.` and no `%` stands behind a `/`.
+fn is_without_dots(path: &[u8]) -> bool
+    ensures { result ≡ has_no_dots false path.now }
+{
+    let mut begins = false;
+    for &byte in path {
+        if may_be_dots(begins, byte) {
+            return false;
+        }
+        begins = byte == b'/';
+    }
+    true
+}
+
+// Whether a dot segment may begin with a byte, where a segment begins there.
+fn may_be_dots(begins: bool, byte: u8) -> bool
+    ensures { result ≡ (begins && is_dot_mark byte) }
+{
+    begins && (byte == b'.' || byte == b'%')
+}

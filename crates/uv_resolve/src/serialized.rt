@@ -1,0 +1,77 @@
+//! The serialized URL of a text, alone or against a base.
+ghost use Rattle.std.specs.Prelude.{◌≡◌, ◌++◌, ◌∷◌, [], IfOk, chars, option_copied, string_bytes};
+ghost use Rattle.uv_model.specs.Ascii.{slash};
+ghost use Rattle.uv_model.specs.Records.Denote.{denote};
+ghost use Rattle.uv_model.specs.Records.Serialize.{serial};
+ghost use Rattle.uv_model.specs.declared.profile.Profile.TheVariants.{Parser};
+ghost use Rattle.uv_model.specs.Records.WellFormed.{MayBeWellFormed};
+ghost use Rattle.uv_resolve.specs.Serialized.{ArePartsOf, IsSerialized, RefusesSerializedWithoutMemory};
+
+use crate::fault::ResolveFault;
+use crate::own_text::{is_own_root, is_own_text};
+use crate::records::denoted;
+use std::alloc::{AllocError, Global};
+use uv_grammar::{Parts, Verdict, check};
+use uv_model::{Profile, Record};
+
+/// The serialized URL that a text denotes by the profile, alone or against a base (URL Standard, sections 4.3 to 4.5):
+/// the text of the record that `resolve` gives. The text is refused where `resolve` refuses it, before any allocation
+/// for the URL.
+pub fn resolve_serialized(
+    alloc: Global,
+    text: &str,
+    base: Option<&Record>,
+    profile: Profile,
+) -> Result<String, ResolveFault>
+    ensures serialized { IsSerialized profile (option_copied base.entry) text.now result }
+    ensures memory { RefusesSerializedWithoutMemory profile (option_copied base.entry) (chars text.now) result }
+{
+    match check(alloc, text, base, profile)? {
+        Verdict::Yes(parts) => Ok(serialize_parts(alloc, text, parts, base)?),
+        Verdict::No(refusal) => Err(ResolveFault::Refused(refusal)),
+    }
+}
+
+/// The serialized URL that the parts of a valid text denote against a base (URL Standard, section 4.5), so that a text
+/// that was checked isn't checked again. The error is out of memory.
+pub fn serialize_parts(
+    alloc: Global,
+    text: &str,
+    parts: Parts<'_>,
+    base: Option<&Record>,
+) -> Result<String, AllocError>
+    requires { ArePartsOf (option_copied base) (chars text.now) parts }
+    ensures { IfOk result (λ written.
+        string_bytes written ≡ serial (denote (option_copied base.entry) parts.entry)) }
+{
+    if is_own_text(text, &parts) {
+        return String::from_str(alloc, text);
+    }
+    if is_own_root(text, &parts) {
+        return with_slash(alloc, text);
+    }
+    see_base(base);
+    denoted(alloc, parts, base)?.text(alloc)
+}
+
+// The text with a `/` behind it, in one allocation.
+fn with_slash(alloc: Global, text: &str) -> Result<String, AllocError>
+    ensures { IfOk result (λ written. string_bytes written ≡ text.now ++ (slash ∷ [])) }
+{
+    let mut written = String::with_capacity(alloc, text.len().saturating_add(1))?;
+    written.push_str(text)?;
+    written.push('/')?;
+    Ok(written)
+}
+
+// A base is well formed, as each record is.
+fn see_base(base: Option<&Record>)
+    ensures { MayBeWellFormed Parser (option_copied base.entry) }
+{
+    match base {
+        Some(base) => {
+            let _ = base.path();
+        }
+        None => {}
+    }
+}
