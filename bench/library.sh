@@ -1,10 +1,15 @@
 #!/usr/bin/env bash
-# What a verdict costs from C, beside the driver in Rattle: instructions a link, counted by valgrind as the difference
-# of five rounds and one over the same mixed links. From C a call also sees that the bytes are UTF-8, and lays out the
-# parts.
+# What a call from C costs beside `check` in Rattle: instructions a text, counted by valgrind as the difference of five
+# rounds and one over the same texts, which both sides find before the first round. Alone a text is judged by
+# `urlcheck_check`, and against a base that both sides keep by `urlcheck_check_with`. From C a call also sees that the
+# bytes are UTF-8, and lays out the places of the parts. At most 1.3 times the instructions are the aim; the bounds below
+# are what was seen when they were set, and a tenth. It fails where a bound is broken, a figure is missing or too small, or an
+# answer isn't the wanted one.
 # Usage: bench/library.sh [COUNT [SEED]]
 set -euo pipefail
 top=$(dirname "$(dirname "$(realpath "$0")")")
+count=${1:-5000} seed=${2:-1} base=https://example.org/a/b.html
+command -v valgrind >/dev/null || { echo 'instructions are counted by valgrind'; exit 2; }
 room=$(mktemp -d)
 trap 'rm -rf "$room"' EXIT
 driver=$top/crates/bench_check/out/bench_check
@@ -12,21 +17,49 @@ driver=$top/crates/bench_check/out/bench_check
 "$top/build-library" "$room/installed" >&2
 gcc -std=c99 -O2 -I "$room/installed/include" "$top/bench/peers/library.c" "$room/installed/lib/liburlcheck.a" \
     -o "$room/c"
-python3 "$top/bench/links.py" "${1:-5000}" "${2:-1}" >"$room/links"
-lines=$(grep -c . "$room/links")
-
-# instructions WORD.. : those of one run
-instructions() {
-    valgrind --tool=callgrind --callgrind-out-file=/dev/null "$@" <"$room/links" 2>&1 >"$room/said" |
-        awk '/Collected/ { print $NF }'
+failed=0
+fail() {
+    echo "FAILED: $*"
+    failed=1
 }
 
-declare -A cost
-for name in rattle c; do
-    if [ $name = rattle ]; then program=("$driver" check); else program=("$room/c"); fi
-    one=$(instructions "${program[@]}" 1)
-    five=$(instructions "${program[@]}" 5)
-    cost[$name]=$(awk -v o="$one" -v f="$five" -v n="$lines" 'BEGIN { printf "%.0f", (f - o) / 4 / n }')
-    echo "$name: ${cost[$name]} instructions a link ($(cat "$room/said"))"
-done
-awk -v c="${cost[c]}" -v r="${cost[rattle]}" 'BEGIN { printf "c to rattle: %.2f\n", c / r }'
+# once NAME ROUNDS [BASE] : the instructions of one run; what it says is left in said
+once() {
+    local program
+    if [ "$1" = rattle ]; then program=("$driver" check "$2" standard "${@:3}"); else program=("$room/c" "${@:2}"); fi
+    valgrind --tool=callgrind --callgrind-out-file=/dev/null "${program[@]}" <"$room/texts" 2>&1 >"$room/said" |
+        sed -n 's/.*Collected : //p'
+}
+
+# a_text NAME [BASE] : the instructions of a text
+a_text() {
+    local one five
+    one=$(once "$1" 1 "${@:2}")
+    five=$(once "$1" 5 "${@:2}")
+    [ -n "$one" ] && [ -n "$five" ] || return 0
+    awk -v o="$one" -v f="$five" -v n="$lines" 'BEGIN { printf "%.0f", (f - o) / 4 / n }'
+}
+
+# compared KIND BOUND WORDS [BASE] : texts of a kind of bench/links.py by both sides
+compared() {
+    local name cost ratio
+    local -A costs
+    python3 "$top/bench/links.py" "$count" "$seed" "$1" >"$room/texts" 2>"$room/valid"
+    lines=$(grep -c . "$room/texts" || true)
+    for name in rattle c; do
+        cost=$(a_text $name "${@:4}")
+        [ -n "$cost" ] || { echo "FAILED: $3: $name gave no figure"; exit 1; }
+        ((cost >= 50)) || fail "$3: $cost instructions a text are too few"
+        [ "$(cat "$room/said")" = "$lines lines, $(cat "$room/valid") valid" ] || fail "$3: $name: $(cat "$room/said")"
+        costs[$name]=$cost
+    done
+    ratio=$(awk -v c="${costs[c]}" -v r="${costs[rattle]}" 'BEGIN { printf "%.2f", c / r }')
+    echo "$3: c ${costs[c]}, rattle ${costs[rattle]} instructions a text: $ratio"
+    awk -v s="$ratio" -v b="$2" 'BEGIN { exit s > b }' || fail "$3: $ratio, and at most $2 is wanted"
+}
+
+compared plain 1.9 'plain links'
+compared mixed 1.9 'mixed links'
+compared plain 1.6 'plain links, the base kept' "$base"
+compared reference 1.5 'references, the base kept' "$base"
+exit $failed

@@ -1,11 +1,11 @@
 #!/usr/bin/env bash
 # What this checker takes for texts of a kind, beside Ada and, where it is at hand, Rust's crate `url`. bench/kinds has
 # the kinds: what is made, the call, the profile, the base and the bound. `check` and `is_valid` stand beside Ada's
-# can_parse, `resolve` with its record's text beside Ada's parse with its href; both sides keep the base. It prints the
-# instructions a text by callgrind, or the least processor time of so many rounds with a run of each in turn, reading
-# taken off, and the ratios to Ada.
+# can_parse, `resolve_serialized` (resolve) and `resolve` with its record's text (record) beside Ada's parse with its
+# href; both sides keep the base. It prints the instructions a text by callgrind, or the least processor time of so many
+# rounds with a run of each in turn, reading taken off, and the ratios to Ada.
 # It fails where a figure is missing or below the floor, and where an answer isn't the wanted one: so many texts are
-# valid, Ada parses each, and writes each record as `resolve` does. By instructions it also fails where a call passes
+# valid, Ada parses each, and writes each URL as this checker does. By instructions it also fails where a call passes
 # the kind's bound, where a verdict alone on plain links takes more than 0.75 of a check, and where plain links cost
 # more by the parser's profile than by the standard one.
 # Usage: bench/verdicts.sh [--ada FOLDER] [--kind KIND|all] [--by instructions|time] [--rounds ROUNDS] [--count COUNT]
@@ -93,7 +93,7 @@ fi
 adas=''
 if [ -n "$ada" ]; then
     names+=(ada)
-    program[ada]=$ada mode[ada]=$call
+    program[ada]=$ada mode[ada]=${call/record/resolve}
 elif [ "$by $seed $links $count" = "instructions 1 $room/links $known" ]; then
     adas=$(awk -v kind="$kind" '$1 == kind { print $2 }' "$top/bench/verdicts/ada.stored")
     [ -n "$adas" ] || fail "bench/verdicts/ada.stored has no figure of $kind"
@@ -177,12 +177,13 @@ for each in "${names[@]}"; do
     esac
     echo "$line"
 done
-if [ "$call" = resolve ] && [ -n "$ada" ]; then
-    answers resolve texts
+if [ "$call" != check ] && [ -n "$ada" ]; then
+    if [ "$call" = record ]; then written=records; else written=texts; fi
+    answers "$call" $written
     answers ada texts
-    unlike=$(paste "$room/resolve.texts" "$room/ada.texts" |
+    unlike=$(paste "$room/$call.$written" "$room/ada.texts" |
         awk -F '\t' '$1 != "" && $1 != $2 { n++ } END { print n + 0 }')
-    [ "$unlike" = 0 ] || fail "the records of $unlike texts are written otherwise by Ada"
+    [ "$unlike" = 0 ] || fail "the URLs of $unlike texts are written otherwise by Ada"
 fi
 
 # ratio A B : of two figures
