@@ -126,10 +126,6 @@ not_taken text utf8 e form (plain, is) =
     let given_taken : taken (Some form) ≡ Some form = rw (is_taken_from form is.some is.permitted) refl in
     none-some form (sym e ∙ (ap taken given ∙ given_taken))
 
--- a text in brackets has none
-pub bracket_no_form : (text : List ℕ) → starts_with_bracket text ≡ true → HasNoForm Parser text
-bracket_no_form text starts form (plain, is) = false≢true (sym plain ∙ starts)
-
 -- the answer of what is taken
 pub taken_answer : (text : List ℕ) (answer : Option (String Global)) → IsUtf8 text
     → starts_with_bracket (chars text) ≡ false

@@ -7,7 +7,7 @@ use Rattle.std.specs.Str.{IsAscii}
 use Rattle.std.specs.List.{list_all}
 use Rattle.std.specs.Char.{is_ascii_uppercase, to_ascii_lowercase}
 use Rattle.std.proofs.lemmas.Bool.Decides.{nat_tests}
-use Rattle.std.proofs.lemmas.Bool.{and_from, and_parts, cases_lt, not_from_false}
+use Rattle.std.proofs.lemmas.Bool.{and_parts, cases_lt, not_from_false}
 use Rattle.std.proofs.lemmas.List.{get_or_past}
 use Rattle.std.proofs.lemmas.List.Sums.{AllPass-from_list_all, list_all-from_AllPass}
 use Rattle.std.proofs.lemmas.List.Elements.{All-weaker}
@@ -26,9 +26,8 @@ use Rattle.uv_model.specs.declared.profile.Profile.{Profile}
 use Rattle.uv_model.specs.declared.profile.Profile.TheVariants.{Standard, Wide, Parser}
 use Rattle.uv_model.specs.Hosts.Domain.{HasNoForm, IsForm, has_lengths, has_permitted, is_form_code_point, is_permitted}
 use Rattle.uv_model.specs.Hosts.Domain.{strict_form}
-use Rattle.uv_model.proofs.Hosts.DomainLemmas.{IsForm-from, no_parsed_lengths, wide_form, wide_text}
+use Rattle.uv_model.proofs.Hosts.DomainLemmas.{IsForm-from, no_parsed_lengths, wide_form}
 use Rattle.uv_model.specs.Scheme.{lowercase}
-use Rattle.uv_model.specs.WrittenProfiles.{IsWritten}
 use Rattle.uv_host.specs.Domains.{fits_lengths, is_plain_name, is_simple}
 use Rattle.uv_host.proofs.ParserFormLemmas.{allowed_form, lower_no_bracket, lower_no_percent, no_form_left}
 use Rattle.uv_host.proofs.ParserFormLemmas.{nothing_has_no_form, parser_is_form, some_form}
@@ -39,19 +38,6 @@ valid_byte b h =
     let lower : is_ascii_uppercase b ≡ false = grind (arith, nat_tests) in
     let kept : may_be_denied b ≡ false = grind (arith, nat_tests) in
     (small, rw (is_valid_char-ascii STD3 b small, lower, denies-may_be_denied STD3 b kept) refl)
-
-simple_form : (b : ℕ) → is_simple b ≡ true → is_form_code_point Standard b ≡ true
-simple_form b h = grind (arith, nat_tests)
-
--- a name of simple bytes is a plain one
-pub simple_name : (name : List ℕ) → list_all is_simple name ≡ true → is_plain_name name ≡ true
-simple_name name h =
-    let all = AllPass-from_list_all is_simple name h in
-    and_from _ _
-    (list_all-from_AllPass (is_form_code_point Standard) name
-    (All-weaker (λ b. is_simple b ≡ true) (λ b. is_form_code_point Standard b ≡ true) simple_form name all))
-    (list_all-passes_hyphens Check name
-    (All-weaker (λ b. is_simple b ≡ true) (λ b. b ≢ hyphen) (λ b e. grind (arith, nat_tests)) name all))
 
 -- and is plain by ToASCII's strict settings
 pub plain_from_simple : (name : List ℕ) → list_all is_simple name ≡ true → IsPlain STD3 Check name
@@ -135,13 +121,6 @@ plain_strict name utf8 p = ap (to_ascii STD3 Check Ignore) (encodes-chars name u
 
 standard_permitted : (name : List ℕ) → IsPlain STD3 Check name → has_permitted Standard (chars name) ≡ true
 standard_permitted name p = ap (has_permitted Standard) (plain_chars name p) ∙ plain_permitted name p
-
--- and permitted code points alone, by each written profile
-pub permitted_plain : (profile : Profile) (name : List ℕ) → IsWritten profile → IsPlain STD3 Check name
-    → has_permitted profile (chars name) ≡ true
-permitted_plain Standard name written p = standard_permitted name p
-permitted_plain Wide name written p = wide_text (chars name) (standard_permitted name p)
-permitted_plain Parser name written p = absurd written
 
 plain_to_ascii : (name : List ℕ) → IsUtf8 name → IsPlain STD3 Check name
     → domain_to_ascii EMPTY (encode_utf8_all (chars name)) ≡ Some name
