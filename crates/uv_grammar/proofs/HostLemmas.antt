@@ -244,32 +244,6 @@ pub parser_no_form : (text : List ℕ) → text ≢ [] → starts_with_bracket t
 parser_no_form text some plain none =
     (record { some = some; no_bracket = plain; no_ipv4 = λ value is. none is.0 is.1 }, none)
 
--- what a host string at which the parser doesn't stop violates is what its name violates
-pub unstopped_answer : (profile : Profile) (class : Class) (last : Bool) (text : List ℕ)
-    → starts_with_bracket text ≡ false → is_stopped profile class last text ≡ false → (answer : Judged PartsHost)
-    → IsJudged (IsPartsHostText profile text) (AtStart (NameViolation profile text)) answer
-    → IsJudged (IsUnstoppedHostText profile class last text) (AtStart (HostTextViolation profile class last text))
-    answer
-unstopped_answer profile class last text plain free (Valid host) is = (
-  (free, is.0),
-  λ place rule h. host_text_faultless profile class last text (as_host host) free is.0 rule h.0,
-)
-unstopped_answer profile class last text plain free (Refused refusal) is =
-    IsLeast-like (AtStart (NameViolation profile text)) (AtStart (HostTextViolation profile class last text))
-    (λ place rule h. (to rule h.0, h.1)) (λ place rule h. (from rule h.0, h.1)) (Some refusal) is
-  where
-    to : (rule : Rule) → NameViolation profile text rule → HostTextViolation profile class last text rule
-    to HostDomain h = inr h
-    to HostNumber h = (free, h.0, h.1)
-    to _ h = absurd h
-
-    from : (rule : Rule) → HostTextViolation profile class last text rule → NameViolation profile text rule
-    from HostDomain (inl stopped) = absurd (false≢true (sym free ∙ stopped.stopped))
-    from HostDomain (inr h) = h
-    from HostNumber h = (h.1, h.2)
-    from HostIpv6 h = absurd (false≢true (sym plain ∙ h.bracket))
-    from _ h = absurd h
-
 -- ---- answers on host strings
 
 -- the answer on a valid host string at which the parser doesn't stop

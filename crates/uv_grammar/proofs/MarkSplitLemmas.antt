@@ -5,7 +5,7 @@ use Rattle.std.specs.Prelude.{slice_index, slice_range}
 use Rattle.std.specs.Str.{chars, IsCharBoundary, IsUtf8}
 use Rattle.std.proofs.lemmas.Bool.{eqb-true, false≢true, or_cases}
 use Rattle.std.proofs.lemmas.List.{get_or-take, length-take}
-use Rattle.std.proofs.lemmas.Str.{IsCharBoundary-after_ascii, IsCharBoundary-before_ascii}
+use Rattle.std.proofs.lemmas.Str.{IsCharBoundary-after_ascii}
 use Rattle.memchr.specs.Find.{IsFirstByte, is_byte2}
 use Rattle.uv_model.specs.Ascii.{number_sign, question_mark}
 use Rattle.uv_model.specs.Parts.{written_behind}
@@ -53,11 +53,7 @@ module _ (bytes : List ℕ) (end : ℕ)
         | inr same ↦ rw (eqb-true (slice_index bytes end) number_sign same) (lit< tt)
       ]
 
-  -- so the text may be cut before it
-  pub boundary_before : IsCharBoundary bytes end
-  boundary_before = IsCharBoundary-before_ascii bytes end found.0.high mark_small
-
-  -- and behind it
+  -- so the text may be cut behind it
   pub boundary_behind : IsUtf8 bytes → IsCharBoundary bytes (end + 1)
   boundary_behind utf8 = IsCharBoundary-after_ascii bytes end utf8 found.0.high mark_small
 

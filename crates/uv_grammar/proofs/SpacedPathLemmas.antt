@@ -1,6 +1,6 @@
 -- Opaque paths of the parser's profile, judged from one violation of units to the next.
 use Rattle.std.proofs.Common.{◌≡◌, ◌≢◌, ℕ, ◌+◌, ◌-◌, ◌<◌, ◌≤◌, Bool, true, false, List, [], ◌∷◌, drop, length, Option}
-use Rattle.std.proofs.Common.{Some, None, refl, sym, ap, subst, ◌∙◌, arith, inl, inr}
+use Rattle.std.proofs.Common.{Some, None, sym, ap, subst, ◌∙◌, arith, inl, inr}
 use Rattle.std.specs.Str.{IsUtf8, chars}
 use Rattle.std.proofs.lemmas.Bool.{cases_order, false≢true, true≢false}
 use Rattle.std.proofs.lemmas.Str.{encodes-chars}
@@ -138,11 +138,6 @@ pub record SpacedOn (followed : Bool) (text : List ℕ) (here : ℕ) (left : Lis
   pub behind : left ≡ drop here text
   pub inside : here + length left ≤ length text
   pub quiet : (place : ℕ) (rule : Rule) → PathUnitViolation Parser true followed text place rule → here ≤ place
-
--- at its start
-pub spaced_starts : (followed : Bool) (text : List ℕ) → SpacedOn followed text 0 text
-spaced_starts followed text =
-    record { behind = refl; inside = omega arith; quiet = λ place rule h. omega arith }
 
 -- a violation behind so many code points is one of what is left
 in_left : (followed : Bool) (text : List ℕ) (here : ℕ) (left : List ℕ) → SpacedOn followed text here left

@@ -46,11 +46,15 @@ pub fn check<'t>(
     ensures memory { TakesNoMemoryAgainst profile (option_copied base.entry) (chars text.now) → IsOk result }
 {
     let Some(start) = plain_start(text) else {
-        return check_otherwise(alloc, text, Base::whole(base), profile);
+        return if has_slash(text) {
+            check_reference(alloc, text, Base::whole(base), profile)
+        } else {
+            check_by_parts(alloc, text, Base::whole(base), profile)
+        };
     };
     match plain_cut(&start) {
         Some(cut) => Ok(Verdict::Yes(plain_parts(&cut))),
-        None => check_from(alloc, text, start.renewed(), Base::whole(base), profile),
+        None => check_from(alloc, text, start, Base::whole(base), profile),
     }
 }
 
@@ -66,17 +70,15 @@ pub fn check_of_kind<'t>(
         → IsOk result }
 {
     let Some(start) = plain_start(text) else {
-        return check_otherwise(alloc, text, Some(Base::Kind(base)), profile);
+        return if has_slash(text) {
+            check_reference(alloc, text, Some(Base::Kind(base)), profile)
+        } else {
+            check_by_parts(alloc, text, Some(Base::Kind(base)), profile)
+        };
     };
     match plain_cut(&start) {
         Some(cut) => Ok(Verdict::Yes(plain_parts(&cut))),
-        None => check_from(
-            alloc,
-            text,
-            start.renewed(),
-            Some(Base::Kind(base)),
-            profile,
-        ),
+        None => check_from(alloc, text, start, Some(Base::Kind(base)), profile),
     }
 }
 
@@ -131,28 +133,10 @@ fn check_behind<'t>(
     }
 }
 
-/// The verdict on a text that doesn't begin as a plain link with a scheme: where it begins with `/` it may begin as one
-/// without.
-#[inline(always)]
-pub(crate) fn check_otherwise<'t>(
-    alloc: Global,
-    text: &'t str,
-    base: Option<Base<'_>>,
-    profile: Profile,
-) -> Result<Verdict<'t>, AllocError>
-    ensures answer { IfOk result (IsVerdict profile (as_base base.entry) (chars text.now)) }
-    ensures memory { TakesNoMemoryAgainst profile (as_base base.entry) (chars text.now) → IsOk result }
-{
-    if has_slash(text) {
-        check_reference(alloc, text, base, profile)
-    } else {
-        check_by_parts(alloc, text, base, profile)
-    }
-}
-
-// The verdict on a reference. It is never inlined, as other texts would then have to keep registers free for it.
+/// The verdict on a text that begins with `/`, as a reference does that begins as a plain link without its scheme. It is
+/// never inlined, as other texts would then have to keep registers free for it.
 #[inline(never)]
-fn check_reference<'t>(
+pub(crate) fn check_reference<'t>(
     alloc: Global,
     text: &'t str,
     base: Option<Base<'_>>,
@@ -166,7 +150,7 @@ fn check_reference<'t>(
     };
     match plain_cut(&start) {
         Some(cut) => Ok(Verdict::Yes(plain_parts(&cut))),
-        None => check_from(alloc, text, start.renewed(), base, profile),
+        None => check_from(alloc, text, start, base, profile),
     }
 }
 

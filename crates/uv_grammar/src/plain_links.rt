@@ -45,23 +45,6 @@ pub(crate) struct PlainStart<'t> {
     pub(crate) rest: Tail<'t>,
 }
 
-impl<'t> PlainStart<'t> {
-    /// The same in a new place: what is handed to a call by its address has to be stored before the call is known to be
-    /// needed, and for plain links it isn't.
-    #[inline(always)]
-    pub(crate) fn renewed(self) -> PlainStart<'t>
-        ensures { result ≡ self.entry }
-    {
-        PlainStart {
-            scheme: self.scheme,
-            name: self.name,
-            port_text: self.port_text,
-            port: self.port,
-            rest: self.rest,
-        }
-    }
-}
-
 /// The texts of the parts of a plain link, and its port.
 #[derive(Clone, Copy)]
 pub(crate) struct PlainCut<'t> {

@@ -8,7 +8,8 @@ ghost use Rattle.uv_grammar.specs.PlainLinks.{IsPlainStart};
 ghost use Rattle.uv_grammar.specs.Verdict.{IsValidity};
 
 use crate::bases::{Base, BaseKind};
-use crate::checker::{Verdict, check_from, check_otherwise};
+use crate::checker::{Verdict, check_by_parts, check_from, check_reference};
+use crate::marks::beginnings::has_slash;
 use crate::plain_links::{PlainStart, plain_cut, plain_start};
 use std::alloc::{AllocError, Global};
 use uv_model::{Profile, Record};
@@ -29,7 +30,7 @@ pub fn is_valid(
     };
     match plain_cut(&start) {
         Some(_) => Ok(true),
-        None => is_valid_from(alloc, text, start.renewed(), Base::whole(base), profile),
+        None => is_valid_from(alloc, text, start, Base::whole(base), profile),
     }
 }
 
@@ -49,13 +50,7 @@ pub fn is_valid_of_kind(
     };
     match plain_cut(&start) {
         Some(_) => Ok(true),
-        None => is_valid_from(
-            alloc,
-            text,
-            start.renewed(),
-            Some(Base::Kind(base)),
-            profile,
-        ),
+        None => is_valid_from(alloc, text, start, Some(Base::Kind(base)), profile),
     }
 }
 
@@ -87,7 +82,12 @@ fn is_valid_otherwise(
     ensures answer { IfOk result (IsValidity profile (as_base base.entry) (chars text.now)) }
     ensures memory { TakesNoMemoryAgainst profile (as_base base.entry) (chars text.now) → IsOk result }
 {
-    match check_otherwise(alloc, text, base, profile)? {
+    let verdict = if has_slash(text) {
+        check_reference(alloc, text, base, profile)
+    } else {
+        check_by_parts(alloc, text, base, profile)
+    };
+    match verdict? {
         Verdict::Yes(_) => Ok(true),
         Verdict::No(_) => Ok(false),
     }

@@ -20,4 +20,4 @@ returns-in-Some-plain_cut-clause-answer c =
     (c.in-Some-plain_cut.ensures base (chars c.args.text.now) (c.in-Some.ensures base))
 
 pub check_from-requires : goal.check_from-requires
-check_from-requires c = rw c.renewed.ensures (c.in-Some.ensures _)
+check_from-requires c = c.in-Some.ensures _

@@ -22,21 +22,6 @@ returns-in-Some-plain_cut-clause-answer c = λ url is.
     c.plain_parts.ensures (chars c.args.text.now) c.args.profile (Some url)
     (c.in-Some-plain_cut.ensures (Some url) (chars c.args.text.now) (c.in-Some.ensures (Some url)))
 
-pub returns-in_default-clause-answer : goal.returns-in_default-clause-answer
-returns-in_default-clause-answer c = λ url is.
-    let text = chars c.args.text.now in
-    let base = url_of_kind c.args.base in
-    IfOk-weaker c.check_otherwise.result (IsVerdict c.args.profile (Some base) text)
-    (IsVerdict c.args.profile (Some url) text)
-    (verdict_alike c.args.profile base url text (kind_alike url c.args.base is)) c.check_otherwise.ensures.answer
-
-pub returns-in_default-clause-memory : goal.returns-in_default-clause-memory
-returns-in_default-clause-memory c = λ url is takes.
-    let base = url_of_kind c.args.base in
-    c.check_otherwise.ensures.memory
-    (memory_alike c.args.profile url base (chars c.args.text.now)
-    (flip base url (kind_alike url c.args.base is)) takes)
-
 pub returns-in-None-clause-answer : goal.returns-in-None-clause-answer
 returns-in-None-clause-answer c = λ url is.
     let text = chars c.args.text.now in
@@ -52,5 +37,35 @@ returns-in-None-clause-memory c = λ url is takes.
     (memory_alike c.args.profile url base (chars c.args.text.now)
     (flip base url (kind_alike url c.args.base is)) takes)
 
+pub returns-then-has_slash-clause-answer : goal.returns-then-has_slash-clause-answer
+returns-then-has_slash-clause-answer c = λ url is.
+    let text = chars c.args.text.now in
+    let base = url_of_kind c.args.base in
+    IfOk-weaker c.check_reference.result (IsVerdict c.args.profile (Some base) text)
+    (IsVerdict c.args.profile (Some url) text)
+    (verdict_alike c.args.profile base url text (kind_alike url c.args.base is)) c.check_reference.ensures.answer
+
+pub returns-then-has_slash-clause-memory : goal.returns-then-has_slash-clause-memory
+returns-then-has_slash-clause-memory c = λ url is takes.
+    let base = url_of_kind c.args.base in
+    c.check_reference.ensures.memory
+    (memory_alike c.args.profile url base (chars c.args.text.now)
+    (flip base url (kind_alike url c.args.base is)) takes)
+
+pub returns-else-has_slash-clause-answer : goal.returns-else-has_slash-clause-answer
+returns-else-has_slash-clause-answer c = λ url is.
+    let text = chars c.args.text.now in
+    let base = url_of_kind c.args.base in
+    IfOk-weaker c.check_by_parts.result (IsVerdict c.args.profile (Some base) text)
+    (IsVerdict c.args.profile (Some url) text)
+    (verdict_alike c.args.profile base url text (kind_alike url c.args.base is)) c.check_by_parts.ensures.answer
+
+pub returns-else-has_slash-clause-memory : goal.returns-else-has_slash-clause-memory
+returns-else-has_slash-clause-memory c = λ url is takes.
+    let base = url_of_kind c.args.base in
+    c.check_by_parts.ensures.memory
+    (memory_alike c.args.profile url base (chars c.args.text.now)
+    (flip base url (kind_alike url c.args.base is)) takes)
+
 pub check_from-requires : goal.check_from-requires
-check_from-requires c = rw c.renewed.ensures (c.in-Some.ensures _)
+check_from-requires c = c.in-Some.ensures _

@@ -18,4 +18,4 @@ returns-in-Some-plain_cut-clause-answer c =
     (c.in-Some-plain_cut.ensures (as_base c.args.base) (chars c.args.text.now) c.in-Some.ensures)
 
 pub check_from-requires : goal.check_from-requires
-check_from-requires c = rw c.renewed.ensures c.in-Some.ensures
+check_from-requires c = c.in-Some.ensures

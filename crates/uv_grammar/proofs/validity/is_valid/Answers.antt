@@ -11,4 +11,4 @@ returns-in-Some-plain_cut-clause-answer c =
     (c.in-Some-plain_cut.ensures base (chars c.args.text.now) (c.in-Some.ensures base)) c.args.profile
 
 pub is_valid_from-requires : goal.is_valid_from-requires
-is_valid_from-requires c = rw c.renewed.ensures (c.in-Some.ensures _)
+is_valid_from-requires c = c.in-Some.ensures _

@@ -44,4 +44,4 @@ returns-in-None-clause-memory c = λ url is takes.
     (flip base url (kind_alike url c.args.base is)) takes)
 
 pub is_valid_from-requires : goal.is_valid_from-requires
-is_valid_from-requires c = rw c.renewed.ensures (c.in-Some.ensures _)
+is_valid_from-requires c = c.in-Some.ensures _
