@@ -1,5 +1,6 @@
 pub mod PieceLemmas
 mod ColumnLemmas
+mod NameLemmas
 mod PlaceLemmas
 mod RowsLemmas
 mod UriLemmas
