@@ -1,13 +1,13 @@
 -- The code point at a place of a line, and what stands from there on.
 use Rattle.std.proofs.Common.{◌≡◌, ◌∙◌, ℕ, zero, suc, List, [], ◌∷◌, ◌++◌, refl, sym, ap, inl, inr, length, nat_lt}
-use Rattle.std.proofs.Common.{drop, take, slice_get, lt-ltb, le-ltb}
-use Rattle.std.specs.Str.{IsAscii, chars}
+use Rattle.std.proofs.Common.{drop, take, slice_get, lt-ltb, le-ltb, ◌≤◌, subst, arith}
+use Rattle.std.specs.Str.{IsAscii, IsUtf8, chars}
 use Rattle.std.specs.Option.{is_some}
 use Rattle.std.proofs.Math.Seq.{drop-append_seam}
 use Rattle.std.proofs.lemmas.Bool.{cases_lt}
 use Rattle.std.proofs.lemmas.List.{take-append-drop}
 use Rattle.std.proofs.lemmas.Option.{slice_get-get_or, slice_get_past}
-use Rattle.std.proofs.lemmas.Str.{IsUtf8-from_ascii, chars-IsAscii, chars-append}
+use Rattle.std.proofs.lemmas.Str.{IsUtf8-from_ascii, chars-IsAscii, chars-append, encodes-chars, length-le-encodes}
 
 -- there is one where the line is longer
 pub is_some-slice_get : (points : List ℕ) (place : ℕ)
@@ -17,6 +17,14 @@ is_some-slice_get points place =
       | inl small ↦ rw (slice_get-get_or points place 0 small, lt-ltb place (length points) small) refl
       | inr high ↦ rw (slice_get_past points place high, le-ltb place (length points) high) refl
     ]
+
+-- a line of no more bytes isn't longer
+pub few_bytes : (line : List ℕ) (most : ℕ) → IsUtf8 line → length line ≤ most
+    → nat_lt most (length line) ≡ nat_lt most (length (chars line))
+few_bytes line most utf8 short =
+    let few : length (chars line) ≤ length line = subst (λ bytes. length (chars line) ≤ length bytes)
+    (encodes-chars line utf8) (length-le-encodes (chars line)) in
+    le-ltb most (length line) short ∙ sym (le-ltb most (length (chars line)) (omega (arith, few, short)))
 
 -- the first code point from a place on is the one at that place
 pub slice_get_first : (points : List ℕ) (place : ℕ) → slice_get (drop place points) 0 ≡ slice_get points place

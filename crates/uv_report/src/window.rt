@@ -55,7 +55,8 @@ pub(crate) fn is_cut(line: &str) -> bool
 fn is_longer(line: &str, most: usize) -> bool
     ensures { result ≡ spec.is_longer most line.now }
 {
-    point_at(line, most).is_some()
+    // No text has more code points than bytes.
+    line.len() > most && point_at(line, most).is_some()
 }
 
 /// The code point at a place of a line.

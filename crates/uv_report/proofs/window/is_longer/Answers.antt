@@ -1,11 +1,6 @@
--- A line has more code points than so many where it has one at that place.
-use Rattle.std.proofs.Common.{ap, ◌∙◌}
-use Rattle.std.specs.Option.{is_some}
-use Rattle.std.specs.Str.{chars}
-use Rattle.uv_report.proofs.PlaceLemmas.{is_some-slice_get}
+-- A line of no more bytes has no more code points.
+use Rattle.uv_report.proofs.PlaceLemmas.{few_bytes}
 use Rattle.uv_report.proofs.window.is_longer.Goals as goal
 
-pub returns : goal.returns
-returns c =
-    c.is_some.ensures
-    ∙ (ap is_some c.point_at.ensures ∙ is_some-slice_get (chars c.args.line.now) c.args.most)
+pub returns-else-line-most : goal.returns-else-line-most
+returns-else-line-most c = few_bytes c.args.line.now c.args.most c.utf8.line c.if-line-most.false
