@@ -9,7 +9,7 @@ use uv_model::first_code_point;
 pub(crate) fn code_points(alloc: Global, text: &str) -> Result<Vec<char>, AllocError>
     ensures { IfOk result (λ list. list.items ≡ chars text.now) }
 {
-    let mut list = Vec::new(alloc);
+    let mut list = Vec::with_capacity(alloc, text.len())?;
     push_text(&mut list, text)?;
     Ok(list)
 }
@@ -19,7 +19,10 @@ pub(crate) fn text_of(alloc: Global, list: &[char]) -> Result<String, AllocError
     ensures bytes { IfOk result (λ text. string_bytes text ≡ encode_utf8_all list.now) }
     ensures chars { IfOk result (λ text. chars (string_bytes text) ≡ list.now) }
 {
-    let text: String = list.iter().copied().collect(alloc)?;
+    let mut text = String::with_capacity(alloc, list.len())?;
+    for c in list {
+        text.push(*c)?;
+    }
     let _seen = text.as_str();
     Ok(text)
 }

@@ -12,7 +12,8 @@ use std::alloc::{AllocError, Global};
 pub(crate) fn escaped(alloc: Global, text: &[char]) -> Result<Vec<char>, AllocError>
     ensures { IfOk result (λ out. out.items ≡ escaped text.now) }
 {
-    let mut out = Vec::new(alloc);
+    // Room for some escapes.
+    let mut out = Vec::with_capacity(alloc, text.len().saturating_add(30))?;
     let behind_scheme = push_scheme(&mut out, text)?;
     let behind_authority = push_authority(&mut out, behind_scheme)?;
     push_units(&mut out, behind_authority)?;

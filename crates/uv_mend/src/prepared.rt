@@ -45,7 +45,7 @@ fn before_controls(text: &[char]) -> &[char]
 fn on_one_line(alloc: Global, text: &[char]) -> Result<Vec<char>, AllocError>
     ensures { IfOk result (λ out. out.items ≡ spec.on_one_line text.now) }
 {
-    let mut out = Vec::new(alloc);
+    let mut out = Vec::with_capacity(alloc, text.len())?;
     let mut rest = text;
     while let Some((c, behind)) = first_of(rest) {
         if !is_tab_or_newline(c) {

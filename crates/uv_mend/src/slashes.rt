@@ -18,7 +18,7 @@ pub(crate) fn slashed(
     ensures { IfOk result (λ out. out.items ≡ spec.slashed (option_copied base.entry) text.now) }
 {
     let class = class_against(alloc, text, base)?;
-    let mut out = Vec::new(alloc);
+    let mut out = Vec::with_capacity(alloc, text.len().saturating_add(2))?;
     let behind = push_scheme(&mut out, text)?;
     push_slashed(&mut out, class, starts_with_scheme(text), behind)?;
     Ok(out)
