@@ -1,5 +1,6 @@
 pub mod PieceLemmas
 mod ColumnLemmas
+mod JsonLemmas
 mod NameLemmas
 mod PlaceLemmas
 mod RowsLemmas

@@ -22,3 +22,13 @@ pub six_pieces : (start a b c d e f : List ℕ) {t1 t2 t3 t4 t5 t6 : List ℕ}
 six_pieces start a b c d e f {t1} {t2} {t3} {t4} {t5} {t6} e1 e2 e3 e4 e5 e6 =
     let whole : t6 ≡ (((((start ++ a) ++ b) ++ c) ++ d) ++ e) ++ f = rw (e6, e5, e4, e3, e2, e1) refl in
     whole ∙ simp append_assoc
+
+-- ten pieces behind a start
+pub ten_pieces : (start a b c d e f g h i j : List ℕ) {t1 t2 t3 t4 t5 t6 t7 t8 t9 t10 : List ℕ}
+    → t1 ≡ start ++ a → t2 ≡ t1 ++ b → t3 ≡ t2 ++ c → t4 ≡ t3 ++ d → t5 ≡ t4 ++ e → t6 ≡ t5 ++ f → t7 ≡ t6 ++ g
+    → t8 ≡ t7 ++ h → t9 ≡ t8 ++ i → t10 ≡ t9 ++ j
+    → t10 ≡ start ++ (a ++ (b ++ (c ++ (d ++ (e ++ (f ++ (g ++ (h ++ (i ++ j)))))))))
+ten_pieces start a b c d e f g h i j {t1} {t2} {t3} {t4} {t5} {t6} {t7} {t8} {t9} {t10} e1 e2 e3 e4 e5 e6 e7 e8 e9 e10 =
+    let whole : t10 ≡ (((((((((start ++ a) ++ b) ++ c) ++ d) ++ e) ++ f) ++ g) ++ h) ++ i) ++ j =
+    rw (e10, e9, e8, e7, e6, e5, e4, e3, e2, e1) refl in
+    whole ∙ simp append_assoc

@@ -1,5 +1,5 @@
 -- A diagnostic as an object of JSON.
-use Rattle.std.specs.Prelude.{ℕ, List, ◌++◌, codes, Option, Some, None}
+use Rattle.std.specs.Prelude.{ℕ, List, [], ◌++◌, codes, Option, Some, None}
 use Rattle.serde_json.specs.Data.{Data, Members, boolean, number, unsigned, string, object, member, no_members, put}
 use Rattle.serde_json.specs.Written.{compact_text}
 use Rattle.uv_model.specs.MendKindName.{kind_name}
@@ -7,6 +7,7 @@ use Rattle.uv_report.specs.declared.diagnostic.Diagnostic.{Diagnostic}
 use Rattle.uv_report.specs.declared.mended.Mended.{Mended}
 use Rattle.uv_report.specs.LineViolation.{violation_name, violation_place}
 use Rattle.uv_report.specs.Message.{message}
+use Rattle.uv_report.specs.Quoted.{quoted}
 use Rattle.uv_report.specs.Window.{carried, is_cut}
 
 -- the members of a diagnostic, by their names' order; a text is escaped by JSON alone
@@ -35,6 +36,16 @@ json_members diagnostic (Some mended) = mended_members diagnostic mended
 -- the object of a diagnostic
 abbrev pub json_value : Diagnostic → Data
 json_value diagnostic = object (json_members diagnostic diagnostic.mended)
+
+-- the member of how a mended text stands to the refused one, behind its comma, where there is a mended text
+abbrev pub kind_member : Option Mended → List ℕ
+kind_member None = []
+kind_member (Some mended) = codes ",\"kind\":" ++ quoted (kind_name mended.kind)
+
+-- the member of the mended text, behind its comma, where there is one
+abbrev pub mended_member : Option Mended → List ℕ
+mended_member None = []
+mended_member (Some mended) = codes ",\"mended\":" ++ quoted mended.text.now
 
 -- its text without spaces, and a line feed
 unfoldable pub json_text : Diagnostic → List ℕ

@@ -12,6 +12,7 @@ pub mod Gnu
 pub mod Caret
 pub mod Github
 pub mod Checkstyle
+pub mod Quoted
 pub mod Json
 pub mod Uri
 pub mod Sarif

@@ -1,14 +1,19 @@
 //! Diagnostics as objects of JSON, one a line.
-ghost use Rattle.std.specs.Prelude.{◌≡◌, ◌++◌, IfOk, OnOk, string_bytes};
-ghost use Rattle.serde_json.specs.Data.{put as with_member, string};
-ghost use Rattle.serde_json.specs.View.{members_view, view};
-ghost use Rattle.uv_report.specs.Json as spec;
-ghost use Rattle.uv_report.specs.Json.{json_text, json_value};
+ghost use Rattle.std.specs.Prelude.{◌≡◌, ◌++◌, OnOk, codes, decimal, string_bytes};
+ghost use Rattle.serde_json.specs.Data.{boolean};
+ghost use Rattle.serde_json.specs.Written.{compact_text};
+ghost use Rattle.uv_report.specs.Json.{json_text, json_value, kind_member, mended_member};
+ghost use Rattle.uv_report.specs.LineViolation.{violation_name, violation_place};
+ghost use Rattle.uv_report.specs.Message as reported;
+ghost use Rattle.uv_report.specs.Quoted.{quoted};
+ghost use Rattle.uv_report.specs.Window as shown;
 
 use crate::diagnostic::Diagnostic;
+use crate::gnu::push_number;
+use crate::line_violation::LineViolation;
 use crate::message::message;
+use crate::quoted::push_quoted;
 use crate::window::{carried, is_cut};
-use serde_json::{Map, Value, put};
 use std::alloc::{AllocError, Global};
 
 /// Pushes the object of a diagnostic, and a line feed.
@@ -20,55 +25,135 @@ pub(crate) fn push_json(
 ) -> Result<(), AllocError>
     ensures { OnOk result (string_bytes text.new ≡ string_bytes text.old ++ json_text diagnostic.now) }
 {
-    let object = object(alloc, diagnostic)?.to_string(alloc)?;
-    text.push_str(object.as_str())?;
+    push_object(alloc, text, diagnostic)?;
     text.push_str("\n")?;
     Ok(())
 }
 
-// The object of a diagnostic. Its texts are escaped by JSON alone.
-fn object(alloc: Global, diagnostic: &Diagnostic<'_>) -> Result<Value, AllocError>
-    ensures { IfOk result (λ value. view value ≡ json_value diagnostic.now) }
-{
-    let mut members = plain_members(alloc, diagnostic)?;
-    if let Some(mended) = diagnostic.mended {
-        put_text(alloc, &mut members, "mended", mended.text)?;
-        put_text(alloc, &mut members, "kind", mended.kind.name())?;
-    }
-    Ok(Value::Object(members))
-}
-
-// The members of a diagnostic without a mended text.
-fn plain_members(
+// Pushes the object of a diagnostic, member by member. Its texts are escaped by JSON alone.
+fn push_object(
     alloc: Global,
+    text: &mut String,
     diagnostic: &Diagnostic<'_>,
-) -> Result<Map<String, Value>, AllocError>
-    ensures { IfOk result (λ members. members_view members.entries ≡ spec.plain_members diagnostic.now) }
+) -> Result<(), AllocError>
+    ensures { OnOk result (string_bytes text.new
+        ≡ string_bytes text.old ++ compact_text (json_value diagnostic.now)) }
 {
-    let message = message(alloc, diagnostic.text, diagnostic.violation)?;
-    let text = carried(alloc, diagnostic.text, diagnostic.violation.place())?;
-    let column = Value::from(diagnostic.column);
-    let cut = Value::Bool(is_cut(diagnostic.text));
-    let mut members = Map::new(alloc);
-    put(&mut members, alloc, "column", column)?;
-    put(&mut members, alloc, "cut", cut)?;
-    put_text(alloc, &mut members, "file", diagnostic.file)?;
-    put(&mut members, alloc, "line", Value::from(diagnostic.line))?;
-    put_text(alloc, &mut members, "message", message.as_str())?;
-    put_text(alloc, &mut members, "rule", diagnostic.violation.name())?;
-    put_text(alloc, &mut members, "text", text.as_str())?;
-    Ok(members)
+    push_number_member(text, "{\"column\":", diagnostic.column)?;
+    push_cut(text, diagnostic.text)?;
+    push_text_member(alloc, text, ",\"file\":", diagnostic.file)?;
+    push_kind(alloc, text, diagnostic)?;
+    push_number_member(text, ",\"line\":", diagnostic.line)?;
+    push_mended(alloc, text, diagnostic)?;
+    push_message(alloc, text, diagnostic.text, diagnostic.violation)?;
+    push_rule(alloc, text, diagnostic.violation)?;
+    push_link(alloc, text, diagnostic.text, diagnostic.violation)?;
+    text.push_str("}")?;
+    Ok(())
 }
 
-// Puts a text under a name.
-fn put_text(
-    alloc: Global,
-    members: &mut Map<String, Value>,
-    name: &str,
-    text: &str,
-) -> Result<(), AllocError>
-    ensures { OnOk result (members_view members.new.entries
-        ≡ with_member name.now (string text.now) (members_view members.old.entries)) }
+// Pushes what stands before a number, and the number.
+fn push_number_member(text: &mut String, before: &str, number: u64) -> Result<(), AllocError>
+    ensures { OnOk result (string_bytes text.new ≡ string_bytes text.old ++ (before.now ++ decimal number)) }
 {
-    put(members, alloc, name, Value::try_from_str(alloc, text)?)
+    text.push_str(before)?;
+    push_number(text, number)?;
+    Ok(())
+}
+
+// Pushes what stands before a text, and the text as a string of JSON.
+fn push_text_member(
+    alloc: Global,
+    text: &mut String,
+    before: &str,
+    value: &str,
+) -> Result<(), AllocError>
+    ensures { OnOk result (string_bytes text.new ≡ string_bytes text.old ++ (before.now ++ quoted value.now)) }
+{
+    text.push_str(before)?;
+    push_quoted(alloc, text, value)?;
+    Ok(())
+}
+
+// Pushes whether a window of the link alone is carried.
+fn push_cut(text: &mut String, line: &str) -> Result<(), AllocError>
+    ensures { OnOk result (string_bytes text.new
+        ≡ string_bytes text.old ++ (codes ",\"cut\":" ++ compact_text (boolean (shown.is_cut line.now)))) }
+{
+    text.push_str(cut_member(is_cut(line)))
+}
+
+// The member that says whether a link is cut.
+fn cut_member(cut: bool) -> &'static str
+    ensures { result.now ≡ codes ",\"cut\":" ++ compact_text (boolean cut) }
+{
+    if cut {
+        ",\"cut\":true"
+    } else {
+        ",\"cut\":false"
+    }
+}
+
+// Pushes how a mended text stands to the refused one, where there is a mended text.
+fn push_kind(
+    alloc: Global,
+    text: &mut String,
+    diagnostic: &Diagnostic<'_>,
+) -> Result<(), AllocError>
+    ensures { OnOk result (string_bytes text.new ≡ string_bytes text.old ++ kind_member diagnostic.now.mended) }
+{
+    match diagnostic.mended {
+        Some(mended) => push_text_member(alloc, text, ",\"kind\":", mended.kind.name()),
+        None => Ok(()),
+    }
+}
+
+// Pushes the mended text, where there is one.
+fn push_mended(
+    alloc: Global,
+    text: &mut String,
+    diagnostic: &Diagnostic<'_>,
+) -> Result<(), AllocError>
+    ensures { OnOk result (string_bytes text.new ≡ string_bytes text.old ++ mended_member diagnostic.now.mended) }
+{
+    match diagnostic.mended {
+        Some(mended) => push_text_member(alloc, text, ",\"mended\":", mended.text),
+        None => Ok(()),
+    }
+}
+
+// Pushes what is reported of a line.
+fn push_message(
+    alloc: Global,
+    text: &mut String,
+    line: &str,
+    violation: LineViolation,
+) -> Result<(), AllocError>
+    ensures { OnOk result (string_bytes text.new
+        ≡ string_bytes text.old ++ (codes ",\"message\":" ++ quoted (reported.message line.now violation))) }
+{
+    let message = message(alloc, line, violation)?;
+    push_text_member(alloc, text, ",\"message\":", message.as_str())
+}
+
+// Pushes the name of a violation.
+fn push_rule(alloc: Global, text: &mut String, violation: LineViolation) -> Result<(), AllocError>
+    ensures { OnOk result (string_bytes text.new
+        ≡ string_bytes text.old ++ (codes ",\"rule\":" ++ quoted (violation_name violation))) }
+{
+    push_text_member(alloc, text, ",\"rule\":", violation.name())
+}
+
+// Pushes the link that a diagnostic is about, as far as it is carried.
+fn push_link(
+    alloc: Global,
+    text: &mut String,
+    line: &str,
+    violation: LineViolation,
+) -> Result<(), AllocError>
+    ensures { OnOk result (string_bytes text.new ≡ string_bytes text.old
+        ++ (codes ",\"text\":" ++ quoted (shown.carried line.now (violation_place violation)))) }
+{
+    let link = carried(alloc, line, violation.place())?;
+    push_text_member(alloc, text, ",\"text\":", link.as_str())
 }

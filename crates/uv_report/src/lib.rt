@@ -19,6 +19,7 @@ pub mod laws;
 mod line_violation;
 mod mended;
 mod message;
+mod quoted;
 mod report;
 mod sarif;
 mod uri;

@@ -1,0 +1,51 @@
+//! Texts as strings of JSON.
+ghost use Rattle.std.specs.Prelude.{◌≡◌, ◌++◌, OnOk, string_bytes, true};
+ghost use Rattle.std.specs.List.{list_all};
+ghost use Rattle.uv_report.specs.Quoted.{is_plain, quoted};
+
+use serde_json::Value;
+use std::alloc::{AllocError, Global};
+
+/// Pushes a text as a string of JSON.
+pub(crate) fn push_quoted(alloc: Global, text: &mut String, value: &str) -> Result<(), AllocError>
+    ensures { OnOk result (string_bytes text.new ≡ string_bytes text.old ++ quoted value.now) }
+{
+    if is_plain_text(value.as_bytes()) {
+        push_plain(text, value)
+    } else {
+        push_value(alloc, text, value)
+    }
+}
+
+// Pushes a text as a string of JSON, where each of its bytes stands as it is.
+fn push_plain(text: &mut String, value: &str) -> Result<(), AllocError>
+    requires { list_all is_plain value.now ≡ true }
+    ensures { OnOk result (string_bytes text.new ≡ string_bytes text.old ++ quoted value.now) }
+{
+    text.push_str("\"")?;
+    text.push_str(value)?;
+    text.push_str("\"")?;
+    Ok(())
+}
+
+// Pushes any text as a string of JSON.
+fn push_value(alloc: Global, text: &mut String, value: &str) -> Result<(), AllocError>
+    ensures { OnOk result (string_bytes text.new ≡ string_bytes text.old ++ quoted value.now) }
+{
+    let written = Value::try_from_str(alloc, value)?.to_string(alloc)?;
+    text.push_str(written.as_str())
+}
+
+// Whether each byte of a text stands in a string of JSON as it is.
+fn is_plain_text(bytes: &[u8]) -> bool
+    ensures { result ≡ list_all is_plain bytes.now }
+{
+    bytes.iter().all(|byte| is_plain_byte(*byte))
+}
+
+#[tactic(auto, using(std::proofs::lemmas::Bool::Decides::nat_tests))]
+fn is_plain_byte(byte: u8) -> bool
+    ensures { result ≡ is_plain byte }
+{
+    byte >= b' ' && byte != b'"' && byte != b'\\'
+}
