@@ -4,4 +4,5 @@ mod JsonLemmas
 mod NameLemmas
 mod PlaceLemmas
 mod RowsLemmas
+mod SarifLemmas
 mod UriLemmas

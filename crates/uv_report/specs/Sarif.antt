@@ -110,6 +110,12 @@ physical_value diagnostic =
 abbrev pub location_value : Diagnostic → Data
 location_value diagnostic = object (member (codes "physicalLocation") (physical_value diagnostic) no_members)
 
+-- a line of which this is found, and whether it is cut
+abbrev pub link_of : List ℕ → LineViolation → Data
+link_of line violation =
+    object (member (codes "cut") (boolean (is_cut line))
+    (member (codes "text") (string (carried line (violation_place violation))) no_members))
+
 -- the link that it is about, and whether that is cut
 abbrev pub link_value : Diagnostic → Data
 link_value diagnostic =
@@ -164,6 +170,12 @@ result_with diagnostic mended =
     (member (codes "properties") (link_value diagnostic)
     (member (codes "ruleId") (string (violation_name diagnostic.violation))
     (member (codes "ruleIndex") (number (unsigned (violation_index diagnostic.violation))) no_members)))))))
+
+-- what the text of a result begins with: a fix, and a comma behind it, where there is a mended text
+abbrev pub result_begin : Diagnostic → Option Mended → List ℕ
+result_begin diagnostic None = codes "{"
+result_begin diagnostic (Some mended) =
+    codes "{\"fixes\":[" ++ (compact_text (fix_value diagnostic mended) ++ codes "],")
 
 -- the result of a diagnostic
 abbrev pub result_value : Diagnostic → Data

@@ -52,8 +52,12 @@ fn push_object(
     Ok(())
 }
 
-// Pushes what stands before a number, and the number.
-fn push_number_member(text: &mut String, before: &str, number: u64) -> Result<(), AllocError>
+/// Pushes what stands before a number, and the number.
+pub(crate) fn push_number_member(
+    text: &mut String,
+    before: &str,
+    number: u64,
+) -> Result<(), AllocError>
     ensures { OnOk result (string_bytes text.new ≡ string_bytes text.old ++ (before.now ++ decimal number)) }
 {
     text.push_str(before)?;
@@ -61,8 +65,8 @@ fn push_number_member(text: &mut String, before: &str, number: u64) -> Result<()
     Ok(())
 }
 
-// Pushes what stands before a text, and the text as a string of JSON.
-fn push_text_member(
+/// Pushes what stands before a text, and the text as a string of JSON.
+pub(crate) fn push_text_member(
     alloc: Global,
     text: &mut String,
     before: &str,
@@ -144,8 +148,8 @@ fn push_rule(alloc: Global, text: &mut String, violation: LineViolation) -> Resu
     push_text_member(alloc, text, ",\"rule\":", violation.name())
 }
 
-// Pushes the link that a diagnostic is about, as far as it is carried.
-fn push_link(
+/// Pushes the link that a diagnostic is about, as far as it is carried.
+pub(crate) fn push_link(
     alloc: Global,
     text: &mut String,
     line: &str,

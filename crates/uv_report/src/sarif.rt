@@ -1,16 +1,24 @@
 //! Diagnostics as a document of SARIF 2.1.0, which is written result by result.
-ghost use Rattle.std.specs.Prelude.{◌≡◌, ◌++◌, IfOk, None, OnOk, Some, flat_map, string_bytes};
+ghost use Rattle.std.specs.Prelude.{◌≡◌, ◌++◌, IfOk, OnOk, Some, codes, decimal, flat_map, string_bytes};
+ghost use Rattle.serde_json.specs.Data.{boolean};
 ghost use Rattle.serde_json.specs.View.{view};
+ghost use Rattle.serde_json.specs.Written.{compact_text};
+ghost use Rattle.uv_report.specs.LineViolation.{violation_index, violation_name};
+ghost use Rattle.uv_report.specs.Message as reported;
+ghost use Rattle.uv_report.specs.Quoted.{quoted};
+ghost use Rattle.uv_report.specs.Uri.{uri_path};
 ghost use Rattle.uv_report.specs.Sarif as spec;
 
 use crate::column::Columns;
 use crate::completion::Completion;
 use crate::diagnostic::Diagnostic;
+use crate::json::{push_link, push_number_member, push_text_member};
 use crate::line_violation::LineViolation;
 use crate::mended::Mended;
 use crate::message::message;
+use crate::quoted::push_quoted;
 use crate::uri::push_uri_path;
-use crate::window::{carried, is_cut};
+use crate::window::is_cut;
 use serde_json::{Value, json};
 use std::alloc::{AllocError, Global};
 use uv_model::{MendKind, Refusal, Rule};
@@ -138,119 +146,235 @@ pub(crate) fn push_sarif(
 {
     let separator = if is_first { "" } else { "," };
     text.push_str(separator)?;
-    let result = result_object(alloc, diagnostic)?.to_string(alloc)?;
-    text.push_str(result.as_str())?;
+    push_result(alloc, text, diagnostic)?;
     text.push_str("\n")?;
     Ok(())
 }
 
-// The result of a diagnostic, with a fix where there is a mended text.
-fn result_object(alloc: Global, diagnostic: &Diagnostic<'_>) -> Result<Value, AllocError>
-    ensures { IfOk result (λ value. view value ≡ spec.result_value diagnostic.now) }
+// Pushes the result of a diagnostic, with a fix where there is a mended text.
+fn push_result(
+    alloc: Global,
+    text: &mut String,
+    diagnostic: &Diagnostic<'_>,
+) -> Result<(), AllocError>
+    ensures { OnOk result (string_bytes text.new
+        ≡ string_bytes text.old ++ compact_text (spec.result_value diagnostic.now)) }
+{
+    push_result_begin(alloc, text, diagnostic)?;
+    text.push_str("\"level\":\"error\",\"locations\":")?;
+    push_locations(alloc, text, diagnostic)?;
+    text.push_str(",\"message\":")?;
+    push_said(alloc, text, diagnostic.text, diagnostic.violation)?;
+    text.push_str(",\"properties\":")?;
+    push_link_object(alloc, text, diagnostic.text, diagnostic.violation)?;
+    push_rule_id(alloc, text, diagnostic.violation)?;
+    push_rule_index(text, diagnostic.violation)?;
+    text.push_str("}")?;
+    Ok(())
+}
+
+// Pushes what a result begins with: its fix, where there is a mended text.
+fn push_result_begin(
+    alloc: Global,
+    text: &mut String,
+    diagnostic: &Diagnostic<'_>,
+) -> Result<(), AllocError>
+    ensures { OnOk result (string_bytes text.new
+        ≡ string_bytes text.old ++ spec.result_begin diagnostic.now diagnostic.now.mended) }
 {
     match diagnostic.mended {
-        Some(mended) => fixed_result(alloc, diagnostic, mended),
-        None => plain_result(alloc, diagnostic),
+        Some(mended) => push_fixes(alloc, text, diagnostic, mended),
+        None => text.push_str("{"),
     }
 }
 
-// The result without a fix.
-fn plain_result(alloc: Global, diagnostic: &Diagnostic<'_>) -> Result<Value, AllocError>
-    ensures { IfOk result (λ value. view value ≡ spec.result_with diagnostic.now None) }
-{
-    let location = location_object(alloc, diagnostic)?;
-    let message = message(alloc, diagnostic.text, diagnostic.violation)?;
-    let link = link_object(alloc, diagnostic)?;
-    json!(in alloc; {
-        "level": "error",
-        "locations": [location],
-        "message": {"text": message.as_str()},
-        "properties": link,
-        "ruleId": diagnostic.violation.name(),
-        "ruleIndex": diagnostic.violation.index()
-    })
-}
-
-// The result with the fix that writes a mended text.
-fn fixed_result(
+// Pushes the fix that writes a mended text, before further members.
+fn push_fixes(
     alloc: Global,
+    text: &mut String,
     diagnostic: &Diagnostic<'_>,
     mended: Mended<'_>,
-) -> Result<Value, AllocError>
-    ensures { IfOk result (λ value. view value ≡ spec.result_with diagnostic.now (Some mended.entry)) }
+) -> Result<(), AllocError>
+    ensures { OnOk result (string_bytes text.new
+        ≡ string_bytes text.old ++ spec.result_begin diagnostic.now (Some mended.entry)) }
 {
-    let fix = fix_object(alloc, diagnostic, mended)?;
-    let location = location_object(alloc, diagnostic)?;
-    let message = message(alloc, diagnostic.text, diagnostic.violation)?;
-    let link = link_object(alloc, diagnostic)?;
-    json!(in alloc; {
-        "fixes": [fix],
-        "level": "error",
-        "locations": [location],
-        "message": {"text": message.as_str()},
-        "properties": link,
-        "ruleId": diagnostic.violation.name(),
-        "ruleIndex": diagnostic.violation.index()
-    })
+    text.push_str("{\"fixes\":[")?;
+    push_fix(alloc, text, diagnostic, mended)?;
+    text.push_str("],")?;
+    Ok(())
 }
 
-// Where the diagnostic is.
-fn location_object(alloc: Global, diagnostic: &Diagnostic<'_>) -> Result<Value, AllocError>
-    ensures { IfOk result (λ value. view value ≡ spec.location_value diagnostic.now) }
+// Pushes where the diagnostic is, alone in an array.
+fn push_locations(
+    alloc: Global,
+    text: &mut String,
+    diagnostic: &Diagnostic<'_>,
+) -> Result<(), AllocError>
+    ensures { OnOk result (string_bytes text.new
+        ≡ string_bytes text.old ++ compact_text (spec.single (spec.location_value diagnostic.now))) }
 {
-    let physical = physical_object(alloc, diagnostic)?;
-    json!(in alloc; {"physicalLocation": physical})
+    text.push_str("[")?;
+    push_location(alloc, text, diagnostic)?;
+    text.push_str("]")?;
+    Ok(())
 }
 
-// The file and the region of a diagnostic.
-fn physical_object(alloc: Global, diagnostic: &Diagnostic<'_>) -> Result<Value, AllocError>
-    ensures { IfOk result (λ value. view value ≡ spec.physical_value diagnostic.now) }
+// Pushes where the diagnostic is.
+fn push_location(
+    alloc: Global,
+    text: &mut String,
+    diagnostic: &Diagnostic<'_>,
+) -> Result<(), AllocError>
+    ensures { OnOk result (string_bytes text.new
+        ≡ string_bytes text.old ++ compact_text (spec.location_value diagnostic.now)) }
 {
-    let artifact = artifact_object(alloc, diagnostic.file)?;
-    let region = region_object(alloc, diagnostic)?;
-    json!(in alloc; {"artifactLocation": artifact, "region": region})
+    text.push_str("{\"physicalLocation\":")?;
+    push_physical(alloc, text, diagnostic)?;
+    text.push_str("}")?;
+    Ok(())
 }
 
-// A file, by its name as the path of a URI reference.
-fn artifact_object(alloc: Global, file: &str) -> Result<Value, AllocError>
-    ensures { IfOk result (λ value. view value ≡ spec.artifact_value file.now) }
+// Pushes the file and the region of a diagnostic.
+fn push_physical(
+    alloc: Global,
+    text: &mut String,
+    diagnostic: &Diagnostic<'_>,
+) -> Result<(), AllocError>
+    ensures { OnOk result (string_bytes text.new
+        ≡ string_bytes text.old ++ compact_text (spec.physical_value diagnostic.now)) }
+{
+    text.push_str("{\"artifactLocation\":")?;
+    push_artifact(alloc, text, diagnostic.file)?;
+    text.push_str(",\"region\":")?;
+    push_region(text, diagnostic)?;
+    text.push_str("}")?;
+    Ok(())
+}
+
+// Pushes a file, by its name as the path of a URI reference.
+fn push_artifact(alloc: Global, text: &mut String, file: &str) -> Result<(), AllocError>
+    ensures { OnOk result (string_bytes text.new
+        ≡ string_bytes text.old ++ compact_text (spec.artifact_value file.now)) }
+{
+    text.push_str("{\"uri\":")?;
+    push_uri(alloc, text, file)?;
+    text.push_str("}")?;
+    Ok(())
+}
+
+// Pushes the path of a file's name as a string.
+fn push_uri(alloc: Global, text: &mut String, file: &str) -> Result<(), AllocError>
+    ensures { OnOk result (string_bytes text.new ≡ string_bytes text.old ++ quoted (uri_path file.now)) }
 {
     let mut uri = String::new(alloc);
     push_uri_path(&mut uri, file)?;
-    json!(in alloc; {"uri": uri.as_str()})
+    push_quoted(alloc, text, uri.as_str())
 }
 
-// The line and the column of a diagnostic.
-fn region_object(alloc: Global, diagnostic: &Diagnostic<'_>) -> Result<Value, AllocError>
-    ensures { IfOk result (λ value. view value ≡ spec.region_value diagnostic.now) }
+// Pushes the line and the column of a diagnostic.
+fn push_region(text: &mut String, diagnostic: &Diagnostic<'_>) -> Result<(), AllocError>
+    ensures { OnOk result (string_bytes text.new
+        ≡ string_bytes text.old ++ compact_text (spec.region_value diagnostic.now)) }
 {
-    json!(in alloc; {
-        "startColumn": diagnostic.column,
-        "startLine": diagnostic.line
-    })
+    push_number_member(text, "{\"startColumn\":", diagnostic.column)?;
+    push_number_member(text, ",\"startLine\":", diagnostic.line)?;
+    text.push_str("}")?;
+    Ok(())
 }
 
-// The link that a diagnostic is about, and whether it is cut.
-fn link_object(alloc: Global, diagnostic: &Diagnostic<'_>) -> Result<Value, AllocError>
-    ensures { IfOk result (λ value. view value ≡ spec.link_value diagnostic.now) }
-{
-    let text = carried(alloc, diagnostic.text, diagnostic.violation.place())?;
-    json!(in alloc; {"cut": is_cut(diagnostic.text), "text": text.as_str()})
-}
-
-// The fix of a diagnostic, and what it does.
-fn fix_object(
+// Pushes what is reported of a line.
+fn push_said(
     alloc: Global,
+    text: &mut String,
+    line: &str,
+    violation: LineViolation,
+) -> Result<(), AllocError>
+    ensures { OnOk result (string_bytes text.new
+        ≡ string_bytes text.old ++ compact_text (spec.message (reported.message line.now violation))) }
+{
+    let message = message(alloc, line, violation)?;
+    push_text_object(alloc, text, message.as_str())
+}
+
+// Pushes an object with a text alone.
+fn push_text_object(alloc: Global, text: &mut String, value: &str) -> Result<(), AllocError>
+    ensures { OnOk result (string_bytes text.new
+        ≡ string_bytes text.old ++ compact_text (spec.message value.now)) }
+{
+    text.push_str("{\"text\":")?;
+    push_quoted(alloc, text, value)?;
+    text.push_str("}")?;
+    Ok(())
+}
+
+// Pushes the link that a diagnostic is about, and whether it is cut.
+fn push_link_object(
+    alloc: Global,
+    text: &mut String,
+    line: &str,
+    violation: LineViolation,
+) -> Result<(), AllocError>
+    ensures { OnOk result (string_bytes text.new
+        ≡ string_bytes text.old ++ compact_text (spec.link_of line.now violation)) }
+{
+    text.push_str("{\"cut\":")?;
+    text.push_str(flag(is_cut(line)))?;
+    push_link(alloc, text, line, violation)?;
+    text.push_str("}")?;
+    Ok(())
+}
+
+// A truth value of JSON.
+fn flag(value: bool) -> &'static str
+    ensures { result.now ≡ compact_text (boolean value) }
+{
+    if value { "true" } else { "false" }
+}
+
+// Pushes the name of a violation as the one of its rule.
+fn push_rule_id(
+    alloc: Global,
+    text: &mut String,
+    violation: LineViolation,
+) -> Result<(), AllocError>
+    ensures { OnOk result (string_bytes text.new
+        ≡ string_bytes text.old ++ (codes ",\"ruleId\":" ++ quoted (violation_name violation))) }
+{
+    push_text_member(alloc, text, ",\"ruleId\":", violation.name())
+}
+
+// Pushes where the rule of a violation stands among all.
+fn push_rule_index(text: &mut String, violation: LineViolation) -> Result<(), AllocError>
+    ensures { OnOk result (string_bytes text.new
+        ≡ string_bytes text.old ++ (codes ",\"ruleIndex\":" ++ decimal (violation_index violation))) }
+{
+    push_number_member(text, ",\"ruleIndex\":", violation.index())
+}
+
+// Pushes the fix of a diagnostic, and what it does.
+fn push_fix(
+    alloc: Global,
+    text: &mut String,
     diagnostic: &Diagnostic<'_>,
     mended: Mended<'_>,
-) -> Result<Value, AllocError>
-    ensures { IfOk result (λ value. view value ≡ spec.fix_value diagnostic.now mended.entry) }
+) -> Result<(), AllocError>
+    ensures { OnOk result (string_bytes text.new
+        ≡ string_bytes text.old ++ compact_text (spec.fix_value diagnostic.now mended.entry)) }
 {
-    let change = change_object(alloc, diagnostic, mended)?;
-    json!(in alloc; {
-        "artifactChanges": [change],
-        "description": {"text": fix_sentence(mended.kind)}
-    })
+    text.push_str("{\"artifactChanges\":")?;
+    push_changes(alloc, text, diagnostic, mended)?;
+    text.push_str(",\"description\":")?;
+    push_description(alloc, text, mended.kind)?;
+    text.push_str("}")?;
+    Ok(())
+}
+
+// Pushes what a fix does.
+fn push_description(alloc: Global, text: &mut String, kind: MendKind) -> Result<(), AllocError>
+    ensures { OnOk result (string_bytes text.new
+        ≡ string_bytes text.old ++ compact_text (spec.message (spec.fix_sentence kind))) }
+{
+    push_text_object(alloc, text, fix_sentence(kind))
 }
 
 // What a fix does.
@@ -264,34 +388,82 @@ fn fix_sentence(kind: MendKind) -> &'static str
     }
 }
 
-// The change of the diagnostic's file.
-fn change_object(
+// Pushes the change of the diagnostic's file, alone in an array.
+fn push_changes(
     alloc: Global,
+    text: &mut String,
     diagnostic: &Diagnostic<'_>,
     mended: Mended<'_>,
-) -> Result<Value, AllocError>
-    ensures { IfOk result (λ value. view value ≡ spec.change_value diagnostic.now mended.entry) }
+) -> Result<(), AllocError>
+    ensures { OnOk result (string_bytes text.new
+        ≡ string_bytes text.old ++ compact_text (spec.single (spec.change_value diagnostic.now mended.entry))) }
 {
-    let artifact = artifact_object(alloc, diagnostic.file)?;
-    let replacement = replacement_object(alloc, diagnostic.line, mended)?;
-    json!(in alloc; {"artifactLocation": artifact, "replacements": [replacement]})
+    text.push_str("[")?;
+    push_change(alloc, text, diagnostic, mended)?;
+    text.push_str("]")?;
+    Ok(())
 }
 
-// The mended text in place of the text that it replaces, in the line with this number.
-fn replacement_object(alloc: Global, line: u64, mended: Mended<'_>) -> Result<Value, AllocError>
-    ensures { IfOk result (λ value. view value ≡ spec.replacement_value line mended.entry) }
+// Pushes the change of the diagnostic's file.
+fn push_change(
+    alloc: Global,
+    text: &mut String,
+    diagnostic: &Diagnostic<'_>,
+    mended: Mended<'_>,
+) -> Result<(), AllocError>
+    ensures { OnOk result (string_bytes text.new
+        ≡ string_bytes text.old ++ compact_text (spec.change_value diagnostic.now mended.entry)) }
 {
-    let region = deleted_region_object(alloc, line, mended)?;
-    json!(in alloc; {"deletedRegion": region, "insertedContent": {"text": mended.text}})
+    text.push_str("{\"artifactLocation\":")?;
+    push_artifact(alloc, text, diagnostic.file)?;
+    text.push_str(",\"replacements\":")?;
+    push_replacements(alloc, text, diagnostic.line, mended)?;
+    text.push_str("}")?;
+    Ok(())
 }
 
-// Where the replaced text stands.
-fn deleted_region_object(alloc: Global, line: u64, mended: Mended<'_>) -> Result<Value, AllocError>
-    ensures { IfOk result (λ value. view value ≡ spec.deleted_region_value line mended.entry) }
+// Pushes the replacement of a text in the line with this number, alone in an array.
+fn push_replacements(
+    alloc: Global,
+    text: &mut String,
+    line: u64,
+    mended: Mended<'_>,
+) -> Result<(), AllocError>
+    ensures { OnOk result (string_bytes text.new
+        ≡ string_bytes text.old ++ compact_text (spec.single (spec.replacement_value line mended.entry))) }
 {
-    json!(in alloc; {
-        "endColumn": mended.end,
-        "startColumn": mended.start,
-        "startLine": line
-    })
+    text.push_str("[")?;
+    push_replacement(alloc, text, line, mended)?;
+    text.push_str("]")?;
+    Ok(())
+}
+
+// Pushes the mended text in place of the text that it replaces, in the line with this number.
+fn push_replacement(
+    alloc: Global,
+    text: &mut String,
+    line: u64,
+    mended: Mended<'_>,
+) -> Result<(), AllocError>
+    ensures { OnOk result (string_bytes text.new
+        ≡ string_bytes text.old ++ compact_text (spec.replacement_value line mended.entry)) }
+{
+    text.push_str("{\"deletedRegion\":")?;
+    push_deleted_region(text, line, mended)?;
+    text.push_str(",\"insertedContent\":")?;
+    push_text_object(alloc, text, mended.text)?;
+    text.push_str("}")?;
+    Ok(())
+}
+
+// Pushes where the replaced text stands.
+fn push_deleted_region(text: &mut String, line: u64, mended: Mended<'_>) -> Result<(), AllocError>
+    ensures { OnOk result (string_bytes text.new
+        ≡ string_bytes text.old ++ compact_text (spec.deleted_region_value line mended.entry)) }
+{
+    push_number_member(text, "{\"endColumn\":", mended.end)?;
+    push_number_member(text, ",\"startColumn\":", mended.start)?;
+    push_number_member(text, ",\"startLine\":", line)?;
+    text.push_str("}")?;
+    Ok(())
 }
