@@ -1,9 +1,6 @@
 -- The pieces of the object.
-use Rattle.std.proofs.Common.{◌∙◌, codes, string_bytes}
+use Rattle.std.proofs.Common.{string_bytes}
 use Rattle.serde_json.proofs.OnLiterals.{serde_json_on_literals}
-use Rattle.serde_json.specs.Data.{boolean}
-use Rattle.serde_json.specs.Written.{compact_text}
-use Rattle.uv_report.specs.Window.{is_cut}
 use Rattle.uv_report.proofs.PieceLemmas.{four_pieces}
 use Rattle.uv_report.proofs.sarif.push_link_object.Goals as goal
 
