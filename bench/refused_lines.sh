@@ -54,7 +54,7 @@ compared() {
     awk -v r="$ratio" -v b="$2" 'BEGIN { exit r > b }' || fail "$1: $ratio, and at most $2 is wanted"
 }
 
-compared gnu 21
-compared json 101
-compared sarif 133
+compared gnu 8.4
+compared json 43.6
+compared sarif 48.2
 exit $failed
