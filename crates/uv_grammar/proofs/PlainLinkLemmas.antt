@@ -53,8 +53,8 @@ use Rattle.uv_text.proofs.SplitsLemmas.{chars-ascii_first}
 use Rattle.uv_model.proofs.Violations.ViolationsExcludeParts.{one_slash_start}
 
 -- the name of a domain that is its own form
-form_each : (name form : List ℕ) → IsDomain Standard name form → list_all (is_form_code_point Standard) form ≡ true
-form_each name form is = list_all-from_AllPass (is_form_code_point Standard) form is.0.letters
+form_each : (name form : List ℕ) → IsDomain Wide name form → list_all (is_form_code_point Wide) form ≡ true
+form_each name form is = list_all-from_AllPass (is_form_code_point Wide) form is.0.letters
 
 -- ---- the cut
 
@@ -95,30 +95,30 @@ port_without mark (Some text) other fails valid =
     is_without-more mark colon text other (is_without-passes is_ascii_digit mark text fails valid.digits)
 
 -- a host of a form's code points has no brackets
-outside : (c : ℕ) → is_form_code_point Standard c ≡ true → is_within false c ≡ false
+outside : (c : ℕ) → is_form_code_point Wide c ≡ true → is_within false c ≡ false
 outside c form =
     let other : (c == left_bracket) ≡ false = grind (arith, nat_tests) in
     rw other (elim (cases_Bool (c == right_bracket)) [ inl same ↦ rw same refl | inr different ↦ rw different refl ])
 
-no_brackets : (text : List ℕ) → list_all (is_form_code_point Standard) text ≡ true → is_within_at_end false text ≡ false
+no_brackets : (text : List ℕ) → list_all (is_form_code_point Wide) text ≡ true → is_within_at_end false text ≡ false
 no_brackets [] each = refl
 no_brackets (c ∷ rest) each =
-    let parts = and_parts (is_form_code_point Standard c) (list_all (is_form_code_point Standard) rest) each in
+    let parts = and_parts (is_form_code_point Wide c) (list_all (is_form_code_point Wide) rest) each in
     rw (outside c parts.0) (no_brackets rest parts.1)
 
 -- so it ends at its port
-ends_at_port : (name : List ℕ) (port_text : Option (List ℕ)) → list_all (is_form_code_point Standard) name ≡ true
+ends_at_port : (name : List ℕ) (port_text : Option (List ℕ)) → list_all (is_form_code_point Wide) name ≡ true
     → EndsAtPort name port_text
 ends_at_port name port_text each =
-    let none : is_without colon name ≡ true = is_without-passes (is_form_code_point Standard) colon name refl each in
+    let none : is_without colon name ≡ true = is_without-passes (is_form_code_point Wide) colon name refl each in
     record {
       none_before = λ prefix rest same.
           absurd (false≢true (sym (has_mark colon prefix rest) ∙ (ap (is_without colon) (sym same) ∙ none)));
       ends = λ some. no_brackets name each;
     }
 
-own_form : (name form : List ℕ) → IsDomain Standard name form → chars form ≡ name → name ≡ form
-own_form name form is same = sym same ∙ chars-IsAscii form (IsAscii-form Standard name form is.0)
+own_form : (name form : List ℕ) → IsDomain Wide name form → chars form ≡ name → name ≡ form
+own_form name form is same = sym same ∙ chars-IsAscii form (IsAscii-form Wide name form is.0)
 
 -- a text with a special start is what its scheme is written as, `//` and a rest
 special_joined : (base : Option Url) (text : List ℕ) (scheme : Option (List ℕ)) (behind : List ℕ)
@@ -167,11 +167,11 @@ arranged before name port path query fragment =
     ap (λ (s : List ℕ). before ++ slash ∷ slash ∷ s) (sym (middle_joined name port path query fragment))
     ∙ sym (start_joined before ((name ++ port) ++ path) query fragment)
 
-plain_whole : (base : Option Url) (text : List ℕ) (scheme : Option (List ℕ)) (name form : List ℕ)
+plain_whole : (profile : Profile) (base : Option Url) (text : List ℕ) (scheme : Option (List ℕ)) (name form : List ℕ)
     (port_text : Option (List ℕ)) (port : Option ℕ) (path : List ℕ) (query fragment : Option (List ℕ))
-    → IsPlainLink base text scheme name form port_text port path query fragment
+    → IsPlainLink profile base text scheme name form port_text port path query fragment
     → text ≡ written_cut (plain_cut scheme name port_text path query fragment)
-plain_whole base text scheme name form port_text port path query fragment l =
+plain_whole profile base text scheme name form port_text port path query fragment l =
     special_joined base text scheme l.behind l.special
     ∙ ap (λ s. written_scheme scheme ++ slash ∷ slash ∷ s)
     (l.named.joined ∙ ap (λ s. name ++ s) (l.port_cut.joined ∙ ap (λ s. written_behind colon port_text ++ s)
@@ -180,34 +180,34 @@ plain_whole base text scheme name form port_text port path query fragment l =
     ∙ arranged (written_scheme scheme) name (written_behind colon port_text) path (written_behind question_mark query)
     (written_behind number_sign fragment)
 
-plain_is_cut : (base : Option Url) (text : List ℕ) (scheme : Option (List ℕ)) (name form : List ℕ)
+plain_is_cut : (profile : Profile) (base : Option Url) (text : List ℕ) (scheme : Option (List ℕ)) (name form : List ℕ)
     (port_text : Option (List ℕ)) (port : Option ℕ) (path : List ℕ) (query fragment : Option (List ℕ)) → name ≡ form
-    → IsPlainLink base text scheme name form port_text port path query fragment
+    → IsPlainLink profile base text scheme name form port_text port path query fragment
     → IsCut base text (plain_cut scheme name port_text path query fragment)
-plain_is_cut base text scheme name form port_text port path query fragment own l =
-    let each : list_all (is_form_code_point Standard) name ≡ true
-    = ap (list_all (is_form_code_point Standard)) own ∙ form_each name form (l.named.domain Standard) in
+plain_is_cut profile base text scheme name form port_text port path query fragment own l =
+    let each : list_all (is_form_code_point Wide) name ≡ true
+    = ap (list_all (is_form_code_point Wide)) own ∙ form_each name form l.named.wide in
     let ported = written_behind colon port_text in
     record {
-      whole = plain_whole base text scheme name form port_text port path query fragment l;
+      whole = plain_whole profile base text scheme name form port_text port path query fragment l;
       prefix =
           is_without-append number_sign (written_start (plain_cut scheme name port_text path query fragment))
           (written_behind question_mark query)
           (start_without number_sign (written_scheme scheme) name ported path refl
           (special_without number_sign base text scheme l.behind refl refl refl l.special)
-          (is_without-passes (is_form_code_point Standard) number_sign name refl each)
+          (is_without-passes (is_form_code_point Wide) number_sign name refl each)
           (port_without number_sign port_text refl refl l.port_cut.valid)
           l.path_cut.units.no_number_sign)
           (part_without query l.query_cut.units);
       start =
           start_without question_mark (written_scheme scheme) name ported path refl
           (special_without question_mark base text scheme l.behind refl refl refl l.special)
-          (is_without-passes (is_form_code_point Standard) question_mark name refl each)
+          (is_without-passes (is_form_code_point Wide) question_mark name refl each)
           (port_without question_mark port_text refl refl l.port_cut.valid)
           (l.path_cut.units.no_question_mark refl);
       scheme = special_scheme base text scheme l.behind name port_text path l.special;
       authority = (
-        is_without-append slash name ported (is_without-passes (is_form_code_point Standard) slash name refl each)
+        is_without-append slash name ported (is_without-passes (is_form_code_point Wide) slash name refl each)
             (port_without slash port_text refl refl l.port_cut.valid),
         l.path_cut.slashed,
         subst (λ k. IsHostCut k name port_text) (sym (special_class base text scheme l.behind l.special))
@@ -251,10 +251,11 @@ part_silent : (start : ℕ) (part : Option (List ℕ)) (place : ℕ) (rule : Rul
 part_silent start None place rule units h = h
 part_silent start (Some text) place rule units h = no_violation-faultless text units.units h.inner rule h.holds
 
-plain_silent : (setting : Setting) (base : Option Url) (text : List ℕ) (scheme : Option (List ℕ)) (name form : List ℕ) (port_text : Option (List ℕ)) (port : Option ℕ)
-    (path : List ℕ) (query fragment : Option (List ℕ))
-    → setting.class ≡ Special → IsPlainLink base text scheme name form port_text port path query fragment → (place : ℕ)
-    (rule : Rule)
+plain_silent : (setting : Setting) (base : Option Url) (text : List ℕ) (scheme : Option (List ℕ)) (name form : List ℕ)
+    (port_text : Option (List ℕ)) (port : Option ℕ) (path : List ℕ) (query fragment : Option (List ℕ))
+    → setting.class ≡ Special
+    → IsPlainLink setting.profile base text scheme name form port_text port path query fragment
+    → (place : ℕ) (rule : Rule)
     → BehindAuthority setting (plain_cut scheme name port_text path query fragment) place rule → ⊥
 plain_silent setting base text scheme name form port_text port path query fragment special l place rule (inl h) =
     plain_path_start setting scheme name port_text path query fragment h.inner rule special l.path_cut.single h.holds
@@ -269,7 +270,7 @@ plain_silent setting base text scheme name form port_text port path query fragme
     part_silent _ fragment place rule l.fragment_cut.units h
 
 -- a domain has a code point
-some_name : (name form : List ℕ) → name ≡ form → IsDomain Standard name form → name ≢ []
+some_name : (name form : List ℕ) → name ≡ form → IsDomain Wide name form → name ≢ []
 some_name name form own is none =
     let lengths = is.0.lengths in
     false≢true (rw (sym own ∙ none) at lengths)
@@ -283,16 +284,16 @@ plain_not_stopped Parser last name form is = wide_host_not_stopped Special last 
 
 plain_host : (setting : Setting) (scheme : Option (List ℕ)) (name form : List ℕ) (port_text : Option (List ℕ)) (path : List ℕ)
     (query fragment : Option (List ℕ)) → name ≡ form
-    → setting.class ≡ Special → ((profile : Profile) → IsDomain profile name form)
+    → setting.class ≡ Special → IsDomain Wide name form → IsDomain setting.profile name form
     → FitsHostPart setting (plain_cut scheme name port_text path query fragment) (Some (Domain form))
-plain_host setting scheme name form port_text path query fragment own special is =
+plain_host setting scheme name form port_text path query fragment own special wide is =
     let last = ends_at_host (plain_cut scheme name port_text path query fragment) in
     rw special
     (inl (
-      some_name name form own (is Standard),
+      some_name name form own wide,
       (
-        plain_not_stopped setting.profile last name form (is Wide),
-        is setting.profile,
+        plain_not_stopped setting.profile last name form wide,
+        is,
       ),
     ))
 
@@ -306,31 +307,32 @@ plain_port setting scheme name (Some text) port path query fragment rest after c
 pub plain_accepted : (profile : Profile) (base : Option Url) (text : List ℕ) (scheme : Option (List ℕ))
     (name form : List ℕ) (port_text : Option (List ℕ)) (port : Option ℕ) (path : List ℕ)
     (query fragment : Option (List ℕ))
-    → chars form ≡ name → IsPlainLink base text scheme name form port_text port path query fragment
+    → chars form ≡ name → IsPlainLink profile base text scheme name form port_text port path query fragment
     → IsAccepted profile base text (built (plain_cut scheme name port_text path query fragment) (Some
     (Domain form)) port)
 plain_accepted profile base text scheme name form port_text port path query fragment same l =
-    let own = own_form name form (l.named.domain Standard) same in
+    let own = own_form name form l.named.wide same in
     let cut = plain_cut scheme name port_text path query fragment in
     let setting = setting_of profile base scheme in
     let special = special_class base text scheme l.behind l.special in
     accepted profile base text cut setting
-    (plain_is_cut base text scheme name form port_text port path query fragment own l) refl
+    (plain_is_cut profile base text scheme name form port_text port path query fragment own l) refl
     (plain_started profile base text scheme l.behind name port_text path query fragment l.special)
     (built cut (Some (Domain form)) port)
     (record {
       host = Some (Domain form);
       port = port;
       built = refl;
-      fits_host = plain_host setting scheme name form port_text path query fragment own special l.named.domain;
+      fits_host =
+          plain_host setting scheme name form port_text path query fragment own special l.named.wide l.named.domain;
       fits_port = plain_port setting scheme name port_text port path query fragment l.rest l.after l.port_cut;
       silent = plain_silent setting base text scheme name form port_text port path query fragment special l;
     })
 
 -- so it is valid
-pub plain_valid : (base : Option Url) (text : List ℕ) (cut : PlainCut) → IsPlainCut base text cut
-    → (profile : Profile) → IsValidity profile base text true
-plain_valid base text cut plain profile = (
+pub plain_valid : (profile : Profile) (base : Option Url) (text : List ℕ) (cut : PlainCut)
+    → IsPlainCut profile base text cut → IsValidity profile base text true
+plain_valid profile base text cut plain = (
   _,
   (plain_accepted profile base text (chars_of_option cut.scheme) (chars_of cut.name) cut.name.now
       (chars_of_option cut.port_text) cut.port (chars_of cut.path_text) (chars_of_option cut.query)
@@ -389,13 +391,14 @@ behind_joined after path query fragment b =
     b.joined ∙ ap (λ (s : List ℕ). s ++ written_behind number_sign fragment) b.split
     ∙ append_assoc path (written_behind question_mark query) (written_behind number_sign fragment)
 
-start_is_cut : (base : Option Url) (text : List ℕ) (scheme : Option (List ℕ)) (name form : List ℕ) (port_text : Option (List ℕ)) (port : Option ℕ)
+start_is_cut : (profile : Profile) (base : Option Url) (text : List ℕ) (scheme : Option (List ℕ))
+    (name form : List ℕ) (port_text : Option (List ℕ)) (port : Option ℕ)
     (after path : List ℕ) (query fragment : Option (List ℕ)) → name ≡ form
-    → IsStartCut base text scheme name form port_text port after → IsBehindCut after path query fragment
+    → IsStartCut profile base text scheme name form port_text port after → IsBehindCut after path query fragment
     → IsCut base text (plain_cut scheme name port_text path query fragment)
-start_is_cut base text scheme name form port_text port after path query fragment own l b =
-    let each : list_all (is_form_code_point Standard) name ≡ true
-    = ap (list_all (is_form_code_point Standard)) own ∙ form_each name form (l.named.domain Standard) in
+start_is_cut profile base text scheme name form port_text port after path query fragment own l b =
+    let each : list_all (is_form_code_point Wide) name ≡ true
+    = ap (list_all (is_form_code_point Wide)) own ∙ form_each name form l.named.wide in
     let ported = written_behind colon port_text in
     let asked = written_behind question_mark query in
     let joined = behind_joined after path query fragment b in
@@ -411,17 +414,17 @@ start_is_cut base text scheme name form port_text port after path query fragment
           is_without-append number_sign (written_start (plain_cut scheme name port_text path query fragment)) asked
           (start_without number_sign (written_scheme scheme) name ported path refl
           (special_without number_sign base text scheme l.behind refl refl refl l.special)
-          (is_without-passes (is_form_code_point Standard) number_sign name refl each)
+          (is_without-passes (is_form_code_point Wide) number_sign name refl each)
           (port_without number_sign port_text refl refl l.port_cut.valid) parts.0)
           parts.1;
       start =
           start_without question_mark (written_scheme scheme) name ported path refl
           (special_without question_mark base text scheme l.behind refl refl refl l.special)
-          (is_without-passes (is_form_code_point Standard) question_mark name refl each)
+          (is_without-passes (is_form_code_point Wide) question_mark name refl each)
           (port_without question_mark port_text refl refl l.port_cut.valid) b.no_question_mark;
       scheme = special_scheme base text scheme l.behind name port_text path l.special;
       authority = (
-        is_without-append slash name ported (is_without-passes (is_form_code_point Standard) slash name refl each)
+        is_without-append slash name ported (is_without-passes (is_form_code_point Wide) slash name refl each)
             (port_without slash port_text refl refl l.port_cut.valid),
         begins_slashed after path (asked ++ written_behind number_sign fragment) b.begins joined parts.0
             b.no_question_mark,
@@ -440,13 +443,13 @@ no_host_violation profile last text port_text path_text some none place rule h =
 
 start_host : (setting : Setting) (scheme : Option (List ℕ)) (name form : List ℕ) (port_text : Option (List ℕ)) (path : List ℕ)
     (query fragment : Option (List ℕ)) → name ≡ form → setting.class ≡ Special
-    → ((profile : Profile) → IsDomain profile name form)
+    → IsDomain Wide name form → IsDomain setting.profile name form
     → IsLeast (HostPartViolation setting (plain_cut scheme name port_text path query fragment)) None
-start_host setting scheme name form port_text path query fragment own special is place rule h =
+start_host setting scheme name form port_text path query fragment own special wide is place rule h =
     let last = ends_at_host (plain_cut scheme name port_text path query fragment) in
-    no_host_violation setting.profile last name port_text path (some_name name form own (is Standard))
+    no_host_violation setting.profile last name port_text path (some_name name form own wide)
     (host_text_faultless setting.profile Special last name (Domain form)
-    (plain_not_stopped setting.profile last name form (is Wide)) (is setting.profile)) h.inner rule
+    (plain_not_stopped setting.profile last name form wide) is) h.inner rule
     (subst (λ k. HostViolation setting.profile k last name port_text path h.inner rule) special h.holds)
 
 -- and so is its port
@@ -459,36 +462,36 @@ start_port scheme name (Some port_text) path query fragment valid place rule h =
 -- a text with a plain start is refused by the least violation of what stands behind it
 pub start_refused : (profile : Profile) (base : Option Url) (text : List ℕ) (scheme : Option (List ℕ)) (name form : List ℕ)
     (port_text : Option (List ℕ)) (port : Option ℕ) (after path : List ℕ) (query fragment : Option (List ℕ))
-    (refusal : Refusal) → chars form ≡ name → IsStartCut base text scheme name form port_text port after
+    (refusal : Refusal) → chars form ≡ name → IsStartCut profile base text scheme name form port_text port after
     → IsBehindCut after path query fragment
     → IsLeast (BehindAuthority (setting_of profile base scheme)
     (plain_cut scheme name port_text path query fragment)) (Some refusal)
     → IsRefused profile base text refusal
 start_refused profile base text scheme name form port_text port after path query fragment refusal same l b least =
-    let own = own_form name form (l.named.domain Standard) same in
+    let own = own_form name form l.named.wide same in
     let setting = setting_of profile base scheme in
     refused_behind profile base text (plain_cut scheme name port_text path query fragment) setting refusal
-    (start_is_cut base text scheme name form port_text port after path query fragment own l b) refl
+    (start_is_cut profile base text scheme name form port_text port after path query fragment own l b) refl
     (plain_started profile base text scheme l.behind name port_text path query fragment l.special)
     (start_host setting scheme name form port_text path query fragment own
-    (special_class base text scheme l.behind l.special) l.named.domain)
+    (special_class base text scheme l.behind l.special) l.named.wide l.named.domain)
     (start_port scheme name port_text path query fragment l.port_cut.valid) least
 
 -- and is valid where there is none
 pub start_accepted : (profile : Profile) (base : Option Url) (text : List ℕ) (scheme : Option (List ℕ)) (name form : List ℕ)
     (port_text : Option (List ℕ)) (port : Option ℕ) (after path : List ℕ) (query fragment : Option (List ℕ))
-    → chars form ≡ name → IsStartCut base text scheme name form port_text port after
+    → chars form ≡ name → IsStartCut profile base text scheme name form port_text port after
     → IsBehindCut after path query fragment
     → IsLeast (BehindAuthority (setting_of profile base scheme)
     (plain_cut scheme name port_text path query fragment)) None
     → IsAccepted profile base text (built (plain_cut scheme name port_text path query fragment) (Some
     (Domain form)) port)
 start_accepted profile base text scheme name form port_text port after path query fragment same l b silent =
-    let own = own_form name form (l.named.domain Standard) same in
+    let own = own_form name form l.named.wide same in
     let cut = plain_cut scheme name port_text path query fragment in
     let setting = setting_of profile base scheme in
     accepted profile base text cut setting
-    (start_is_cut base text scheme name form port_text port after path query fragment own l b) refl
+    (start_is_cut profile base text scheme name form port_text port after path query fragment own l b) refl
     (plain_started profile base text scheme l.behind name port_text path query fragment l.special) (built cut (Some (Domain form)) port)
     (record {
       host = Some (Domain form);
@@ -496,18 +499,18 @@ start_accepted profile base text scheme name form port_text port after path quer
       built = refl;
       fits_host =
           plain_host setting scheme name form port_text path query fragment own
-          (special_class base text scheme l.behind l.special) l.named.domain;
+          (special_class base text scheme l.behind l.special) l.named.wide l.named.domain;
       fits_port = plain_port setting scheme name port_text port path query fragment l.rest after l.port_cut;
       silent = silent;
     })
 
 -- such a text is countable
-pub start_countable : (base : Option Url) (bytes : List ℕ) (scheme : Option (List ℕ)) (name form : List ℕ)
-    (port_text : Option (List ℕ)) (port : Option ℕ)
+pub start_countable : (profile : Profile) (base : Option Url) (bytes : List ℕ) (scheme : Option (List ℕ))
+    (name form : List ℕ) (port_text : Option (List ℕ)) (port : Option ℕ)
     (after path : List ℕ) (query fragment : Option (List ℕ)) → IsUtf8 bytes → length bytes < 2 ^ 64
-    → chars form ≡ name → IsStartCut base (chars bytes) scheme name form port_text port after
+    → chars form ≡ name → IsStartCut profile base (chars bytes) scheme name form port_text port after
     → IsBehindCut after path query fragment → IsCountable (plain_cut scheme name port_text path query fragment)
-start_countable base bytes scheme name form port_text port after path query fragment utf8 small same l b =
+start_countable profile base bytes scheme name form port_text port after path query fragment utf8 small same l b =
     countable bytes (plain_cut scheme name port_text path query fragment) utf8 small
-    (start_is_cut base (chars bytes) scheme name form port_text port after path query fragment
-    (own_form name form (l.named.domain Standard) same) l b).whole
+    (start_is_cut profile base (chars bytes) scheme name form port_text port after path query fragment
+    (own_form name form l.named.wide same) l b).whole

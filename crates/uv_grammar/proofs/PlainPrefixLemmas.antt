@@ -1,6 +1,6 @@
 -- The prefixes of a plain link: its scheme, its name, its port and what follows a mark.
-use Rattle.std.proofs.Common.{get_or, ◌≤◌, ◌≡◌, ℕ, ◌<◌, Bool, true, List, [], ◌∷◌, ◌++◌, length, take, drop, Option}
-use Rattle.std.proofs.Common.{Some, None, refl, sym, ap, ◌∙◌, inl, inr, arith, append_assoc, lt-ltb}
+use Rattle.std.proofs.Common.{get_or, ◌≤◌, ◌≡◌, ℕ, ◌<◌, Bool, true, false, List, [], ◌∷◌, ◌++◌, length, take, drop}
+use Rattle.std.proofs.Common.{Option, Some, None, refl, sym, ap, ◌∙◌, inl, inr, arith, append_assoc, lt-ltb}
 use Rattle.std.specs.Prelude.{◌+◌, suc, codes}
 use Rattle.std.specs.Char.{is_ascii, is_ascii_digit}
 use Rattle.std.specs.List.{prefix_len}
@@ -10,7 +10,6 @@ use Rattle.std.proofs.lemmas.Bool.Decides.{nat_tests}
 use Rattle.std.proofs.lemmas.List.{length-append, take-append-drop}
 use Rattle.std.proofs.lemmas.Str.{chars-append, chars-IsAscii, IsUtf8-from_ascii, IsCharBoundary-from_take}
 use Rattle.std.proofs.Math.Seq.{take-append_seam, drop-append_seam}
-use Rattle.uv_model.specs.declared.profile.Profile.TheVariants.{Standard}
 use Rattle.uv_model.specs.declared.scheme.Class.TheVariants.{Special}
 use Rattle.uv_model.specs.Ascii.{slash, colon}
 use Rattle.uv_model.specs.Hosts.Domain.{is_form_code_point}
@@ -27,8 +26,8 @@ use Rattle.uv_grammar.specs.PlainLinks.{IsReferenceStart, IsSpecialBase, IsSpeci
 use Rattle.uv_grammar.specs.TextSplits.{SplitsScheme}
 use Rattle.uv_grammar.proofs.PlainUnitLemmas.{split_joined, url_units}
 use Rattle.uv_grammar.proofs.PartLemmas.{given_number}
-use Rattle.uv_host.specs.PlainNames.{IsChainPrefix}
-use Rattle.uv_host.proofs.ChainLemmas.{rooted_form}
+use Rattle.uv_host.specs.PlainNames.{IsChainPrefixOf}
+use Rattle.uv_host.proofs.ChainLemmas.{profile_of, rooted_form_of}
 use Rattle.uv_model.proofs.Cuts.HostCutLemmas.{passes-weaker}
 
 -- the end of an ASCII prefix is a boundary
@@ -180,16 +179,17 @@ some_part mark bytes none behind prefix rest held same a holds digits cut = reco
 pub scheme_ascii : (bytes : List ℕ) (end : ℕ) → IsSpecialPrefix bytes end → HasAsciiPrefix bytes end
 scheme_ascii bytes end is = (is.inside, is_ascii-scheme (take end bytes) is.scheme)
 
--- the bytes of a plain name are ASCII
-pub name_ascii : (bytes : List ℕ) (end : ℕ) → IsChainPrefix bytes end → HasAsciiPrefix bytes end
-name_ascii bytes end is = (
+-- the bytes of a plain name are ASCII, with low lines or without
+pub name_ascii : (low : Bool) (bytes : List ℕ) (end : ℕ) → IsChainPrefixOf low bytes end → HasAsciiPrefix bytes end
+name_ascii low bytes end is = (
   is.0,
-  passes-weaker (is_form_code_point Standard) is_ascii small (take end bytes) (rooted_form
-      (take end bytes) is.1),
+  passes-weaker (is_form_code_point (profile_of low)) is_ascii (small low) (take end bytes)
+      (rooted_form_of low (take end bytes) is.1),
 )
   where
-    small : (c : ℕ) → is_form_code_point Standard c ≡ true → is_ascii c ≡ true
-    small c h = grind (arith, nat_tests)
+    small : (low : Bool) (c : ℕ) → is_form_code_point (profile_of low) c ≡ true → is_ascii c ≡ true
+    small true c h = grind (arith, nat_tests)
+    small false c h = grind (arith, nat_tests)
 
 -- ---- ports
 

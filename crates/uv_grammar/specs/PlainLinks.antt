@@ -5,6 +5,7 @@ use Rattle.std.specs.Char.{is_ascii}
 use Rattle.std.specs.List.{list_all}
 use Rattle.std.specs.Str.{chars}
 use Rattle.uv_model.specs.declared.profile.Profile.{Profile}
+use Rattle.uv_model.specs.declared.profile.Profile.TheVariants.{Wide}
 use Rattle.uv_model.specs.declared.scheme.Class.TheVariants.{Special}
 use Rattle.uv_model.specs.Ascii.{colon, number_sign, question_mark, slash}
 use Rattle.uv_model.specs.Cut.{starts_with_two_slashes}
@@ -67,10 +68,11 @@ IsSpecialBase None scheme = ⊥
 IsSpecialBase (Some base) scheme =
     (base.scheme ≡ scheme) × (scheme_class scheme ≡ Special) × (is_opaque base.path ≡ false)
 
--- the text is by each profile a domain of this form, and a rest
-pub record IsNameCut (text name form rest : List ℕ) : Type 0 where
+-- the text is by the profile a domain of this form, which it is by the wide profile too, and a rest
+pub record IsNameCut (profile : Profile) (text name form rest : List ℕ) : Type 0 where
   pub joined : text ≡ name ++ rest
-  pub domain : (profile : Profile) → IsDomain profile name form
+  pub wide : IsDomain Wide name form
+  pub domain : IsDomain profile name form
 
 -- the text is `:` and a valid port, or none, with the number that it gives beside a default port, and a rest
 pub record IsPortCut (default : Option ℕ) (text : List ℕ) (port_text : Option (List ℕ)) (port : Option ℕ)
@@ -102,13 +104,14 @@ pub record IsPartCut (mark : ℕ) (text : List ℕ) (part : Option (List ℕ)) (
   pub joined : text ≡ written_behind mark part ++ rest
   pub units : MayBeUnits part
 
--- the texts of a special scheme or of none against a special base, a domain and a port, and what follows them
-pub record IsStartCut (base : Option Url) (text : List ℕ) (scheme : Option (List ℕ)) (name form : List ℕ)
-    (port_text : Option (List ℕ)) (port : Option ℕ) (after : List ℕ) : Type 0 where
+-- the texts of a special scheme or of none against a special base, a domain of the profile and a port, and what follows
+-- them
+pub record IsStartCut (profile : Profile) (base : Option Url) (text : List ℕ) (scheme : Option (List ℕ))
+    (name form : List ℕ) (port_text : Option (List ℕ)) (port : Option ℕ) (after : List ℕ) : Type 0 where
   pub behind : List ℕ
   pub rest : List ℕ
   pub special : IsSpecialStart base text scheme behind
-  pub named : IsNameCut behind name form rest
+  pub named : IsNameCut profile behind name form rest
   pub port_cut : IsPortCut (default_port (scheme_or base scheme)) rest port_text port after
 
 -- the text begins a path behind an authority, a query or a fragment, or is empty
@@ -116,30 +119,31 @@ abbrev pub begins_behind : List ℕ → Bool
 begins_behind [] = true
 begins_behind (c ∷ rest) = (c == slash) || ((c == question_mark) || (c == number_sign))
 
--- the texts of a plain link
-pub record IsPlainLink (base : Option Url) (text : List ℕ) (scheme : Option (List ℕ)) (name form : List ℕ)
-    (port_text : Option (List ℕ)) (port : Option ℕ) (path : List ℕ) (query fragment : Option (List ℕ)) : Type 0 where
+-- the texts of a plain link by the profile
+pub record IsPlainLink (profile : Profile) (base : Option Url) (text : List ℕ) (scheme : Option (List ℕ))
+    (name form : List ℕ) (port_text : Option (List ℕ)) (port : Option ℕ) (path : List ℕ)
+    (query fragment : Option (List ℕ)) : Type 0 where
   pub behind : List ℕ
   pub rest : List ℕ
   pub after : List ℕ
   pub tail : List ℕ
   pub end : List ℕ
   pub special : IsSpecialStart base text scheme behind
-  pub named : IsNameCut behind name form rest
+  pub named : IsNameCut profile behind name form rest
   pub port_cut : IsPortCut (default_port (scheme_or base scheme)) rest port_text port after
   pub path_cut : IsPathCut after path tail
   pub query_cut : IsPartCut question_mark tail query end
   pub fragment_cut : IsPartCut number_sign end fragment []
 
--- the text, against the base, is a plain link of these texts and this port
-abbrev pub IsPlainCut : Option Url → List ℕ → PlainCut → Type 0
-IsPlainCut base text cut =
-    IsPlainLink base text (chars_of_option cut.scheme) (chars_of cut.name) cut.name.now
+-- the text, against the base, is by the profile a plain link of these texts and this port
+abbrev pub IsPlainCut : Profile → Option Url → List ℕ → PlainCut → Type 0
+IsPlainCut profile base text cut =
+    IsPlainLink profile base text (chars_of_option cut.scheme) (chars_of cut.name) cut.name.now
     (chars_of_option cut.port_text) cut.port (chars_of cut.path_text) (chars_of_option cut.query)
     (chars_of_option cut.fragment)
 
--- the text, against the base, has this plain start
-abbrev pub IsPlainStart : Option Url → List ℕ → PlainStart → Type 0
-IsPlainStart base text start =
-    IsStartCut base text (chars_of_option start.scheme) (chars_of start.name) start.name.now
+-- the text, against the base, has by the profile this plain start
+abbrev pub IsPlainStart : Profile → Option Url → List ℕ → PlainStart → Type 0
+IsPlainStart profile base text start =
+    IsStartCut profile base text (chars_of_option start.scheme) (chars_of start.name) start.name.now
     (chars_of_option start.port_text) start.port (chars start.rest)

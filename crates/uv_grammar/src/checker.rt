@@ -1,6 +1,7 @@
 //! The checker of valid URL strings.
-ghost use Rattle.std.specs.Prelude.{◌≡◌, IfOk, IsOk, Some, option_copied, true};
+ghost use Rattle.std.specs.Prelude.{◌≡◌, IfOk, IsOk, IsTrue, Some, option_copied, true};
 ghost use Rattle.std.specs.Str.{chars};
+ghost use Rattle.uv_model.specs.declared.profile.Profile.{Profile};
 ghost use Rattle.uv_model.specs.Records.Url.{Url};
 ghost use Rattle.uv_grammar.specs.Bases.{IsOfKind, as_base};
 ghost use Rattle.uv_grammar.specs.NoMemory.{TakesNoMemoryAgainst};
@@ -17,7 +18,7 @@ use crate::marks::split_marks;
 use crate::parts::Parts;
 use crate::parts_host::{AsciiText, PartsHost};
 use crate::plain_links::{
-    PlainStart, begins_behind, plain_cut, plain_parts, plain_start, reference_start,
+    PlainStart, begins_behind, plain_cut, plain_parts, plain_start, reference_start, wide_start,
 };
 use crate::setting::Setting;
 use crate::start_rules::start_fault;
@@ -92,14 +93,52 @@ pub(crate) fn check_from<'t>(
     base: Option<Base<'_>>,
     profile: Profile,
 ) -> Result<Verdict<'t>, AllocError>
-    requires { IsPlainStart (as_base base) (chars text.now) start }
+    requires { IsPlainStart profile (as_base base) (chars text.now) start }
     ensures answer { IfOk result (IsVerdict profile (as_base base.entry) (chars text.now)) }
     ensures memory { TakesNoMemoryAgainst profile (as_base base.entry) (chars text.now) → IsOk result }
 {
-    if begins_behind(start.rest.as_str()) {
+    let rest = start.rest.as_str();
+    if begins_behind(rest) {
         Ok(check_behind(text, &start, base, profile))
+    } else if goes_on_wide(rest, profile) {
+        check_wide(alloc, text, base)
     } else {
         check_by_parts(alloc, text, base, profile)
+    }
+}
+
+// Whether the profile is the wide one and a low line stands here, by which a name goes on in it alone. The low line is
+// asked for to spare other texts a second look, and no verdict rests on it.
+fn goes_on_wide(rest: &str, profile: Profile) -> bool
+    ensures { IsTrue result → profile ≡ Profile.Wide }
+{
+    match profile {
+        Profile::Wide => rest.as_bytes().first() == Some(&b'_'),
+        Profile::Standard | Profile::Parser => false,
+    }
+}
+
+// The verdict by the wide profile on a text in whose host low lines may stand. It is never inlined, as texts that are
+// refused behind a plain start would then have to keep registers free for it.
+#[inline(never)]
+fn check_wide<'t>(
+    alloc: Global,
+    text: &'t str,
+    base: Option<Base<'_>>,
+) -> Result<Verdict<'t>, AllocError>
+    ensures answer { IfOk result (IsVerdict Profile.Wide (as_base base.entry) (chars text.now)) }
+    ensures memory { TakesNoMemoryAgainst Profile.Wide (as_base base.entry) (chars text.now) → IsOk result }
+{
+    let Some(start) = wide_start(text) else {
+        return check_by_parts(alloc, text, base, Profile::Wide);
+    };
+    if let Some(cut) = plain_cut(&start) {
+        return Ok(Verdict::Yes(plain_parts(&cut)));
+    }
+    if begins_behind(start.rest.as_str()) {
+        Ok(check_behind(text, &start, base, Profile::Wide))
+    } else {
+        check_by_parts(alloc, text, base, Profile::Wide)
     }
 }
 
@@ -110,7 +149,7 @@ fn check_behind<'t>(
     base: Option<Base<'_>>,
     profile: Profile,
 ) -> Verdict<'t>
-    requires start { IsPlainStart (as_base base) (chars text.now) start.now }
+    requires start { IsPlainStart profile (as_base base) (chars text.now) start.now }
     requires behind { begins_behind (chars start.now.rest) ≡ true }
     ensures { IsVerdict profile (as_base base.entry) (chars text.now) result }
 {

@@ -30,7 +30,7 @@ use crate::parts::Parts;
 use crate::parts_host::{AsciiText, PartsHost};
 use crate::port::judge_port;
 use crate::setting::known_class;
-use uv_host::{is_plain_domain, name_prefix};
+use uv_host::{is_plain_domain, is_plain_wide_domain, name_prefix, wide_name_prefix};
 use uv_model::{Class, class_of, default_port};
 use uv_text::{Tail, UnitClass, split_tail};
 
@@ -57,11 +57,11 @@ pub(crate) struct PlainCut<'t> {
     fragment: Option<&'t str>,
 }
 
-/// The parts of a plain link. By each profile it is valid with these.
+/// The parts of a plain link. By its profile it is valid with these.
 #[inline(always)]
 pub(crate) fn plain_parts<'t>(cut: &PlainCut<'t>) -> Parts<'t>
     requires { IsAscii cut.now.name.now }
-    ensures { (text : List ℕ) (profile : Profile) (base : Option Url) → IsPlainCut base text cut.now
+    ensures { (text : List ℕ) (profile : Profile) (base : Option Url) → IsPlainCut profile base text cut.now
         → IsAccepted profile base text result }
 {
     let texts = Cut {
@@ -77,10 +77,11 @@ pub(crate) fn plain_parts<'t>(cut: &PlainCut<'t>) -> Parts<'t>
 }
 
 /// The texts of a plain start: a special scheme, `://`, a domain that is its own ASCII form, and a port or none. They
-/// are so against any base. Where there are none, that says nothing.
+/// are so by each profile, against any base. Where there are none, that says nothing.
 #[inline(always)]
 pub(crate) fn plain_start<'t>(text: &'t str) -> Option<PlainStart<'t>>
-    ensures { IfSome result (λ start. (base : Option Url) → IsPlainStart base (chars text.now) start) }
+    ensures { IfSome result (λ start. (profile : Profile) (base : Option Url)
+        → IsPlainStart profile base (chars text.now) start) }
 {
     let Some((scheme, behind)) = split_special(text) else {
         return None;
@@ -100,10 +101,35 @@ pub(crate) fn plain_start<'t>(text: &'t str) -> Option<PlainStart<'t>>
     })
 }
 
-/// The same of a reference: `//` in place of the scheme and `://`, against a base of a special scheme.
+/// The same by the wide profile, in which low lines count as letters of a domain.
+#[inline(always)]
+pub(crate) fn wide_start<'t>(text: &'t str) -> Option<PlainStart<'t>>
+    ensures { IfSome result (λ start. (base : Option Url) → IsPlainStart Profile.Wide base (chars text.now) start) }
+{
+    let Some((scheme, behind)) = split_special(text) else {
+        return None;
+    };
+    let Some((name, rest)) = split_wide_name(&behind) else {
+        return None;
+    };
+    let Some((port_text, port, rest)) = split_port(rest, scheme) else {
+        return None;
+    };
+    Some(PlainStart {
+        scheme: Some(scheme),
+        name,
+        port_text,
+        port,
+        rest,
+    })
+}
+
+/// The plain start of a reference, by each profile: `//` in place of the scheme and `://`, against a base of a special
+/// scheme.
 #[inline(always)]
 pub(crate) fn reference_start<'t>(text: &'t str, base: Option<Base<'_>>) -> Option<PlainStart<'t>>
-    ensures { IfSome result (IsPlainStart (as_base base.entry) (chars text.now)) }
+    ensures { IfSome result (λ start. (profile : Profile)
+        → IsPlainStart profile (as_base base.entry) (chars text.now) start) }
 {
     let Some(behind) = split_slashes(text) else {
         return None;
@@ -130,8 +156,8 @@ pub(crate) fn reference_start<'t>(text: &'t str, base: Option<Base<'_>>) -> Opti
 /// that says nothing.
 #[inline(always)]
 pub(crate) fn plain_cut<'t>(start: &PlainStart<'t>) -> Option<PlainCut<'t>>
-    ensures { IfSome result (λ cut. (base : Option Url) (text : List ℕ) → IsPlainStart base text start.now
-        → IsPlainCut base text cut) }
+    ensures { IfSome result (λ cut. (profile : Profile) (base : Option Url) (text : List ℕ)
+        → IsPlainStart profile base text start.now → IsPlainCut profile base text cut) }
 {
     let Some((path_text, rest)) = split_path(&start.rest) else {
         return None;
@@ -289,13 +315,30 @@ fn begins_with(bytes: &[u8], mark: u8) -> bool
 // A plain domain, and what follows it.
 #[inline(always)]
 fn split_name<'t>(text: &Tail<'t>) -> Option<(&'t str, Tail<'t>)>
-    ensures { IfSome result (λ r. IsNameCut (chars text.now) (chars_of r.0) r.0.now (chars r.1)) }
+    ensures { IfSome result (λ r. (profile : Profile)
+        → IsNameCut profile (chars text.now) (chars_of r.0) r.0.now (chars r.1)) }
 {
     let Some(end) = name_prefix(text) else {
         return None;
     };
     let (name, rest) = split_prefix(text, end);
     if is_plain_domain(name) {
+        Some((name, rest))
+    } else {
+        None
+    }
+}
+
+// The same by the wide profile, in which low lines count as letters.
+#[inline(always)]
+fn split_wide_name<'t>(text: &Tail<'t>) -> Option<(&'t str, Tail<'t>)>
+    ensures { IfSome result (λ r. IsNameCut Profile.Wide (chars text.now) (chars_of r.0) r.0.now (chars r.1)) }
+{
+    let Some(end) = wide_name_prefix(text) else {
+        return None;
+    };
+    let (name, rest) = split_prefix(text, end);
+    if is_plain_wide_domain(name) {
         Some((name, rest))
     } else {
         None

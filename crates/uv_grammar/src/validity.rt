@@ -62,7 +62,7 @@ fn is_valid_from(
     base: Option<Base<'_>>,
     profile: Profile,
 ) -> Result<bool, AllocError>
-    requires { IsPlainStart (as_base base) (chars text.now) start }
+    requires { IsPlainStart profile (as_base base) (chars text.now) start }
     ensures answer { IfOk result (IsValidity profile (as_base base.entry) (chars text.now)) }
     ensures memory { TakesNoMemoryAgainst profile (as_base base.entry) (chars text.now) → IsOk result }
 {

@@ -22,7 +22,7 @@ use Rattle.uv_model.specs.declared.profile.Profile.TheVariants.{Standard, Wide}
 use Rattle.uv_model.specs.Hosts.Domain.{IsForm, has_lengths, is_form_code_point, without_root}
 use Rattle.uv_host.specs.Domains.{is_lower_name}
 use Rattle.uv_host.specs.PlainNames.{goes_on, is_chain, is_rooted_chain, is_rooted_chain_of, is_sign, IsShortWideName}
-use Rattle.uv_host.proofs.OwnFormLemmas.{lower_own_form}
+use Rattle.uv_host.proofs.OwnFormLemmas.{form_ascii, lower_own_form}
 use Rattle.uv_host.proofs.ParserFormLemmas.{fits_from_lengths}
 use Rattle.uv_host.proofs.PlainLemmas.{plain_ascii, plain_from_form, plain_is_form}
 use Rattle.uv_host.proofs.StrictLemmas.{allowed_labels_hyphens}
@@ -311,14 +311,18 @@ rooted_is_form profile name utf8 h lengths =
     plain_is_form profile name utf8 (rooted_plain name h) (fits_from_lengths profile name lengths)
 
 -- so is one with low lines by the wide profile
+pub wide_is_form : (name : List ℕ) → IsUtf8 name → is_rooted_chain_of true name ≡ true → has_lengths name ≡ true
+    → IsForm Wide (chars name) name
+wide_is_form name utf8 h lengths = (lower_own_form Wide name utf8 (rooted_wide name h) refl).fits lengths
+
+-- which it is where it is short
 pub short_wide_form : (name : List ℕ) → IsUtf8 name → IsShortWideName name → IsForm Wide (chars name) name
-short_wide_form name utf8 is =
-    (lower_own_form Wide name utf8 (rooted_wide name is.1) refl).fits (rooted_lengths true name is.1 is.0)
+short_wide_form name utf8 is = wide_is_form name utf8 is.1 (rooted_lengths true name is.1 is.0)
 
--- a name without low lines holds a form's code points alone
-pub rooted_form : (name : List ℕ) → is_rooted_chain name ≡ true → list_all (is_form_code_point Standard) name ≡ true
-rooted_form name h = rooted_form_of false name h
+-- and it is ASCII
+pub wide_ascii : (name : List ℕ) → is_rooted_chain_of true name ≡ true → IsAscii name
+wide_ascii name h = form_ascii Wide name (rooted_form_of true name h)
 
--- and ASCII
+-- and so is one without low lines
 pub rooted_ascii : (name : List ℕ) → is_rooted_chain name ≡ true → IsAscii name
 rooted_ascii name h = plain_ascii name (rooted_plain name h)

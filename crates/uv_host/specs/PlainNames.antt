@@ -40,6 +40,10 @@ is_rooted_chain_of low name = is_chain low false (without_root name)
 abbrev pub is_rooted_chain : List ℕ → Bool
 is_rooted_chain name = is_rooted_chain_of false name
 
+-- such a name with low lines or without
+abbrev pub IsRootedChain : List ℕ → Type 0
+IsRootedChain name = (low : Bool) × (is_rooted_chain_of low name ≡ true)
+
 -- the prefix of so many bytes is such a name
 abbrev pub IsChainPrefixOf : Bool → List ℕ → ℕ → Type 0
 IsChainPrefixOf low bytes n = (n ≤ length bytes) × (is_rooted_chain_of low (take n bytes) ≡ true)
@@ -47,6 +51,10 @@ IsChainPrefixOf low bytes n = (n ≤ length bytes) × (is_rooted_chain_of low (t
 -- such a name without low lines
 abbrev pub IsChainPrefix : List ℕ → ℕ → Type 0
 IsChainPrefix bytes n = IsChainPrefixOf false bytes n
+
+-- such a name with low lines
+abbrev pub IsWideChainPrefix : List ℕ → ℕ → Type 0
+IsWideChainPrefix bytes n = IsChainPrefixOf true bytes n
 
 -- such a name with low lines, of at most 63 bytes
 abbrev pub IsShortWideName : List ℕ → Type 0

@@ -2,8 +2,9 @@
 ghost use Rattle.std.specs.Prelude.{◌≡◌, ◌^◌, ◌<◌, ◌≤◌, false, IfSome, IsTrue, chars, drop, length, map, slice_index};
 ghost use Rattle.std.specs.Prelude.{take, true};
 ghost use Rattle.std.specs.Simd.Lanes.{mask_l};
-ghost use Rattle.uv_host.specs.PlainNames.{IsJoined, IsChainPrefix, IsChainPrefixOf, IsShortWideName, is_rooted_chain};
-ghost use Rattle.uv_host.specs.PlainNames.{is_sign, is_word_letter};
+ghost use Rattle.uv_host.specs.PlainNames.{IsChainPrefix, IsChainPrefixOf, IsJoined, IsRootedChain, IsShortWideName};
+ghost use Rattle.uv_host.specs.PlainNames.{IsWideChainPrefix, is_rooted_chain, is_rooted_chain_of, is_sign};
+ghost use Rattle.uv_host.specs.PlainNames.{is_word_letter};
 ghost use Rattle.uv_model.specs.declared.profile.Profile.{Profile};
 ghost use Rattle.uv_model.specs.Hosts.Domain as spec;
 
@@ -31,6 +32,14 @@ pub fn name_prefix(text: &Tail<'_>) -> Option<usize>
     ensures { IfSome result (IsChainPrefix text.now) }
 {
     chain_prefix(text, false)
+}
+
+/// The same of a name by the wide profile, in which low lines count as letters.
+#[inline(always)]
+pub fn wide_name_prefix(text: &Tail<'_>) -> Option<usize>
+    ensures { IfSome result (IsWideChainPrefix text.now) }
+{
+    chain_prefix(text, true)
 }
 
 /// Whether a name has at most 63 bytes and is such a name, where low lines count as letters. Where the answer is no,
@@ -99,6 +108,15 @@ pub fn is_plain_domain(name: &str) -> bool
     !is_number(name)
 }
 
+/// The same of a name by the wide profile, in which low lines count as letters.
+#[inline(always)]
+pub fn is_plain_wide_domain(name: &str) -> bool
+    requires { is_rooted_chain_of true name.now ≡ true }
+    ensures { IsTrue result → spec.IsDomain Profile.Wide (chars name.now) name.now }
+{
+    is_fitting(name) && !is_number(name)
+}
+
 // Whether the last label ends with a letter that stands in no number, as most do. Where the answer is no, that says
 // nothing.
 pub(crate) fn ends_in_word(name: &[u8]) -> bool
@@ -135,7 +153,7 @@ fn sign_bits(text: &Tail<'_>, place: usize, low: bool) -> u64
 // Whether such a name has the lengths of a domain, as it has where it has no more bytes than one label may have.
 #[inline(always)]
 fn is_fitting(name: &str) -> bool
-    requires { is_rooted_chain name.now ≡ true }
+    requires { IsRootedChain name.now }
     ensures { result ≡ spec.has_lengths name.now }
 {
     name.len() <= 63 || has_lengths(name)

@@ -2,7 +2,7 @@
 use Rattle.std.proofs.Common.{ℕ, List, ◌++◌, Some, None, arith, refl, sym, ap, ◌∙◌, subst}
 use Rattle.std.specs.Str.{chars}
 use Rattle.uv_model.specs.declared.host.Host.TheVariants.{Domain}
-use Rattle.uv_model.specs.declared.profile.Profile.TheVariants.{Standard}
+use Rattle.uv_model.specs.declared.profile.Profile.TheVariants.{Wide}
 use Rattle.uv_model.specs.Ascii.{question_mark}
 use Rattle.uv_model.specs.Parts.{Parts, written_behind}
 use Rattle.uv_model.specs.Setting.{Setting}
@@ -22,8 +22,9 @@ fault_behind_authority-requires c =
     let path = chars_of c.split_marks.result.0 in
     let query = chars_of_option c.split_marks.result.1 in
     let fragment = chars_of_option c.split_marks.result.2 in
-    start_countable (as_base c.args.base) c.args.text.now (chars_of_option s.scheme) (chars_of s.name) s.name.now (chars_of_option s.port_text)
-    s.port (chars s.rest) path query fragment c.utf8.text (omega arith) refl c.requires.start
+    start_countable c.args.profile (as_base c.args.base) c.args.text.now (chars_of_option s.scheme) (chars_of s.name)
+    s.name.now (chars_of_option s.port_text) s.port (chars s.rest) path query fragment c.utf8.text (omega arith) refl
+    c.requires.start
     (behind_cut (chars s.rest) (path ++ written_behind question_mark query) path query fragment c.requires.behind
     (ap chars (sym c.as_str.ensures) ∙ c.split_marks.ensures.joined) c.split_marks.ensures.prefix refl
     c.split_marks.ensures.no_question_mark)
@@ -31,7 +32,7 @@ fault_behind_authority-requires c =
 pub of-requires : goal.of-requires
 of-requires c =
     let name = c.args.start.now.name in
-    IsAscii-form Standard (chars_of name) name.now (c.requires.start.named.domain Standard).0
+    IsAscii-form Wide (chars_of name) name.now c.requires.start.named.wide.0
 
 pub returns-in-Some : goal.returns-in-Some
 returns-in-Some c =

@@ -2,7 +2,7 @@
 use Rattle.std.specs.Prelude.{Some}
 use Rattle.std.specs.Str.{chars}
 use Rattle.std.proofs.lemmas.Result.{IfOk-weaker}
-use Rattle.uv_model.specs.declared.profile.Profile.TheVariants.{Standard}
+use Rattle.uv_model.specs.declared.profile.Profile.TheVariants.{Wide}
 use Rattle.uv_model.proofs.Hosts.DomainLemmas.{IsAscii-form}
 use Rattle.uv_grammar.specs.Bases.{url_of_kind}
 use Rattle.uv_grammar.specs.Slices.{chars_of}
@@ -14,13 +14,14 @@ pub plain_parts-requires : goal.plain_parts-requires
 plain_parts-requires c =
     let name = c.in-Some-plain_cut.cut.name in
     let base = Some (url_of_kind c.args.base) in
-    let plain = c.in-Some-plain_cut.ensures base (chars c.args.text.now) (c.in-Some.ensures base) in
-    IsAscii-form Standard (chars_of name) name.now (plain.named.domain Standard).0
+    let plain = c.in-Some-plain_cut.ensures Wide base (chars c.args.text.now) (c.in-Some.ensures Wide base) in
+    IsAscii-form Wide (chars_of name) name.now plain.named.wide.0
 
 pub returns-in-Some-plain_cut-clause-answer : goal.returns-in-Some-plain_cut-clause-answer
 returns-in-Some-plain_cut-clause-answer c = λ url is.
     c.plain_parts.ensures (chars c.args.text.now) c.args.profile (Some url)
-    (c.in-Some-plain_cut.ensures (Some url) (chars c.args.text.now) (c.in-Some.ensures (Some url)))
+    (c.in-Some-plain_cut.ensures c.args.profile (Some url) (chars c.args.text.now)
+    (c.in-Some.ensures c.args.profile (Some url)))
 
 pub returns-in-None-clause-answer : goal.returns-in-None-clause-answer
 returns-in-None-clause-answer c = λ url is.
@@ -68,4 +69,4 @@ returns-else-has_slash-clause-memory c = λ url is takes.
     (flip base url (kind_alike url c.args.base is)) takes)
 
 pub check_from-requires : goal.check_from-requires
-check_from-requires c = c.in-Some.ensures _
+check_from-requires c = c.in-Some.ensures _ _

@@ -1,6 +1,6 @@
 -- A plain reference is valid against its base.
 use Rattle.std.specs.Str.{chars}
-use Rattle.uv_model.specs.declared.profile.Profile.TheVariants.{Standard}
+use Rattle.uv_model.specs.declared.profile.Profile.TheVariants.{Wide}
 use Rattle.uv_model.proofs.Hosts.DomainLemmas.{IsAscii-form}
 use Rattle.uv_grammar.specs.Bases.{as_base}
 use Rattle.uv_grammar.specs.Slices.{chars_of}
@@ -9,13 +9,15 @@ use Rattle.uv_grammar.proofs.checker.check_reference.Goals as goal
 pub plain_parts-requires : goal.plain_parts-requires
 plain_parts-requires c =
     let name = c.in-Some-plain_cut.cut.name in
-    let plain = c.in-Some-plain_cut.ensures (as_base c.args.base) (chars c.args.text.now) c.in-Some.ensures in
-    IsAscii-form Standard (chars_of name) name.now (plain.named.domain Standard).0
+    let base = as_base c.args.base in
+    let plain = c.in-Some-plain_cut.ensures Wide base (chars c.args.text.now) (c.in-Some.ensures Wide) in
+    IsAscii-form Wide (chars_of name) name.now plain.named.wide.0
 
 pub returns-in-Some-plain_cut-clause-answer : goal.returns-in-Some-plain_cut-clause-answer
 returns-in-Some-plain_cut-clause-answer c =
-    c.plain_parts.ensures (chars c.args.text.now) c.args.profile (as_base c.args.base)
-    (c.in-Some-plain_cut.ensures (as_base c.args.base) (chars c.args.text.now) c.in-Some.ensures)
+    let base = as_base c.args.base in
+    c.plain_parts.ensures (chars c.args.text.now) c.args.profile base
+    (c.in-Some-plain_cut.ensures c.args.profile base (chars c.args.text.now) (c.in-Some.ensures c.args.profile))
 
 pub check_from-requires : goal.check_from-requires
-check_from-requires c = c.in-Some.ensures
+check_from-requires c = c.in-Some.ensures _

@@ -8,7 +8,7 @@ use Rattle.uv_grammar.proofs.HostLemmas.{no_chars}
 use Rattle.uv_grammar.proofs.plain_links.plain_cut.Goals as goal
 
 pub returns : goal.returns
-returns c = λ base text start. record {
+returns c = λ profile base text start. record {
   behind = start.behind;
   rest = start.rest;
   after = chars c.args.start.now.rest;

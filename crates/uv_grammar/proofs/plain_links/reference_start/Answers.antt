@@ -9,7 +9,7 @@ use Rattle.uv_grammar.proofs.PlainPrefixLemmas.{base_scheme, reference_cut}
 use Rattle.uv_grammar.proofs.plain_links.reference_start.Goals as goal
 
 pub returns : goal.returns
-returns c =
+returns c = λ profile.
     let base = as_base c.args.base in
     let scheme = chars_of c.in-Some-special_base.scheme in
     record {
@@ -18,7 +18,7 @@ returns c =
       special =
           reference_cut base (chars c.args.text.now) (chars c.in-Some.behind) scheme c.in-Some.ensures
           c.in-Some-special_base.ensures;
-      named = c.in-Some-split_name.ensures;
+      named = c.in-Some-split_name.ensures profile;
       port_cut =
           subst
           (λ (s : List ℕ).

@@ -10,8 +10,9 @@ use Rattle.uv_grammar.proofs.validity.is_valid_of_kind.Goals as goal
 
 pub returns-in-Some-plain_cut-clause-answer : goal.returns-in-Some-plain_cut-clause-answer
 returns-in-Some-plain_cut-clause-answer c = λ url is.
-    plain_valid (Some url) (chars c.args.text.now) c.in-Some-plain_cut.field-0
-    (c.in-Some-plain_cut.ensures (Some url) (chars c.args.text.now) (c.in-Some.ensures (Some url))) c.args.profile
+    plain_valid c.args.profile (Some url) (chars c.args.text.now) c.in-Some-plain_cut.field-0
+    (c.in-Some-plain_cut.ensures c.args.profile (Some url) (chars c.args.text.now)
+    (c.in-Some.ensures c.args.profile (Some url)))
 
 pub returns-in_default-clause-answer : goal.returns-in_default-clause-answer
 returns-in_default-clause-answer c = λ url is.
@@ -44,4 +45,4 @@ returns-in-None-clause-memory c = λ url is takes.
     (flip base url (kind_alike url c.args.base is)) takes)
 
 pub is_valid_from-requires : goal.is_valid_from-requires
-is_valid_from-requires c = c.in-Some.ensures _
+is_valid_from-requires c = c.in-Some.ensures _ _

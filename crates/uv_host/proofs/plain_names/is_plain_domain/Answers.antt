@@ -10,6 +10,9 @@ is_not : (b : Bool) → IsTrue (not b) → b ≡ false
 is_not true none = absurd (false≢true none)
 is_not false here = refl
 
+pub is_fitting-requires : goal.is_fitting-requires
+is_fitting-requires c = (false, c.requires)
+
 pub is_number-requires : goal.is_number-requires
 is_number-requires c = rooted_ascii c.args.name.now c.requires
 
