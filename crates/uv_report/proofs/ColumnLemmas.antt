@@ -104,3 +104,27 @@ end_tells columns start text place mark is none within = record {
       is.column ∙ ap (λ t. min (start + width columns start t) most)
       (sym (take_end mark.place place (chars text) within (sym none ∙ is.rest)));
 }
+
+-- the mark behind so many code points, where code points are counted
+pub further_is_mark : (start count : ℕ) (text : List ℕ) (mark next : Mark) → IsMark CodePoints start text mark
+    → length (take count (chars mark.rest.now)) ≡ count → chars next.rest.now ≡ drop count (chars mark.rest.now)
+    → next.place ≡ mark.place + count → next.column ≡ min (mark.column + count) most
+    → IsMark CodePoints start text next
+further_is_mark start count text mark next is long behind place column =
+    let points = chars text in
+    let before = length (take mark.place points) in
+    let split : take (mark.place + count) points ≡ take mark.place points ++ take count (chars mark.rest.now) =
+    take-add mark.place count points ∙ ap (λ left. take mark.place points ++ take count left) (sym is.rest) in
+    let taken : length (take (mark.place + count) points) ≡ before + count =
+    ap length split ∙ (length-append (take mark.place points) (take count (chars mark.rest.now))
+    ∙ ap (λ n. before + n) long) in
+    record {
+      column =
+          column ∙ (ap (λ at. min (at + count) most) is.column
+          ∙ (told_more (start + before) (λ _. count)
+          ∙ (ap (λ n. min n most) (add_assoc start before count)
+          ∙ ap (λ n. min (start + n) most) (sym taken ∙ ap (λ n. length (take n points)) (sym place)))));
+      rest =
+          behind ∙ (ap (drop count) is.rest ∙ (drop-drop count mark.place points
+          ∙ ap (λ n. drop n points) (sym place)));
+    }

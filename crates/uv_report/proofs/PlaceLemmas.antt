@@ -1,9 +1,8 @@
 -- The code point at a place of a line, and what stands from there on.
 use Rattle.std.proofs.Common.{◌≡◌, ◌∙◌, ℕ, zero, suc, List, [], ◌∷◌, ◌++◌, refl, sym, ap, inl, inr, length, nat_lt}
-use Rattle.std.proofs.Common.{drop, take, slice_get, lt-ltb, le-ltb, ◌≤◌, subst, arith}
+use Rattle.std.proofs.Common.{drop, drop_at, take, take_at, slice_get, lt-ltb, le-ltb, ◌≤◌, subst, arith}
 use Rattle.std.specs.Str.{IsAscii, IsUtf8, chars}
 use Rattle.std.specs.Option.{is_some}
-use Rattle.std.proofs.Math.Seq.{drop-append_seam}
 use Rattle.std.proofs.lemmas.Bool.{cases_lt}
 use Rattle.std.proofs.lemmas.List.{take-append-drop}
 use Rattle.std.proofs.lemmas.Option.{slice_get-get_or, slice_get_past}
@@ -33,14 +32,25 @@ slice_get_first [] (suc n) = refl
 slice_get_first (c ∷ points) zero = refl
 slice_get_first (c ∷ points) (suc n) = slice_get_first points n
 
+-- ASCII bytes are code points
+pub chars_of_ascii : (line : List ℕ) (place : ℕ) → IsAscii (take place line)
+    → chars line ≡ take place line ++ chars (drop place line)
+chars_of_ascii line place ascii =
+    let front = take place line in
+    let rest = drop place line in
+    ap chars (sym (take-append-drop place line)) ∙ chars-append front rest (IsUtf8-from_ascii front ascii)
+    ∙ ap (λ t. t ++ chars rest) (chars-IsAscii front ascii)
+
+-- so many code points
+pub ascii_points : (line : List ℕ) (place : ℕ) → length (take place line) ≡ place → IsAscii (take place line)
+    → length (take place (chars line)) ≡ place
+ascii_points line place long ascii =
+    ap (λ t. length (take place t)) (chars_of_ascii line place ascii)
+    ∙ ap length (take_at (take place line) (chars (drop place line)) place long) ∙ long
+
 -- behind ASCII bytes stand the code points behind as many code points
 pub chars_behind_ascii : (line : List ℕ) (place : ℕ) → length (take place line) ≡ place → IsAscii (take place line)
     → chars (drop place line) ≡ drop place (chars line)
 chars_behind_ascii line place long ascii =
-    let front = take place line in
-    let rest = drop place line in
-    let cut : chars line ≡ front ++ chars rest =
-    ap chars (sym (take-append-drop place line)) ∙ chars-append front rest (IsUtf8-from_ascii front ascii)
-    ∙ ap (λ t. t ++ chars rest) (chars-IsAscii front ascii) in
-    sym (ap (drop place) cut ∙ ap (λ n. drop n (front ++ chars rest)) (sym long)
-    ∙ drop-append_seam front (chars rest))
+    sym (ap (drop place) (chars_of_ascii line place ascii)
+    ∙ drop_at (take place line) (chars (drop place line)) place long)

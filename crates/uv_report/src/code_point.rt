@@ -1,5 +1,5 @@
 //! How a code point is named: by `U+` and its number, and by its name, where it is an ASCII code point.
-ghost use Rattle.std.specs.Prelude.{◌≡◌, ◌++◌, IfOk, OnOk, map, option_map, slice_get, string_bytes};
+ghost use Rattle.std.specs.Prelude.{◌≡◌, ◌++◌, IfOk, OnOk, codes, map, option_map, slice_get, string_bytes};
 ghost use Rattle.uv_report.specs.CodePoint as spec;
 
 use crate::escapes::is_hidden;
@@ -137,15 +137,23 @@ const ASCII_NAMES: [&str; 128] = [
     "DELETE",
 ];
 
-/// A code point by `U+`, its number, and its name, or beyond ASCII the code point as it is, where it is shown.
+/// Pushes a code point by `U+`, its number, and its name, or beyond ASCII the code point as it is, where it is shown.
 #[tactic(auto, unfolding(crate::specs::CodePoint::point_text))]
-pub(crate) fn point_text(alloc: Global, c: char) -> Result<String, AllocError>
-    ensures { IfOk result (λ text. string_bytes text ≡ spec.point_text c) }
+pub(crate) fn push_point(alloc: Global, text: &mut String, c: char) -> Result<(), AllocError>
+    ensures { OnOk result (string_bytes text.new ≡ string_bytes text.old ++ spec.point_text c) }
+{
+    let number = point_number(alloc, c)?;
+    text.push_str(number.as_str())?;
+    push_point_name(text, c)?;
+    Ok(())
+}
+
+// `U+`, and the number of a code point.
+fn point_number(alloc: Global, c: char) -> Result<String, AllocError>
+    ensures { IfOk result (λ text. string_bytes text ≡ codes "U+" ++ spec.hex_number c) }
 {
     let number = u32::from(c);
-    let mut text = format!(in alloc; "U+{number:04X}")?;
-    push_point_name(&mut text, c)?;
-    Ok(text)
+    format!(in alloc; "U+{number:04X}")
 }
 
 // Pushes a space and the name of an ASCII code point, or of another one the code point, where it is shown.

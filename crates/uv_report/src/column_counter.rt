@@ -3,6 +3,7 @@ ghost use Rattle.std.specs.Prelude.{◌≡◌, ℕ, ◌+◌, ◌-◌, ◌^◌, �
 ghost use Rattle.std.specs.Str.{chars};
 ghost use Rattle.uv_report.specs.Column.{column_at};
 ghost use Rattle.uv_report.specs.ColumnCounter.{IsMark, Tells};
+ghost use Rattle.uv_report.specs.declared.column.Columns.TheVariants.{CodePoints};
 
 use crate::column::{Columns, column_behind};
 use std::marker::Model;
@@ -76,6 +77,48 @@ fn first_mark<'t>(start: u64, text: &'t str) -> Mark<'t>
 
 // The mark of a place behind another, or of the text's end where it has no such place.
 fn mark_at<'t>(columns: Columns, from: Mark<'t>, place: usize) -> Mark<'t>
+    requires { from.place ≤ place }
+    ensures { (start : ℕ) (text : List ℕ) → IsMark columns start text from.entry
+        → Tells columns start text place result }
+{
+    match mark_behind_ascii(columns, from, place) {
+        Some(mark) => mark,
+        None => mark_by_steps(columns, from, place),
+    }
+}
+
+// The mark of a place behind another, where code points are counted and those between the two are ASCII: it is found
+// without a walk over them.
+fn mark_behind_ascii<'t>(columns: Columns, from: Mark<'t>, place: usize) -> Option<Mark<'t>>
+    requires { from.place ≤ place }
+    ensures { (start : ℕ) (text : List ℕ) → IsMark columns start text from.entry
+        → IfSome result (Tells columns start text place) }
+{
+    match columns {
+        Columns::CodePoints => point_behind_ascii(from, place),
+        Columns::Bytes | Columns::Utf16 | Columns::Screen => None,
+    }
+}
+
+// The same of code points.
+fn point_behind_ascii<'t>(from: Mark<'t>, place: usize) -> Option<Mark<'t>>
+    requires { from.place ≤ place }
+    ensures { (start : ℕ) (text : List ℕ) → IsMark CodePoints start text from.entry
+        → IfSome result (Tells CodePoints start text place) }
+{
+    let count = place - from.place;
+    match from.rest.split_at_checked(count) {
+        Some((front, rest)) if front.is_ascii() => Some(Mark {
+            place,
+            column: from.column.saturating_add(count as u64),
+            rest,
+        }),
+        _ => None,
+    }
+}
+
+// The same code point by code point.
+fn mark_by_steps<'t>(columns: Columns, from: Mark<'t>, place: usize) -> Mark<'t>
     requires { from.place ≤ place }
     ensures { (start : ℕ) (text : List ℕ) → IsMark columns start text from.entry
         → Tells columns start text place result }

@@ -5,7 +5,7 @@ ghost use Rattle.uv_report.specs.Gnu.{gnu_position, gnu_text, gnu_words};
 use crate::diagnostic::Diagnostic;
 use crate::escapes::{Escapes, push_escaped};
 use crate::line_violation::LineViolation;
-use crate::message::message;
+use crate::message::push_message;
 use itoa::Buffer;
 use std::alloc::{AllocError, Global};
 
@@ -47,7 +47,7 @@ fn push_words(
     ensures { OnOk result (string_bytes text.new ≡ string_bytes text.old ++ gnu_words line.now violation) }
 {
     text.push_str(": error: ")?;
-    text.push_str(message(alloc, line, violation)?.as_str())?;
+    push_message(alloc, text, line, violation)?;
     text.push_str(" [")?;
     text.push_str(violation.name())?;
     text.push_str("]\n")?;

@@ -4,7 +4,7 @@ ghost use Rattle.std.specs.Prelude.{◌≡◌, ◌++◌, IfOk, OnOk, option_copi
 ghost use Rattle.uv_report.specs.Escapes.{escaped};
 ghost use Rattle.uv_report.specs.Message as spec;
 
-use crate::code_point::point_text;
+use crate::code_point::push_point;
 use crate::escapes::{Escapes, push_escaped};
 use crate::line_violation::LineViolation;
 use crate::window::{point_at, rest_at};
@@ -22,10 +22,25 @@ pub(crate) fn message(
 ) -> Result<String, AllocError>
     ensures { IfOk result (λ text. string_bytes text ≡ spec.message line.now violation) }
 {
+    // Room for most sentences.
+    let mut text = String::with_capacity(alloc, 100)?;
+    push_message(alloc, &mut text, line, violation)?;
+    Ok(text)
+}
+
+/// Pushes what is reported of a line.
+pub(crate) fn push_message(
+    alloc: Global,
+    text: &mut String,
+    line: &str,
+    violation: LineViolation,
+) -> Result<(), AllocError>
+    ensures { OnOk result (string_bytes text.new ≡ string_bytes text.old ++ spec.message line.now violation) }
+{
     match violation {
-        LineViolation::Refused(refusal) => refusal_message(alloc, line, refusal),
+        LineViolation::Refused(refusal) => push_refusal(alloc, text, line, refusal),
         LineViolation::NotUtf8 | LineViolation::TooLong | LineViolation::NotLocated => {
-            String::from_str(alloc, violation.sentence())
+            text.push_str(violation.sentence())
         }
     }
 }
@@ -45,27 +60,39 @@ pub(crate) fn push_escaped_message(
     push_escaped(text, message.as_str(), escapes)
 }
 
-// What is reported of a refused line.
+// Pushes what is reported of a refused line.
 #[tactic(auto, unfolding(crate::specs::Message::refusal_message))]
-fn refusal_message(alloc: Global, line: &str, refusal: Refusal) -> Result<String, AllocError>
-    ensures { IfOk result (λ text. string_bytes text ≡ spec.refusal_message line.now refusal) }
+fn push_refusal(
+    alloc: Global,
+    text: &mut String,
+    line: &str,
+    refusal: Refusal,
+) -> Result<(), AllocError>
+    ensures { OnOk result (string_bytes text.new
+        ≡ string_bytes text.old ++ spec.refusal_message line.now refusal) }
 {
     if is_of_authority(refusal.rule) && has_credentials(line, refusal.place) {
-        return String::from_str(alloc, CREDENTIALS);
+        return text.push_str(CREDENTIALS);
     }
-    point_sentence(alloc, refusal.rule, point_at(line, refusal.place))
+    push_point_sentence(alloc, text, refusal.rule, point_at(line, refusal.place))
 }
 
-// What is said of a code point that violates a rule, where the rule is about one, else the rule's sentence.
-fn point_sentence(alloc: Global, rule: Rule, point: Option<char>) -> Result<String, AllocError>
-    ensures { IfOk result (λ text. string_bytes text ≡ spec.point_sentence rule (spec.said_of_point rule) point) }
+// Pushes what is said of a code point that violates a rule, where the rule is about one, else the rule's sentence.
+fn push_point_sentence(
+    alloc: Global,
+    text: &mut String,
+    rule: Rule,
+    point: Option<char>,
+) -> Result<(), AllocError>
+    ensures { OnOk result (string_bytes text.new ≡ string_bytes text.old
+        ++ spec.point_sentence rule (spec.said_of_point rule) point) }
 {
     let (Some(said), Some(c)) = (said_of_point(rule), point) else {
-        return String::from_str(alloc, rule.sentence());
+        return text.push_str(rule.sentence());
     };
-    let mut text = point_text(alloc, c)?;
+    push_point(alloc, text, c)?;
     text.push_str(said)?;
-    Ok(text)
+    Ok(())
 }
 
 // What is said of a code point that violates a rule, where the rule is about one.

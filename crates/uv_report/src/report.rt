@@ -91,7 +91,8 @@ fn text_of(
 ) -> Result<String, AllocError>
     ensures { IfOk result (λ reported. string_bytes reported ≡ diagnostic_text format is_first diagnostic.now) }
 {
-    let mut reported = String::new(alloc);
+    // Room for most diagnostics: what grows piece by piece is moved at many of them.
+    let mut reported = String::with_capacity(alloc, 1_000)?;
     match format {
         Format::Gnu => push_gnu(alloc, &mut reported, diagnostic)?,
         Format::Caret => push_caret(alloc, &mut reported, diagnostic)?,

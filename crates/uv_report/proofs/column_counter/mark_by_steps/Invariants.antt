@@ -1,7 +1,7 @@
 -- The mark of the place that the loop has come to.
 use Rattle.std.proofs.Common.{◌≡◌, ℕ, List}
 use Rattle.uv_report.specs.ColumnCounter.{IsMark}
-use Rattle.uv_report.proofs.column_counter.mark_at.Given as goal
+use Rattle.uv_report.proofs.column_counter.mark_by_steps.Given as goal
 
 abbrev pub invariant-loop : goal.invariant-loop
 invariant-loop l = record {

@@ -1,7 +1,7 @@
 -- At the text's end its mark is that of each place behind.
 use Rattle.std.proofs.Common.{◌≤◌, arith}
 use Rattle.uv_report.proofs.ColumnLemmas.{end_tells}
-use Rattle.uv_report.proofs.column_counter.mark_at.Goals as goal
+use Rattle.uv_report.proofs.column_counter.mark_by_steps.Goals as goal
 
 pub returns-in-None : goal.returns-in-None
 returns-in-None c = λ start text is.
