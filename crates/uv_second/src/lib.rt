@@ -4,7 +4,9 @@
 mod answer;
 mod fault;
 mod readings;
+mod same;
 
 pub use answer::{read_as, serial};
 pub use fault::RoomFault;
 pub use readings::reading;
+pub use same::reads_same;

@@ -1,0 +1,62 @@
+//! Whether the second parser reads two texts as one URL.
+ghost use Rattle.std.specs.Prelude.{◌≡◌, ◌↔◌, IfOk, IsTrue, option_copied};
+ghost use Rattle.uv_second.specs.Second.{IsOwnBase, ReadsSame, SameAgainst};
+
+use crate::answer::{read_as, second_url};
+use crate::fault::RoomFault;
+use std::alloc::Global;
+use url::Url;
+use uv_model::Record;
+
+/// Whether the second parser reads both texts as URLs of one text, against the text of the base where there is one. A
+/// text that is the URL of the other one isn't read: the second parser reads what it writes as the same URL.
+#[tactic(auto, unfolding(crate::specs::Second::reading, crate::specs::Second::text_against))]
+pub fn reads_same(
+    alloc: Global,
+    base: Option<&Record>,
+    text: &str,
+    other: &str,
+) -> Result<bool, RoomFault>
+    ensures { IfOk result (λ same. IsTrue same ↔ ReadsSame (option_copied base.entry) text.now other.now) }
+{
+    let Some(record) = base else {
+        return same_against(alloc, None, text, other);
+    };
+    let written = record.text(alloc)?;
+    match second_url(alloc, None, written.as_str())? {
+        Some(base) => {
+            let _valid = base.as_str();
+            same_against(alloc, Some(&base), text, other)
+        }
+        None => Ok(false),
+    }
+}
+
+// The same against a base of its own.
+#[tactic(auto, unfolding(crate::specs::Second::text_against, crate::specs::Second::second_serial))]
+fn same_against(
+    alloc: Global,
+    base: Option<&Url>,
+    text: &str,
+    other: &str,
+) -> Result<bool, RoomFault>
+    requires { IsOwnBase (option_copied base) }
+    ensures { IfOk result (λ same. IsTrue same ↔ SameAgainst (option_copied base.entry) text.now other.now) }
+{
+    let Some(url) = second_url(alloc, base, text)? else {
+        return Ok(false);
+    };
+    let written = url.as_str();
+    if is_same(written, other) {
+        return Ok(true);
+    }
+    let read = read_as(alloc, base, other, written)?;
+    Ok(read.is_some())
+}
+
+// Whether two texts have the same bytes.
+fn is_same(text: &str, other: &str) -> bool
+    ensures { IsTrue result ↔ (text.now ≡ other.now) }
+{
+    text == other
+}
