@@ -85,7 +85,7 @@ vector_file '[]'
 ends_with 3 $? 'write\n' 'vectors, into a full device'
 
 # The suite of the tests is the file for others, byte for byte.
-suite=$(dirname "$here")/crates/uv_vectors/src/tests/suite.rt
+suite=$(dirname "$here")/crates/test_inputs/src/vectors/suite.rt
 count=$((count + 1))
 if ! sed -n '/r##"/,/^"##;$/p' "$suite" | sed '1s/.*r##"//; $d' | cmp -s - "$vectors/standard.json"; then
     fail 'the suite of the tests and vectors/standard.json differ'

@@ -78,6 +78,8 @@ refused "'--parser'" check --parser urn:a
 profiles='urlcheck: the profiles: standard wide parser\nwords\n'
 expect 2 '' "urlcheck: no profile is named 'wyde'; the nearest is wide\n$profiles" check --profile wyde urn:a
 expect 2 '' "urlcheck: no profile is named 'WIDE'; the nearest is wide\n$profiles" links --profile WIDE --base 'a b'
+expect 2 '' "urlcheck: no profile is named 'STANDRAD'; the nearest is standard\n$profiles" check --profile STANDRAD urn:a
+expect 2 '' "urlcheck: no profile is named '\0357\0277\0275x'\n$profiles" check --profile $'\ex' urn:a
 expect 2 '' "urlcheck: no profile is named 'Parse'; the nearest is parser\n$profiles" mend --profile Parse urn:a
 expect 2 '' "urlcheck: no profile is named 'browser'\n$profiles" lint --profile browser missing
 expect 2 '' "urlcheck: no profile is named ''\n$profiles" check --profile= urn:a
@@ -186,4 +188,4 @@ expect 0 'valid\nscheme file\nhost domain h\nsegment C:\nsegment x\n' '' check -
 expect 0 'valid\nscheme urn\nopaque a b\nfragment f\n' '' check --profile parser --base 'urn:a b' '#f'
 expect 2 '' 'base refused 5 code-point\n' check --wide --base 'urn:a b' '#f'
 expect 2 '' 'base refused 7 host-number\n' check --profile parser --base http://256/ x
-all_cases 158
+all_cases 160

@@ -28,6 +28,4 @@ pub use linted::Linted;
 pub use mend::run_mend;
 pub use uv_vectors::{CliFault, VectorEnd, run_vectors};
 pub use uv_words::{FilterJob, Job, LintJob, WordsFault, read_words};
-
-#[cfg(test)]
-mod tests;
+pub use watched::WatchedWriter;

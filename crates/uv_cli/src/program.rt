@@ -27,9 +27,11 @@ const NO_JOB: &str = "--wide stands for --profile wide: only one of them may be 
 
 /// How the program ends, and whether whoever read its output has gone: then nothing is said of the end.
 #[derive(Clone, Copy)]
-pub(crate) struct Ended {
-    pub(crate) end: End,
-    pub(crate) is_closed: bool,
+pub struct Ended {
+    /// The end.
+    pub end: End,
+    /// Whether whoever read the output has gone.
+    pub is_closed: bool,
 }
 
 /// Runs the program on the arguments of the runtime, and gives its exit status.
@@ -143,8 +145,8 @@ fn file_of<R: Files + Eprint + AllocGlobal>(rt: &R, job: &Job) -> Result<Vec<u8>
     read
 }
 
-/// The end once the output is flushed, or once that failed.
-pub(crate) fn finished<W: Write>(end: End, out: &mut WatchedWriter<W>) -> Ended
+/// The end once the output is flushed, or once that failed: then it is that of a failed write.
+pub fn finished<W: Write>(end: End, out: &mut WatchedWriter<W>) -> Ended
     ensures ended { result ≡ ended_after end out.new.is_flushed out.new.fault }
     ensures bytes { Keeps (W.contents out.old.writer) (W.contents out.new.writer) }
 {

@@ -53,7 +53,7 @@ impl<R: Read> Read for WatchedReader<R> {
 /// A writer, with the kind of its last error, if a write or a flush of it has failed, and whether it is flushed: no
 /// write came behind the last flush, and that didn't fail.
 #[derive(Drop)]
-pub(crate) struct WatchedWriter<W> {
+pub struct WatchedWriter<W> {
     writer: W,
     fault: Option<ErrorKind>,
     is_flushed: bool,
@@ -61,7 +61,7 @@ pub(crate) struct WatchedWriter<W> {
 
 impl<W> WatchedWriter<W> {
     /// The writer, of which no call has failed yet, and that isn't flushed.
-    pub(crate) fn new(writer: W) -> WatchedWriter<W>
+    pub fn new(writer: W) -> WatchedWriter<W>
         ensures { result ≡ record { writer = writer; fault = None; is_flushed = false } }
     {
         WatchedWriter {
@@ -72,7 +72,7 @@ impl<W> WatchedWriter<W> {
     }
 
     /// The kind of the last error.
-    pub(crate) fn fault(&self) -> Option<ErrorKind>
+    pub fn fault(&self) -> Option<ErrorKind>
         ensures { result ≡ self.now.fault }
     {
         self.fault

@@ -8,6 +8,3 @@ mod run;
 
 pub use fault::CliFault;
 pub use run::{MOST_BYTES, VectorEnd, run_vectors};
-
-#[cfg(test)]
-mod tests;

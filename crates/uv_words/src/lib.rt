@@ -6,6 +6,3 @@ mod profile;
 mod words;
 
 pub use words::{FilterJob, Job, LintJob, WordsFault, read_words};
-
-#[cfg(test)]
-mod tests;

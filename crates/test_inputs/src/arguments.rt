@@ -1,10 +1,10 @@
 //! Arguments that are written out, and what they ask for by the program's usage.
 
-use crate::words::{FilterJob, Job, LintJob, WordsFault, read_words};
 use clap::error::ErrorKind;
 use std::process::Abort;
 use std::test::Fail;
 use uv_model::{Extent, Profile};
+use uv_words::{FilterJob, Job, LintJob, WordsFault, read_words};
 
 // What is asked for: a command, its texts and its options. A base, a format or a unit is one text, or none.
 #[derive(Clone, Copy)]

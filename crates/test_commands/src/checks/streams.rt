@@ -2,7 +2,7 @@
 //! first violation and of all of them.
 
 use super::*;
-use crate::check::run_faults;
+use uv_cli::run_faults;
 use uv_model::{Extent, ScriptSink};
 
 // A text, its base, the profile, and what is written of it.

@@ -2,13 +2,12 @@
 
 mod suite;
 
-use crate::fault::CliFault;
-use crate::run::{MOST_BYTES, VectorEnd, run_vectors};
 use std::alloc::Global;
 use std::process::Abort;
 use std::test::Fail;
 use suite::SUITE;
 use uv_model::ToWriter;
+use uv_vectors::{CliFault, MOST_BYTES, VectorEnd, run_vectors};
 
 // How a run over the bytes ends, and what it writes.
 fn ran(alloc: Global, bytes: &[u8]) -> Result<(VectorEnd, Vec<u8>), CliFault> {

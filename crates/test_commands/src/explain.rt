@@ -1,9 +1,9 @@
 //! Explanations of rules: their lines, as docs/RULES.md and the README's table have them, and each failed write.
 
-use super::holds;
-use crate::explain::{ExplainEnd, run_explain};
+use crate::rows::holds;
 use std::process::Abort;
 use std::test::Fail;
+use uv_cli::{ExplainEnd, run_explain};
 use uv_model::{DeviceFault, ScriptSink, Sink, ToWriter};
 use uv_vectors::CliFault;
 

@@ -2,26 +2,16 @@
 
 ghost use Rattle.std.specs.Prelude.{None};
 
-mod explain;
-mod faults;
-mod filter;
-mod lint;
 mod memory;
-mod mend;
-mod program;
 mod streams;
 
-use crate::check::{CheckEnd, run_check};
+use crate::rows::holds;
 use std::alloc::Global;
 use std::process::Abort;
 use std::test::Fail;
+use uv_cli::{CheckEnd, run_check};
 use uv_model::{DeviceFault, Profile, Refusal, Rule, Sink, ToWriter};
 use uv_vectors::CliFault;
-
-// It holds of a row of a table.
-fn holds(rt: &impl Abort, is: bool, row: &str) {
-    assert!(rt; is, "at {row}");
-}
 
 // How a check ends, and what it writes.
 fn written(alloc: Global, text: &str, base: Option<&str>) -> Result<(CheckEnd, Vec<u8>), CliFault> {

@@ -1,12 +1,11 @@
 //! What `run_mend` writes in place of texts: each mended text is worked out by hand from the URL Standard, and each kind
 //! from its section 4.4.
 
-use super::holds;
-use crate::check::CheckEnd;
-use crate::mend::run_mend;
+use crate::rows::holds;
 use std::alloc::Global;
 use std::process::Abort;
 use std::test::Fail;
+use uv_cli::{CheckEnd, run_mend};
 use uv_model::{Profile, Refusal, Rule, ToWriter};
 use uv_vectors::CliFault;
 

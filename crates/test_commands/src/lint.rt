@@ -1,13 +1,11 @@
 //! Lints of files: standard input beside files that aren't there, failed reads and writes, and jobs that are refused.
 
-use super::holds;
-use crate::ends::{End, error_line, status};
-use crate::jobs::run_job;
-use crate::linted::Linted;
+use crate::rows::holds;
 use std::alloc::Global;
 use std::fs::Files;
 use std::process::Abort;
 use std::test::Fail;
+use uv_cli::{End, Linted, error_line, run_job, status};
 use uv_lint::{LintCounts, LintFault};
 use uv_model::{DeviceFault, Extent, Profile, Refusal, Rule, ScriptSink, ScriptSource};
 use uv_words::{Job, LintJob};

@@ -1,13 +1,12 @@
 //! Filters of lines: what is written of them, the counts and the statuses, failed reads and writes, and jobs that are
 //! refused.
 
-use super::holds;
-use crate::ends::{End, error_line, status};
-use crate::jobs::run_job;
+use crate::rows::holds;
 use std::alloc::Global;
 use std::fs::Files;
 use std::process::Abort;
 use std::test::Fail;
+use uv_cli::{End, error_line, run_job, status};
 use uv_model::{DeviceFault, Profile, ScriptSink, ScriptSource};
 use uv_words::{FilterJob, Job};
 

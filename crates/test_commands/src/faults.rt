@@ -1,11 +1,11 @@
 //! What `run_faults` writes of texts written out, by the rules of the URL Standard, section 4.3: each expected fault is
 //! worked out by hand from those rules.
 
-use super::holds;
-use crate::check::{CheckEnd, run_faults};
+use crate::rows::holds;
 use std::alloc::Global;
 use std::process::Abort;
 use std::test::Fail;
+use uv_cli::{CheckEnd, run_faults};
 use uv_model::{Profile, Refusal, Rule, ToWriter};
 use uv_vectors::CliFault;
 
