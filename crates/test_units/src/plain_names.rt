@@ -2,7 +2,7 @@
 
 use std::alloc::{AllocError, Global};
 use std::process::Abort;
-use uv_host::{PlainAnswer, name_prefix, plain_answer};
+use uv_host::{PlainAnswer, is_plain_wide_domain, name_prefix, plain_answer, wide_name_prefix};
 use uv_model::Profile;
 use uv_text::Tail;
 
@@ -24,18 +24,34 @@ fn ends_behind_a_letter_or_a_digit(rt: HostRuntime) {
     }
 }
 
-// The name at the start of a label of so many bytes and what stands behind it.
-fn prefix_of_label(
-    alloc: Global,
-    length: usize,
-    behind: &str,
-) -> Result<Option<usize>, AllocError> {
+// By the wide profile a low line counts as a letter, and all else is as it is by the others.
+#[test]
+fn goes_on_behind_a_low_line(rt: HostRuntime) {
+    for (text, end) in [
+        ("example.com/", 11),
+        ("a_b", 3),
+        ("_dmarc.example.com/", 18),
+        ("_", 1),
+        ("a._.b:80", 5),
+        ("a_-_b", 5),
+        ("a_.", 3),
+        ("a_..b", 3),
+    ] {
+        assert_eq!(rt; wide_name_prefix(&Tail::of(text)), Some(end), "of {text}");
+    }
+    for text in ["", ".", ".a", "_-/", "a-._", "-_", "A_"] {
+        assert_eq!(rt; wide_name_prefix(&Tail::of(text)), None, "of {text}");
+    }
+}
+
+// A label of so many bytes and what stands behind it.
+fn label_before(alloc: Global, length: usize, behind: &str) -> Result<String, AllocError> {
     let mut text = String::new(alloc);
     for _ in 0..length {
         text.push('a')?;
     }
     text.push_str(behind)?;
-    Ok(name_prefix(&Tail::of(text.as_str())))
+    Ok(text)
 }
 
 #[test]
@@ -52,8 +68,34 @@ fn ends_alike_at_each_length(rt: HostRuntime) -> Result<(), AllocError> {
             ("-.b", None),
             ("-", None),
         ] {
-            let found = prefix_of_label(rt.alloc(), length, behind)?;
-            assert_eq!(rt; found, end, "of {length} before {behind}");
+            let text = label_before(rt.alloc(), length, behind)?;
+            let text = Tail::of(text.as_str());
+            assert_eq!(rt; name_prefix(&text), end, "of {length} before {behind}");
+            assert_eq!(rt; wide_name_prefix(&text), end, "of {length} before {behind}");
+        }
+    }
+    Ok(())
+}
+
+#[test]
+fn ends_a_name_with_low_lines_alike_at_each_length(rt: HostRuntime) -> Result<(), AllocError> {
+    for length in 1..70usize {
+        for (behind, end, wide) in [
+            ("_/", Some(length), Some(length + 1)),
+            ("_.com/a", Some(length), Some(length + 5)),
+            ("-_:80", None, Some(length + 2)),
+            ("._./", Some(length + 1), Some(length + 3)),
+            ("_--b", Some(length), None),
+            ("_A", Some(length), Some(length + 1)),
+        ] {
+            let text = label_before(rt.alloc(), length, behind)?;
+            let text = Tail::of(text.as_str());
+            assert_eq!(rt; name_prefix(&text), end, "of {length} before {behind}");
+            assert_eq!(rt;
+                wide_name_prefix(&text),
+                wide,
+                "of {length} before {behind}"
+            );
         }
     }
     Ok(())

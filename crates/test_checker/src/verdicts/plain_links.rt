@@ -99,6 +99,34 @@ fn judges_what_follows_a_plain_start_by_the_wide_profile(
                 "scheme-authority scheme http host h is domain h port 8080 is 8080 path //a () (a)",
             ),
             ("http://h//a b", "no 11 code-point"),
+            (
+                "http://a_b.c/d?e#f",
+                "scheme-authority scheme http host a_b.c is domain a_b.c path /d (d) query e fragment f",
+            ),
+            (
+                "https://_.c:81",
+                "scheme-authority scheme https host _.c is domain _.c port 81 is 81 path ",
+            ),
+            (
+                "http://a_b//c",
+                "scheme-authority scheme http host a_b is domain a_b path //c () (c)",
+            ),
+            ("http://a_b/c d", "no 12 code-point"),
+            ("http://a_.0x1/", "no 7 host-number"),
+            ("http://a_b:65536/", "no 11 port-range"),
+        ],
+    )
+}
+
+#[test]
+fn refuses_a_low_line_by_the_standard_profile(rt: HostRuntime) -> Result<(), AllocError> {
+    are_lines(
+        &rt,
+        None,
+        Profile::Standard,
+        &[
+            ("http://a_b/", "no 7 host-domain"),
+            ("http://a._/c", "no 7 host-domain"),
         ],
     )
 }
