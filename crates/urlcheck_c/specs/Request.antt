@@ -14,6 +14,7 @@ use Rattle.urlcheck_c.specs.declared.finding.Finding.{Finding}
 use Rattle.urlcheck_c.specs.declared.finding.CallOutcome.{CallOutcome}
 use Rattle.urlcheck_c.specs.declared.finding.CallOutcome.TheVariants.{NoUtf8, BaseRefused, BaseNoUtf8, Memory}
 use Rattle.urlcheck_c.specs.declared.finding.CallOutcome.TheVariants.{NoProfile}
+use Rattle.urlcheck_c.specs.declared.request.LoneRequest.{LoneRequest}
 use Rattle.urlcheck_c.specs.declared.request.Request.{Request}
 use Rattle.urlcheck_c.specs.Finding.{no_utf8_finding, plain_finding, profile_of, refused_finding}
 
@@ -90,3 +91,9 @@ abbrev pub IsPrepared : ℕ → Option (List ℕ) → List ℕ → Result Reques
 IsPrepared number base bytes (Ok request) =
     (request.text.now ≡ bytes) × IsRequest number base bytes request.profile request.base
 IsPrepared number base bytes (Err finding) = IsUnjudged number base bytes finding
+
+-- the same of a text alone
+abbrev pub IsPreparedAlone : ℕ → List ℕ → Result LoneRequest Finding → Type 0
+IsPreparedAlone number bytes (Ok request) =
+    (request.text.now ≡ bytes) × IsRequest number None bytes request.profile None
+IsPreparedAlone number bytes (Err finding) = IsUnjudged number None bytes finding

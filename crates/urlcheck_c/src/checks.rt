@@ -8,10 +8,11 @@ ghost use Rattle.urlcheck_c.specs.Span.{no_spans};
 
 use crate::bases::{Base, HeldRequest, prepared_with};
 use crate::finding::{CallOutcome, Finding};
-use crate::request::{Request, prepared};
+use crate::request::{prepared, prepared_alone};
 use crate::spans::{Spans, placed};
 use std::alloc::{AllocError, Global};
 use uv_grammar::{Verdict, check, check_of_kind};
+use uv_model::{Profile, Record};
 
 /// What a text is, and where its parts stand.
 #[repr(C)]
@@ -28,7 +29,10 @@ pub struct Answer {
 pub extern "C" fn urlcheck_check(alloc: Global, text: &[u8], profile: u32) -> Answer
     ensures { IsAnswer profile None text.now result }
 {
-    answered(alloc, text, None, profile)
+    match prepared_alone(text, profile) {
+        Ok(request) => judged(alloc, request.text, None, request.profile),
+        Err(found) => unjudged(found),
+    }
 }
 
 /// Whether the bytes are a valid URL string against the bytes of a base, which is judged alone by the same profile.
@@ -41,7 +45,10 @@ pub extern "C" fn urlcheck_check_against(
 ) -> Answer
     ensures { IsAnswer profile (Some base.now) text.now result }
 {
-    answered(alloc, text, Some(base), profile)
+    match prepared(alloc, text, Some(base), profile) {
+        Ok(request) => judged(alloc, request.text, request.base.as_ref(), request.profile),
+        Err(found) => unjudged(found),
+    }
 }
 
 /// The same against a base that `urlcheck_prepare` gave, by the base's profile: what `urlcheck_check_against` says of
@@ -57,24 +64,12 @@ pub extern "C" fn urlcheck_check_with(alloc: Global, text: &[u8], base: &Base) -
     }
 }
 
-// The answer on bytes, alone or against those of a base.
-#[inline(always)]
-fn answered(alloc: Global, text: &[u8], base: Option<&[u8]>, profile: u32) -> Answer
-    ensures { IsAnswer profile (option_copied base.entry) text.now result }
-{
-    match prepared(alloc, text, base, profile) {
-        Ok(request) => judged(alloc, &request),
-        Err(found) => unjudged(found),
-    }
-}
-
 // The answer on a text that is judged.
 #[inline(always)]
-fn judged(alloc: Global, request: &Request<'_>) -> Answer
-    ensures { IsJudged request.now.profile request.now.base request.now.text.now result }
+fn judged(alloc: Global, text: &str, base: Option<&Record>, profile: Profile) -> Answer
+    ensures { IsJudged profile (option_copied base.entry) text.now result }
 {
-    let text = request.text;
-    match check(alloc, text, request.base.as_ref(), request.profile) {
+    match check(alloc, text, base, profile) {
         Ok(Verdict::Yes(parts)) => Answer {
             found: Finding::plain(CallOutcome::Valid),
             parts: placed(text, &parts),

@@ -1,7 +1,7 @@
 //! What a call asks: a text, a base and a profile, read from what C gave.
 ghost use Rattle.std.specs.Prelude.{◌≡◌, option_copied};
 ghost use Rattle.urlcheck_c.specs.Finding.{profile_of};
-ghost use Rattle.urlcheck_c.specs.Request.{IsBaseRead, IsPrepared, IsTextRead};
+ghost use Rattle.urlcheck_c.specs.Request.{IsBaseRead, IsPrepared, IsPreparedAlone, IsTextRead};
 
 use crate::ascii::ascii_text;
 use crate::finding::{CallOutcome, Finding};
@@ -19,6 +19,27 @@ pub(crate) struct Request<'t> {
     pub(crate) base: Option<Record>,
     /// The profile by which both are judged.
     pub(crate) profile: Profile,
+}
+
+/// A text that is to be judged alone, without room for a base.
+#[derive(Drop)]
+pub(crate) struct LoneRequest<'t> {
+    /// The text.
+    pub(crate) text: &'t str,
+    /// The profile by which it is judged.
+    pub(crate) profile: Profile,
+}
+
+/// What is to be judged of the bytes of a text alone, or why nothing is.
+#[inline(always)]
+pub(crate) fn prepared_alone<'t>(text: &'t [u8], profile: u32) -> Result<LoneRequest<'t>, Finding>
+    ensures { IsPreparedAlone profile text.now result }
+{
+    let Some(profile) = profile_of(profile) else {
+        return Err(Finding::plain(CallOutcome::NoProfile));
+    };
+    let text = text_of(text, CallOutcome::NoUtf8)?;
+    Ok(LoneRequest { text, profile })
 }
 
 /// What is to be judged of the bytes of a text and of a base, or why nothing is.
