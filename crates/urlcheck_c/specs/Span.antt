@@ -1,5 +1,5 @@
 -- The parts of a text as places in its bytes.
-use Rattle.std.specs.Prelude.{◌≡◌, ℕ, ◌+◌, ◌≤◌, true, false, List, Option, Some, None, length, slice_range}
+use Rattle.std.specs.Prelude.{◌≡◌, ℕ, ◌+◌, ◌≤◌, List, Option, Some, None, length, slice_range}
 use Rattle.std.specs.Str.{encode_utf8_all}
 use Rattle.urlcheck_c.specs.declared.spans.Span.{Span}
 use Rattle.urlcheck_c.specs.declared.spans.Spans.{Spans}
@@ -7,7 +7,7 @@ use Rattle.uv_model.specs.Parts.{Parts}
 
 -- the span of an absent part
 abbrev pub no_span : Span
-no_span = record { start = 0; length = 0; present = false }
+no_span = record { start = 0; length = 0; present = 0 }
 
 -- the spans of a text without parts
 abbrev pub no_spans : Spans
@@ -54,7 +54,7 @@ whole_extent parts = fragment_at parts + extent 1 parts.fragment
 -- the span of a part whose delimiter begins here
 abbrev pub span_of : ℕ → ℕ → Option (List ℕ) → Span
 span_of at mark None = no_span
-span_of at mark (Some part) = record { start = at + mark; length = length (encode_utf8_all part); present = true }
+span_of at mark (Some part) = record { start = at + mark; length = length (encode_utf8_all part); present = 1 }
 
 -- the spans of parts that stand one behind the other
 abbrev pub spans_of : Parts → Spans

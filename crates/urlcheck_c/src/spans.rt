@@ -17,8 +17,9 @@ pub struct Span {
     pub start: usize,
     /// How long it is.
     pub length: usize,
-    /// Whether the text has it.
-    pub present: bool,
+    /// 1 where the text has it, else 0. C reads the first byte as its `bool`. The field has the room of C's padding
+    /// too, which would else be written for itself, in pieces.
+    pub present: u64,
 }
 
 /// The parts of a text, each without its delimiters.
@@ -48,7 +49,7 @@ impl Spans {
         let none = Span {
             start: 0,
             length: 0,
-            present: false,
+            present: 0,
         };
         Spans {
             scheme: none,
@@ -116,12 +117,12 @@ fn one_place(at: usize, mark: usize, part: Option<&str>) -> Span
         Some(part) => Span {
             start: at + mark,
             length: part.len(),
-            present: true,
+            present: 1,
         },
         None => Span {
             start: 0,
             length: 0,
-            present: false,
+            present: 0,
         },
     }
 }

@@ -21,7 +21,7 @@ fn finds(rt: &impl Abort, found: Finding, wanted: (u32, u32, usize, usize)) {
 
 // A part begins here and is so long, or it is absent.
 fn stands(rt: &impl Abort, part: Span, wanted: Option<(usize, usize)>) {
-    assert_eq!(rt; part.present, wanted.is_some());
+    assert_eq!(rt; part.present, u64::from(wanted.is_some()));
     let (start, length) = wanted.unwrap_or((0, 0));
     assert_eq!(rt; part.start, start);
     assert_eq!(rt; part.length, length);
