@@ -1,5 +1,5 @@
 //! The check of a text: whether it is valid, and where its parts stand.
-ghost use Rattle.std.specs.Prelude.{◌≡◌, ℕ, List, None, Some, option_copied};
+ghost use Rattle.std.specs.Prelude.{◌≡◌, ℕ, List, None, Some};
 ghost use Rattle.uv_grammar.specs.Bases.{IsOfKind};
 ghost use Rattle.uv_model.specs.Records.Url.{Url};
 ghost use Rattle.urlcheck_c.specs.Answer.{IsAnswer, IsJudged};
@@ -8,11 +8,10 @@ ghost use Rattle.urlcheck_c.specs.Span.{no_spans};
 
 use crate::bases::{Base, HeldRequest, prepared_with};
 use crate::finding::{CallOutcome, Finding};
-use crate::request::{prepared, prepared_alone};
+use crate::request::{LoneRequest, Request, prepared, prepared_alone};
 use crate::spans::{Spans, placed};
 use std::alloc::{AllocError, Global};
-use uv_grammar::{Verdict, check, check_of_kind};
-use uv_model::{Profile, Record};
+use uv_grammar::{Verdict, check, check_alone, check_of_kind};
 
 /// What a text is, and where its parts stand.
 #[repr(C)]
@@ -30,7 +29,7 @@ pub extern "C" fn urlcheck_check(alloc: Global, text: &[u8], profile: u32) -> An
     ensures { IsAnswer profile None text.now result }
 {
     match prepared_alone(text, profile) {
-        Ok(request) => judged(alloc, request.text, None, request.profile),
+        Ok(request) => judged_alone(alloc, &request),
         Err(found) => unjudged(found),
     }
 }
@@ -46,7 +45,7 @@ pub extern "C" fn urlcheck_check_against(
     ensures { IsAnswer profile (Some base.now) text.now result }
 {
     match prepared(alloc, text, Some(base), profile) {
-        Ok(request) => judged(alloc, request.text, request.base.as_ref(), request.profile),
+        Ok(request) => judged(alloc, &request),
         Err(found) => unjudged(found),
     }
 }
@@ -64,12 +63,28 @@ pub extern "C" fn urlcheck_check_with(alloc: Global, text: &[u8], base: &Base) -
     }
 }
 
-// The answer on a text that is judged.
+// The answer on a text that is judged alone.
 #[inline(always)]
-fn judged(alloc: Global, text: &str, base: Option<&Record>, profile: Profile) -> Answer
-    ensures { IsJudged profile (option_copied base.entry) text.now result }
+fn judged_alone(alloc: Global, request: &LoneRequest<'_>) -> Answer
+    ensures { IsJudged request.now.profile None request.now.text.now result }
 {
-    match check(alloc, text, base, profile) {
+    let text = request.text;
+    match check_alone(alloc, text, request.profile) {
+        Ok(Verdict::Yes(parts)) => Answer {
+            found: Finding::plain(CallOutcome::Valid),
+            parts: placed(text, &parts),
+        },
+        Ok(Verdict::No(first)) => unjudged(Finding::refused(CallOutcome::Refused, text, first)),
+        Err(AllocError) => unjudged(Finding::plain(CallOutcome::Memory)),
+    }
+}
+
+// The answer on a text that is judged.
+fn judged(alloc: Global, request: &Request<'_>) -> Answer
+    ensures { IsJudged request.now.profile request.now.base request.now.text.now result }
+{
+    let text = request.text;
+    match check(alloc, text, request.base.as_ref(), request.profile) {
         Ok(Verdict::Yes(parts)) => Answer {
             found: Finding::plain(CallOutcome::Valid),
             parts: placed(text, &parts),

@@ -1,5 +1,5 @@
 //! The checker of valid URL strings.
-ghost use Rattle.std.specs.Prelude.{◌≡◌, IfOk, IsOk, IsTrue, Some, option_copied, true};
+ghost use Rattle.std.specs.Prelude.{◌≡◌, IfOk, IsOk, IsTrue, None, Some, option_copied, true};
 ghost use Rattle.std.specs.Str.{chars};
 ghost use Rattle.uv_model.specs.declared.profile.Profile.{Profile};
 ghost use Rattle.uv_model.specs.Records.Url.{Url};
@@ -56,6 +56,24 @@ pub fn check<'t>(
     match plain_cut(&start) {
         Some(cut) => Ok(Verdict::Yes(plain_parts(&cut))),
         None => check_from(alloc, text, start, Base::whole(base), profile),
+    }
+}
+
+/// The same of a text alone. A program that calls it in one place gets it there, and the parts aren't copied.
+pub fn check_alone<'t>(
+    alloc: Global,
+    text: &'t str,
+    profile: Profile,
+) -> Result<Verdict<'t>, AllocError>
+    ensures answer { IfOk result (IsVerdict profile None (chars text.now)) }
+    ensures memory { TakesNoMemoryAgainst profile None (chars text.now) → IsOk result }
+{
+    let Some(start) = plain_start(text) else {
+        return check_by_parts(alloc, text, None, profile);
+    };
+    match plain_cut(&start) {
+        Some(cut) => Ok(Verdict::Yes(plain_parts(&cut))),
+        None => check_from(alloc, text, start, None, profile),
     }
 }
 

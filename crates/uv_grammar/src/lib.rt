@@ -28,7 +28,7 @@ mod validity;
 
 pub use all_faults::{faults, faults_of_kind};
 pub use bases::{BaseKind, BaseScheme};
-pub use checker::{Verdict, check, check_of_kind};
+pub use checker::{Verdict, check, check_alone, check_of_kind};
 pub use form::Form;
 pub use parts::{Parts, Segments};
 pub use parts_host::{AsciiText, HostRef};

@@ -9,6 +9,6 @@ returns-in-Ok c =
       _,
       _,
       c.in-Ok.ensures.1,
-      subst (λ (bytes : List ℕ). IsJudged c.in-Ok.request.profile None bytes c.judged.result) c.in-Ok.ensures.0
-          c.judged.ensures,
+      subst (λ (bytes : List ℕ). IsJudged c.in-Ok.request.profile None bytes c.judged_alone.result)
+          c.in-Ok.ensures.0 c.judged_alone.ensures,
     )

@@ -1,7 +1,5 @@
 -- The bytes that are judged are the text's, and the base is what its bytes denote.
 use Rattle.std.proofs.Common.{ℕ, List, Some, inl, inr, sym, subst}
-use Rattle.std.specs.Prelude.{Option}
-use Rattle.uv_model.specs.Records.Url.{Url}
 use Rattle.urlcheck_c.specs.declared.finding.Finding.{Finding}
 use Rattle.urlcheck_c.specs.Answer.{IsJudged}
 use Rattle.urlcheck_c.specs.Request.{IsUnjudged}
@@ -14,8 +12,7 @@ returns-in-Ok c =
       _,
       c.in-Ok.ensures.1,
       subst (λ (bytes : List ℕ). IsJudged c.in-Ok.request.profile c.in-Ok.request.base bytes c.judged.result)
-          c.in-Ok.ensures.0 (subst (λ (base : Option Url). IsJudged c.in-Ok.request.profile base
-          c.in-Ok.request.text.now c.judged.result) c.as_ref.ensures.value c.judged.ensures),
+          c.in-Ok.ensures.0 c.judged.ensures,
     )
 
 pub returns-in-Err : goal.returns-in-Err
