@@ -58,8 +58,8 @@ compared() {
     awk -v s="$ratio" -v b="$2" 'BEGIN { exit s > b }' || fail "$3: $ratio, and at most $2 is wanted"
 }
 
-compared plain 1.9 'plain links'
-compared mixed 1.9 'mixed links'
-compared plain 1.6 'plain links, the base kept' "$base"
-compared reference 1.5 'references, the base kept' "$base"
+compared plain 1.3 'plain links'
+compared mixed 1.3 'mixed links'
+compared plain 1.3 'plain links, the base kept' "$base"
+compared reference 1.3 'references, the base kept' "$base"
 exit $failed

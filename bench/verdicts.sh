@@ -1,8 +1,8 @@
 #!/usr/bin/env bash
 # What this checker takes for texts of a kind, beside Ada and, where it is at hand, Rust's crate `url`. bench/kinds has
-# the kinds: what is made, the call, the profile, the base and the bound. `check` and `is_valid` stand beside Ada's
-# can_parse, `resolve_serialized` (resolve) and `resolve` with its record's text (record) beside Ada's parse with its
-# href; both sides keep the base. It prints the instructions a text by callgrind, or the least processor time of so many
+# the kinds: what is made, the call, the profile, the base and the bound. `check`, `check_alone` (alone) and `is_valid`
+# stand beside Ada's can_parse, `resolve_serialized` (resolve) and `resolve` with its record's text (record) beside Ada's
+# parse with its href; both sides keep the base. It prints the instructions a text by callgrind, or the least processor time of so many
 # rounds with a run of each in turn, reading taken off, and the ratios to Ada.
 # It fails where a figure is missing or below the floor, and where an answer isn't the wanted one: so many texts are
 # valid, Ada parses each, and writes each URL as this checker does. By instructions it also fails where a call passes
@@ -93,7 +93,11 @@ fi
 adas=''
 if [ -n "$ada" ]; then
     names+=(ada)
-    program[ada]=$ada mode[ada]=${call/record/resolve}
+    case $call in
+        check | alone) mode[ada]=check ;;
+        *) mode[ada]=resolve ;;
+    esac
+    program[ada]=$ada
 elif [ "$by $seed $links $count" = "instructions 1 $room/links $known" ]; then
     adas=$(awk -v kind="$kind" '$1 == kind { print $2 }' "$top/bench/verdicts/ada.stored")
     [ -n "$adas" ] || fail "bench/verdicts/ada.stored has no figure of $kind"
@@ -177,7 +181,7 @@ for each in "${names[@]}"; do
     esac
     echo "$line"
 done
-if [ "$call" != check ] && [ -n "$ada" ]; then
+if [ -n "$ada" ] && [ "${mode[ada]}" = resolve ]; then
     if [ "$call" = record ]; then written=records; else written=texts; fi
     answers "$call" $written
     answers ada texts

@@ -2,16 +2,17 @@
 //! of rounds, a profile's name and a base; with none of them it checks once, alone, by the standard profile. The base
 //! is resolved once.
 //!
-//! `read` cuts the input into lines and does no more. In each round `check` judges each line, `valid` asks for no more
-//! than whether it is valid, `resolve` makes the URL that it denotes, serialized, and `record` its record and the
-//! record's text; all five say how many lines there are and how many were valid. `verdicts` writes `1` or `0` for each
-//! line, `texts` its serialized URL, and `records` the text of its record, or nothing where it has none.
+//! `read` cuts the input into lines and does no more. In each round `check` judges each line, `alone` does so without a
+//! base by `check_alone`, `valid` asks for no more than whether it is valid, `resolve` makes the URL that it denotes,
+//! serialized, and `record` its record and the record's text; all six say how many lines there are and how many were
+//! valid. `verdicts` writes `1` or `0` for each line, `texts` its serialized URL, and `records` the text of its record,
+//! or nothing where it has none.
 #![tactic(auto)]
 
 use std::alloc::{AllocError, Global};
 use std::io::{self, Error, ErrorKind, Read};
 use std::{env, str};
-use uv_grammar::{Verdict, check, is_valid};
+use uv_grammar::{Verdict, check, check_alone, is_valid};
 use uv_model::{Profile, Record};
 use uv_resolve::{ResolveFault, resolve, resolve_base, resolve_serialized};
 
@@ -94,6 +95,7 @@ fn count_in_rounds(
     for _ in 0..rounds {
         valid = match mode {
             "check" => count_checked(texts, setting)?,
+            "alone" => count_alone(texts, setting)?,
             "valid" => count_valid(texts, setting)?,
             "resolve" => count_resolved(texts, setting, Written::Serialized)?,
             "record" => count_resolved(texts, setting, Written::Record)?,
@@ -114,7 +116,18 @@ fn count_checked(texts: &[&str], setting: Setting<'_>) -> Result<usize, AllocErr
     Ok(valid)
 }
 
-// The same by the verdict alone.
+// The same by a call that knows no base, which is made here alone.
+fn count_alone(texts: &[&str], setting: Setting<'_>) -> Result<usize, AllocError> {
+    let mut valid = 0usize;
+    for text in texts {
+        if let Verdict::Yes(_) = check_alone(setting.alloc, text, setting.profile)? {
+            valid = valid.saturating_add(1);
+        }
+    }
+    Ok(valid)
+}
+
+// The same by the verdict without parts.
 fn count_valid(texts: &[&str], setting: Setting<'_>) -> Result<usize, AllocError> {
     let mut valid = 0usize;
     for text in texts {
