@@ -1,4 +1,5 @@
 pub mod OwnTextLemmas
+pub mod PlainReferenceLemmas
 pub mod RecordLemmas
 pub mod SpacedEndLemmas
 pub mod RunLemmas

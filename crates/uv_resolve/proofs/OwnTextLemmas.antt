@@ -55,14 +55,14 @@ never_encoded_texts (c ∷ rest) ascii none =
     and_from _ _ never (never_encoded_texts rest (λ i. ascii (suc i)) (λ k below. none (suc k) (omega (arith, below))))
 
 -- a text that no part encodes is ASCII
-never_encoded-ascii : (text : List ℕ) → list_all is_never_encoded text ≡ true → list_all is_ascii text ≡ true
+pub never_encoded-ascii : (text : List ℕ) → list_all is_never_encoded text ≡ true → list_all is_ascii text ≡ true
 never_encoded-ascii [] h = refl
 never_encoded-ascii (c ∷ rest) h =
     let parts = and_parts (is_never_encoded c) (list_all is_never_encoded rest) h in
     and_from _ _ (and_parts (is_ascii c) (not (c == apostrophe)) parts.0).0 (never_encoded-ascii rest parts.1)
 
 -- a text of such code points is its own encoded text
-encoded-kept : (quote : Bool) (text : List ℕ) → list_all is_never_encoded text ≡ true → encoded quote text ≡ text
+pub encoded-kept : (quote : Bool) (text : List ℕ) → list_all is_never_encoded text ≡ true → encoded quote text ≡ text
 unfolding encoded
 encoded-kept quote [] h = refl
 encoded-kept quote (c ∷ rest) h =
@@ -71,14 +71,14 @@ encoded-kept quote (c ∷ rest) h =
     ∙ ap (λ t. c ∷ t) (encoded-kept quote rest parts.1)
 
 -- two texts of such code points
-both : (xs ys : List ℕ) → list_all is_never_encoded (xs ++ ys) ≡ true
+pub both : (xs ys : List ℕ) → list_all is_never_encoded (xs ++ ys) ≡ true
     → (list_all is_never_encoded xs ≡ true) × (list_all is_never_encoded ys ≡ true)
 both xs ys h =
     and_parts (list_all is_never_encoded xs) (list_all is_never_encoded ys)
     (sym (list_all-append is_never_encoded xs ys) ∙ h)
 
 -- what stands behind the first of them
-behind : (c : ℕ) (rest : List ℕ) → list_all is_never_encoded (c ∷ rest) ≡ true
+pub behind : (c : ℕ) (rest : List ℕ) → list_all is_never_encoded (c ∷ rest) ≡ true
     → list_all is_never_encoded rest ≡ true
 behind c rest h = (and_parts (is_never_encoded c) (list_all is_never_encoded rest) h).1
 
@@ -94,7 +94,7 @@ walk_one-kept class last path segment no_dots bytes =
     rw (double, single) (ap (λ s. path ++ (s ∷ [])) (encoded-kept false segment bytes))
 
 -- and all of them
-walk-kept : (class : Class) (path segments : List (List ℕ)) → list_all is_kept_segment segments ≡ true
+pub walk-kept : (class : Class) (path segments : List (List ℕ)) → list_all is_kept_segment segments ≡ true
     → list_all is_never_encoded (serial_segments segments) ≡ true → walk class path segments ≡ path ++ segments
 unfolding walk
 walk-kept class path [] no_dots bytes = sym (append-nil path)
@@ -206,7 +206,7 @@ kept-first (c ∷ segment) rest h =
     (not-true _ (and_parts (not (is_dot_mark c)) (has_no_dots (c == slash) (segment ++ rest)) h).0)
 
 -- and so are all
-kept-segments : (segments : List (List ℕ)) → has_no_dots false (serial_segments segments) ≡ true
+pub kept-segments : (segments : List (List ℕ)) → has_no_dots false (serial_segments segments) ≡ true
     → list_all is_kept_segment segments ≡ true
 kept-segments [] h = refl
 kept-segments (segment ∷ rest) h =
@@ -235,7 +235,7 @@ query-kept base None h = refl
 query-kept base (Some query) h = ap Some (encoded-kept true query (behind question_mark query h))
 
 -- and so is such a fragment
-fragment-kept : (fragment : Option (List ℕ)) → list_all is_never_encoded (written_behind number_sign fragment) ≡ true
+pub fragment-kept : (fragment : Option (List ℕ)) → list_all is_never_encoded (written_behind number_sign fragment) ≡ true
     → option_map (encoded false) fragment ≡ fragment
 fragment-kept None h = refl
 fragment-kept (Some fragment) h = ap Some (encoded-kept false fragment (behind number_sign fragment h))
@@ -418,7 +418,7 @@ pub ascii_chars : (bytes text : List ℕ) → IsAscii text → bytes ≡ text �
 ascii_chars bytes text ascii e = ap chars e ∙ chars-IsAscii text ascii
 
 -- a text's bytes as its code points, where these are ASCII
-valid_bytes : (profile : Profile) (base : Option Url) (text : List ℕ) (parts : Parts)
+pub valid_bytes : (profile : Profile) (base : Option Url) (text : List ℕ) (parts : Parts)
     → list_all is_never_encoded text ≡ true → Valid profile base (chars text) parts → Valid profile base text parts
 valid_bytes profile base text parts bytes valid =
     subst (λ t. Valid profile base t parts)
@@ -437,14 +437,17 @@ pub own_root_written : (profile : Profile) (base : Option Url) (text : List ℕ)
 own_root_written profile base text parts valid own =
     own_root profile base text parts (valid_bytes profile base text parts own.prefix.bytes valid) own
 
+-- where the code points of a text are ASCII, they are its bytes
+pub ascii_no_dots : (begins : Bool) (bytes : List ℕ) → IsUtf8 bytes → has_no_dots begins bytes ≡ true
+    → list_all is_ascii (chars bytes) ≡ true → has_no_dots begins (chars bytes) ≡ true
+ascii_no_dots begins bytes utf8 no_dots ascii =
+    subst (λ t. has_no_dots begins t ≡ true)
+    (sym (encodes-chars bytes utf8) ∙ encodes-IsAscii (chars bytes) (IsAscii-from_test (chars bytes) ascii)) no_dots
+
 -- the code points of a text: there are some where it has bytes, and ASCII ones are its bytes
 pub own_path : (bytes : List ℕ) → IsUtf8 bytes → (length bytes == 0) ≡ false → has_no_dots false bytes ≡ true
     → IsOwnPath (chars bytes)
-own_path bytes utf8 some no_dots = (
-  some_chars bytes utf8 some,
-  λ ascii. subst (λ t. has_no_dots false t ≡ true)
-      (sym (encodes-chars bytes utf8) ∙ encodes-IsAscii (chars bytes) (IsAscii-from_test (chars bytes) ascii)) no_dots,
-)
+own_path bytes utf8 some no_dots = (some_chars bytes utf8 some, ascii_no_dots false bytes utf8 no_dots)
 
 -- the two schemes
 https_is_own : IsOwnScheme (codes "https")

@@ -7,6 +7,7 @@ mod fault;
 pub mod laws;
 mod own_text;
 mod paths;
+mod plain_reference;
 mod records;
 mod resolver;
 mod serialized;

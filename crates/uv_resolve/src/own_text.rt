@@ -129,14 +129,14 @@ fn is_own_path(text: &str) -> bool
     if text.is_empty() {
         return false;
     }
-    is_without_dots(text.as_bytes())
+    is_without_dots(false, text.as_bytes())
 }
 
-// Whether no `.` and no `%` stands behind a `/`.
-fn is_without_dots(path: &[u8]) -> bool
-    ensures { result ≡ has_no_dots false path.now }
+/// Whether no `.` and no `%` stands behind a `/`, nor at the start where a segment begins there.
+pub(crate) fn is_without_dots(at_start: bool, path: &[u8]) -> bool
+    ensures { result ≡ has_no_dots at_start path.now }
 {
-    let mut begins = false;
+    let mut begins = at_start;
     for &byte in path {
         if may_be_dots(begins, byte) {
             return false;

@@ -9,6 +9,7 @@ ghost use Rattle.uv_resolve.specs.Serialized.{ArePartsOf, IsSerialized, RefusesS
 
 use crate::fault::ResolveFault;
 use crate::own_text::{is_own_root, is_own_text};
+use crate::plain_reference::plain_reference;
 use crate::records::denoted;
 use std::alloc::{AllocError, Global};
 use uv_grammar::{Parts, Verdict, check};
@@ -49,6 +50,9 @@ pub fn serialize_parts(
     }
     if is_own_root(text, &parts) {
         return with_slash(alloc, text);
+    }
+    if let Some(written) = plain_reference(alloc, text, &parts, base)? {
+        return Ok(written);
     }
     see_base(base);
     denoted(alloc, parts, base)?.text(alloc)
