@@ -95,6 +95,113 @@ fn lengthened(
     Ok(text)
 }
 
+// References as people write them, against a page of a directory. They show what is kept of the base: its segments but
+// the last, or none, or all, its port, and its query where the text has neither a path nor a query.
+const ON_A_PAGE: [(&str, &str); 26] = [
+    ("d/e.html", "https://h.example:8080/a/b/d/e.html"),
+    ("d?x#y", "https://h.example:8080/a/b/d?x#y"),
+    ("d/", "https://h.example:8080/a/b/d/"),
+    ("d//e", "https://h.example:8080/a/b/d//e"),
+    (".d/e", "https://h.example:8080/a/b/.d/e"),
+    ("d/.e", "https://h.example:8080/a/b/d/.e"),
+    ("d/../e", "https://h.example:8080/a/b/e"),
+    ("./d", "https://h.example:8080/a/b/d"),
+    ("./", "https://h.example:8080/a/b/"),
+    (".", "https://h.example:8080/a/b/"),
+    ("../d", "https://h.example:8080/a/d"),
+    ("../", "https://h.example:8080/a/"),
+    ("..", "https://h.example:8080/a/"),
+    ("../.././d?x", "https://h.example:8080/d?x"),
+    ("../../../../d", "https://h.example:8080/d"),
+    (".././.d", "https://h.example:8080/a/.d"),
+    ("..d", "https://h.example:8080/a/b/..d"),
+    ("%2E%2e/d", "https://h.example:8080/a/d"),
+    ("/d/e?x#y", "https://h.example:8080/d/e?x#y"),
+    ("/d/../e", "https://h.example:8080/e"),
+    ("?x='y'", "https://h.example:8080/a/b/c.html?x=%27y%27"),
+    ("?x#y", "https://h.example:8080/a/b/c.html?x#y"),
+    ("?", "https://h.example:8080/a/b/c.html?"),
+    ("#y'", "https://h.example:8080/a/b/c.html?q#y'"),
+    ("", "https://h.example:8080/a/b/c.html?q"),
+    ("d/\u{E9}", "https://h.example:8080/a/b/d/%C3%A9"),
+];
+
+#[test]
+fn serializes_references_on_a_page(rt: HostRuntime) -> Result<(), ResolveFault> {
+    for (text, want) in ON_A_PAGE.iter() {
+        answers_against(
+            &rt,
+            "https://h.example:8080/a/b/c.html?q#f",
+            &[(*text, Url(*want))],
+        )?;
+    }
+    Ok(())
+}
+
+// Bases of other kinds, a text, and the URL that it denotes against the base.
+const ON_OTHER_BASES: [(&str, &str, &str); 12] = [
+    ("http://h", "a", "http://h/a"),
+    ("http://h", "../a", "http://h/a"),
+    ("http://h/#f", "", "http://h/"),
+    ("http://h?q", "#g", "http://h/?q#g"),
+    ("https://h:443/a", "b", "https://h/b"),
+    ("wss://h:80/a/", "./b", "wss://h:80/a/b"),
+    ("http://1.2.3.4:81/a", "/b", "http://1.2.3.4:81/b"),
+    ("http://[1:0:0:2::3]/a/b", "c", "http://[1:0:0:2::3]/a/c"),
+    ("foo://h/a/b?q", "?r", "foo://h/a/b?r"),
+    ("foo://h", "a", "foo://h/a"),
+    ("file:///C:/a/b", "../../c", "file:///C:/c"),
+    ("file://h/a/b?q", "#f", "file://h/a/b?q#f"),
+];
+
+#[test]
+fn serializes_references_on_other_bases(rt: HostRuntime) -> Result<(), ResolveFault> {
+    for (base, text, want) in ON_OTHER_BASES.iter() {
+        answers_against(&rt, *base, &[(*text, Url(*want))])?;
+    }
+    Ok(())
+}
+
+// What stands before a segment in a base, what stands behind it, a text, and what then stands behind the segment.
+const BEHIND_A_SEGMENT: [(&str, &str, &str, &str); 4] = [
+    ("http://h:81/", "/b?q", "c", "/c"),
+    ("http://h/", "/b/c", "../d?r", "/d?r"),
+    ("http://h/", "?q", "#f", "?q#f"),
+    ("http://h/?", "#f", "", ""),
+];
+
+#[test]
+fn serializes_references_on_bases_of_each_length(rt: HostRuntime) -> Result<(), ResolveFault> {
+    for letters in 1..70 {
+        for (prefix, end, text, want) in BEHIND_A_SEGMENT.iter() {
+            let base = lengthened(rt.alloc(), *prefix, letters, *end)?;
+            let want = lengthened(rt.alloc(), *prefix, letters, *want)?;
+            answers_against(&rt, base.as_str(), &[(*text, Url(want.as_str()))])?;
+        }
+    }
+    Ok(())
+}
+
+// Marks before letters in a text, and the URL's text before the same letters, against a base.
+const BEFORE_LETTERS: [(&str, &str); 4] = [
+    ("", "http://h/a/"),
+    ("../", "http://h/"),
+    ("/", "http://h/"),
+    ("?", "http://h/a/b?"),
+];
+
+#[test]
+fn serializes_references_of_each_length(rt: HostRuntime) -> Result<(), ResolveFault> {
+    for letters in 1..70 {
+        for (prefix, written) in BEFORE_LETTERS.iter() {
+            let text = lengthened(rt.alloc(), *prefix, letters, "/x.html#f")?;
+            let want = lengthened(rt.alloc(), *written, letters, "/x.html#f")?;
+            answers_against(&rt, "http://h/a/b", &[(text.as_str(), Url(want.as_str()))])?;
+        }
+    }
+    Ok(())
+}
+
 // A part of each length, with nothing that is encoded at its end, and with what is.
 const ENDS: [(&str, &str, &str); 5] = [
     ("http://h/", "", ""),
