@@ -417,12 +417,16 @@ own_root profile base text parts valid own = go parts.scheme refl own.prefix.sch
 pub ascii_chars : (bytes text : List ℕ) → IsAscii text → bytes ≡ text → chars bytes ≡ text
 ascii_chars bytes text ascii e = ap chars e ∙ chars-IsAscii text ascii
 
+-- a text that no part encodes has the code points of its bytes
+pub never_encoded-IsAscii : (text : List ℕ) → list_all is_never_encoded text ≡ true → IsAscii text
+never_encoded-IsAscii text bytes = IsAscii-from_test text (never_encoded-ascii text bytes)
+
 -- a text's bytes as its code points, where these are ASCII
 pub valid_bytes : (profile : Profile) (base : Option Url) (text : List ℕ) (parts : Parts)
     → list_all is_never_encoded text ≡ true → Valid profile base (chars text) parts → Valid profile base text parts
 valid_bytes profile base text parts bytes valid =
     subst (λ t. Valid profile base t parts)
-    (chars-IsAscii text (IsAscii-from_test text (never_encoded-ascii text bytes))) valid
+    (chars-IsAscii text (never_encoded-IsAscii text bytes)) valid
 
 -- a valid text of such parts, given by its bytes, is the text of the URL that it denotes
 pub own_text_written : (profile : Profile) (base : Option Url) (text : List ℕ) (parts : Parts)
@@ -438,16 +442,17 @@ own_root_written profile base text parts valid own =
     own_root profile base text parts (valid_bytes profile base text parts own.prefix.bytes valid) own
 
 -- where the code points of a text are ASCII, they are its bytes
-pub ascii_no_dots : (begins : Bool) (bytes : List ℕ) → IsUtf8 bytes → has_no_dots begins bytes ≡ true
-    → list_all is_ascii (chars bytes) ≡ true → has_no_dots begins (chars bytes) ≡ true
-ascii_no_dots begins bytes utf8 no_dots ascii =
-    subst (λ t. has_no_dots begins t ≡ true)
-    (sym (encodes-chars bytes utf8) ∙ encodes-IsAscii (chars bytes) (IsAscii-from_test (chars bytes) ascii)) no_dots
+pub ascii_bytes : (bytes : List ℕ) → IsUtf8 bytes → list_all is_ascii (chars bytes) ≡ true → bytes ≡ chars bytes
+ascii_bytes bytes utf8 ascii =
+    sym (encodes-chars bytes utf8) ∙ encodes-IsAscii (chars bytes) (IsAscii-from_test (chars bytes) ascii)
 
 -- the code points of a text: there are some where it has bytes, and ASCII ones are its bytes
 pub own_path : (bytes : List ℕ) → IsUtf8 bytes → (length bytes == 0) ≡ false → has_no_dots false bytes ≡ true
     → IsOwnPath (chars bytes)
-own_path bytes utf8 some no_dots = (some_chars bytes utf8 some, ascii_no_dots false bytes utf8 no_dots)
+own_path bytes utf8 some no_dots = (
+  some_chars bytes utf8 some,
+  λ ascii. subst (λ t. has_no_dots false t ≡ true) (ascii_bytes bytes utf8 ascii) no_dots,
+)
 
 -- the two schemes
 https_is_own : IsOwnScheme (codes "https")

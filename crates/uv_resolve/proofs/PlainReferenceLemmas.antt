@@ -1,31 +1,37 @@
 -- The text of the URL that a plain reference denotes.
-use Rattle.std.proofs.Common.{◌≡◌, ℕ, true, false, List, [], ◌∷◌, ◌++◌, Option, Some, None, codes, refl, sym, ap, ◌∙◌}
-use Rattle.std.proofs.Common.{subst, append_assoc}
-use Rattle.std.specs.Prelude.{IfSome, option_map}
+use Rattle.std.proofs.Common.{◌≡◌, ◌≢◌, ℕ, ◌+◌, ◌-◌, ◌<◌, ◌==◌, Bool, true, false, List, [], ◌∷◌, ◌++◌, Option, Some}
+use Rattle.std.proofs.Common.{None, codes, refl, sym, ap, ◌∙◌, subst, append_assoc, arith, drop, length}
+use Rattle.std.proofs.Math.Seq.{drop-append_seam}
+use Rattle.std.proofs.lemmas.List.{length-append}
+use Rattle.std.specs.Prelude.{IfSome}
 use Rattle.std.specs.Borrow.{Bor}
+use Rattle.std.specs.Char.{is_ascii}
 use Rattle.std.specs.List.{list_all, join_with_byte}
-use Rattle.std.specs.Str.{chars}
+use Rattle.std.specs.Str.{IsUtf8, chars}
+use Rattle.std.proofs.lemmas.List.Splits.{join_with_byte-slice_split, length-slice_split}
 use Rattle.uv_model.specs.declared.profile.Profile.{Profile}
 use Rattle.uv_model.specs.declared.scheme.Class.TheVariants.{Special}
 use Rattle.uv_model.specs.declared.host.Host.TheVariants.{Domain}
 use Rattle.uv_model.specs.declared.path.UrlPath.{UrlPath}
 use Rattle.uv_model.specs.declared.path.UrlPath.TheVariants.{Segments}
-use Rattle.uv_model.specs.Ascii.{colon, slash, question_mark, number_sign}
-use Rattle.uv_model.specs.Encoding.{encoded}
+use Rattle.uv_model.specs.Ascii.{slash, question_mark, number_sign}
 use Rattle.uv_model.specs.Parts.{Form, PathAbsolute, PathRelative, NoPath, Parts, has_scheme, written, written_behind}
 use Rattle.uv_model.specs.Parts.{SchemeAuthority, SchemePath, SchemeOpaque, Authority}
-use Rattle.uv_model.specs.Path.{IsPathAbsolute, JoinsTo, walk, without_last}
+use Rattle.uv_model.specs.Path.{IsPathRelative, JoinsTo, is_double_dot, is_single_dot, walk, walk_one, without_last}
 use Rattle.uv_model.specs.Records.Denote.{denote, denoted_host, denoted_path, denoted_port, denoted_query}
 use Rattle.uv_model.specs.Records.Denote.{denoted_scheme, listed_segments}
 use Rattle.uv_model.specs.Records.Serialize.{serial, serial_host, serial_path, serial_port, serial_segments}
 use Rattle.uv_model.specs.Records.Url.{Url}
 use Rattle.uv_model.specs.Scheme.{scheme_class}
-use Rattle.uv_model.specs.Setting.{Setting, scheme_or, setting_of}
+use Rattle.uv_model.specs.Setting.{scheme_or, setting_of}
 use Rattle.uv_model.specs.Valid.{FitsForm, FitsScheme, HasNoAuthority, Valid}
+use Rattle.uv_model.proofs.Cuts.UniqueParts.{joined_segments}
 use Rattle.uv_parser.proofs.RoundTrip.SerializedTexts.{serial_segments-joined}
+use Rattle.uv_grammar.specs.Built.{pieces}
 use Rattle.uv_resolve.specs.OwnText.{has_no_dots, is_never_encoded}
-use Rattle.uv_resolve.specs.PlainReference.{IsPlainBase, IsPlainPath, IsPlainReference, between, kept_segments, origin}
-use Rattle.uv_resolve.proofs.OwnTextLemmas.{behind, both, encoded-kept, fragment-kept, kept-segments}
+use Rattle.uv_resolve.specs.PlainReference.{GoesOn, GoesOnBehind, IsPlainBase, IsPlainPath, IsPlainReference}
+use Rattle.uv_resolve.specs.PlainReference.{behind_dot, between, dot_segment, origin}
+use Rattle.uv_resolve.proofs.OwnTextLemmas.{ascii_bytes, behind, both, encoded-kept, fragment-kept, kept-segments}
 use Rattle.uv_resolve.proofs.OwnTextLemmas.{never_encoded-ascii, valid_bytes, walk-kept}
 use Rattle.uv_resolve.proofs.RecordLemmas.{denote-fields, fields}
 
@@ -105,15 +111,83 @@ joined-serial segments text joins =
     ∙ ap (λ s. slash ∷ join_with_byte slash s) (sym joins.some) ∙ ap (λ t. slash ∷ t) (sym joins.joined)
 
 -- a walk from kept segments over a path without dot segments
-walk-written : (kept segments : List (List ℕ)) (text : List ℕ) → JoinsTo segments text
+walk-written : (kept segments : List (List ℕ)) (text : List ℕ) → serial_segments segments ≡ slash ∷ text
     → has_no_dots true text ≡ true → list_all is_never_encoded text ≡ true
     → serial_segments (walk Special kept segments) ≡ serial_segments kept ++ (slash ∷ text)
-walk-written kept segments text joins no_dots bytes =
-    let serial_is = joined-serial segments text joins in
-    let kept_all = kept-segments segments (ap (has_no_dots false) serial_is ∙ no_dots) in
-    let all_bytes = ap (list_all is_never_encoded) serial_is ∙ bytes in
+walk-written kept segments text spelled no_dots bytes =
+    let kept_all = kept-segments segments (ap (has_no_dots false) spelled ∙ no_dots) in
+    let all_bytes = ap (list_all is_never_encoded) spelled ∙ bytes in
     ap serial_segments (walk-kept Special kept segments kept_all all_bytes)
-    ∙ serial_segments-append kept segments ∙ ap (λ t. serial_segments kept ++ t) serial_is
+    ∙ serial_segments-append kept segments ∙ ap (λ t. serial_segments kept ++ t) spelled
+
+-- the texts between the slashes of a text are one at least
+some_pieces : (text : List ℕ) (segments : List (List ℕ)) → pieces text ≡ segments → segments ≢ []
+some_pieces text segments is =
+    λ none. let counted = sym (ap length (is ∙ none)) ∙ length-slice_split (λ c. c == slash) text in
+    absurd (omega (arith, counted))
+
+-- each behind `/`, they are `/` and the text
+pieces-serial : (text : List ℕ) → serial_segments (pieces text) ≡ slash ∷ text
+pieces-serial text = go (pieces text) refl
+  where
+    go : (segments : List (List ℕ)) → pieces text ≡ segments → serial_segments segments ≡ slash ∷ text
+    go [] is = absurd (some_pieces text [] is refl)
+    go (first ∷ others) is =
+        serial_segments-joined first others ∙ ap (λ s. slash ∷ join_with_byte slash s) (sym is)
+        ∙ ap (λ t. slash ∷ t) (join_with_byte-slice_split slash text)
+
+-- ---- leading dot segments
+
+-- a walk takes a step for a segment that isn't the last
+walk-step : (kept : List (List ℕ)) (segment text : List ℕ)
+    → walk Special kept (segment ∷ pieces text) ≡ walk Special (walk_one Special false kept segment) (pieces text)
+unfolding walk
+walk-step kept segment text = go (pieces text) refl
+  where
+    go : (segments : List (List ℕ)) → pieces text ≡ segments
+        → walk Special kept (segment ∷ segments) ≡ walk Special (walk_one Special false kept segment) segments
+    go [] is = absurd (some_pieces text [] is refl)
+    go (next ∷ rest) is = refl
+
+-- a dot segment keeps the segments, or takes the last off
+dot-step : (double : Bool) (kept : List (List ℕ)) (text : List ℕ)
+    → walk Special kept (pieces (dot_segment double ++ text)) ≡ walk Special (behind_dot double kept) (pieces text)
+unfolding is_double_dot is_single_dot
+dot-step false kept text = walk-step kept (codes ".") text
+dot-step true kept text = walk-step kept (codes "..") text
+
+-- a walk goes on at the start of its path
+pub goes_on-start : (segments : List (List ℕ)) (path : List ℕ) → GoesOn segments path segments path
+goes_on-start segments path = record { front = []; whole = refl; walked = refl }
+
+-- and behind one more dot segment
+pub goes_on-more : (segments kept : List (List ℕ)) (path left rest : List ℕ) (double : Bool)
+    → GoesOn segments path kept left → left ≡ dot_segment double ++ rest
+    → GoesOn segments path (behind_dot double kept) rest
+goes_on-more segments kept path left rest double before is = record {
+  front = before.front ++ dot_segment double;
+  whole = before.whole ∙ ap (λ t. before.front ++ t) is ∙ sym (append_assoc before.front (dot_segment double) rest);
+  walked = before.walked ∙ ap (λ t. walk Special kept (pieces t)) is ∙ dot-step double kept rest;
+}
+
+-- less is left behind it
+pub dot_segment-less : (left rest : List ℕ) (double : Bool) → left ≡ dot_segment double ++ rest
+    → length rest < length left
+dot_segment-less left rest false is = let counted = ap length is in omega (arith, counted)
+dot_segment-less left rest true is = let counted = ap length is in omega (arith, counted)
+
+-- what stands behind so many code points of a text that begins with the path
+behind_front : (path left ends text : List ℕ) (kept segments : List (List ℕ)) (skipped : ℕ)
+    → GoesOn segments path kept left → skipped ≡ length path - length left → text ≡ path ++ ends
+    → drop skipped text ≡ left ++ ends
+behind_front path left ends text kept segments skipped goes counted whole =
+    let sum : length path ≡ length goes.front + length left
+    = ap length goes.whole ∙ length-append goes.front left
+    in
+    let front_is : skipped ≡ length goes.front = omega (arith, counted, sum) in
+    ap (λ n. drop n text) front_is
+    ∙ ap (drop (length goes.front)) (whole ∙ ap (λ t. t ++ ends) goes.whole ∙ append_assoc goes.front left ends)
+    ∙ drop-append_seam goes.front (left ++ ends)
 
 -- ---- the three forms
 
@@ -141,23 +215,23 @@ alone base text parts keeps none is bytes =
     }
 
 -- what is written is the URL's text
-IsWritten : Url → List ℕ → Parts → List ℕ → List (List ℕ) → Form → Type 0
-IsWritten base text parts domain segments form =
-    (origin base domain ++ serial_segments (kept_segments form segments))
-    ++ (between form parts.query base.query ++ text) ≡ serial (denote (Some base) parts)
+IsWritten : Url → Parts → List ℕ → List (List ℕ) → List ℕ → Form → Type 0
+IsWritten base parts domain kept rest form =
+    (origin base domain ++ serial_segments kept)
+    ++ (between form parts.query base.query ++ rest) ≡ serial (denote (Some base) parts)
 
 -- it is where what stands behind the port is so
-behind_origin : (base : Url) (text : List ℕ) (parts : Parts) (domain : List ℕ) (segments : List (List ℕ)) (form : Form)
-    (path : UrlPath) (query : Option (List ℕ)) → IsPlainBase base domain segments → IsAlone base text parts
+behind_origin : (base : Url) (text : List ℕ) (parts : Parts) (domain : List ℕ) (segments kept : List (List ℕ))
+    (rest : List ℕ) (form : Form) (path : UrlPath) (query : Option (List ℕ)) → IsPlainBase base domain segments
+    → IsAlone base text parts
     → path ≡ denoted_path (Some base) Special parts.form parts
     → query ≡ denoted_query (Some base) Special parts.form parts.query
-    → serial_segments (kept_segments form segments) ++ (between form parts.query base.query ++ text)
+    → serial_segments kept ++ (between form parts.query base.query ++ rest)
     ≡ serial_path path ++ ending query parts.fragment
-    → IsWritten base text parts domain segments form
+    → IsWritten base parts domain kept rest form
 unfolding IsWritten
-behind_origin base text parts domain segments form path query is alone path_is query_is pieces =
-    append_assoc (origin base domain) (serial_segments (kept_segments form segments))
-    (between form parts.query base.query ++ text)
+behind_origin base text parts domain segments kept rest form path query is alone path_is query_is pieces =
+    append_assoc (origin base domain) (serial_segments kept) (between form parts.query base.query ++ rest)
     ∙ ap (λ t. origin base domain ++ t) pieces
     ∙ origin-kept base parts domain segments path query is alone.keeps path_is query_is alone.fragment_bytes
 
@@ -184,8 +258,9 @@ by_form profile base text parts form valid formed =
 -- a path that begins with `/`
 absolute : (profile : Profile) (base : Url) (text : List ℕ) (parts : Parts) (domain : List ℕ)
     (segments : List (List ℕ)) → Valid profile (Some base) text parts → parts.form ≡ PathAbsolute
-    → IsPlainBase base domain segments → IsPlainPath PathAbsolute parts.path_text
-    → list_all is_never_encoded text ≡ true → IsWritten base text parts domain segments PathAbsolute
+    → IsPlainBase base domain segments
+    → (list_all is_ascii parts.path_text ≡ true → has_no_dots false parts.path_text ≡ true)
+    → list_all is_never_encoded text ≡ true → IsWritten base parts domain [] text PathAbsolute
 absolute profile base text parts domain segments valid formed is plain bytes =
     let (none, path, drive) = by_form profile base text parts PathAbsolute valid formed in
     let keeps : KeepsOrigin base parts = record {
@@ -195,20 +270,34 @@ absolute profile base text parts domain segments valid formed is plain bytes =
     } in
     let has = alone base text parts keeps none valid.whole bytes in
     let no_dots = plain (never_encoded-ascii parts.path_text has.path_bytes) in
-    let walked = walk-written [] parts.segments path.behind path.relative.joins
+    let walked = walk-written [] parts.segments path.behind
+    (joined-serial parts.segments path.behind path.relative.joins)
     (sym (ap (has_no_dots false) path.slashed) ∙ no_dots)
     (behind slash path.behind (sym (ap (list_all is_never_encoded) path.slashed) ∙ has.path_bytes)) in
-    behind_origin base text parts domain segments PathAbsolute (Segments (walk Special [] parts.segments)) parts.query
-    is has (rw formed refl)
+    behind_origin base text parts domain segments [] text PathAbsolute (Segments (walk Special [] parts.segments))
+    parts.query is has (rw formed refl)
     (query-own (Some base) parts.form parts.query (rw formed refl) has.query_bytes)
     (has.whole ∙ ap (λ t. t ++ ending parts.query parts.fragment) (path.slashed ∙ sym walked))
 
+-- the walk over any other path, behind its leading dot segments
+relative-walk : (segments kept : List (List ℕ)) (path left : List ℕ) (listed : List (List ℕ))
+    → IsPathRelative listed path → GoesOn segments path kept left → has_no_dots true left ≡ true
+    → list_all is_never_encoded path ≡ true
+    → serial_segments (walk Special segments listed) ≡ serial_segments kept ++ (slash ∷ left)
+relative-walk segments kept path left listed relative goes no_dots bytes =
+    let left_bytes = (both goes.front left (sym (ap (list_all is_never_encoded) goes.whole) ∙ bytes)).1 in
+    ap (λ s. serial_segments (walk Special segments s)) (joined_segments listed path relative.joins)
+    ∙ ap serial_segments goes.walked
+    ∙ walk-written kept (pieces left) left (pieces-serial left) no_dots left_bytes
+
 -- any other path
 relative : (profile : Profile) (base : Url) (text : List ℕ) (parts : Parts) (domain : List ℕ)
-    (segments : List (List ℕ)) → Valid profile (Some base) text parts → parts.form ≡ PathRelative
-    → IsPlainBase base domain segments → IsPlainPath PathRelative parts.path_text
-    → list_all is_never_encoded text ≡ true → IsWritten base text parts domain segments PathRelative
-relative profile base text parts domain segments valid formed is plain bytes =
+    (segments kept : List (List ℕ)) (skipped : ℕ) → Valid profile (Some base) text parts → parts.form ≡ PathRelative
+    → IsPlainBase base domain segments
+    → (list_all is_ascii parts.path_text ≡ true
+    → GoesOnBehind (without_last segments) parts.path_text kept skipped)
+    → list_all is_never_encoded text ≡ true → IsWritten base parts domain kept (drop skipped text) PathRelative
+relative profile base text parts domain segments kept skipped valid formed is plain bytes =
     let (none, path, some, free) = by_form profile base text parts PathRelative valid formed in
     let keeps : KeepsOrigin base parts = record {
       scheme = no_scheme profile base text parts PathRelative valid formed refl;
@@ -216,18 +305,19 @@ relative profile base text parts domain segments valid formed is plain bytes =
       port = rw formed refl;
     } in
     let has = alone base text parts keeps none valid.whole bytes in
-    let kept = serial_segments (without_last segments) in
     let ends = ending parts.query parts.fragment in
-    let no_dots = plain (never_encoded-ascii parts.path_text has.path_bytes) in
-    let walked = walk-written (without_last segments) parts.segments parts.path_text path.joins no_dots has.path_bytes
-    in
-    behind_origin base text parts domain segments PathRelative
+    let goes = plain (never_encoded-ascii parts.path_text has.path_bytes) in
+    let walked = relative-walk (without_last segments) kept parts.path_text goes.left parts.segments path goes.goes_on
+    goes.no_dots has.path_bytes in
+    behind_origin base text parts domain segments kept (drop skipped text) PathRelative
     (Segments (walk Special (without_last segments) parts.segments)) parts.query is has
     (sym (ap (λ f. denoted_path (Some base) Special f parts) formed
     ∙ ap (λ p. Segments (walk Special (without_last (listed_segments p)) parts.segments)) is.path))
     (query-own (Some base) parts.form parts.query (rw formed refl) has.query_bytes)
-    (ap (λ t. kept ++ (slash ∷ t)) has.whole ∙ sym (append_assoc kept (slash ∷ parts.path_text) ends)
-    ∙ ap (λ t. t ++ ends) (sym walked))
+    (ap (λ t. serial_segments kept ++ (slash ∷ t))
+    (behind_front parts.path_text goes.left ends text kept (without_last segments) skipped goes.goes_on goes.counted
+    has.whole)
+    ∙ sym (append_assoc (serial_segments kept) (slash ∷ goes.left) ends) ∙ ap (λ t. t ++ ends) (sym walked))
 
 -- no path: the base's query stays where there is no query either
 no_path-ending : (base : Url) (form : Form) (query fragment : Option (List ℕ)) (text : List ℕ) → form ≡ NoPath
@@ -242,7 +332,7 @@ no_path-ending base form (Some query) fragment text formed bytes whole =
 no_path : (profile : Profile) (base : Url) (text : List ℕ) (parts : Parts) (domain : List ℕ)
     (segments : List (List ℕ)) → Valid profile (Some base) text parts → parts.form ≡ NoPath
     → IsPlainBase base domain segments → list_all is_never_encoded text ≡ true
-    → IsWritten base text parts domain segments NoPath
+    → IsWritten base parts domain segments text NoPath
 no_path profile base text parts domain segments valid formed is bytes =
     let (none, nothing, empty) = by_form profile base text parts NoPath valid formed in
     let keeps : KeepsOrigin base parts = record {
@@ -252,7 +342,7 @@ no_path profile base text parts domain segments valid formed is bytes =
     } in
     let has = alone base text parts keeps none valid.whole bytes in
     let ends = ending parts.query parts.fragment in
-    behind_origin base text parts domain segments NoPath (Segments segments)
+    behind_origin base text parts domain segments segments text NoPath (Segments segments)
     (denoted_query (Some base) Special parts.form parts.query) is has
     (sym (ap (λ f. denoted_path (Some base) Special f parts) formed ∙ is.path)) refl
     (ap (λ t. serial_segments segments ++ t)
@@ -261,27 +351,54 @@ no_path profile base text parts domain segments valid formed is bytes =
 
 -- in each form
 by_each_form : (profile : Profile) (base : Url) (text : List ℕ) (parts : Parts) (domain : List ℕ)
-    (segments : List (List ℕ)) (form : Form) → Valid profile (Some base) text parts → parts.form ≡ form
-    → IsPlainBase base domain segments → IsPlainPath form parts.path_text
-    → list_all is_never_encoded text ≡ true → IsWritten base text parts domain segments form
-by_each_form profile base text parts domain segments PathAbsolute valid formed is plain bytes =
-    absolute profile base text parts domain segments valid formed is plain bytes
-by_each_form profile base text parts domain segments PathRelative valid formed is plain bytes =
-    relative profile base text parts domain segments valid formed is plain bytes
-by_each_form profile base text parts domain segments NoPath valid formed is plain bytes =
-    no_path profile base text parts domain segments valid formed is bytes
-by_each_form profile base text parts domain segments SchemeAuthority valid formed is plain bytes = absurd plain
-by_each_form profile base text parts domain segments SchemePath valid formed is plain bytes = absurd plain
-by_each_form profile base text parts domain segments SchemeOpaque valid formed is plain bytes = absurd plain
-by_each_form profile base text parts domain segments Authority valid formed is plain bytes = absurd plain
+    (segments kept : List (List ℕ)) (skipped : ℕ) (form : Form) → Valid profile (Some base) text parts
+    → parts.form ≡ form → IsPlainBase base domain segments
+    → IsPlainPath form parts.path_text segments kept skipped
+    → list_all is_never_encoded text ≡ true → IsWritten base parts domain kept (drop skipped text) form
+by_each_form profile base text parts domain segments kept skipped PathAbsolute valid formed is (none, zero, plain) bytes =
+    rw (none, zero) (absolute profile base text parts domain segments valid formed is plain bytes)
+by_each_form profile base text parts domain segments kept skipped PathRelative valid formed is plain bytes =
+    relative profile base text parts domain segments kept skipped valid formed is plain bytes
+by_each_form profile base text parts domain segments kept skipped NoPath valid formed is (all, zero) bytes =
+    rw (all, zero) (no_path profile base text parts domain segments valid formed is bytes)
+by_each_form profile base text parts domain segments kept skipped SchemeAuthority valid formed is plain bytes =
+    absurd plain
+by_each_form profile base text parts domain segments kept skipped SchemePath valid formed is plain bytes =
+    absurd plain
+by_each_form profile base text parts domain segments kept skipped SchemeOpaque valid formed is plain bytes =
+    absurd plain
+by_each_form profile base text parts domain segments kept skipped Authority valid formed is plain bytes =
+    absurd plain
 
 -- the text of the URL that a plain reference denotes, by its bytes
-pub plain_reference_written : (profile : Profile) (base : Url) (text : List ℕ) (parts : Parts) (domain : List ℕ)
-    (segments : List (List ℕ)) → Valid profile (Some base) (chars text) parts → IsPlainReference text parts
-    → IsPlainBase base domain segments
-    → (origin base domain ++ serial_segments (kept_segments parts.form segments))
-    ++ (between parts.form parts.query base.query ++ text) ≡ serial (denote (Some base) parts)
+pub plain_reference_written : (profile : Profile) (against : Option Url) (base : Url) (text : List ℕ) (parts : Parts)
+    (domain : List ℕ) (segments kept : List (List ℕ)) (rest : List ℕ) → against ≡ Some base
+    → Valid profile against (chars text) parts
+    → IsPlainReference text parts segments kept rest → IsPlainBase base domain segments
+    → (origin base domain ++ serial_segments kept)
+    ++ (between parts.form parts.query base.query ++ rest) ≡ serial (denote against parts)
 unfolding IsWritten
-plain_reference_written profile base text parts domain segments valid plain is =
-    let same = valid_bytes profile (Some base) text parts plain.bytes valid in
-    by_each_form profile base text parts domain segments parts.form same refl is plain.path plain.bytes
+plain_reference_written profile against base text parts domain segments kept rest here valid plain is =
+    let valid_here = subst (λ b. Valid profile b (chars text) parts) here valid in
+    let same = valid_bytes profile (Some base) text parts plain.bytes valid_here in
+    subst (λ r. IsWritten base parts domain kept r parts.form) (sym plain.behind)
+    (by_each_form profile base text parts domain segments kept plain.skipped parts.form same refl is plain.path
+    plain.bytes)
+    ∙ ap (λ b. serial (denote b parts)) (sym here)
+
+-- ---- what the code sees
+
+-- a path that begins with `/`, by its bytes
+pub seen_absolute : (bytes : List ℕ) → IsUtf8 bytes → (segments : List (List ℕ))
+    → has_no_dots false bytes ≡ true → IsPlainPath PathAbsolute (chars bytes) segments [] 0
+seen_absolute bytes utf8 segments no_dots =
+    (refl, refl, λ ascii. subst (λ t. has_no_dots false t ≡ true) (ascii_bytes bytes utf8 ascii) no_dots)
+
+-- and any other
+pub seen_relative : (bytes : List ℕ) → IsUtf8 bytes → (segments : List (List ℕ))
+    → (found : Option (Bor (List (List ℕ)) × ℕ))
+    → IfSome found (λ f. GoesOnBehind (without_last segments) bytes f.0.now f.1)
+    → IfSome found (λ f. IsPlainPath PathRelative (chars bytes) segments f.0.now f.1)
+seen_relative bytes utf8 segments None goes = tt
+seen_relative bytes utf8 segments (Some f) goes =
+    λ ascii. subst (λ t. GoesOnBehind (without_last segments) t f.0.now f.1) (ascii_bytes bytes utf8 ascii) goes

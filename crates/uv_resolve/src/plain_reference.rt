@@ -8,7 +8,10 @@ ghost use Rattle.uv_model.specs.Parts.{written_behind};
 ghost use Rattle.uv_model.specs.Records.Serialize.{serial_port, serial_segments};
 ghost use Rattle.uv_grammar.specs.Form.{seen_form};
 ghost use Rattle.uv_resolve.specs.PlainReference as spec;
-ghost use Rattle.uv_resolve.specs.PlainReference.{IsPlainBase, IsPlainPath, IsPlainReference, IsSerialWhere};
+ghost use Rattle.uv_resolve.specs.PlainReference.{GoesOn, GoesOnBehind, IsPlainBase, IsPlainPath, IsPlainReference};
+ghost use Rattle.uv_resolve.specs.PlainReference.{IsSerialWhere, dot_segment};
+ghost use Rattle.std.specs.Prelude.{drop, length};
+ghost use Rattle.std.specs.Str.{IsAscii};
 ghost use Rattle.uv_resolve.specs.Serialized.{ArePartsOf};
 
 use crate::own_text::{is_never_encoded, is_without_dots};
@@ -17,8 +20,8 @@ use uv_grammar::{Form, Parts};
 use uv_model::{Class, Host, Record, Text, UrlPath, class_of};
 
 /// The text of the URL that a valid reference denotes against its base, where the base has a special scheme and a
-/// domain, no segment of the reference begins as a dot segment does, and nothing is encoded. None says nothing, and the
-/// error is out of memory.
+/// domain, no segment of the reference begins as a dot segment does but for `./` and `../` at its start, and nothing is
+/// encoded. None says nothing, and the error is out of memory.
 pub(crate) fn plain_reference(
     alloc: Global,
     text: &str,
@@ -32,33 +35,12 @@ pub(crate) fn plain_reference(
     let Some(base) = base else {
         return Ok(None);
     };
-    if !is_plain_text(text, parts) {
+    let Some((domain, segments)) = plain_base(base) else {
         return Ok(None);
-    }
-    match plain_base(base) {
-        Some((domain, segments)) => {
-            let kept = kept_segments(parts.form(), segments);
-            Ok(Some(write(alloc, text, parts, base, domain, kept)?))
-        }
+    };
+    match plain_start(text, parts, segments) {
+        Some((kept, rest)) => Ok(Some(write(alloc, rest, parts, base, domain, kept)?)),
         None => Ok(None),
-    }
-}
-
-// Whether there is neither a scheme nor an authority, no dot segment and nothing that is encoded.
-fn is_plain_text(text: &str, parts: &Parts<'_>) -> bool
-    ensures { IsTrue result → IsPlainReference text.now parts.now }
-{
-    is_plain_path(parts.form(), parts.path_text()) && is_never_encoded(text)
-}
-
-fn is_plain_path(form: Form, path_text: &str) -> bool
-    ensures { IsTrue result → IsPlainPath (seen_form form) (chars path_text.now) }
-{
-    match form {
-        Form::PathAbsolute => is_without_dots(false, path_text.as_bytes()),
-        Form::PathRelative => is_without_dots(true, path_text.as_bytes()),
-        Form::NoPath => true,
-        _ => false,
     }
 }
 
@@ -83,15 +65,93 @@ fn listed_base<'b>(base: &'b Record) -> Option<(&'b str, &'b [Text])>
     }
 }
 
-// The segments of the base's path that stay before a reference's.
-fn kept_segments<'b>(form: Form, segments: &'b [Text]) -> &'b [Text]
-    ensures { result.now ≡ spec.kept_segments (seen_form form) segments.now }
+// The segments of the base's path that stay before a plain reference, and the rest of its text behind them.
+fn plain_start<'b, 't>(
+    text: &'t str,
+    parts: &Parts<'_>,
+    segments: &'b [Text],
+) -> Option<(&'b [Text], &'t str)>
+    ensures { IfSome result (λ found.
+        IsPlainReference text.now parts.now segments.now found.0.now found.1.now) }
+{
+    let Some((kept, skipped)) = plain_path(parts.form(), parts.path_text(), segments) else {
+        return None;
+    };
+    if !is_never_encoded(text) {
+        return None;
+    }
+    match behind(text, skipped) {
+        Some(rest) => Some((kept, rest)),
+        None => None,
+    }
+}
+
+// What stands behind so many bytes of an ASCII text.
+fn behind<'t>(text: &'t str, skipped: usize) -> Option<&'t str>
+    requires { IsAscii text.now }
+    ensures { IfSome result (λ rest. rest.now ≡ drop skipped text.now) }
+{
+    if skipped > text.len() {
+        return None;
+    }
+    Some(&text[skipped..])
+}
+
+// The segments of the base's path that stay before a plain path, and the number of its bytes that are skipped.
+fn plain_path<'b>(form: Form, path_text: &str, segments: &'b [Text]) -> Option<(&'b [Text], usize)>
+    ensures { IfSome result (λ found.
+        IsPlainPath (seen_form form) (chars path_text.now) segments.now found.0.now found.1) }
 {
     match form {
-        Form::PathRelative => but_last(segments),
-        Form::NoPath => segments,
-        _ => &[],
+        Form::PathAbsolute if is_without_dots(false, path_text.as_bytes()) => Some((&[], 0)),
+        Form::PathRelative => goes_on_behind(but_last(segments), path_text.as_bytes()),
+        Form::NoPath => Some((segments, 0)),
+        _ => None,
     }
+}
+
+// Where the walk over a path goes on behind its leading dot segments, if no other may be a dot segment.
+fn goes_on_behind<'b>(segments: &'b [Text], path: &[u8]) -> Option<(&'b [Text], usize)>
+    ensures { IfSome result (λ found. GoesOnBehind segments.now path.now found.0.now found.1) }
+{
+    let (kept, left) = behind_dots(segments, path);
+    if is_without_dots(true, left) {
+        Some((kept, path.len().saturating_sub(left.len())))
+    } else {
+        None
+    }
+}
+
+// The segments behind a path's leading dot segments, and what is left of the path.
+fn behind_dots<'b, 'p>(segments: &'b [Text], path: &'p [u8]) -> (&'b [Text], &'p [u8])
+    ensures { GoesOn segments.now path.now result.0.now result.1.now }
+{
+    let mut kept = segments;
+    let mut left = path;
+    while let Some((double, rest)) = behind_dot_segment(left) {
+        kept = behind_dot(double, kept);
+        left = rest;
+    }
+    (kept, left)
+}
+
+// Whether the dot segment at the start is a double one, and what follows its `/`.
+fn behind_dot_segment<'p>(path: &'p [u8]) -> Option<(bool, &'p [u8])>
+    ensures begins { IfSome result (λ found. path.now ≡ dot_segment found.0 ++ found.1.now) }
+    ensures shorter { IfSome result (λ found. length found.1.now < length path.now) }
+{
+    match path {
+        [b'.', b'/', rest @ ..] => Some((false, rest)),
+        [b'.', b'.', b'/', rest @ ..] => Some((true, rest)),
+        _ => None,
+    }
+}
+
+// A double dot takes the last segment off.
+fn behind_dot<'b>(double: bool, segments: &'b [Text]) -> &'b [Text]
+    ensures { result.now ≡ spec.behind_dot double segments.now }
+{
+    if double { but_last(segments) } else { segments }
 }
 
 fn but_last<'b>(segments: &'b [Text]) -> &'b [Text]
