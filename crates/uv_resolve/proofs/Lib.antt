@@ -1,4 +1,5 @@
 pub mod OwnTextLemmas
+pub mod PlainPathLemmas
 pub mod PlainReferenceLemmas
 pub mod RecordLemmas
 pub mod SpacedEndLemmas

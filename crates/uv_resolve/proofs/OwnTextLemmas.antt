@@ -235,7 +235,8 @@ query-kept base None h = refl
 query-kept base (Some query) h = ap Some (encoded-kept true query (behind question_mark query h))
 
 -- and so is such a fragment
-pub fragment-kept : (fragment : Option (List ℕ)) → list_all is_never_encoded (written_behind number_sign fragment) ≡ true
+pub fragment-kept : (fragment : Option (List ℕ))
+    → list_all is_never_encoded (written_behind number_sign fragment) ≡ true
     → option_map (encoded false) fragment ≡ fragment
 fragment-kept None h = refl
 fragment-kept (Some fragment) h = ap Some (encoded-kept false fragment (behind number_sign fragment h))

@@ -1,14 +1,11 @@
 -- The text of the URL that a plain reference denotes.
-use Rattle.std.proofs.Common.{◌≡◌, ◌≢◌, ℕ, ◌+◌, ◌-◌, ◌<◌, ◌==◌, Bool, true, false, List, [], ◌∷◌, ◌++◌, Option, Some}
-use Rattle.std.proofs.Common.{None, codes, refl, sym, ap, ◌∙◌, subst, append_assoc, arith, drop, length}
-use Rattle.std.proofs.Math.Seq.{drop-append_seam}
-use Rattle.std.proofs.lemmas.List.{length-append}
+use Rattle.std.proofs.Common.{◌≡◌, ℕ, true, false, List, [], ◌∷◌, ◌++◌, Option, Some, None, codes, refl, sym, ap, ◌∙◌}
+use Rattle.std.proofs.Common.{subst, append_assoc, drop}
 use Rattle.std.specs.Prelude.{IfSome}
 use Rattle.std.specs.Borrow.{Bor}
 use Rattle.std.specs.Char.{is_ascii}
-use Rattle.std.specs.List.{list_all, join_with_byte}
+use Rattle.std.specs.List.{list_all}
 use Rattle.std.specs.Str.{IsUtf8, chars}
-use Rattle.std.proofs.lemmas.List.Splits.{join_with_byte-slice_split, length-slice_split}
 use Rattle.uv_model.specs.declared.profile.Profile.{Profile}
 use Rattle.uv_model.specs.declared.scheme.Class.TheVariants.{Special}
 use Rattle.uv_model.specs.declared.host.Host.TheVariants.{Domain}
@@ -17,7 +14,7 @@ use Rattle.uv_model.specs.declared.path.UrlPath.TheVariants.{Segments}
 use Rattle.uv_model.specs.Ascii.{slash, question_mark, number_sign}
 use Rattle.uv_model.specs.Parts.{Form, PathAbsolute, PathRelative, NoPath, Parts, has_scheme, written, written_behind}
 use Rattle.uv_model.specs.Parts.{SchemeAuthority, SchemePath, SchemeOpaque, Authority}
-use Rattle.uv_model.specs.Path.{IsPathRelative, JoinsTo, is_double_dot, is_single_dot, walk, walk_one, without_last}
+use Rattle.uv_model.specs.Path.{IsPathRelative, walk, without_last}
 use Rattle.uv_model.specs.Records.Denote.{denote, denoted_host, denoted_path, denoted_port, denoted_query}
 use Rattle.uv_model.specs.Records.Denote.{denoted_scheme, listed_segments}
 use Rattle.uv_model.specs.Records.Serialize.{serial, serial_host, serial_path, serial_port, serial_segments}
@@ -26,13 +23,13 @@ use Rattle.uv_model.specs.Scheme.{scheme_class}
 use Rattle.uv_model.specs.Setting.{scheme_or, setting_of}
 use Rattle.uv_model.specs.Valid.{FitsForm, FitsScheme, HasNoAuthority, Valid}
 use Rattle.uv_model.proofs.Cuts.UniqueParts.{joined_segments}
-use Rattle.uv_parser.proofs.RoundTrip.SerializedTexts.{serial_segments-joined}
 use Rattle.uv_grammar.specs.Built.{pieces}
 use Rattle.uv_resolve.specs.OwnText.{has_no_dots, is_never_encoded}
 use Rattle.uv_resolve.specs.PlainReference.{GoesOn, GoesOnBehind, IsPlainBase, IsPlainPath, IsPlainReference}
-use Rattle.uv_resolve.specs.PlainReference.{behind_dot, between, dot_segment, origin}
-use Rattle.uv_resolve.proofs.OwnTextLemmas.{ascii_bytes, behind, both, encoded-kept, fragment-kept, kept-segments}
-use Rattle.uv_resolve.proofs.OwnTextLemmas.{never_encoded-ascii, valid_bytes, walk-kept}
+use Rattle.uv_resolve.specs.PlainReference.{between, origin}
+use Rattle.uv_resolve.proofs.OwnTextLemmas.{ascii_bytes, behind, both, encoded-kept, fragment-kept}
+use Rattle.uv_resolve.proofs.OwnTextLemmas.{never_encoded-ascii, valid_bytes}
+use Rattle.uv_resolve.proofs.PlainPathLemmas.{behind_front, joined-serial, pieces-serial, walk-written}
 use Rattle.uv_resolve.proofs.RecordLemmas.{denote-fields, fields}
 
 -- ---- the ends of a text
@@ -61,7 +58,8 @@ with_origin : (base : Url) (form : List ℕ) (path : UrlPath) (query fragment : 
     ≡ serial (fields base.scheme (Some (Domain form)) base.port path query fragment)
 unfolding serial serial_host
 with_origin base form path query fragment =
-    append_assoc base.scheme (codes "://" ++ (form ++ serial_port base.port)) (serial_path path ++ ending query fragment)
+    append_assoc base.scheme (codes "://" ++ (form ++ serial_port base.port))
+    (serial_path path ++ ending query fragment)
 
 -- the base's host and port are those that are denoted
 record KeepsOrigin (base : Url) (parts : Parts) : Type 0 where
@@ -93,101 +91,6 @@ pub found_base : (base : Url) (found : Option (Bor (List ℕ) × Bor (List (List
     → IfSome found (λ f. IsPlainBase base f.0.now f.1.now)
 found_base base None special has = tt
 found_base base (Some f) special (host, path) = record { special = special; host = host; path = path }
-
--- ---- paths
-
--- the segments of two lists, one after the other
-serial_segments-append : (xs ys : List (List ℕ)) → serial_segments (xs ++ ys) ≡ serial_segments xs ++ serial_segments ys
-serial_segments-append [] ys = refl
-serial_segments-append (segment ∷ rest) ys =
-    ap (λ t. slash ∷ (segment ++ t)) (serial_segments-append rest ys)
-    ∙ ap (λ t. slash ∷ t) (sym (append_assoc segment (serial_segments rest) (serial_segments ys)))
-
--- joined segments, each behind `/`
-joined-serial : (segments : List (List ℕ)) (text : List ℕ) → JoinsTo segments text
-    → serial_segments segments ≡ slash ∷ text
-joined-serial segments text joins =
-    ap serial_segments joins.some ∙ serial_segments-joined joins.first joins.others
-    ∙ ap (λ s. slash ∷ join_with_byte slash s) (sym joins.some) ∙ ap (λ t. slash ∷ t) (sym joins.joined)
-
--- a walk from kept segments over a path without dot segments
-walk-written : (kept segments : List (List ℕ)) (text : List ℕ) → serial_segments segments ≡ slash ∷ text
-    → has_no_dots true text ≡ true → list_all is_never_encoded text ≡ true
-    → serial_segments (walk Special kept segments) ≡ serial_segments kept ++ (slash ∷ text)
-walk-written kept segments text spelled no_dots bytes =
-    let kept_all = kept-segments segments (ap (has_no_dots false) spelled ∙ no_dots) in
-    let all_bytes = ap (list_all is_never_encoded) spelled ∙ bytes in
-    ap serial_segments (walk-kept Special kept segments kept_all all_bytes)
-    ∙ serial_segments-append kept segments ∙ ap (λ t. serial_segments kept ++ t) spelled
-
--- the texts between the slashes of a text are one at least
-some_pieces : (text : List ℕ) (segments : List (List ℕ)) → pieces text ≡ segments → segments ≢ []
-some_pieces text segments is =
-    λ none. let counted = sym (ap length (is ∙ none)) ∙ length-slice_split (λ c. c == slash) text in
-    absurd (omega (arith, counted))
-
--- each behind `/`, they are `/` and the text
-pieces-serial : (text : List ℕ) → serial_segments (pieces text) ≡ slash ∷ text
-pieces-serial text = go (pieces text) refl
-  where
-    go : (segments : List (List ℕ)) → pieces text ≡ segments → serial_segments segments ≡ slash ∷ text
-    go [] is = absurd (some_pieces text [] is refl)
-    go (first ∷ others) is =
-        serial_segments-joined first others ∙ ap (λ s. slash ∷ join_with_byte slash s) (sym is)
-        ∙ ap (λ t. slash ∷ t) (join_with_byte-slice_split slash text)
-
--- ---- leading dot segments
-
--- a walk takes a step for a segment that isn't the last
-walk-step : (kept : List (List ℕ)) (segment text : List ℕ)
-    → walk Special kept (segment ∷ pieces text) ≡ walk Special (walk_one Special false kept segment) (pieces text)
-unfolding walk
-walk-step kept segment text = go (pieces text) refl
-  where
-    go : (segments : List (List ℕ)) → pieces text ≡ segments
-        → walk Special kept (segment ∷ segments) ≡ walk Special (walk_one Special false kept segment) segments
-    go [] is = absurd (some_pieces text [] is refl)
-    go (next ∷ rest) is = refl
-
--- a dot segment keeps the segments, or takes the last off
-dot-step : (double : Bool) (kept : List (List ℕ)) (text : List ℕ)
-    → walk Special kept (pieces (dot_segment double ++ text)) ≡ walk Special (behind_dot double kept) (pieces text)
-unfolding is_double_dot is_single_dot
-dot-step false kept text = walk-step kept (codes ".") text
-dot-step true kept text = walk-step kept (codes "..") text
-
--- a walk goes on at the start of its path
-pub goes_on-start : (segments : List (List ℕ)) (path : List ℕ) → GoesOn segments path segments path
-goes_on-start segments path = record { front = []; whole = refl; walked = refl }
-
--- and behind one more dot segment
-pub goes_on-more : (segments kept : List (List ℕ)) (path left rest : List ℕ) (double : Bool)
-    → GoesOn segments path kept left → left ≡ dot_segment double ++ rest
-    → GoesOn segments path (behind_dot double kept) rest
-goes_on-more segments kept path left rest double before is = record {
-  front = before.front ++ dot_segment double;
-  whole = before.whole ∙ ap (λ t. before.front ++ t) is ∙ sym (append_assoc before.front (dot_segment double) rest);
-  walked = before.walked ∙ ap (λ t. walk Special kept (pieces t)) is ∙ dot-step double kept rest;
-}
-
--- less is left behind it
-pub dot_segment-less : (left rest : List ℕ) (double : Bool) → left ≡ dot_segment double ++ rest
-    → length rest < length left
-dot_segment-less left rest false is = let counted = ap length is in omega (arith, counted)
-dot_segment-less left rest true is = let counted = ap length is in omega (arith, counted)
-
--- what stands behind so many code points of a text that begins with the path
-behind_front : (path left ends text : List ℕ) (kept segments : List (List ℕ)) (skipped : ℕ)
-    → GoesOn segments path kept left → skipped ≡ length path - length left → text ≡ path ++ ends
-    → drop skipped text ≡ left ++ ends
-behind_front path left ends text kept segments skipped goes counted whole =
-    let sum : length path ≡ length goes.front + length left
-    = ap length goes.whole ∙ length-append goes.front left
-    in
-    let front_is : skipped ≡ length goes.front = omega (arith, counted, sum) in
-    ap (λ n. drop n text) front_is
-    ∙ ap (drop (length goes.front)) (whole ∙ ap (λ t. t ++ ends) goes.whole ∙ append_assoc goes.front left ends)
-    ∙ drop-append_seam goes.front (left ++ ends)
 
 -- ---- the three forms
 
@@ -355,7 +258,8 @@ by_each_form : (profile : Profile) (base : Url) (text : List ℕ) (parts : Parts
     → parts.form ≡ form → IsPlainBase base domain segments
     → IsPlainPath form parts.path_text segments kept skipped
     → list_all is_never_encoded text ≡ true → IsWritten base parts domain kept (drop skipped text) form
-by_each_form profile base text parts domain segments kept skipped PathAbsolute valid formed is (none, zero, plain) bytes =
+by_each_form profile base text parts domain segments kept skipped PathAbsolute valid formed is (none, zero, plain)
+    bytes =
     rw (none, zero) (absolute profile base text parts domain segments valid formed is plain bytes)
 by_each_form profile base text parts domain segments kept skipped PathRelative valid formed is plain bytes =
     relative profile base text parts domain segments kept skipped valid formed is plain bytes

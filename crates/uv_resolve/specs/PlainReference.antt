@@ -6,7 +6,7 @@ use Rattle.std.specs.Char.{is_ascii}
 use Rattle.uv_model.specs.declared.host.Host.TheVariants.{Domain}
 use Rattle.uv_model.specs.declared.path.UrlPath.TheVariants.{Segments}
 use Rattle.uv_model.specs.declared.scheme.Class.TheVariants.{Special}
-use Rattle.uv_model.specs.Ascii.{colon, question_mark, slash}
+use Rattle.uv_model.specs.Ascii.{question_mark, slash}
 use Rattle.uv_model.specs.Parts.{Form, PathAbsolute, PathRelative, NoPath, Parts, written_behind}
 use Rattle.uv_model.specs.Path.{walk, without_last}
 use Rattle.uv_model.specs.Records.Denote.{denote}

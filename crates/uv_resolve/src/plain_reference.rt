@@ -1,17 +1,16 @@
 //! References that are written behind a part of their base's text, as most are: no record has to be made of them.
-ghost use Rattle.std.specs.Prelude.{◌≡◌, ◌<◌, ◌++◌, IfOk, IfSome, IsTrue, OnOk, chars, option_copied, option_map};
-ghost use Rattle.std.specs.Prelude.{Some, string_bytes};
+ghost use Rattle.std.specs.Prelude.{◌≡◌, ◌<◌, ◌++◌, IfOk, IfSome, OnOk, Some, chars, drop, length, option_copied};
+ghost use Rattle.std.specs.Prelude.{option_map, string_bytes};
+ghost use Rattle.std.specs.Str.{IsAscii};
 ghost use Rattle.uv_model.specs.declared.host.Host.TheVariants.{Domain};
 ghost use Rattle.uv_model.specs.declared.path.UrlPath.TheVariants.{Segments};
-ghost use Rattle.uv_model.specs.Path.{without_last};
 ghost use Rattle.uv_model.specs.Parts.{written_behind};
+ghost use Rattle.uv_model.specs.Path.{without_last};
 ghost use Rattle.uv_model.specs.Records.Serialize.{serial_port, serial_segments};
 ghost use Rattle.uv_grammar.specs.Form.{seen_form};
 ghost use Rattle.uv_resolve.specs.PlainReference as spec;
 ghost use Rattle.uv_resolve.specs.PlainReference.{GoesOn, GoesOnBehind, IsPlainBase, IsPlainPath, IsPlainReference};
 ghost use Rattle.uv_resolve.specs.PlainReference.{IsSerialWhere, dot_segment};
-ghost use Rattle.std.specs.Prelude.{drop, length};
-ghost use Rattle.std.specs.Str.{IsAscii};
 ghost use Rattle.uv_resolve.specs.Serialized.{ArePartsOf};
 
 use crate::own_text::{is_never_encoded, is_without_dots};
@@ -55,7 +54,8 @@ fn plain_base<'b>(base: &'b Record) -> Option<(&'b str, &'b [Text])>
 }
 
 fn listed_base<'b>(base: &'b Record) -> Option<(&'b str, &'b [Text])>
-    ensures { IfSome result (λ found. (base.now.host ≡ Some (Domain found.0.now)) × (base.now.path ≡ Segments found.1.now)) }
+    ensures { IfSome result (λ found.
+        (base.now.host ≡ Some (Domain found.0.now)) × (base.now.path ≡ Segments found.1.now)) }
 {
     match (base.host(), base.path()) {
         (Some(Host::Domain(form)), UrlPath::Segments(segments)) => {

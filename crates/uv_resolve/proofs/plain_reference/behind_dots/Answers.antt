@@ -1,7 +1,7 @@
 -- The walk goes on behind one dot segment more.
 use Rattle.std.proofs.Common.{List, ℕ, subst, sym}
 use Rattle.uv_resolve.specs.PlainReference.{GoesOn}
-use Rattle.uv_resolve.proofs.PlainReferenceLemmas.{goes_on-more}
+use Rattle.uv_resolve.proofs.PlainPathLemmas.{goes_on-more}
 use Rattle.uv_resolve.proofs.plain_reference.behind_dots.Goals as goal
 
 pub loop-double-preserved : goal.loop-double-preserved

@@ -1,5 +1,5 @@
 -- Bytes of an ASCII path are its code points.
-use Rattle.std.proofs.Common.{List, ℕ, false, sym, ap, ◌∙◌, subst, refl}
+use Rattle.std.proofs.Common.{List, ℕ, false, sym, ap, ◌∙◌, subst}
 use Rattle.std.specs.Prelude.{IfSome}
 use Rattle.uv_resolve.specs.OwnText.{has_no_dots}
 use Rattle.uv_resolve.specs.PlainReference.{GoesOnBehind}
