@@ -1,3 +1,4 @@
+pub mod OwnAuthorityLemmas
 pub mod OwnTextLemmas
 pub mod PlainPathLemmas
 pub mod PlainReferenceLemmas

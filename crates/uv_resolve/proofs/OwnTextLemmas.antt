@@ -110,13 +110,13 @@ walk-kept class path (segment ∷ next ∷ rest) no_dots bytes =
     ∙ append_assoc path (segment ∷ []) (next ∷ rest)
 
 -- the path behind an authority
-authority_path-kept : (segments : List (List ℕ)) → segments ≢ [] → list_all is_kept_segment segments ≡ true
+pub authority_path-kept : (segments : List (List ℕ)) → segments ≢ [] → list_all is_kept_segment segments ≡ true
     → list_all is_never_encoded (serial_segments segments) ≡ true → authority_path Special segments ≡ segments
 authority_path-kept [] some no_dots bytes = absurd (some refl)
 authority_path-kept (segment ∷ rest) some no_dots bytes = walk-kept Special [] (segment ∷ rest) no_dots bytes
 
 -- a path behind an authority is its segments with `/` before each
-slashed_text : (segments : List (List ℕ)) (text : List ℕ) → segments ≢ [] → MayBePathSlashed segments text
+pub slashed_text : (segments : List (List ℕ)) (text : List ℕ) → segments ≢ [] → MayBePathSlashed segments text
     → text ≡ serial_segments segments
 slashed_text segments text some (inl none) = absurd (some none.1)
 slashed_text segments text some (inr path) =
@@ -214,13 +214,13 @@ kept-segments (segment ∷ rest) h =
     (kept-segments rest (no_dots-behind true segment (serial_segments rest) h))
 
 -- a path text that isn't empty has segments
-some_segments : (segments : List (List ℕ)) (text : List ℕ) → text ≢ [] → MayBePathSlashed segments text → segments ≢ []
+pub some_segments : (segments : List (List ℕ)) (text : List ℕ) → text ≢ [] → MayBePathSlashed segments text → segments ≢ []
 some_segments segments text some (inl none) = absurd (some none.0)
 some_segments segments text some (inr path) =
     λ none. let both_ways : [] ≡ path.joins.first ∷ path.joins.others = sym none ∙ path.joins.some in absurd cc
 
 -- and an empty one has none
-no_segments : (segments : List (List ℕ)) (text : List ℕ) → MayBePathSlashed segments text → text ≡ [] → segments ≡ []
+pub no_segments : (segments : List (List ℕ)) (text : List ℕ) → MayBePathSlashed segments text → text ≡ [] → segments ≡ []
 no_segments segments text (inl none) is = none.1
 no_segments segments text (inr path) is =
     let both_ways : [] ≡ slash ∷ path.behind = sym is ∙ path.slashed in absurd cc
@@ -264,7 +264,7 @@ written-spelled parts scheme form schemed hosted no_port =
     ++ (written_behind question_mark parts.query ++ written_behind number_sign parts.fragment)))
 
 -- the serializer writes such a URL so
-serial-spelled : (scheme form : List ℕ) (segments : List (List ℕ)) (query fragment : Option (List ℕ))
+pub serial-spelled : (scheme form : List ℕ) (segments : List (List ℕ)) (query fragment : Option (List ℕ))
     → serial (fields scheme (Some (Domain form)) None (Segments segments) query fragment)
     ≡ spelled scheme form (serial_segments segments) query fragment
 unfolding serial serial_host

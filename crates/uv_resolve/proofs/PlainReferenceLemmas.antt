@@ -139,20 +139,20 @@ behind_origin base text parts domain segments kept rest form path query is alone
     ∙ origin-kept base parts domain segments path query is alone.keeps path_is query_is alone.fragment_bytes
 
 -- a query of a form that never takes the base's
-query-own : (base : Option Url) (form : Form) (query : Option (List ℕ)) → denoted_query base Special form None ≡ None
+pub query-own : (base : Option Url) (form : Form) (query : Option (List ℕ)) → denoted_query base Special form None ≡ None
     → list_all is_never_encoded (written_behind question_mark query) ≡ true
     → query ≡ denoted_query base Special form query
 query-own base form None none bytes = sym none
 query-own base form (Some query) none bytes = sym (query-stays base form query bytes)
 
 -- a form without a scheme
-no_scheme : (profile : Profile) (base : Url) (text : List ℕ) (parts : Parts) (form : Form)
+pub no_scheme : (profile : Profile) (base : Url) (text : List ℕ) (parts : Parts) (form : Form)
     → Valid profile (Some base) text parts → parts.form ≡ form → has_scheme form ≡ false → parts.scheme ≡ None
 no_scheme profile base text parts form valid formed none =
     subst (λ h. FitsScheme h parts.scheme) (ap has_scheme formed ∙ none) valid.scheme
 
 -- what the form asks
-by_form : (profile : Profile) (base : Url) (text : List ℕ) (parts : Parts) (form : Form)
+pub by_form : (profile : Profile) (base : Url) (text : List ℕ) (parts : Parts) (form : Form)
     → Valid profile (Some base) text parts → parts.form ≡ form
     → FitsForm (setting_of profile (Some base) parts.scheme) form parts
 by_form profile base text parts form valid formed =

@@ -1,6 +1,7 @@
 pub mod Base
 pub mod Laws
 pub mod ParserAnswer
+pub mod OwnAuthority
 pub mod OwnText
 pub mod PlainReference
 pub mod Resolve

@@ -5,6 +5,7 @@
 mod base;
 mod fault;
 pub mod laws;
+mod own_authority;
 mod own_text;
 mod paths;
 mod plain_reference;

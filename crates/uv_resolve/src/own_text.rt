@@ -74,8 +74,8 @@ fn is_text(text: &str, other: &str) -> bool
     text == other
 }
 
-// Whether the host is a domain that is its own form.
-fn has_own_host(parts: &Parts<'_>) -> bool
+/// Whether the host is a domain that is its own form.
+pub(crate) fn has_own_host(parts: &Parts<'_>) -> bool
     ensures { IsTrue result → HasOwnHost parts.now }
 {
     match parts.host() {
@@ -95,8 +95,8 @@ fn is_form(form: &str, text: Option<&str>) -> bool
     }
 }
 
-// Whether there is no port text.
-fn has_no_port(parts: &Parts<'_>) -> bool
+/// Whether there is no port text.
+pub(crate) fn has_no_port(parts: &Parts<'_>) -> bool
     ensures { IsTrue result → HasNoPort parts.now }
 {
     match (parts.port_text(), parts.port()) {
@@ -105,8 +105,8 @@ fn has_no_port(parts: &Parts<'_>) -> bool
     }
 }
 
-// Whether nothing stands behind the host.
-fn ends_in_host(parts: &Parts<'_>) -> bool
+/// Whether nothing stands behind the host.
+pub(crate) fn ends_in_host(parts: &Parts<'_>) -> bool
     ensures { IsTrue result → EndsInHost parts.now }
 {
     match (parts.query(), parts.fragment()) {
@@ -122,8 +122,8 @@ fn has_no_path(text: &str) -> bool
     text.is_empty()
 }
 
-// Whether there is a path, of which no segment begins as a dot segment does.
-fn is_own_path(text: &str) -> bool
+/// Whether there is a path, of which no segment begins as a dot segment does.
+pub(crate) fn is_own_path(text: &str) -> bool
     ensures { IsTrue result → IsOwnPath (chars text.now) }
 {
     if text.is_empty() {

@@ -13,10 +13,11 @@ ghost use Rattle.uv_resolve.specs.PlainReference.{GoesOn, GoesOnBehind, IsPlainB
 ghost use Rattle.uv_resolve.specs.PlainReference.{IsSerialWhere, dot_segment};
 ghost use Rattle.uv_resolve.specs.Serialized.{ArePartsOf};
 
+use crate::own_authority::{is_special, own_authority};
 use crate::own_text::{is_never_encoded, is_without_dots};
 use std::alloc::{AllocError, Global};
 use uv_grammar::{Form, Parts};
-use uv_model::{Class, Host, Record, Text, UrlPath, class_of};
+use uv_model::{Host, Record, Text, UrlPath};
 
 /// The text of the URL that a valid reference denotes against its base, where the base has a special scheme and a
 /// domain, no segment of the reference begins as a dot segment does but for `./` and `../` at its start, and nothing is
@@ -34,6 +35,9 @@ pub(crate) fn plain_reference(
     let Some(base) = base else {
         return Ok(None);
     };
+    if let Form::Authority = parts.form() {
+        return own_authority(alloc, text, parts, base);
+    }
     let Some((domain, segments)) = plain_base(base) else {
         return Ok(None);
     };
@@ -47,9 +51,10 @@ pub(crate) fn plain_reference(
 fn plain_base<'b>(base: &'b Record) -> Option<(&'b str, &'b [Text])>
     ensures { IfSome result (λ found. IsPlainBase base.now found.0.now found.1.now) }
 {
-    match class_of(base.scheme()) {
-        Class::Special => listed_base(base),
-        _ => None,
+    if is_special(base) {
+        listed_base(base)
+    } else {
+        None
     }
 }
 

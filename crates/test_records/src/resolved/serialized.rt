@@ -139,7 +139,7 @@ fn serializes_references_on_a_page(rt: HostRuntime) -> Result<(), ResolveFault> 
 }
 
 // Bases of other kinds, a text, and the URL that it denotes against the base.
-const ON_OTHER_BASES: [(&str, &str, &str); 12] = [
+const ON_OTHER_BASES: [(&str, &str, &str); 19] = [
     ("http://h", "a", "http://h/a"),
     ("http://h", "../a", "http://h/a"),
     ("http://h/#f", "", "http://h/"),
@@ -148,6 +148,37 @@ const ON_OTHER_BASES: [(&str, &str, &str); 12] = [
     ("wss://h:80/a/", "./b", "wss://h:80/a/b"),
     ("http://1.2.3.4:81/a", "/b", "http://1.2.3.4:81/b"),
     ("http://[1:0:0:2::3]/a/b", "c", "http://[1:0:0:2::3]/a/c"),
+    (
+        "https://h.example:81/a",
+        "//g.example/x?y#z",
+        "https://g.example/x?y#z",
+    ),
+    ("https://h.example/a", "//g.example", "https://g.example/"),
+    (
+        "https://h.example/a",
+        "//g.example?y",
+        "https://g.example/?y",
+    ),
+    (
+        "https://h.example/a",
+        "//g.example:443/x",
+        "https://g.example/x",
+    ),
+    (
+        "https://h.example/a",
+        "//g.example:81/x",
+        "https://g.example:81/x",
+    ),
+    (
+        "https://h.example/a",
+        "//G.example/x",
+        "https://g.example/x",
+    ),
+    (
+        "wss://h.example/a",
+        "//g.example/x/../y",
+        "wss://g.example/y",
+    ),
     ("foo://h/a/b?q", "?r", "foo://h/a/b?r"),
     ("foo://h", "a", "foo://h/a"),
     ("file:///C:/a/b", "../../c", "file:///C:/c"),
