@@ -1,6 +1,6 @@
 -- The text of the URL that a reference with its own authority denotes.
-use Rattle.std.proofs.Common.{◌≡◌, ◌≢◌, ℕ, true, false, List, [], ◌∷◌, ◌++◌, Option, Some, None, refl, sym, ap, ◌∙◌}
-use Rattle.std.proofs.Common.{subst, append_assoc, append-nil}
+use Rattle.std.proofs.Common.{◌≡◌, ℕ, true, false, List, [], ◌∷◌, ◌++◌, Some, None, refl, sym, ap, ◌∙◌}
+use Rattle.std.proofs.Common.{subst, append-nil}
 use Rattle.std.specs.List.{list_all}
 use Rattle.std.specs.Str.{chars}
 use Rattle.uv_model.specs.declared.profile.Profile.{Profile}
@@ -23,7 +23,7 @@ use Rattle.uv_resolve.proofs.OwnTextLemmas.{authority_path-kept, both, fragment-
 use Rattle.uv_resolve.proofs.OwnTextLemmas.{never_encoded-ascii, no_segments, serial-spelled, slashed_text}
 use Rattle.uv_resolve.proofs.OwnTextLemmas.{some_segments, spelled, valid_bytes}
 use Rattle.uv_resolve.proofs.PlainReferenceLemmas.{by_form, ending, no_scheme, query-own}
-use Rattle.uv_resolve.proofs.RecordLemmas.{denote-fields, fields}
+use Rattle.uv_resolve.proofs.RecordLemmas.{denote-fields}
 
 -- an authority, as it is written
 abbrev authority : List ℕ → List ℕ
