@@ -4,7 +4,7 @@
 use std::alloc::{AllocError, Global};
 use std::process::Abort;
 use uv_grammar::{
-    BaseKind, Form, Parts, Verdict, check, check_of_kind, is_valid, is_valid_of_kind,
+    BaseKind, Form, Parts, Verdict, check, check_alone, check_of_kind, is_valid, is_valid_of_kind,
 };
 use uv_model::{Host, Profile, Record, Refusal};
 
@@ -151,6 +151,14 @@ fn profile_line(
     }
 }
 
+/// The same by the call that knows no base.
+fn alone_line(alloc: Global, text: &str, profile: Profile) -> Result<String, AllocError> {
+    match check_alone(alloc, text, profile)? {
+        Verdict::Yes(parts) => parts_line(alloc, &parts),
+        Verdict::No(refusal) => refusal_line(alloc, refusal),
+    }
+}
+
 /// Whether the verdict of a profile on a text is this line.
 fn is_line(
     alloc: Global,
@@ -162,7 +170,7 @@ fn is_line(
     let found = profile_line(alloc, text, base, profile)?;
     let held = match base {
         Some(base) => kind_line(alloc, text, BaseKind::of(base), profile)?,
-        None => profile_line(alloc, text, None, profile)?,
+        None => alone_line(alloc, text, profile)?,
     };
     let valid = is_valid(alloc, text, base, profile)? != line.starts_with("no ");
     Ok(found.as_str() == line && held.as_str() == line && valid)
