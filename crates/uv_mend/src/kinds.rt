@@ -2,15 +2,12 @@
 ghost use Rattle.std.specs.Prelude.{◌≡◌, ◌↔◌, IfOk, IsTrue, chars, option_copied};
 ghost use Rattle.uv_mend.specs.Escapes.{escaped};
 ghost use Rattle.uv_mend.specs.Kinds.{IsKind};
-ghost use Rattle.uv_second.specs.Second.{ReadsSame};
 
 use crate::code_points::{code_points, text_of};
 use crate::escaped::escaped;
-use crate::second::reading;
+use crate::second::reads_same;
 use std::alloc::{AllocError, Global};
-use url::Url;
 use uv_model::{MendKind, Record};
-use uv_second::serial;
 
 /// The kind of a mended text. The error is out of memory.
 pub(crate) fn kind_of(
@@ -21,29 +18,12 @@ pub(crate) fn kind_of(
 ) -> Result<MendKind, AllocError>
     ensures { IfOk result (IsKind (option_copied base.entry) text.now mended.now) }
 {
-    if reads_same(alloc, text, mended, base)? {
+    if reads_same(alloc, base, text, mended)? {
         Ok(MendKind::Same)
     } else if is_escaped(alloc, text, mended)? {
         Ok(MendKind::Escaped)
     } else {
         Ok(MendKind::Changed)
-    }
-}
-
-// Whether the second parser reads both texts as one URL.
-fn reads_same(
-    alloc: Global,
-    text: &str,
-    mended: &str,
-    base: Option<&Record>,
-) -> Result<bool, AllocError>
-    ensures { IfOk result (λ same. IsTrue same ↔ ReadsSame (option_copied base.entry) text.now mended.now) }
-{
-    let first = reading(alloc, base, text)?;
-    let second = reading(alloc, base, mended)?;
-    match (first, second) {
-        (Some(first), Some(second)) => Ok(is_same(serial(&first), serial(&second))),
-        _ => Ok(false),
     }
 }
 

@@ -1,6 +1,7 @@
 //! What the second parser reads a text as, where the one error is out of memory.
-ghost use Rattle.std.specs.Prelude.{◌≡◌, IfOk, option_copied};
+ghost use Rattle.std.specs.Prelude.{◌≡◌, ◌↔◌, IfOk, IsTrue, option_copied};
 ghost use Rattle.uv_second.specs.Second as spec;
+ghost use Rattle.uv_second.specs.Second.{ReadsSame};
 
 use std::alloc::{AllocError, Global};
 use url::Url;
@@ -17,6 +18,21 @@ pub(crate) fn reading(
 {
     match uv_second::reading(alloc, base, text) {
         Ok(url) => Ok(url),
+        Err(_) => Err(AllocError),
+    }
+}
+
+/// Whether it reads both texts as URLs of one text. The errors are those of `reading`.
+pub(crate) fn reads_same(
+    alloc: Global,
+    base: Option<&Record>,
+    text: &str,
+    other: &str,
+) -> Result<bool, AllocError>
+    ensures { IfOk result (λ same. IsTrue same ↔ ReadsSame (option_copied base.entry) text.now other.now) }
+{
+    match uv_second::reads_same(alloc, base, text, other) {
+        Ok(same) => Ok(same),
         Err(_) => Err(AllocError),
     }
 }
