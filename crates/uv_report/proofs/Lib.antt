@@ -3,6 +3,7 @@ mod ColumnLemmas
 mod JsonLemmas
 mod NameLemmas
 mod PlaceLemmas
+mod PointLemmas
 mod RowsLemmas
 mod SarifLemmas
 mod UriLemmas

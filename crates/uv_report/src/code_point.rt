@@ -1,150 +1,168 @@
 //! How a code point is named: by `U+` and its number, and by its name, where it is an ASCII code point.
-ghost use Rattle.std.specs.Prelude.{◌≡◌, ◌++◌, IfOk, OnOk, codes, map, option_map, slice_get, string_bytes};
+ghost use Rattle.std.specs.Prelude.{◌≡◌, ◌++◌, IfOk, MatchOption, None, OnOk, codes, map, option_map, slice_get};
+ghost use Rattle.std.specs.Prelude.{string_bytes};
 ghost use Rattle.uv_report.specs.CodePoint as spec;
 
 use crate::escapes::is_hidden;
 use std::alloc::{AllocError, Global};
 
-// The names of the ASCII code points, by their numbers (Unicode Character Database).
-const ASCII_NAMES: [&str; 128] = [
-    "NULL",
-    "START OF HEADING",
-    "START OF TEXT",
-    "END OF TEXT",
-    "END OF TRANSMISSION",
-    "ENQUIRY",
-    "ACKNOWLEDGE",
-    "ALERT",
-    "BACKSPACE",
-    "CHARACTER TABULATION",
-    "LINE FEED",
-    "LINE TABULATION",
-    "FORM FEED",
-    "CARRIAGE RETURN",
-    "SHIFT OUT",
-    "SHIFT IN",
-    "DATA LINK ESCAPE",
-    "DEVICE CONTROL ONE",
-    "DEVICE CONTROL TWO",
-    "DEVICE CONTROL THREE",
-    "DEVICE CONTROL FOUR",
-    "NEGATIVE ACKNOWLEDGE",
-    "SYNCHRONOUS IDLE",
-    "END OF TRANSMISSION BLOCK",
-    "CANCEL",
-    "END OF MEDIUM",
-    "SUBSTITUTE",
-    "ESCAPE",
-    "INFORMATION SEPARATOR FOUR",
-    "INFORMATION SEPARATOR THREE",
-    "INFORMATION SEPARATOR TWO",
-    "INFORMATION SEPARATOR ONE",
-    "SPACE",
-    "EXCLAMATION MARK",
-    "QUOTATION MARK",
-    "NUMBER SIGN",
-    "DOLLAR SIGN",
-    "PERCENT SIGN",
-    "AMPERSAND",
-    "APOSTROPHE",
-    "LEFT PARENTHESIS",
-    "RIGHT PARENTHESIS",
-    "ASTERISK",
-    "PLUS SIGN",
-    "COMMA",
-    "HYPHEN-MINUS",
-    "FULL STOP",
-    "SOLIDUS",
-    "DIGIT ZERO",
-    "DIGIT ONE",
-    "DIGIT TWO",
-    "DIGIT THREE",
-    "DIGIT FOUR",
-    "DIGIT FIVE",
-    "DIGIT SIX",
-    "DIGIT SEVEN",
-    "DIGIT EIGHT",
-    "DIGIT NINE",
-    "COLON",
-    "SEMICOLON",
-    "LESS-THAN SIGN",
-    "EQUALS SIGN",
-    "GREATER-THAN SIGN",
-    "QUESTION MARK",
-    "COMMERCIAL AT",
-    "LATIN CAPITAL LETTER A",
-    "LATIN CAPITAL LETTER B",
-    "LATIN CAPITAL LETTER C",
-    "LATIN CAPITAL LETTER D",
-    "LATIN CAPITAL LETTER E",
-    "LATIN CAPITAL LETTER F",
-    "LATIN CAPITAL LETTER G",
-    "LATIN CAPITAL LETTER H",
-    "LATIN CAPITAL LETTER I",
-    "LATIN CAPITAL LETTER J",
-    "LATIN CAPITAL LETTER K",
-    "LATIN CAPITAL LETTER L",
-    "LATIN CAPITAL LETTER M",
-    "LATIN CAPITAL LETTER N",
-    "LATIN CAPITAL LETTER O",
-    "LATIN CAPITAL LETTER P",
-    "LATIN CAPITAL LETTER Q",
-    "LATIN CAPITAL LETTER R",
-    "LATIN CAPITAL LETTER S",
-    "LATIN CAPITAL LETTER T",
-    "LATIN CAPITAL LETTER U",
-    "LATIN CAPITAL LETTER V",
-    "LATIN CAPITAL LETTER W",
-    "LATIN CAPITAL LETTER X",
-    "LATIN CAPITAL LETTER Y",
-    "LATIN CAPITAL LETTER Z",
-    "LEFT SQUARE BRACKET",
-    "REVERSE SOLIDUS",
-    "RIGHT SQUARE BRACKET",
-    "CIRCUMFLEX ACCENT",
-    "LOW LINE",
-    "GRAVE ACCENT",
-    "LATIN SMALL LETTER A",
-    "LATIN SMALL LETTER B",
-    "LATIN SMALL LETTER C",
-    "LATIN SMALL LETTER D",
-    "LATIN SMALL LETTER E",
-    "LATIN SMALL LETTER F",
-    "LATIN SMALL LETTER G",
-    "LATIN SMALL LETTER H",
-    "LATIN SMALL LETTER I",
-    "LATIN SMALL LETTER J",
-    "LATIN SMALL LETTER K",
-    "LATIN SMALL LETTER L",
-    "LATIN SMALL LETTER M",
-    "LATIN SMALL LETTER N",
-    "LATIN SMALL LETTER O",
-    "LATIN SMALL LETTER P",
-    "LATIN SMALL LETTER Q",
-    "LATIN SMALL LETTER R",
-    "LATIN SMALL LETTER S",
-    "LATIN SMALL LETTER T",
-    "LATIN SMALL LETTER U",
-    "LATIN SMALL LETTER V",
-    "LATIN SMALL LETTER W",
-    "LATIN SMALL LETTER X",
-    "LATIN SMALL LETTER Y",
-    "LATIN SMALL LETTER Z",
-    "LEFT CURLY BRACKET",
-    "VERTICAL LINE",
-    "RIGHT CURLY BRACKET",
-    "TILDE",
-    "DELETE",
+// The ASCII code points, by their numbers: `U+`, the number, and the name (Unicode Character Database).
+const ASCII_POINTS: [&str; 128] = [
+    "U+0000 NULL",
+    "U+0001 START OF HEADING",
+    "U+0002 START OF TEXT",
+    "U+0003 END OF TEXT",
+    "U+0004 END OF TRANSMISSION",
+    "U+0005 ENQUIRY",
+    "U+0006 ACKNOWLEDGE",
+    "U+0007 ALERT",
+    "U+0008 BACKSPACE",
+    "U+0009 CHARACTER TABULATION",
+    "U+000A LINE FEED",
+    "U+000B LINE TABULATION",
+    "U+000C FORM FEED",
+    "U+000D CARRIAGE RETURN",
+    "U+000E SHIFT OUT",
+    "U+000F SHIFT IN",
+    "U+0010 DATA LINK ESCAPE",
+    "U+0011 DEVICE CONTROL ONE",
+    "U+0012 DEVICE CONTROL TWO",
+    "U+0013 DEVICE CONTROL THREE",
+    "U+0014 DEVICE CONTROL FOUR",
+    "U+0015 NEGATIVE ACKNOWLEDGE",
+    "U+0016 SYNCHRONOUS IDLE",
+    "U+0017 END OF TRANSMISSION BLOCK",
+    "U+0018 CANCEL",
+    "U+0019 END OF MEDIUM",
+    "U+001A SUBSTITUTE",
+    "U+001B ESCAPE",
+    "U+001C INFORMATION SEPARATOR FOUR",
+    "U+001D INFORMATION SEPARATOR THREE",
+    "U+001E INFORMATION SEPARATOR TWO",
+    "U+001F INFORMATION SEPARATOR ONE",
+    "U+0020 SPACE",
+    "U+0021 EXCLAMATION MARK",
+    "U+0022 QUOTATION MARK",
+    "U+0023 NUMBER SIGN",
+    "U+0024 DOLLAR SIGN",
+    "U+0025 PERCENT SIGN",
+    "U+0026 AMPERSAND",
+    "U+0027 APOSTROPHE",
+    "U+0028 LEFT PARENTHESIS",
+    "U+0029 RIGHT PARENTHESIS",
+    "U+002A ASTERISK",
+    "U+002B PLUS SIGN",
+    "U+002C COMMA",
+    "U+002D HYPHEN-MINUS",
+    "U+002E FULL STOP",
+    "U+002F SOLIDUS",
+    "U+0030 DIGIT ZERO",
+    "U+0031 DIGIT ONE",
+    "U+0032 DIGIT TWO",
+    "U+0033 DIGIT THREE",
+    "U+0034 DIGIT FOUR",
+    "U+0035 DIGIT FIVE",
+    "U+0036 DIGIT SIX",
+    "U+0037 DIGIT SEVEN",
+    "U+0038 DIGIT EIGHT",
+    "U+0039 DIGIT NINE",
+    "U+003A COLON",
+    "U+003B SEMICOLON",
+    "U+003C LESS-THAN SIGN",
+    "U+003D EQUALS SIGN",
+    "U+003E GREATER-THAN SIGN",
+    "U+003F QUESTION MARK",
+    "U+0040 COMMERCIAL AT",
+    "U+0041 LATIN CAPITAL LETTER A",
+    "U+0042 LATIN CAPITAL LETTER B",
+    "U+0043 LATIN CAPITAL LETTER C",
+    "U+0044 LATIN CAPITAL LETTER D",
+    "U+0045 LATIN CAPITAL LETTER E",
+    "U+0046 LATIN CAPITAL LETTER F",
+    "U+0047 LATIN CAPITAL LETTER G",
+    "U+0048 LATIN CAPITAL LETTER H",
+    "U+0049 LATIN CAPITAL LETTER I",
+    "U+004A LATIN CAPITAL LETTER J",
+    "U+004B LATIN CAPITAL LETTER K",
+    "U+004C LATIN CAPITAL LETTER L",
+    "U+004D LATIN CAPITAL LETTER M",
+    "U+004E LATIN CAPITAL LETTER N",
+    "U+004F LATIN CAPITAL LETTER O",
+    "U+0050 LATIN CAPITAL LETTER P",
+    "U+0051 LATIN CAPITAL LETTER Q",
+    "U+0052 LATIN CAPITAL LETTER R",
+    "U+0053 LATIN CAPITAL LETTER S",
+    "U+0054 LATIN CAPITAL LETTER T",
+    "U+0055 LATIN CAPITAL LETTER U",
+    "U+0056 LATIN CAPITAL LETTER V",
+    "U+0057 LATIN CAPITAL LETTER W",
+    "U+0058 LATIN CAPITAL LETTER X",
+    "U+0059 LATIN CAPITAL LETTER Y",
+    "U+005A LATIN CAPITAL LETTER Z",
+    "U+005B LEFT SQUARE BRACKET",
+    "U+005C REVERSE SOLIDUS",
+    "U+005D RIGHT SQUARE BRACKET",
+    "U+005E CIRCUMFLEX ACCENT",
+    "U+005F LOW LINE",
+    "U+0060 GRAVE ACCENT",
+    "U+0061 LATIN SMALL LETTER A",
+    "U+0062 LATIN SMALL LETTER B",
+    "U+0063 LATIN SMALL LETTER C",
+    "U+0064 LATIN SMALL LETTER D",
+    "U+0065 LATIN SMALL LETTER E",
+    "U+0066 LATIN SMALL LETTER F",
+    "U+0067 LATIN SMALL LETTER G",
+    "U+0068 LATIN SMALL LETTER H",
+    "U+0069 LATIN SMALL LETTER I",
+    "U+006A LATIN SMALL LETTER J",
+    "U+006B LATIN SMALL LETTER K",
+    "U+006C LATIN SMALL LETTER L",
+    "U+006D LATIN SMALL LETTER M",
+    "U+006E LATIN SMALL LETTER N",
+    "U+006F LATIN SMALL LETTER O",
+    "U+0070 LATIN SMALL LETTER P",
+    "U+0071 LATIN SMALL LETTER Q",
+    "U+0072 LATIN SMALL LETTER R",
+    "U+0073 LATIN SMALL LETTER S",
+    "U+0074 LATIN SMALL LETTER T",
+    "U+0075 LATIN SMALL LETTER U",
+    "U+0076 LATIN SMALL LETTER V",
+    "U+0077 LATIN SMALL LETTER W",
+    "U+0078 LATIN SMALL LETTER X",
+    "U+0079 LATIN SMALL LETTER Y",
+    "U+007A LATIN SMALL LETTER Z",
+    "U+007B LEFT CURLY BRACKET",
+    "U+007C VERTICAL LINE",
+    "U+007D RIGHT CURLY BRACKET",
+    "U+007E TILDE",
+    "U+007F DELETE",
 ];
 
 /// Pushes a code point by `U+`, its number, and its name, or beyond ASCII the code point as it is, where it is shown.
-#[tactic(auto, unfolding(crate::specs::CodePoint::point_text))]
 pub(crate) fn push_point(alloc: Global, text: &mut String, c: char) -> Result<(), AllocError>
     ensures { OnOk result (string_bytes text.new ≡ string_bytes text.old ++ spec.point_text c) }
 {
+    match ascii_point(c) {
+        Some(point) => text.push_str(point),
+        None => push_other_point(alloc, text, c),
+    }
+}
+
+// An ASCII code point, by its number and its name.
+fn ascii_point(c: char) -> Option<&'static str>
+    ensures { MatchOption result (slice_get spec.ascii_names c ≡ None) (λ point. point.now ≡ spec.point_text c) }
+{
+    name_at(&ASCII_POINTS, c as usize)
+}
+
+// Pushes a code point by its number, and as it is, where it is shown.
+fn push_other_point(alloc: Global, text: &mut String, c: char) -> Result<(), AllocError>
+    ensures { OnOk result (string_bytes text.new
+        ≡ string_bytes text.old ++ (codes "U+" ++ (spec.hex_number c ++ spec.glyph c))) }
+{
     let number = point_number(alloc, c)?;
     text.push_str(number.as_str())?;
-    push_point_name(text, c)?;
+    push_glyph(text, c)?;
     Ok(())
 }
 
@@ -154,20 +172,6 @@ fn point_number(alloc: Global, c: char) -> Result<String, AllocError>
 {
     let number = u32::from(c);
     format!(in alloc; "U+{number:04X}")
-}
-
-// Pushes a space and the name of an ASCII code point, or of another one the code point, where it is shown.
-#[tactic(auto, unfolding(crate::specs::CodePoint::point_name))]
-fn push_point_name(text: &mut String, c: char) -> Result<(), AllocError>
-    ensures { OnOk result (string_bytes text.new ≡ string_bytes text.old ++ spec.point_name c) }
-{
-    match ascii_name(c) {
-        Some(name) => {
-            text.push_str(" ")?;
-            text.push_str(name)
-        }
-        None => push_glyph(text, c),
-    }
 }
 
 // Pushes a space and a code point, where it is shown.
@@ -180,13 +184,6 @@ fn push_glyph(text: &mut String, c: char) -> Result<(), AllocError>
     text.push_str(" ")?;
     text.push(c)?;
     Ok(())
-}
-
-// The name of an ASCII code point.
-fn ascii_name(c: char) -> Option<&'static str>
-    ensures { option_map (λ name. name.now) result ≡ slice_get spec.ascii_names c }
-{
-    name_at(&ASCII_NAMES, c as usize)
 }
 
 // The name at an index of a table.

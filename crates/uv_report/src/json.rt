@@ -13,7 +13,7 @@ use crate::gnu::push_number;
 use crate::line_violation::LineViolation;
 use crate::message::message;
 use crate::quoted::push_quoted;
-use crate::window::{carried, is_cut};
+use crate::window::{is_cut, window};
 use std::alloc::{AllocError, Global};
 
 /// Pushes the object of a diagnostic, and a line feed.
@@ -149,6 +149,7 @@ fn push_rule(alloc: Global, text: &mut String, violation: LineViolation) -> Resu
 }
 
 /// Pushes the link that a diagnostic is about, as far as it is carried.
+#[tactic(auto, unfolding(crate::specs::Window::carried))]
 pub(crate) fn push_link(
     alloc: Global,
     text: &mut String,
@@ -158,6 +159,18 @@ pub(crate) fn push_link(
     ensures { OnOk result (string_bytes text.new ≡ string_bytes text.old
         ++ (codes ",\"text\":" ++ quoted (shown.carried line.now (violation_place violation)))) }
 {
-    let link = carried(alloc, line, violation.place())?;
+    if is_cut(line) {
+        push_window(alloc, text, line, violation.place())
+    } else {
+        push_text_member(alloc, text, ",\"text\":", line)
+    }
+}
+
+// Pushes what is shown of a link.
+fn push_window(alloc: Global, text: &mut String, line: &str, place: usize) -> Result<(), AllocError>
+    ensures { OnOk result (string_bytes text.new
+        ≡ string_bytes text.old ++ (codes ",\"text\":" ++ quoted (shown.window line.now place))) }
+{
+    let link = window(alloc, line, place)?;
     push_text_member(alloc, text, ",\"text\":", link.as_str())
 }

@@ -40,7 +40,12 @@ fn push_value(alloc: Global, text: &mut String, value: &str) -> Result<(), Alloc
 fn is_plain_text(bytes: &[u8]) -> bool
     ensures { result ≡ list_all is_plain bytes.now }
 {
-    bytes.iter().all(|byte| is_plain_byte(*byte))
+    // Each byte is looked at, also behind one that isn't plain: so they are looked at many at once.
+    let mut plain = true;
+    for &byte in bytes {
+        plain = plain && is_plain_byte(byte);
+    }
+    plain
 }
 
 #[tactic(auto, using(std::proofs::lemmas::Bool::Decides::nat_tests))]

@@ -31,19 +31,6 @@ pub(crate) fn window_place(line: &str, place: usize) -> usize
     }
 }
 
-/// What a report carries of a link of which a place is reported: the link, where it has at most 2,000 code points, else
-/// what is shown of it.
-#[tactic(auto, unfolding(crate::specs::Window::carried))]
-pub(crate) fn carried(alloc: Global, line: &str, place: usize) -> Result<String, AllocError>
-    ensures { IfOk result (λ link. string_bytes link ≡ spec.carried line.now place) }
-{
-    if is_cut(line) {
-        window(alloc, line, place)
-    } else {
-        String::from_str(alloc, line)
-    }
-}
-
 /// Whether a report carries a window of the link alone.
 pub(crate) fn is_cut(line: &str) -> bool
     ensures { result ≡ spec.is_cut line.now }
