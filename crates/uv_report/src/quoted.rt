@@ -1,5 +1,5 @@
 //! Texts as strings of JSON.
-ghost use Rattle.std.specs.Prelude.{◌≡◌, ◌++◌, OnOk, string_bytes, true};
+ghost use Rattle.std.specs.Prelude.{◌≡◌, ◌++◌, ◌&&◌, ◌==◌, OnOk, string_bytes, true};
 ghost use Rattle.std.specs.List.{list_all};
 ghost use Rattle.uv_report.specs.Quoted.{is_plain, quoted};
 
@@ -40,12 +40,26 @@ fn push_value(alloc: Global, text: &mut String, value: &str) -> Result<(), Alloc
 fn is_plain_text(bytes: &[u8]) -> bool
     ensures { result ≡ list_all is_plain bytes.now }
 {
-    // Each byte is looked at, also behind one that isn't plain: so they are looked at many at once.
-    let mut plain = true;
+    // Each byte is looked at, also behind one that doesn't: so many are looked at at once.
+    let mut seen = 0;
     for &byte in bytes {
-        plain = plain && is_plain_byte(byte);
+        seen = behind_byte(seen, byte);
     }
-    plain
+    seen == 0
+}
+
+// What was seen up to a byte and with it: 0 where each stands as it is.
+fn behind_byte(seen: u8, byte: u8) -> u8
+    ensures { (result == 0) ≡ ((seen == 0) && is_plain byte) }
+{
+    seen | unplain_bit(byte)
+}
+
+// 0 for a byte that stands as it is.
+fn unplain_bit(byte: u8) -> u8
+    ensures { (result == 0) ≡ is_plain byte }
+{
+    if is_plain_byte(byte) { 0 } else { 1 }
 }
 
 #[tactic(auto, using(std::proofs::lemmas::Bool::Decides::nat_tests))]
