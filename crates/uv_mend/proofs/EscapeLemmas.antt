@@ -2,6 +2,7 @@
 use Rattle.std.proofs.Common.{◌≡◌, ◌⊎◌, inl, inr, ℕ, ◌<◌, Bool, true, false, not, ◌&&◌, ◌||◌, List, [], ◌∷◌, ◌++◌}
 use Rattle.std.proofs.Common.{refl, ap, ◌∙◌, chars, append_assoc, subst, arith, ⊎_elim}
 use Rattle.std.specs.Prelude.{◌==◌}
+use Rattle.std.specs.Str.{IsAscii}
 use Rattle.std.proofs.lemmas.Bool.{cases_Bool}
 use Rattle.std.proofs.lemmas.Bool.Decides.{nat_tests}
 use Rattle.std.proofs.lemmas.List.Elements.{All-weaker}
@@ -23,15 +24,19 @@ use Rattle.uv_mend.specs.Prefixes.{stops}
 escape_ascii : (b : ℕ) → IsEscapeByte b → b < 128
 escape_ascii b is = grind arith
 
--- the escape of a byte is its own list of code points
+-- the escape of a byte is ASCII
+pub escape_is_ascii : (b : ℕ) → IsAscii (percent_encode_byte b)
+escape_is_ascii b =
+    IsAscii-from_all (percent_encode_byte b)
+    (All-weaker IsEscapeByte (λ c. c < 128) escape_ascii (percent_encode_byte b) (All-percent_encode_byte b))
+
+-- and its own list of code points
 pub chars-escape : (b : ℕ) → chars (percent_encode_byte b) ≡ percent_encode_byte b
-chars-escape b =
-    chars-IsAscii (percent_encode_byte b) (IsAscii-from_all (percent_encode_byte b)
-    (All-weaker IsEscapeByte (λ c. c < 128) escape_ascii (percent_encode_byte b) (All-percent_encode_byte b)))
+chars-escape b = chars-IsAscii (percent_encode_byte b) (escape_is_ascii b)
 
 -- ---- the prefixes and what stands behind them are the text
 
-prefix_parts : (stop : Stop) (text : List ℕ) → before stop text ++ onward stop text ≡ text
+pub prefix_parts : (stop : Stop) (text : List ℕ) → before stop text ++ onward stop text ≡ text
 prefix_parts stop [] = refl
 prefix_parts stop (c ∷ rest) =
     ⊎_elim (λ e. rw e refl) (λ e. rw e (ap (λ t. c ∷ t) (prefix_parts stop rest))) (cases_Bool (stops stop c))

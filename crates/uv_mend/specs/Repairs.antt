@@ -47,6 +47,6 @@ IsTried profile base text (tried.Valid same) =
     IsLeast (Violation profile base text) None × IsValid profile base text × (decoded same ≡ text)
 IsTried profile base text (tried.Edited next) =
     (refusal : Refusal) × IsLeast (Violation profile base text) (Some refusal)
-    × (edit_of base text refusal ≡ Some next.items)
+    × (edit_of base text refusal ≡ Some (decoded next))
 IsTried profile base text tried.Stuck =
     (refusal : Refusal) × IsLeast (Violation profile base text) (Some refusal) × (edit_of base text refusal ≡ None)

@@ -1,29 +1,45 @@
 //! The edits of a text: what the URL parser passes over, and those by the rule that a text then still violates.
-ghost use Rattle.std.specs.Prelude.{◌≡◌, ◌≤◌, IfOk, chars, length, option_copied, option_map};
+ghost use Rattle.std.specs.Prelude.{◌≡◌, ◌≤◌, IfOk, chars, length, option_copied, option_map, string_bytes};
 ghost use Rattle.uv_mend.specs.Edits as spec;
 
-use crate::code_points::{code_points, push_all};
-use crate::escaped::escaped;
+use crate::code_points::{code_points, push_all, text_of};
+use crate::escaped::{escaped, escaped_text};
 use crate::hosts::rehosted;
 use crate::prepared::prepared;
+use crate::settled::is_settled;
 use crate::slashes::slashed;
 use std::alloc::{AllocError, Global};
 use uv_model::{Record, Refusal, Rule};
 
-/// The code points of a text without what the parser takes off, with its slashes as they are read, and with escapes.
-/// The error is out of memory.
+/// A text without what the parser takes off, with its slashes as they are read, and with escapes. The error is out of
+/// memory.
 #[tactic(auto, unfolding(crate::specs::Edits::cleaned))]
 pub(crate) fn cleaned(
     alloc: Global,
     text: &str,
     base: Option<&Record>,
-) -> Result<Vec<char>, AllocError>
-    ensures { IfOk result (λ out. out.items ≡ spec.cleaned (option_copied base.entry) (chars text.now)) }
+) -> Result<String, AllocError>
+    ensures { IfOk result (λ out. chars (string_bytes out)
+        ≡ spec.cleaned (option_copied base.entry) (chars text.now)) }
+{
+    if is_settled(text) {
+        escaped_text(alloc, text)
+    } else {
+        cleaned_list(alloc, text, base)
+    }
+}
+
+// The same by a list of the code points.
+#[tactic(auto, unfolding(crate::specs::Edits::cleaned))]
+fn cleaned_list(alloc: Global, text: &str, base: Option<&Record>) -> Result<String, AllocError>
+    ensures { IfOk result (λ out. chars (string_bytes out)
+        ≡ spec.cleaned (option_copied base.entry) (chars text.now)) }
 {
     let list = code_points(alloc, text)?;
     let list = prepared(alloc, &list)?;
     let list = slashed(alloc, &list, base)?;
-    escaped(alloc, &list)
+    let list = escaped(alloc, &list)?;
+    text_of(alloc, &list)
 }
 
 /// The edit of a text that is refused so, or `None` where its rule has none. The error is out of memory.

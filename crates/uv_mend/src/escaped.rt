@@ -1,9 +1,13 @@
 //! A text with what is no unit of its path, query and fragment written as escapes.
-ghost use Rattle.std.specs.Prelude.{◌≡◌, IfOk};
+ghost use Rattle.std.specs.Prelude.{◌≡◌, ℕ, List, IfOk, chars, string_bytes};
 ghost use Rattle.uv_mend.specs.Escapes.{escaped};
+ghost use Rattle.uv_mend.specs.WebLinks.{IsWebLink};
 
+use crate::code_points::{code_points, text_of};
 use crate::escapes::push_units;
 use crate::prefixes::{push_authority, push_scheme};
+use crate::unit_text::push_unit_text;
+use crate::web_links::{WebLink, web_link};
 use std::alloc::{AllocError, Global};
 
 /// The text with each code point of the path, the query and the fragment that is no unit written as escapes. The scheme
@@ -17,5 +21,43 @@ pub(crate) fn escaped(alloc: Global, text: &[char]) -> Result<Vec<char>, AllocEr
     let behind_scheme = push_scheme(&mut out, text)?;
     let behind_authority = push_authority(&mut out, behind_scheme)?;
     push_units(&mut out, behind_authority)?;
+    Ok(out)
+}
+
+/// The same of a text. One that begins as most links do is written run by run, without a list of its code points.
+pub(crate) fn escaped_text(alloc: Global, text: &str) -> Result<String, AllocError>
+    ensures { IfOk result (λ out. chars (string_bytes out) ≡ escaped (chars text.now)) }
+{
+    match web_link(text) {
+        Some(link) => escaped_link(alloc, link),
+        None => escaped_list(alloc, text),
+    }
+}
+
+// The same by a list of the code points.
+fn escaped_list(alloc: Global, text: &str) -> Result<String, AllocError>
+    ensures { IfOk result (λ out. chars (string_bytes out) ≡ escaped (chars text.now)) }
+{
+    let list = code_points(alloc, text)?;
+    let list = escaped(alloc, &list)?;
+    text_of(alloc, &list)
+}
+
+// The same of a text by its parts.
+fn escaped_link(alloc: Global, link: WebLink<'_>) -> Result<String, AllocError>
+    ensures { (text : List ℕ) → IsWebLink text link.entry
+        → IfOk result (λ out. chars (string_bytes out) ≡ escaped (chars text)) }
+{
+    // Room for some escapes.
+    let room = link
+        .authority
+        .len()
+        .saturating_add(link.behind.len())
+        .saturating_add(40);
+    let mut out = String::with_capacity(alloc, room)?;
+    out.push_str(link.start)?;
+    out.push_str(link.authority)?;
+    push_unit_text(&mut out, link.behind)?;
+    let _seen = out.as_str();
     Ok(out)
 }

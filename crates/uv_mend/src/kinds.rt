@@ -3,9 +3,9 @@ ghost use Rattle.std.specs.Prelude.{◌≡◌, ◌↔◌, IfOk, IsTrue, chars, o
 ghost use Rattle.uv_mend.specs.Escapes.{escaped};
 ghost use Rattle.uv_mend.specs.Kinds.{IsKind};
 
-use crate::code_points::{code_points, text_of};
-use crate::escaped::escaped;
+use crate::escaped::escaped_text;
 use crate::second::reads_same;
+use crate::web_links::is_same;
 use std::alloc::{AllocError, Global};
 use uv_model::{MendKind, Record};
 
@@ -31,15 +31,6 @@ pub(crate) fn kind_of(
 fn is_escaped(alloc: Global, text: &str, mended: &str) -> Result<bool, AllocError>
     ensures { IfOk result (λ is. IsTrue is ↔ (chars mended.now ≡ escaped (chars text.now))) }
 {
-    let list = code_points(alloc, text)?;
-    let list = escaped(alloc, &list)?;
-    let written = text_of(alloc, &list)?;
+    let written = escaped_text(alloc, text)?;
     Ok(is_same(written.as_str(), mended))
-}
-
-// Whether two texts have the same bytes.
-fn is_same(text: &str, other: &str) -> bool
-    ensures { IsTrue result ↔ (text.now ≡ other.now) }
-{
-    text == other
 }

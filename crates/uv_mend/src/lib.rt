@@ -14,7 +14,10 @@ mod prefixes;
 mod prepared;
 mod repairs;
 mod second;
+mod settled;
 mod slashes;
+mod unit_text;
+mod web_links;
 
 pub use answer::Mending;
 pub use mender::mend;

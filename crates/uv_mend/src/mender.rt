@@ -48,8 +48,8 @@ fn mend_refused(
     requires { IsRefused profile (option_copied base) (chars text.now) refusal }
     ensures { IfOk result (IsMending profile (option_copied base.entry) text.now) }
 {
-    let list = cleaned(alloc, text, base)?;
-    match repaired(alloc, &list, base, profile)? {
+    let written = cleaned(alloc, text, base)?;
+    match repaired(alloc, written, base, profile)? {
         Some(mended) => {
             let kind = kind_of(alloc, text, mended.as_str(), base)?;
             Ok(Mending::Mended { text: mended, kind })

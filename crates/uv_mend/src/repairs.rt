@@ -4,7 +4,7 @@ ghost use Rattle.uv_model.specs.Violations.Violation.{Violation};
 ghost use Rattle.uv_model.specs.Violations.Refusal.{IsLeast};
 ghost use Rattle.uv_mend.specs.Repairs.{IsTried, IsValid, Repairs, decoded};
 
-use crate::code_points::text_of;
+use crate::code_points::{code_points, text_of};
 use crate::edits::edit_of;
 use std::alloc::{AllocError, Global};
 use uv_grammar::{Verdict, check};
@@ -16,7 +16,7 @@ pub(crate) enum Tried {
     /// It is valid.
     Valid(String),
     /// It isn't, and this is what its edit makes of it.
-    Edited(Vec<char>),
+    Edited(String),
     /// It isn't, and it has no edit.
     Stuck,
 }
@@ -25,18 +25,18 @@ pub(crate) enum Tried {
 /// an edit is wanting. The error is out of memory.
 pub(crate) fn repaired(
     alloc: Global,
-    list: &[char],
+    text: String,
     base: Option<&Record>,
     profile: Profile,
 ) -> Result<Option<String>, AllocError>
     ensures valid { IfOk result (λ answer.
         IfSome answer (λ text. IsValid profile (option_copied base.entry) (decoded text))) }
     ensures repairs { IfOk result (λ answer.
-        Repairs 2 profile (option_copied base.entry) list.now (option_map decoded answer)) }
+        Repairs 2 profile (option_copied base.entry) (decoded text) (option_map decoded answer)) }
 {
-    match once_edited(alloc, list, base, profile)? {
+    match once_edited(alloc, text, base, profile)? {
         Tried::Valid(text) => Ok(Some(text)),
-        Tried::Edited(next) => repaired_by_one(alloc, &next, base, profile),
+        Tried::Edited(next) => repaired_by_one(alloc, next, base, profile),
         Tried::Stuck => Ok(None),
     }
 }
@@ -44,18 +44,18 @@ pub(crate) fn repaired(
 // The same of one edit.
 fn repaired_by_one(
     alloc: Global,
-    list: &[char],
+    text: String,
     base: Option<&Record>,
     profile: Profile,
 ) -> Result<Option<String>, AllocError>
     ensures valid { IfOk result (λ answer.
         IfSome answer (λ text. IsValid profile (option_copied base.entry) (decoded text))) }
     ensures repairs { IfOk result (λ answer.
-        Repairs 1 profile (option_copied base.entry) list.now (option_map decoded answer)) }
+        Repairs 1 profile (option_copied base.entry) (decoded text) (option_map decoded answer)) }
 {
-    match once_edited(alloc, list, base, profile)? {
+    match once_edited(alloc, text, base, profile)? {
         Tried::Valid(text) => Ok(Some(text)),
-        Tried::Edited(next) => repaired_by_none(alloc, &next, base, profile),
+        Tried::Edited(next) => repaired_by_none(alloc, next, base, profile),
         Tried::Stuck => Ok(None),
     }
 }
@@ -63,16 +63,15 @@ fn repaired_by_one(
 // The text itself, where it is valid.
 fn repaired_by_none(
     alloc: Global,
-    list: &[char],
+    text: String,
     base: Option<&Record>,
     profile: Profile,
 ) -> Result<Option<String>, AllocError>
     ensures valid { IfOk result (λ answer.
         IfSome answer (λ text. IsValid profile (option_copied base.entry) (decoded text))) }
     ensures repairs { IfOk result (λ answer.
-        Repairs 0 profile (option_copied base.entry) list.now (option_map decoded answer)) }
+        Repairs 0 profile (option_copied base.entry) (decoded text) (option_map decoded answer)) }
 {
-    let text = text_of(alloc, list)?;
     match least(alloc, text.as_str(), base, profile)? {
         None => Ok(Some(text)),
         Some(_) => Ok(None),
@@ -82,18 +81,18 @@ fn repaired_by_none(
 // What a text is, and what its edit makes of it.
 fn once_edited(
     alloc: Global,
-    list: &[char],
+    text: String,
     base: Option<&Record>,
     profile: Profile,
 ) -> Result<Tried, AllocError>
-    ensures { IfOk result (IsTried profile (option_copied base.entry) list.now) }
+    ensures { IfOk result (IsTried profile (option_copied base.entry) (decoded text)) }
 {
-    let text = text_of(alloc, list)?;
     let Some(refusal) = least(alloc, text.as_str(), base, profile)? else {
         return Ok(Tried::Valid(text));
     };
-    match edit_of(alloc, list, base, refusal)? {
-        Some(next) => Ok(Tried::Edited(next)),
+    let list = code_points(alloc, text.as_str())?;
+    match edit_of(alloc, &list, base, refusal)? {
+        Some(next) => Ok(Tried::Edited(text_of(alloc, &next)?)),
         None => Ok(Tried::Stuck),
     }
 }

@@ -8,8 +8,7 @@ pub returns : goal.returns
 returns c =
     let wanted = escaped (chars c.args.text.now) in
     let is : chars c.as_str.result.now ≡ wanted =
-    ap chars c.as_str.ensures.value ∙ c.in_ok-written.ensures.chars ∙ c.deref-2.ensures.value
-    ∙ c.in_ok-list-2.ensures ∙ ap escaped (c.deref.ensures.value ∙ c.in_ok-list.ensures) in (
+    ap chars c.as_str.ensures.value ∙ c.in_ok-written.ensures in (
       λ same. ap chars (sym (c.is_same.ensures.0 same)) ∙ is,
       λ other.
           c.is_same.ensures.1 (same_bytes c.as_str.result.now c.args.mended.now wanted c.as_str.utf8 c.utf8.mended is

@@ -1,0 +1,177 @@
+-- Units stay as they are up to the code point behind them.
+use Rattle.std.proofs.Common.{◌≡◌, ◌∙◌, ℕ, suc, ◌<◌, ◌-◌, Bool, true, false, not, ◌&&◌, ◌||◌, ◌==◌, List, [], ◌∷◌, ◌++◌}
+use Rattle.std.proofs.Common.{refl, sym, ap, inl, inr, arith, drop, take, length, lt-ltb, le-ltb, ne_eqb, nat_le, append-nil}
+use Rattle.std.proofs.lemmas.List.{length-drop}
+use Rattle.std.proofs.Common.{append_assoc, encode_utf8_all, flat_map}
+use Rattle.std.specs.Char.{is_ascii}
+use Rattle.std.proofs.lemmas.Str.{encodes-IsAscii, encodes-append}
+use Rattle.percent_encoding.specs.Percent.{percent_encode_byte}
+use Rattle.std.proofs.lemmas.Bool.{cases_Bool, cases_eq, cases_lt, false≢true}
+use Rattle.std.proofs.lemmas.Bool.Decides.{nat_tests}
+use Rattle.uv_model.specs.Ascii.{number_sign, percent_sign}
+use Rattle.uv_model.specs.Units.{is_unit_at, is_url_code_point}
+use Rattle.uv_text.specs.Splits.{IsUnitSplit, begins_unit, class_has, unit_length}
+use Rattle.uv_text.specs.declared.units.UnitClass.TheVariants.{Url}
+use Rattle.uv_mend.specs.Escapes.{as_unit, as_units}
+use Rattle.uv_mend.specs.Runs.{IsRun, foreign}
+use Rattle.uv_mend.proofs.EscapeLemmas.{escape_is_ascii}
+
+-- the class of the bytes of URL code points
+abbrev held : ℕ → Bool
+held = class_has Url
+
+-- `%` is no URL code point
+no_percent_unit : (is_ascii percent_sign && is_url_code_point percent_sign) ≡ false
+unfolding is_url_code_point
+no_percent_unit = refl
+
+or_false : (x : Bool) → (x || false) ≡ x
+or_false true = refl
+or_false false = refl
+
+-- a unit of the class is one of the grammar
+begins_url : (c : ℕ) (rest : List ℕ) → begins_unit held c rest ≡ is_unit_at c rest
+unfolding is_unit_at
+begins_url c rest =
+    elim (cases_eq c percent_sign) [
+      | inl same ↦ rw same (rw no_percent_unit refl)
+      | inr other ↦
+          let no_percent : (c == percent_sign) ≡ false = ne_eqb c percent_sign other in
+          rw no_percent (either c)
+    ]
+  where
+    either : (c : ℕ) → (is_ascii c && is_url_code_point c || nat_le 128 c && is_url_code_point c) ≡ is_url_code_point c
+    either c =
+        elim (cases_lt c 128) [
+          | inl small ↦
+              let below : nat_le 128 c ≡ false = grind (arith, nat_tests, small) in
+              rw (lt-ltb c 128 small, below) (or_false (is_url_code_point c))
+          | inr large ↦
+              let beyond : nat_le 128 c ≡ true = grind (arith, nat_tests, large) in
+              rw (le-ltb c 128 large, beyond) refl
+        ]
+
+-- `#` is no unit
+no_number_unit : (rest : List ℕ) → is_unit_at number_sign rest ≡ false
+unfolding is_unit_at is_url_code_point
+no_number_unit rest = refl
+
+-- so a unit is no `#`
+unit_no_number : (c : ℕ) (rest : List ℕ) → is_unit_at c rest ≡ true → (c == number_sign) ≡ false
+unit_no_number c rest unit =
+    elim (cases_eq c number_sign) [
+      | inl same ↦
+          absurd (false≢true (sym (no_number_unit rest) ∙ ap (λ p. is_unit_at p rest) (sym same) ∙ unit))
+      | inr other ↦ ne_eqb c number_sign other
+    ]
+
+-- a unit stays
+unit_stays : (in_fragment : Bool) (c : ℕ) (rest : List ℕ) → is_unit_at c rest ≡ true
+    → as_units in_fragment (c ∷ rest) ≡ c ∷ as_units in_fragment rest
+unfolding as_unit
+unit_stays true c rest unit = rw unit refl
+unit_stays false c rest unit = rw (unit_no_number c rest unit, unit) refl
+
+-- and each of a run
+run_stays : (in_fragment : Bool) (text : List ℕ) → as_units in_fragment text
+    ≡ take (unit_length held text) text ++ as_units in_fragment (drop (unit_length held text) text)
+run_stays in_fragment [] = refl
+run_stays in_fragment (c ∷ rest) =
+    elim (cases_Bool (is_unit_at c rest)) [
+      | inl unit ↦
+          let begins = begins_url c rest ∙ unit in
+          rw begins (unit_stays in_fragment c rest unit ∙ ap (λ t. c ∷ t) (run_stays in_fragment rest))
+      | inr fault ↦
+          let stops = begins_url c rest ∙ fault in
+          rw stops refl
+    ]
+
+-- the code point behind a run is no unit
+run_stops : (text : List ℕ) (c : ℕ) (rest : List ℕ) → drop (unit_length held text) text ≡ c ∷ rest
+    → is_unit_at c rest ≡ false
+run_stops [] c rest is = cc
+run_stops (d ∷ more) c rest is =
+    elim (cases_Bool (is_unit_at d more)) [
+      | inl unit ↦
+          let begins = begins_url d more ∙ unit in
+          run_stops more c rest (rw begins at is)
+      | inr fault ↦
+          let stops = begins_url d more ∙ fault in
+          let same : d ∷ more ≡ c ∷ rest = rw stops at is in
+          heads d c more rest same fault
+    ]
+  where
+    heads : (d c : ℕ) (more rest : List ℕ) → d ∷ more ≡ c ∷ rest → is_unit_at d more ≡ false → is_unit_at c rest ≡ false
+    heads d c more rest same fault = cc
+
+-- such a code point is written as what is none
+foreign_stands : (in_fragment : Bool) (c : ℕ) (rest : List ℕ) → is_unit_at c rest ≡ false
+    → as_unit in_fragment c rest ≡ foreign in_fragment c
+unfolding as_unit
+foreign_stands in_fragment c rest fault = rw fault refl
+
+-- the text is cut so
+pub is_run : (text units left rest : List ℕ) (c : ℕ) → IsUnitSplit held text units left → left ≡ c ∷ rest
+    → IsRun text units c rest
+is_run text units left rest c split first in_fragment =
+    let behind : drop (unit_length held text) text ≡ c ∷ rest = sym split.is_rest ∙ first in
+    let fault = run_stops text c rest behind in
+    run_stays in_fragment text
+    ∙ ap (λ t. t ++ as_units in_fragment (drop (unit_length held text) text)) (sym split.is_prefix)
+    ∙ ap (λ t. units ++ as_units in_fragment t) behind
+    ∙ ap (λ t. units ++ (t ++ as_units (in_fragment || (c == number_sign)) rest))
+    (foreign_stands in_fragment c rest fault)
+
+-- a text that is one run stays
+pub is_whole : (in_fragment : Bool) (text units left : List ℕ) → IsUnitSplit held text units left → left ≡ []
+    → as_units in_fragment text ≡ units
+is_whole in_fragment text units left split none =
+    let behind : drop (unit_length held text) text ≡ [] = sym split.is_rest ∙ none in
+    run_stays in_fragment text
+    ∙ ap (λ t. take (unit_length held text) text ++ as_units in_fragment t) behind
+    ∙ append-nil (take (unit_length held text) text) ∙ sym split.is_prefix
+
+-- what follows is shorter
+pub shorter : (text units left rest : List ℕ) (c : ℕ) → IsUnitSplit held text units left → left ≡ c ∷ rest
+    → length rest < length text
+shorter text units left rest c split first =
+    let is : suc (length rest) ≡ length text - unit_length held text =
+    ap length (sym first ∙ split.is_rest) ∙ length-drop (unit_length held text) text in
+    omega (arith, is)
+
+-- ---- the bytes
+
+-- what was written, a run, what is written of the code point behind it, and what is left
+pub written_further : (out bytes : List ℕ) (in_fragment : Bool) (text units : List ℕ) (c : ℕ) (rest : List ℕ)
+    {t1 t2 : List ℕ} → IsRun text units c rest → encode_utf8_all units ≡ bytes → t1 ≡ out ++ bytes
+    → t2 ≡ t1 ++ encode_utf8_all (foreign in_fragment c)
+    → t2 ++ encode_utf8_all (as_units (in_fragment || (c == number_sign)) rest)
+    ≡ out ++ encode_utf8_all (as_units in_fragment text)
+written_further out bytes in_fragment text units c rest {t1} {t2} run is e1 e2 =
+    let other = foreign in_fragment c in
+    let more = as_units (in_fragment || (c == number_sign)) rest in
+    let pieces : t2 ≡ (out ++ encode_utf8_all units) ++ encode_utf8_all other =
+    e2 ∙ ap (λ t. t ++ encode_utf8_all other) (e1 ∙ ap (λ t. out ++ t) (sym is)) in
+    ap (λ t. t ++ encode_utf8_all more) pieces
+    ∙ append_assoc (out ++ encode_utf8_all units) (encode_utf8_all other) (encode_utf8_all more)
+    ∙ append_assoc out (encode_utf8_all units) (encode_utf8_all other ++ encode_utf8_all more)
+    ∙ ap (λ t. out ++ (encode_utf8_all units ++ t)) (sym (encodes-append other more))
+    ∙ ap (λ t. out ++ t) (sym (encodes-append units (other ++ more)))
+    ∙ ap (λ t. out ++ encode_utf8_all t) (sym (run in_fragment))
+
+-- a text of units is written as it is
+pub written_units : (out bytes : List ℕ) (in_fragment : Bool) (text units left : List ℕ) {t : List ℕ}
+    → IsUnitSplit held text units left → left ≡ [] → encode_utf8_all units ≡ bytes → t ≡ out ++ bytes
+    → t ≡ out ++ encode_utf8_all (as_units in_fragment text)
+written_units out bytes in_fragment text units left {t} split none is e =
+    e ∙ ap (λ b. out ++ b) (sym is ∙ ap encode_utf8_all (sym (is_whole in_fragment text units left split none)))
+
+-- the escape of a byte is ASCII
+pub escape_bytes : (bytes : List ℕ) → encode_utf8_all (flat_map percent_encode_byte bytes)
+    ≡ flat_map percent_encode_byte bytes
+escape_bytes [] = refl
+escape_bytes (byte ∷ rest) =
+    encodes-append (percent_encode_byte byte) (flat_map percent_encode_byte rest)
+    ∙ ap (λ t. t ++ encode_utf8_all (flat_map percent_encode_byte rest)) (encodes-IsAscii (percent_encode_byte byte)
+    (escape_is_ascii byte))
+    ∙ ap (λ t. percent_encode_byte byte ++ t) (escape_bytes rest)

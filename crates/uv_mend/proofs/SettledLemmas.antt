@@ -1,0 +1,111 @@
+-- A text that begins with `https://` or `http://`, with one slash mark behind neither, without controls, backslashes
+-- and a space at its end, is settled.
+use Rattle.std.proofs.Common.{◌≡◌, ◌≢◌, ◌∙◌, ℕ, Bool, true, false, ◌&&◌, ◌||◌, ◌==◌, nat_lt, nat_le, List, [], ◌∷◌, ◌++◌}
+use Rattle.std.proofs.Common.{Option, arith, bit_or, codes, ne_eqb, refl, sym, ap, inl, inr, subst}
+use Rattle.std.specs.List.{list_all}
+use Rattle.std.specs.Int.Bits.{or_zero_l}
+use Rattle.std.proofs.lemmas.Bool.{and_parts, cases_Bool, cases_eq}
+use Rattle.std.proofs.lemmas.Bool.Decides.{nat_tests}
+use Rattle.std.proofs.lemmas.Nat.{le_or_l}
+use Rattle.uv_model.specs.declared.scheme.Class.TheVariants.{Special}
+use Rattle.uv_model.specs.Ascii.{backslash, slash}
+use Rattle.uv_model.specs.Records.Url.{Url}
+use Rattle.uv_model.specs.Scheme.{default_port, scheme_class}
+use Rattle.uv_mend.specs.declared.prefixes.Stop.TheVariants.{Authority, Start}
+use Rattle.uv_mend.specs.declared.web_links.WebLink.{WebLink}
+use Rattle.uv_mend.specs.Prefixes.{before, behind_scheme, scheme_prefix, stops}
+use Rattle.uv_mend.specs.Prepared.{before_controls, behind_controls, is_tab_or_newline, on_one_line, prepared}
+use Rattle.uv_mend.specs.Settled.{EndsShown, IsSettled, stays}
+use Rattle.uv_mend.specs.Slashes.{as_slash, behind_marks, is_slash_mark, renews_slashes, slashed, slashed_behind}
+use Rattle.uv_mend.specs.Slashes.{with_slashes}
+use Rattle.uv_mend.specs.WebLinks.{IsWebLink, IsWebStart}
+use Rattle.uv_mend.proofs.PreparedLemmas.{before_controls-other}
+
+-- ---- nothing is taken off
+
+-- at the start
+start_stays : (start rest : List ℕ) → IsWebStart start → behind_controls (start ++ rest) ≡ start ++ rest
+start_stays start rest (inl is) = rw is refl
+start_stays start rest (inr is) = rw is refl
+
+-- at the end
+end_stays : (text : List ℕ) → EndsShown text → before_controls text ≡ text
+end_stays text ends =
+    ap before_controls ends.is_last ∙ before_controls-other ends.front ends.last ends.shown ∙ sym ends.is_last
+
+-- within
+lines_stay : (text : List ℕ) → list_all stays text ≡ true → on_one_line text ≡ text
+lines_stay [] all = refl
+lines_stay (c ∷ rest) all =
+    let parts = and_parts (stays c) (list_all stays rest) all in
+    let no_end : is_tab_or_newline c ≡ false = grind (arith, nat_tests, parts.0) in
+    rw no_end (ap (λ t. c ∷ t) (lines_stay rest parts.1))
+
+-- ---- the slashes are read as they stand
+
+-- no backslash
+slashes_stay : (text : List ℕ) → list_all stays text ≡ true → with_slashes Special text ≡ text
+unfolding as_slash
+slashes_stay [] all = refl
+slashes_stay (c ∷ rest) all =
+    let parts = and_parts (stays c) (list_all stays rest) all in
+    let no_backslash : (c == backslash) ≡ false = grind (arith, nat_tests, parts.0) in
+    elim (cases_Bool (stops Start c)) [
+      | inl stop ↦ rw stop refl
+      | inr other ↦ rw (other, no_backslash) (ap (λ t. c ∷ t) (slashes_stay rest parts.1))
+    ]
+
+-- no further slash
+marks_stay : (rest : List ℕ) → before Authority rest ≢ [] → list_all stays rest ≡ true → behind_marks rest ≡ rest
+marks_stay [] some all = refl
+marks_stay (c ∷ rest) some all =
+    elim (cases_Bool (stops Authority c)) [
+      | inl stop ↦ absurd (some (rw stop refl))
+      | inr other ↦
+          let parts = and_parts (stays c) (list_all stays rest) all in
+          let no_mark : is_slash_mark c ≡ false = grind (arith, nat_tests, other, parts.0) in
+          rw no_mark refl
+    ]
+
+-- the text with its slashes
+web_slashed : (base : Option Url) (start rest : List ℕ) → IsWebStart start
+    → slashed base (start ++ rest) ≡ start ++ with_slashes Special (behind_marks rest)
+unfolding scheme_prefix behind_scheme slashed_behind renews_slashes scheme_class default_port as_slash
+web_slashed base start rest (inl is) = rw is refl
+web_slashed base start rest (inr is) = rw is refl
+
+-- what follows the start stays
+rest_all : (start rest : List ℕ) → IsWebStart start → list_all stays (start ++ rest) ≡ true
+    → list_all stays rest ≡ true
+rest_all start rest (inl is) all = rw is at all
+rest_all start rest (inr is) all = rw is at all
+
+-- ---- both
+
+pub settled : (text : List ℕ) (link : WebLink) → IsWebLink text link → link.authority.now ≢ []
+    → list_all stays text ≡ true → EndsShown text → IsSettled text
+settled text link web some all ends base =
+    let start = link.start.now in
+    let rest = web.rest in
+    let joined = web.joined in
+    let begins : behind_controls text ≡ text =
+    ap behind_controls joined ∙ start_stays start rest web.starts ∙ sym joined in
+    let whole : prepared text ≡ text =
+    ap (λ t. on_one_line (before_controls t)) begins ∙ ap on_one_line (end_stays text ends) ∙ lines_stay text all in
+    let further = rest_all start rest web.starts (subst (λ t. list_all stays t ≡ true) joined all) in
+    let marks = marks_stay rest (λ none. some (web.authority ∙ none)) further in
+    ap (slashed base) (whole ∙ joined) ∙ web_slashed base start rest web.starts
+    ∙ ap (λ t. start ++ with_slashes Special t) marks ∙ ap (λ t. start ++ t) (slashes_stay rest further) ∙ sym joined
+
+-- ---- what was seen of bytes
+
+-- two numbers have no bit where neither of them has one
+pub none_of_both : (a b : ℕ) → (bit_or a b == 0) ≡ ((a == 0) && (b == 0))
+none_of_both a b =
+    elim (cases_eq a 0) [
+      | inl none ↦
+          subst (λ n. (bit_or n b == 0) ≡ ((n == 0) && (b == 0))) (sym none) (ap (λ n. n == 0) (or_zero_l b))
+      | inr some ↦
+          let further : bit_or a b ≢ 0 = λ e. some (omega (arith, le_or_l a b, e)) in
+          rw (ne_eqb a 0 some, ne_eqb (bit_or a b) 0 further) refl
+    ]

@@ -1,0 +1,68 @@
+//! Texts in which the URL parser passes over nothing, which a look at them finds.
+ghost use Rattle.std.specs.Prelude.{◌≡◌, ◌&&◌, ◌==◌, IsTrue, chars, true};
+ghost use Rattle.std.specs.List.{list_all};
+ghost use Rattle.uv_mend.specs.Settled as spec;
+ghost use Rattle.uv_mend.specs.Settled.{EndsShown, IsSettled};
+
+use crate::web_links::web_link;
+
+/// Whether a text is seen to be one of which the URL parser takes nothing off and in which it reads each slash as it
+/// stands. Of some such texts that isn't seen.
+pub(crate) fn is_settled(text: &str) -> bool
+    ensures { IsTrue result → IsSettled (chars text.now) }
+{
+    match web_link(text) {
+        Some(link) if !link.authority.is_empty() => stays_whole(text.as_bytes()),
+        _ => false,
+    }
+}
+
+// Whether each byte is no control and no backslash, and the last one is no space.
+fn stays_whole(bytes: &[u8]) -> bool
+    ensures all { IsTrue result → list_all spec.stays bytes.now ≡ true }
+    ensures end { IsTrue result → EndsShown bytes.now }
+{
+    all_stay(bytes) && ends_shown(bytes)
+}
+
+// Whether the last byte is no control and no space.
+fn ends_shown(bytes: &[u8]) -> bool
+    ensures { IsTrue result → EndsShown bytes.now }
+{
+    match bytes.split_last() {
+        Some((last, _)) => *last > b' ',
+        None => false,
+    }
+}
+
+// Whether each byte is no control and no backslash.
+fn all_stay(bytes: &[u8]) -> bool
+    ensures { result ≡ list_all spec.stays bytes.now }
+{
+    // Each byte is looked at, also behind one that doesn't stay: so many are looked at at once.
+    let mut seen = 0;
+    for &byte in bytes {
+        seen = behind_byte(seen, byte);
+    }
+    seen == 0
+}
+
+// What was seen up to a byte and with it: 0 where each stays.
+fn behind_byte(seen: u8, byte: u8) -> u8
+    ensures { (result == 0) ≡ ((seen == 0) && spec.stays byte) }
+{
+    seen | bit_of(byte)
+}
+
+// 0 for a byte that stays.
+fn bit_of(byte: u8) -> u8
+    ensures { (result == 0) ≡ spec.stays byte }
+{
+    if stays(byte) { 0 } else { 1 }
+}
+
+fn stays(byte: u8) -> bool
+    ensures { result ≡ spec.stays byte }
+{
+    byte >= b' ' && byte != b'\\'
+}

@@ -1,0 +1,91 @@
+//! Texts of ASCII that begin with `https://` or `http://`, as most links do.
+ghost use Rattle.std.specs.Prelude.{◌≡◌, ◌++◌, ◌↔◌, IfSome, IsTrue};
+ghost use Rattle.uv_mend.specs.Prefixes.{before, onward, stops};
+ghost use Rattle.uv_mend.specs.WebLinks.{IsWebLink, IsWebStart};
+ghost use Rattle.uv_mend.specs.declared.prefixes.Stop.TheVariants.{Authority};
+
+/// Such a text, cut behind these and behind its authority.
+#[derive(Clone, Copy)]
+pub(crate) struct WebLink<'t> {
+    /// `https://` or `http://`.
+    pub start: &'t str,
+    /// The authority.
+    pub authority: &'t str,
+    /// What follows it.
+    pub behind: &'t str,
+}
+
+/// The parts of such a text; none of another.
+pub(crate) fn web_link(text: &str) -> Option<WebLink<'_>>
+    ensures { IfSome result (IsWebLink text.now) }
+{
+    if !text.is_ascii() {
+        return None;
+    }
+    let (start, rest) = cut_start(text)?;
+    let (authority, behind) = cut_authority(rest)?;
+    Some(WebLink {
+        start,
+        authority,
+        behind,
+    })
+}
+
+// What a text begins with, and what follows that.
+fn cut_start(text: &str) -> Option<(&str, &str)>
+    ensures { IfSome result (λ cut. IsWebStart cut.0.now × (text.now ≡ cut.0.now ++ cut.1.now)) }
+{
+    match cut_behind(text, "https://") {
+        Some(cut) => Some(cut),
+        None => cut_behind(text, "http://"),
+    }
+}
+
+// A text that begins with these bytes, cut behind them.
+fn cut_behind<'t>(text: &'t str, start: &str) -> Option<(&'t str, &'t str)>
+    ensures { IfSome result (λ cut. (cut.0.now ≡ start.now) × (text.now ≡ cut.0.now ++ cut.1.now)) }
+{
+    let (front, rest) = text.split_at_checked(start.len())?;
+    if is_same(front, start) {
+        Some((front, rest))
+    } else {
+        None
+    }
+}
+
+/// Whether two texts have the same bytes.
+pub(crate) fn is_same(text: &str, other: &str) -> bool
+    ensures { IsTrue result ↔ (text.now ≡ other.now) }
+{
+    text == other
+}
+
+// The authority with which a text begins, and what follows it. It is cut where a code point begins.
+fn cut_authority(text: &str) -> Option<(&str, &str)>
+    ensures authority { IfSome result (λ cut. cut.0.now ≡ before Authority text.now) }
+    ensures behind { IfSome result (λ cut. cut.1.now ≡ onward Authority text.now) }
+{
+    let behind = behind_authority(text.as_bytes());
+    let (authority, behind) = text.split_at_checked(text.len().saturating_sub(behind.len()))?;
+    Some((authority, behind))
+}
+
+// What follows the authority with which bytes begin.
+fn behind_authority(bytes: &[u8]) -> &[u8]
+    ensures { result.now ≡ onward Authority bytes.now }
+{
+    let mut rest = bytes;
+    while let [first, behind @ ..] = rest {
+        if ends_authority(*first) {
+            return rest;
+        }
+        rest = behind;
+    }
+    rest
+}
+
+fn ends_authority(byte: u8) -> bool
+    ensures { result ≡ stops Authority byte }
+{
+    byte == b'/' || byte == b'?' || byte == b'#'
+}
