@@ -87,8 +87,19 @@ fn end_column(columns: Columns, start: u64, text: &str) -> u64
     ColumnCounter::new(columns, start, text).column(count(text))
 }
 
-// How many code points a text has.
+// How many code points a text has. ASCII isn't walked by them.
 fn count(text: &str) -> usize
+    ensures { result ≡ length (chars text.now) }
+{
+    if text.is_ascii() {
+        text.len()
+    } else {
+        count_walked(text)
+    }
+}
+
+// The same code point by code point.
+fn count_walked(text: &str) -> usize
     ensures { result ≡ length (chars text.now) }
 {
     text.chars().count()
