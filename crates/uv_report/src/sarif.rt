@@ -162,7 +162,7 @@ fn push_result(
 {
     push_result_begin(alloc, text, diagnostic)?;
     text.push_str("\"level\":\"error\",\"locations\":")?;
-    push_locations(alloc, text, diagnostic)?;
+    push_locations(text, diagnostic)?;
     text.push_str(",\"message\":")?;
     push_said(alloc, text, diagnostic.text, diagnostic.violation)?;
     text.push_str(",\"properties\":")?;
@@ -205,46 +205,34 @@ fn push_fixes(
 }
 
 // Pushes where the diagnostic is, alone in an array.
-fn push_locations(
-    alloc: Global,
-    text: &mut String,
-    diagnostic: &Diagnostic<'_>,
-) -> Result<(), AllocError>
+fn push_locations(text: &mut String, diagnostic: &Diagnostic<'_>) -> Result<(), AllocError>
     ensures { OnOk result (string_bytes text.new
         ≡ string_bytes text.old ++ compact_text (spec.single (spec.location_value diagnostic.now))) }
 {
     text.push_str("[")?;
-    push_location(alloc, text, diagnostic)?;
+    push_location(text, diagnostic)?;
     text.push_str("]")?;
     Ok(())
 }
 
 // Pushes where the diagnostic is.
-fn push_location(
-    alloc: Global,
-    text: &mut String,
-    diagnostic: &Diagnostic<'_>,
-) -> Result<(), AllocError>
+fn push_location(text: &mut String, diagnostic: &Diagnostic<'_>) -> Result<(), AllocError>
     ensures { OnOk result (string_bytes text.new
         ≡ string_bytes text.old ++ compact_text (spec.location_value diagnostic.now)) }
 {
     text.push_str("{\"physicalLocation\":")?;
-    push_physical(alloc, text, diagnostic)?;
+    push_physical(text, diagnostic)?;
     text.push_str("}")?;
     Ok(())
 }
 
 // Pushes the file and the region of a diagnostic.
-fn push_physical(
-    alloc: Global,
-    text: &mut String,
-    diagnostic: &Diagnostic<'_>,
-) -> Result<(), AllocError>
+fn push_physical(text: &mut String, diagnostic: &Diagnostic<'_>) -> Result<(), AllocError>
     ensures { OnOk result (string_bytes text.new
         ≡ string_bytes text.old ++ compact_text (spec.physical_value diagnostic.now)) }
 {
     text.push_str("{\"artifactLocation\":")?;
-    push_artifact(alloc, text, diagnostic.file)?;
+    push_artifact(text, diagnostic.file)?;
     text.push_str(",\"region\":")?;
     push_region(text, diagnostic)?;
     text.push_str("}")?;
@@ -252,23 +240,24 @@ fn push_physical(
 }
 
 // Pushes a file, by its name as the path of a URI reference.
-fn push_artifact(alloc: Global, text: &mut String, file: &str) -> Result<(), AllocError>
+fn push_artifact(text: &mut String, file: &str) -> Result<(), AllocError>
     ensures { OnOk result (string_bytes text.new
         ≡ string_bytes text.old ++ compact_text (spec.artifact_value file.now)) }
 {
     text.push_str("{\"uri\":")?;
-    push_uri(alloc, text, file)?;
+    push_uri(text, file)?;
     text.push_str("}")?;
     Ok(())
 }
 
-// Pushes the path of a file's name as a string.
-fn push_uri(alloc: Global, text: &mut String, file: &str) -> Result<(), AllocError>
+// Pushes the path of a file's name as a string: no byte of a path is escaped by JSON.
+fn push_uri(text: &mut String, file: &str) -> Result<(), AllocError>
     ensures { OnOk result (string_bytes text.new ≡ string_bytes text.old ++ quoted (uri_path file.now)) }
 {
-    let mut uri = String::new(alloc);
-    push_uri_path(&mut uri, file)?;
-    push_quoted(alloc, text, uri.as_str())
+    text.push_str("\"")?;
+    push_uri_path(text, file)?;
+    text.push_str("\"")?;
+    Ok(())
 }
 
 // Pushes the line and the column of a diagnostic.
@@ -415,7 +404,7 @@ fn push_change(
         ≡ string_bytes text.old ++ compact_text (spec.change_value diagnostic.now mended.entry)) }
 {
     text.push_str("{\"artifactLocation\":")?;
-    push_artifact(alloc, text, diagnostic.file)?;
+    push_artifact(text, diagnostic.file)?;
     text.push_str(",\"replacements\":")?;
     push_replacements(alloc, text, diagnostic.line, mended)?;
     text.push_str("}")?;
