@@ -1,8 +1,8 @@
 -- Units stay as they are up to the code point behind them.
 use Rattle.std.proofs.Common.{◌≡◌, ◌∙◌, ℕ, suc, ◌<◌, ◌-◌, Bool, true, false, not, ◌&&◌, ◌||◌, ◌==◌, List, [], ◌∷◌, ◌++◌}
-use Rattle.std.proofs.Common.{refl, sym, ap, inl, inr, arith, drop, take, length, lt-ltb, le-ltb, ne_eqb, nat_le, append-nil}
+use Rattle.std.proofs.Common.{refl, sym, ap, inl, inr, arith, drop, take, length, lt-ltb, le-ltb, ne_eqb, nat_le}
 use Rattle.std.proofs.lemmas.List.{length-drop}
-use Rattle.std.proofs.Common.{append_assoc, encode_utf8_all, flat_map}
+use Rattle.std.proofs.Common.{append-nil, append_assoc, encode_utf8_all, flat_map}
 use Rattle.std.specs.Char.{is_ascii}
 use Rattle.std.proofs.lemmas.Str.{encodes-IsAscii, encodes-append}
 use Rattle.percent_encoding.specs.Percent.{percent_encode_byte}

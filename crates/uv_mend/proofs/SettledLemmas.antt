@@ -1,6 +1,7 @@
 -- A text that begins with `https://` or `http://`, with one slash mark behind neither, without controls, backslashes
 -- and a space at its end, is settled.
-use Rattle.std.proofs.Common.{◌≡◌, ◌≢◌, ◌∙◌, ℕ, Bool, true, false, ◌&&◌, ◌||◌, ◌==◌, nat_lt, nat_le, List, [], ◌∷◌, ◌++◌}
+use Rattle.std.proofs.Common.{◌≡◌, ◌≢◌, ◌∙◌, ℕ, Bool, true, false, ◌&&◌, ◌||◌, ◌==◌, List, [], ◌∷◌, ◌++◌}
+use Rattle.std.proofs.Common.{nat_lt, nat_le}
 use Rattle.std.proofs.Common.{Option, arith, bit_or, codes, ne_eqb, refl, sym, ap, inl, inr, subst}
 use Rattle.std.specs.List.{list_all}
 use Rattle.std.specs.Int.Bits.{or_zero_l}

@@ -1,5 +1,6 @@
 -- The parts of a text that begins with `https://` or `http://`, and its escapes.
-use Rattle.std.proofs.Common.{◌≡◌, ◌∙◌, ◌⊎◌, ℕ, List, ◌++◌, codes, refl, sym, ap, inl, inr, subst, chars, encode_utf8_all}
+use Rattle.std.proofs.Common.{◌≡◌, ◌∙◌, ◌⊎◌, ℕ, List, ◌++◌, codes, refl, sym, ap, inl, inr, subst, chars}
+use Rattle.std.proofs.Common.{encode_utf8_all}
 use Rattle.std.proofs.Common.{◌+◌, ◌-◌, append_assoc, arith, false, drop, drop_at, length, take, take_at}
 use Rattle.std.proofs.lemmas.List.{length-append}
 use Rattle.std.specs.Str.{IsAscii}
@@ -74,7 +75,8 @@ web_escapes text link web =
     let units = as_units false behind in
     let written : encode_utf8_all (escaped (chars text)) ≡ start ++ (front ++ encode_utf8_all units) =
     ap (λ t. encode_utf8_all (escaped t)) points ∙ ap encode_utf8_all (escaped_web start rest web.starts)
-    ∙ encodes-append start (front ++ units) ∙ ap (λ t. t ++ encode_utf8_all (front ++ units)) (encodes-IsAscii start ascii_start)
+    ∙ encodes-append start (front ++ units)
+    ∙ ap (λ t. t ++ encode_utf8_all (front ++ units)) (encodes-IsAscii start ascii_start)
     ∙ ap (λ t. start ++ t) (encodes-append front units
     ∙ ap (λ t. t ++ encode_utf8_all units) (encodes-IsAscii front (ascii_front front behind ascii_parts))) in
     let plain : chars link.behind.now ≡ behind =

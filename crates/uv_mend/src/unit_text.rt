@@ -33,7 +33,8 @@ fn push_run<'t>(
     in_fragment: bool,
     text: &'t str,
 ) -> Result<Option<(bool, &'t str)>, AllocError>
-    ensures written { IfOk result (IsWritten (string_bytes out.old) (string_bytes out.new) in_fragment (chars text.now)) }
+    ensures written { IfOk result
+        (IsWritten (string_bytes out.old) (string_bytes out.new) in_fragment (chars text.now)) }
     ensures shorter { IfOk result (λ left. IfSome left (λ more. length (chars more.1.now) < length (chars text.now))) }
 {
     let (units, rest) = split_units(text, UnitClass::Url);

@@ -1,6 +1,6 @@
 -- The ASCII code points by their numbers and names, in their order.
-use Rattle.std.proofs.Common.{◌≡◌, ◌∙◌, ◌+◌, ℕ, zero, suc, List, [], ◌∷◌, ◌++◌, Option, Some, None, Bor, arith, codes, refl}
-use Rattle.std.proofs.Common.{MatchOption, ap, option_map, slice_get, subst}
+use Rattle.std.proofs.Common.{◌≡◌, ◌∙◌, ◌+◌, ℕ, zero, suc, List, [], ◌∷◌, ◌++◌, Option, Some, None, Bor}
+use Rattle.std.proofs.Common.{arith, codes, refl, MatchOption, ap, option_map, slice_get, subst}
 use Rattle.uv_report.specs.CodePoint.{ascii_names, glyph, hex_number, name_or_glyph, point_name, point_text}
 
 -- a code point by its number and this name

@@ -15,5 +15,6 @@ returns c = λ text web.
     ∙ ap (λ t. t ++ units) (c.in_ok-push_str-2.ensures.bytes ∙ ap (λ t. t ++ link.authority.now)
     (c.in_ok-push_str.ensures.bytes ∙ ap (λ t. t ++ link.start.now) c.in_ok-out.ensures.bytes))
     ∙ web_escapes text link web in
-    let utf8 : IsUtf8 (string_bytes c.push_unit_text.new.out) = subst IsUtf8 c.as_str-seen.ensures.value c.as_str-seen.utf8 in
+    let utf8 : IsUtf8 (string_bytes c.push_unit_text.new.out) =
+    subst IsUtf8 c.as_str-seen.ensures.value c.as_str-seen.utf8 in
     sym (chars_from_encodes (escaped (chars text)) (string_bytes c.push_unit_text.new.out) utf8 (sym is))

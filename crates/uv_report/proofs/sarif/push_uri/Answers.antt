@@ -11,4 +11,5 @@ returns c =
     let start = string_bytes c.args.text.now in
     let path = uri_path c.args.file.now in
     three_pieces start (codes "\"") path (codes "\"") c.in_ok-push_str.ensures.bytes c.in_ok-push_uri_path.ensures
-    c.in_ok-push_str-2.ensures.bytes ∙ ap (λ pieces. start ++ pieces) (plain_quoted path (uri_path_plain c.args.file.now))
+    c.in_ok-push_str-2.ensures.bytes
+    ∙ ap (λ pieces. start ++ pieces) (plain_quoted path (uri_path_plain c.args.file.now))
