@@ -117,7 +117,7 @@ fn stray_violations(alloc: Global, line: &[u8]) -> Result<Vec<LineViolation>, Al
 fn alone(alloc: Global, violation: LineViolation) -> Result<Vec<LineViolation>, AllocError>
     ensures { IfOk result (λ found. found.items ≡ violation ∷ []) }
 {
-    let mut found = Vec::new(alloc);
+    let mut found = Vec::with_capacity(alloc, 1)?;
     found.push(violation)?;
     Ok(found)
 }

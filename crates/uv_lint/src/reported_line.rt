@@ -1,4 +1,5 @@
 //! The diagnostics on a line.
+ghost use Rattle.std.specs.Cow.{cow_str_bytes};
 ghost use Rattle.std.specs.Prelude.{◌≡◌, ◌+◌, ◌-◌, ◌^◌, ◌<◌, ◌++◌, IfErr, IfOk, OnErr, OnOk, option_copied, option_map};
 ghost use Rattle.std.specs.Prelude.{string_bytes};
 ghost use Rattle.uv_lines.specs.Fault.{failed_within};
@@ -14,6 +15,8 @@ use crate::located::LocatedLink;
 use crate::mended_line::{MendedLine, mended_in_place};
 use crate::setting::{LineForm, LintSetting};
 use std::alloc::{AllocError, Global};
+use std::borrow::CowStr;
+use std::str::from_utf8;
 use uv_lines::{ReportFault, end_part};
 use uv_model::{DeviceFault, Sink};
 use uv_report::{
@@ -200,13 +203,19 @@ fn push_framed(
     }
 }
 
-/// The text of a line that is shown: U+FFFD stands for what isn't UTF-8, and of a line that is too long nothing is
-/// shown.
-pub(crate) fn shown_text(alloc: Global, line: Option<&[u8]>) -> Result<String, AllocError>
-    ensures { IfOk result (λ text. string_bytes text ≡ shown (option_copied line.entry)) }
+/// The text of a line that is shown, as a slice of the line where that is UTF-8: U+FFFD stands for what isn't, and of a
+/// line that is too long nothing is shown.
+pub(crate) fn shown_text<'l>(
+    alloc: Global,
+    line: Option<&'l [u8]>,
+) -> Result<CowStr<'l>, AllocError>
+    ensures { IfOk result (λ text. cow_str_bytes text ≡ shown (option_copied line.entry)) }
 {
-    match line {
-        Some(line) => String::from_utf8_lossy(alloc, line),
-        None => Ok(String::new(alloc)),
+    let Some(line) = line else {
+        return Ok(CowStr::Borrowed(""));
+    };
+    match from_utf8(line) {
+        Ok(text) => Ok(CowStr::Borrowed(text)),
+        Err(_) => Ok(CowStr::Owned(String::from_utf8_lossy(alloc, line)?)),
     }
 }
