@@ -122,7 +122,9 @@ def answers(lines, path):
         least = lines[:lines.index("\n") + 1]
         return [("check", least), ("faults", lines), ("resolve", least), ("run_check", least), ("run_faults", lines)]
     whole = "valid\n" + lines
-    return [("check", f"valid, with the path {path}\n"), ("faults", "no fault\n"), ("resolve", lines),
+    # (of an IPv4 address the driver prints the number)
+    record = lines.replace("ipv4 1.0.0.2", f"V4({(1 << 24) + 2})")
+    return [("check", f"valid, with the path {path}\n"), ("faults", "no fault\n"), ("resolve", record),
             ("run_check", whole), ("run_faults", whole)]
 
 
