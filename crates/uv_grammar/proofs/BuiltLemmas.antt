@@ -43,6 +43,7 @@ use Rattle.uv_grammar.specs.HostValues.{FitsHost, MayBeEmptyFile}
 use Rattle.uv_grammar.specs.PartViolations.{BehindAuthority}
 use Rattle.uv_grammar.specs.PartValues.{FitsHostPart, FitsPortPart}
 use Rattle.uv_grammar.proofs.SegmentLemmas.{path_absolute, path_relative, path_slashed, relative_path}
+use Rattle.uv_model.proofs.Texts.MarkLemmas.{append_none}
 
 -- ---- what the absence of violations says
 
@@ -450,10 +451,6 @@ number_sign_first [] (Some fragment) none start = (refl, refl)
 number_sign_first (c ∷ prefix) fragment none start =
     absurd (false≢true (sym (is_without-cons number_sign c prefix none).0 ∙ start))
 
-no_prefix : (xs ys : List ℕ) → xs ++ ys ≡ [] → (xs ≡ []) × (ys ≡ [])
-no_prefix [] ys same = (refl, same)
-no_prefix (x ∷ xs) ys same = absurd cc
-
 nothing_behind : (mark : ℕ) (text : Option (List ℕ)) → written_behind mark text ≡ [] → text ≡ None
 nothing_behind mark None same = refl
 nothing_behind mark (Some text) same = absurd cc
@@ -467,9 +464,9 @@ no_authority_text (Some host_text) port_text same = absurd cc
 empty_prefix : (cut : Cut) → cut.scheme ≡ None → written_prefix cut ≡ []
     → (form_of cut ≡ NoPath) × (cut.query ≡ None)
 empty_prefix cut scheme same =
-    let prefix = no_prefix (written_start cut) (written_behind question_mark cut.query) same in
-    let start = no_prefix (written_scheme cut.scheme) (written_middle cut) prefix.0 in
-    let middle = no_prefix (written_authority cut.host_text cut.port_text) cut.path_text start.1 in
+    let prefix = append_none (written_start cut) (written_behind question_mark cut.query) same in
+    let start = append_none (written_scheme cut.scheme) (written_middle cut) prefix.0 in
+    let middle = append_none (written_authority cut.host_text cut.port_text) cut.path_text start.1 in
     let host = no_authority_text cut.host_text cut.port_text middle.0 in
     (rw (scheme, host, middle.1) refl, nothing_behind question_mark cut.query prefix.1)
 

@@ -16,7 +16,7 @@ use Rattle.uv_model.specs.declared.scheme.Class.{Class}
 use Rattle.uv_model.specs.declared.scheme.Class.TheVariants.{Special, File, Other}
 use Rattle.uv_host.specs.OpaqueHosts.{IsOpaqueHostOrEmpty}
 use Rattle.uv_model.specs.Hosts.Address.{IsBracketedIpv6}
-use Rattle.uv_model.specs.Violations.Violation.{HostContentViolation, HostViolation, HostTextViolation, LacksFileHost}
+use Rattle.uv_model.specs.Violations.Violation.{HostContentViolation, HostViolation, HostTextViolation}
 use Rattle.uv_model.specs.Violations.Violation.{LacksHost}
 use Rattle.uv_model.specs.Hosts.OpaqueHost.{starts_with_bracket}
 use Rattle.uv_model.specs.Hosts.Domain.{HasNoForm, IsNumberText, has_permitted}
@@ -28,7 +28,7 @@ use Rattle.uv_model.specs.Violations.Refusal.{IsLeast}
 use Rattle.uv_model.specs.Violations.Rule.{rule_number}
 use Rattle.uv_model.specs.Valid.{without_localhost}
 use Rattle.uv_model.proofs.Hosts.FileHosts.{file_host_fits}
-use Rattle.uv_model.proofs.Violations.FaultlessHosts.{host_text_faultless}
+use Rattle.uv_model.proofs.Violations.FaultlessHosts.{empty_host_faultless, host_text_faultless}
 use Rattle.uv_model.proofs.Violations.RefusalLemmas.{IsLeast-like}
 use Rattle.uv_grammar.specs.declared.judged.Judged.{Judged}
 use Rattle.uv_grammar.specs.declared.judged.Judged.TheVariants.{Valid, Refused}
@@ -42,6 +42,7 @@ use Rattle.uv_model.specs.Hosts.Address.{IsIpv4}
 use Rattle.uv_model.specs.Violations.Violation.{ShouldBeDomain}
 use Rattle.uv_model.specs.WrittenProfiles.{IsWritten}
 use Rattle.uv_model.proofs.Violations.UnitViolationLemmas.{nothing_at}
+use Rattle.uv_model.proofs.Violations.ViolationsExcludeParts.{host_there}
 
 -- ---- the empty host
 
@@ -51,20 +52,11 @@ other_not_stopped Standard text = refl
 other_not_stopped Wide text = refl
 other_not_stopped Parser text = refl
 
--- an empty text violates no rule of a host string
-empty_text_fits : (profile : Profile) (class : Class) (last : Bool) (rule : Rule)
-    → HostTextViolation profile class last [] rule → ⊥
-empty_text_fits profile class last HostDomain (inl stopped) = stopped.some refl
-empty_text_fits profile class last HostDomain (inr (should, none)) = should.some refl
-empty_text_fits profile class last HostNumber (unstopped, should, number) = should.some refl
-empty_text_fits profile class last HostIpv6 h = false≢true h.bracket
-empty_text_fits profile class last _ h = absurd h
-
 -- an empty text violates no rule by what it holds
 pub empty_content_fits : (profile : Profile) (class : Class) (last : Bool) (place : ℕ) (rule : Rule)
     → HostContentViolation profile class last [] place rule → ⊥
-empty_content_fits profile Special last place rule h = empty_text_fits profile Special last rule h.0
-empty_content_fits profile File last place rule h = empty_text_fits profile File last rule h.0
+empty_content_fits profile Special last place rule h = empty_host_faultless profile Special last rule h.0
+empty_content_fits profile File last place rule h = empty_host_faultless profile File last rule h.0
 empty_content_fits profile Other last place HostIpv6 h = false≢true h.0.bracket
 empty_content_fits profile Other last place HostCodePoint h = nothing_at place h.1.code_point h.1.rest h.1.here
 empty_content_fits profile Other last place Percent h = nothing_at place percent_sign h.1.rest h.1.here
@@ -95,16 +87,10 @@ content_not_missing profile Special last text place h = h.0
 content_not_missing profile File last text place h = h.0
 content_not_missing profile Other last text place h = h
 
-lacks_no_file_host : (profile : Profile) (text path_text : List ℕ) → text ≢ []
-    → LacksFileHost profile text path_text → ⊥
-lacks_no_file_host Standard text path_text some h = some h.0
-lacks_no_file_host Wide text path_text some h = some h.0
-lacks_no_file_host Parser text path_text some h = h
-
 lacks_nothing : (profile : Profile) (class : Class) (text : List ℕ) (port_text : Option (List ℕ)) (path_text : List ℕ)
     → text ≢ [] → LacksHost profile class text port_text path_text → ⊥
 lacks_nothing profile Special text port_text path_text some h = some h
-lacks_nothing profile File text port_text path_text some h = lacks_no_file_host profile text path_text some h
+lacks_nothing profile File text port_text path_text some h = host_there profile text path_text some h
 lacks_nothing profile Other text port_text path_text some h = some h.0
 
 -- a violation of what a host holds is one of the host

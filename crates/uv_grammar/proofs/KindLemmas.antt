@@ -34,6 +34,7 @@ use Rattle.uv_grammar.specs.declared.checker.Verdict.TheVariants.{Yes, No}
 use Rattle.uv_grammar.specs.Bases.{IsOfKind, url_of_kind}
 use Rattle.uv_grammar.specs.NoMemory.{HostPartTakesNoMemory, TakesNoMemory, TakesNoMemoryAgainst}
 use Rattle.uv_grammar.specs.Verdict.{IsValidity, IsVerdict}
+use Rattle.uv_model.proofs.Violations.RefusalLemmas.{IsLeast-like}
 
 -- ---- two bases of one kind
 
@@ -264,22 +265,11 @@ valid_alike profile a b text h parts x =
 
 -- ---- verdicts
 
-least_alike : (before after : ℕ → Rule → Type 0)
-    → ((place : ℕ) (rule : Rule) → before place rule → after place rule)
-    → ((place : ℕ) (rule : Rule) → after place rule → before place rule)
-    → (refusal : Option Refusal) → IsLeast before refusal → IsLeast after refusal
-least_alike before after to from None x = λ place rule violation. x place rule (from place rule violation)
-least_alike before after to from (Some refusal) x = record {
-  stands = to refusal.place refusal.rule x.stands;
-  first = λ place rule violation. x.first place rule (from place rule violation);
-  lowest = λ rule violation. x.lowest rule (from refusal.place rule violation);
-}
-
 -- the least violation against both
 violation_least : (profile : Profile) (a b : Url) (text : List ℕ) → IsAlike a b → (refusal : Option Refusal)
     → IsLeast (Violation profile (Some a) text) refusal → IsLeast (Violation profile (Some b) text) refusal
 violation_least profile a b text h refusal x =
-    least_alike (Violation profile (Some a) text) (Violation profile (Some b) text)
+    IsLeast-like (Violation profile (Some a) text) (Violation profile (Some b) text)
     (violation_alike profile a b text h) (violation_alike profile b a text (flip a b h)) refusal x
 
 -- the verdict against both

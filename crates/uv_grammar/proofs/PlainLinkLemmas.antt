@@ -15,13 +15,13 @@ use Rattle.uv_model.specs.declared.profile.Profile.TheVariants.{Standard, Wide, 
 use Rattle.uv_model.specs.declared.rule.Refusal.{Refusal}
 use Rattle.uv_model.specs.declared.rule.Rule.{Rule}
 use Rattle.uv_model.specs.declared.rule.Rule.TheVariants.{NoScheme, OpaqueBase, TwoSlashes, FirstSegmentEmpty}
-use Rattle.uv_model.specs.declared.rule.Rule.TheVariants.{DriveAfterHost, HostMissing}
+use Rattle.uv_model.specs.declared.rule.Rule.TheVariants.{DriveAfterHost}
 use Rattle.uv_model.specs.declared.scheme.Class.TheVariants.{Special}
 use Rattle.uv_model.specs.Ascii.{slash, colon, question_mark, number_sign, left_bracket, right_bracket}
 use Rattle.uv_model.specs.Valid.{MayBePortText}
 use Rattle.uv_model.specs.Hosts.StoppedHost.{is_stopped}
 use Rattle.uv_model.specs.Violations.Refusal.{IsLeast}
-use Rattle.uv_model.specs.Violations.Violation.{HostPartViolation, HostTextViolation, HostViolation, IsStarted}
+use Rattle.uv_model.specs.Violations.Violation.{HostPartViolation, HostViolation, IsStarted}
 use Rattle.uv_model.specs.Violations.Violation.{MayBeUnitViolation, PathStartViolation, PortPartViolation}
 use Rattle.uv_model.specs.Violations.Violation.{has_opaque_path}
 use Rattle.uv_model.specs.Cut.{Cut, IsCut, EndsAtPort, IsHostCut, IsSchemeCut, is_within, is_within_at_end, written_cut}
@@ -50,7 +50,7 @@ use Rattle.uv_grammar.specs.Slices.{chars_of, chars_of_option}
 use Rattle.uv_grammar.specs.Verdict.{IsAccepted, IsRefused, IsValidity}
 use Rattle.uv_grammar.proofs.VerdictLemmas.{accepted, countable, refused_behind}
 use Rattle.uv_text.proofs.SplitsLemmas.{chars-ascii_first}
-use Rattle.uv_model.proofs.Violations.ViolationsExcludeParts.{one_slash_start}
+use Rattle.uv_model.proofs.Violations.ViolationsExcludeParts.{one_slash_start, special_host_faultless}
 
 -- the name of a domain that is its own form
 form_each : (name form : List ℕ) → IsDomain Wide name form → list_all (is_form_code_point Wide) form ≡ true
@@ -434,20 +434,13 @@ start_is_cut profile base text scheme name form port_text port after path query 
     }
 
 -- its host is valid
-no_host_violation : (profile : Profile) (last : Bool) (text : List ℕ) (port_text : Option (List ℕ))
-    (path_text : List ℕ) → text ≢ []
-    → ((rule : Rule) → HostTextViolation profile Special last text rule → ⊥) → (place : ℕ) (rule : Rule)
-    → HostViolation profile Special last text port_text path_text place rule → ⊥
-no_host_violation profile last text port_text path_text some none place HostMissing h = some h.0
-no_host_violation profile last text port_text path_text some none place rule h = none rule h.0
-
 start_host : (setting : Setting) (scheme : Option (List ℕ)) (name form : List ℕ) (port_text : Option (List ℕ)) (path : List ℕ)
     (query fragment : Option (List ℕ)) → name ≡ form → setting.class ≡ Special
     → IsDomain Wide name form → IsDomain setting.profile name form
     → IsLeast (HostPartViolation setting (plain_cut scheme name port_text path query fragment)) None
 start_host setting scheme name form port_text path query fragment own special wide is place rule h =
     let last = ends_at_host (plain_cut scheme name port_text path query fragment) in
-    no_host_violation setting.profile last name port_text path (some_name name form own wide)
+    special_host_faultless setting.profile last name port_text path (some_name name form own wide)
     (host_text_faultless setting.profile Special last name (Domain form)
     (plain_not_stopped setting.profile last name form wide) is) h.inner rule
     (subst (λ k. HostViolation setting.profile k last name port_text path h.inner rule) special h.holds)

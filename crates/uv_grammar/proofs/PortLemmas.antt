@@ -1,6 +1,6 @@
 -- Lemmas on the digits and the number of a port.
 use Rattle.std.proofs.Common.{◌≡◌, ℕ, zero, suc, ◌+◌, ◌<◌, ◌≤◌, ◌^◌, List, [], ◌∷◌, true, false, length, refl, sym, ap}
-use Rattle.std.proofs.Common.{◌∙◌, subst, arith, inl, inr, rules, Some, None, Ok, Err}
+use Rattle.std.proofs.Common.{◌∙◌, subst, arith, inl, inr, Some, None, Ok, Err}
 use Rattle.std.specs.Prelude.{◌==◌}
 use Rattle.std.specs.Char.{is_ascii, is_ascii_digit}
 use Rattle.std.specs.List.{list_all, prefix_len}
@@ -8,7 +8,7 @@ use Rattle.std.specs.Str.{chars, IsUtf8}
 use Rattle.std.specs.Str.Parse.{ParsesUnsigned, digits_value}
 use Rattle.std.proofs.lemmas.Bool.{and_parts, cases_Bool, cases_lt, false≢true}
 use Rattle.std.proofs.lemmas.Bool.Decides.{nat_tests}
-use Rattle.std.proofs.lemmas.Str.Parse.{IsDigitsTest, IsNumeralModel, numerals_by_value, parse_digits}
+use Rattle.std.proofs.lemmas.Str.Parse.{parse_digits}
 use Rattle.std.proofs.Math.Nat.{le_refl}
 use Rattle.uv_model.specs.declared.rule.Refusal.{Refusal}
 use Rattle.uv_model.specs.declared.rule.Rule.{Rule}
@@ -22,9 +22,7 @@ use Rattle.uv_model.proofs.Texts.AsciiLemmas.{IsAscii-from_test, chars-from_IsAs
 use Rattle.uv_grammar.specs.PartValues.{port_number}
 use Rattle.uv_grammar.specs.Scan.{DigitViolation}
 use Rattle.uv_model.proofs.Cuts.HostCutLemmas.{passes-weaker}
-
-one_more : (n : ℕ) → suc n ≡ 1 + n
-one_more n = omega arith
+use Rattle.uv_model.proofs.Texts.DigitLemmas.{decimal_numerals}
 
 -- the first code point that isn't a digit
 foreign_here : (text : List ℕ) → list_all is_ascii_digit text ≡ false
@@ -33,7 +31,8 @@ foreign_here [] other = absurd (false≢true (sym other))
 foreign_here (c ∷ rest) some = elim (cases_Bool (is_ascii_digit c)) [
   | inl digit ↦
       let h = foreign_here rest (rw digit at some) in
-      rw digit (subst (λ (n : ℕ). HasForeignDigit (c ∷ rest) n) (one_more (prefix_len is_ascii_digit rest))
+      let more : suc (prefix_len is_ascii_digit rest) ≡ 1 + prefix_len is_ascii_digit rest = omega arith in
+      rw digit (subst (λ (n : ℕ). HasForeignDigit (c ∷ rest) n) more
       (record { code_point = h.code_point; rest = h.rest; here = h.here; foreign = h.foreign }))
   | inr other ↦ rw other (record { code_point = c; rest = rest; here = refl; foreign = other })
 ]
@@ -126,12 +125,6 @@ digit_bytes bytes utf8 digits =
     chars-from_IsAscii bytes utf8
     (IsAscii-from_test (chars bytes) (passes-weaker is_ascii_digit is_ascii is_digit_ascii (chars bytes) digits))
 
-digits_test : IsDigitsTest (λ ds. list_all is_ascii_digit ds ≡ true)
-digits_test = search rules
-
-own : IsNumeralModel (λ ds. list_all is_ascii_digit ds ≡ true) (digits_value 10)
-own = numerals_by_value (λ ds. list_all is_ascii_digit ds ≡ true) digits_test
-
 -- an empty port
 pub empty_port : (text : List ℕ) → text ≡ [] → IsPortText text × (None ≡ port_number text)
 empty_port text none = rw none (record { digits = refl; range = omega arith }, refl)
@@ -151,7 +144,7 @@ pub parsed_port : (bytes : List ℕ) (number : ℕ) → IsUtf8 bytes → list_al
 parsed_port bytes number utf8 digits some parses =
     let same = digit_bytes bytes utf8 digits in
     let plain : list_all is_ascii_digit bytes ≡ true = rw same at digits in
-    let is = parse_digits own {E = ℕ} 16 bytes (Ok number) parses plain in
+    let is = parse_digits decimal_numerals {E = ℕ} 16 bytes (Ok number) parses plain in
     rw same (read_port bytes number plain some is.0.1 is.1)
 
 -- digits that aren't read
@@ -160,7 +153,7 @@ pub unparsed_port : (bytes : List ℕ) → IsUtf8 bytes → list_all is_ascii_di
 unparsed_port bytes utf8 digits some parses =
     let same = digit_bytes bytes utf8 digits in
     let plain : list_all is_ascii_digit bytes ≡ true = rw same at digits in
-    let not = parse_digits own {E = ℕ} 16 bytes (Err 0) parses plain in
+    let not = parse_digits decimal_numerals {E = ℕ} 16 bytes (Err 0) parses plain in
     let long : 0 < length bytes = grind (arith, nat_tests) in
     rw same (record {
       digits = plain;

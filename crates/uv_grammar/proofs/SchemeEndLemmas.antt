@@ -21,9 +21,6 @@ use Rattle.uv_grammar.proofs.SliceLemmas.{byte_behind, splits_at_mark}
 use Rattle.uv_grammar.proofs.TestLemmas.{PassesByPrefix, is_scheme-chars, prefix_test, scheme_ascii}
 use Rattle.uv_text.proofs.SplitsLemmas.{prefix_slice}
 
-one_more : (n : ℕ) → suc n ≡ 1 + n
-one_more n = omega arith
-
 -- a letter may stand in a scheme
 letter_in_scheme : (c : ℕ) → is_ascii_alphabetic c ≡ true → is_scheme_code_point c ≡ true
 letter_in_scheme c is = grind (arith, nat_tests)
@@ -33,7 +30,7 @@ run_behind : (c : ℕ) (rest : List ℕ) → is_scheme_code_point c ≡ true
     → prefix_len is_scheme_code_point (c ∷ rest) ≡ suc (prefix_len is_scheme_code_point rest)
 run_behind c rest held =
     ap (λ (b : Bool). cond b (1 + prefix_len is_scheme_code_point rest) 0) held
-    ∙ sym (one_more (prefix_len is_scheme_code_point rest))
+    ∙ omega arith
 
 -- `:` stands behind the run
 abbrev ends_run : List ℕ → Bool

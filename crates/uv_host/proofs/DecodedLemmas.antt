@@ -13,7 +13,7 @@ use Rattle.idna.specs.declared.deny_list.TheConstants.AsciiDenyList.{EMPTY}
 use Rattle.idna.specs.declared.options.DnsLength.TheVariants.{Ignore}
 use Rattle.idna.specs.declared.options.Hyphens.TheVariants.{Allow}
 use Rattle.idna.specs.Labels.{labels_of}
-use Rattle.idna.specs.Uts46.{domain_to_ascii, process_utf8}
+use Rattle.idna.specs.Uts46.{domain_to_ascii}
 use Rattle.idna.specs.Validity.{passes_hyphens}
 use Rattle.idna.proofs.Uts46Lemmas.{to_ascii-invalid, to_ascii-plain}
 use Rattle.percent_encoding.specs.Percent.{percent_decode}
@@ -25,12 +25,9 @@ use Rattle.uv_model.proofs.Hosts.DomainLemmas.{parser_form-is}
 use Rattle.uv_host.specs.ParserHosts.{is_taken, taken, taken_form}
 use Rattle.uv_host.proofs.LowerLemmas.{form_plain}
 use Rattle.uv_host.proofs.ParserFormLemmas.{allowed_form}
+use Rattle.uv_model.proofs.Hosts.ParserForms.{not_utf8}
 
 -- ---- what ToASCII takes
-
--- processing refuses what isn't UTF-8
-not_utf8 : (bytes : List ℕ) → is_utf8 bytes ≡ false → process_utf8 EMPTY Allow bytes ≡ None
-not_utf8 bytes h = rw h
 
 -- so ToASCII takes UTF-8 alone
 utf8_taken : (bytes form : List ℕ) → domain_to_ascii EMPTY bytes ≡ Some form → is_utf8 bytes ≡ true

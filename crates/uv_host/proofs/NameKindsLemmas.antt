@@ -6,7 +6,6 @@ use Rattle.std.specs.Prelude.{slice_index}
 use Rattle.std.specs.Char.{is_ascii}
 use Rattle.std.specs.Int.{bit_at}
 use Rattle.std.specs.List.{list_all}
-use Rattle.std.specs.Str.{IsAscii}
 use Rattle.std.proofs.lemmas.Bool.{agree_below, agree_below_at, and_parts, cases_Bool}
 use Rattle.std.proofs.lemmas.Bool.{cases_eq, cases_lt, false≢true, not_from_false}
 use Rattle.std.proofs.lemmas.Bool.Decides.{nat_tests}
@@ -16,7 +15,6 @@ use Rattle.std.proofs.lemmas.List.Elements.{All-head, All-tail, All-weaker}
 use Rattle.std.proofs.lemmas.List.Sums.{AllPass-from_list_all, list_all-from_AllPass}
 use Rattle.std.proofs.lemmas.Nat.Bits.{bit_at-zero, bit_at_and, bit_at_or, same_from_bits}
 use Rattle.std.proofs.lemmas.Str.{chars-IsAscii}
-use Rattle.std.proofs.lemmas.Str.Ascii.{IsAscii-from_all}
 use Rattle.idna.specs.declared.options.Hyphens.{Hyphens}
 use Rattle.idna.specs.declared.options.Hyphens.TheVariants.{Allow}
 use Rattle.idna.specs.Labels.{labels_of}
@@ -30,6 +28,7 @@ use Rattle.uv_model.specs.Hosts.Domain.{has_permitted, is_form_code_point, is_pe
 use Rattle.uv_host.specs.Domains.{is_simple}
 use Rattle.uv_host.specs.declared.names.TheConstants.{KINDS}
 use Rattle.uv_host.specs.NameKinds.{AreSeen, is_of_none, kind_of}
+use Rattle.uv_model.proofs.Texts.AsciiLemmas.{IsAscii-from_test}
 
 -- ---- bits
 
@@ -135,20 +134,11 @@ seen_parser name seen are = seen_all 16 (is_permitted Parser) name seen refl are
 pub seen_ascii : (name : List ℕ) (seen : ℕ) → AreSeen name seen → (bit_and seen 32 == 0) ≡ list_all is_ascii name
 seen_ascii name seen are = seen_all 32 is_ascii name seen refl are
 
--- an ASCII name
-pub ascii_name : (name : List ℕ) → list_all is_ascii name ≡ true → IsAscii name
-ascii_name name all =
-    IsAscii-from_all name
-    (All-weaker (λ c. is_ascii c ≡ true) (λ c. c < 128) small_code_point name (AllPass-from_list_all is_ascii name all))
-  where
-    small_code_point : (c : ℕ) → is_ascii c ≡ true → c < 128
-    small_code_point c h = grind (arith, nat_tests)
-
 -- whose code points are its bytes
 pub permitted_ascii : (profile : Profile) (text : List ℕ) → list_all is_ascii text ≡ true
     → list_all (is_permitted profile) text ≡ has_permitted profile (chars text)
 unfolding has_permitted
-permitted_ascii profile text all = ap (list_all (is_permitted profile)) (sym (chars-IsAscii text (ascii_name text all)))
+permitted_ascii profile text all = ap (list_all (is_permitted profile)) (sym (chars-IsAscii text (IsAscii-from_test text all)))
 
 -- ---- hyphens
 

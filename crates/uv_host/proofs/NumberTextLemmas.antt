@@ -1,7 +1,7 @@
 -- Texts of one to four numbers, read number by number.
 use Rattle.std.proofs.Common.{◌≡◌, ◌≢◌, ℕ, zero, suc, ◌+◌, ◌*◌, ◌/◌, ◌^◌, ◌<◌, ◌≤◌, true, false, not, ◌==◌, List}
 use Rattle.std.proofs.Common.{[], ◌∷◌, ◌++◌, All, Option, Some, None, Ok, Err, length, get_or, map, decimal, chars}
-use Rattle.std.proofs.Common.{IsUtf8, refl, sym, ap, subst, ◌∙◌, inl, inr, arith, rules, eqb-true, lit<}
+use Rattle.std.proofs.Common.{IsUtf8, refl, sym, ap, subst, ◌∙◌, inl, inr, arith, eqb-true, lit<}
 use Rattle.std.specs.Char.{is_ascii_digit}
 use Rattle.std.specs.List.{join_with_byte, list_all}
 use Rattle.std.specs.Fmt.{digits}
@@ -14,7 +14,7 @@ use Rattle.std.proofs.lemmas.Int.Digits.{first_digits_of}
 use Rattle.std.proofs.lemmas.List.Elements.{All-from_get_or, All-head, All-tail, All-weaker}
 use Rattle.std.proofs.lemmas.Str.{chars-IsAscii}
 use Rattle.std.proofs.lemmas.Str.Ascii.{IsAscii-from_all}
-use Rattle.std.proofs.lemmas.Str.Parse.{IsDigitsTest, IsNumeralModel, digit_at, numerals_by_value, parse_digits}
+use Rattle.std.proofs.lemmas.Str.Parse.{digit_at, parse_digits}
 use Rattle.std.proofs.NetLemmas.Alphabet.{IsDigitOrDot}
 use Rattle.uv_model.specs.Ascii.{full_stop}
 use Rattle.uv_model.specs.Hosts.Address.{Reads}
@@ -23,14 +23,9 @@ use Rattle.uv_model.proofs.Hosts.Ipv4Domains.{ascii_byte, digits_list}
 use Rattle.uv_model.proofs.Hosts.NumberLemmas.{simple_numbers}
 use Rattle.uv_model.proofs.Texts.AsciiLemmas.{chars-from_IsAscii}
 use Rattle.uv_host.specs.ParserHosts.{IsByteText, IsWeighedText, is_shortest, weight_of}
+use Rattle.uv_model.proofs.Texts.DigitLemmas.{decimal_numerals}
 
 -- ---- one number
-
-digits_test : IsDigitsTest (λ ds. list_all is_ascii_digit ds ≡ true)
-digits_test = search rules
-
-own : IsNumeralModel (λ ds. list_all is_ascii_digit ds ≡ true) (digits_value 10)
-own = numerals_by_value (λ ds. list_all is_ascii_digit ds ≡ true) digits_test
 
 -- what is asked of the first digit
 first_asked : (ds : List ℕ) → is_shortest ds ≡ true → get_or ds 0 0 ≡ 48 → length ds ≡ 1
@@ -57,9 +52,9 @@ pub parsed_byte : (bytes : List ℕ) (number : ℕ) → is_shortest bytes ≡ tr
     → ParsesUnsigned {E = ℕ} 8 10 bytes (Ok number) → IsByteText bytes number
 parsed_byte bytes number shortest parses =
     let digits = digits_asked bytes shortest in
-    let is = parse_digits own {E = ℕ} 8 bytes (Ok number) parses digits in
+    let is = parse_digits decimal_numerals {E = ℕ} 8 bytes (Ok number) parses digits in
     let small : digits_value 10 bytes < 2 ^ 64 = omega (arith, is.0.1) in
-    let same = decimal-digits_value own bytes digits (some_asked bytes shortest) (first_asked bytes shortest) small in
+    let same = decimal-digits_value decimal_numerals bytes digits (some_asked bytes shortest) (first_asked bytes shortest) small in
     (omega (arith, is.0.1, is.1), sym (ap decimal is.1 ∙ same))
 
 -- what isn't read is no number

@@ -7,7 +7,7 @@ use Rattle.std.specs.Str.{IsAscii}
 use Rattle.std.specs.List.{list_all}
 use Rattle.std.specs.Char.{is_ascii_uppercase, to_ascii_lowercase}
 use Rattle.std.proofs.lemmas.Bool.Decides.{nat_tests}
-use Rattle.std.proofs.lemmas.Bool.{and_parts, cases_lt, not_from_false}
+use Rattle.std.proofs.lemmas.Bool.{and_parts, cases_lt}
 use Rattle.std.proofs.lemmas.List.{get_or_past}
 use Rattle.std.proofs.lemmas.List.Sums.{AllPass-from_list_all, list_all-from_AllPass}
 use Rattle.std.proofs.lemmas.List.Elements.{All-weaker}
@@ -20,7 +20,7 @@ use Rattle.idna.specs.Display.{IsPlain}
 use Rattle.idna.specs.Labels.{labels_of}
 use Rattle.idna.specs.Validity.{hyphen, is_valid_char, passes_hyphens}
 use Rattle.idna.specs.AsciiDenyList.{may_be_denied}
-use Rattle.idna.proofs.Uts46Lemmas.{has_ace_prefix-passes, list_all-passes_hyphens, to_ascii-plain}
+use Rattle.idna.proofs.Uts46Lemmas.{list_all-passes_hyphens, to_ascii-plain}
 use Rattle.idna.proofs.ValidityLemmas.{denies-EMPTY, denies-STD3, denies-may_be_denied, is_valid_char-ascii}
 use Rattle.uv_model.specs.declared.profile.Profile.{Profile}
 use Rattle.uv_model.specs.declared.profile.Profile.TheVariants.{Standard, Wide, Parser}
@@ -31,6 +31,7 @@ use Rattle.uv_model.specs.Scheme.{lowercase}
 use Rattle.uv_host.specs.Domains.{fits_lengths, is_plain_name, is_simple}
 use Rattle.uv_host.proofs.ParserFormLemmas.{allowed_form, lower_no_bracket, lower_no_percent, no_form_left}
 use Rattle.uv_host.proofs.ParserFormLemmas.{nothing_has_no_form, parser_is_form, some_form}
+use Rattle.uv_host.proofs.StrictLemmas.{allowed_hyphens}
 
 valid_byte : (b : ℕ) → is_form_code_point Standard b ≡ true → (b < 128) × (is_valid_char STD3 b ≡ true)
 valid_byte b h =
@@ -69,10 +70,6 @@ plain_byte b h =
     let lower : is_ascii_uppercase b ≡ false = grind (arith, nat_tests) in
     (h.0, rw (is_valid_char-ascii EMPTY b h.0, lower, denies-EMPTY b) refl)
 
-plain_label : (label : List ℕ) → passes_hyphens Check label ≡ true → passes_hyphens Allow label ≡ true
-unfolding passes_hyphens
-plain_label label h = not_from_false _ (has_ace_prefix-passes Check label h)
-
 -- so ToASCII at those leaves such a name as it is too
 pub plain_parsed : (name : List ℕ) → IsPlain STD3 Check name → IsPlain EMPTY Allow name
 plain_parsed name p = record {
@@ -81,7 +78,7 @@ plain_parsed name p = record {
       plain_byte name p.valid;
   placed =
       list_all-from_AllPass (passes_hyphens Allow) (labels_of name)
-      (All-weaker (λ label. passes_hyphens Check label ≡ true) (λ label. passes_hyphens Allow label ≡ true) plain_label
+      (All-weaker (λ label. passes_hyphens Check label ≡ true) (λ label. passes_hyphens Allow label ≡ true) allowed_hyphens
       (labels_of name)
       (AllPass-from_list_all (passes_hyphens Check) (labels_of name) p.placed));
 }

@@ -81,7 +81,7 @@ allowed_chars label valid =
     (AllPass-from_list_all (is_valid_char STD3) label valid))
 
 -- hyphens that the strict settings take begin no `xn--`
-allowed_hyphens : (label : List ℕ) → passes_hyphens Check label ≡ true → passes_hyphens Allow label ≡ true
+pub allowed_hyphens : (label : List ℕ) → passes_hyphens Check label ≡ true → passes_hyphens Allow label ≡ true
 unfolding passes_hyphens
 allowed_hyphens label placed = rw (has_ace_prefix-passes Check label placed) refl
 

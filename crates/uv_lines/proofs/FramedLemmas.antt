@@ -1,5 +1,5 @@
 -- A report in its frame: from a run over lines to one with what stands around them.
-use Rattle.std.proofs.Common.{◌≡◌, ◌≢◌, ℕ, ◌+◌, ◌<◌, ◌≤◌, Bool, true, false, List, [], ◌∷◌, ◌++◌, Option, Result, Ok}
+use Rattle.std.proofs.Common.{◌≡◌, ◌≢◌, ℕ, ◌+◌, ◌<◌, ◌≤◌, Bool, true, false, List, [], ◌++◌, Option, Result, Ok}
 use Rattle.std.proofs.Common.{Err, OnOk, IfErr, length, take, refl, sym, ap, ◌∙◌, subst, arith, inl, inr, take_all}
 use Rattle.std.proofs.lemmas.Bool.{cases_lt}
 use Rattle.std.proofs.lemmas.List.{take-append-le}
@@ -15,6 +15,7 @@ use Rattle.uv_lines.specs.Reported.{Cut, Wrote}
 use Rattle.uv_lines.specs.Run.{Leaves, WroteAll, WroteFirst, WrotePrefix, reads_failed, writes_failed}
 use Rattle.uv_lines.specs.Framed.{Ends, FailsReads, Follows, FollowsFault, Framed, LeavesPart}
 use Rattle.uv_lines.proofs.PassLemmas.{closed_few, quiet_writes}
+use Rattle.uv_model.proofs.Texts.MarkLemmas.{append_none}
 
 -- ---- what a fault leaves of another report
 
@@ -167,11 +168,6 @@ begin_cut P begin behind start old new k none wrote =
     )
 
 -- ---- pieces after an answer
-
--- of two pieces that are empty together each is
-append_none : (xs ys : List ℕ) → xs ++ ys ≡ [] → (xs ≡ []) × (ys ≡ [])
-append_none [] ys none = (refl, none)
-append_none (x ∷ xs) ys none = cc
 
 -- a piece after one that was written
 pub follows_more : {F : Type 0} (first piece : List ℕ) (reported result : Result (Unit {0}) (LineFault F))

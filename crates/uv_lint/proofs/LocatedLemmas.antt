@@ -13,6 +13,7 @@ use Rattle.std.proofs.lemmas.Fmt.{IsAscii-from_digits}
 use Rattle.std.proofs.lemmas.Str.{IsUtf8-from_ascii, IsUtf8-from_is_utf8, is_utf8-from_IsUtf8}
 use Rattle.std.proofs.lemmas.Str.Parse.{IsDigitsTest, IsNumeralModel, numerals_by_value, parse_digits}
 use Rattle.uv_lint.specs.Located.{file_length, in_range, name_of, run_of}
+use Rattle.uv_model.proofs.Texts.DigitLemmas.{decimal_numerals}
 
 -- ---- the name of a file
 
@@ -42,27 +43,21 @@ leading_digits (b ∷ rest) = elim (cases_Bool (is_ascii_digit b)) [
   | inr other ↦ rw other refl
 ]
 
-digits_test : IsDigitsTest (λ ds. list_all is_ascii_digit ds ≡ true)
-digits_test = search rules
-
-own : IsNumeralModel (λ ds. list_all is_ascii_digit ds ≡ true) (digits_value 10)
-own = numerals_by_value (λ ds. list_all is_ascii_digit ds ≡ true) digits_test
-
 -- digits are UTF-8
 pub digits_utf8 : (digits : List ℕ) → list_all is_ascii_digit digits ≡ true → IsUtf8 digits
-digits_utf8 digits are = IsUtf8-from_ascii digits (IsAscii-from_digits digits (own.to digits are))
+digits_utf8 digits are = IsUtf8-from_ascii digits (IsAscii-from_digits digits (decimal_numerals.to digits are))
 
 -- digits that are read as a number of 32 bits write it
 pub read_number : (digits : List ℕ) (number : ℕ) → list_all is_ascii_digit digits ≡ true
     → ParsesUnsigned {E = ℕ} 32 10 digits (Ok number) → number ≡ digits_value 10 digits
-read_number digits number are parses = (parse_digits own {E = ℕ} 32 digits (Ok number) parses are).1
+read_number digits number are parses = (parse_digits decimal_numerals {E = ℕ} 32 digits (Ok number) parses are).1
 
 -- digits that aren't read write a number that is out of range
 pub unread_number : (digits : List ℕ) → list_all is_ascii_digit digits ≡ true
     → ParsesUnsigned {E = ℕ} 32 10 digits (Err 0) → None ≡ in_range (digits_value 10 digits)
 unread_number [] are parses = refl
 unread_number (d ∷ rest) are parses =
-    let not = parse_digits own {E = ℕ} 32 (d ∷ rest) (Err 0) parses are in
+    let not = parse_digits decimal_numerals {E = ℕ} 32 (d ∷ rest) (Err 0) parses are in
     let some : 0 < length (d ∷ rest) = omega arith in
     elim (cases_lt (digits_value 10 (d ∷ rest)) (2 ^ 32)) [
       | inl small ↦ absurd (not (some, small))

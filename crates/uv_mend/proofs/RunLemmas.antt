@@ -15,62 +15,23 @@ use Rattle.uv_text.specs.declared.units.UnitClass.TheVariants.{Url}
 use Rattle.uv_mend.specs.Escapes.{as_unit, as_units}
 use Rattle.uv_mend.specs.Runs.{IsRun, foreign}
 use Rattle.uv_mend.proofs.EscapeLemmas.{escape_is_ascii}
+use Rattle.uv_model.proofs.Texts.UnitsAhead.{unit_not_number_sign}
+use Rattle.uv_text.specs.Class.{HoldsUrlBytes}
+use Rattle.uv_text.proofs.FaultsLemmas.{begins_url}
 
 -- the class of the bytes of URL code points
 abbrev held : ℕ → Bool
 held = class_has Url
 
--- `%` is no URL code point
-no_percent_unit : (is_ascii percent_sign && is_url_code_point percent_sign) ≡ false
-unfolding is_url_code_point
-no_percent_unit = refl
-
-or_false : (x : Bool) → (x || false) ≡ x
-or_false true = refl
-or_false false = refl
-
--- a unit of the class is one of the grammar
-begins_url : (c : ℕ) (rest : List ℕ) → begins_unit held c rest ≡ is_unit_at c rest
-unfolding is_unit_at
-begins_url c rest =
-    elim (cases_eq c percent_sign) [
-      | inl same ↦ rw same (rw no_percent_unit refl)
-      | inr other ↦
-          let no_percent : (c == percent_sign) ≡ false = ne_eqb c percent_sign other in
-          rw no_percent (either c)
-    ]
-  where
-    either : (c : ℕ) → (is_ascii c && is_url_code_point c || nat_le 128 c && is_url_code_point c) ≡ is_url_code_point c
-    either c =
-        elim (cases_lt c 128) [
-          | inl small ↦
-              let below : nat_le 128 c ≡ false = grind (arith, nat_tests, small) in
-              rw (lt-ltb c 128 small, below) (or_false (is_url_code_point c))
-          | inr large ↦
-              let beyond : nat_le 128 c ≡ true = grind (arith, nat_tests, large) in
-              rw (le-ltb c 128 large, beyond) refl
-        ]
-
--- `#` is no unit
-no_number_unit : (rest : List ℕ) → is_unit_at number_sign rest ≡ false
-unfolding is_unit_at is_url_code_point
-no_number_unit rest = refl
-
--- so a unit is no `#`
-unit_no_number : (c : ℕ) (rest : List ℕ) → is_unit_at c rest ≡ true → (c == number_sign) ≡ false
-unit_no_number c rest unit =
-    elim (cases_eq c number_sign) [
-      | inl same ↦
-          absurd (false≢true (sym (no_number_unit rest) ∙ ap (λ p. is_unit_at p rest) (sym same) ∙ unit))
-      | inr other ↦ ne_eqb c number_sign other
-    ]
+holds_url : HoldsUrlBytes held
+holds_url c = refl
 
 -- a unit stays
 unit_stays : (in_fragment : Bool) (c : ℕ) (rest : List ℕ) → is_unit_at c rest ≡ true
     → as_units in_fragment (c ∷ rest) ≡ c ∷ as_units in_fragment rest
 unfolding as_unit
 unit_stays true c rest unit = rw unit refl
-unit_stays false c rest unit = rw (unit_no_number c rest unit, unit) refl
+unit_stays false c rest unit = rw (unit_not_number_sign c rest unit, unit) refl
 
 -- and each of a run
 run_stays : (in_fragment : Bool) (text : List ℕ) → as_units in_fragment text
@@ -79,10 +40,10 @@ run_stays in_fragment [] = refl
 run_stays in_fragment (c ∷ rest) =
     elim (cases_Bool (is_unit_at c rest)) [
       | inl unit ↦
-          let begins = begins_url c rest ∙ unit in
+          let begins = begins_url held holds_url c rest ∙ unit in
           rw begins (unit_stays in_fragment c rest unit ∙ ap (λ t. c ∷ t) (run_stays in_fragment rest))
       | inr fault ↦
-          let stops = begins_url c rest ∙ fault in
+          let stops = begins_url held holds_url c rest ∙ fault in
           rw stops refl
     ]
 
@@ -93,10 +54,10 @@ run_stops [] c rest is = cc
 run_stops (d ∷ more) c rest is =
     elim (cases_Bool (is_unit_at d more)) [
       | inl unit ↦
-          let begins = begins_url d more ∙ unit in
+          let begins = begins_url held holds_url d more ∙ unit in
           run_stops more c rest (rw begins at is)
       | inr fault ↦
-          let stops = begins_url d more ∙ fault in
+          let stops = begins_url held holds_url d more ∙ fault in
           let same : d ∷ more ≡ c ∷ rest = rw stops at is in
           heads d c more rest same fault
     ]

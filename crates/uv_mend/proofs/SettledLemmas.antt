@@ -97,16 +97,3 @@ settled text link web some all ends base =
     let marks = marks_stay rest (λ none. some (web.authority ∙ none)) further in
     ap (slashed base) (whole ∙ joined) ∙ web_slashed base start rest web.starts
     ∙ ap (λ t. start ++ with_slashes Special t) marks ∙ ap (λ t. start ++ t) (slashes_stay rest further) ∙ sym joined
-
--- ---- what was seen of bytes
-
--- two numbers have no bit where neither of them has one
-pub none_of_both : (a b : ℕ) → (bit_or a b == 0) ≡ ((a == 0) && (b == 0))
-none_of_both a b =
-    elim (cases_eq a 0) [
-      | inl none ↦
-          subst (λ n. (bit_or n b == 0) ≡ ((n == 0) && (b == 0))) (sym none) (ap (λ n. n == 0) (or_zero_l b))
-      | inr some ↦
-          let further : bit_or a b ≢ 0 = λ e. some (omega (arith, le_or_l a b, e)) in
-          rw (ne_eqb a 0 some, ne_eqb (bit_or a b) 0 further) refl
-    ]

@@ -5,7 +5,6 @@ ghost use Rattle.uv_mend.specs.Kinds.{IsKind};
 
 use crate::escaped::escaped_text;
 use crate::second::reads_same;
-use crate::web_links::is_same;
 use std::alloc::{AllocError, Global};
 use uv_model::{MendKind, Record};
 
@@ -32,5 +31,5 @@ fn is_escaped(alloc: Global, text: &str, mended: &str) -> Result<bool, AllocErro
     ensures { IfOk result (λ is. IsTrue is ↔ (chars mended.now ≡ escaped (chars text.now))) }
 {
     let written = escaped_text(alloc, text)?;
-    Ok(is_same(written.as_str(), mended))
+    Ok(written.as_str() == mended)
 }

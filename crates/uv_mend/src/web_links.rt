@@ -46,18 +46,11 @@ fn cut_behind<'t>(text: &'t str, start: &str) -> Option<(&'t str, &'t str)>
     ensures { IfSome result (λ cut. (cut.0.now ≡ start.now) × (text.now ≡ cut.0.now ++ cut.1.now)) }
 {
     let (front, rest) = text.split_at_checked(start.len())?;
-    if is_same(front, start) {
+    if front == start {
         Some((front, rest))
     } else {
         None
     }
-}
-
-/// Whether two texts have the same bytes.
-pub(crate) fn is_same(text: &str, other: &str) -> bool
-    ensures { IsTrue result ↔ (text.now ≡ other.now) }
-{
-    text == other
 }
 
 // The authority with which a text begins, and what follows it. It is cut where a code point begins.

@@ -1,12 +1,10 @@
 -- The object of a diagnostic, piece by piece, and texts that stand in JSON as they are.
 use Rattle.std.proofs.Common.{◌≡◌, ◌∙◌, ℕ, List, [], ◌∷◌, ◌++◌, true, false, ap, arith, codes, decimal, drop, refl, sym}
-use Rattle.std.proofs.Common.{◌≢◌, ◌==◌, ◌&&◌, bit_or, inl, inr, nat_lt, ne_eqb, subst}
+use Rattle.std.proofs.Common.{◌==◌, nat_lt}
 use Rattle.std.proofs.Common.{Option, Some, None}
 use Rattle.std.specs.List.{list_all}
-use Rattle.std.specs.Int.Bits.{or_zero_l}
-use Rattle.std.proofs.lemmas.Bool.{and_parts, cases_eq}
+use Rattle.std.proofs.lemmas.Bool.{and_parts}
 use Rattle.std.proofs.lemmas.Bool.Decides.{nat_tests}
-use Rattle.std.proofs.lemmas.Nat.{le_or_l}
 use Rattle.serde_json.proofs.OnLiterals.{serde_json_on_literals}
 use Rattle.serde_json.specs.Data.{boolean, object}
 use Rattle.serde_json.specs.Written.{compact_text}
@@ -43,17 +41,6 @@ plain_rest (byte ∷ text) plain =
 -- the string of a plain text
 pub plain_quoted : (text : List ℕ) → list_all is_plain text ≡ true → 34 ∷ (text ++ 34 ∷ []) ≡ quoted text
 plain_quoted text plain = sym (ap (λ rest. 34 ∷ rest) (plain_rest text plain))
-
--- two numbers have no bit where neither of them has one
-pub none_of_both : (a b : ℕ) → (bit_or a b == 0) ≡ ((a == 0) && (b == 0))
-none_of_both a b =
-    elim (cases_eq a 0) [
-      | inl none ↦
-          subst (λ n. (bit_or n b == 0) ≡ ((n == 0) && (b == 0))) (sym none) (ap (λ n. n == 0) (or_zero_l b))
-      | inr some ↦
-          let further : bit_or a b ≢ 0 = λ e. some (omega (arith, le_or_l a b, e)) in
-          rw (ne_eqb a 0 some, ne_eqb (bit_or a b) 0 further) refl
-    ]
 
 -- the pieces of a diagnostic's object
 pub object_pieces : (d : Diagnostic) (mended : Option Mended)

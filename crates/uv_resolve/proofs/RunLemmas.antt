@@ -13,18 +13,10 @@ use Rattle.uv_parser.specs.Laws.DecidedTexts.{IsDecided}
 use Rattle.uv_resolve.specs.declared.fault.ResolveFault.{ResolveFault}
 use Rattle.uv_resolve.specs.declared.fault.ResolveFault.TheVariants.{Refused, Memory}
 use Rattle.uv_parser.proofs.Counting.DecidedSoon.{texts_are_decided_soon}
-use Rattle.uv_parser.proofs.Silence.ValidSilent.{scheme_runs_silently, valid_runs_silently}
+use Rattle.uv_parser.proofs.Silence.ValidSilent.{scheme_runs_silently, valid_by_parser, valid_runs_silently}
 use Rattle.uv_resolve.specs.Laws.{ReferencesRunSilently, SchemeTextsRunSilently}
 use Rattle.uv_resolve.specs.ParserAnswer.{AnswersAsParser, IsParserAnswer}
 use Rattle.uv_resolve.specs.Resolve.{IsResolved, RunsToItsRecord}
-
--- a valid text of any profile is one of the parser's profile
-parsers_text : (profile : Profile) (base : Option Url) (text : List ℕ) (parts : Parts)
-    → Valid profile base text parts → Valid Parser base text parts
-parsers_text Standard base text parts valid =
-    wide_texts_are_parsers base text parts (standard_texts_are_wide base text parts valid)
-parsers_text Wide base text parts valid = wide_texts_are_parsers base text parts valid
-parsers_text Parser base text parts valid = valid
 
 -- alone, or against a record
 pub runs_to_its_record : (profile : Profile) (base : Option Url) (text : List ℕ) → MayBeWellFormed Parser base
@@ -32,7 +24,7 @@ pub runs_to_its_record : (profile : Profile) (base : Option Url) (text : List �
 runs_to_its_record profile base text well parts valid = record {
   runs = valid_runs_silently profile base text parts well valid;
   soon = (texts_are_decided_soon base text (2 * length text + 5) well (omega arith)).silent parts
-      (parsers_text profile base text parts valid);
+      (valid_by_parser profile base text parts valid);
   well_formed = denoted_records_are_well_formed.widest profile base text parts well valid;
   by_profile = λ by_profile. denoted_records_are_well_formed.same profile base text parts by_profile valid;
 }

@@ -67,12 +67,6 @@ other_encoded text utf8 none = elim (cases_Bool (ends_with_space (chars text))) 
   | inr other ↦ ap (encoded false) (escaped_kept true (chars text) other)
 ]
 
--- where nothing follows a text stays
-pub kept_alone : (text : List ℕ) → end_escaped false text ≡ text
-kept_alone [] = refl
-kept_alone (c ∷ []) = elim (cases_Bool (c == space)) [ inl same ↦ rw same refl | inr other ↦ rw other refl ]
-kept_alone (c ∷ next ∷ rest) = ap (λ xs. c ∷ xs) (kept_alone (next ∷ rest))
-
 -- an encoded text is ASCII
 pub encoded_ascii : (bytes text : List ℕ) → bytes ≡ encoded false text → IsAscii bytes
 encoded_ascii bytes text same = rw same (IsAscii-from_test (encoded false text) (is_ascii-encoded false text))

@@ -47,16 +47,9 @@ fn same_against(
         return Ok(false);
     };
     let written = url.as_str();
-    if is_same(written, other) {
+    if written == other {
         return Ok(true);
     }
     let read = read_as(alloc, base, other, written)?;
     Ok(read.is_some())
-}
-
-// Whether two texts have the same bytes.
-fn is_same(text: &str, other: &str) -> bool
-    ensures { IsTrue result ↔ (text.now ≡ other.now) }
-{
-    text == other
 }

@@ -20,6 +20,7 @@ use Rattle.uv_model.proofs.Violations.UnitViolationLemmas.{no_violation-units, u
 use Rattle.uv_text.specs.Class.{HoldsUrlBytes}
 use Rattle.uv_text.specs.Faults.{fault_from}
 use Rattle.uv_text.specs.Splits.{begins_unit, unit_length}
+use Rattle.std.proofs.Math.Bool.{or-false}
 
 -- the faults of a text whose first code point stands at the place
 abbrev From : ℕ → List ℕ → ℕ → Rule → Type 0
@@ -107,12 +108,9 @@ no_percent_unit : (is_ascii percent_sign && is_url_code_point percent_sign) ≡ 
 unfolding is_url_code_point
 no_percent_unit = refl
 
-or_false : (x : Bool) → (x || false) ≡ x
-or_false true = refl
-or_false false = refl
-
 -- a unit of the class is one of the grammar
-begins_url : (held : ℕ → Bool) → HoldsUrlBytes held → (c : ℕ) (rest : List ℕ)
+-- a unit of such a class is one of the grammar
+pub begins_url : (held : ℕ → Bool) → HoldsUrlBytes held → (c : ℕ) (rest : List ℕ)
     → begins_unit held c rest ≡ is_unit_at c rest
 unfolding is_unit_at
 begins_url held holds c rest =
@@ -130,7 +128,7 @@ begins_url held holds c rest =
         elim (cases_lt c 128) [
           | inl small ↦
               let below : nat_le 128 c ≡ false = grind (arith, nat_tests, small) in
-              rw (lt-ltb c 128 small, below) (or_false (is_url_code_point c))
+              rw (lt-ltb c 128 small, below) (or-false (is_url_code_point c))
           | inr large ↦
               let beyond : nat_le 128 c ≡ true = grind (arith, nat_tests, large) in
               rw (le-ltb c 128 large, beyond) refl

@@ -41,6 +41,7 @@ use Rattle.uv_model.proofs.Hosts.DomainLemmas.{parser_form-is}
 use Rattle.uv_model.proofs.Hosts.Ipv4Domains.{all_simple, ends_in_number-ipv4, no_percent, parser_form-ipv4}
 use Rattle.uv_model.proofs.Hosts.LastLabelLemmas.{All-encoded}
 use Rattle.uv_model.proofs.Hosts.NumberLemmas.{ipv4_numbers, numbers_not_empty}
+use Rattle.uv_model.proofs.Cuts.HostCutLemmas.{passes-weaker}
 
 -- ---- percent-decoding
 
@@ -70,7 +71,7 @@ decoded-plain text none utf8 =
     record { utf8 = rw same utf8; spelled = rw same (sym (chars-encoded text utf8)) }
 
 -- processing refuses what isn't UTF-8
-not_utf8 : (bytes : List ℕ) → is_utf8 bytes ≡ false → process_utf8 EMPTY Allow bytes ≡ None
+pub not_utf8 : (bytes : List ℕ) → is_utf8 bytes ≡ false → process_utf8 EMPTY Allow bytes ≡ None
 not_utf8 bytes h = rw h
 
 -- the parser's ToASCII takes UTF-8 alone
@@ -249,19 +250,11 @@ no_drive (c ∷ mark ∷ []) is =
     (permitted_no_drive mark (and_parts (is_permitted Wide mark) true (and_parts (is_permitted Wide c) _ is).1).0)
 no_drive (c ∷ mark ∷ next ∷ rest) is = refl
 
--- what passes a test passes a weaker one
-weaker : (test other : ℕ → Bool) → ((c : ℕ) → test c ≡ true → other c ≡ true) → (text : List ℕ)
-    → list_all test text ≡ true
-    → list_all other text ≡ true
-weaker test other to text each =
-    list_all-from_AllPass other text
-    (All-weaker (λ c. test c ≡ true) (λ c. other c ≡ true) to text (AllPass-from_list_all test text each))
-
 -- the parser doesn't stop at a permitted text
 permitted_not_stopped : (class : Class) (last : Bool) (text : List ℕ) → list_all (is_permitted Wide) text ≡ true
     → is_stopped Parser class last text ≡ false
 permitted_not_stopped class last text is =
-    going_not_stopped Parser class last text (weaker (is_permitted Wide) is_going permitted_going text is)
+    going_not_stopped Parser class last text (passes-weaker (is_permitted Wide) is_going permitted_going text is)
     (no_drive text is)
 
 -- a digit or a full stop is permitted
@@ -298,7 +291,7 @@ inner_numbers a b c d text is =
 -- so are hex digits
 inner_digits : (text : List ℕ) → list_all is_ascii_hexdigit text ≡ true → list_all is_inner text ≡ true
 inner_digits text is =
-    weaker is_ascii_hexdigit is_inner (λ c hex. or_left (is_ascii_hexdigit c) ((c == colon) || (c == full_stop)) hex)
+    passes-weaker is_ascii_hexdigit is_inner (λ c hex. or_left (is_ascii_hexdigit c) ((c == colon) || (c == full_stop)) hex)
     text is
 
 -- lists of groups
@@ -340,7 +333,7 @@ no_drive_brackets (c ∷ d ∷ rest) = refl
 pub bracketed_not_stopped : (profile : Profile) (class : Class) (last : Bool) (text pieces : List ℕ)
     → IsBracketedIpv6 text pieces → is_stopped profile class last text ≡ false
 bracketed_not_stopped profile class last text pieces (inner, spelled, is) =
-    let within = weaker is_inner is_going inner_going inner (inner_ipv6 inner pieces is) in
+    let within = passes-weaker is_inner is_going inner_going inner (inner_ipv6 inner pieces is) in
     let each : list_all is_going (left_bracket ∷ (inner ++ right_bracket ∷ [])) ≡ true
     = list_all-append is_going inner (right_bracket ∷ []) ∙ and_from _ _ within refl in
     rw spelled

@@ -140,7 +140,7 @@ ends_escaped (c ∷ next ∷ []) =
 ends_escaped (c ∷ next ∷ third ∷ rest) = ends_escaped (next ∷ third ∷ rest)
 
 -- where nothing follows, the text stays
-escaped_alone : (text : List ℕ) → end_escaped false text ≡ text
+pub escaped_alone : (text : List ℕ) → end_escaped false text ≡ text
 escaped_alone [] = refl
 escaped_alone (c ∷ []) = elim (cases_Bool (c == space)) [ inl same ↦ rw same refl | inr other ↦ rw other refl ]
 escaped_alone (c ∷ next ∷ rest) = ap (λ xs. c ∷ xs) (escaped_alone (next ∷ rest))

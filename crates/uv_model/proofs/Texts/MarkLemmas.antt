@@ -130,3 +130,8 @@ written_mark mark text = elim (cases_Bool (is_without mark text)) [
   | inl none ↦ rw (none, text_before-none mark text none) (sym (append-nil text))
   | inr some ↦ rw some (at_first_mark mark text some)
 ]
+
+-- of two texts that are empty together each is
+pub append_none : (xs ys : List ℕ) → xs ++ ys ≡ [] → (xs ≡ []) × (ys ≡ [])
+append_none [] ys none = (refl, none)
+append_none (x ∷ xs) ys none = absurd cc

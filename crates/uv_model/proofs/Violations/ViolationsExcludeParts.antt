@@ -46,7 +46,7 @@ use Rattle.uv_model.proofs.Hosts.HostUniqueness.{opaque_not_empty}
 -- ---- the host, by the class
 
 -- a host that is there and has no violation of what it holds, of class Special
-special_host_faultless : (profile : Profile) (last : Bool) (text : List ℕ) (port_text : Option (List ℕ))
+pub special_host_faultless : (profile : Profile) (last : Bool) (text : List ℕ) (port_text : Option (List ℕ))
     (path_text : List ℕ) → text ≢ []
     → ((rule : Rule) → HostTextViolation profile Special last text rule → ⊥) → (place : ℕ) (rule : Rule)
     → HostViolation profile Special last text port_text path_text place rule → ⊥
@@ -76,7 +76,7 @@ slashed_start : (segments : List (List ℕ)) (text : List ℕ) → IsPathSlashed
 slashed_start segments text is = rw is.slashed refl
 
 -- a host that is there isn't missing
-host_there : (profile : Profile) (text path_text : List ℕ) → text ≢ [] → LacksFileHost profile text path_text → ⊥
+pub host_there : (profile : Profile) (text path_text : List ℕ) → text ≢ [] → LacksFileHost profile text path_text → ⊥
 host_there Standard text path_text some (nothing, bare) = some nothing
 host_there Wide text path_text some (nothing, bare) = some nothing
 host_there Parser text path_text some lacks = lacks

@@ -3,7 +3,7 @@
 use Rattle.std.specs.Prelude.{◌≡◌, ℕ, ◌+◌, ◌*◌, ◌/◌, ◌<◌, ◌≤◌, true, List, [], ◌∷◌, length, map, decimal}
 use Rattle.std.specs.List.{join_with_byte}
 use Rattle.uv_model.specs.declared.profile.Profile.{Profile}
-use Rattle.uv_model.specs.declared.profile.Profile.TheVariants.{Standard, Wide, Parser}
+use Rattle.uv_model.specs.declared.profile.Profile.TheVariants.{Parser}
 use Rattle.uv_model.specs.Ascii.{full_stop}
 use Rattle.uv_model.specs.Hosts.Address.{IsIpv4}
 use Rattle.uv_model.specs.Hosts.Domain.{IsForm, ends_in_number}

@@ -3,7 +3,7 @@ use Rattle.std.proofs.Common.{◌≡◌, ◌∙◌, ap, Bool, IfOk, List, chars,
 use Rattle.std.specs.String.{string_bytes}
 use Rattle.uv_model.specs.Encoding.{encoded}
 use Rattle.uv_model.specs.Records.Denote.{end_escaped}
-use Rattle.uv_resolve.proofs.SpacedEndLemmas.{kept_alone}
+use Rattle.uv_model.proofs.Paths.SpacedPaths.{escaped_alone}
 use Rattle.uv_resolve.proofs.paths.encoded_path.Goals as goal
 
 pub returns-then-followed : goal.returns-then-followed
@@ -11,4 +11,4 @@ returns-then-followed c = rw c.if-followed.true c.followed_path.ensures
 
 pub returns-else-followed : goal.returns-else-followed
 returns-else-followed c =
-    rw (c.if-followed.false, kept_alone (chars c.args.text.now)) c.encode.ensures.text
+    rw (c.if-followed.false, escaped_alone (chars c.args.text.now)) c.encode.ensures.text

@@ -1,10 +1,10 @@
 -- The base is read by its text.
-use Rattle.std.proofs.Common.{◌≡◌, ◌∙◌, None, Some, ap, option_copied, sym}
+use Rattle.std.proofs.Common.{◌≡◌, ◌∙◌, None, Some, ap, sym}
 use Rattle.std.specs.Prelude.{◌↔◌, IsTrue}
 use Rattle.std.proofs.lemmas.Result.{IfOk-weaker}
 use Rattle.url.specs.Parser.{parse_url}
 use Rattle.uv_model.specs.Records.Serialize.{serial}
-use Rattle.uv_second.specs.Second.{ReadsSame, SameAgainst, parsed}
+use Rattle.uv_second.specs.Second.{SameAgainst, parsed}
 use Rattle.uv_second.proofs.SameLemmas.{own_base, reads_against}
 use Rattle.uv_second.proofs.same.reads_same.Goals as goal
 
