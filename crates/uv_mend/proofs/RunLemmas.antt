@@ -1,16 +1,14 @@
 -- Units stay as they are up to the code point behind them.
-use Rattle.std.proofs.Common.{◌≡◌, ◌∙◌, ℕ, suc, ◌<◌, ◌-◌, Bool, true, false, not, ◌&&◌, ◌||◌, ◌==◌, List, [], ◌∷◌, ◌++◌}
-use Rattle.std.proofs.Common.{refl, sym, ap, inl, inr, arith, drop, take, length, lt-ltb, le-ltb, ne_eqb, nat_le}
+use Rattle.std.proofs.Common.{◌≡◌, ◌∙◌, ℕ, suc, ◌<◌, ◌-◌, Bool, true, false, ◌||◌, ◌==◌, List, [], ◌∷◌, ◌++◌}
+use Rattle.std.proofs.Common.{refl, sym, ap, inl, inr, arith, drop, take, length}
 use Rattle.std.proofs.lemmas.List.{length-drop}
 use Rattle.std.proofs.Common.{append-nil, append_assoc, encode_utf8_all, flat_map}
-use Rattle.std.specs.Char.{is_ascii}
 use Rattle.std.proofs.lemmas.Str.{encodes-IsAscii, encodes-append}
 use Rattle.percent_encoding.specs.Percent.{percent_encode_byte}
-use Rattle.std.proofs.lemmas.Bool.{cases_Bool, cases_eq, cases_lt, false≢true}
-use Rattle.std.proofs.lemmas.Bool.Decides.{nat_tests}
-use Rattle.uv_model.specs.Ascii.{number_sign, percent_sign}
-use Rattle.uv_model.specs.Units.{is_unit_at, is_url_code_point}
-use Rattle.uv_text.specs.Splits.{IsUnitSplit, begins_unit, class_has, unit_length}
+use Rattle.std.proofs.lemmas.Bool.{cases_Bool}
+use Rattle.uv_model.specs.Ascii.{number_sign}
+use Rattle.uv_model.specs.Units.{is_unit_at}
+use Rattle.uv_text.specs.Splits.{IsUnitSplit, class_has, unit_length}
 use Rattle.uv_text.specs.declared.units.UnitClass.TheVariants.{Url}
 use Rattle.uv_mend.specs.Escapes.{as_unit, as_units}
 use Rattle.uv_mend.specs.Runs.{IsRun, foreign}

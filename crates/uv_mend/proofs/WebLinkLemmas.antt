@@ -1,5 +1,5 @@
 -- The parts of a text that begins with `https://` or `http://`, and its escapes.
-use Rattle.std.proofs.Common.{◌≡◌, ◌∙◌, ◌⊎◌, ℕ, List, ◌++◌, codes, refl, sym, ap, inl, inr, subst, chars}
+use Rattle.std.proofs.Common.{◌≡◌, ◌∙◌, ℕ, List, ◌++◌, refl, sym, ap, inl, inr, subst, chars}
 use Rattle.std.proofs.Common.{encode_utf8_all}
 use Rattle.std.proofs.Common.{◌+◌, ◌-◌, append_assoc, arith, false, drop, drop_at, length, take, take_at}
 use Rattle.std.proofs.lemmas.List.{length-append}
@@ -7,7 +7,7 @@ use Rattle.std.specs.Str.{IsAscii}
 use Rattle.std.proofs.lemmas.Str.{IsAscii-drop, IsAscii-take, chars-IsAscii, encodes-IsAscii, encodes-append}
 use Rattle.uv_mend.specs.declared.prefixes.Stop.TheVariants.{Authority}
 use Rattle.uv_mend.specs.declared.web_links.WebLink.{WebLink}
-use Rattle.uv_mend.specs.Escapes.{as_units, escaped, escaped_behind}
+use Rattle.uv_mend.specs.Escapes.{as_units, escaped}
 use Rattle.uv_mend.specs.Prefixes.{authority_prefix, before, behind_authority, behind_scheme, onward, scheme_prefix}
 use Rattle.uv_mend.specs.WebLinks.{IsWebLink, IsWebStart}
 use Rattle.uv_mend.proofs.EscapeLemmas.{prefix_parts}

@@ -41,16 +41,12 @@ fn cut_start(text: &str) -> Option<(&str, &str)>
     }
 }
 
-// A text that begins with these bytes, cut behind them.
-fn cut_behind<'t>(text: &'t str, start: &str) -> Option<(&'t str, &'t str)>
+// A text that begins with this one, cut behind it.
+fn cut_behind<'t>(text: &'t str, start: &'t str) -> Option<(&'t str, &'t str)>
     ensures { IfSome result (λ cut. (cut.0.now ≡ start.now) × (text.now ≡ cut.0.now ++ cut.1.now)) }
 {
-    let (front, rest) = text.split_at_checked(start.len())?;
-    if front == start {
-        Some((front, rest))
-    } else {
-        None
-    }
+    let rest = text.strip_prefix(start)?;
+    Some((start, rest))
 }
 
 // The authority with which a text begins, and what follows it. It is cut where a code point begins.
