@@ -1,6 +1,7 @@
 //! The texts of hosts: IPv4 and IPv6 addresses, opaque hosts, and what the host parser takes, by the URL Standard's
 //! section 3.5.
 
+use crate::repeated::repeated_before;
 use std::alloc::{AllocError, Global};
 use std::test::Fail;
 use uv_host::{ParserHost, bracketed_ipv6, ipv4, ipv6, numbers_value, opaque_fault, parser_host};
@@ -117,8 +118,7 @@ fn judges_opaque_hosts(rt: HostRuntime) {
 
 #[test]
 fn counts_the_place_behind_a_long_prefix(rt: HostRuntime) -> Result<(), Fail> {
-    let mut text = "a".repeat(rt.alloc(), 64)?;
-    text.push_str("^")?;
+    let text = repeated_before(rt.alloc(), "a", 64, "^")?;
     assert_eq!(rt;
         opaque_fault(text.as_str()),
         Some(Refusal {

@@ -1,5 +1,6 @@
 //! Names of hosts that need no ToASCII: where they end in a text, and what they are, at every length around 32 and 64.
 
+use crate::repeated::repeated_before;
 use std::alloc::{AllocError, Global};
 use std::process::Abort;
 use uv_host::{PlainAnswer, is_plain_wide_domain, name_prefix, plain_answer, wide_name_prefix};
@@ -44,16 +45,6 @@ fn goes_on_behind_a_low_line(rt: HostRuntime) {
     }
 }
 
-// A label of so many bytes and what stands behind it.
-fn label_before(alloc: Global, length: usize, behind: &str) -> Result<String, AllocError> {
-    let mut text = String::new(alloc);
-    for _ in 0..length {
-        text.push('a')?;
-    }
-    text.push_str(behind)?;
-    Ok(text)
-}
-
 #[test]
 fn ends_alike_at_each_length(rt: HostRuntime) -> Result<(), AllocError> {
     for length in 1..70usize {
@@ -68,7 +59,7 @@ fn ends_alike_at_each_length(rt: HostRuntime) -> Result<(), AllocError> {
             ("-.b", None),
             ("-", None),
         ] {
-            let text = label_before(rt.alloc(), length, behind)?;
+            let text = repeated_before(rt.alloc(), "a", length, behind)?;
             let text = Tail::of(text.as_str());
             assert_eq!(rt; name_prefix(&text), end, "of {length} before {behind}");
             assert_eq!(rt; wide_name_prefix(&text), end, "of {length} before {behind}");
@@ -88,7 +79,7 @@ fn ends_a_name_with_low_lines_alike_at_each_length(rt: HostRuntime) -> Result<()
             ("_--b", Some(length), None),
             ("_A", Some(length), Some(length + 1)),
         ] {
-            let text = label_before(rt.alloc(), length, behind)?;
+            let text = repeated_before(rt.alloc(), "a", length, behind)?;
             let text = Tail::of(text.as_str());
             assert_eq!(rt; name_prefix(&text), end, "of {length} before {behind}");
             assert_eq!(rt;

@@ -1,5 +1,6 @@
 //! The first fault of a text of units, and percent-encoding, by the URL Standard's sections 1.3 and 4.3.
 
+use crate::repeated::repeated_before;
 use std::process::Abort;
 use std::test::Fail;
 use uv_model::{Refusal, Rule};
@@ -80,16 +81,14 @@ fn stops_beyond_the_url_code_points(rt: HostRuntime) {
 
 #[test]
 fn counts_the_place_behind_a_long_prefix(rt: HostRuntime) -> Result<(), Fail> {
-    let mut text = "a".repeat(rt.alloc(), 100)?;
-    text.push_str(" ")?;
+    let text = repeated_before(rt.alloc(), "a", 100, " ")?;
     assert_eq!(rt; first_fault(text.as_str()), at(100, Rule::CodePoint));
     Ok(())
 }
 
 #[test]
 fn counts_the_place_behind_a_long_prefix_beyond_ascii(rt: HostRuntime) -> Result<(), Fail> {
-    let mut text = "\u{E9}".repeat(rt.alloc(), 40)?;
-    text.push_str("%4")?;
+    let text = repeated_before(rt.alloc(), "\u{E9}", 40, "%4")?;
     assert_eq!(rt; first_fault(text.as_str()), at(40, Rule::Percent));
     Ok(())
 }

@@ -1,0 +1,19 @@
+//! Texts that repeat a piece, so that what stands behind it comes at each length.
+ghost use Rattle.std.specs.Prelude.{◌≡◌, ◌++◌, IfOk, string_bytes};
+ghost use Rattle.std.specs.List.{repeat};
+
+use std::alloc::{AllocError, Global};
+
+/// A piece so many times, and what stands behind it.
+pub fn repeated_before(
+    alloc: Global,
+    piece: &str,
+    count: usize,
+    behind: &str,
+) -> Result<String, AllocError>
+    ensures { IfOk result (λ text. string_bytes text ≡ repeat count piece.now ++ behind.now) }
+{
+    let mut text = piece.repeat(alloc, count)?;
+    text.push_str(behind)?;
+    Ok(text)
+}
