@@ -1,7 +1,9 @@
 //! Tests of records: what `uv_model` says of code points, names, records and their texts, what its readers and writers
 //! do, and which records `uv_resolve` makes. They stand above these crates, so that none of them is proved twice.
+//! The texts that their records are made of are made by one function that is proved.
 #![tactic(auto)]
 
+mod ascii_texts;
 #[cfg(test)]
 mod characters;
 #[cfg(test)]
@@ -18,3 +20,5 @@ mod streams;
 mod texts;
 #[cfg(test)]
 mod well_formedness;
+
+pub use ascii_texts::ascii;

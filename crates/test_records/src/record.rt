@@ -1,6 +1,6 @@
 //! A record with every field, made, read and copied.
 
-use crate::texts::ascii;
+use crate::ascii_texts::ascii;
 use std::alloc::Global;
 use std::test::Fail;
 use uv_model::{Host, Profile, Record, TextList, UrlPath, well_formed};

@@ -1,7 +1,8 @@
 //! Records and their texts, by the rules of sections 3.6 and 4.5 of the URL Standard.
 ghost use Rattle.std.specs.Prelude.{◌≡◌, IfOk, option_map, string_bytes};
 
-use crate::texts::{ascii, segments};
+use crate::ascii_texts::ascii;
+use crate::texts::segments;
 use std::alloc::{AllocError, Global};
 use std::process::Abort;
 use std::test::Fail;

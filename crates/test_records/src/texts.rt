@@ -1,23 +1,14 @@
-//! What the tests of records share: texts, paths and what holds of a row of a table.
+//! What the tests of records share: paths, and what holds of a row of a table.
 
+use crate::ascii_texts::ascii;
 use std::alloc::Global;
 use std::process::Abort;
 use std::test::Fail;
-use uv_model::{Text, TextList, UrlPath};
+use uv_model::{TextList, UrlPath};
 
 /// It holds of a row of a table.
 pub(crate) fn holds(rt: &impl Abort, is: bool, row: &str) {
     assert!(rt; is, "at {row}");
-}
-
-/// An ASCII text, empty in place of any other.
-pub(crate) fn ascii(alloc: Global, text: &str) -> Result<Text, Fail> {
-    let string = String::from_str(alloc, text)?;
-    if string.as_str().is_ascii() {
-        Ok(Text::of(string))
-    } else {
-        Ok(Text::of(String::new(alloc)))
-    }
 }
 
 /// A path of these segments.

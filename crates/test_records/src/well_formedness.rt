@@ -1,6 +1,7 @@
 //! Rows of records that are well formed and of such that aren't, by the rules of section 4.1 of the URL Standard.
 
-use crate::texts::{ascii, holds, segments};
+use crate::ascii_texts::ascii;
+use crate::texts::{holds, segments};
 use std::test::Fail;
 use uv_model::{Host, Profile, UrlPath, well_formed};
 
