@@ -1,8 +1,8 @@
 //! Texts of each length cut at their marks, as the checker's parts and faults show it. Each expected length is counted
 //! by hand from how the text is made.
 
-use crate::faults::are_faults;
 use crate::verdicts::references::special_base;
+use crate::wanted::refusals_at;
 use std::alloc::{AllocError, Global};
 use std::process::Abort;
 use uv_grammar::{Parts, Verdict, check, faults};
@@ -72,7 +72,8 @@ fn has_faults(
 ) -> Result<(), AllocError> {
     let text = joined(rt.alloc(), pieces)?;
     let found = faults(rt.alloc(), text.as_str(), None, Profile::Standard)?;
-    assert!(rt; are_faults(found.as_slice(), wanted), "{text}");
+    let wanted = refusals_at(rt.alloc(), wanted)?;
+    assert_eq!(rt; found.as_slice(), wanted.as_slice(), "{text}");
     Ok(())
 }
 

@@ -1,6 +1,7 @@
 //! All the faults of texts, by the rules of the URL Standard, section 4.3. Each expected fault is worked out by hand
 //! from those rules, never from a run of this code.
 
+use crate::wanted::refusals_at;
 use std::alloc::{AllocError, Global};
 use std::process::Abort;
 use uv_grammar::{Verdict, check, faults};
@@ -8,13 +9,6 @@ use uv_model::{Profile, Record, Refusal, Rule, Text, UrlPath, well_formed};
 
 // A text and its faults.
 type Row<'a> = (&'a str, &'a [(usize, Rule)]);
-
-/// Whether these are the faults, in order.
-pub(crate) fn are_faults(found: &[Refusal], wanted: &[(usize, Rule)]) -> bool {
-    found.len() == wanted.len()
-        && found.iter().zip(wanted.iter()).all(|(refusal, wanted)| refusal.place == wanted.0
-            && refusal.rule == wanted.1)
-}
 
 // The refusal of a text, where there is one.
 fn refusal_of(
@@ -39,7 +33,8 @@ fn sees(
     for (text, wanted) in rows {
         let found = faults(rt.alloc(), *text, base, profile)?;
         let first = refusal_of(rt.alloc(), *text, base, profile)?;
-        assert!(rt; are_faults(found.as_slice(), *wanted), "of {text}");
+        let wanted = refusals_at(rt.alloc(), *wanted)?;
+        assert_eq!(rt; found.as_slice(), wanted.as_slice(), "of {text}");
         assert_eq!(rt; found.first().copied(), first, "of {text}");
     }
     Ok(())
