@@ -1,5 +1,6 @@
 //! Arguments that are written out, and what they ask for by the program's usage.
 
+use crate::only_text::is_only;
 use clap::error::ErrorKind;
 use std::process::Abort;
 use std::test::Fail;
@@ -44,22 +45,14 @@ fn are(texts: &[String], want: &[&str]) -> bool {
             .all(|(text, want)| text.as_str() == *want)
 }
 
-// Whether the only text is this one.
-fn is(text: Option<&str>, want: &[&str]) -> bool {
-    match text {
-        Some(text) => want.len() == 1 && want[0] == text,
-        None => want.is_empty(),
-    }
-}
-
 fn is_lint(job: &LintJob, want: &Want<'_>) -> bool {
     want.command == "lint"
         && are(job.files.as_slice(), want.texts)
-        && is(job.base.as_deref(), want.base)
+        && is_only(job.base.as_deref(), want.base)
         && job.extent == want.extent
         && job.profile == want.profile
-        && is(job.format.as_deref(), want.format)
-        && is(job.columns.as_deref(), want.columns)
+        && is_only(job.format.as_deref(), want.format)
+        && is_only(job.columns.as_deref(), want.columns)
         && job.located == want.located
         && job.quiet == want.quiet
 }
@@ -72,25 +65,25 @@ fn is_check(
     want: &Want<'_>,
 ) -> bool {
     want.command == "check"
-        && is(Some(text), want.texts)
-        && is(base, want.base)
+        && is_only(Some(text), want.texts)
+        && is_only(base, want.base)
         && extent == want.extent
         && profile == want.profile
 }
 
 fn is_mending(text: &str, base: Option<&str>, profile: Profile, want: &Want<'_>) -> bool {
     want.command == "mend"
-        && is(Some(text), want.texts)
-        && is(base, want.base)
+        && is_only(Some(text), want.texts)
+        && is_only(base, want.base)
         && profile == want.profile
 }
 
 // The kind that is wanted stands where a lint has its format.
 fn is_filter(job: &FilterJob, want: &Want<'_>) -> bool {
     want.command == "filter"
-        && is(job.base.as_deref(), want.base)
+        && is_only(job.base.as_deref(), want.base)
         && job.profile == want.profile
-        && is(job.only.as_deref(), want.format)
+        && is_only(job.only.as_deref(), want.format)
         && job.quiet == want.quiet
 }
 
@@ -104,7 +97,9 @@ fn is_wanted(job: &Job, want: &Want<'_>) -> bool {
         } => is_check(text.as_str(), base.as_deref(), *extent, *profile, want),
         Job::Lint(job) => is_lint(job, want),
         Job::Links { base, profile } => {
-            want.command == "links" && is(base.as_deref(), want.base) && *profile == want.profile
+            want.command == "links"
+                && is_only(base.as_deref(), want.base)
+                && *profile == want.profile
         }
         Job::Mend {
             text,
@@ -113,10 +108,11 @@ fn is_wanted(job: &Job, want: &Want<'_>) -> bool {
         } => is_mending(text.as_str(), base.as_deref(), *profile, want),
         Job::Filter(job) => is_filter(job, want),
         Job::FilterOfText => want.command == "filter of text",
-        Job::Vectors { file } => want.command == "vectors" && is(Some(file.as_str()), want.texts),
-        Job::Explain { rule } => want.command == "explain" && is(rule.as_deref(), want.texts),
+        Job::Vectors { file } => want.command == "vectors"
+            && is_only(Some(file.as_str()), want.texts),
+        Job::Explain { rule } => want.command == "explain" && is_only(rule.as_deref(), want.texts),
         Job::UnknownProfile { name } => {
-            want.command == "unknown" && is(Some(name.as_str()), want.texts)
+            want.command == "unknown" && is_only(Some(name.as_str()), want.texts)
         }
     }
 }
