@@ -1,6 +1,10 @@
 //! The check of a text: whether it is valid, and where its parts stand.
-ghost use Rattle.std.specs.Prelude.{◌≡◌, ℕ, List, None, Some};
+ghost use Rattle.std.specs.Prelude.{◌≡◌, ℕ, IfOk, IsOk, List, None, Option, Some};
+ghost use Rattle.std.specs.Str.{chars};
 ghost use Rattle.uv_grammar.specs.Bases.{IsOfKind};
+ghost use Rattle.uv_grammar.specs.NoMemory.{TakesNoMemoryAgainst};
+ghost use Rattle.uv_grammar.specs.Verdict.{IsVerdict};
+ghost use Rattle.uv_model.specs.declared.profile.Profile.{Profile};
 ghost use Rattle.uv_model.specs.Records.Url.{Url};
 ghost use Rattle.urlcheck_c.specs.Answer.{IsAnswer, IsJudged};
 ghost use Rattle.urlcheck_c.specs.Base.{IsPreparedBase};
@@ -68,30 +72,16 @@ pub extern "C" fn urlcheck_check_with(alloc: Global, text: &[u8], base: &Base) -
 fn judged_alone(alloc: Global, request: &LoneRequest<'_>) -> Answer
     ensures { IsJudged request.now.profile None request.now.text.now result }
 {
-    let text = request.text;
-    match check_alone(alloc, text, request.profile) {
-        Ok(Verdict::Yes(parts)) => Answer {
-            found: Finding::plain(CallOutcome::Valid),
-            parts: placed(text, &parts),
-        },
-        Ok(Verdict::No(first)) => unjudged(Finding::refused(CallOutcome::Refused, text, first)),
-        Err(AllocError) => unjudged(Finding::plain(CallOutcome::Memory)),
-    }
+    let verdict = check_alone(alloc, request.text, request.profile);
+    answer_of(request.text, &verdict)
 }
 
 // The answer on a text that is judged.
 fn judged(alloc: Global, request: &Request<'_>) -> Answer
     ensures { IsJudged request.now.profile request.now.base request.now.text.now result }
 {
-    let text = request.text;
-    match check(alloc, text, request.base.as_ref(), request.profile) {
-        Ok(Verdict::Yes(parts)) => Answer {
-            found: Finding::plain(CallOutcome::Valid),
-            parts: placed(text, &parts),
-        },
-        Ok(Verdict::No(refusal)) => unjudged(Finding::refused(CallOutcome::Refused, text, refusal)),
-        Err(AllocError) => unjudged(Finding::plain(CallOutcome::Memory)),
-    }
+    let verdict = check(alloc, request.text, request.base.as_ref(), request.profile);
+    answer_of(request.text, &verdict)
 }
 
 // The answer on a text that is judged against a base that is held.
@@ -100,13 +90,25 @@ fn judged_with(alloc: Global, request: &HeldRequest<'_>) -> Answer
     ensures { (url : Url) → IsOfKind url request.now.base
         → IsJudged request.now.profile (Some url) request.now.text.now result }
 {
-    let text = request.text;
-    match check_of_kind(alloc, text, request.base, request.profile) {
+    let verdict = check_of_kind(alloc, request.text, request.base, request.profile);
+    answer_of(request.text, &verdict)
+}
+
+// The answer by the verdict on a text: with the parts of a valid one, or with what the checker says in their place. The
+// verdict is lent, so that a valid text's parts are read where the checker left them.
+#[inline(always)]
+fn answer_of(text: &str, verdict: &Result<Verdict<'_>, AllocError>) -> Answer
+    requires { (profile : Profile) × (base : Option Url) × IfOk verdict.now (IsVerdict profile base (chars text.now)) }
+    ensures { (profile : Profile) (base : Option Url) → IfOk verdict.now (IsVerdict profile base (chars text.now))
+        → (TakesNoMemoryAgainst profile base (chars text.now) → IsOk verdict.now)
+        → IsJudged profile base text.now result }
+{
+    match verdict {
         Ok(Verdict::Yes(parts)) => Answer {
             found: Finding::plain(CallOutcome::Valid),
-            parts: placed(text, &parts),
+            parts: placed(text, parts),
         },
-        Ok(Verdict::No(fault)) => unjudged(Finding::refused(CallOutcome::Refused, text, fault)),
+        Ok(Verdict::No(fault)) => unjudged(Finding::refused(CallOutcome::Refused, text, *fault)),
         Err(AllocError) => unjudged(Finding::plain(CallOutcome::Memory)),
     }
 }

@@ -1,13 +1,11 @@
--- The check of a text that takes no memory never wants it.
-use Rattle.std.proofs.Common.{◌∙◌, inr}
+-- The verdict is that on the text alone.
+use Rattle.std.proofs.Common.{None}
 use Rattle.urlcheck_c.proofs.checks.judged_alone.Goals as goal
 
-pub returns-in-Err : goal.returns-in-Err
-returns-in-Err c =
-    inr (
-      c.unjudged-in-Err.ensures.parts,
-      inr (
-        c.unjudged-in-Err.ensures.found ∙ c.plain-in-Err.ensures,
-        λ takes. let e = c.in-Err.ensures.memory takes in cc,
-      ),
-    )
+pub answer_of-requires : goal.answer_of-requires
+answer_of-requires c = (c.args.request.now.profile, None, c.check_alone-verdict.ensures.answer)
+
+pub returns : goal.returns
+returns c =
+    c.answer_of.ensures c.args.request.now.profile None c.check_alone-verdict.ensures.answer
+    c.check_alone-verdict.ensures.memory

@@ -1,31 +1,18 @@
--- A text that is valid against a base of the kind is laid out, and one that takes no memory never wants it.
-use Rattle.std.proofs.Common.{Some, ◌∙◌, inr, subst}
-use Rattle.std.specs.Str.{chars}
-use Rattle.uv_grammar.specs.declared.checker.Verdict.{Verdict}
+-- The verdict is that on the text against each base of the kind.
+use Rattle.std.proofs.Common.{Some}
 use Rattle.uv_grammar.specs.Bases.{url_of_kind}
-use Rattle.uv_grammar.specs.Verdict.{IsAccepted, IsVerdict}
 use Rattle.uv_grammar.proofs.KindLemmas.{is_of_kind}
 use Rattle.urlcheck_c.proofs.checks.judged_with.Goals as goal
 
-pub placed-requires : goal.placed-requires
-placed-requires c =
-    let profile = c.args.request.now.profile in
-    let text = chars c.args.request.now.text.now in
-    let kind = c.args.request.now.base in
-    let accepted : IsAccepted profile (Some (url_of_kind kind)) text c.in-Ok-Yes.parts =
-    subst (λ (verdict : Verdict). IsVerdict profile (Some (url_of_kind kind)) text verdict) c.in-Ok-Yes.field-0-is
-    (c.in-Ok-Yes.ensures.answer (url_of_kind kind) (is_of_kind kind)) in (
-      profile,
+pub answer_of-requires : goal.answer_of-requires
+answer_of-requires c =
+    let kind = c.args.request.now.base in (
+      c.args.request.now.profile,
       Some (url_of_kind kind),
-      accepted.valid,
+      c.check_of_kind-verdict.ensures.answer (url_of_kind kind) (is_of_kind kind),
     )
 
-pub returns-in-Err : goal.returns-in-Err
-returns-in-Err c = λ url is.
-    inr (
-      c.unjudged-in-Err.ensures.parts,
-      inr (
-        c.unjudged-in-Err.ensures.found ∙ c.plain-in-Err.ensures,
-        λ takes. let e = c.in-Err.ensures.memory url is takes in cc,
-      ),
-    )
+pub returns : goal.returns
+returns c = λ url is.
+    c.answer_of.ensures c.args.request.now.profile (Some url) (c.check_of_kind-verdict.ensures.answer url is)
+    (c.check_of_kind-verdict.ensures.memory url is)

@@ -1,0 +1,14 @@
+-- A valid text is laid out, and one that takes no memory never wants it.
+use Rattle.std.proofs.Common.{◌∙◌, inr}
+use Rattle.std.proofs.lemmas.Bool.{false≢true}
+use Rattle.urlcheck_c.proofs.checks.answer_of.Goals as goal
+
+pub returns-in-Err : goal.returns-in-Err
+returns-in-Err c = λ profile base is takes.
+    inr (
+      c.unjudged-in-Err.ensures.parts,
+      inr (
+        c.unjudged-in-Err.ensures.found ∙ c.plain-in-Err.ensures,
+        λ none. false≢true (rw c.in-Err.is at (takes none)),
+      ),
+    )
