@@ -33,23 +33,14 @@
 DECLARE(x86_64);
 DECLARE(x86_64_v2);
 
-enum { UNKNOWN, PLAIN, NEWER };
-static int known = UNKNOWN;
+/* Whether the build for x86-64-v2 answers. A call before that is known gets the plain build, which says the same. */
+static int is_newer;
 
-/* Asks the processor. Threads that ask at once learn the same. */
-static __attribute__((cold, noinline)) int asked(void) {
-    int level = is_x86_64_v2() ? NEWER : PLAIN;
-    __atomic_store_n(&known, level, __ATOMIC_RELAXED);
-    return level;
-}
+/* Asks the processor when the library is loaded, so that no call has to see whether that was done. */
+static __attribute__((constructor)) void ask(void) { __atomic_store_n(&is_newer, is_x86_64_v2(), __ATOMIC_RELAXED); }
 
-/* Whether the build for x86-64-v2 answers. */
-static int is_newer(void) {
-    int level = __atomic_load_n(&known, __ATOMIC_RELAXED);
-    return (level == UNKNOWN ? asked() : level) == NEWER;
-}
-
-#define CALL(name, ...) (is_newer() ? name##_x86_64_v2(__VA_ARGS__) : name##_x86_64(__VA_ARGS__))
+#define CALL(name, ...)                                                                                                \
+    (__atomic_load_n(&is_newer, __ATOMIC_RELAXED) ? name##_x86_64_v2(__VA_ARGS__) : name##_x86_64(__VA_ARGS__))
 
 /* What is pointed to in the place of null: of length 0, so it is neither read nor written. */
 static uint8_t no_bytes[1];
