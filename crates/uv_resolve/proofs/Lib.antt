@@ -1,3 +1,5 @@
+pub mod AbsoluteTextLemmas
+pub mod KeptPathLemmas
 pub mod OwnAuthorityLemmas
 pub mod OwnTextLemmas
 pub mod PlainPathLemmas

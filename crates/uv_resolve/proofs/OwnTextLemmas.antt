@@ -1,9 +1,9 @@
 -- A text that is the text of the URL that it denotes.
 use Rattle.std.proofs.Common.{◌≡◌, ◌≢◌, ℕ, Bool, true, false, not, ◌==◌, ◌<◌, ◌≤◌, List, [], ◌∷◌, ◌++◌, Option, Some}
-use Rattle.std.proofs.Common.{None, codes, refl, sym, ap, ◌∙◌, subst, inl, inr, append_assoc, append-nil, arith}
+use Rattle.std.proofs.Common.{None, codes, refl, sym, ap, ◌∙◌, subst, inl, inr, append_assoc, arith}
 use Rattle.std.proofs.Common.{length, slice_index, slice_index_or, suc, ◌+◌, ◌&&◌, drop, drop-cons}
 use Rattle.std.specs.Prelude.{option_map}
-use Rattle.std.specs.List.{list_all, join_with_byte}
+use Rattle.std.specs.List.{list_all}
 use Rattle.std.specs.Char.{is_ascii, to_ascii_lowercase}
 use Rattle.std.specs.Str.{IsAscii, IsUtf8, bytes_eq, chars}
 use Rattle.std.proofs.lemmas.Str.{chars-IsAscii, encodes-chars, encodes-IsAscii}
@@ -20,19 +20,19 @@ use Rattle.uv_model.specs.declared.path.UrlPath.TheVariants.{Segments}
 use Rattle.uv_model.specs.Ascii.{apostrophe, slash, colon, question_mark, number_sign}
 use Rattle.uv_model.specs.Encoding.{encoded}
 use Rattle.uv_model.specs.Parts.{SchemeAuthority, Parts, written, written_scheme, written_authority, written_behind}
-use Rattle.uv_model.specs.Path.{MayBePathSlashed, is_double_dot, is_single_dot, walk, walk_one}
+use Rattle.uv_model.specs.Path.{MayBePathSlashed, is_double_dot, is_single_dot, walk}
 use Rattle.uv_model.specs.Records.Denote.{authority_path, denote, denoted_scheme, denoted_port, denoted_path}
 use Rattle.uv_model.specs.Records.Denote.{denoted_query}
 use Rattle.uv_model.specs.Records.Serialize.{serial, serial_host, serial_segments}
 use Rattle.uv_model.specs.Records.Url.{Url}
 use Rattle.uv_model.specs.Scheme.{default_port, lowercase, scheme_class}
-use Rattle.uv_model.specs.Setting.{Setting, scheme_or, setting_of}
-use Rattle.uv_model.specs.Valid.{FitsAuthority, FitsForm, FitsHostText, IsSpecialAuthority, Valid}
-use Rattle.uv_model.proofs.Paths.SlashedPaths.{slashed_or_none}
+use Rattle.uv_model.specs.Setting.{scheme_or}
+use Rattle.uv_model.specs.Valid.{Valid}
 use Rattle.uv_model.proofs.Texts.AsciiLemmas.{IsAscii-from_test}
 use Rattle.uv_model.proofs.Texts.EncodingLemmas.{is_kept, encoded_code_point-kept}
-use Rattle.uv_parser.proofs.RoundTrip.SerializedTexts.{serial_segments-joined}
 use Rattle.uv_grammar.proofs.HostLemmas.{some_chars}
+use Rattle.uv_resolve.proofs.KeptPathLemmas.{authority_path-encoded, encoded_each, slashed_text, special_path}
+use Rattle.uv_resolve.proofs.KeptPathLemmas.{walk-encoded}
 use Rattle.uv_resolve.proofs.RecordLemmas.{fields, denote-fields}
 use Rattle.uv_resolve.specs.OwnText.{HasOwnPrefix, HasOwnScheme, IsOwnPath, IsOwnRoot, IsOwnScheme, IsOwnText}
 use Rattle.uv_resolve.specs.OwnText.{has_no_dots, is_dot_mark, is_kept_segment, is_never_encoded}
@@ -84,45 +84,26 @@ behind c rest h = (and_parts (is_never_encoded c) (list_all is_never_encoded res
 
 -- ---- paths
 
--- a walk keeps a segment that is no dot segment
-walk_one-kept : (class : Class) (last : Bool) (path : List (List ℕ)) (segment : List ℕ) → is_kept_segment segment ≡ true
-    → list_all is_never_encoded segment ≡ true → walk_one class last path segment ≡ path ++ (segment ∷ [])
-walk_one-kept class last path segment no_dots bytes =
-    let parts = and_parts (not (is_double_dot segment)) (not (is_single_dot segment)) no_dots in
-    let double : is_double_dot segment ≡ false = not-true _ parts.0 in
-    let single : is_single_dot segment ≡ false = not-true _ parts.1 in
-    rw (double, single) (ap (λ s. path ++ (s ∷ [])) (encoded-kept false segment bytes))
+-- segments of such code points are their own encodings
+segments-kept : (segments : List (List ℕ)) → list_all is_never_encoded (serial_segments segments) ≡ true
+    → encoded_each segments ≡ segments
+segments-kept [] bytes = refl
+segments-kept (segment ∷ rest) bytes =
+    let texts = both segment (serial_segments rest) (behind slash (segment ++ serial_segments rest) bytes) in
+    ap (λ s. s ∷ encoded_each rest) (encoded-kept false segment texts.0)
+    ∙ ap (λ s. segment ∷ s) (segments-kept rest texts.1)
 
--- and all of them
+-- a walk over segments that it keeps leaves them as they are
 pub walk-kept : (class : Class) (path segments : List (List ℕ)) → list_all is_kept_segment segments ≡ true
     → list_all is_never_encoded (serial_segments segments) ≡ true → walk class path segments ≡ path ++ segments
-unfolding walk
-walk-kept class path [] no_dots bytes = sym (append-nil path)
-walk-kept class path (segment ∷ []) no_dots bytes =
-    walk_one-kept class true path segment (and_parts (is_kept_segment segment) true no_dots).0
-    (both segment [] (behind slash (segment ++ []) bytes)).0
-walk-kept class path (segment ∷ next ∷ rest) no_dots bytes =
-    let each = and_parts (is_kept_segment segment) (list_all is_kept_segment (next ∷ rest)) no_dots in
-    let texts = both segment (serial_segments (next ∷ rest))
-    (behind slash (segment ++ serial_segments (next ∷ rest)) bytes) in
-    ap (λ p. walk class p (next ∷ rest)) (walk_one-kept class false path segment each.0 texts.0)
-    ∙ walk-kept class (path ++ (segment ∷ [])) (next ∷ rest) each.1 texts.1
-    ∙ append_assoc path (segment ∷ []) (next ∷ rest)
+walk-kept class path segments no_dots bytes =
+    walk-encoded class path segments no_dots ∙ ap (λ s. path ++ s) (segments-kept segments bytes)
 
--- the path behind an authority
+-- and so is the path behind an authority
 pub authority_path-kept : (segments : List (List ℕ)) → segments ≢ [] → list_all is_kept_segment segments ≡ true
     → list_all is_never_encoded (serial_segments segments) ≡ true → authority_path Special segments ≡ segments
-authority_path-kept [] some no_dots bytes = absurd (some refl)
-authority_path-kept (segment ∷ rest) some no_dots bytes = walk-kept Special [] (segment ∷ rest) no_dots bytes
-
--- a path behind an authority is its segments with `/` before each
-pub slashed_text : (segments : List (List ℕ)) (text : List ℕ) → segments ≢ [] → MayBePathSlashed segments text
-    → text ≡ serial_segments segments
-slashed_text segments text some (inl none) = absurd (some none.1)
-slashed_text segments text some (inr path) =
-    let joins = path.joins in
-    path.slashed ∙ ap (λ t. slash ∷ t) (joins.joined ∙ ap (join_with_byte slash) joins.some)
-    ∙ sym (serial_segments-joined joins.first joins.others) ∙ sym (ap serial_segments joins.some)
+authority_path-kept segments some no_dots bytes =
+    authority_path-encoded segments some no_dots ∙ segments-kept segments bytes
 
 -- a code point that is neither `.` nor `%` is neither in lower case
 lower_mark : (c : ℕ) → is_dot_mark c ≡ false → is_dot_mark (to_ascii_lowercase c) ≡ false
@@ -270,24 +251,6 @@ pub serial-spelled : (scheme form : List ℕ) (segments : List (List ℕ)) (quer
 unfolding serial serial_host
 serial-spelled scheme form segments query fragment = refl
 
--- the path of a text with a special scheme and an authority
-special_path : (profile : Profile) (base : Option Url) (text : List ℕ) (parts : Parts) (scheme form : List ℕ)
-    → Valid profile base text parts → parts.form ≡ SchemeAuthority → parts.scheme ≡ Some scheme
-    → scheme_class scheme ≡ Special → parts.host_text ≡ Some form → MayBePathSlashed parts.segments parts.path_text
-special_path profile base text parts scheme form valid formed schemed special hosted =
-    let setting : Setting = setting_of profile base (Some scheme) in
-    let by_form : FitsForm setting SchemeAuthority parts
-    = subst (λ f. FitsForm setting f parts) formed
-    (subst (λ s. FitsForm (setting_of profile base s) parts.form parts) schemed valid.form)
-    in
-    let by_text : FitsAuthority (scheme_class scheme) setting form parts
-    = subst (λ h. FitsHostText setting parts h) hosted by_form
-    in
-    let fits : IsSpecialAuthority setting form parts
-    = subst (λ k. FitsAuthority k setting form parts) special by_text
-    in
-    slashed_or_none profile parts.segments parts.path_text fits.path
-
 -- a text with such a prefix is spelled with its parts
 prefix-spelled : (profile : Profile) (base : Option Url) (text : List ℕ) (parts : Parts) (scheme : List ℕ)
     → Valid profile base text parts → (own : HasOwnPrefix text parts) → parts.scheme ≡ Some scheme
@@ -347,7 +310,7 @@ own-schemed profile base text parts scheme valid own schemed is =
     let segments = parts.segments in
     let whole = prefix-spelled profile base text parts scheme valid prefix schemed in
     let slashed : MayBePathSlashed segments parts.path_text
-    = special_path profile base text parts scheme form valid prefix.form schemed is.special prefix.host.host_text
+    = special_path profile base text parts scheme valid prefix.form schemed is.special
     in
     let some = some_segments segments parts.path_text own.path.0 slashed in
     let path : parts.path_text ≡ serial_segments segments
@@ -378,7 +341,7 @@ root-schemed profile base text parts scheme valid own schemed is =
     let ends = own.ends in
     let whole = prefix-spelled profile base text parts scheme valid prefix schemed in
     let slashed : MayBePathSlashed parts.segments parts.path_text
-    = special_path profile base text parts scheme form valid prefix.form schemed is.special prefix.host.host_text
+    = special_path profile base text parts scheme valid prefix.form schemed is.special
     in
     let root : authority_path Special parts.segments ≡ [] ∷ []
     = ap (authority_path Special) (no_segments parts.segments parts.path_text slashed ends.path)

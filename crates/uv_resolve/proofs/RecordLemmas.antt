@@ -10,7 +10,7 @@ use Rattle.uv_model.specs.declared.path.UrlPath.TheVariants.{Opaque}
 use Rattle.uv_model.specs.Records.Denote.{denote, denoted_scheme, denoted_host, denoted_port, denoted_path}
 use Rattle.uv_model.specs.Records.Denote.{denoted_query, end_escaped, has_tail}
 use Rattle.uv_model.specs.Encoding.{encoded}
-use Rattle.uv_model.specs.Parts.{Form, Parts, SchemeOpaque, has_scheme}
+use Rattle.uv_model.specs.Parts.{Parts, SchemeOpaque, has_scheme}
 use Rattle.uv_model.specs.Scheme.{is_scheme, scheme_class}
 use Rattle.uv_model.specs.Records.Url.{Url}
 use Rattle.uv_model.specs.Valid.{FitsScheme, Valid, scheme_in}

@@ -1,5 +1,5 @@
 -- The run of the URL parser on a valid text: with a scheme against every base, else against a well-formed one.
-use Rattle.std.proofs.Common.{ℕ, ◌+◌, ◌*◌, List, length, Option, Some, Result, Ok, Err, arith, inl, inr, sym, ◌∙◌, ap}
+use Rattle.std.proofs.Common.{ℕ, ◌+◌, ◌*◌, List, length, Option, Some, Result, Ok, Err, arith, inl, inr}
 use Rattle.uv_model.specs.declared.profile.Profile.{Profile}
 use Rattle.uv_model.specs.declared.profile.Profile.TheVariants.{Standard, Wide, Parser}
 use Rattle.uv_model.specs.Records.Url.{Url}

@@ -1,3 +1,4 @@
+pub mod AbsoluteText
 pub mod Base
 pub mod Laws
 pub mod ParserAnswer

@@ -1,7 +1,7 @@
 -- What is answered by the parser's profile is what the URL parser does (URL Standard, section 4.4).
 use Rattle.std.specs.Prelude.{◌≡◌, ℕ, List, Option, Result, Ok, Err}
 use Rattle.uv_model.specs.declared.profile.Profile.{Profile}
-use Rattle.uv_model.specs.declared.profile.Profile.TheVariants.{Standard, Wide, Parser}
+use Rattle.uv_model.specs.declared.profile.Profile.TheVariants.{Parser}
 use Rattle.uv_model.specs.Records.Url.{Url}
 use Rattle.uv_parser.specs.Run.{Done, Stopped, run, step_bound}
 use Rattle.uv_resolve.specs.declared.fault.ResolveFault.{ResolveFault}

@@ -2,6 +2,7 @@
 //! 4.4).
 #![tactic(auto)]
 
+mod absolute_text;
 mod base;
 mod fault;
 pub mod laws;

@@ -225,7 +225,12 @@ fn push_origin(
     push_port(alloc, out, base.port())
 }
 
-fn push_port(alloc: Global, out: &mut String, port: Option<u16>) -> Result<(), AllocError>
+/// The port behind a `:`, where there is one.
+pub(crate) fn push_port(
+    alloc: Global,
+    out: &mut String,
+    port: Option<u16>,
+) -> Result<(), AllocError>
     ensures { OnOk result (string_bytes out.new ≡ string_bytes out.old ++ serial_port port) }
 {
     match port {

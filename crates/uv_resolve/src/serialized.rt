@@ -7,6 +7,7 @@ ghost use Rattle.uv_model.specs.declared.profile.Profile.TheVariants.{Parser};
 ghost use Rattle.uv_model.specs.Records.WellFormed.{MayBeWellFormed};
 ghost use Rattle.uv_resolve.specs.Serialized.{ArePartsOf, IsSerialized, RefusesSerializedWithoutMemory};
 
+use crate::absolute_text::absolute_text;
 use crate::fault::ResolveFault;
 use crate::own_text::{is_own_root, is_own_text};
 use crate::plain_reference::plain_reference;
@@ -50,6 +51,9 @@ pub fn serialize_parts(
     }
     if is_own_root(text, &parts) {
         return with_slash(alloc, text);
+    }
+    if let Some(written) = absolute_text(alloc, &parts)? {
+        return Ok(written);
     }
     if let Some(written) = plain_reference(alloc, text, &parts, base)? {
         return Ok(written);

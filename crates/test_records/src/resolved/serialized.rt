@@ -37,6 +37,70 @@ const ALONE: [(&str, &str); 22] = [
     ("URN:\u{E9}?x#y", "urn:%C3%A9?x#y"),
 ];
 
+// Absolute texts of special schemes whose URL is written in another way, and the URL: by the scheme, the host, the port
+// and the path, and by what is percent-encoded.
+const WRITTEN_OTHERWISE: [(&str, &str); 44] = [
+    ("HTTPS://h.example/a", "https://h.example/a"),
+    ("hTTp://h.example", "http://h.example/"),
+    ("FTP://h.example:21/a", "ftp://h.example/a"),
+    ("Ws://h.example:443?q", "ws://h.example:443/?q"),
+    ("WSS://h.example:443#f", "wss://h.example/#f"),
+    ("https://WWW.H.example/A", "https://www.h.example/A"),
+    (
+        "https://\u{E9}.example/\u{E9}",
+        "https://xn--9ca.example/%C3%A9",
+    ),
+    (
+        "https://xn--bcher-kva.example?q",
+        "https://xn--bcher-kva.example/?q",
+    ),
+    (
+        "http://192.168.0.1:8080/a?q#f",
+        "http://192.168.0.1:8080/a?q#f",
+    ),
+    ("http://255.255.255.255?q", "http://255.255.255.255/?q"),
+    ("http://0.0.0.0:80", "http://0.0.0.0/"),
+    ("http://[2001:DB8:0:0::1]/a", "http://[2001:db8::1]/a"),
+    ("http://[::]:65535#f", "http://[::]:65535/#f"),
+    (
+        "http://[1111:2222:3333:4444:5555:6666:7777:8888]:80",
+        "http://[1111:2222:3333:4444:5555:6666:7777:8888]/",
+    ),
+    ("http://[::FFFF:1.2.3.4]/", "http://[::ffff:102:304]/"),
+    ("http://h:/a", "http://h/a"),
+    ("http://h:0/a", "http://h:0/a"),
+    ("http://h:00080/a", "http://h/a"),
+    ("http://h:08080/a", "http://h:8080/a"),
+    ("http://h:443/a", "http://h:443/a"),
+    ("https://h:80/a", "https://h:80/a"),
+    ("ftp://h:22?q", "ftp://h:22/?q"),
+    ("http://H", "http://h/"),
+    ("http://H?", "http://h/?"),
+    ("http://H#", "http://h/#"),
+    ("http://H?#", "http://h/?#"),
+    ("http://H/a/", "http://h/a/"),
+    ("http://H/a/b/c/d/e/f", "http://h/a/b/c/d/e/f"),
+    ("http://h/caf\u{E9}/x", "http://h/caf%C3%A9/x"),
+    (
+        "http://h/\u{20AC}\u{10000}",
+        "http://h/%E2%82%AC%F0%90%80%80",
+    ),
+    ("http://h/?\u{20AC}=\u{E9}", "http://h/?%E2%82%AC=%C3%A9"),
+    ("http://h/#\u{10FFFD}x", "http://h/#%F4%8F%BF%BDx"),
+    ("http://H/'a'?'b'#'c'", "http://h/'a'?%27b%27#'c'"),
+    ("http://h/\u{E9}'?'\u{E9}", "http://h/%C3%A9'?%27%C3%A9"),
+    ("http://H/%20a/%7e/%2f", "http://h/%20a/%7e/%2f"),
+    ("http://H/%2ea/%2E%20", "http://h/%2ea/%2E%20"),
+    ("http://H/.a/..b/...", "http://h/.a/..b/..."),
+    ("http://H/a./b..", "http://h/a./b.."),
+    ("http://H/a/./b", "http://h/a/b"),
+    ("http://H/a/%2E/b", "http://h/a/b"),
+    ("http://H/a/%2e%2E/b", "http://h/b"),
+    ("http://H/a/.%2e", "http://h/"),
+    ("http://H/a/%2e.?q", "http://h/?q"),
+    ("http://H/.#f", "http://h/#f"),
+];
+
 // The URL that the parts of a valid text denote.
 fn serialized_parts(alloc: Global, text: &str) -> Result<Option<String>, AllocError> {
     match check(alloc, text, None, Profile::Standard)? {
@@ -47,7 +111,7 @@ fn serialized_parts(alloc: Global, text: &str) -> Result<Option<String>, AllocEr
 
 #[test]
 fn serializes_texts_alone(rt: HostRuntime) -> Result<(), ResolveFault> {
-    for (text, want) in ALONE.iter() {
+    for (text, want) in ALONE.iter().chain(WRITTEN_OTHERWISE.iter()) {
         answers_alone(&rt, &[(*text, Url(*want))])?;
         let written = serialized_parts(rt.alloc(), *text)?;
         let found = matches!(&written, Some(written) if written.as_str() == *want);
@@ -71,6 +135,15 @@ const AGAINST: [(&str, &str, &str); 12] = [
     ("file:///C:/a", "/x", "file:///C:/x"),
     ("urn:a", "#f", "urn:a#f"),
 ];
+
+// No base changes what an absolute text of a special scheme denotes.
+#[test]
+fn serializes_absolute_texts_against_a_base(rt: HostRuntime) -> Result<(), ResolveFault> {
+    for (text, want) in WRITTEN_OTHERWISE.iter() {
+        answers_against(&rt, "http://h:81/a/b?q#f", &[(*text, Url(*want))])?;
+    }
+    Ok(())
+}
 
 #[test]
 fn serializes_texts_against_bases(rt: HostRuntime) -> Result<(), ResolveFault> {
@@ -234,8 +307,9 @@ fn serializes_references_of_each_length(rt: HostRuntime) -> Result<(), ResolveFa
 }
 
 // A part of each length, with nothing that is encoded at its end, and with what is.
-const ENDS: [(&str, &str, &str); 5] = [
+const ENDS: [(&str, &str, &str); 6] = [
     ("http://h/", "", ""),
+    ("http://h:81/", "", ""),
     ("http://h/", "\u{E9}", "%C3%A9"),
     ("http://h/?", "'", "%27"),
     ("http://h/#", "\u{E9}'", "%C3%A9'"),

@@ -1,8 +1,5 @@
 -- The path by whether something follows it.
-use Rattle.std.proofs.Common.{◌≡◌, ◌∙◌, ap, Bool, IfOk, List, chars, false, subst, sym, ℕ}
-use Rattle.std.specs.String.{string_bytes}
-use Rattle.uv_model.specs.Encoding.{encoded}
-use Rattle.uv_model.specs.Records.Denote.{end_escaped}
+use Rattle.std.proofs.Common.{chars}
 use Rattle.uv_model.proofs.Paths.SpacedPaths.{escaped_alone}
 use Rattle.uv_resolve.proofs.paths.encoded_path.Goals as goal
 

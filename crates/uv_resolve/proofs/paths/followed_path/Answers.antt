@@ -1,9 +1,7 @@
 -- A space at the end is taken off, and its escape put there.
-use Rattle.std.proofs.Common.{◌≡◌, ◌∙◌, ◌++◌, IfOk, Some, None, ap, chars, codes, false, lit<, subst, sym, List, ℕ}
-use Rattle.std.specs.String.{string_bytes}
+use Rattle.std.proofs.Common.{◌∙◌, ◌++◌, Some, None, ap, codes, lit<, sym, List, ℕ}
 use Rattle.std.proofs.lemmas.Str.Pattern.{strip_suffix_char}
 use Rattle.uv_model.specs.Ascii.{space}
-use Rattle.uv_model.specs.Encoding.{encoded}
 use Rattle.uv_resolve.proofs.SpacedEndLemmas.{ended_encoded, other_encoded}
 use Rattle.uv_resolve.proofs.paths.followed_path.Goals as goal
 

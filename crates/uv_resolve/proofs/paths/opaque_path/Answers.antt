@@ -1,6 +1,4 @@
 -- The encoding is ASCII.
-use Rattle.std.proofs.Common.{ap, chars}
-use Rattle.uv_model.specs.declared.path.UrlPath.TheVariants.{Opaque}
 use Rattle.uv_resolve.proofs.SpacedEndLemmas.{encoded_ascii}
 use Rattle.uv_resolve.proofs.paths.opaque_path.Goals as goal
 

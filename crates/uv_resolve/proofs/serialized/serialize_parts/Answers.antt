@@ -20,6 +20,9 @@ returns-then-is_own_root c =
     (λ s e. e ∙ own_root_written profile (option_copied c.args.base) c.args.text.now c.args.parts valid
     (c.is_own_root.ensures c.if-is_own_root.true)) c.with_slash.ensures
 
+pub returns-in-Some : goal.returns-in-Some
+returns-in-Some c = (rw c.in-Some.is at c.in_ok-written.ensures) (option_copied c.args.base)
+
 pub denoted-requires-clause-valid : goal.denoted-requires-clause-valid
 denoted-requires-clause-valid c =
     let (profile, valid) = c.requires in (profile, chars c.args.text.now, valid)
