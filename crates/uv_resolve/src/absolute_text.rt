@@ -1,13 +1,10 @@
 //! Absolute texts of special schemes without dot segments: each of their parts is written as its URL has it, and no
 //! record has to be made of them.
-ghost use Rattle.std.specs.Prelude.{◌≡◌, ◌<◌, ◌++◌, IfOk, IfSome, OnOk, chars, codes, option_copied, option_map, string_bytes};
+ghost use Rattle.std.specs.Prelude.{◌≡◌, ◌<◌, ◌++◌, IfOk, IfSome, OnOk, chars, decimal, option_map, string_bytes};
 ghost use Rattle.std.specs.List.{list_all};
-ghost use Rattle.uv_model.specs.declared.scheme.Class.TheVariants.{Special};
-ghost use Rattle.uv_model.specs.Ascii.{number_sign, question_mark};
 ghost use Rattle.uv_model.specs.Encoding.{encoded};
 ghost use Rattle.uv_model.specs.Parts.{written_behind};
-ghost use Rattle.uv_model.specs.Records.Serialize.{serial_host};
-ghost use Rattle.uv_model.specs.Scheme.{scheme_class};
+ghost use Rattle.uv_model.specs.Records.Serialize.{serial_host, serial_ipv4};
 ghost use Rattle.uv_grammar.specs.PartsHost.{referred};
 ghost use Rattle.uv_grammar.specs.Slices.{chars_of_option};
 ghost use Rattle.uv_resolve.specs.AbsoluteText as spec;
@@ -16,6 +13,7 @@ ghost use Rattle.uv_resolve.specs.OwnText.{is_kept_segment};
 
 use crate::own_text::is_never_encoded;
 use crate::plain_reference::push_port;
+use itoa::Buffer;
 use percent_encoding::{AsciiSet, ascii_set, utf8_percent_encode};
 use std::alloc::{AllocError, Global};
 use uv_grammar::{Form, HostRef, Parts, Segments};
@@ -99,7 +97,7 @@ fn is_kept(segment: &str) -> bool
     !is_double_dot(segment) && !is_single_dot(segment)
 }
 
-// The text of the URL, in one allocation but for that of a port's digits and of an address.
+// The text of the URL, in one allocation but for those of a port's digits and of an IPv6 address.
 fn write(
     alloc: Global,
     scheme: &str,
@@ -156,8 +154,30 @@ fn push_host(alloc: Global, out: &mut String, host: &HostRef<'_>) -> Result<(), 
 {
     match host {
         HostRef::Domain(form) => out.push_str(form.as_str()),
+        HostRef::V4(value) => push_ipv4(out, *value),
         _ => out.push_str(host.copy(alloc)?.text(alloc)?.as_str()),
     }
+}
+
+// The four numbers of an IPv4 address, the highest first, with `.` between each two.
+fn push_ipv4(out: &mut String, value: u32) -> Result<(), AllocError>
+    ensures { OnOk result (string_bytes out.new ≡ string_bytes out.old ++ serial_ipv4 value) }
+{
+    push_number(out, value / 16_777_216 % 256)?;
+    out.push_str(".")?;
+    push_number(out, value / 65_536 % 256)?;
+    out.push_str(".")?;
+    push_number(out, value / 256 % 256)?;
+    out.push_str(".")?;
+    push_number(out, value % 256)
+}
+
+// A number in decimal.
+fn push_number(out: &mut String, number: u32) -> Result<(), AllocError>
+    ensures { OnOk result (string_bytes out.new ≡ string_bytes out.old ++ decimal number) }
+{
+    let mut digits = Buffer::new();
+    out.push_str(digits.format(number))
 }
 
 // A path, which is `/` where it is empty.

@@ -32,10 +32,10 @@ fn has_own_prefix(text: &str, parts: &Parts<'_>) -> bool
 {
     match parts.form() {
         Form::SchemeAuthority => {
-            is_never_encoded(text)
-                && has_own_scheme(parts.scheme())
+            has_own_scheme(parts.scheme())
                 && has_own_host(parts)
                 && has_no_port(parts)
+                && is_never_encoded(text)
         }
         _ => false,
     }
