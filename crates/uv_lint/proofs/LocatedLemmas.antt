@@ -1,7 +1,6 @@
 -- Lemmas on lines that say where their links stand.
 use Rattle.std.proofs.Common.{◌≡◌, ℕ, suc, ◌+◌, ◌<◌, ◌≤◌, ◌^◌, List, [], ◌∷◌, true, false, drop, get_or, length, take}
 use Rattle.std.proofs.Common.{Option, Some, None, Ok, Err, is_some, option_map, refl, sym, ap, arith, inl, inr}
-use Rattle.std.proofs.Common.{rules}
 use Rattle.std.proofs.Common.{add-one, drop-cons, le-ltb}
 use Rattle.std.specs.Prelude.{◌==◌}
 use Rattle.std.specs.Char.{is_ascii_digit}
@@ -11,7 +10,7 @@ use Rattle.std.specs.Str.Parse.{ParsesUnsigned, digits_value}
 use Rattle.std.proofs.lemmas.Bool.{cases_Bool, cases_lt, false≢true}
 use Rattle.std.proofs.lemmas.Fmt.{IsAscii-from_digits}
 use Rattle.std.proofs.lemmas.Str.{IsUtf8-from_ascii, IsUtf8-from_is_utf8, is_utf8-from_IsUtf8}
-use Rattle.std.proofs.lemmas.Str.Parse.{IsDigitsTest, IsNumeralModel, numerals_by_value, parse_digits}
+use Rattle.std.proofs.lemmas.Str.Parse.{parse_digits}
 use Rattle.uv_lint.specs.Located.{file_length, in_range, name_of, run_of}
 use Rattle.uv_model.proofs.Texts.DigitLemmas.{decimal_numerals}
 
