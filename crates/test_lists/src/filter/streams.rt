@@ -3,16 +3,12 @@
 ghost use Rattle.std.specs.Prelude.{◌<◌};
 
 use super::*;
+use crate::line_ends::line_feeds;
 use uv_model::{DeviceFault, ScriptSink, ScriptSource, Sink};
 
 // How many bytes are written of the lines that so many of the list's bytes end.
 fn ended_bytes(list: &[u8], written: &[u8], count: usize) -> usize {
-    let mut ends = 0usize;
-    for byte in list.iter().take(count) {
-        if *byte == b'\n' {
-            ends = ends.saturating_add(1);
-        }
-    }
+    let mut ends = line_feeds(list.get(..count).unwrap_or(list));
     let mut length = 0usize;
     for byte in written {
         if ends == 0 {

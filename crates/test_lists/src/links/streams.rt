@@ -3,6 +3,7 @@
 ghost use Rattle.std.specs.Prelude.{◌-◌, ◌^◌, ◌<◌};
 
 use super::*;
+use crate::line_ends::line_feeds;
 use uv_model::{ScriptSink, ScriptSource};
 
 // A list, the base and the longest line of its run, the profile, and the report on it.
@@ -117,10 +118,6 @@ fn pieces_of<'r>(
         pieces.push(Ok(piece))?;
     }
     Ok(pieces)
-}
-
-fn line_feeds(bytes: &[u8]) -> usize {
-    bytes.iter().filter(|byte| **byte == b'\n').count()
 }
 
 // Each read behind so many pieces fails in turn: the report's lines of the lines that have ended are written, and no

@@ -3,6 +3,7 @@
 ghost use Rattle.std.specs.Prelude.{◌<◌};
 
 use super::*;
+use crate::line_ends::line_feeds;
 use uv_model::{DeviceFault, Extent, ScriptSink, ScriptSource, Sink};
 
 const LIST: &[u8] = b"b\r\nhttp://h/\n\n\xff\nurn:a b";
@@ -49,10 +50,6 @@ fn report_on(alloc: Global, lines: usize) -> Result<(String, (u64, u64)), Fail> 
     }
     report.push_str(END)?;
     Ok((report, counts))
-}
-
-fn line_feeds(bytes: &[u8]) -> usize {
-    bytes.iter().filter(|byte| **byte == b'\n').count()
 }
 
 // Each read behind so many pieces fails in turn: the report on the lines that have ended is written, with its end.
