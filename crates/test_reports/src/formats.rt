@@ -1,6 +1,7 @@
 //! Diagnostics in each format, written out by hand from the documents of the formats.
 
-use crate::reports::{joined, long, long_line, mended, refused, report};
+use crate::diagnostics::refused;
+use crate::reports::{joined, long, long_line, mended, report};
 use std::alloc::{AllocError, Global};
 use std::process::Abort;
 use std::test::Fail;

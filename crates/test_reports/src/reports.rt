@@ -1,29 +1,13 @@
 //! Diagnostics of the tests, and reports on them.
 
+use crate::diagnostics::refused;
 use std::alloc::{AllocError, Global};
 use uv_mend::MendKind;
-use uv_model::{Refusal, Rule};
+use uv_model::Rule;
 use uv_report::{
-    Columns, Completion, Diagnostic, Format, LineViolation, Mended, end_of, push_begin,
-    push_diagnostic, push_file_begin, push_file_end,
+    Columns, Completion, Diagnostic, Format, Mended, end_of, push_begin, push_diagnostic,
+    push_file_begin, push_file_end,
 };
-
-/// A diagnostic on the third line of a file.
-pub(crate) fn refused<'a>(
-    file: &'a str,
-    rule: Rule,
-    place: usize,
-    text: &'a str,
-) -> Diagnostic<'a> {
-    Diagnostic {
-        file,
-        line: 3,
-        column: (place as u64).saturating_add(1),
-        violation: LineViolation::Refused(Refusal { place, rule }),
-        text,
-        mended: None,
-    }
-}
 
 /// A report on one diagnostic.
 pub(crate) fn report(

@@ -1,6 +1,7 @@
 //! Documents of SARIF, read back by a reader of JSON, and what SARIF 2.1.0 says of their members.
 
-use crate::reports::{long, long_line, mended, refused, report};
+use crate::diagnostics::refused;
+use crate::reports::{long, long_line, mended, report};
 use serde_json::Value;
 use std::alloc::Global;
 use std::process::Abort;

@@ -1,0 +1,25 @@
+//! A diagnostic of the tests.
+ghost use Rattle.std.specs.Prelude.{◌≡◌, ◌+◌, None, min};
+
+use uv_model::{Refusal, Rule};
+use uv_report::{Diagnostic, LineViolation};
+
+/// A diagnostic on the third line of a file, of a text that begins its line and violates a rule at a place.
+pub fn refused<'a>(file: &'a str, rule: Rule, place: usize, text: &'a str) -> Diagnostic<'a>
+    ensures file { result.file.now ≡ file.now }
+    ensures line { result.line ≡ 3 }
+    ensures column { result.column ≡ min (place + 1) u64.MAX }
+    ensures violation { result.violation
+        ≡ LineViolation.Refused (record { place = place; rule = rule }) }
+    ensures text { result.text.now ≡ text.now }
+    ensures plain { result.mended ≡ None }
+{
+    Diagnostic {
+        file,
+        line: 3,
+        column: (place as u64).saturating_add(1),
+        violation: LineViolation::Refused(Refusal { place, rule }),
+        text,
+        mended: None,
+    }
+}
