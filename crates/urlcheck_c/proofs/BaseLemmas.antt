@@ -1,5 +1,5 @@
 -- What a base that is held says of the bytes from which it was prepared.
-use Rattle.std.proofs.Common.{◌≡◌, ◌≢◌, ℕ, Bool, true, false, List, Some, IsUtf8, refl, sym, ap, ◌∙◌, inl, inr}
+use Rattle.std.proofs.Common.{◌≡◌, ◌≢◌, ℕ, Bool, true, false, List, None, Some, IsUtf8, refl, sym, ap, ◌∙◌, inl, inr}
 use Rattle.std.proofs.Common.{subst, arith}
 use Rattle.std.specs.Prelude.{not, ◌==◌}
 use Rattle.std.proofs.lemmas.Option.{same_Some}
@@ -12,7 +12,8 @@ use Rattle.uv_grammar.specs.Bases.{IsOfKind}
 use Rattle.urlcheck_c.specs.declared.bases.Base.{Base}
 use Rattle.urlcheck_c.specs.declared.finding.Finding.{Finding}
 use Rattle.urlcheck_c.specs.declared.finding.CallOutcome.TheVariants.{NoUtf8}
-use Rattle.urlcheck_c.specs.Base.{IsPreparedBase, flag_number, held_base, kind_in, scheme_number, scheme_with}
+use Rattle.urlcheck_c.specs.Base.{IsBaseOfKind, IsPreparedBase, IsUnread, flag_number, held_base, kind_in, scheme_number}
+use Rattle.urlcheck_c.specs.Base.{scheme_with}
 use Rattle.urlcheck_c.specs.Finding.{profile_of}
 use Rattle.urlcheck_c.specs.Request.{IsBase, IsNoBase, IsNoText, IsRequest, IsUnjudged}
 
@@ -71,26 +72,68 @@ no_base number base bytes held (inl (inr (profile, is, x), numbers)) other unrea
 no_base number base bytes held (inr (kind, of_kind, same)) other unread utf8 =
     absurd (unread (ap (λ (b : Base). b.found.verdict) same))
 
+-- nothing is read from a base that isn't valid
+pub unread_base : (number : ℕ) (bytes : List ℕ) (held : Base) → IsPreparedBase number bytes held
+    → held.found.verdict ≢ 0 → IsUnread number bytes held.found
+unread_base number bytes held (inl (unread, numbers)) other = unread
+unread_base number bytes held (inr (kind, of_kind, same)) other =
+    absurd (other (ap (λ (b : Base). b.found.verdict) same))
+
+-- a base from which nothing is read isn't valid
+pub unread_other : (number : ℕ) (bytes : List ℕ) (finding : Finding) → IsUnread number bytes finding
+    → finding.verdict ≢ 0
+unread_other number bytes finding (inl x) =
+    let six : finding.verdict ≡ 6 = ap (λ (f : Finding). f.verdict) x.1 in λ valid. omega arith
+unread_other number bytes finding (inr (profile, is, x)) = (unread_verdict profile bytes finding x).1
+
 -- ---- what is judged
 
+-- a valid base is that of its kind
+pub valid_base : (number : ℕ) (bytes : List ℕ) (held : Base) → IsPreparedBase number bytes held
+    → held.found.verdict ≡ 0
+    → (kind : BaseKind) × IsBaseOfKind number bytes kind × (held ≡ held_base number kind)
+valid_base number bytes held (inl (unread, numbers)) valid =
+    absurd (unread_other number bytes held.found unread valid)
+valid_base number bytes held (inr x) valid = x
+
+-- the numbers of a valid base say a profile
+pub says_profile : (number : ℕ) (bytes : List ℕ) (held : Base) → IsPreparedBase number bytes held
+    → held.found.verdict ≡ 0 → profile_of held.profile ≢ None
+says_profile number bytes held is valid none =
+    let made = valid_base number bytes held is valid in
+    let given : profile_of number ≡ None = sym (ap (λ (b : Base). profile_of b.profile) made.2) ∙ none in
+    let some = made.1.profile_is in cc
+
+-- the numbers of a valid base say a kind
+pub says_kind : (number : ℕ) (bytes : List ℕ) (held : Base) → IsPreparedBase number bytes held
+    → held.found.verdict ≡ 0 → kind_in held ≢ None
+says_kind number bytes held is valid none =
+    let made = valid_base number bytes held is valid in
+    let said : kind_in held ≡ Some made.0 = ap kind_in made.2 ∙ kind_back number made.0 in cc
+
 -- the profile and the kind that the numbers say are those of the base
-pub read_base : (number : ℕ) (base bytes : List ℕ) (held : Base) (profile : Profile) (kind : BaseKind)
-    → IsPreparedBase number base held → held.found.verdict ≡ 0 → profile_of held.profile ≡ Some profile
-    → kind_in held ≡ Some kind → IsUtf8 bytes
+pub read_base : (number : ℕ) (bytes : List ℕ) (held : Base) (profile : Profile) (kind : BaseKind)
+    → IsPreparedBase number bytes held → held.found.verdict ≡ 0 → profile_of held.profile ≡ Some profile
+    → kind_in held ≡ Some kind
+    → (profile_of number ≡ Some profile) × IsBaseOfKind number bytes kind
+read_base number bytes held profile kind is valid by says =
+    let made = valid_base number bytes held is valid in
+    let kinds = same_Some made.0 kind (sym (ap kind_in made.2 ∙ kind_back number made.0) ∙ says) in (
+      sym (ap (λ (b : Base). profile_of b.profile) made.2) ∙ by,
+      subst (λ (k : BaseKind). IsBaseOfKind number bytes k) kinds made.1,
+    )
+
+-- what is asked against a base of the kind by the profile
+pub held_request : (number : ℕ) (base bytes : List ℕ) (profile : Profile) (kind : BaseKind)
+    → profile_of number ≡ Some profile → IsBaseOfKind number base kind → IsUtf8 bytes
     → (url : Url) × IsRequest number (Some base) bytes profile (Some url) × IsOfKind url kind
-read_base number base bytes held profile kind (inl (inl x, numbers)) valid by says utf8 =
-    let six : held.found.verdict ≡ 6 = ap (λ (f : Finding). f.verdict) x.1 in absurd (omega arith)
-read_base number base bytes held profile kind (inl (inr (other, is, x), numbers)) valid by says utf8 =
-    absurd ((unread_verdict other base held.found x).1 valid)
-read_base number base bytes held profile kind (inr (made, of_kind, same)) valid by says utf8 =
-    let given : profile_of number ≡ Some profile = sym (ap (λ (b : Base). profile_of b.profile) same) ∙ by in
-    let one = same_Some of_kind.profile profile (sym of_kind.profile_is ∙ given) in
-    let kinds = same_Some made kind (sym (ap kind_in same ∙ kind_back number made) ∙ says) in (
+held_request number base bytes profile kind by of_kind utf8 =
+    let one = same_Some of_kind.profile profile (sym of_kind.profile_is ∙ by) in (
       of_kind.url,
       record {
-        profile_is = given;
+        profile_is = by;
         utf8 = utf8;
         base_is = subst (λ (p : Profile). IsBase p (Some base) (Some of_kind.url)) one of_kind.base_is;
       },
-      subst (λ (k : BaseKind). IsOfKind of_kind.url k) kinds of_kind.kind_is,
+      of_kind.kind_is,
     )

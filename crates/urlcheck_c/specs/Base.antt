@@ -1,16 +1,14 @@
 -- A base that is judged once and held between calls.
 use Rattle.std.specs.Prelude.{◌≡◌, ℕ, ◌⊎◌, Bool, true, false, not, ◌==◌, List, Option, Some, None, Result, Ok, Err}
 use Rattle.std.specs.Prelude.{if◌then◌else◌, option_map}
-use Rattle.std.specs.Str.{chars}
 use Rattle.uv_model.specs.declared.profile.Profile.{Profile}
-use Rattle.uv_model.specs.Parts.{Parts}
 use Rattle.uv_model.specs.Records.Url.{Url}
-use Rattle.uv_model.specs.Valid.{Valid}
 use Rattle.uv_grammar.specs.declared.bases.BaseKind.{BaseKind}
 use Rattle.uv_grammar.specs.declared.bases.BaseScheme.{BaseScheme}
 use Rattle.uv_grammar.specs.declared.bases.BaseScheme.TheVariants.{Ftp, Http, Https, File, Other}
 use Rattle.uv_grammar.specs.Bases.{IsOfKind}
 use Rattle.urlcheck_c.specs.declared.bases.Base.{Base}
+use Rattle.urlcheck_c.specs.declared.bases.HeldBase.{HeldBase}
 use Rattle.urlcheck_c.specs.declared.bases.HeldRequest.{HeldRequest}
 use Rattle.urlcheck_c.specs.declared.finding.Finding.{Finding}
 use Rattle.urlcheck_c.specs.declared.finding.CallOutcome.TheVariants.{NoProfile, Valid as valid_outcome}
@@ -93,11 +91,16 @@ IsPreparedBase number bytes base =
     (IsUnread number bytes base.found × (base ≡ unread_base number base.found))
     ⊎ ((kind : BaseKind) × IsBaseOfKind number bytes kind × (base ≡ held_base number kind))
 
+-- how texts are judged against what the bytes denote, or nothing is read from them
+abbrev pub IsHeld : ℕ → List ℕ → Finding → Option HeldBase → Type 0
+IsHeld number bytes found (Some held) = (profile_of number ≡ Some held.profile) × IsBaseOfKind number bytes held.kind
+IsHeld number bytes found None = IsUnread number bytes found
+
 -- ---- what is judged against it
 
 -- what is to be judged against a base of these bytes, or why nothing is
 abbrev pub IsPreparedWith : ℕ → List ℕ → List ℕ → Result HeldRequest Finding → Type 0
 IsPreparedWith number base bytes (Ok request) =
     (request.text.now ≡ bytes)
-    × ((url : Url) × IsRequest number (Some base) bytes request.profile (Some url) × IsOfKind url request.base)
+    × ((url : Url) × IsRequest number (Some base) bytes request.base.profile (Some url) × IsOfKind url request.base.kind)
 IsPreparedWith number base bytes (Err finding) = IsUnjudged number (Some base) bytes finding

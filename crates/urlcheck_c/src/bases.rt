@@ -1,7 +1,8 @@
 //! A base that is judged once and held between calls.
-ghost use Rattle.std.specs.Prelude.{◌≡◌, ◌==◌, ℕ, List, not};
-ghost use Rattle.urlcheck_c.specs.Base.{IsKindRead, IsPreparedBase, IsPreparedWith, flag_number, held_base, kind_in};
-ghost use Rattle.urlcheck_c.specs.Base.{scheme_number, scheme_with, unread_base};
+ghost use Rattle.std.specs.Prelude.{◌≡◌, ◌≢◌, ◌==◌, ℕ, List, Some, not};
+ghost use Rattle.urlcheck_c.specs.Base.{IsHeld, IsKindRead, IsPreparedBase, IsPreparedWith, IsUnread, flag_number};
+ghost use Rattle.urlcheck_c.specs.Base.{held_base, kind_in, scheme_number, scheme_with, unread_base};
+ghost use Rattle.urlcheck_c.specs.Request.{IsUnjudged};
 
 use crate::finding::{CallOutcome, Finding};
 use crate::request::{base_of, profile_of, text_of};
@@ -75,6 +76,34 @@ impl Base {
         }
     }
 
+    /// How texts are judged against a valid base.
+    #[inline(always)]
+    pub(crate) fn read(&self) -> Option<HeldBase>
+        ensures { (number : ℕ) (bytes : List ℕ) → IsPreparedBase number bytes self.now
+            → IsHeld number bytes self.now.found result }
+    {
+        if self.found.verdict != CallOutcome::Valid.number() {
+            return None;
+        }
+        let Some(profile) = profile_of(self.profile) else {
+            return None;
+        };
+        match self.kind() {
+            Some(kind) => Some(HeldBase { kind, profile }),
+            None => None,
+        }
+    }
+
+    // What was found of a base that isn't valid.
+    fn fault(&self) -> Finding
+        ensures { self.now.found.verdict ≢ 0 → result ≡ self.now.found }
+    {
+        if self.found.verdict == CallOutcome::Valid.number() {
+            return Finding::plain(CallOutcome::NoBase);
+        }
+        self.found
+    }
+
     // The kind of a valid base.
     #[inline(always)]
     fn kind(&self) -> Option<BaseKind>
@@ -118,40 +147,60 @@ fn scheme_with(number: u32) -> Option<BaseScheme>
     }
 }
 
+/// How a text is judged against a base that is held.
+#[derive(Clone, Copy)]
+pub(crate) struct HeldBase {
+    /// The kind of the base.
+    pub(crate) kind: BaseKind,
+    /// The profile by which both are judged.
+    pub(crate) profile: Profile,
+}
+
 /// What is to be judged against a base that is held.
 #[derive(Drop)]
 pub(crate) struct HeldRequest<'t> {
     /// The text.
     pub(crate) text: &'t str,
-    /// The kind of the base.
-    pub(crate) base: BaseKind,
-    /// The profile by which both are judged.
-    pub(crate) profile: Profile,
+    /// The base.
+    pub(crate) base: HeldBase,
 }
 
-/// What is to be judged of the bytes of a text against a base that is held, or why nothing is. The order is that of a
-/// base that is judged with the text: a profile, the text, and then the base.
+/// What is to be judged of the bytes of a text against a base that is held, or why nothing is.
 #[inline(always)]
 pub(crate) fn prepared_with<'t>(text: &'t [u8], base: &Base) -> Result<HeldRequest<'t>, Finding>
     ensures { (number : ℕ) (bytes : List ℕ) → IsPreparedBase number bytes base.now
         → IsPreparedWith number bytes text.now result }
 {
+    match base.read() {
+        Some(held) => match text_of(text, CallOutcome::NoUtf8) {
+            Ok(text) => Ok(HeldRequest { text, base: held }),
+            Err(found) => Err(found),
+        },
+        None => Err(unread(text, base)),
+    }
+}
+
+/// Why nothing is judged against a base that isn't valid. It is inlined, so that room for what the next function gives
+/// back is made here alone.
+#[inline(always)]
+pub(crate) fn unread(text: &[u8], base: &Base) -> Finding
+    ensures { (number : ℕ) (bytes : List ℕ) → IsPreparedBase number bytes base.now
+        → IsUnread number bytes base.now.found → IsUnjudged number (Some bytes) text.now result }
+{
+    first_unread(text, base)
+}
+
+// The same. The order is that of a base that is judged with the text: a profile, the text, and then the base.
+#[inline(never)]
+fn first_unread(text: &[u8], base: &Base) -> Finding
+    ensures { (number : ℕ) (bytes : List ℕ) → IsPreparedBase number bytes base.now
+        → IsUnread number bytes base.now.found → IsUnjudged number (Some bytes) text.now result }
+{
     if base.found.verdict == CallOutcome::NoProfile.number() {
-        return Err(base.found);
+        return base.found;
     }
-    let text = text_of(text, CallOutcome::NoUtf8)?;
-    if base.found.verdict != CallOutcome::Valid.number() {
-        return Err(base.found);
-    }
-    let Some(profile) = profile_of(base.profile) else {
-        return Err(Finding::plain(CallOutcome::NoBase));
-    };
-    match base.kind() {
-        Some(kind) => Ok(HeldRequest {
-            text,
-            base: kind,
-            profile,
-        }),
-        None => Err(Finding::plain(CallOutcome::NoBase)),
+    match text_of(text, CallOutcome::NoUtf8) {
+        Ok(_) => base.fault(),
+        Err(found) => found,
     }
 }

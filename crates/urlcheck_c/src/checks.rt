@@ -10,9 +10,9 @@ ghost use Rattle.urlcheck_c.specs.Answer.{IsAnswer, IsJudged};
 ghost use Rattle.urlcheck_c.specs.Base.{IsPreparedBase};
 ghost use Rattle.urlcheck_c.specs.Span.{no_spans};
 
-use crate::bases::{Base, HeldRequest, prepared_with};
+use crate::bases::{Base, HeldBase, unread};
 use crate::finding::{CallOutcome, Finding};
-use crate::request::{LoneRequest, Request, prepared, prepared_alone};
+use crate::request::{LoneRequest, Request, prepared, prepared_alone, text_of};
 use crate::spans::{Spans, placed};
 use std::alloc::{AllocError, Global};
 use uv_grammar::{Verdict, check, check_alone, check_of_kind};
@@ -61,9 +61,12 @@ pub extern "C" fn urlcheck_check_with(alloc: Global, text: &[u8], base: &Base) -
     ensures { (number : ℕ) (bytes : List ℕ) → IsPreparedBase number bytes base.now
         → IsAnswer number (Some bytes) text.now result }
 {
-    match prepared_with(text, base) {
-        Ok(request) => judged_with(alloc, &request),
-        Err(found) => unjudged(found),
+    match base.read() {
+        Some(held) => match text_of(text, CallOutcome::NoUtf8) {
+            Ok(text) => judged_with(alloc, text, &held),
+            Err(found) => unjudged(found),
+        },
+        None => unjudged(unread(text, base)),
     }
 }
 
@@ -86,12 +89,11 @@ fn judged(alloc: Global, request: &Request<'_>) -> Answer
 
 // The answer on a text that is judged against a base that is held.
 #[inline(always)]
-fn judged_with(alloc: Global, request: &HeldRequest<'_>) -> Answer
-    ensures { (url : Url) → IsOfKind url request.now.base
-        → IsJudged request.now.profile (Some url) request.now.text.now result }
+fn judged_with(alloc: Global, text: &str, base: &HeldBase) -> Answer
+    ensures { (url : Url) → IsOfKind url base.now.kind → IsJudged base.now.profile (Some url) text.now result }
 {
-    let verdict = check_of_kind(alloc, request.text, request.base, request.profile);
-    answer_of(request.text, &verdict)
+    let verdict = check_of_kind(alloc, text, base.kind, base.profile);
+    answer_of(text, &verdict)
 }
 
 // The answer by the verdict on a text: with the parts of a valid one, or with what the checker says in their place. The

@@ -118,11 +118,11 @@ fn judged(alloc: Global, request: &Request<'_>, out: &mut [Fault]) -> FaultCount
 
 // The faults of a text that is judged against a base that is held.
 fn judged_with(alloc: Global, request: &HeldRequest<'_>, out: &mut [Fault]) -> FaultCount
-    ensures { (url : Url) → IsOfKind url request.now.base
-        → IsFaultsJudged request.now.profile (Some url) request.now.text.now out.old out.new result }
+    ensures { (url : Url) → IsOfKind url request.now.base.kind
+        → IsFaultsJudged request.now.base.profile (Some url) request.now.text.now out.old out.new result }
 {
     let text = request.text;
-    match faults_of_kind(alloc, text, request.base, request.profile) {
+    match faults_of_kind(alloc, text, request.base.kind, request.base.profile) {
         Ok(all) => {
             store(text, all.as_slice(), out);
             FaultCount {

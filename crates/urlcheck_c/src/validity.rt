@@ -47,10 +47,10 @@ fn is_known_valid(alloc: Global, request: &Request<'_>) -> bool
 
 // The same against a base that is held.
 fn is_known_valid_with(alloc: Global, request: &HeldRequest<'_>) -> bool
-    ensures { (url : Url) → IsOfKind url request.now.base
-        → IsKnownValid request.now.profile (Some url) request.now.text.now result }
+    ensures { (url : Url) → IsOfKind url request.now.base.kind
+        → IsKnownValid request.now.base.profile (Some url) request.now.text.now result }
 {
-    match is_valid_of_kind(alloc, request.text, request.base, request.profile) {
+    match is_valid_of_kind(alloc, request.text, request.base.kind, request.base.profile) {
         Ok(answer) => answer,
         Err(AllocError) => false,
     }

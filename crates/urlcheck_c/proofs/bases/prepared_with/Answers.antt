@@ -1,13 +1,19 @@
--- The numbers of a base that is held say its profile and its kind.
-use Rattle.std.proofs.Common.{◌≡◌, arith, sym, ◌∙◌}
-use Rattle.urlcheck_c.proofs.BaseLemmas.{read_base}
+-- What is asked against a base of the kind, or why nothing is.
+use Rattle.std.proofs.Common.{inl, inr}
+use Rattle.urlcheck_c.proofs.BaseLemmas.{held_request}
 use Rattle.urlcheck_c.proofs.bases.prepared_with.Goals as goal
 
-pub returns-in-Some-kind : goal.returns-in-Some-kind
-returns-in-Some-kind c = λ number bytes is.
-    let held = c.args.base.now in
-    let valid : held.found.verdict ≡ 0 = omega (arith, c.number-2.ensures) in (
-      c.in_ok-text.ensures.0,
-      read_base number bytes c.args.text.now held c.in-Some.profile c.in-Some-kind.kind is valid
-          (sym c.profile_of.ensures ∙ c.in-Some.is) (sym c.kind.ensures ∙ c.in-Some-kind.is) c.in_ok-text.ensures.1,
+pub returns-in-Ok : goal.returns-in-Ok
+returns-in-Ok c = λ number bytes is.
+    let read = c.in-Some.ensures number bytes is in (
+      c.in-Ok.ensures.0,
+      held_request number bytes c.args.text.now c.in-Some.held.profile c.in-Some.held.kind read.0 read.1
+          c.in-Ok.ensures.1,
     )
+
+pub returns-in-Err : goal.returns-in-Err
+returns-in-Err c = λ number bytes is.
+    inr (c.in-Some.held.profile, (c.in-Some.ensures number bytes is).0, inl c.in-Err.ensures)
+
+pub returns-in-None : goal.returns-in-None
+returns-in-None c = λ number bytes is. c.unread.ensures number bytes is (c.in-None.ensures number bytes is)

@@ -3,17 +3,20 @@ use Rattle.std.proofs.Common.{ℕ, List, Some, inl, inr, sym, subst}
 use Rattle.urlcheck_c.specs.declared.finding.Finding.{Finding}
 use Rattle.urlcheck_c.specs.Answer.{IsJudged}
 use Rattle.urlcheck_c.specs.Request.{IsUnjudged}
+use Rattle.urlcheck_c.proofs.BaseLemmas.{held_request}
 use Rattle.urlcheck_c.proofs.checks.urlcheck_check_with.Goals as goal
 
 pub returns-in-Ok : goal.returns-in-Ok
 returns-in-Ok c = λ number bytes is.
-    let read = c.in-Ok.ensures number bytes is in
+    let held = c.in-Some.held in
+    let read = c.in-Some.ensures number bytes is in
+    let asked = held_request number bytes c.args.text.now held.profile held.kind read.0 read.1 c.in-Ok.ensures.1 in
     inr (
-      c.in-Ok.request.profile,
-      Some read.1.0,
-      read.1.1,
-      subst (λ (text : List ℕ). IsJudged c.in-Ok.request.profile (Some read.1.0) text c.judged_with.result) read.0
-          (c.judged_with.ensures read.1.0 read.1.2),
+      held.profile,
+      Some asked.0,
+      asked.1,
+      subst (λ (text : List ℕ). IsJudged held.profile (Some asked.0) text c.judged_with.result) c.in-Ok.ensures.0
+          (c.judged_with.ensures asked.0 asked.2),
     )
 
 pub returns-in-Err : goal.returns-in-Err
@@ -21,5 +24,15 @@ returns-in-Err c = λ number bytes is.
     inl (
       c.unjudged.ensures.parts,
       subst (λ (finding : Finding). IsUnjudged number (Some bytes) c.args.text.now finding)
-          (sym c.unjudged.ensures.found) (c.in-Err.ensures number bytes is),
+          (sym c.unjudged.ensures.found)
+          (inr (c.in-Some.held.profile, (c.in-Some.ensures number bytes is).0, inl c.in-Err.ensures)),
+    )
+
+pub returns-in-None : goal.returns-in-None
+returns-in-None c = λ number bytes is.
+    inl (
+      c.unjudged-in-None.ensures.parts,
+      subst (λ (finding : Finding). IsUnjudged number (Some bytes) c.args.text.now finding)
+          (sym c.unjudged-in-None.ensures.found)
+          (c.unread.ensures number bytes is (c.in-None.ensures number bytes is)),
     )

@@ -7,12 +7,12 @@ pub returns-in-Ok : goal.returns-in-Ok
 returns-in-Ok c = λ number bytes is.
     let read = c.in-Ok.ensures number bytes is in
     inr (
-      c.in-Ok.request.profile,
+      c.in-Ok.request.base.profile,
       Some read.1.0,
       read.1.1,
       subst
           (λ (text : List ℕ).
-          IsFaultsJudged c.in-Ok.request.profile (Some read.1.0) text c.args.out.now c.judged_with.new.out
+          IsFaultsJudged c.in-Ok.request.base.profile (Some read.1.0) text c.args.out.now c.judged_with.new.out
           c.judged_with.result)
           read.0 (c.judged_with.ensures read.1.0 read.1.2),
     )
