@@ -433,8 +433,10 @@ own_scheme bytes name own ascii e =
     subst IsOwnScheme (sym (ascii_chars bytes name (IsAscii-from_test name ascii) e)) own
 
 -- `https` and `http` are schemes that stand as they are written
-pub https : (bytes : List ℕ) → bytes ≡ codes "https" → IsOwnScheme (chars bytes)
-https bytes e = own_scheme bytes (codes "https") https_is_own refl e
+pub https : (bytes : List ℕ) → bytes_eq bytes (codes "https") ≡ true → IsOwnScheme (chars bytes)
+https bytes same =
+    own_scheme bytes (codes "https") https_is_own refl ((bytes_eq-Decides bytes (codes "https")).0 same)
 
-pub http : (bytes : List ℕ) → bytes ≡ codes "http" → IsOwnScheme (chars bytes)
-http bytes e = own_scheme bytes (codes "http") http_is_own refl e
+pub http : (bytes : List ℕ) → bytes_eq bytes (codes "http") ≡ true → IsOwnScheme (chars bytes)
+http bytes same =
+    own_scheme bytes (codes "http") http_is_own refl ((bytes_eq-Decides bytes (codes "http")).0 same)

@@ -65,13 +65,7 @@ fn has_own_scheme(scheme: Option<&str>) -> bool
 fn is_own_scheme(scheme: &str) -> bool
     ensures { IsTrue result → IsOwnScheme (chars scheme.now) }
 {
-    is_text(scheme, "https") || is_text(scheme, "http")
-}
-
-fn is_text(text: &str, other: &str) -> bool
-    ensures { IsTrue result → text.now ≡ other.now }
-{
-    text == other
+    scheme == "https" || scheme == "http"
 }
 
 /// Whether the host is a domain that is its own form.
@@ -90,7 +84,7 @@ fn is_form(form: &str, text: Option<&str>) -> bool
     ensures { IsTrue result → chars_of_option text.entry ≡ Some form.now }
 {
     match text {
-        Some(text) => is_text(text, form),
+        Some(text) => text == form,
         None => false,
     }
 }
