@@ -5,6 +5,7 @@ ghost use Rattle.std.specs.Prelude.{None};
 mod memory;
 mod streams;
 
+use crate::answered::is_answer;
 use crate::rows::holds;
 use std::alloc::Global;
 use std::process::Abort;
@@ -421,7 +422,7 @@ fn refuses_a_base(rt: HostRuntime) -> Result<(), Fail> {
     ] {
         let (end, lines) = written(rt.alloc(), text, Some(base))?;
         let refused = CheckEnd::BaseRefused(Refusal { place, rule });
-        holds(&rt, end == refused && lines.is_empty(), base);
+        holds(&rt, is_answer(end, lines.as_slice(), refused, ""), base);
     }
     Ok(())
 }
