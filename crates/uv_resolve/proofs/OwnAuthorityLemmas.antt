@@ -19,8 +19,8 @@ use Rattle.uv_model.specs.Valid.{FitsAuthority, FitsHostText, IsSpecialAuthority
 use Rattle.uv_model.proofs.Paths.SlashedPaths.{slashed_or_none}
 use Rattle.uv_resolve.specs.OwnAuthority.{HasOwnAuthority}
 use Rattle.uv_resolve.specs.OwnText.{EndsInHost, IsOwnPath, has_no_dots, is_never_encoded}
-use Rattle.uv_resolve.proofs.KeptPathLemmas.{slashed_text}
-use Rattle.uv_resolve.proofs.OwnTextLemmas.{authority_path-kept, both, fragment-kept, kept-segments}
+use Rattle.uv_resolve.proofs.KeptPathLemmas.{kept-segments, slashed_text}
+use Rattle.uv_resolve.proofs.OwnTextLemmas.{authority_path-kept, both, fragment-kept}
 use Rattle.uv_resolve.proofs.OwnTextLemmas.{never_encoded-ascii, no_segments, serial-spelled}
 use Rattle.uv_resolve.proofs.OwnTextLemmas.{some_segments, spelled, valid_bytes}
 use Rattle.uv_resolve.proofs.PlainReferenceLemmas.{by_form, ending, no_scheme, query-own}

@@ -1,16 +1,15 @@
 -- A text that is the text of the URL that it denotes.
-use Rattle.std.proofs.Common.{◌≡◌, ◌≢◌, ℕ, Bool, true, false, not, ◌==◌, ◌<◌, ◌≤◌, List, [], ◌∷◌, ◌++◌, Option, Some}
+use Rattle.std.proofs.Common.{◌≡◌, ◌≢◌, ℕ, Bool, true, false, not, ◌==◌, ◌<◌, List, [], ◌∷◌, ◌++◌, Option, Some}
 use Rattle.std.proofs.Common.{None, codes, refl, sym, ap, ◌∙◌, subst, inl, inr, append_assoc, arith}
-use Rattle.std.proofs.Common.{length, slice_index, slice_index_or, suc, ◌+◌, ◌&&◌, drop, drop-cons}
+use Rattle.std.proofs.Common.{length, slice_index, suc}
 use Rattle.std.specs.Prelude.{option_map}
 use Rattle.std.specs.List.{list_all}
-use Rattle.std.specs.Char.{is_ascii, to_ascii_lowercase}
+use Rattle.std.specs.Char.{is_ascii}
 use Rattle.std.specs.Str.{IsAscii, IsUtf8, bytes_eq, chars}
 use Rattle.std.proofs.lemmas.Str.{chars-IsAscii, encodes-chars, encodes-IsAscii}
 use Rattle.std.proofs.lemmas.Slice.Eq.{bytes_eq-Decides}
-use Rattle.std.proofs.Math.ListN.{drop_of_length-le}
 use Rattle.std.proofs.lemmas.Bool.Decides.{nat_tests}
-use Rattle.std.proofs.lemmas.Bool.{and_parts, and_from, false_from_ne_true, false≢true, not-true}
+use Rattle.std.proofs.lemmas.Bool.{and_parts, and_from}
 use Rattle.std.proofs.lemmas.List.Folds.{list_all-append}
 use Rattle.uv_model.specs.declared.profile.Profile.{Profile}
 use Rattle.uv_model.specs.declared.scheme.Class.{Class}
@@ -20,22 +19,22 @@ use Rattle.uv_model.specs.declared.path.UrlPath.TheVariants.{Segments}
 use Rattle.uv_model.specs.Ascii.{apostrophe, slash, colon, question_mark, number_sign}
 use Rattle.uv_model.specs.Encoding.{encoded}
 use Rattle.uv_model.specs.Parts.{SchemeAuthority, Parts, written, written_scheme, written_authority, written_behind}
-use Rattle.uv_model.specs.Path.{MayBePathSlashed, is_double_dot, is_single_dot, walk}
+use Rattle.uv_model.specs.Path.{MayBePathSlashed, walk}
 use Rattle.uv_model.specs.Records.Denote.{authority_path, denote, denoted_scheme, denoted_port, denoted_path}
 use Rattle.uv_model.specs.Records.Denote.{denoted_query}
 use Rattle.uv_model.specs.Records.Serialize.{serial, serial_host, serial_segments}
 use Rattle.uv_model.specs.Records.Url.{Url}
-use Rattle.uv_model.specs.Scheme.{default_port, lowercase, scheme_class}
+use Rattle.uv_model.specs.Scheme.{default_port, scheme_class}
 use Rattle.uv_model.specs.Setting.{scheme_or}
 use Rattle.uv_model.specs.Valid.{Valid}
 use Rattle.uv_model.proofs.Texts.AsciiLemmas.{IsAscii-from_test}
 use Rattle.uv_model.proofs.Texts.EncodingLemmas.{is_kept, encoded_code_point-kept}
 use Rattle.uv_grammar.proofs.HostLemmas.{some_chars}
 use Rattle.uv_resolve.proofs.KeptPathLemmas.{authority_path-encoded, encoded_each, slashed_text, special_path}
-use Rattle.uv_resolve.proofs.KeptPathLemmas.{walk-encoded}
+use Rattle.uv_resolve.proofs.KeptPathLemmas.{kept-segments, walk-encoded}
 use Rattle.uv_resolve.proofs.RecordLemmas.{fields, denote-fields}
 use Rattle.uv_resolve.specs.OwnText.{HasOwnPrefix, HasOwnScheme, IsOwnPath, IsOwnRoot, IsOwnScheme, IsOwnText}
-use Rattle.uv_resolve.specs.OwnText.{has_no_dots, is_dot_mark, is_kept_segment, is_never_encoded}
+use Rattle.uv_resolve.specs.OwnText.{has_no_dots, is_kept_segment, is_never_encoded}
 
 -- ---- texts that no part encodes
 
@@ -104,95 +103,6 @@ pub authority_path-kept : (segments : List (List ℕ)) → segments ≢ [] → l
     → list_all is_never_encoded (serial_segments segments) ≡ true → authority_path Special segments ≡ segments
 authority_path-kept segments some no_dots bytes =
     authority_path-encoded segments some no_dots ∙ segments-kept segments bytes
-
--- a code point that is neither `.` nor `%` is neither in lower case
-lower_mark : (c : ℕ) → is_dot_mark c ≡ false → is_dot_mark (to_ascii_lowercase c) ≡ false
-lower_mark c h = grind (h, arith, nat_tests)
-
--- a text that begins with another code point isn't a dot segment's word
-other_word : (c m : ℕ) (rest word : List ℕ) → is_dot_mark c ≡ false → is_dot_mark m ≡ true
-    → bytes_eq (c ∷ rest) (m ∷ word) ≡ false
-other_word c m rest word other mark =
-    false_from_ne_true (bytes_eq (c ∷ rest) (m ∷ word))
-    (λ same. let lists : c ∷ rest ≡ m ∷ word = (bytes_eq-Decides (c ∷ rest) (m ∷ word)).0 same in
-    let head : c ≡ m = cc in
-    false≢true (sym other ∙ ap is_dot_mark head ∙ mark))
-
--- a segment that begins with another code point is kept
-kept_segment : (c : ℕ) (rest : List ℕ) → is_dot_mark c ≡ false → is_kept_segment (c ∷ rest) ≡ true
-unfolding is_double_dot is_single_dot
-kept_segment c rest other =
-    let lower = lower_mark c other in
-    let low = lowercase rest in
-    let x = to_ascii_lowercase c in
-    rw (
-      other_word x 46 low (codes ".") lower refl,
-      other_word x 46 low (codes "%2e") lower refl,
-      other_word x 37 low (codes "2e.") lower refl,
-      other_word x 37 low (codes "2e%2e") lower refl,
-      other_word x 46 low [] lower refl,
-      other_word x 37 low (codes "2e") lower refl,
-    ) refl
-
--- a text without dots at its start either is one without dots
-no_dots-weaker : (text : List ℕ) → has_no_dots true text ≡ true → has_no_dots false text ≡ true
-no_dots-weaker [] h = refl
-no_dots-weaker (c ∷ rest) h = (and_parts (not (is_dot_mark c)) (has_no_dots (c == slash) rest) h).1
-
--- and so is what stands behind a prefix
-no_dots-behind : (begins : Bool) (prefix rest : List ℕ) → has_no_dots begins (prefix ++ rest) ≡ true
-    → has_no_dots false rest ≡ true
-no_dots-behind false [] rest h = h
-no_dots-behind true [] rest h = no_dots-weaker rest h
-no_dots-behind begins (c ∷ prefix) rest h =
-    no_dots-behind (c == slash) prefix rest
-    (and_parts (not (begins && is_dot_mark c)) (has_no_dots (c == slash) (prefix ++ rest)) h).1
-
--- such a text is known by its next byte and what follows it
-no_dots-first : (begins : Bool) (text : List ℕ) (k : ℕ) → k < length text
-    → has_no_dots begins (drop k text) ≡ (not (begins && is_dot_mark (slice_index_or text k 0))
-    && has_no_dots (slice_index_or text k 0 == slash) (drop (k + 1) text))
-no_dots-first begins text k below =
-    let next : suc k ≡ k + 1 = omega arith in
-    ap (has_no_dots begins) (drop-cons text k 0 below)
-    ∙ ap (λ n. not (begins && is_dot_mark (slice_index_or text k 0))
-    && has_no_dots (slice_index_or text k 0 == slash) (drop n text)) next
-
--- the next byte doesn't begin a dot segment
-pub no_dots-step : (begins : Bool) (text : List ℕ) (k : ℕ) → k < length text
-    → (begins && is_dot_mark (slice_index_or text k 0)) ≡ false
-    → has_no_dots begins (drop k text) ≡ has_no_dots (slice_index_or text k 0 == slash) (drop (k + 1) text)
-no_dots-step begins text k below none =
-    no_dots-first begins text k below
-    ∙ ap (λ b. not b && has_no_dots (slice_index_or text k 0 == slash) (drop (k + 1) text)) none
-
--- the next byte may begin one
-pub no_dots-found : (begins : Bool) (text : List ℕ) (k : ℕ) → k < length text
-    → (begins && is_dot_mark (slice_index_or text k 0)) ≡ true → has_no_dots begins (drop k text) ≡ false
-no_dots-found begins text k below found =
-    no_dots-first begins text k below
-    ∙ ap (λ b. not b && has_no_dots (slice_index_or text k 0 == slash) (drop (k + 1) text)) found
-
--- no byte is left
-pub no_dots-end : (begins : Bool) (text : List ℕ) (k : ℕ) → length text ≤ k
-    → has_no_dots begins (drop k text) ≡ true
-no_dots-end begins text k none = ap (has_no_dots begins) (drop_of_length-le text none)
-
--- a segment in such a text is kept
-kept-first : (segment rest : List ℕ) → has_no_dots true (segment ++ rest) ≡ true → is_kept_segment segment ≡ true
-unfolding is_double_dot is_single_dot
-kept-first [] rest h = refl
-kept-first (c ∷ segment) rest h =
-    kept_segment c segment
-    (not-true _ (and_parts (not (is_dot_mark c)) (has_no_dots (c == slash) (segment ++ rest)) h).0)
-
--- and so are all
-pub kept-segments : (segments : List (List ℕ)) → has_no_dots false (serial_segments segments) ≡ true
-    → list_all is_kept_segment segments ≡ true
-kept-segments [] h = refl
-kept-segments (segment ∷ rest) h =
-    and_from _ _ (kept-first segment (serial_segments rest) h)
-    (kept-segments rest (no_dots-behind true segment (serial_segments rest) h))
 
 -- a path text that isn't empty has segments
 pub some_segments : (segments : List (List ℕ)) (text : List ℕ) → text ≢ [] → MayBePathSlashed segments text → segments ≢ []

@@ -13,7 +13,8 @@ use Rattle.uv_parser.proofs.RoundTrip.SerializedTexts.{serial_segments-joined}
 use Rattle.uv_grammar.specs.Built.{pieces}
 use Rattle.uv_resolve.specs.OwnText.{has_no_dots, is_never_encoded}
 use Rattle.uv_resolve.specs.PlainReference.{GoesOn, behind_dot, dot_segment}
-use Rattle.uv_resolve.proofs.OwnTextLemmas.{kept-segments, walk-kept}
+use Rattle.uv_resolve.proofs.KeptPathLemmas.{kept-segments}
+use Rattle.uv_resolve.proofs.OwnTextLemmas.{walk-kept}
 
 -- ---- segments
 

@@ -1,6 +1,6 @@
 -- The next byte is the first of those that are left.
 use Rattle.std.proofs.Common.{sym, ◌∙◌}
-use Rattle.uv_resolve.proofs.OwnTextLemmas.{no_dots-end, no_dots-found, no_dots-step}
+use Rattle.uv_resolve.proofs.KeptPathLemmas.{no_dots-end, no_dots-found, no_dots-step}
 use Rattle.uv_resolve.proofs.own_text.is_without_dots.Goals as goal
 
 pub returns-then-may_be_dots : goal.returns-then-may_be_dots
