@@ -4,7 +4,7 @@ ghost use Rattle.std.specs.Prelude.{◌≡◌, ◌<◌, ◌++◌, IfOk, IfSome, 
 ghost use Rattle.std.specs.List.{list_all};
 ghost use Rattle.uv_model.specs.Encoding.{encoded};
 ghost use Rattle.uv_model.specs.Parts.{written_behind};
-ghost use Rattle.uv_model.specs.Records.Serialize.{serial_host, serial_ipv4};
+ghost use Rattle.uv_model.specs.Records.Serialize.{serial_host, serial_ipv4, serial_port};
 ghost use Rattle.uv_grammar.specs.PartsHost.{referred};
 ghost use Rattle.uv_grammar.specs.Slices.{chars_of_option};
 ghost use Rattle.uv_resolve.specs.AbsoluteText as spec;
@@ -12,7 +12,6 @@ ghost use Rattle.uv_resolve.specs.AbsoluteText.{AreSomeParts, HasLowerScheme, Is
 ghost use Rattle.uv_resolve.specs.OwnText.{is_kept_segment};
 
 use crate::own_text::is_never_encoded;
-use crate::plain_reference::push_port;
 use itoa::Buffer;
 use percent_encoding::{AsciiSet, ascii_set, utf8_percent_encode};
 use std::alloc::{AllocError, Global};
@@ -97,7 +96,7 @@ fn is_kept(segment: &str) -> bool
     !is_double_dot(segment) && !is_single_dot(segment)
 }
 
-// The text of the URL, in one allocation but for those of a port's digits and of an IPv6 address.
+// The text of the URL, in one allocation but for that of an IPv6 address.
 fn write(
     alloc: Global,
     scheme: &str,
@@ -111,7 +110,7 @@ fn write(
     written.push_str(scheme)?;
     written.push_str("://")?;
     push_host(alloc, &mut written, host)?;
-    push_port(alloc, &mut written, parts.port())?;
+    push_port(&mut written, parts.port())?;
     push_encoded(&mut written, path_or_slash(parts.path_text()), false)?;
     push_encoded_behind(&mut written, '?', parts.query(), true)?;
     push_encoded_behind(&mut written, '#', parts.fragment(), false)?;
@@ -170,6 +169,17 @@ fn push_ipv4(out: &mut String, value: u32) -> Result<(), AllocError>
     push_number(out, value / 256 % 256)?;
     out.push_str(".")?;
     push_number(out, value % 256)
+}
+
+/// The port behind a `:`, where there is one.
+pub(crate) fn push_port(out: &mut String, port: Option<u16>) -> Result<(), AllocError>
+    ensures { OnOk result (string_bytes out.new ≡ string_bytes out.old ++ serial_port port) }
+{
+    let Some(port) = port else {
+        return Ok(());
+    };
+    out.push(':')?;
+    push_number(out, u32::from(port))
 }
 
 // A number in decimal.

@@ -6,13 +6,14 @@ ghost use Rattle.uv_model.specs.declared.host.Host.TheVariants.{Domain};
 ghost use Rattle.uv_model.specs.declared.path.UrlPath.TheVariants.{Segments};
 ghost use Rattle.uv_model.specs.Parts.{written_behind};
 ghost use Rattle.uv_model.specs.Path.{without_last};
-ghost use Rattle.uv_model.specs.Records.Serialize.{serial_port, serial_segments};
+ghost use Rattle.uv_model.specs.Records.Serialize.{serial_segments};
 ghost use Rattle.uv_grammar.specs.Form.{seen_form};
 ghost use Rattle.uv_resolve.specs.PlainReference as spec;
 ghost use Rattle.uv_resolve.specs.PlainReference.{GoesOn, GoesOnBehind, IsPlainBase, IsPlainPath, IsPlainReference};
 ghost use Rattle.uv_resolve.specs.PlainReference.{IsSerialWhere, dot_segment};
 ghost use Rattle.uv_resolve.specs.Serialized.{ArePartsOf};
 
+use crate::absolute_text::push_port;
 use crate::own_authority::{is_special, own_authority};
 use crate::own_text::{is_never_encoded, is_without_dots};
 use std::alloc::{AllocError, Global};
@@ -165,7 +166,7 @@ fn but_last<'b>(segments: &'b [Text]) -> &'b [Text]
     &segments[..segments.len().saturating_sub(1)]
 }
 
-// The text of the URL, in one allocation but for that of a port's digits.
+// The text of the URL, in one allocation.
 fn write(
     alloc: Global,
     text: &str,
@@ -179,7 +180,7 @@ fn write(
 {
     let room = room_for(text, parts, base, domain, kept);
     let mut written = String::with_capacity(alloc, room)?;
-    push_origin(alloc, &mut written, base, domain)?;
+    push_origin(&mut written, base, domain)?;
     push_segments(&mut written, kept)?;
     push_between(&mut written, parts, base)?;
     written.push_str(text)?;
@@ -211,32 +212,13 @@ fn query_room(parts: &Parts<'_>, base: &Record) -> usize {
 }
 
 // The scheme, the domain and the port of the base.
-fn push_origin(
-    alloc: Global,
-    out: &mut String,
-    base: &Record,
-    domain: &str,
-) -> Result<(), AllocError>
+fn push_origin(out: &mut String, base: &Record, domain: &str) -> Result<(), AllocError>
     ensures { OnOk result (string_bytes out.new ≡ string_bytes out.old ++ spec.origin base.now domain.now) }
 {
     out.push_str(base.scheme())?;
     out.push_str("://")?;
     out.push_str(domain)?;
-    push_port(alloc, out, base.port())
-}
-
-/// The port behind a `:`, where there is one.
-pub(crate) fn push_port(
-    alloc: Global,
-    out: &mut String,
-    port: Option<u16>,
-) -> Result<(), AllocError>
-    ensures { OnOk result (string_bytes out.new ≡ string_bytes out.old ++ serial_port port) }
-{
-    match port {
-        Some(port) => push_behind(out, ':', Some(port.to_string(alloc)?.as_str())),
-        None => Ok(()),
-    }
+    push_port(out, base.port())
 }
 
 // Each segment behind a `/`.
