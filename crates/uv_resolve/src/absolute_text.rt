@@ -13,16 +13,10 @@ ghost use Rattle.uv_resolve.specs.OwnText.{is_kept_segment};
 
 use crate::own_text::is_never_encoded;
 use itoa::Buffer;
-use percent_encoding::{AsciiSet, ascii_set, utf8_percent_encode};
 use std::alloc::{AllocError, Global};
 use uv_grammar::{Form, HostRef, Parts, Segments};
 use uv_model::{is_double_dot, is_name, is_single_dot};
-
-// The code points beyond ASCII alone, which every percent-encode set holds.
-const BEYOND_ASCII: AsciiSet = ascii_set!(AsciiSet::EMPTY);
-
-// The same and `'`, which the special-query percent-encode set changes in a text of units.
-const SPECIAL_QUERY: AsciiSet = ascii_set!(AsciiSet::EMPTY.add(b'\''));
+use uv_text::push_encoded;
 
 /// The text of the URL that a valid text with these parts denotes against any base, where it begins with a special
 /// scheme but `file` and an authority, and has no dot segment. None says nothing, and the error is out of memory.
@@ -96,7 +90,7 @@ fn is_kept(segment: &str) -> bool
     !is_double_dot(segment) && !is_single_dot(segment)
 }
 
-// The text of the URL, in one allocation but for that of an IPv6 address.
+// The text of the URL, in one allocation but where an IPv6 address or many a `'` asks for more.
 fn write(
     alloc: Global,
     scheme: &str,
@@ -111,9 +105,9 @@ fn write(
     written.push_str("://")?;
     push_host(alloc, &mut written, host)?;
     push_port(&mut written, parts.port())?;
-    push_encoded(&mut written, path_or_slash(parts.path_text()), false)?;
-    push_encoded_behind(&mut written, '?', parts.query(), true)?;
-    push_encoded_behind(&mut written, '#', parts.fragment(), false)?;
+    push_part(&mut written, path_or_slash(parts.path_text()), false)?;
+    push_part_behind(&mut written, '?', parts.query(), true)?;
+    push_part_behind(&mut written, '#', parts.fragment(), false)?;
     Ok(written)
 }
 
@@ -198,7 +192,7 @@ fn path_or_slash<'t>(path: &'t str) -> &'t str
 }
 
 // An ASCII mark and the encoded text behind it, where there is one.
-fn push_encoded_behind(
+fn push_part_behind(
     out: &mut String,
     mark: char,
     text: Option<&str>,
@@ -212,16 +206,15 @@ fn push_encoded_behind(
         return Ok(());
     };
     out.push(mark)?;
-    push_encoded(out, text, quote)
+    push_part(out, text, quote)
 }
 
-// The text with what percent-encoding changes in it as escapes; most texts stay as they are.
-fn push_encoded(out: &mut String, text: &str, quote: bool) -> Result<(), AllocError>
+// The text percent-encoded, which leaves most texts as they are.
+fn push_part(out: &mut String, text: &str, quote: bool) -> Result<(), AllocError>
     ensures { OnOk result (string_bytes out.new ≡ string_bytes out.old ++ encoded quote (chars text.now)) }
 {
     if is_never_encoded(text) {
         return out.push_str(text);
     }
-    let set = if quote { SPECIAL_QUERY } else { BEYOND_ASCII };
-    utf8_percent_encode(text, set).append_to(out)
+    push_encoded(out, text, quote)
 }

@@ -1,14 +1,15 @@
 -- The percent-encoding of the bytes of a text is the text encoded code point by code point.
 use Rattle.std.proofs.Common.{◌≡◌, ℕ, ◌<◌, ◌≤◌, Bool, true, false, ◌&&◌, ◌==◌, List, [], ◌∷◌, ◌++◌, flat_map, codes}
-use Rattle.std.proofs.Common.{chars, encode_utf8_all, refl, ap, ◌∙◌, inl, inr, arith, lt-ltb, le-ltb, ne_eqb}
+use Rattle.std.proofs.Common.{chars, encode_utf8_all, refl, ap, ◌∙◌, subst, inl, inr, arith, lt-ltb, le-ltb, ne_eqb}
 use Rattle.std.specs.Prelude.{if◌then◌else◌, IsUtf8}
 use Rattle.std.specs.Char.{encode_utf8}
+use Rattle.std.specs.Str.{IsAscii}
 use Rattle.std.proofs.lemmas.Bool.{agree_below_at, cases_lt, cases_eq}
 use Rattle.std.proofs.lemmas.Str.{encode_ascii, chars-encodes}
 use Rattle.percent_encoding.specs.declared.ascii_set.AsciiSet.{AsciiSet}
 use Rattle.percent_encoding.specs.AsciiSet.{contains, should_percent_encode}
 use Rattle.percent_encoding.specs.Percent.{percent_encode_byte, encode_byte, percent_encode}
-use Rattle.percent_encoding.proofs.PercentLemmas.{percent_encode-nil, percent_encode-append}
+use Rattle.percent_encoding.proofs.PercentLemmas.{IsAscii-percent_encode, percent_encode-nil, percent_encode-append}
 use Rattle.uv_model.specs.Ascii.{apostrophe}
 use Rattle.uv_model.specs.Encoding.{encoded_code_point, encoded}
 use Rattle.uv_model.proofs.Texts.AsciiLemmas.{AreBeyond, AreBeyond-encode}
@@ -93,3 +94,8 @@ pub percent_encode-chars : (quote : Bool) (bytes : List ℕ) → IsUtf8 bytes
     → percent_encode (set_of quote) bytes ≡ encoded quote (chars bytes)
 percent_encode-chars quote bytes (text, (scalars, spelled)) =
     rw (← spelled, chars-encodes text scalars) (percent_encode-encodes quote text)
+
+-- an encoded text is ASCII
+pub IsAscii-encoded : (quote : Bool) (text : List ℕ) → IsUtf8 text → IsAscii (encoded quote (chars text))
+IsAscii-encoded quote text utf8 =
+    subst IsAscii (percent_encode-chars quote text utf8) (IsAscii-percent_encode (set_of quote) text)

@@ -1,5 +1,5 @@
 //! Percent-encoding of texts of URL units.
-ghost use Rattle.std.specs.Prelude.{◌≡◌, IfOk, string_bytes};
+ghost use Rattle.std.specs.Prelude.{◌≡◌, ◌++◌, IfOk, OnOk, string_bytes};
 ghost use Rattle.std.specs.Str.{IsAscii, chars};
 ghost use Rattle.uv_model.specs.Encoding.{encoded};
 
@@ -18,8 +18,15 @@ pub fn encode(alloc: Global, text: &str, quote: bool) -> Result<String, AllocErr
     ensures text { IfOk result (λ out. string_bytes out ≡ encoded quote (chars text.now)) }
     ensures ascii { IfOk result (λ out. IsAscii (string_bytes out)) }
 {
-    let set = if quote { SPECIAL_QUERY } else { BEYOND_ASCII };
     let mut out = String::new(alloc);
-    utf8_percent_encode(text, set).append_to(&mut out)?;
+    push_encoded(&mut out, text, quote)?;
     Ok(out)
+}
+
+/// The same, written behind what stands in a string. An error is out of memory, and some of the text may stand there.
+pub fn push_encoded(out: &mut String, text: &str, quote: bool) -> Result<(), AllocError>
+    ensures { OnOk result (string_bytes out.new ≡ string_bytes out.old ++ encoded quote (chars text.now)) }
+{
+    let set = if quote { SPECIAL_QUERY } else { BEYOND_ASCII };
+    utf8_percent_encode(text, set).append_to(out)
 }

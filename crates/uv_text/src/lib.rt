@@ -10,7 +10,7 @@ mod tail;
 mod units;
 
 pub use class::{ByteClass, unit_run};
-pub use escapes::encode;
+pub use escapes::{encode, push_encoded};
 pub use faults::first_fault;
 pub use splits::{count_code_points, split_tail, split_units};
 pub use tail::Tail;

@@ -1,15 +1,9 @@
--- A text that no part encodes is its own encoding, and else the escapes that the library writes are the encoding.
-use Rattle.std.proofs.Common.{rules, ◌≡◌, ◌++◌, OnOk, string_bytes, sym, ap, ◌∙◌, subst}
+-- The escapes that the library writes are the encoded text.
+use Rattle.std.proofs.Common.{◌≡◌, ◌++◌, OnOk, string_bytes, sym, ap, ◌∙◌, subst}
 use Rattle.percent_encoding.specs.Percent.{percent_encode}
 use Rattle.uv_text.proofs.EscapesLemmas.{set_of, percent_encode-chars}
-use Rattle.uv_resolve.proofs.AbsoluteTextLemmas.{never_encoded-encoded}
-use Rattle.uv_resolve.proofs.absolute_text.push_encoded.Goals as goal
-use Rattle.uv_resolve.proofs.absolute_text.push_encoded.Goals.{then-quote, else-quote}
-
-pub returns-then-is_never_encoded : goal.returns-then-is_never_encoded
-returns-then-is_never_encoded c =
-    rw (sym (never_encoded-encoded c.args.quote c.args.text.now (c.is_never_encoded.ensures c.if-is_never_encoded.true)))
-    (search rules)
+use Rattle.uv_text.proofs.escapes.push_encoded.Goals as goal
+use Rattle.uv_text.proofs.escapes.push_encoded.Goals.{then-quote, else-quote}
 
 pub returns : goal.returns
 returns c =
