@@ -9,7 +9,8 @@ use Rattle.std.proofs.lemmas.Str.{chars-IsAscii}
 use Rattle.uv_model.specs.declared.profile.Profile.{Profile}
 use Rattle.uv_model.specs.declared.host.Host.{Host}
 use Rattle.uv_model.specs.declared.path.UrlPath.TheVariants.{Segments}
-use Rattle.uv_model.specs.declared.scheme.Class.TheVariants.{Special}
+use Rattle.uv_model.specs.declared.scheme.Class.{Class}
+use Rattle.uv_model.specs.declared.scheme.Class.TheVariants.{File, Other, Special}
 use Rattle.uv_model.specs.Ascii.{number_sign, question_mark, slash}
 use Rattle.uv_model.specs.Encoding.{encoded}
 use Rattle.uv_model.specs.Parts.{Parts, SchemeAuthority, written_behind}
@@ -29,22 +30,29 @@ use Rattle.uv_resolve.proofs.KeptPathLemmas.{authority_path-encoded, serial_segm
 use Rattle.uv_resolve.proofs.OwnTextLemmas.{encoded-kept, never_encoded-IsAscii}
 use Rattle.uv_resolve.proofs.RecordLemmas.{denote-fields, fields}
 
+-- the URL of a special scheme has one segment at least
+authority_path-none : (class : Class) → class ≢ Other → authority_path class [] ≡ [] ∷ []
+authority_path-none Special special = refl
+authority_path-none File special = refl
+authority_path-none Other special = absurd (special refl)
+
 -- a path that isn't empty is written as it stands, and an empty one as `/`
-path-serial : (segments : List (List ℕ)) (text : List ℕ) → MayBePathSlashed segments text
-    → list_all is_kept_segment segments ≡ true
-    → serial_segments (authority_path Special segments) ≡ encoded false (path_or_slash text)
+path-serial : (class : Class) (segments : List (List ℕ)) (text : List ℕ) → class ≢ Other
+    → MayBePathSlashed segments text → list_all is_kept_segment segments ≡ true
+    → serial_segments (authority_path class segments) ≡ encoded false (path_or_slash text)
 unfolding encoded
-path-serial segments text (inl none) kept =
-    ap (λ s. serial_segments (authority_path Special s)) none.1
+path-serial class segments text special (inl none) kept =
+    ap (λ s. serial_segments (authority_path class s)) none.1
+    ∙ ap serial_segments (authority_path-none class special)
     ∙ ap (λ t. encoded false (path_or_slash t)) (sym none.0)
-path-serial segments text (inr path) kept =
+path-serial class segments text special (inr path) kept =
     let some : segments ≢ []
     = λ none. let both_ways : [] ≡ path.joins.first ∷ path.joins.others = sym none ∙ path.joins.some in absurd cc
     in
     let whole : path_or_slash text ≡ serial_segments segments
     = ap path_or_slash path.slashed ∙ sym path.slashed ∙ slashed_text segments text some (inr path)
     in
-    ap serial_segments (authority_path-encoded segments some kept) ∙ serial_segments-encoded segments
+    ap serial_segments (authority_path-encoded class segments some kept) ∙ serial_segments-encoded segments
     ∙ sym (ap (encoded false) whole)
 
 -- the serializer writes a URL with a host and segments so
@@ -60,10 +68,13 @@ serial-parts name host port segments query fragment =
     ++ (written_behind question_mark query ++ written_behind number_sign fragment))))
 
 -- a query of a special URL is denoted by its encoding
-query-encoded : (base : Option Url) (query : Option (List ℕ))
-    → denoted_query base Special SchemeAuthority query ≡ option_map (encoded true) query
-query-encoded base None = refl
-query-encoded base (Some query) = refl
+query-encoded : (base : Option Url) (class : Class) (query : Option (List ℕ)) → class ≢ Other
+    → denoted_query base class SchemeAuthority query ≡ option_map (encoded true) query
+query-encoded base Special None special = refl
+query-encoded base Special (Some query) special = refl
+query-encoded base File None special = refl
+query-encoded base File (Some query) special = refl
+query-encoded base Other query special = absurd (special refl)
 
 -- what the parts are written as, once the scheme is known
 absolute-schemed : (profile : Profile) (base : Option Url) (text : List ℕ) (parts : Parts) (scheme name : List ℕ)
@@ -72,21 +83,22 @@ absolute-schemed : (profile : Profile) (base : Option Url) (text : List ℕ) (pa
     → list_all is_kept_segment parts.segments ≡ true
     → written_parts name host parts ≡ serial (denote any parts)
 absolute-schemed profile base text parts scheme name host any valid formed schemed is hosted kept =
-    let segments = authority_path Special parts.segments in
+    let class = scheme_class scheme in
+    let segments = authority_path class parts.segments in
     let query = option_map (encoded true) parts.query in
     let fragment = option_map (encoded false) parts.fragment in
     let slashed = special_path profile base text parts scheme valid formed schemed is.special in
     ap (λ p. name ++ (codes "://" ++ (serial_host host ++ (serial_port parts.port ++ (p
     ++ (written_behind question_mark query ++ written_behind number_sign fragment))))))
-    (sym (path-serial parts.segments parts.path_text slashed kept))
+    (sym (path-serial class parts.segments parts.path_text is.special slashed kept))
     ∙ serial-parts name host parts.port segments query fragment
-    ∙ ap serial (denote-fields any parts Special name (Some host) parts.port (Segments segments) query fragment
-    (sym (ap (λ s. scheme_class (scheme_or any s)) schemed ∙ is.special))
+    ∙ ap serial (denote-fields any parts class name (Some host) parts.port (Segments segments) query fragment
+    (sym (ap (λ s. scheme_class (scheme_or any s)) schemed))
     (sym (ap (λ s. denoted_scheme any s) schemed ∙ is.lower))
     (rw formed (rw hosted refl))
     (sym (ap (λ f. denoted_port any f parts) formed))
-    (sym (ap (λ f. denoted_path any Special f parts) formed))
-    (sym (ap (λ f. denoted_query any Special f parts.query) formed ∙ query-encoded any parts.query))
+    (sym (ap (λ f. denoted_path any class f parts) formed))
+    (sym (ap (λ f. denoted_query any class f parts.query) formed ∙ query-encoded any class parts.query is.special))
     refl)
 
 -- what such parts of a valid text are written as is the text of the URL that they denote
@@ -107,12 +119,12 @@ absolute_written parts name host some formed lower hosted kept any = go parts.sc
 -- ---- what the code sees
 
 -- a text that is the name of a special scheme in any case
-pub named : (scheme name : List ℕ) (is : Bool) → scheme_class name ≡ Special
+pub named : (scheme name : List ℕ) (is : Bool) → scheme_class name ≢ Other
     → is ≡ bytes_eq (lowercase scheme) name → is ≡ true → IsLowerScheme scheme name
 named scheme name is special says holds =
     let lower : lowercase scheme ≡ name = (bytes_eq-Decides (lowercase scheme) name).0 (sym says ∙ holds) in
     record {
-      special = sym (scheme_class-lowercase scheme) ∙ ap scheme_class lower ∙ special;
+      special = λ other. special (sym (ap scheme_class lower) ∙ scheme_class-lowercase scheme ∙ other);
       lower = lower;
     }
 

@@ -11,7 +11,7 @@ use Rattle.std.proofs.lemmas.Bool.Decides.{nat_tests}
 use Rattle.std.proofs.lemmas.Bool.{and_parts, and_from, false_from_ne_true, false≢true, not-true}
 use Rattle.uv_model.specs.declared.profile.Profile.{Profile}
 use Rattle.uv_model.specs.declared.scheme.Class.{Class}
-use Rattle.uv_model.specs.declared.scheme.Class.TheVariants.{Special}
+use Rattle.uv_model.specs.declared.scheme.Class.TheVariants.{File, Other, Special}
 use Rattle.uv_model.specs.Ascii.{slash}
 use Rattle.uv_model.specs.Encoding.{encoded}
 use Rattle.uv_model.specs.Parts.{Parts, SchemeAuthority}
@@ -21,8 +21,8 @@ use Rattle.uv_model.specs.Records.Serialize.{serial_segments}
 use Rattle.uv_model.specs.Records.Url.{Url}
 use Rattle.uv_model.specs.Scheme.{lowercase, scheme_class}
 use Rattle.uv_model.specs.Setting.{Setting, setting_of}
-use Rattle.uv_model.specs.Valid.{FitsAuthority, FitsForm, FitsHostText, IsSpecialAuthority, Valid}
-use Rattle.uv_model.proofs.Paths.SlashedPaths.{slashed_or_none}
+use Rattle.uv_model.specs.Valid.{FitsAuthority, FitsForm, FitsHostText, Valid}
+use Rattle.uv_model.proofs.Paths.SlashedPaths.{alone_or_none, slashed_or_none}
 use Rattle.uv_model.proofs.Texts.EncodingLemmas.{encoded-append}
 use Rattle.uv_parser.proofs.RoundTrip.SerializedTexts.{serial_segments-joined}
 use Rattle.uv_resolve.specs.OwnText.{has_no_dots, is_dot_mark, is_kept_segment}
@@ -56,10 +56,12 @@ walk-encoded class path (segment ∷ next ∷ rest) no_dots =
     ∙ append_assoc path (encoded false segment ∷ []) (encoded_each (next ∷ rest))
 
 -- the path behind an authority
-pub authority_path-encoded : (segments : List (List ℕ)) → segments ≢ [] → list_all is_kept_segment segments ≡ true
-    → authority_path Special segments ≡ encoded_each segments
-authority_path-encoded [] some no_dots = absurd (some refl)
-authority_path-encoded (segment ∷ rest) some no_dots = walk-encoded Special [] (segment ∷ rest) no_dots
+pub authority_path-encoded : (class : Class) (segments : List (List ℕ)) → segments ≢ []
+    → list_all is_kept_segment segments ≡ true → authority_path class segments ≡ encoded_each segments
+authority_path-encoded class [] some no_dots = absurd (some refl)
+authority_path-encoded Special (segment ∷ rest) some no_dots = walk-encoded Special [] (segment ∷ rest) no_dots
+authority_path-encoded File (segment ∷ rest) some no_dots = walk-encoded File [] (segment ∷ rest) no_dots
+authority_path-encoded Other (segment ∷ rest) some no_dots = walk-encoded Other [] (segment ∷ rest) no_dots
 
 -- ---- texts of paths
 
@@ -81,10 +83,21 @@ slashed_text segments text some (inr path) =
     path.slashed ∙ ap (λ t. slash ∷ t) (joins.joined ∙ ap (join_with_byte slash) joins.some)
     ∙ sym (serial_segments-joined joins.first joins.others) ∙ sym (ap serial_segments joins.some)
 
--- the path of a text with a special scheme and an authority
+-- the path behind an authority of a special scheme
+path_behind : (class : Class) (setting : Setting) (host_text : List ℕ) (parts : Parts) → class ≢ Other
+    → FitsAuthority class setting host_text parts → MayBePathSlashed parts.segments parts.path_text
+path_behind Special setting host_text parts special fits =
+    slashed_or_none setting.profile parts.segments parts.path_text fits.path
+path_behind File setting host_text parts special (no_text, (no_port, inl hosted)) =
+    slashed_or_none setting.profile parts.segments parts.path_text hosted.path
+path_behind File setting host_text parts special (no_text, (no_port, inr (empty, (host, path)))) =
+    alone_or_none setting.profile parts.segments parts.path_text path
+path_behind Other setting host_text parts special fits = absurd (special refl)
+
+-- and that of a text with such a scheme and an authority
 pub special_path : (profile : Profile) (base : Option Url) (text : List ℕ) (parts : Parts) (scheme : List ℕ)
     → Valid profile base text parts → parts.form ≡ SchemeAuthority → parts.scheme ≡ Some scheme
-    → scheme_class scheme ≡ Special → MayBePathSlashed parts.segments parts.path_text
+    → scheme_class scheme ≢ Other → MayBePathSlashed parts.segments parts.path_text
 special_path profile base text parts scheme valid formed schemed special =
     go parts.host_text
     (subst (λ f. FitsForm (setting_of profile base (Some scheme)) f parts) formed
@@ -94,11 +107,7 @@ special_path profile base text parts scheme valid formed schemed special =
         → MayBePathSlashed parts.segments parts.path_text
     go None fits = absurd fits
     go (Some host_text) fits =
-        let setting : Setting = setting_of profile base (Some scheme) in
-        let is : IsSpecialAuthority setting host_text parts
-        = subst (λ k. FitsAuthority k setting host_text parts) special fits
-        in
-        slashed_or_none profile parts.segments parts.path_text is.path
+        path_behind (scheme_class scheme) (setting_of profile base (Some scheme)) host_text parts special fits
 
 -- ---- paths in which no segment begins as a dot segment does
 

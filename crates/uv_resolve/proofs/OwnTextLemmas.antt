@@ -13,7 +13,7 @@ use Rattle.std.proofs.lemmas.Bool.{and_parts, and_from}
 use Rattle.std.proofs.lemmas.List.Folds.{list_all-append}
 use Rattle.uv_model.specs.declared.profile.Profile.{Profile}
 use Rattle.uv_model.specs.declared.scheme.Class.{Class}
-use Rattle.uv_model.specs.declared.scheme.Class.TheVariants.{Special}
+use Rattle.uv_model.specs.declared.scheme.Class.TheVariants.{Other, Special}
 use Rattle.uv_model.specs.declared.host.Host.TheVariants.{Domain}
 use Rattle.uv_model.specs.declared.path.UrlPath.TheVariants.{Segments}
 use Rattle.uv_model.specs.Ascii.{apostrophe, slash, colon, question_mark, number_sign}
@@ -27,6 +27,7 @@ use Rattle.uv_model.specs.Records.Url.{Url}
 use Rattle.uv_model.specs.Scheme.{default_port, scheme_class}
 use Rattle.uv_model.specs.Setting.{scheme_or}
 use Rattle.uv_model.specs.Valid.{Valid}
+use Rattle.uv_model.proofs.Deciding.Decisions.{special_not_other}
 use Rattle.uv_model.proofs.Texts.AsciiLemmas.{IsAscii-from_test}
 use Rattle.uv_model.proofs.Texts.EncodingLemmas.{is_kept, encoded_code_point-kept}
 use Rattle.uv_grammar.proofs.HostLemmas.{some_chars}
@@ -102,7 +103,7 @@ walk-kept class path segments no_dots bytes =
 pub authority_path-kept : (segments : List (List ℕ)) → segments ≢ [] → list_all is_kept_segment segments ≡ true
     → list_all is_never_encoded (serial_segments segments) ≡ true → authority_path Special segments ≡ segments
 authority_path-kept segments some no_dots bytes =
-    authority_path-encoded segments some no_dots ∙ segments-kept segments bytes
+    authority_path-encoded Special segments some no_dots ∙ segments-kept segments bytes
 
 -- a path text that isn't empty has segments
 pub some_segments : (segments : List (List ℕ)) (text : List ℕ) → text ≢ [] → MayBePathSlashed segments text → segments ≢ []
@@ -220,7 +221,8 @@ own-schemed profile base text parts scheme valid own schemed is =
     let segments = parts.segments in
     let whole = prefix-spelled profile base text parts scheme valid prefix schemed in
     let slashed : MayBePathSlashed segments parts.path_text
-    = special_path profile base text parts scheme valid prefix.form schemed is.special
+    = special_path profile base text parts scheme valid prefix.form schemed
+    (subst (λ class. class ≢ Other) (sym is.special) special_not_other)
     in
     let some = some_segments segments parts.path_text own.path.0 slashed in
     let path : parts.path_text ≡ serial_segments segments
@@ -251,7 +253,8 @@ root-schemed profile base text parts scheme valid own schemed is =
     let ends = own.ends in
     let whole = prefix-spelled profile base text parts scheme valid prefix schemed in
     let slashed : MayBePathSlashed parts.segments parts.path_text
-    = special_path profile base text parts scheme valid prefix.form schemed is.special
+    = special_path profile base text parts scheme valid prefix.form schemed
+    (subst (λ class. class ≢ Other) (sym is.special) special_not_other)
     in
     let root : authority_path Special parts.segments ≡ [] ∷ []
     = ap (authority_path Special) (no_segments parts.segments parts.path_text slashed ends.path)

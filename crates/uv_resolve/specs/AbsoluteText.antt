@@ -1,7 +1,7 @@
 -- Absolute texts of special schemes, and the URLs that they denote against any base (URL Standard, sections 4.3 to 4.5).
-use Rattle.std.specs.Prelude.{◌≡◌, ℕ, false, true, List, [], ◌∷◌, ◌++◌, codes, Option, Some, None, option_map}
+use Rattle.std.specs.Prelude.{◌≡◌, ◌≢◌, ℕ, false, true, List, [], ◌∷◌, ◌++◌, codes, Option, Some, None, option_map}
 use Rattle.uv_model.specs.declared.host.Host.{Host}
-use Rattle.uv_model.specs.declared.scheme.Class.TheVariants.{Special}
+use Rattle.uv_model.specs.declared.scheme.Class.TheVariants.{Other}
 use Rattle.uv_model.specs.Ascii.{number_sign, question_mark, slash}
 use Rattle.uv_model.specs.Encoding.{encoded}
 use Rattle.uv_model.specs.Parts.{Parts, written_behind}
@@ -19,9 +19,9 @@ AreSomeParts parts = (base : Option Url) × HaveValidText base parts
 abbrev pub IsSerialOnAnyBase : Parts → Option (List ℕ) → Type 0
 IsSerialOnAnyBase parts text = (base : Option Url) → IsSerialWhere base parts text
 
--- the name of a special scheme but `file`, which is written in any case
+-- the name of a special scheme, which is written in any case
 pub record IsLowerScheme (scheme name : List ℕ) : Type 0 where
-  pub special : scheme_class scheme ≡ Special
+  pub special : scheme_class scheme ≢ Other
   pub lower : lowercase scheme ≡ name
 
 -- there is a scheme with this name

@@ -19,7 +19,7 @@ use uv_model::{is_double_dot, is_name, is_single_dot};
 use uv_text::push_encoded;
 
 /// The text of the URL that a valid text with these parts denotes against any base, where it begins with a special
-/// scheme but `file` and an authority, and has no dot segment. None says nothing, and the error is out of memory.
+/// scheme and an authority, and has no dot segment. None says nothing, and the error is out of memory.
 pub(crate) fn absolute_text(alloc: Global, parts: &Parts<'_>) -> Result<Option<String>, AllocError>
     requires { AreSomeParts parts.now }
     ensures { IfOk result (λ written. IsSerialOnAnyBase parts.now (option_map (λ s. string_bytes s) written)) }
@@ -67,6 +67,9 @@ fn special_name(scheme: &str) -> Option<&'static str>
     }
     if is_name(scheme, "ftp") {
         return Some("ftp");
+    }
+    if is_name(scheme, "file") {
+        return Some("file");
     }
     None
 }
@@ -148,6 +151,7 @@ fn push_host(alloc: Global, out: &mut String, host: &HostRef<'_>) -> Result<(), 
     match host {
         HostRef::Domain(form) => out.push_str(form.as_str()),
         HostRef::V4(value) => push_ipv4(out, *value),
+        HostRef::Empty => Ok(()),
         _ => out.push_str(host.copy(alloc)?.text(alloc)?.as_str()),
     }
 }
