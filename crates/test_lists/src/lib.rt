@@ -13,7 +13,5 @@ mod lines;
 mod links;
 #[cfg(test)]
 mod lint;
-#[cfg(test)]
-mod texts;
 
 pub use line_ends::line_feeds;

@@ -6,7 +6,6 @@ mod located;
 mod sarif;
 mod streams;
 
-use crate::texts::joined;
 use std::alloc::{AllocError, Global};
 use std::process::Abort;
 use std::test::Fail;
@@ -128,7 +127,7 @@ fn judges_by_the_profile_and_the_base(rt: HostRuntime) -> Result<(), Fail> {
         base: base.as_ref(),
         ..wide
     };
-    let both = joined(rt.alloc(), &[domain, scheme])?;
+    let both = [domain, scheme].concat(rt.alloc())?;
     reports(&rt, list, PLAIN, both.as_str(), (2, 2));
     reports(&rt, list, wide, scheme, (2, 1));
     reports(&rt, list, against, domain, (2, 1));
@@ -263,10 +262,7 @@ fn longest_lines(alloc: Global) -> Result<String, AllocError> {
 }
 
 fn list_of(alloc: Global, line: &str) -> Result<String, AllocError> {
-    joined(
-        alloc,
-        &[line, "b\r\n", line, " \n", line, "bb\n", line, "bb\r"],
-    )
+    [line, "b\r\n", line, " \n", line, "bb\n", line, "bb\r"].concat(alloc)
 }
 
 // A line of 65,536 code points is judged, with its fault in the last column, and a longer one isn't.
@@ -282,19 +278,17 @@ fn judges_the_longest_line(rt: HostRuntime) -> Result<(), Fail> {
 
 // What is shown of them: of the second line a window, with so many spaces before the caret.
 fn shown_lines<'t>(alloc: Global, window: &'t str, below: &'t str) -> Result<String, AllocError> {
-    joined(
-        alloc,
-        &[
-            "list:2:65536: error: U+0020 SPACE may not stand in a URL [code-point]\n…",
-            window,
-            " \n ",
-            below,
-            "^\nhelp: write …",
-            window,
-            "\nlist:3:1: error: this line has more than 65536 bytes [line-too-long]\n\n^\n",
-            "list:4:1: error: this line has more than 65536 bytes [line-too-long]\n\n^\n",
-        ],
-    )
+    [
+        "list:2:65536: error: U+0020 SPACE may not stand in a URL [code-point]\n…",
+        window,
+        " \n ",
+        below,
+        "^\nhelp: write …",
+        window,
+        "\nlist:3:1: error: this line has more than 65536 bytes [line-too-long]\n\n^\n",
+        "list:4:1: error: this line has more than 65536 bytes [line-too-long]\n\n^\n",
+    ]
+    .concat(alloc)
 }
 
 #[test]

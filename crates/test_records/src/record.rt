@@ -8,10 +8,10 @@ use uv_model::{Host, Profile, Record, Text, TextList, UrlPath, well_formed};
 // The record of `foo://u%40h:80/a/?q#f`, field by field (URL Standard, section 4.1).
 fn sample(alloc: Global) -> Result<Option<Record>, Fail> {
     let scheme = String::from_str(alloc, "foo")?;
-    let host = Host::Opaque(text_of(alloc, "u%40h")?);
+    let host = Host::Opaque(sample_text(alloc, "u%40h")?);
     let mut items = Vec::new(alloc);
-    items.push(text_of(alloc, "a")?)?;
-    items.push(text_of(alloc, "")?)?;
+    items.push(sample_text(alloc, "a")?)?;
+    items.push(sample_text(alloc, "")?)?;
     let path = UrlPath::Segments(TextList::of(items));
     let query = String::from_str(alloc, "q")?;
     let fragment = String::from_str(alloc, "f")?;
@@ -38,7 +38,7 @@ fn sample(alloc: Global) -> Result<Option<Record>, Fail> {
 }
 
 // An ASCII text. No clause says more of it: that a record of such texts may be made is what `well_formed` says of them.
-fn text_of(alloc: Global, text: &str) -> Result<Text, Fail> {
+fn sample_text(alloc: Global, text: &str) -> Result<Text, Fail> {
     Ok(ascii(alloc, text)?)
 }
 

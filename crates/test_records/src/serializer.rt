@@ -19,7 +19,7 @@ fn owned(alloc: Global, text: Option<&str>) -> Result<Option<String>, AllocError
 }
 
 // The text of the record of these parts, or none where they aren't well formed.
-fn text_of(
+fn record_text(
     alloc: Global,
     scheme: &str,
     host: Option<Host>,
@@ -84,7 +84,7 @@ fn writes_hosts_and_ports(rt: HostRuntime) -> Result<(), Fail> {
         ("file", &Host::Empty, None, "file:///"),
         ("file", &example, None, "file://example.com/"),
     ] {
-        let got = text_of(
+        let got = record_text(
             alloc,
             scheme,
             Some(host.copy(alloc)?),
@@ -110,15 +110,15 @@ fn writes_paths(rt: HostRuntime) -> Result<(), Fail> {
         let path = segments(alloc, texts)?;
         is(
             &rt,
-            text_of(alloc, "foo", None, None, path, (None, None))?,
+            record_text(alloc, "foo", None, None, path, (None, None))?,
             want,
         );
     }
     let drive = segments(alloc, &["C:", ""])?;
-    let got = text_of(alloc, "file", Some(Host::Empty), None, drive, (None, None))?;
+    let got = record_text(alloc, "file", Some(Host::Empty), None, drive, (None, None))?;
     is(&rt, got, "file:///C:/");
     let host = Some(Host::Opaque(ascii(alloc, "h")?));
-    let got = text_of(
+    let got = record_text(
         alloc,
         "foo",
         host,
@@ -128,7 +128,7 @@ fn writes_paths(rt: HostRuntime) -> Result<(), Fail> {
     )?;
     is(&rt, got, "foo://h//a");
     let host = Some(Host::Opaque(ascii(alloc, "h")?));
-    let got = text_of(
+    let got = record_text(
         alloc,
         "foo",
         host,
@@ -150,12 +150,16 @@ fn writes_queries_and_fragments(rt: HostRuntime) -> Result<(), Fail> {
         ((Some("q?"), Some("")), "urn:a?q?#"),
     ] {
         let path = UrlPath::Opaque(ascii(alloc, "a")?);
-        is(&rt, text_of(alloc, "urn", None, None, path, ends)?, want);
+        is(
+            &rt,
+            record_text(alloc, "urn", None, None, path, ends)?,
+            want,
+        );
     }
     let host = Some(Host::Domain(ascii(alloc, "example.com")?));
     let path = segments(alloc, &["b"])?;
     let ends = (Some("x=%27y%27"), Some("%C3%A9"));
-    let got = text_of(alloc, "https", host, None, path, ends)?;
+    let got = record_text(alloc, "https", host, None, path, ends)?;
     is(&rt, got, "https://example.com/b?x=%27y%27#%C3%A9");
     Ok(())
 }
@@ -172,7 +176,7 @@ fn writes_a_long_record(rt: HostRuntime) -> Result<(), Fail> {
     }
     let host = Some(Host::Domain(ascii(alloc, "h.example")?));
     let path = UrlPath::Segments(TextList::of(items));
-    let got = text_of(alloc, "http", host, Some(81), path, (None, None))?;
+    let got = record_text(alloc, "http", host, Some(81), path, (None, None))?;
     is(&rt, got, want.as_str());
     Ok(())
 }

@@ -1,7 +1,7 @@
 //! Diagnostics in each format, written out by hand from the documents of the formats.
 
 use crate::diagnostics::refused;
-use crate::reports::{joined, long, long_line, mended, report};
+use crate::reports::{long, long_line, mended, report};
 use std::alloc::{AllocError, Global};
 use std::process::Abort;
 use std::test::Fail;
@@ -228,8 +228,8 @@ fn shows_a_mended_text_as_a_line(rt: HostRuntime) -> Result<(), Fail> {
 fn shows_a_window_of_a_long_mended_text(rt: HostRuntime) -> Result<(), Fail> {
     let alloc = rt.alloc();
     let more = "a".repeat(alloc, 194)?;
-    let wanted = joined(alloc, &["\nhelp: write urn:", more.as_str(), "…\n"])?;
-    let long = joined(alloc, &["urn:", more.as_str(), more.as_str()])?;
+    let wanted = ["\nhelp: write urn:", more.as_str(), "…\n"].concat(alloc)?;
+    let long = ["urn:", more.as_str(), more.as_str()].concat(alloc)?;
     let found = mended("urn:aaaaaa b", long.as_str(), MendKind::Changed, 52);
     assert!(rt;
         report(alloc, Format::Caret, &found)?
@@ -242,61 +242,53 @@ fn shows_a_window_of_a_long_mended_text(rt: HostRuntime) -> Result<(), Fail> {
 // What is shown of the longest line: `…`, the 99 code points before the last one, and that one.
 fn long_window(alloc: Global) -> Result<String, AllocError> {
     let before = "a".repeat(alloc, 99)?;
-    joined(alloc, &["…", before.as_str(), " "])
+    ["…", before.as_str(), " "].concat(alloc)
 }
 
 // The diagnostic on it as compilers write it, of a file with this name.
 fn long_gnu(alloc: Global, file: &str) -> Result<String, AllocError> {
-    joined(
-        alloc,
-        &[
-            file,
-            ":3:65536: error: U+0020 SPACE may not stand in a URL [code-point]\n",
-        ],
-    )
+    [
+        file,
+        ":3:65536: error: U+0020 SPACE may not stand in a URL [code-point]\n",
+    ]
+    .concat(alloc)
 }
 
 // The same with a caret below the window.
 fn long_caret<'t>(alloc: Global, file: &'t str, window: &'t str) -> Result<String, AllocError> {
     let below = " ".repeat(alloc, 100)?;
-    joined(
-        alloc,
-        &[
-            file,
-            ":3:65536: error: U+0020 SPACE may not stand in a URL [code-point]\n",
-            window,
-            "\n",
-            below.as_str(),
-            "^\n",
-        ],
-    )
+    [
+        file,
+        ":3:65536: error: U+0020 SPACE may not stand in a URL [code-point]\n",
+        window,
+        "\n",
+        below.as_str(),
+        "^\n",
+    ]
+    .concat(alloc)
 }
 
 // The same as an object of JSON.
 fn long_json<'t>(alloc: Global, file: &'t str, window: &'t str) -> Result<String, AllocError> {
-    joined(
-        alloc,
-        &[
-            "{\"column\":65536,\"cut\":true,\"file\":\"",
-            file,
-            "\",\"line\":3,\"message\":\"U+0020 SPACE may not stand in a URL\",\
+    [
+        "{\"column\":65536,\"cut\":true,\"file\":\"",
+        file,
+        "\",\"line\":3,\"message\":\"U+0020 SPACE may not stand in a URL\",\
             \"rule\":\"code-point\",\"text\":\"",
-            window,
-            "\"}\n",
-        ],
-    )
+        window,
+        "\"}\n",
+    ]
+    .concat(alloc)
 }
 
 // The same as a workflow command.
 fn long_github(alloc: Global, file: &str) -> Result<String, AllocError> {
-    joined(
-        alloc,
-        &[
-            "::error file=",
-            file,
-            ",line=3,col=65536,title=code-point::U+0020 SPACE may not stand in a URL\n",
-        ],
-    )
+    [
+        "::error file=",
+        file,
+        ",line=3,col=65536,title=code-point::U+0020 SPACE may not stand in a URL\n",
+    ]
+    .concat(alloc)
 }
 
 #[test]

@@ -58,12 +58,3 @@ pub(crate) fn long_line(alloc: Global) -> Result<String, AllocError> {
     text.push(' ')?;
     Ok(text)
 }
-
-/// Texts, one behind the other.
-pub(crate) fn joined(alloc: Global, texts: &[&str]) -> Result<String, AllocError> {
-    let mut all = String::new(alloc);
-    for text in texts {
-        all.push_str(text)?;
-    }
-    Ok(all)
-}

@@ -94,21 +94,19 @@ fn report_of_spaces<'t>(
 ) -> Result<String, AllocError> {
     let [first, tab, last] = columns;
     let space = ": error: U+0020 SPACE may not stand in a URL [code-point]\n";
-    joined(
-        alloc,
-        &[
-            file,
-            ":1:",
-            first,
-            space,
-            file,
-            ":1:",
-            tab,
-            ": error: U+0009 CHARACTER TABULATION may not stand in a URL [code-point]\n",
-            file,
-            ":1:",
-            last,
-            space,
-        ],
-    )
+    [
+        file,
+        ":1:",
+        first,
+        space,
+        file,
+        ":1:",
+        tab,
+        ": error: U+0009 CHARACTER TABULATION may not stand in a URL [code-point]\n",
+        file,
+        ":1:",
+        last,
+        space,
+    ]
+    .concat(alloc)
 }

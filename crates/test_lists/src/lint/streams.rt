@@ -147,7 +147,7 @@ fn reports_a_failed_write_behind_a_failed_read(rt: HostRuntime) -> Result<(), Fa
     let (counts, answer) = run_lint(rt.alloc(), &mut reader, &mut writer, "list", true, SETTING);
     assert_eq!(rt; answer, Err(LintFault::Write));
     assert_eq!(rt; (counts.lines, counts.refused), (1, 1));
-    let written = joined(rt.alloc(), &[BEGIN, FIRST, "</fi"])?;
+    let written = [BEGIN, FIRST, "</fi"].concat(rt.alloc())?;
     assert!(rt; writer.bytes() == written.as_bytes());
     Ok(())
 }
