@@ -1,5 +1,5 @@
 //! Percent-encoding of texts of URL units.
-ghost use Rattle.std.specs.Prelude.{◌≡◌, ◌++◌, IfOk, OnOk, string_bytes};
+ghost use Rattle.std.specs.Prelude.{◌≡◌, ◌++◌, IfOk, OnErr, OnOk, string_bytes};
 ghost use Rattle.std.specs.Str.{IsAscii, chars};
 ghost use Rattle.uv_model.specs.Encoding.{encoded};
 
@@ -23,9 +23,10 @@ pub fn encode(alloc: Global, text: &str, quote: bool) -> Result<String, AllocErr
     Ok(out)
 }
 
-/// The same, written behind what stands in a string. An error is out of memory, and some of the text may stand there.
+/// The same, written behind what stands in a string. An error is out of memory, and leaves the string as it was.
 pub fn push_encoded(out: &mut String, text: &str, quote: bool) -> Result<(), AllocError>
-    ensures { OnOk result (string_bytes out.new ≡ string_bytes out.old ++ encoded quote (chars text.now)) }
+    ensures text { OnOk result (string_bytes out.new ≡ string_bytes out.old ++ encoded quote (chars text.now)) }
+    ensures kept { OnErr result (string_bytes out.new ≡ string_bytes out.old) }
 {
     let set = if quote { SPECIAL_QUERY } else { BEYOND_ASCII };
     utf8_percent_encode(text, set).append_to(out)

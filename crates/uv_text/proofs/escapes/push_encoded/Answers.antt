@@ -5,8 +5,8 @@ use Rattle.uv_text.proofs.EscapesLemmas.{set_of, percent_encode-chars}
 use Rattle.uv_text.proofs.escapes.push_encoded.Goals as goal
 use Rattle.uv_text.proofs.escapes.push_encoded.Goals.{then-quote, else-quote}
 
-pub returns : goal.returns
-returns c =
+pub returns-clause-text : goal.returns-clause-text
+returns-clause-text c =
     let is : c.if-quote.set ≡ set_of c.args.quote =
     elim c.if-quote.branch [
       | then-quote w ↦ w.set-is ∙ ap set_of (sym w.if-quote.true)
