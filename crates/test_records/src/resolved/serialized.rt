@@ -39,7 +39,7 @@ const ALONE: [(&str, &str); 22] = [
 
 // Absolute texts of special schemes whose URL is written in another way, and the URL: by the scheme, the host, the port
 // and the path, and by what is percent-encoded.
-const WRITTEN_OTHERWISE: [(&str, &str); 44] = [
+const WRITTEN_OTHERWISE: [(&str, &str); 54] = [
     ("HTTPS://h.example/a", "https://h.example/a"),
     ("hTTp://h.example", "http://h.example/"),
     ("FTP://h.example:21/a", "ftp://h.example/a"),
@@ -99,6 +99,16 @@ const WRITTEN_OTHERWISE: [(&str, &str); 44] = [
     ("http://H/a/.%2e", "http://h/"),
     ("http://H/a/%2e.?q", "http://h/?q"),
     ("http://H/.#f", "http://h/#f"),
+    ("FILE:///a/b", "file:///a/b"),
+    ("file://LOCALHOST/a", "file:///a"),
+    ("file://localhost?q'", "file:///?q%27"),
+    ("file://H.example/\u{E9}'", "file://h.example/%C3%A9'"),
+    ("file://h?x#y'", "file://h/?x#y'"),
+    ("File:///C:/a%20b", "file:///C:/a%20b"),
+    ("file:///c%3A/x?'", "file:///c%3A/x?%27"),
+    ("FILE://127.0.0.1", "file://127.0.0.1/"),
+    ("file://[0:0:0:0:0:0:0:1]/a", "file://[::1]/a"),
+    ("file:///C:/./a", "file:///C:/a"),
 ];
 
 // The URL that the parts of a valid text denote.
