@@ -88,9 +88,9 @@ path_behind : (class : Class) (setting : Setting) (host_text : List ℕ) (parts 
     → FitsAuthority class setting host_text parts → MayBePathSlashed parts.segments parts.path_text
 path_behind Special setting host_text parts special fits =
     slashed_or_none setting.profile parts.segments parts.path_text fits.path
-path_behind File setting host_text parts special (no_text, (no_port, inl hosted)) =
+path_behind File setting host_text parts special (no_text, no_port, inl hosted) =
     slashed_or_none setting.profile parts.segments parts.path_text hosted.path
-path_behind File setting host_text parts special (no_text, (no_port, inr (empty, (host, path)))) =
+path_behind File setting host_text parts special (no_text, no_port, inr (empty, host, path)) =
     alone_or_none setting.profile parts.segments parts.path_text path
 path_behind Other setting host_text parts special fits = absurd (special refl)
 
