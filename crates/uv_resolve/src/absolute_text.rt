@@ -59,17 +59,17 @@ fn special_name(scheme: &str) -> Option<&'static str>
     if is_name(scheme, "http") {
         return Some("http");
     }
+    if is_name(scheme, "file") {
+        return Some("file");
+    }
+    if is_name(scheme, "ftp") {
+        return Some("ftp");
+    }
     if is_name(scheme, "wss") {
         return Some("wss");
     }
     if is_name(scheme, "ws") {
         return Some("ws");
-    }
-    if is_name(scheme, "ftp") {
-        return Some("ftp");
-    }
-    if is_name(scheme, "file") {
-        return Some("file");
     }
     None
 }

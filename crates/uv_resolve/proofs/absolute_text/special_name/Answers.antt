@@ -14,7 +14,7 @@ returns-then-is_name-2 c = named _ _ _ special_not_other c.is_name-2.ensures c.i
 
 pub returns-then-is_name-3 : goal.returns-then-is_name-3
 unfolding scheme_class default_port
-returns-then-is_name-3 c = named _ _ _ special_not_other c.is_name-3.ensures c.if-is_name-3.true
+returns-then-is_name-3 c = named _ _ _ file_not_other c.is_name-3.ensures c.if-is_name-3.true
 
 pub returns-then-is_name-4 : goal.returns-then-is_name-4
 unfolding scheme_class default_port
@@ -26,4 +26,4 @@ returns-then-is_name-5 c = named _ _ _ special_not_other c.is_name-5.ensures c.i
 
 pub returns-then-is_name-6 : goal.returns-then-is_name-6
 unfolding scheme_class default_port
-returns-then-is_name-6 c = named _ _ _ file_not_other c.is_name-6.ensures c.if-is_name-6.true
+returns-then-is_name-6 c = named _ _ _ special_not_other c.is_name-6.ensures c.if-is_name-6.true
