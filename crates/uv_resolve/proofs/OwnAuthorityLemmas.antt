@@ -5,7 +5,6 @@ use Rattle.std.specs.List.{list_all}
 use Rattle.std.specs.Str.{chars}
 use Rattle.uv_model.specs.declared.profile.Profile.{Profile}
 use Rattle.uv_model.specs.declared.scheme.Class.TheVariants.{Special}
-use Rattle.uv_model.specs.declared.host.Host.TheVariants.{Domain}
 use Rattle.uv_model.specs.declared.path.UrlPath.TheVariants.{Segments}
 use Rattle.uv_model.specs.Ascii.{colon, number_sign, question_mark, slash}
 use Rattle.uv_model.specs.Parts.{Authority, Parts, written, written_behind}
@@ -20,7 +19,7 @@ use Rattle.uv_model.proofs.Paths.SlashedPaths.{slashed_or_none}
 use Rattle.uv_resolve.specs.OwnAuthority.{HasOwnAuthority}
 use Rattle.uv_resolve.specs.OwnText.{EndsInHost, IsOwnPath, has_no_dots, is_never_encoded}
 use Rattle.uv_resolve.proofs.KeptPathLemmas.{kept-segments, slashed_text}
-use Rattle.uv_resolve.proofs.OwnTextLemmas.{authority_path-kept, both, fragment-kept}
+use Rattle.uv_resolve.proofs.OwnTextLemmas.{authority_path-kept, behind, both, fragment-kept}
 use Rattle.uv_resolve.proofs.OwnTextLemmas.{never_encoded-ascii, no_segments, serial-spelled}
 use Rattle.uv_resolve.proofs.OwnTextLemmas.{some_segments, spelled, valid_bytes}
 use Rattle.uv_resolve.proofs.PlainReferenceLemmas.{by_form, ending, no_scheme, query-own}
@@ -68,11 +67,14 @@ authority-serial base text parts segments own schemed special whole path =
     let form = own.host.form in
     let ends = ending parts.query parts.fragment in
     let bytes = sym (ap (list_all is_never_encoded) whole) ∙ own.bytes in
-    let from_path = both parts.path_text ends (both (authority form) (parts.path_text ++ ends) bytes).1 in
+    let around = both (authority form) (parts.path_text ++ ends) bytes in
+    let from_path = both parts.path_text ends around.1 in
+    let plain = both form [] (behind slash (form ++ []) (behind slash (slash ∷ (form ++ [])) around.0)) in
+    let written = sym (own.host.written (never_encoded-ascii form plain.0)) in
     let tails = both (written_behind question_mark parts.query) (written_behind number_sign parts.fragment) from_path.1
     in
-    sym (serial-spelled base.scheme form segments parts.query parts.fragment)
-    ∙ ap serial (denote-fields (Some base) parts Special base.scheme (Some (Domain form)) None (Segments segments)
+    sym (serial-spelled base.scheme form own.host.value written segments parts.query parts.fragment)
+    ∙ ap serial (denote-fields (Some base) parts Special base.scheme (Some own.host.value) None (Segments segments)
     parts.query parts.fragment
     (sym (class-kept base parts schemed special))
     (sym (ap (denoted_scheme (Some base)) schemed))

@@ -1,9 +1,9 @@
 -- A text that is the text of the URL that it denotes.
-use Rattle.std.proofs.Common.{◌≡◌, ◌≢◌, ℕ, Bool, true, false, not, ◌==◌, ◌<◌, List, [], ◌∷◌, ◌++◌, Option, Some}
+use Rattle.std.proofs.Common.{◌≡◌, ◌≢◌, ℕ, Bool, true, false, not, ◌==◌, List, [], ◌∷◌, ◌++◌, Option, Some}
 use Rattle.std.proofs.Common.{None, codes, refl, sym, ap, ◌∙◌, subst, inl, inr, append_assoc, arith}
-use Rattle.std.proofs.Common.{length, slice_index, suc}
+use Rattle.std.proofs.Common.{cond, length, suc, ◌+◌}
 use Rattle.std.specs.Prelude.{option_map}
-use Rattle.std.specs.List.{list_all}
+use Rattle.std.specs.List.{list_all, prefix_len}
 use Rattle.std.specs.Char.{is_ascii}
 use Rattle.std.specs.Str.{IsAscii, IsUtf8, bytes_eq, chars}
 use Rattle.std.proofs.lemmas.Str.{chars-IsAscii, encodes-chars, encodes-IsAscii}
@@ -14,7 +14,7 @@ use Rattle.std.proofs.lemmas.List.Folds.{list_all-append}
 use Rattle.uv_model.specs.declared.profile.Profile.{Profile}
 use Rattle.uv_model.specs.declared.scheme.Class.{Class}
 use Rattle.uv_model.specs.declared.scheme.Class.TheVariants.{Other, Special}
-use Rattle.uv_model.specs.declared.host.Host.TheVariants.{Domain}
+use Rattle.uv_model.specs.declared.host.Host.{Host}
 use Rattle.uv_model.specs.declared.path.UrlPath.TheVariants.{Segments}
 use Rattle.uv_model.specs.Ascii.{apostrophe, slash, colon, question_mark, number_sign}
 use Rattle.uv_model.specs.Encoding.{encoded}
@@ -30,6 +30,7 @@ use Rattle.uv_model.specs.Valid.{Valid}
 use Rattle.uv_model.proofs.Deciding.Decisions.{special_not_other}
 use Rattle.uv_model.proofs.Texts.AsciiLemmas.{IsAscii-from_test}
 use Rattle.uv_model.proofs.Texts.EncodingLemmas.{is_kept, encoded_code_point-kept}
+use Rattle.uv_text.specs.Class.{in_class}
 use Rattle.uv_grammar.proofs.HostLemmas.{some_chars}
 use Rattle.uv_resolve.proofs.KeptPathLemmas.{authority_path-encoded, encoded_each, slashed_text, special_path}
 use Rattle.uv_resolve.proofs.KeptPathLemmas.{kept-segments, walk-encoded}
@@ -44,15 +45,31 @@ kept : (quote : Bool) (c : ℕ) → is_never_encoded c ≡ true → is_kept quot
 kept false c h = and_from _ _ (and_parts (is_ascii c) (not (c == apostrophe)) h).0 refl
 kept true c h = h
 
--- a text without bytes beyond ASCII and without `'` consists of them
-pub never_encoded_texts : (text : List ℕ) → IsAscii text → ((k : ℕ) → k < length text → slice_index text k ≢ apostrophe)
-    → list_all is_never_encoded text ≡ true
-never_encoded_texts [] ascii none = refl
-never_encoded_texts (c ∷ rest) ascii none =
-    let other : c ≢ apostrophe = none 0 (omega arith) in
-    let small : c < 128 = ascii 0 in
-    let never : is_never_encoded c ≡ true = grind (arith, nat_tests) in
-    and_from _ _ never (never_encoded_texts rest (λ i. ascii (suc i)) (λ k below. none (suc k) (omega (arith, below))))
+-- the code points that no part encodes are those of these ranges
+pub never_encoded_ranges : (c : ℕ) → in_class ((0, 38) ∷ (40, 127) ∷ []) c ≡ true → is_never_encoded c ≡ true
+never_encoded_ranges c h = grind (arith, nat_tests)
+
+-- a text of which each byte is in a class of them
+pub never_encoded_texts : (ranges : List (ℕ × ℕ)) (text : List ℕ) → ranges ≡ (0, 38) ∷ (40, 127) ∷ []
+    → prefix_len (in_class ranges) text ≡ length text → list_all is_never_encoded text ≡ true
+never_encoded_texts ranges [] is all = refl
+never_encoded_texts ranges (c ∷ rest) is all =
+    go (in_class ranges c) refl (λ more. never_encoded_texts ranges rest is more) all
+  where
+    go : (has : Bool) → in_class ranges c ≡ has
+        → (prefix_len (in_class ranges) rest ≡ length rest → list_all is_never_encoded rest ≡ true)
+        → cond (in_class ranges c) (1 + prefix_len (in_class ranges) rest) 0 ≡ suc (length rest)
+        → list_all is_never_encoded (c ∷ rest) ≡ true
+    go true has others whole =
+        let more : 1 + prefix_len (in_class ranges) rest ≡ suc (length rest)
+        = sym (ap (λ b. cond b (1 + prefix_len (in_class ranges) rest) 0) has) ∙ whole
+        in
+        and_from _ _ (never_encoded_ranges c (sym (ap (λ r. in_class r c) is) ∙ has)) (others (omega (arith, more)))
+    go false has others whole =
+        let none : 0 ≡ suc (length rest)
+        = sym (ap (λ b. cond b (1 + prefix_len (in_class ranges) rest) 0) has) ∙ whole
+        in
+        absurd (omega (arith, none))
 
 -- a text that no part encodes is ASCII
 pub never_encoded-ascii : (text : List ℕ) → list_all is_never_encoded text ≡ true → list_all is_ascii text ≡ true
@@ -156,11 +173,12 @@ written-spelled parts scheme form schemed hosted no_port =
     ++ (written_behind question_mark parts.query ++ written_behind number_sign parts.fragment)))
 
 -- the serializer writes such a URL so
-pub serial-spelled : (scheme form : List ℕ) (segments : List (List ℕ)) (query fragment : Option (List ℕ))
-    → serial (fields scheme (Some (Domain form)) None (Segments segments) query fragment)
+pub serial-spelled : (scheme form : List ℕ) (host : Host) → serial_host host ≡ form → (segments : List (List ℕ))
+    (query fragment : Option (List ℕ)) → serial (fields scheme (Some host) None (Segments segments) query fragment)
     ≡ spelled scheme form (serial_segments segments) query fragment
-unfolding serial serial_host
-serial-spelled scheme form segments query fragment = refl
+unfolding serial
+serial-spelled scheme form host written segments query fragment =
+    ap (λ h. spelled scheme h (serial_segments segments) query fragment) written
 
 -- a text with such a prefix is spelled with its parts
 prefix-spelled : (profile : Profile) (base : Option Url) (text : List ℕ) (parts : Parts) (scheme : List ℕ)
@@ -187,6 +205,21 @@ prefix-path text parts scheme own whole =
     (behind colon (prefix ++ (parts.path_text ++ ends)) from_colon.1) in
     both parts.path_text ends from_host.1
 
+-- and so is its host
+prefix-host : (text : List ℕ) (parts : Parts) (scheme : List ℕ) (own : HasOwnPrefix text parts)
+    → text ≡ spelled scheme own.host.form parts.path_text parts.query parts.fragment
+    → list_all is_ascii own.host.form ≡ true
+prefix-host text parts scheme own whole =
+    let form = own.host.form in
+    let behind_form = parts.path_text ++ (written_behind question_mark parts.query
+    ++ written_behind number_sign parts.fragment) in
+    let from_host = slash ∷ slash ∷ (form ++ []) in
+    let from_colon = both scheme (colon ∷ (from_host ++ behind_form))
+    (sym (ap (list_all is_never_encoded) whole) ∙ own.bytes) in
+    let authority = both from_host behind_form (behind colon (from_host ++ behind_form) from_colon.1) in
+    never_encoded-ascii form
+    (both form [] (behind slash (form ++ []) (behind slash (slash ∷ (form ++ [])) authority.0))).0
+
 -- the text of the URL that it denotes, by the segments
 prefix-serial : (base : Option Url) (text : List ℕ) (parts : Parts) (scheme : List ℕ) (segments : List (List ℕ))
     → (own : HasOwnPrefix text parts) → parts.scheme ≡ Some scheme → IsOwnScheme scheme
@@ -199,8 +232,10 @@ prefix-serial base text parts scheme segments own schemed is whole path =
     let fragment = parts.fragment in
     let from_query = both (written_behind question_mark query) (written_behind number_sign fragment)
     (prefix-path text parts scheme own whole).1 in
-    let denoted : fields scheme (Some (Domain form)) None (Segments segments) query fragment ≡ denote base parts
-    = denote-fields base parts Special scheme (Some (Domain form)) None (Segments segments) query fragment
+    let host = own.host.value in
+    let written = sym (own.host.written (prefix-host text parts scheme own whole)) in
+    let denoted : fields scheme (Some host) None (Segments segments) query fragment ≡ denote base parts
+    = denote-fields base parts Special scheme (Some host) None (Segments segments) query fragment
     (sym (ap (λ s. scheme_class (scheme_or base s)) schemed ∙ is.special))
     (sym (ap (λ s. denoted_scheme base s) schemed ∙ is.lower))
     (rw own.form (rw own.host.host refl))
@@ -209,7 +244,7 @@ prefix-serial base text parts scheme segments own schemed is whole path =
     (sym (ap (λ f. denoted_query base Special f query) own.form ∙ query-kept base query from_query.0))
     (sym (fragment-kept fragment from_query.1))
     in
-    sym (serial-spelled scheme form segments query fragment) ∙ ap serial denoted
+    sym (serial-spelled scheme form host written segments query fragment) ∙ ap serial denoted
 
 -- the text of the URL that a text with its own path denotes, once the scheme is known
 own-schemed : (profile : Profile) (base : Option Url) (text : List ℕ) (parts : Parts) (scheme : List ℕ)

@@ -1,13 +1,15 @@
 -- Texts that are the text of the URL that they denote: parsed and serialized they stay as they are (URL Standard,
 -- sections 4.4 and 4.5).
 use Rattle.std.specs.Prelude.{◌≡◌, ◌≢◌, ℕ, Bool, true, false, not, ◌&&◌, ◌||◌, ◌==◌, List, [], ◌∷◌, Option, Some, None}
+use Rattle.std.specs.Prelude.{slice_index, suc, zero}
 use Rattle.std.specs.List.{list_all}
 use Rattle.std.specs.Char.{is_ascii}
 use Rattle.uv_model.specs.Ascii.{apostrophe, full_stop, percent_sign, slash}
-use Rattle.uv_model.specs.declared.host.Host.TheVariants.{Domain}
+use Rattle.uv_model.specs.declared.host.Host.{Host}
 use Rattle.uv_model.specs.declared.scheme.Class.TheVariants.{Special}
 use Rattle.uv_model.specs.Parts.{SchemeAuthority, Parts}
 use Rattle.uv_model.specs.Path.{is_double_dot, is_single_dot}
+use Rattle.uv_model.specs.Records.Serialize.{serial_host}
 use Rattle.uv_model.specs.Scheme.{lowercase, scheme_class}
 
 -- a code point that no part encodes: ASCII, and not `'`, which a query of a special URL encodes
@@ -28,11 +30,13 @@ abbrev pub HasOwnScheme : Option (List ℕ) → Type 0
 HasOwnScheme None = ⊥
 HasOwnScheme (Some scheme) = IsOwnScheme scheme
 
--- the host is a domain that is its own form
+-- the host's text is the host as it is serialized, where it is ASCII
 pub record HasOwnHost (parts : Parts) : Type 0 where
   pub form : List ℕ
+  pub value : Host
   pub host_text : parts.host_text ≡ Some form
-  pub host : parts.host ≡ Some (Domain form)
+  pub host : parts.host ≡ Some value
+  pub written : list_all is_ascii form ≡ true → form ≡ serial_host value
 
 -- there is no port text
 pub record HasNoPort (parts : Parts) : Type 0 where
@@ -42,6 +46,11 @@ pub record HasNoPort (parts : Parts) : Type 0 where
 -- a code point with which a dot segment begins
 abbrev pub is_dot_mark : ℕ → Bool
 is_dot_mark c = (c == full_stop) || (c == percent_sign)
+
+-- whether a segment begins at a place, where it is said of the first
+abbrev pub begins_at : Bool → List ℕ → ℕ → Bool
+begins_at begins text zero = begins
+begins_at begins text (suc k) = slice_index text k == slash
 
 -- no `.` and no `%` stands behind a `/`, nor at the start where that begins a segment
 abbrev pub has_no_dots : Bool → List ℕ → Bool

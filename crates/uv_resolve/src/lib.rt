@@ -5,6 +5,7 @@
 mod absolute_text;
 mod base;
 mod fault;
+mod host_text;
 pub mod laws;
 mod own_authority;
 mod own_text;

@@ -14,8 +14,8 @@ use uv_grammar::{Form, Parts};
 use uv_model::{Class, Record, class_of};
 
 /// The text of the URL that a valid reference with these parts denotes against its base, where the base's scheme is
-/// special, the reference begins with `//`, a domain that is its own form and no port, and is its own URL's text behind
-/// the scheme. None says nothing, and the error is out of memory.
+/// special, the reference begins with `//`, a host whose text is that of its value and no port, and is its own URL's text
+/// behind the scheme. None says nothing, and the error is out of memory.
 pub(crate) fn own_authority(
     alloc: Global,
     text: &str,

@@ -1,18 +1,21 @@
 //! Texts that are the text of the URL that they denote, but perhaps for a `/` at the end, as most links are: no record
 //! has to be made of them.
-ghost use Rattle.std.specs.Prelude.{◌≡◌, ◌&&◌, [], IsTrue, Some, false, true};
+ghost use Rattle.std.specs.Prelude.{◌≡◌, ◌+◌, ◌<◌, [], IsTrue, drop, length, true};
 ghost use Rattle.std.specs.List.{list_all};
-ghost use Rattle.std.specs.Str.{IsAscii, chars};
+ghost use Rattle.std.specs.Str.{chars};
 ghost use Rattle.uv_grammar.specs.Slices.{chars_of_option};
 ghost use Rattle.uv_resolve.specs.OwnText.{EndsInHost, HasNoPort, HasOwnPrefix, HasOwnHost, HasOwnScheme, IsOwnPath};
-ghost use Rattle.uv_resolve.specs.OwnText.{IsOwnRoot, IsOwnScheme, IsOwnText, has_no_dots, is_dot_mark, is_never_encoded};
+ghost use Rattle.uv_resolve.specs.OwnText.{IsOwnRoot, IsOwnScheme, IsOwnText, has_no_dots, is_never_encoded};
+ghost use Rattle.uv_resolve.specs.OwnText as spec;
 
-use memchr::memchr;
-use uv_grammar::{Form, HostRef, Parts};
+use crate::host_text::is_serialized;
+use memchr::memchr2;
+use uv_grammar::{Form, Parts};
+use uv_text::{ByteClass, unit_run};
 
-/// Whether a valid text with these parts is the text of the URL that it denotes: a special scheme in lower case, a
-/// domain that is its own form, no port, a path without dot segments, and nothing that is encoded. Where the answer is
-/// no, that says nothing.
+/// Whether a valid text with these parts is the text of the URL that it denotes: a special scheme in lower case, a host
+/// whose text is that of its value, no port, a path without dot segments, and nothing that is encoded. Where the answer
+/// is no, that says nothing.
 pub(crate) fn is_own_text(text: &str, parts: &Parts<'_>) -> bool
     ensures { IsTrue result → IsOwnText text.now parts.now }
 {
@@ -45,10 +48,10 @@ fn has_own_prefix(text: &str, parts: &Parts<'_>) -> bool
 pub(crate) fn is_never_encoded(text: &str) -> bool
     ensures { IsTrue result → list_all is_never_encoded text.now ≡ true }
 {
-    match memchr(b'\'', text.as_bytes()) {
-        None => text.is_ascii(),
-        Some(_) => false,
-    }
+    let Some(class) = ByteClass::of(&[(0, 38), (40, 127)]) else {
+        return false;
+    };
+    unit_run(text.as_bytes(), &class) == text.len()
 }
 
 // Whether there is a special scheme in lower case.
@@ -68,24 +71,13 @@ fn is_own_scheme(scheme: &str) -> bool
     scheme == "https" || scheme == "http"
 }
 
-/// Whether the host is a domain that is its own form.
+/// Whether the host's text is the host as it is serialized.
 pub(crate) fn has_own_host(parts: &Parts<'_>) -> bool
     ensures { IsTrue result → HasOwnHost parts.now }
 {
-    match parts.host() {
-        Some(HostRef::Domain(form)) => is_form(form.as_str(), parts.host_text()),
+    match (parts.host(), parts.host_text()) {
+        (Some(host), Some(text)) => is_serialized(text, &host),
         _ => false,
-    }
-}
-
-// Whether the text is the form of its domain.
-fn is_form(form: &str, text: Option<&str>) -> bool
-    requires { IsAscii form.now }
-    ensures { IsTrue result → chars_of_option text.entry ≡ Some form.now }
-{
-    match text {
-        Some(text) => text == form,
-        None => false,
     }
 }
 
@@ -131,18 +123,33 @@ pub(crate) fn is_without_dots(at_start: bool, path: &[u8]) -> bool
     ensures { result ≡ has_no_dots at_start path.now }
 {
     let mut begins = at_start;
-    for &byte in path {
-        if may_be_dots(begins, byte) {
+    let mut rest = path;
+    while let Some(place) = memchr2(b'.', b'%', rest) {
+        if begins_at(begins, rest, place) {
             return false;
         }
-        begins = byte == b'/';
+        begins = false;
+        rest = behind_place(rest, place);
     }
     true
 }
 
-// Whether a dot segment may begin with a byte, where a segment begins there.
-fn may_be_dots(begins: bool, byte: u8) -> bool
-    ensures { result ≡ (begins && is_dot_mark byte) }
+// What stands behind a place.
+fn behind_place<'p>(path: &'p [u8], place: usize) -> &'p [u8]
+    requires { place < length path.now }
+    ensures { result.now ≡ drop (place + 1) path.now }
 {
-    begins && (byte == b'.' || byte == b'%')
+    &path[place + 1..]
+}
+
+// Whether a segment begins at a place.
+fn begins_at(begins: bool, path: &[u8], place: usize) -> bool
+    requires { place < length path.now }
+    ensures { result ≡ spec.begins_at begins path.now place }
+{
+    if place == 0 {
+        begins
+    } else {
+        path[place - 1] == b'/'
+    }
 }

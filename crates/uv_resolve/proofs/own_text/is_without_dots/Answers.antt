@@ -1,19 +1,34 @@
--- The next byte is the first of those that are left.
-use Rattle.std.proofs.Common.{sym, ◌∙◌}
-use Rattle.uv_resolve.proofs.KeptPathLemmas.{no_dots-end, no_dots-found, no_dots-step}
+-- The first dot mark of what is left tells whether a segment begins there.
+use Rattle.std.proofs.Common.{◌+◌, ◌&&◌, not, false, drop, sym, ap, ◌∙◌, arith}
+use Rattle.std.proofs.lemmas.Bool.{false_from_ne_true}
+use Rattle.uv_resolve.specs.OwnText.{has_no_dots}
+use Rattle.uv_resolve.proofs.KeptPathLemmas.{no_dots-mark, no_dots-nowhere}
 use Rattle.uv_resolve.proofs.own_text.is_without_dots.Goals as goal
 
-pub returns-then-may_be_dots : goal.returns-then-may_be_dots
-returns-then-may_be_dots c =
-    sym (no_dots-found c.loop-byte.begins c.args.path.now c.loop-byte.byte-index c.loop-byte-test.true
-    (sym c.may_be_dots.ensures ∙ c.if-may_be_dots.true)) ∙ c.loop-byte.invariant
+pub returns-then-begins_at : goal.returns-then-begins_at
+returns-then-begins_at c =
+    let found = c.in-Some.ensures in
+    let rest = c.loop-place.rest.now in
+    sym (no_dots-mark c.loop-place.begins rest c.in-Some.place found.0.high
+    (λ j below. false_from_ne_true _ (found.0.before j (omega arith) below)) found.1
+    ∙ ap (λ b. not b && has_no_dots false (drop (c.in-Some.place + 1) rest))
+    (sym c.begins_at.ensures ∙ c.if-begins_at.true))
+    ∙ c.loop-place.invariant
 
-pub loop-byte-preserved : goal.loop-byte-preserved
-loop-byte-preserved c =
-    sym (no_dots-step c.loop-byte.begins c.args.path.now c.loop-byte.byte-index c.loop-byte-test.true
-    (sym c.may_be_dots.ensures ∙ c.if-may_be_dots.false)) ∙ c.loop-byte.invariant
+pub loop-place-preserved : goal.loop-place-preserved
+loop-place-preserved c =
+    let found = c.in-Some.ensures in
+    let rest = c.loop-place.rest.now in
+    ap (has_no_dots false) c.behind_place-rest.ensures
+    ∙ sym (no_dots-mark c.loop-place.begins rest c.in-Some.place found.0.high
+    (λ j below. false_from_ne_true _ (found.0.before j (omega arith) below)) found.1
+    ∙ ap (λ b. not b && has_no_dots false (drop (c.in-Some.place + 1) rest))
+    (sym c.begins_at.ensures ∙ c.if-begins_at.false))
+    ∙ c.loop-place.invariant
 
 pub returns : goal.returns
 returns c =
-    sym (no_dots-end c.loop-byte.begins c.args.path.now c.loop-byte.byte-index c.loop-byte-test.false)
-    ∙ c.loop-byte.invariant
+    let nowhere = c.in_default.ensures in
+    sym (no_dots-nowhere c.loop-place.begins c.loop-place.rest.now
+    (λ j below. false_from_ne_true _ (nowhere j (omega arith) below)))
+    ∙ c.loop-place.invariant
