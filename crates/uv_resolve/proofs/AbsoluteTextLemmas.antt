@@ -26,15 +26,10 @@ use Rattle.uv_model.proofs.SchemeLemmas.{scheme_class-lowercase}
 use Rattle.uv_model.proofs.Texts.AsciiLemmas.{IsAscii-from_test}
 use Rattle.uv_resolve.specs.AbsoluteText.{AreSomeParts, HasLowerScheme, IsLowerScheme, path_or_slash, written_parts}
 use Rattle.uv_resolve.specs.OwnText.{is_kept_segment, is_never_encoded}
-use Rattle.uv_resolve.proofs.KeptPathLemmas.{authority_path-encoded, serial_segments-encoded, slashed_text, special_path}
+use Rattle.uv_resolve.proofs.KeptPathLemmas.{authority_path-encoded, authority_path-none, serial_segments-encoded}
+use Rattle.uv_resolve.proofs.KeptPathLemmas.{slashed_text, special_path}
 use Rattle.uv_resolve.proofs.OwnTextLemmas.{encoded-kept, never_encoded-IsAscii}
 use Rattle.uv_resolve.proofs.RecordLemmas.{denote-fields, fields}
-
--- the URL of a special scheme has one segment at least
-authority_path-none : (class : Class) → class ≢ Other → authority_path class [] ≡ [] ∷ []
-authority_path-none Special special = refl
-authority_path-none File special = refl
-authority_path-none Other special = absurd (special refl)
 
 -- a path that isn't empty is written as it stands, and an empty one as `/`
 path-serial : (class : Class) (segments : List (List ℕ)) (text : List ℕ) → class ≢ Other

@@ -62,6 +62,12 @@ authority_path-encoded Special (segment ∷ rest) some no_dots = walk-encoded Sp
 authority_path-encoded File (segment ∷ rest) some no_dots = walk-encoded File [] (segment ∷ rest) no_dots
 authority_path-encoded Other (segment ∷ rest) some no_dots = walk-encoded Other [] (segment ∷ rest) no_dots
 
+-- which has one segment at least
+pub authority_path-none : (class : Class) → class ≢ Other → authority_path class [] ≡ [] ∷ []
+authority_path-none Special special = refl
+authority_path-none File special = refl
+authority_path-none Other special = absurd (special refl)
+
 -- ---- texts of paths
 
 -- encoded segments are written as the encoding of what the segments are written as

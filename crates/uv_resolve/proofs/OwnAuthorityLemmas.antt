@@ -120,7 +120,7 @@ own_path_behind profile base text parts valid own special own_path =
     ap (λ t. base.scheme ++ (colon ∷ t)) (append-nil text ∙ is.whole)
     ∙ ap (λ p. spelled base.scheme form p parts.query parts.fragment) path
     ∙ authority-serial base text parts segments own is.schemed special is.whole
-    (authority_path-kept segments some (kept-segments segments no_dots)
+    (authority_path-kept Special segments some (kept-segments segments no_dots)
     (sym (ap (list_all is_never_encoded) path) ∙ path_bytes))
 
 -- where it ends in its host, it is with a `/` behind it

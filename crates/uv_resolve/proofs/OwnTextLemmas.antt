@@ -13,7 +13,7 @@ use Rattle.std.proofs.lemmas.Bool.{and_parts, and_from}
 use Rattle.std.proofs.lemmas.List.Folds.{list_all-append}
 use Rattle.uv_model.specs.declared.profile.Profile.{Profile}
 use Rattle.uv_model.specs.declared.scheme.Class.{Class}
-use Rattle.uv_model.specs.declared.scheme.Class.TheVariants.{Other, Special}
+use Rattle.uv_model.specs.declared.scheme.Class.TheVariants.{File, Other, Special}
 use Rattle.uv_model.specs.declared.host.Host.{Host}
 use Rattle.uv_model.specs.declared.path.UrlPath.TheVariants.{Segments}
 use Rattle.uv_model.specs.Ascii.{apostrophe, slash, colon, question_mark, number_sign}
@@ -27,13 +27,13 @@ use Rattle.uv_model.specs.Records.Url.{Url}
 use Rattle.uv_model.specs.Scheme.{default_port, scheme_class}
 use Rattle.uv_model.specs.Setting.{scheme_or}
 use Rattle.uv_model.specs.Valid.{Valid}
-use Rattle.uv_model.proofs.Deciding.Decisions.{special_not_other}
+use Rattle.uv_model.proofs.Deciding.Decisions.{file_not_other, special_not_other}
 use Rattle.uv_model.proofs.Texts.AsciiLemmas.{IsAscii-from_test}
 use Rattle.uv_model.proofs.Texts.EncodingLemmas.{is_kept, encoded_code_point-kept}
 use Rattle.uv_text.specs.Class.{in_class}
 use Rattle.uv_grammar.proofs.HostLemmas.{some_chars}
-use Rattle.uv_resolve.proofs.KeptPathLemmas.{authority_path-encoded, encoded_each, slashed_text, special_path}
-use Rattle.uv_resolve.proofs.KeptPathLemmas.{kept-segments, walk-encoded}
+use Rattle.uv_resolve.proofs.KeptPathLemmas.{authority_path-encoded, authority_path-none, encoded_each, slashed_text}
+use Rattle.uv_resolve.proofs.KeptPathLemmas.{kept-segments, special_path, walk-encoded}
 use Rattle.uv_resolve.proofs.RecordLemmas.{fields, denote-fields}
 use Rattle.uv_resolve.specs.OwnText.{HasOwnPrefix, HasOwnScheme, IsOwnPath, IsOwnRoot, IsOwnScheme, IsOwnText}
 use Rattle.uv_resolve.specs.OwnText.{has_no_dots, is_kept_segment, is_never_encoded}
@@ -117,10 +117,11 @@ walk-kept class path segments no_dots bytes =
     walk-encoded class path segments no_dots ∙ ap (λ s. path ++ s) (segments-kept segments bytes)
 
 -- and so is the path behind an authority
-pub authority_path-kept : (segments : List (List ℕ)) → segments ≢ [] → list_all is_kept_segment segments ≡ true
-    → list_all is_never_encoded (serial_segments segments) ≡ true → authority_path Special segments ≡ segments
-authority_path-kept segments some no_dots bytes =
-    authority_path-encoded Special segments some no_dots ∙ segments-kept segments bytes
+pub authority_path-kept : (class : Class) (segments : List (List ℕ)) → segments ≢ []
+    → list_all is_kept_segment segments ≡ true → list_all is_never_encoded (serial_segments segments) ≡ true
+    → authority_path class segments ≡ segments
+authority_path-kept class segments some no_dots bytes =
+    authority_path-encoded class segments some no_dots ∙ segments-kept segments bytes
 
 -- a path text that isn't empty has segments
 pub some_segments : (segments : List (List ℕ)) (text : List ℕ) → text ≢ [] → MayBePathSlashed segments text → segments ≢ []
@@ -137,11 +138,14 @@ no_segments segments text (inr path) is =
 -- ---- queries and fragments
 
 -- a query of such code points is denoted as it is
-query-kept : (base : Option Url) (query : Option (List ℕ))
+query-kept : (base : Option Url) (class : Class) (query : Option (List ℕ)) → class ≢ Other
     → list_all is_never_encoded (written_behind question_mark query) ≡ true
-    → denoted_query base Special SchemeAuthority query ≡ query
-query-kept base None h = refl
-query-kept base (Some query) h = ap Some (encoded-kept true query (behind question_mark query h))
+    → denoted_query base class SchemeAuthority query ≡ query
+query-kept base Special None special h = refl
+query-kept base Special (Some query) special h = ap Some (encoded-kept true query (behind question_mark query h))
+query-kept base File None special h = refl
+query-kept base File (Some query) special h = ap Some (encoded-kept true query (behind question_mark query h))
+query-kept base Other query special h = absurd (special refl)
 
 -- and so is such a fragment
 pub fragment-kept : (fragment : Option (List ℕ))
@@ -224,9 +228,10 @@ prefix-host text parts scheme own whole =
 prefix-serial : (base : Option Url) (text : List ℕ) (parts : Parts) (scheme : List ℕ) (segments : List (List ℕ))
     → (own : HasOwnPrefix text parts) → parts.scheme ≡ Some scheme → IsOwnScheme scheme
     → text ≡ spelled scheme own.host.form parts.path_text parts.query parts.fragment
-    → authority_path Special parts.segments ≡ segments
+    → authority_path (scheme_class scheme) parts.segments ≡ segments
     → spelled scheme own.host.form (serial_segments segments) parts.query parts.fragment ≡ serial (denote base parts)
 prefix-serial base text parts scheme segments own schemed is whole path =
+    let class = scheme_class scheme in
     let form = own.host.form in
     let query = parts.query in
     let fragment = parts.fragment in
@@ -235,13 +240,13 @@ prefix-serial base text parts scheme segments own schemed is whole path =
     let host = own.host.value in
     let written = sym (own.host.written (prefix-host text parts scheme own whole)) in
     let denoted : fields scheme (Some host) None (Segments segments) query fragment ≡ denote base parts
-    = denote-fields base parts Special scheme (Some host) None (Segments segments) query fragment
-    (sym (ap (λ s. scheme_class (scheme_or base s)) schemed ∙ is.special))
+    = denote-fields base parts class scheme (Some host) None (Segments segments) query fragment
+    (sym (ap (λ s. scheme_class (scheme_or base s)) schemed))
     (sym (ap (λ s. denoted_scheme base s) schemed ∙ is.lower))
     (rw own.form (rw own.host.host refl))
     (sym (ap (λ f. denoted_port base f parts) own.form ∙ own.port.port))
-    (sym (ap (λ f. denoted_path base Special f parts) own.form ∙ ap Segments path))
-    (sym (ap (λ f. denoted_query base Special f query) own.form ∙ query-kept base query from_query.0))
+    (sym (ap (λ f. denoted_path base class f parts) own.form ∙ ap Segments path))
+    (sym (ap (λ f. denoted_query base class f query) own.form ∙ query-kept base class query is.special from_query.0))
     (sym (fragment-kept fragment from_query.1))
     in
     sym (serial-spelled scheme form host written segments query fragment) ∙ ap serial denoted
@@ -256,8 +261,7 @@ own-schemed profile base text parts scheme valid own schemed is =
     let segments = parts.segments in
     let whole = prefix-spelled profile base text parts scheme valid prefix schemed in
     let slashed : MayBePathSlashed segments parts.path_text
-    = special_path profile base text parts scheme valid prefix.form schemed
-    (subst (λ class. class ≢ Other) (sym is.special) special_not_other)
+    = special_path profile base text parts scheme valid prefix.form schemed is.special
     in
     let some = some_segments segments parts.path_text own.path.0 slashed in
     let path : parts.path_text ≡ serial_segments segments
@@ -268,7 +272,7 @@ own-schemed profile base text parts scheme valid own schemed is =
     (own.path.1 (never_encoded-ascii parts.path_text bytes)) in
     whole ∙ ap (λ p. spelled scheme form p parts.query parts.fragment) path
     ∙ prefix-serial base text parts scheme segments prefix schemed is whole
-    (authority_path-kept segments some (kept-segments segments no_dots)
+    (authority_path-kept (scheme_class scheme) segments some (kept-segments segments no_dots)
     (sym (ap (list_all is_never_encoded) path) ∙ bytes))
 
 -- behind a text that ends in its host stands the `/` of its path
@@ -288,11 +292,11 @@ root-schemed profile base text parts scheme valid own schemed is =
     let ends = own.ends in
     let whole = prefix-spelled profile base text parts scheme valid prefix schemed in
     let slashed : MayBePathSlashed parts.segments parts.path_text
-    = special_path profile base text parts scheme valid prefix.form schemed
-    (subst (λ class. class ≢ Other) (sym is.special) special_not_other)
+    = special_path profile base text parts scheme valid prefix.form schemed is.special
     in
-    let root : authority_path Special parts.segments ≡ [] ∷ []
-    = ap (authority_path Special) (no_segments parts.segments parts.path_text slashed ends.path)
+    let root : authority_path (scheme_class scheme) parts.segments ≡ [] ∷ []
+    = ap (authority_path (scheme_class scheme)) (no_segments parts.segments parts.path_text slashed ends.path)
+    ∙ authority_path-none (scheme_class scheme) is.special
     in
     let bare : text ≡ spelled scheme form [] None None
     = whole ∙ ap (λ p. spelled scheme form p parts.query parts.fragment) ends.path
@@ -369,18 +373,22 @@ own_path bytes utf8 some no_dots = (
 -- the two schemes
 https_is_own : IsOwnScheme (codes "https")
 unfolding scheme_class default_port
-https_is_own = record { special = refl; lower = refl }
+https_is_own = record { special = special_not_other; lower = refl }
 
 http_is_own : IsOwnScheme (codes "http")
 unfolding scheme_class default_port
-http_is_own = record { special = refl; lower = refl }
+http_is_own = record { special = special_not_other; lower = refl }
+
+file_is_own : IsOwnScheme (codes "file")
+unfolding scheme_class default_port
+file_is_own = record { special = file_not_other; lower = refl }
 
 own_scheme : (bytes name : List ℕ) → IsOwnScheme name → list_all is_ascii name ≡ true → bytes ≡ name
     → IsOwnScheme (chars bytes)
 own_scheme bytes name own ascii e =
     subst IsOwnScheme (sym (ascii_chars bytes name (IsAscii-from_test name ascii) e)) own
 
--- `https` and `http` are schemes that stand as they are written
+-- `https`, `http` and `file` are schemes that stand as they are written
 pub https : (bytes : List ℕ) → bytes_eq bytes (codes "https") ≡ true → IsOwnScheme (chars bytes)
 https bytes same =
     own_scheme bytes (codes "https") https_is_own refl ((bytes_eq-Decides bytes (codes "https")).0 same)
@@ -388,3 +396,7 @@ https bytes same =
 pub http : (bytes : List ℕ) → bytes_eq bytes (codes "http") ≡ true → IsOwnScheme (chars bytes)
 http bytes same =
     own_scheme bytes (codes "http") http_is_own refl ((bytes_eq-Decides bytes (codes "http")).0 same)
+
+pub file : (bytes : List ℕ) → bytes_eq bytes (codes "file") ≡ true → IsOwnScheme (chars bytes)
+file bytes same =
+    own_scheme bytes (codes "file") file_is_own refl ((bytes_eq-Decides bytes (codes "file")).0 same)

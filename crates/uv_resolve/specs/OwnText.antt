@@ -6,7 +6,7 @@ use Rattle.std.specs.List.{list_all}
 use Rattle.std.specs.Char.{is_ascii}
 use Rattle.uv_model.specs.Ascii.{apostrophe, full_stop, percent_sign, slash}
 use Rattle.uv_model.specs.declared.host.Host.{Host}
-use Rattle.uv_model.specs.declared.scheme.Class.TheVariants.{Special}
+use Rattle.uv_model.specs.declared.scheme.Class.TheVariants.{Other}
 use Rattle.uv_model.specs.Parts.{SchemeAuthority, Parts}
 use Rattle.uv_model.specs.Path.{is_double_dot, is_single_dot}
 use Rattle.uv_model.specs.Records.Serialize.{serial_host}
@@ -22,7 +22,7 @@ is_kept_segment segment = not (is_double_dot segment) && not (is_single_dot segm
 
 -- a special scheme in lower case
 pub record IsOwnScheme (scheme : List ℕ) : Type 0 where
-  pub special : scheme_class scheme ≡ Special
+  pub special : scheme_class scheme ≢ Other
   pub lower : lowercase scheme ≡ scheme
 
 -- the scheme of the text is one

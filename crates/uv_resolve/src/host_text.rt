@@ -11,7 +11,7 @@ ghost use Rattle.uv_grammar.specs.PartsHost.{referred};
 use itoa::Buffer;
 use uv_grammar::HostRef;
 
-/// Whether the text of a domain or of an address is the serialized host. Where the answer is no, that says nothing.
+/// Whether the text of a host is the serialized host. Where the answer is no, that says nothing.
 pub(crate) fn is_serialized(text: &str, host: &HostRef<'_>) -> bool
     ensures { IsTrue result → list_all is_ascii (chars text.now) ≡ true
         → chars text.now ≡ serial_host (referred host.now) }
@@ -20,7 +20,8 @@ pub(crate) fn is_serialized(text: &str, host: &HostRef<'_>) -> bool
         HostRef::Domain(form) => text == form.as_str(),
         HostRef::V4(value) => is_ipv4(text.as_bytes(), *value),
         HostRef::V6(pieces) => is_ipv6(text.as_bytes(), pieces),
-        _ => false,
+        HostRef::Empty => text.is_empty(),
+        HostRef::Opaque(_) => false,
     }
 }
 

@@ -64,8 +64,15 @@ fn has_own_scheme(scheme: Option<&str>) -> bool
     }
 }
 
-// Whether the scheme is one of the two that most links have.
+// Whether the scheme is one of the three that most links have.
 fn is_own_scheme(scheme: &str) -> bool
+    ensures { IsTrue result → IsOwnScheme (chars scheme.now) }
+{
+    is_http_scheme(scheme) || scheme == "file"
+}
+
+// Whether it is one of the two of HTTP.
+fn is_http_scheme(scheme: &str) -> bool
     ensures { IsTrue result → IsOwnScheme (chars scheme.now) }
 {
     scheme == "https" || scheme == "http"
