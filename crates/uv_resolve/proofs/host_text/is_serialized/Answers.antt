@@ -21,13 +21,6 @@ returns-in-V4 c = λ same ascii.
     ∙ sym c.as_bytes.ensures.value ∙ c.is_ipv4.ensures same
     ∙ sym (ap (λ h. serial_host (referred h)) c.in-V4.is)
 
-pub returns-in-V6 : goal.returns-in-V6
-unfolding serial_host
-returns-in-V6 c = λ same ascii.
-    sym (ascii_bytes c.args.text.now c.utf8.text ascii)
-    ∙ sym c.as_bytes-in-V6.ensures.value ∙ c.is_ipv6.ensures same
-    ∙ sym (ap (λ h. serial_host (referred h)) c.in-V6.is)
-
 pub returns-in-Empty : goal.returns-in-Empty
 unfolding serial_host
 returns-in-Empty c = λ empty ascii.
