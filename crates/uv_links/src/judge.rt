@@ -1,22 +1,25 @@
 //! The judgement of a line.
-ghost use Rattle.std.specs.Prelude.{◌≡◌, ◌≤◌, IfOk, IfErr, Some, length, option_copied};
-ghost use Rattle.std.specs.Str.{IsUtf8};
+ghost use Rattle.std.specs.Cow.{cow_str_bytes};
+ghost use Rattle.std.specs.Prelude.{◌≡◌, ◌≤◌, ◌↔◌, IfOk, IfErr, IsTrue, None, Some, length, option_copied};
+ghost use Rattle.std.specs.Str.{IsUtf8, chars};
+ghost use Rattle.uv_grammar.specs.Verdict.{IsVerdict};
 ghost use Rattle.uv_links.specs.Fault.{IsBaseFault};
 ghost use Rattle.uv_links.specs.Judgement.{judged_said};
 ghost use Rattle.uv_links.specs.Report.{IsSaid};
 ghost use Rattle.uv_resolve.specs.Resolve.{DenotesText};
-ghost use Rattle.uv_second.specs.Second.{AgreesOnBase, IsReadAs, second_base};
+ghost use Rattle.uv_second.specs.Second.{AgreesOnBase, second_base, second_text};
 
 use crate::fault::{LinkFault, fault_of_room};
 use crate::judgement::Judgement;
 use std::alloc::{AllocError, Global};
+use std::borrow::CowStr;
 use std::marker::Model;
 use std::str::from_utf8;
 use url::Url;
-use uv_grammar::{Verdict, check};
+use uv_grammar::{Verdict, check, check_alone};
 use uv_model::{Profile, Record};
-use uv_resolve::serialize_parts;
-use uv_second::{RoomFault, read_as};
+use uv_resolve::serialized_text;
+use uv_second::{RoomFault, read_as, reads_as};
 
 /// What the lines are judged against: the profile, the base, the base as the second parser reads it, and how many bytes
 /// a line may have.
@@ -75,7 +78,11 @@ impl<'b> Judge<'b> {
     }
 
     /// What is said of a line.
-    pub(crate) fn judge(&self, alloc: Global, line: &[u8]) -> Result<Judgement, RoomFault>
+    pub(crate) fn judge<'l>(
+        &self,
+        alloc: Global,
+        line: &'l [u8],
+    ) -> Result<Judgement<'l>, RoomFault>
         ensures { IfOk result (λ j. IsSaid self.now line.now (judged_said j)) }
     {
         if line.len() > self.line_bytes {
@@ -88,14 +95,56 @@ impl<'b> Judge<'b> {
     }
 
     // What is said of a line that isn't too long and is UTF-8.
-    fn judge_text(&self, alloc: Global, text: &str) -> Result<Judgement, RoomFault>
+    fn judge_text<'l>(&self, alloc: Global, text: &'l str) -> Result<Judgement<'l>, RoomFault>
         requires { length text.now ≤ self.now.line_bytes }
         ensures { IfOk result (λ j. IsSaid self.now text.now (judged_said j)) }
     {
-        match check(alloc, text, self.base, self.profile) {
+        match self.base {
+            None => self.judge_alone(alloc, text),
+            Some(base) => self.judge_against(alloc, text, base),
+        }
+    }
+
+    // The same without a base. No one else calls `check_alone`, so the compiler puts it here.
+    fn judge_alone<'l>(&self, alloc: Global, text: &'l str) -> Result<Judgement<'l>, RoomFault>
+        requires short { length text.now ≤ self.now.line_bytes }
+        requires alone { self.now.base ≡ None }
+        ensures { IfOk result (λ j. IsSaid self.now text.now (judged_said j)) }
+    {
+        let answer = check_alone(alloc, text, self.profile);
+        self.judge_answer(alloc, text, answer)
+    }
+
+    // The same against a base.
+    fn judge_against<'l>(
+        &self,
+        alloc: Global,
+        text: &'l str,
+        base: &Record,
+    ) -> Result<Judgement<'l>, RoomFault>
+        requires short { length text.now ≤ self.now.line_bytes }
+        requires base { self.now.base ≡ Some base.now }
+        ensures { IfOk result (λ j. IsSaid self.now text.now (judged_said j)) }
+    {
+        let answer = check(alloc, text, Some(base), self.profile);
+        self.judge_answer(alloc, text, answer)
+    }
+
+    // What is said of a text on which this is the checker's answer.
+    fn judge_answer<'l>(
+        &self,
+        alloc: Global,
+        text: &'l str,
+        answer: Result<Verdict<'_>, AllocError>,
+    ) -> Result<Judgement<'l>, RoomFault>
+        requires short { length text.now ≤ self.now.line_bytes }
+        requires answer { IfOk answer (IsVerdict self.now.profile self.now.base (chars text.now)) }
+        ensures { IfOk result (λ j. IsSaid self.now text.now (judged_said j)) }
+    {
+        match answer {
             Ok(Verdict::Yes(parts)) => {
-                let written = serialize_parts(alloc, text, parts, self.base)?;
-                self.compare(alloc, text, written.as_str())
+                let written = serialized_text(alloc, text, parts, self.base)?;
+                self.compare(alloc, text, written)
             }
             Ok(Verdict::No(refusal)) => Ok(Judgement::Refused(refusal)),
             Err(AllocError) => Err(RoomFault::Memory),
@@ -103,23 +152,29 @@ impl<'b> Judge<'b> {
     }
 
     // What is said of a text that denotes a URL with this text.
-    fn compare(&self, alloc: Global, text: &str, written: &str) -> Result<Judgement, RoomFault>
+    fn compare<'l>(
+        &self,
+        alloc: Global,
+        text: &str,
+        written: CowStr<'l>,
+    ) -> Result<Judgement<'l>, RoomFault>
         requires short { length text.now ≤ self.now.line_bytes }
-        requires denotes { DenotesText self.now.profile self.now.base text.now written.now }
+        requires denotes { DenotesText self.now.profile self.now.base text.now (cow_str_bytes written) }
         ensures { IfOk result (λ j. IsSaid self.now text.now (judged_said j)) }
     {
-        match self.read(alloc, text, written)? {
-            Some(url) => Ok(Judgement::Same(url)),
-            None => Ok(Judgement::Differs),
+        if self.agrees(alloc, text, written.as_str())? {
+            Ok(Judgement::Same(written))
+        } else {
+            Ok(Judgement::Differs)
         }
     }
 
-    // The second parser's URL of a text, where it has this text.
-    fn read(&self, alloc: Global, text: &str, written: &str) -> Result<Option<Url>, RoomFault>
-        ensures { IfOk result (λ url.
-            IsReadAs (second_base self.now.base) text.now written.now url) }
+    // Whether the second parser reads a text as a URL with this text.
+    fn agrees(&self, alloc: Global, text: &str, written: &str) -> Result<bool, RoomFault>
+        ensures { IfOk result (λ same.
+            IsTrue same ↔ (second_text self.now.base text.now ≡ Some written.now)) }
     {
-        read_as(alloc, self.second.as_ref(), text, written)
+        reads_as(alloc, self.second.as_ref(), text, written)
     }
 }
 

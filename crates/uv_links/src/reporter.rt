@@ -74,12 +74,12 @@ impl<'b> LinkReporter<'b> {
     }
 
     // Appends the line of the report, and counts it.
-    fn add(&mut self, judgement: Judgement, text: &mut Vec<u8>) -> Result<(), AllocError>
+    fn add(&mut self, judgement: Judgement<'_>, text: &mut Vec<u8>) -> Result<(), AllocError>
         requires { self.old.counts.lines < 2 ^ 64 - 1 }
         ensures text { OnOk result (text.new.items
-            ≡ text.old.items ++ report_line (self.old.counts.lines + 1) (judged_said judgement)) }
+            ≡ text.old.items ++ report_line (self.old.counts.lines + 1) (judged_said judgement.entry)) }
         ensures counted { OnOk result (self.new
-            ≡ record { setting = self.old.setting; counts = counted self.old.counts (judged_said judgement) }) }
+            ≡ record { setting = self.old.setting; counts = counted self.old.counts (judged_said judgement.entry) }) }
         ensures none { OnErr result ((self.new ≡ self.old) × (text.new.items ≡ text.old.items)) }
     {
         let start = text.len();
@@ -137,7 +137,11 @@ impl<'b> Reporter for LinkReporter<'b> {
 }
 
 // What is said of a line; none stands for one that is too long.
-fn judge_line(alloc: Global, judge: &Judge<'_>, line: Option<&[u8]>) -> Result<Judgement, RoomFault>
+fn judge_line<'l>(
+    alloc: Global,
+    judge: &Judge<'_>,
+    line: Option<&'l [u8]>,
+) -> Result<Judgement<'l>, RoomFault>
     ensures { IfOk result (λ j. IsSaidOf judge.now (option_copied line.entry) (judged_said j)) }
 {
     match line {
@@ -147,7 +151,7 @@ fn judge_line(alloc: Global, judge: &Judge<'_>, line: Option<&[u8]>) -> Result<J
 }
 
 // The counts with a further line.
-fn with_line(counts: Counts, judgement: &Judgement) -> Counts
+fn with_line(counts: Counts, judgement: &Judgement<'_>) -> Counts
     requires few { counts.lines < 2 ^ 64 - 1 }
     requires whole { counts.ok + counts.bad + counts.differs ≡ counts.lines }
     ensures { result ≡ counted counts (judged_said judgement.now) }

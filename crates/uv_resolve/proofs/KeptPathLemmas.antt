@@ -1,10 +1,11 @@
 -- Paths of segments that a walk keeps: what is denoted is each of them percent-encoded.
 use Rattle.std.proofs.Common.{◌≡◌, ◌≢◌, ℕ, Bool, true, false, not, List, [], ◌∷◌, ◌++◌, Option, Some, None, refl}
-use Rattle.std.proofs.Common.{sym, ap, ◌∙◌, subst, inl, inr, append_assoc, append-nil, map}
-use Rattle.std.proofs.Common.{◌==◌, ◌<◌, ◌+◌, ◌&&◌, zero, suc, length, drop, slice_index, codes, arith}
+use Rattle.std.proofs.Common.{◌||◌, sym, ap, ◌∙◌, subst, inl, inr, append_assoc, append-nil, map}
+use Rattle.std.proofs.Common.{◌==◌, ◌<◌, ◌≤◌, ◌+◌, ◌&&◌, suc, length, drop, drop-cons, slice_index_or, codes, arith}
 use Rattle.std.specs.Char.{to_ascii_lowercase}
 use Rattle.std.specs.Str.{bytes_eq}
 use Rattle.std.specs.List.{join_with_byte, list_all}
+use Rattle.std.proofs.Math.ListN.{drop_of_length-le}
 use Rattle.std.proofs.lemmas.Slice.Eq.{bytes_eq-Decides}
 use Rattle.std.proofs.lemmas.Bool.Decides.{nat_tests}
 use Rattle.std.proofs.lemmas.Bool.{and_parts, and_from, false_from_ne_true, false≢true, not-true}
@@ -24,7 +25,7 @@ use Rattle.uv_model.specs.Valid.{FitsAuthority, FitsForm, FitsHostText, Valid}
 use Rattle.uv_model.proofs.Paths.SlashedPaths.{alone_or_none, slashed_or_none}
 use Rattle.uv_model.proofs.Texts.EncodingLemmas.{encoded-append}
 use Rattle.uv_parser.proofs.RoundTrip.SerializedTexts.{serial_segments-joined}
-use Rattle.uv_resolve.specs.OwnText.{begins_at, has_no_dots, is_dot_mark, is_kept_segment}
+use Rattle.uv_resolve.specs.OwnText.{has_no_dots, is_dot_mark, is_kept_segment}
 
 -- each segment percent-encoded
 abbrev pub encoded_each : List (List ℕ) → List (List ℕ)
@@ -159,55 +160,29 @@ no_dots-behind begins (c ∷ prefix) rest h =
     no_dots-behind (c == slash) prefix rest
     (and_parts (not (begins && is_dot_mark c)) (has_no_dots (c == slash) (prefix ++ rest)) h).1
 
--- no segment begins as a dot segment does at a byte that is no dot mark
-unmarked : (begins : Bool) (c : ℕ) → is_dot_mark c ≡ false → not (begins && is_dot_mark c) ≡ true
-unmarked false c none = refl
-unmarked true c none = ap not none
-
-and-true : (b : Bool) → (b && true) ≡ b
-and-true false = refl
-and-true true = refl
-
--- a dot mark is no `/`
-mark_no_slash : (c : ℕ) → is_dot_mark c ≡ true → (c == slash) ≡ false
-mark_no_slash c mark = grind (arith, nat_tests)
-
--- where a segment begins behind a byte
-begins_at-more : (begins : Bool) (c : ℕ) (rest : List ℕ) (k : ℕ)
-    → begins_at (c == slash) rest k ≡ begins_at begins (c ∷ rest) (suc k)
-begins_at-more begins c rest zero = refl
-begins_at-more begins c rest (suc k) = refl
-
--- a text without dot marks is such a text
-pub no_dots-nowhere : (begins : Bool) (text : List ℕ)
-    → ((k : ℕ) → k < length text → is_dot_mark (slice_index text k) ≡ false) → has_no_dots begins text ≡ true
-no_dots-nowhere begins [] none = refl
-no_dots-nowhere begins (c ∷ rest) none =
-    and_from _ _ (unmarked begins c (none 0 (omega arith)))
-    (no_dots-nowhere (c == slash) rest (λ k below. none (suc k) (omega (arith, below))))
-
--- a text is known by its first dot mark: no segment begins there, and what follows it is such a text
-mark-split : (begins : Bool) (text : List ℕ) (k : ℕ) → k < length text
-    → ((j : ℕ) → j < k → is_dot_mark (slice_index text j) ≡ false) → is_dot_mark (slice_index text k) ≡ true
-    → has_no_dots begins text ≡ (not (begins_at begins text k) && has_no_dots false (drop (suc k) text))
-mark-split begins [] k below none mark = absurd (omega (arith, below))
-mark-split begins (c ∷ rest) zero below none mark =
-    ap (λ m. not (begins && m) && has_no_dots (c == slash) rest) mark
-    ∙ ap (λ b. not b && has_no_dots (c == slash) rest) (and-true begins)
-    ∙ ap (λ s. not begins && has_no_dots s rest) (mark_no_slash c mark)
-mark-split begins (c ∷ rest) (suc k) below none mark =
-    ap (λ b. b && has_no_dots (c == slash) rest) (unmarked begins c (none 0 (omega arith)))
-    ∙ mark-split (c == slash) rest k (omega (arith, below)) (λ j less. none (suc j) (omega (arith, less))) mark
-    ∙ ap (λ b. not b && has_no_dots false (drop (suc k) rest)) (begins_at-more begins c rest k)
-
--- the same by the place behind it
-pub no_dots-mark : (begins : Bool) (text : List ℕ) (k : ℕ) → k < length text
-    → ((j : ℕ) → j < k → is_dot_mark (slice_index text j) ≡ false) → is_dot_mark (slice_index text k) ≡ true
-    → has_no_dots begins text ≡ (not (begins_at begins text k) && has_no_dots false (drop (k + 1) text))
-no_dots-mark begins text k below none mark =
+-- such a text is known by its next byte and what follows it
+no_dots-first : (begins : Bool) (text : List ℕ) (k : ℕ) → k < length text
+    → has_no_dots begins (drop k text) ≡ (not (begins && is_dot_mark (slice_index_or text k 0))
+    && has_no_dots (slice_index_or text k 0 == slash) (drop (k + 1) text))
+no_dots-first begins text k below =
     let next : suc k ≡ k + 1 = omega arith in
-    mark-split begins text k below none mark
-    ∙ ap (λ n. not (begins_at begins text k) && has_no_dots false (drop n text)) next
+    ap (has_no_dots begins) (drop-cons text k 0 below)
+    ∙ ap (λ n. not (begins && is_dot_mark (slice_index_or text k 0))
+    && has_no_dots (slice_index_or text k 0 == slash) (drop n text)) next
+
+-- the next byte is seen, where one before it was found to begin a dot segment or not
+pub no_dots-next : (found begins : Bool) (text : List ℕ) (k : ℕ) → k < length text
+    → (not (found || (begins && is_dot_mark (slice_index_or text k 0)))
+    && has_no_dots (slice_index_or text k 0 == slash) (drop (k + 1) text))
+    ≡ (not found && has_no_dots begins (drop k text))
+no_dots-next true begins text k below = refl
+no_dots-next false begins text k below = sym (no_dots-first begins text k below)
+
+-- no byte is left
+pub no_dots-end : (found begins : Bool) (text : List ℕ) (k : ℕ) → length text ≤ k
+    → (not found && has_no_dots begins (drop k text)) ≡ not found
+no_dots-end true begins text k none = refl
+no_dots-end false begins text k none = ap (has_no_dots begins) (drop_of_length-le text none)
 
 -- a segment in such a text is kept
 kept-first : (segment rest : List ℕ) → has_no_dots true (segment ++ rest) ≡ true → is_kept_segment segment ≡ true

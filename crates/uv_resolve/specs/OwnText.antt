@@ -1,7 +1,6 @@
 -- Texts that are the text of the URL that they denote: parsed and serialized they stay as they are (URL Standard,
 -- sections 4.4 and 4.5).
 use Rattle.std.specs.Prelude.{◌≡◌, ◌≢◌, ℕ, Bool, true, false, not, ◌&&◌, ◌||◌, ◌==◌, List, [], ◌∷◌, Option, Some, None}
-use Rattle.std.specs.Prelude.{slice_index, suc, zero}
 use Rattle.std.specs.List.{list_all}
 use Rattle.std.specs.Char.{is_ascii}
 use Rattle.uv_model.specs.Ascii.{apostrophe, full_stop, percent_sign, slash}
@@ -46,11 +45,6 @@ pub record HasNoPort (parts : Parts) : Type 0 where
 -- a code point with which a dot segment begins
 abbrev pub is_dot_mark : ℕ → Bool
 is_dot_mark c = (c == full_stop) || (c == percent_sign)
-
--- whether a segment begins at a place, where it is said of the first
-abbrev pub begins_at : Bool → List ℕ → ℕ → Bool
-begins_at begins text zero = begins
-begins_at begins text (suc k) = slice_index text k == slash
 
 -- no `.` and no `%` stands behind a `/`, nor at the start where that begins a segment
 abbrev pub has_no_dots : Bool → List ℕ → Bool

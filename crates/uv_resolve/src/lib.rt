@@ -19,4 +19,4 @@ mod walker;
 pub use base::resolve_base;
 pub use fault::ResolveFault;
 pub use resolver::resolve;
-pub use serialized::{resolve_serialized, serialize_parts};
+pub use serialized::{resolve_serialized, serialize_parts, serialized_text};

@@ -1,15 +1,13 @@
 //! Texts that are the text of the URL that they denote, but perhaps for a `/` at the end, as most links are: no record
 //! has to be made of them.
-ghost use Rattle.std.specs.Prelude.{◌≡◌, ◌+◌, ◌<◌, [], IsTrue, drop, length, true};
+ghost use Rattle.std.specs.Prelude.{◌≡◌, ◌&&◌, [], IsTrue, true};
 ghost use Rattle.std.specs.List.{list_all};
 ghost use Rattle.std.specs.Str.{chars};
 ghost use Rattle.uv_grammar.specs.Slices.{chars_of_option};
 ghost use Rattle.uv_resolve.specs.OwnText.{EndsInHost, HasNoPort, HasOwnPrefix, HasOwnHost, HasOwnScheme, IsOwnPath};
-ghost use Rattle.uv_resolve.specs.OwnText.{IsOwnRoot, IsOwnScheme, IsOwnText, has_no_dots, is_never_encoded};
-ghost use Rattle.uv_resolve.specs.OwnText as spec;
+ghost use Rattle.uv_resolve.specs.OwnText.{IsOwnRoot, IsOwnScheme, IsOwnText, has_no_dots, is_dot_mark, is_never_encoded};
 
 use crate::host_text::is_serialized;
-use memchr::memchr2;
 use uv_grammar::{Form, Parts};
 use uv_text::{ByteClass, unit_run};
 
@@ -125,38 +123,23 @@ pub(crate) fn is_own_path(text: &str) -> bool
     is_without_dots(false, text.as_bytes())
 }
 
-/// Whether no `.` and no `%` stands behind a `/`, nor at the start where a segment begins there.
+/// Whether no `.` and no `%` stands behind a `/`, nor at the start where a segment begins there. No branch is taken for a
+/// byte, since those at a segment's start would be guessed wrong.
 pub(crate) fn is_without_dots(at_start: bool, path: &[u8]) -> bool
     ensures { result ≡ has_no_dots at_start path.now }
 {
     let mut begins = at_start;
-    let mut rest = path;
-    while let Some(place) = memchr2(b'.', b'%', rest) {
-        if begins_at(begins, rest, place) {
-            return false;
-        }
-        begins = false;
-        rest = behind_place(rest, place);
+    let mut has_dots = false;
+    for &byte in path {
+        has_dots |= may_be_dots(begins, byte);
+        begins = byte == b'/';
     }
-    true
+    !has_dots
 }
 
-// What stands behind a place.
-fn behind_place<'p>(path: &'p [u8], place: usize) -> &'p [u8]
-    requires { place < length path.now }
-    ensures { result.now ≡ drop (place + 1) path.now }
+// Whether a dot segment may begin with a byte, where a segment begins there.
+fn may_be_dots(begins: bool, byte: u8) -> bool
+    ensures { result ≡ (begins && is_dot_mark byte) }
 {
-    &path[place + 1..]
-}
-
-// Whether a segment begins at a place.
-fn begins_at(begins: bool, path: &[u8], place: usize) -> bool
-    requires { place < length path.now }
-    ensures { result ≡ spec.begins_at begins path.now place }
-{
-    if place == 0 {
-        begins
-    } else {
-        path[place - 1] == b'/'
-    }
+    begins & ((byte == b'.') | (byte == b'%'))
 }

@@ -1,4 +1,5 @@
 //! The serialized URL of a text, alone or against a base.
+ghost use Rattle.std.specs.Cow.{cow_str_bytes};
 ghost use Rattle.std.specs.Prelude.{◌≡◌, ◌++◌, ◌∷◌, [], IfOk, chars, option_copied, string_bytes};
 ghost use Rattle.uv_model.specs.Ascii.{slash};
 ghost use Rattle.uv_model.specs.Records.Denote.{denote};
@@ -13,6 +14,7 @@ use crate::own_text::{is_own_root, is_own_text};
 use crate::plain_reference::plain_reference;
 use crate::records::denoted;
 use std::alloc::{AllocError, Global};
+use std::borrow::CowStr;
 use uv_grammar::{Parts, Verdict, check};
 use uv_model::{Profile, Record};
 
@@ -49,6 +51,38 @@ pub fn serialize_parts(
     if is_own_text(text, &parts) {
         return String::from_str(alloc, text);
     }
+    write_parts(alloc, text, parts, base)
+}
+
+/// The same, as a loan of the text where it is known to be the URL's text itself: as most links are, which then take no
+/// memory.
+pub fn serialized_text<'t>(
+    alloc: Global,
+    text: &'t str,
+    parts: Parts<'_>,
+    base: Option<&Record>,
+) -> Result<CowStr<'t>, AllocError>
+    requires { ArePartsOf (option_copied base) (chars text.now) parts }
+    ensures { IfOk result (λ written.
+        cow_str_bytes written ≡ serial (denote (option_copied base.entry) parts.entry)) }
+{
+    if is_own_text(text, &parts) {
+        return Ok(CowStr::Borrowed(text));
+    }
+    Ok(CowStr::Owned(write_parts(alloc, text, parts, base)?))
+}
+
+// The same, written into a string of its own, of a text that isn't known to be the URL's text itself.
+fn write_parts(
+    alloc: Global,
+    text: &str,
+    parts: Parts<'_>,
+    base: Option<&Record>,
+) -> Result<String, AllocError>
+    requires { ArePartsOf (option_copied base) (chars text.now) parts }
+    ensures { IfOk result (λ written.
+        string_bytes written ≡ serial (denote (option_copied base.entry) parts.entry)) }
+{
     if is_own_root(text, &parts) {
         return with_slash(alloc, text);
     }

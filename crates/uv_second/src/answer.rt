@@ -1,7 +1,7 @@
 //! The second parser's answer on a text, alone or against a URL of its own.
-ghost use Rattle.std.specs.Prelude.{◌≡◌, IfOk, option_copied};
+ghost use Rattle.std.specs.Prelude.{◌≡◌, ◌↔◌, IfOk, IsTrue, Some, option_copied};
 ghost use Rattle.url.specs.Parser.{Gives, parse_url};
-ghost use Rattle.uv_second.specs.Second.{IsReadAs, parsed, room_fault, second_serial};
+ghost use Rattle.uv_second.specs.Second.{IsReadAs, parsed, room_fault, second_serial, text_against};
 
 use crate::fault::RoomFault;
 use std::alloc::Global;
@@ -25,6 +25,26 @@ pub fn read_as(
         Ok(Some(url))
     } else {
         Ok(None)
+    }
+}
+
+/// Whether the second parser makes of a text, alone or against a base, a URL that has the written text.
+#[tactic(auto, unfolding(crate::specs::Second::second_serial, crate::specs::Second::text_against))]
+pub fn reads_as(
+    alloc: Global,
+    base: Option<&Url>,
+    text: &str,
+    written: &str,
+) -> Result<bool, RoomFault>
+    ensures { IfOk result (λ same.
+        IsTrue same ↔ (text_against (option_copied base.entry) text.now ≡ Some written.now)) }
+{
+    match parse(alloc, base, text) {
+        Ok(url) => Ok(url.as_str() == written),
+        Err(error) => match room_fault(error) {
+            Some(fault) => Err(fault),
+            None => Ok(false),
+        },
     }
 }
 

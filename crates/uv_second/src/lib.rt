@@ -6,7 +6,7 @@ mod fault;
 mod readings;
 mod same;
 
-pub use answer::{read_as, serial};
+pub use answer::{read_as, reads_as, serial};
 pub use fault::RoomFault;
 pub use readings::reading;
 pub use same::reads_same;

@@ -2,8 +2,9 @@
 
 use super::Answer::Url;
 use super::*;
+use std::borrow::CowStr;
 use uv_grammar::{Verdict, check};
-use uv_resolve::serialize_parts;
+use uv_resolve::{serialize_parts, serialized_text};
 
 // A text, and the URL that it denotes alone.
 const ALONE: [(&str, &str); 22] = [
@@ -126,6 +127,42 @@ fn serializes_texts_alone(rt: HostRuntime) -> Result<(), ResolveFault> {
         let written = serialized_parts(rt.alloc(), *text)?;
         let found = matches!(&written, Some(written) if written.as_str() == *want);
         assert!(rt; found, "{text}");
+    }
+    Ok(())
+}
+
+// Texts whose parts show that they are the text of their own URL, and texts that aren't that text.
+const OWN_URLS: [(&str, bool); 12] = [
+    ("https://h.example/a/b?x=1#f", true),
+    ("http://h.example/", true),
+    ("http://h.example/a.b/c%20d", true),
+    ("https://h.example/.", false),
+    ("https://h.example/a/%2e", false),
+    ("https://h.example/a/../b", false),
+    ("http://h.example", false),
+    ("HTTP://h.example/", false),
+    ("http://H.example/", false),
+    ("http://h.example:80/", false),
+    ("http://h.example/?'", false),
+    ("http://h.example/\u{E9}", false),
+];
+
+// Whether a valid text is lent as the text of its own URL; none for another text.
+fn is_lent(alloc: Global, text: &str) -> Result<Option<bool>, AllocError> {
+    let Verdict::Yes(parts) = check(alloc, text, None, Profile::Standard)? else {
+        return Ok(None);
+    };
+    match serialized_text(alloc, text, parts, None)? {
+        CowStr::Borrowed(lent) => Ok(Some(lent == text)),
+        CowStr::Owned(_) => Ok(Some(false)),
+    }
+}
+
+#[test]
+fn lends_texts_that_are_their_own_url(rt: HostRuntime) -> Result<(), AllocError> {
+    for (text, want) in OWN_URLS.iter() {
+        let found = is_lent(rt.alloc(), *text)?;
+        assert!(rt; found == Some(*want), "{text}");
     }
     Ok(())
 }
