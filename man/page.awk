@@ -61,7 +61,7 @@ FNR == 1 {
     is_late = section != "Options"
     if (section == "Commands") next
     if (is_program) say(".SH " (section == "Exit statuses" ? "EXIT STATUS" : toupper(section)))
-    else if (section == "Example" || section == "Exit statuses") say(".PP\n" section ":")
+    else if (section ~ /^Examples?$/ || section == "Exit statuses") say(".PP\n" section ":")
     next
 }
 
@@ -70,7 +70,7 @@ FNR == 1 {
 section == "Commands" { next }
 
 /^ / {
-    if (section == "Example") {
+    if (section ~ /^Examples?$/) {
         sub(/^ +/, "")
         say((is_program ? "" : ".PP\n") ".RS 4\n.nf\n" roff($0) "\n.fi\n.RE")
     } else say_entry($0)

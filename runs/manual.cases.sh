@@ -25,6 +25,14 @@ for command in $("$program" --help | sed -n '/^Commands:$/,/^$/s/^  \([a-z]*\) .
     [ "$command" = help ] || grep -q "^\.SS \"urlcheck $command" "$top/man/urlcheck.1" || fail "the page lacks $command"
 done
 
+# Each example of the help stands in the page as one, and not as an entry of a list.
+count=$((count + 1))
+examples=$(for command in '' $("$program" --help | sed -n '/^Commands:$/,/^$/s/^  \([a-z]*\) .*/\1/p'); do
+    [ "$command" = help ] || "$program" $command --help
+done | grep -c '^  urlcheck ')
+[ "$(grep -A 1 '^\.nf$' "$top/man/urlcheck.1" | grep -c '^urlcheck ')" = "$examples" ] ||
+    fail "the page doesn't have $examples examples"
+
 # The page and the completions are read without a warning by what is installed of their readers.
 # reads READER WORD.. : the reader has nothing to say
 reads() {
@@ -69,4 +77,4 @@ completes '' lint --base ma
 completes 'parser' check --profile p
 completes 'standard wide parser' links --profile =
 completes '--quiet' lint --q
-all_cases 31
+all_cases 32
