@@ -126,8 +126,9 @@ class BaseRefused(ValueError):
 class Base:
     """A base that is judged once, for many texts: the functions take it in the place of the base's text.
 
-    A text is judged against it by its profile, and another one beside it raises ``ValueError``. Raises ``BaseRefused``
-    where the base isn't valid alone, and else what ``check`` raises of a text.
+    A text is judged against it by its profile. Beside it ``WIDE`` or ``PARSER`` raises ``ValueError`` where the base was
+    judged by another one, and ``STANDARD`` says nothing, as where no profile is given. Raises ``BaseRefused`` where the
+    base isn't valid alone, and else what ``check`` raises of a text.
     """
 
     __slots__ = ("text", "profile", "_data", "_held")
@@ -266,7 +267,7 @@ def _given(text: str, base: AnyBase, profile: Profile) -> Tuple[bytes, Union[byt
     if not isinstance(text, str):
         raise TypeError("a text is a str, not {}".format(type(text).__name__))
     if base is not None and not isinstance(base, (str, Base)):
-        raise TypeError("a base is a str or None, not {}".format(type(base).__name__))
+        raise TypeError("a base is a str, a urlcheck.Base or None, not {}".format(type(base).__name__))
     if isinstance(profile, bool) or not isinstance(profile, int):
         raise TypeError("a profile is a urlcheck.Profile, not {}".format(type(profile).__name__))
     try:

@@ -24,7 +24,7 @@ class Errors(unittest.TestCase):
         for words, error, said in (
             ((b"x",), TypeError, "a text is a str, not bytes"),
             ((None,), TypeError, "a text is a str, not NoneType"),
-            (("x", b"y"), TypeError, "a base is a str or None, not bytes"),
+            (("x", b"y"), TypeError, "a base is a str, a urlcheck.Base or None, not bytes"),
             (("x", None, 3), ValueError, "no profile has the number 3"),
             (("x", None, 7), ValueError, "no profile has the number 7"),
             (("x", None, -1), ValueError, "no profile has the number -1"),
