@@ -6,7 +6,10 @@ those that ``urlcheck lint --located -`` reads, which judges them too and has mo
 """
 
 import argparse
+import codecs
+import errno
 import os
+import pickle
 import re
 import resource
 import signal
@@ -49,6 +52,7 @@ MARKDOWN = "the package markdown-it-py: pip install markdown-it-py, or Debian's 
 """What reads Markdown, and how to have it."""
 
 Report = Callable[[str], None]
+Writer = Callable[[bytes], None]
 
 
 class Unread(Exception):
@@ -74,6 +78,14 @@ class Counts:
         self.ignored = 0
         self.unread = 0
 
+    def add(self, taken: "Taken") -> None:
+        """Adds what a document gave."""
+        self.documents += taken.documents
+        self.links += taken.links
+        self.refused += taken.refused
+        self.ignored += taken.ignored
+        self.unread += taken.reason is not None
+
     def status(self) -> int:
         """2 where a document wasn't read, else 1 where a link is refused, else 0."""
         return 2 if self.unread else 1 if self.refused else 0
@@ -96,18 +108,21 @@ class Found(NamedTuple):
 
 
 def links_in(data: bytes, kind: str) -> Found:
-    """The links of a document. Raises ``Unread`` where it can't be read at all."""
+    """The links of a document. Raises ``Unread`` where it can't be read at all. A byte order mark at its start is no part
+    of its first line."""
     if len(data) > MOST_BYTES:
         raise Unread("has more than {} MiB".format(MOST_BYTES >> 20))
+    mark = len(codecs.BOM_UTF8) if data.startswith(codecs.BOM_UTF8) else 0
+    data = data[mark:]
     try:
         source = Source(data.decode("utf-8"))
     except UnicodeDecodeError as error:
-        raise Unread("isn't UTF-8 at byte {}".format(error.start)) from None
+        raise Unread("isn't UTF-8 at byte {}".format(mark + error.start)) from None
     try:
         return _found(source, data, kind)
     except ImportError:
         raise Unread("is Markdown, which needs " + MARKDOWN) from None
-    except (Unread, MemoryError, RecursionError):
+    except (Unread, MemoryError, RecursionError, SystemError):
         raise
     except Exception as error:
         # (a reader that isn't ours: the other documents are still to be read)
@@ -161,6 +176,9 @@ def read_document(name: str) -> bytes:
     """The document's bytes, at most one more than it may have; those of standard input for ``-``. Raises ``Unread``."""
     try:
         if name == "-":
+            # (there is none where it was closed before the start)
+            if sys.stdin is None:
+                raise OSError(errno.EBADF, os.strerror(errno.EBADF))
             return sys.stdin.buffer.read(MOST_BYTES + 1)
         with open(name, "rb") as file:
             return file.read(MOST_BYTES + 1)
@@ -194,10 +212,73 @@ def _no_document(folder: str) -> str:
     return "has no document: no name in this folder ends in ." + ", .".join(KINDS)
 
 
+class Taken(NamedTuple):
+    """What a document has given."""
+
+    documents: int
+    links: int
+    refused: int
+    ignored: int
+    lines: bytes
+    reason: Optional[str]
+    """Why it wasn't read to its end, if so."""
+
+
+def _nothing(reason: str) -> Taken:
+    """What a document gives that isn't read."""
+    return Taken(0, 0, 0, 0, b"", reason)
+
+
+def _apart(take: Callable[[], Taken]) -> Taken:
+    """What a document gives, taken in a process of its own. Where memory is short Python may do anything, also go on
+    without an end: so the process is ended from without, and only what it gave whole is taken."""
+    reader, writer = os.pipe()
+    try:
+        child = os.fork()
+    except OSError as error:
+        os.close(reader)
+        os.close(writer)
+        return _nothing("can't be read: no process: {}".format(error.strerror))
+    if child == 0:
+        ended = 1
+        try:
+            signal.signal(signal.SIGALRM, signal.SIG_DFL)
+            signal.alarm(MOST_SECONDS)
+            _write_nowhere(2)
+            given = pickle.dumps(_given_by(take))
+            with os.fdopen(writer, "wb") as pipe:
+                pipe.write(given)
+            ended = 0
+        finally:
+            os._exit(ended)
+    os.close(writer)
+    with os.fdopen(reader, "rb") as pipe:
+        given = pipe.read()
+    status = os.waitpid(child, 0)[1]
+    if status == 0:
+        taken: Taken = pickle.loads(given)
+        return taken
+    is_late = os.WIFSIGNALED(status) and os.WTERMSIG(status) == signal.SIGALRM
+    return _nothing("takes more than {} seconds to read".format(MOST_SECONDS) if is_late else _NO_MEMORY)
+
+
+def _given_by(take: Callable[[], Taken]) -> Taken:
+    try:
+        return take()
+    except (MemoryError, SystemError):
+        # (Python raises a SystemError too where an allocation failed)
+        raise
+    except Exception as error:
+        return _nothing("its reader failed: {!r}".format(error))
+
+
+_NO_MEMORY = "needs more than {} MiB of memory".format(MOST_MEMORY >> 20)
+
+
 class Run:
     """The documents read so far: what was asked for, and what was seen."""
 
-    def __init__(self, settings: Settings, judge: Optional[Judge], write: Report, tell: Report) -> None:
+    def __init__(self, settings: Settings, judge: Optional[Judge], write: Writer, tell: Report) -> None:
         self._settings = settings
         self._judge = judge
         self._write = write
@@ -207,16 +288,34 @@ class Run:
     def take(self, name: str) -> None:
         """Writes the located links of a document or, with a judge, what is wrong with them."""
         shown = re.sub("[\x00-\x1f\x7f-\x9f]", "\ufffd", name)
+        taken = _apart(lambda: self._taken(name, shown))
+        self.counts.add(taken)
+        self._write(taken.lines)
+        if taken.reason is not None:
+            self._tell("{}: {}".format(shown, taken.reason))
+
+    def _taken(self, name: str, shown: str) -> Taken:
         try:
             found = self._read(name, shown)
-            self.counts.documents += 1
-            for link in found.links:
-                self._take_link(shown, found, link)
-            if found.broken:
-                raise Unread(str(found.broken))
-        except (Unread, MemoryError, RecursionError) as reason:
-            self.counts.unread += 1
-            self._tell("{}: {}".format(shown, _REASONS.get(type(reason)) or reason))
+        except Unread as reason:
+            return _nothing(str(reason))
+        except RecursionError:
+            return _nothing("is nested too deeply")
+        refused = ignored = 0
+        lines = []
+        for link in found.links:
+            if found.source.position(link.offset)[0] in found.ignored or self._is_meant(link.text):
+                ignored += 1
+            elif self._judge is None:
+                lines.append(located(shown, found.source, link))
+            else:
+                finding = self._judge.finding(shown, found.source, link)
+                if finding:
+                    refused += 1
+                    lines.append(finding)
+        data = "".join(line + "\n" for line in lines).encode("utf-8", "surrogateescape")
+        broken = None if found.broken is None else str(found.broken)
+        return Taken(1, len(found.links), refused, ignored, data, broken)
 
     def _read(self, name: str, shown: str) -> Found:
         if os.path.isdir(name):
@@ -230,26 +329,9 @@ class Run:
             raise Unread("its name has a control, which no located line can hold")
         return links_in(read_document(name), kind)
 
-    def _take_link(self, name: str, found: Found, link: Link) -> None:
-        self.counts.links += 1
-        if found.source.position(link.offset)[0] in found.ignored or self._is_meant(link.text):
-            self.counts.ignored += 1
-        elif self._judge is None:
-            self._write(located(name, found.source, link))
-        else:
-            finding = self._judge.finding(name, found.source, link)
-            if finding:
-                self.counts.refused += 1
-                self._write(finding)
-
     def _is_meant(self, text: str) -> bool:
         return any(it.search(text) for it in self._settings.ignored)
 
-
-_REASONS = {
-    MemoryError: "needs more than {} MiB of memory".format(MOST_MEMORY >> 20),
-    RecursionError: "is nested too deeply",
-}
 
 
 def _patterns(name: Optional[str]) -> Tuple["re.Pattern[str]", ...]:
@@ -272,8 +354,13 @@ def _patterns(name: Optional[str]) -> Tuple["re.Pattern[str]", ...]:
 
 
 def _tell(line: str) -> None:
-    """Writes a line to standard error, in one piece: others may write there at the same time."""
-    sys.stderr.write("urlcheck-documents: " + line + "\n")
+    """Writes a line to standard error, in one piece: others may write there at the same time. Where that takes nothing
+    the status stands alone."""
+    try:
+        if sys.stderr is not None:
+            sys.stderr.write("urlcheck-documents: " + line + "\n")
+    except OSError:
+        _write_nowhere(2)
 
 
 def _stop(line: str) -> int:
@@ -281,8 +368,18 @@ def _stop(line: str) -> int:
     return 2
 
 
-def _write(line: str) -> None:
-    sys.stdout.buffer.write(line.encode("utf-8", "surrogateescape") + b"\n")
+def _write(lines: bytes) -> None:
+    if not lines:
+        return
+    # (there is none where it was closed before the start)
+    if sys.stdout is None:
+        raise OSError(errno.EBADF, os.strerror(errno.EBADF))
+    sys.stdout.buffer.write(lines)
+
+
+def _write_nowhere(number: int) -> None:
+    """What is left to be written to this file goes nowhere, so that Python's own end says nothing of it."""
+    os.dup2(os.open(os.devnull, os.O_WRONLY), number)
 
 
 def _parser() -> argparse.ArgumentParser:
@@ -309,10 +406,6 @@ def _parser() -> argparse.ArgumentParser:
     return parser
 
 
-def _too_long(*_: object) -> None:
-    raise Unread("takes more than {} seconds to read".format(MOST_SECONDS))
-
-
 def run(words: Optional[List[str]] = None) -> int:
     """Runs the program on these words, and gives its status."""
     given = _parser().parse_args(words)
@@ -325,12 +418,10 @@ def run(words: Optional[List[str]] = None) -> int:
             wrong = refused.place, sentence(refused.rule), refused.rule
             return _stop("the base is refused at place {}: {} [{}]".format(*wrong))
     seen = Run(settings, Judge(settings) if given.check else None, _write, _tell)
-    signal.signal(signal.SIGALRM, _too_long)
     for name in documents_of(given.files):
-        signal.setitimer(signal.ITIMER_REAL, MOST_SECONDS)
         seen.take(name)
-        signal.setitimer(signal.ITIMER_REAL, 0)
-    sys.stdout.buffer.flush()
+    if sys.stdout is not None:
+        sys.stdout.buffer.flush()
     counts = seen.counts
     refused_links = ", {} refused".format(counts.refused) if given.check else ""
     documents, links = _number(counts.documents, "document"), _number(counts.links, "link")
@@ -344,13 +435,20 @@ def _number(count: int, noun: str) -> str:
 
 def main() -> None:
     """The program ``urlcheck-documents``."""
-    # (a hostile document is to cost no more than this)
-    resource.setrlimit(resource.RLIMIT_AS, (MOST_MEMORY, resource.getrlimit(resource.RLIMIT_AS)[1]))
+    # Where one of the three was closed before the start, no other file is to take its number.
+    for stream in (sys.stdin, sys.stdout, sys.stderr):
+        if stream is None:
+            os.open(os.devnull, os.O_RDWR)
+    # An interrupt ends it as it ends other programs, without a word.
+    signal.signal(signal.SIGINT, signal.SIG_DFL)
+    # (a hostile document is to cost no more than this, and no more than the caller permits)
+    soft, hard = resource.getrlimit(resource.RLIMIT_AS)
+    if soft == resource.RLIM_INFINITY or soft > MOST_MEMORY:
+        resource.setrlimit(resource.RLIMIT_AS, (MOST_MEMORY, hard))
     try:
         status = run()
     except OSError as error:
-        # What is left to be written goes nowhere.
-        os.dup2(os.open(os.devnull, os.O_WRONLY), sys.stdout.fileno())
+        _write_nowhere(1)
         if not isinstance(error, BrokenPipeError):
             _tell("the output can't be written: {}".format(error.strerror))
         status = 3

@@ -260,6 +260,49 @@ class Documents(unittest.TestCase):
         self.assertEqual(ran.returncode, 3)
         self.assertIn(b"can't be written", ran.stderr)
 
+    def test_closed_files(self):
+        """Where a file of the three was closed before the start: a status of the page, and no traceback."""
+        self.write("a.html", "<a href='x y'>")
+        for closed, words, wanted in (
+            ("0", "--type html -", 2), ("1", "a.html", 3), ("1", "--check a.html", 3), ("2", "--check a.html", 1),
+            ("12", "a.html", 3), ("012", "--type html -", 2), ("02", "a.html", 0),
+        ):
+            with self.subTest(closed=closed, words=words):
+                shut = "".join(" {}>&-".format(number) for number in closed)
+                line = '"{}" -m urlcheck.documents {}{}'.format(sys.executable, words, shut)
+                ran = subprocess.run(["bash", "-c", line], cwd=self.room, capture_output=True, timeout=60)
+                self.assertEqual(ran.returncode, wanted, ran.stderr)
+                self.assertNotIn(b"Traceback", ran.stderr)
+        with open("/dev/full", "wb") as full:
+            ran = subprocess.run([*PROGRAM, "--check", "a.html"], cwd=self.room, stderr=full, stdout=subprocess.PIPE)
+        self.assertEqual((ran.returncode, ran.stdout.count(b"\n")), (1, 1))
+
+    def test_less_memory_than_is_taken(self):
+        """A limit of the caller's that is lower than the program's own stays."""
+        self.write("a.html", "<a href=x>")
+        for limit in ("-v", "-Sv"):
+            line = 'ulimit {} 400000; "{}" -m urlcheck.documents a.html'.format(limit, sys.executable)
+            ran = subprocess.run(["bash", "-c", line], cwd=self.room, capture_output=True)
+            self.assertEqual((ran.returncode, ran.stdout), (0, b"a.html:1:9:x\n"), ran.stderr)
+
+    def test_a_byte_order_mark(self):
+        self.finds("a.html", "\ufeff<a href=x>\n<a href=y>", "1:9:x\n2:9:y\n")
+        self.finds("a.xml", '\ufeff<?xml version="1.0"?><urlset><loc>http://h/</loc></urlset>', "1:35:http://h/\n")
+        if importlib.util.find_spec("markdown_it"):
+            self.finds("a.md", "\ufeff[a]: x\n", "1:6:x\n")
+        self.write("b.html", b"\xef\xbb\xbfa\xff")
+        self.assertIn("isn't UTF-8 at byte 4", self.run_on("b.html")[2])
+
+    @unittest.skipUnless(importlib.util.find_spec("markdown_it"), "markdown-it-py isn't installed")
+    def test_memory_of_markdown(self):
+        """A document that takes all memory is reported, and the next one is read."""
+        self.write("a.md", "[a](<b c>)\n\n" * 200_000)
+        self.write("b.html", "<a href='x y'>")
+        status, out, said = self.run_on("--check", "a.md", "b.html")
+        self.assertEqual((status, out.count("\n")), (2, 1))
+        self.assertRegex(said, "^urlcheck-documents: a.md: (needs more than 480 MiB of memory|takes more than 60 seconds)")
+        self.assertNotIn("Traceback", said)
+
     def test_hostile(self):
         entities = "".join('<!ENTITY a{} "{}">'.format(at, "&a{};".format(at - 1) * 10) for at in range(1, 10))
         documents = {
