@@ -138,4 +138,17 @@ left=$(find "$root" -mindepth 1)
 [ -z "$left" ] || fail "what is left once it is removed: $left"
 if ./install --uninstall $prefix 2>"$room/said"; then fail "what isn't installed is removed"; fi
 if ./install --other 2>"$room/said"; then fail "another option is taken"; fi
+
+# ---- the scripts: what they say of themselves, no other option, and paths of the folder that they are called in
+
+for script in install build-library build-packages build-page build-program packaging/build-both; do
+    ./$script --help >"$room/help" || fail "$script --help"
+    grep -q "^[./]*$script" "$room/help" || fail "$script --help says: $(cat "$room/help")"
+    if ./$script --other >"$room/help" 2>"$room/said" || ! grep -q "^usage: [./]*$script" "$room/said"; then
+        fail "$script takes another option: $(cat "$room/help" "$room/said")"
+    fi
+done
+ln -s "$program" "$room/own"
+(cd "$room" && DESTDIR=other PROGRAM=own quietly "$top/install" $prefix)
+cmp "$program" "$room/other$prefix/bin/urlcheck" || fail "paths of another folder than that of the call"
 echo "packages: installed, tried and removed; the header by $count compilers and standards; version $version"
