@@ -155,6 +155,26 @@ mkdir a.links
 ends 2 'a folder mended' sh ../mend.sh a.links right.links
 [ ! -e a.links.new ] || { echo 'FAILED: a folder mended: it left a.links.new'; failed=1; }
 
+# What is new beside the known faults: none known yet, all known, one moved, one more, the same once more, no list.
+in_folder known
+recipe 'Known faults' sh >../new-faults.sh
+printf 'http://h/a b\n%s\n' $right >a.links
+ends 2 'faults without a file of known ones' sh ../new-faults.sh a.links
+: >known.json
+ends 1 'faults of which none is known' sh ../new-faults.sh a.links
+cp ../out known.json
+says 'faults of which none is known' '{"cut":false,"file":"a.links","kind":"same","mended":"http://h/a%20b","message":'\
+'"U+0020 SPACE may not stand in a URL","rule":"code-point","text":"http://h/a b"}'
+ends 0 'known faults' sh ../new-faults.sh a.links
+printf '%s\n\nhttp://h/a b\n' $right >a.links
+ends 0 'known faults elsewhere' sh ../new-faults.sh a.links
+printf 'http://x_y/\n' >>a.links
+ends 1 'a new fault' sh ../new-faults.sh a.links
+grep -q '"text":"http://x_y/"' ../out || { echo "FAILED: a new fault: it wrote: $(cat ../out)"; failed=1; }
+printf 'http://h/a b\nhttp://h/a b\n' >a.links
+ends 1 'a known fault twice' sh ../new-faults.sh a.links
+ends 2 'known faults of a list that is missing' sh ../new-faults.sh missing.links
+
 in_folder find
 recipe 'As compilers write it' sh >../find.sh
 hard_names 'find' bash ../find.sh
