@@ -66,7 +66,10 @@ function utf8Length(text, name) {
  * @param {string} name
  */
 function stopUnlessString(text, name) {
-  if (typeof text !== 'string') throw new TypeError(`the ${name} is no string`)
+  if (typeof text === 'string') return
+  // (a copy of what `base` gave, as from another thread, has lost what was judged)
+  const isCopy = name === 'base' && typeof text === 'object' && text !== null
+  throw new TypeError(isCopy ? 'the base is neither a string nor what `base` gave' : `the ${name} is no string`)
 }
 
 /** The module's memory: texts go in, answers come out. */

@@ -19,7 +19,8 @@ export interface Checker {
   /**
    * Whether a text is a valid URL string, alone or against a base, which is judged alone by the same profile.
    * @throws {BaseRefused} where the base isn't valid alone
-   * @throws {TypeError} where a text is no string or has a lone surrogate, or no profile has the name
+   * @throws {TypeError} where a text is no string or has a lone surrogate, the options are no object, or no profile has
+   *   the name
    * @throws {RangeError} where there is no memory for the text; the next call works
    */
   check(text: string, options?: Options): Valid | Refused
@@ -88,7 +89,8 @@ export interface BaseOptions {
 
 /**
  * A base that was judged, and is valid; `base` of a checker makes it. It is a value like a string: it keeps nothing in
- * the memory of the module, so there is nothing to free, it never changes, and any checker takes it.
+ * the memory of the module, so there is nothing to free, it never changes, and any checker of its thread takes it. A copy
+ * of it, as a worker gets one, is none: send its text and its profile.
  */
 export interface Base {
   /** The base's text. */

@@ -65,12 +65,22 @@ function profileNumber(profile) {
 }
 
 /**
+ * Stops where a string, say, stands in the place of the options: what it says would be passed over.
+ * @param {unknown} options
+ */
+function stopUnlessOptions(options) {
+  if (options == null || typeof options === 'object') return
+  throw new TypeError('the options are no object, such as { base: text, profile: name }')
+}
+
+/**
  * How a text is judged: the text of its base or none, what is held of a base that was judged before, and the number of
  * the profile.
  * @param {Options | undefined} options
  * @returns {{ base: string | undefined, held: Uint32Array | undefined, profile: number }}
  */
 function readingOf(options) {
+  stopUnlessOptions(options)
   const base = options?.base ?? undefined
   const profile = profileNumber(options?.profile)
   const held = typeof base === 'object' ? HeldBase.wordsOf(base) : undefined
@@ -154,6 +164,7 @@ class Checker {
    * @throws what `check` throws of its base
    */
   base(text, options) {
+    stopUnlessOptions(options)
     const room = this.#room
     const profile = options?.profile
     const number = profileNumber(profile)

@@ -175,6 +175,13 @@ const tests = {
       assert.equal(urlcheck.check('x', { base: held }).valid, true)
     }
     for (const base of [undefined, null, held]) assert.throws(() => urlcheck.base(base), TypeError)
+    const copied = { name: 'TypeError', message: 'the base is neither a string nor what `base` gave' }
+    for (const base of [structuredClone(held), {}]) assert.throws(() => urlcheck.check('x', { base }), copied)
+    for (const options of ['http://h/', 'wide', 2, true]) {
+      const wrong = { name: 'TypeError', message: /^the options are no object/ }
+      assert.throws(() => urlcheck.base('urn:a', options), wrong)
+      for (const call of CALLS) assert.throws(() => urlcheck[call]('urn:a', options), wrong)
+    }
     assert.throws(() => urlcheck.base('urn:a', { profile: 'Wide' }), TypeError)
     for (const call of CALLS) {
       for (const [profile, message] of [['wide', /by the standard profile/], ['Wide', /none of/]]) {
