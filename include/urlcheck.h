@@ -4,7 +4,7 @@
  * A text is bytes and their length; it needs no NUL at its end, and may hold any bytes. Each function has a proved
  * contract: on every input it is safe, ends, and gives what is said here. What it asks of its caller is this alone:
  *
- * - so many bytes or elements stand behind a pointer; where that is 0 it may be null;
+ * - so many bytes or elements stand where a pointer points; where that is 0 it may be null;
  * - nothing writes to what was handed in during the call, and an `out` overlaps no other argument;
  * - malloc, realloc and free are the C library's, or behave so, and the call isn't made from a signal handler.
  *
@@ -38,7 +38,7 @@ extern "C" {
 /* Which profile a text, and its base, are judged by. Each takes what the one before it takes. */
 enum urlcheck_profile {
     URLCHECK_STANDARD = 0, /* the URL Standard's valid URL strings */
-    URLCHECK_WIDE = 1,     /* also `_` and hyphens wherever they stand in domains, any segments behind an authority */
+    URLCHECK_WIDE = 1,     /* also `_` and hyphens wherever they stand in domains, any segments after an authority */
     URLCHECK_PARSER = 2    /* each text that the Standard's parser takes without a validation error, and no other */
 };
 
@@ -203,7 +203,7 @@ urlcheck_mended urlcheck_mend_against(const uint8_t *text, size_t length, const 
 /*
  * Writes all that is wrong with the text to the start of `out`, by place and at one place by the rule's number: as many
  * faults as `room` elements hold. The count is of all of them, and may be larger than `room`; it is 0 exactly where the
- * verdict isn't URLCHECK_REFUSED. Elements behind the last one written stay as they are.
+ * verdict isn't URLCHECK_REFUSED. Elements after the last one written stay as they are.
  */
 urlcheck_fault_count urlcheck_faults(const uint8_t *text, size_t length, uint32_t profile, urlcheck_fault *out,
                                      size_t room);

@@ -2,7 +2,7 @@
  * The checker of valid URL strings (WHATWG URL Standard, sections 3.4 and 4.3), alone or against a base.
  *
  * An index counts UTF-16 units of the caller's string, from 0, and a place code points. A range is two indices, the
- * second behind the part's end, as `slice` takes them.
+ * second after the part's end, as `slice` takes them.
  */
 
 /**
@@ -101,7 +101,7 @@ export interface Base {
 
 /**
  * `standard`: the URL Standard's valid URL strings. `wide`: also `_` and hyphens wherever they stand in domains, and
- * any segments behind an authority. `parser`: each text that the Standard's parser takes without a validation error,
+ * any segments after an authority. `parser`: each text that the Standard's parser takes without a validation error,
  * and no other. Each takes what the one before it takes.
  */
 export type Profile = 'standard' | 'wide' | 'parser'
@@ -123,7 +123,7 @@ export type RuleName =
   | 'code-point'
   | 'percent'
 
-/** Where a part begins, and the index behind its end. */
+/** Where a part begins, and the index after its end. */
 export type Range = [start: number, end: number]
 
 /**

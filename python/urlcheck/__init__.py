@@ -53,7 +53,7 @@ class Profile(enum.IntEnum):
     STANDARD = 0
     """The URL Standard's valid URL strings."""
     WIDE = 1
-    """Also ``_`` and hyphens wherever they stand in domains, and any segments behind an authority."""
+    """Also ``_`` and hyphens wherever they stand in domains, and any segments after an authority."""
     PARSER = 2
     """Each text that the URL Standard's parser takes without a validation error, and no other."""
 
