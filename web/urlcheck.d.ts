@@ -89,8 +89,8 @@ export interface BaseOptions {
 
 /**
  * A base that was judged, and is valid; `base` of a checker makes it. It is a value like a string: it keeps nothing in
- * the memory of the module, so there is nothing to free, it never changes, and any checker of its thread takes it. A copy
- * of it, as a worker gets one, is none: send its text and its profile.
+ * the memory of the module, so there is nothing to free, it never changes, and any checker of its thread takes it. A
+ * copy of it, as a worker gets one, is none: send its text and its profile.
  */
 export interface Base {
   /** The base's text. */

@@ -126,9 +126,9 @@ class BaseRefused(ValueError):
 class Base:
     """A base that is judged once, for many texts: the functions take it in the place of the base's text.
 
-    A text is judged against it by its profile. Beside it ``WIDE`` or ``PARSER`` raises ``ValueError`` where the base was
-    judged by another one, and ``STANDARD`` says nothing, as where no profile is given. Raises ``BaseRefused`` where the
-    base isn't valid alone, and else what ``check`` raises of a text.
+    A text is judged against it by its profile. Beside it ``WIDE`` or ``PARSER`` raises ``ValueError`` where the base
+    was judged by another one, and ``STANDARD`` says nothing, as where no profile is given. Raises ``BaseRefused`` where
+    the base isn't valid alone, and else what ``check`` raises of a text.
     """
 
     __slots__ = ("text", "profile", "_data", "_held")

@@ -108,8 +108,8 @@ class Found(NamedTuple):
 
 
 def links_in(data: bytes, kind: str) -> Found:
-    """The links of a document. Raises ``Unread`` where it can't be read at all. A byte order mark at its start is no part
-    of its first line."""
+    """The links of a document. Raises ``Unread`` where it can't be read at all. A byte order mark at its start is no
+    part of its first line."""
     if len(data) > MOST_BYTES:
         raise Unread("has more than {} MiB".format(MOST_BYTES >> 20))
     mark = len(codecs.BOM_UTF8) if data.startswith(codecs.BOM_UTF8) else 0
@@ -368,12 +368,20 @@ def _stop(line: str) -> int:
     return 2
 
 
+_DRIVES = re.compile("[\x00-\x08\x0b-\x1f\x7f-\x9f\u061c\u200e\u200f\u2028-\u202e\u2066-\u2069]")
+"""What drives a terminal: controls but the tab and the line feed, and what ends a line or turns the direction of a text."""
+
+
 def _write(lines: bytes) -> None:
+    """Writes whole lines, as they are; to a terminal what drives it is shown as U+FFFD."""
     if not lines:
         return
     # (there is none where it was closed before the start)
     if sys.stdout is None:
         raise OSError(errno.EBADF, os.strerror(errno.EBADF))
+    if sys.stdout.isatty():
+        shown = _DRIVES.sub("\ufffd", lines.decode("utf-8", "surrogateescape"))
+        lines = shown.encode("utf-8", "surrogateescape")
     sys.stdout.buffer.write(lines)
 
 

@@ -277,6 +277,16 @@ class Documents(unittest.TestCase):
             ran = subprocess.run([*PROGRAM, "--check", "a.html"], cwd=self.room, stderr=full, stdout=subprocess.PIPE)
         self.assertEqual((ran.returncode, ran.stdout.count(b"\n")), (1, 1))
 
+    def test_a_terminal(self):
+        """What drives a terminal isn't written to one, and to all else it is."""
+        self.write("a.html", "<a href='x\x1b[31m\u202ey\tz\u00e9'>")
+        terminal, end = os.openpty()
+        subprocess.run([*PROGRAM, "a.html"], cwd=self.room, stdout=end, stderr=subprocess.DEVNULL)
+        self.assertEqual(os.read(terminal, 1000).decode(), "a.html:1:10:x\ufffd[31m\ufffdy\tz\u00e9\r\n")
+        os.close(end)
+        os.close(terminal)
+        self.assertEqual(self.run_on("a.html")[1], "a.html:1:10:x\x1b[31m\u202ey\tz\u00e9\n")
+
     def test_less_memory_than_is_taken(self):
         """A limit of the caller's that is lower than the program's own stays."""
         self.write("a.html", "<a href=x>")
