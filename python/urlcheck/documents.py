@@ -138,6 +138,10 @@ def _found(source: Source, data: bytes, kind: str) -> Found:
     return Found(source, *_markdown_links.links_of(source), None)
 
 
+_PLACE = re.compile(":[0-9]+:[0-9]+:")
+"""What ends the name of the file in a located line."""
+
+
 def located(name: str, source: Source, link: Link) -> str:
     """The line that says where a link stands. A line feed or a carriage return within it is written as a tab, which is
     refused alike."""
@@ -327,6 +331,9 @@ class Run:
             raise Unread("its name's end says no kind: give --type html, xml or markdown")
         if self._judge is None and shown != name:
             raise Unread("its name has a control, which no located line can hold")
+        place = _PLACE.search(name + ":1:1:")
+        if self._judge is None and place is not None and place.start() != len(name):
+            raise Unread("its name has what a located line would read as its line and column")
         return links_in(read_document(name), kind)
 
     def _is_meant(self, text: str) -> bool:

@@ -243,6 +243,19 @@ class Documents(unittest.TestCase):
         self.assertIn("a\ufffdb.html: its name has a control", said)
         self.assertIn("a\ufffdb.html:1:11: error: ", self.run_on("--check", "a\nb.html")[1])
 
+    def test_names_with_a_place(self):
+        """A name that a located line would cut elsewhere: it is judged, and not written."""
+        for name in ("a:1:2:b.html", "a:1:2.html", ":3:4:.html", "C:\\b.html", "a:1b:2:.html"):
+            with self.subTest(name):
+                self.write(name, "<a href='x y'>")
+                is_written = name in ("a:1:2.html", "C:\\b.html", "a:1b:2:.html")
+                status, out, said = self.run_on(name)
+                self.assertEqual((status, out), (0, name + ":1:10:x y\n") if is_written else (2, ""))
+                self.assertEqual("what a located line would read" in said, not is_written)
+                self.assertIn(name + ":1:11: error: ", self.run_on("--check", name)[1])
+        self.write("a.html:7", "<a href='x y'>")
+        self.assertEqual(self.run_on("--type", "html", "a.html:7")[:2], (2, ""))
+
     def test_the_page(self):
         """Each command of docs/DOCUMENTS.md writes what stands there."""
         with open(os.path.join(TOP, "docs", "DOCUMENTS.md"), encoding="utf-8") as page:
