@@ -376,7 +376,7 @@ def _stop(line: str) -> int:
 
 
 _DRIVES = re.compile("[\x00-\x08\x0b-\x1f\x7f-\x9f\u061c\u200e\u200f\u2028-\u202e\u2066-\u2069]")
-"""What drives a terminal: controls but the tab and the line feed, and what ends a line or turns the direction of a text."""
+"""What drives a terminal: controls but the tab and the line feed, and what ends a line or turns a text's direction."""
 
 
 def _write(lines: bytes) -> None:

@@ -323,7 +323,8 @@ class Documents(unittest.TestCase):
         self.write("b.html", "<a href='x y'>")
         status, out, said = self.run_on("--check", "a.md", "b.html")
         self.assertEqual((status, out.count("\n")), (2, 1))
-        self.assertRegex(said, "^urlcheck-documents: a.md: (needs more than 480 MiB of memory|takes more than 60 seconds)")
+        wanted = "^urlcheck-documents: a.md: (needs more than 480 MiB of memory|takes more than 60 seconds)"
+        self.assertRegex(said, wanted)
         self.assertNotIn("Traceback", said)
 
     def test_hostile(self):
