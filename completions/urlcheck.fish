@@ -20,7 +20,7 @@ complete -c urlcheck -n '__fish_seen_subcommand_from lint' -l all -d 'Prints all
 complete -c urlcheck -n '__fish_seen_subcommand_from lint' -l profile -x -a 'standard wide parser' -d 'standard, wide or parser; without it standard'
 complete -c urlcheck -n '__fish_seen_subcommand_from lint' -l wide -d 'Short for --profile wide, which takes http://a_b/ and http://h//a too'
 complete -c urlcheck -n '__fish_seen_subcommand_from lint' -l format -x -a 'gnu caret json github sarif checkstyle' -d 'gnu, caret, json, github, sarif or checkstyle; without it gnu'
-complete -c urlcheck -n '__fish_seen_subcommand_from lint' -l columns -x -a 'code-points bytes utf16 screen' -d 'code-points, bytes, utf16 or screen; without it columns count code-points'
+complete -c urlcheck -n '__fish_seen_subcommand_from lint' -l columns -x -a 'code-points bytes utf16 screen' -d 'code-points, bytes, utf16 or screen; without it code-points'
 complete -c urlcheck -n '__fish_seen_subcommand_from lint' -l located -d 'Reads lines FILE:LINE:COLUMN:LINK, and reports on each LINK where it stands'
 complete -c urlcheck -n '__fish_seen_subcommand_from lint' -l quiet -d 'Leaves out the counts on standard error'
 complete -c urlcheck -n '__fish_seen_subcommand_from lint' -l help -d 'Print help'

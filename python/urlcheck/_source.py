@@ -56,7 +56,7 @@ class Source:
         return self._starts[line - 1] + column
 
     def line(self, number: int) -> str:
-        """A line from 1, without its line feed; empty behind the last."""
+        """A line from 1, without its line feed; empty after the last."""
         if number > len(self._starts):
             return ""
         start = self._starts[number - 1]

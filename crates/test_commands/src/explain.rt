@@ -9,7 +9,7 @@ use uv_vectors::CliFault;
 
 const HOST_MISSING: &str = "rule host-missing
 means a host has to stand here
-asks Behind //, ftp, http, https, ws and wss have a host, file a host or a path, and a port follows a host.
+asks After //, ftp, http, https, ws and wss have a host, file a host or a path, and a port follows a host.
 section 3.4, 4.3
 text https:///a
 refused 8 host-missing

@@ -12,7 +12,7 @@ rule_asks OpaqueBase =
     codes "Against a base whose path is opaque, a text without a scheme is # and a fragment, and nothing else."
 rule_asks TwoSlashes = codes "The schemes ftp, http, https, ws, wss and file are followed by a colon and //."
 rule_asks HostMissing =
-    codes "Behind //, ftp, http, https, ws and wss have a host, file a host or a path, and a port follows a host."
+    codes "After //, ftp, http, https, ws and wss have a host, file a host or a path, and a port follows a host."
 rule_asks HostDomain =
     codes "A domain is of letters, digits and inner hyphens, in labels of 1 to 63 that ToASCII of UTS 46 accepts."
 rule_asks HostNumber =
@@ -24,9 +24,9 @@ rule_asks HostCodePoint =
 rule_asks PortDigit = codes "A port is of ASCII digits."
 rule_asks PortRange = codes "A port is at most 65535."
 rule_asks FirstSegmentEmpty =
-    codes "Behind an authority, a path whose first segment is empty has no other one: it doesn't begin with //."
+    codes "After an authority, a path whose first segment is empty has no other one: it doesn't begin with //."
 rule_asks DriveAfterHost =
-    codes "Behind the host of a file URL, the path doesn't begin with /, a drive letter and /."
+    codes "After the host of a file URL, the path doesn't begin with /, a drive letter and /."
 rule_asks CodePoint =
     codes "A path, query and fragment have URL code points and percent-escapes; all else is percent-encoded."
 rule_asks Percent = codes "A % is followed by two hex digits. To stand for itself, it is written %25."

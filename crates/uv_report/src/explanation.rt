@@ -54,7 +54,7 @@ fn asks(rule: Rule) -> &'static str
         Rule::TwoSlashes =>
             "The schemes ftp, http, https, ws, wss and file are followed by a colon and //.",
         Rule::HostMissing =>
-            "Behind //, ftp, http, https, ws and wss have a host, file a host or a path, and a port follows a host.",
+            "After //, ftp, http, https, ws and wss have a host, file a host or a path, and a port follows a host.",
         Rule::HostDomain =>
             "A domain is of letters, digits and inner hyphens, in labels of 1 to 63 that ToASCII of UTS 46 accepts.",
         Rule::HostNumber =>
@@ -66,9 +66,9 @@ fn asks(rule: Rule) -> &'static str
         Rule::PortDigit => "A port is of ASCII digits.",
         Rule::PortRange => "A port is at most 65535.",
         Rule::FirstSegmentEmpty =>
-            "Behind an authority, a path whose first segment is empty has no other one: it doesn't begin with //.",
+            "After an authority, a path whose first segment is empty has no other one: it doesn't begin with //.",
         Rule::DriveAfterHost =>
-            "Behind the host of a file URL, the path doesn't begin with /, a drive letter and /.",
+            "After the host of a file URL, the path doesn't begin with /, a drive letter and /.",
         Rule::CodePoint =>
             "A path, query and fragment have URL code points and percent-escapes; all else is percent-encoded.",
         Rule::Percent =>

@@ -11,10 +11,10 @@ use clap::{Arg, ArgAction, Command};
 use std::alloc::{AllocError, Global};
 
 const STATUSES: &str = "Exit statuses:
-  0  the text is valid, each line is ok, each vector passes, or a rule is explained
-  1  the text is refused, a line isn't ok, or a vector fails
+  0  every text is as it should be, or help was asked for
+  1  a text is refused or can't be mended, a line isn't ok, or a vector fails
   2  the arguments, the base or the vector file are refused, or a file of lint can't be read
-  3  memory ran out, or an I/O error occurred
+  3  memory ran out, or reading or writing failed
 
 Example:
   urlcheck check 'http://h/a b'";
@@ -280,7 +280,7 @@ fn columns<'a>(alloc: Global) -> Arg<'a>
     ensures rule { rule_of result ≡ option_rule (codes "columns") }
     ensures local { result.global ≡ false }
 {
-    let help = "code-points, bytes, utf16 or screen; without it columns count code-points";
+    let help = "code-points, bytes, utf16 or screen; without it code-points";
     option(alloc, "columns", "UNIT", help)
 }
 
@@ -314,7 +314,7 @@ fn files<'a>(alloc: Global) -> Arg<'a>
     Arg::new(alloc, "FILE")
         .required(true)
         .action(ArgAction::Append)
-        .help("A file that has a text a line; - is the standard input")
+        .help("A file of links, one a line; - is the standard input")
 }
 
 fn text<'a>(alloc: Global) -> Arg<'a>
@@ -323,7 +323,7 @@ fn text<'a>(alloc: Global) -> Arg<'a>
 {
     Arg::new(alloc, "TEXT")
         .required(true)
-        .help("The text to check; behind -- where it begins with -")
+        .help("The text to check; after -- where it begins with -")
 }
 
 fn mended<'a>(alloc: Global) -> Arg<'a>
