@@ -1,6 +1,6 @@
 //! What the second parser makes of texts. Each expected URL is that of the URL Standard, section 4.4.
 
-use uv_second::{RoomFault, read_as, reading, serial};
+use uv_second::{RoomFault, read_as, reading, reads_as, serial};
 
 // The second parser reads the text as the URL of this text, alone.
 #[test]
@@ -33,5 +33,8 @@ fn compares_texts(rt: HostRuntime) -> Result<(), RoomFault> {
     };
     assert!(rt; read_as(alloc, Some(&base), "../c", "http://h/c")?.is_some());
     assert!(rt; read_as(alloc, Some(&base), "c", "http://h/c")?.is_none());
+    assert!(rt; reads_as(alloc, Some(&base), "../c", "http://h/c")?);
+    assert!(rt; !reads_as(alloc, Some(&base), "c", "http://h/c")?);
+    assert!(rt; !reads_as(alloc, None, "//h", "http://h/")?);
     Ok(())
 }
