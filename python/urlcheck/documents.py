@@ -340,7 +340,6 @@ class Run:
         return any(it.search(text) for it in self._settings.ignored)
 
 
-
 def _patterns(name: Optional[str]) -> Tuple["re.Pattern[str]", ...]:
     """The regular expressions of a file, one a line; a line that begins with ``#`` is a comment."""
     if name is None:
