@@ -1,11 +1,12 @@
 //! All the faults of texts, by the rules of the URL Standard, section 4.3. Each expected fault is worked out by hand
 //! from those rules, never from a run of this code.
 
+use crate::verdicts::references::opaque_base;
 use crate::wanted::refusals_at;
 use std::alloc::{AllocError, Global};
 use std::process::Abort;
 use uv_grammar::{Verdict, check, faults};
-use uv_model::{Profile, Record, Refusal, Rule, Text, UrlPath, well_formed};
+use uv_model::{Profile, Record, Refusal, Rule};
 
 // A text and its faults.
 type Row<'a> = (&'a str, &'a [(usize, Rule)]);
@@ -71,27 +72,9 @@ fn names_each_fault(rt: HostRuntime) -> Result<(), AllocError> {
     )
 }
 
-// A base with an opaque path, none where it isn't well formed.
-fn opaque_base(rt: HostRuntime) -> Result<Option<Record>, AllocError> {
-    let scheme = String::from_str(rt.alloc(), "urn")?;
-    let path = UrlPath::Opaque(Text::of(String::from_str(rt.alloc(), "a")?));
-    if !well_formed(
-        scheme.as_str(),
-        None,
-        None,
-        &path,
-        None,
-        None,
-        Profile::Parser,
-    ) {
-        return Ok(None);
-    }
-    Ok(Some(Record::make(scheme, None, None, path, None, None)))
-}
-
 #[test]
 fn judges_no_host_where_the_start_is_at_fault(rt: HostRuntime) -> Result<(), AllocError> {
-    let base = opaque_base(rt)?;
+    let base = opaque_base(rt.alloc())?;
     assert!(rt; base.is_some());
     sees(
         &rt,

@@ -1,6 +1,13 @@
 //! Names: of schemes, of rules, and domains that end in a number.
 
+use std::process::Abort;
 use uv_model::{Class, Rule, class_of, default_port, ends_in_number};
+
+// A scheme has this class, and this default port.
+fn is_scheme(rt: &impl Abort, scheme: &str, class: Class, port: Option<u16>) {
+    assert_eq!(rt; class_of(scheme), class, "{scheme}");
+    assert_eq!(rt; default_port(scheme), port, "{scheme}");
+}
 
 // The table of section 4.2 of the URL Standard, and schemes that it doesn't have.
 #[test]
@@ -12,16 +19,13 @@ fn knows_the_special_schemes(rt: HostRuntime) {
         ("ws", Some(80)),
         ("wSs", Some(443)),
     ] {
-        assert_eq!(rt; class_of(scheme), Class::Special, "{scheme}");
-        assert_eq!(rt; default_port(scheme), port, "{scheme}");
+        is_scheme(&rt, scheme, Class::Special, port);
     }
     for scheme in ["file", "FiLe"] {
-        assert_eq!(rt; class_of(scheme), Class::File, "{scheme}");
-        assert_eq!(rt; default_port(scheme), None, "{scheme}");
+        is_scheme(&rt, scheme, Class::File, None);
     }
     for scheme in ["", "foo", "https2", "htt", "\u{212A}"] {
-        assert_eq!(rt; class_of(scheme), Class::Other, "{scheme}");
-        assert_eq!(rt; default_port(scheme), None, "{scheme}");
+        is_scheme(&rt, scheme, Class::Other, None);
     }
 }
 

@@ -76,39 +76,41 @@ fn takes_ports_of_references(rt: HostRuntime) -> Result<(), AllocError> {
     )
 }
 
-// A text with the port of a scheme against a base of it, and another with one that isn't its own.
-fn takes_port_of(
+// Texts with the port of a scheme against a base of it, and with one that isn't its own.
+fn are_lines_against(
     rt: &(impl Abort + AllocGlobal),
     scheme: &str,
-    own: &str,
-    other: &str,
+    rows: &[(&str, &str)],
 ) -> Result<(), AllocError> {
     let base = base_with(rt.alloc(), scheme)?;
     assert!(rt; base.is_some());
-    let absent = format!(in rt.alloc(); "authority host g is domain g port {own} is none path ")?;
-    let present = format!(in rt.alloc();
-        "authority host g is domain g port {other} is {other} path "
-    )?;
-    let own = format!(in rt.alloc(); "//g:{own}")?;
-    let other = format!(in rt.alloc(); "//g:{other}")?;
-    are_lines(
-        rt,
-        base.as_ref(),
-        Profile::Standard,
-        &[
-            (own.as_str(), absent.as_str()),
-            (other.as_str(), present.as_str()),
-        ],
-    )
+    are_lines(rt, base.as_ref(), Profile::Standard, rows)
 }
 
 #[test]
 fn leaves_out_the_port_of_the_scheme_of_the_base(rt: HostRuntime) -> Result<(), AllocError> {
-    takes_port_of(&rt, "http", "80", "443")?;
-    takes_port_of(&rt, "https", "443", "80")?;
-    takes_port_of(&rt, "ws", "80", "443")?;
-    takes_port_of(&rt, "wss", "443", "80")?;
-    takes_port_of(&rt, "ftp", "21", "80")
+    let absent_80 = (
+        "//g:80",
+        "authority host g is domain g port 80 is none path ",
+    );
+    let present_80 = ("//g:80", "authority host g is domain g port 80 is 80 path ");
+    let absent_443 = (
+        "//g:443",
+        "authority host g is domain g port 443 is none path ",
+    );
+    let present_443 = (
+        "//g:443",
+        "authority host g is domain g port 443 is 443 path ",
+    );
+    let absent_21 = (
+        "//g:21",
+        "authority host g is domain g port 21 is none path ",
+    );
+    are_lines_against(&rt, "http", &[absent_80, present_443])?;
+    are_lines_against(&rt, "https", &[absent_443, present_80])?;
+    are_lines_against(&rt, "ws", &[absent_80, present_443])?;
+    are_lines_against(&rt, "wss", &[absent_443, present_80])?;
+    are_lines_against(&rt, "ftp", &[absent_21, present_80])
 }
 
 #[test]
@@ -325,24 +327,32 @@ fn judges_hosts_of_each_length(rt: HostRuntime) -> Result<(), AllocError> {
     Ok(())
 }
 
+// A start and so many letters, which are valid, and `^` behind them, which is refused where it stands.
+fn is_judged_behind(
+    rt: &(impl Abort + AllocGlobal),
+    base: Option<&Record>,
+    start: &str,
+    length: usize,
+) -> Result<(), AllocError> {
+    let valid = long_reference(rt.alloc(), start, length, "")?;
+    is_judged(rt, valid.as_str(), base, None)?;
+    let refused = long_reference(rt.alloc(), start, length, "^z")?;
+    let refusal = Refusal {
+        place: valid.as_str().len(),
+        rule: Rule::CodePoint,
+    };
+    is_judged(rt, refused.as_str(), base, Some(refusal))
+}
+
 // The start has 4 bytes, so that the place is before, at and behind each end of 32 bytes.
 #[test]
 fn judges_what_follows_hosts_at_each_length(rt: HostRuntime) -> Result<(), AllocError> {
     let base = base_with(rt.alloc(), "https")?;
     assert!(rt; base.is_some());
     for length in 0..=70usize {
-        for start in ["//h/", "//h?", "//h#"] {
-            let text = long_reference(rt.alloc(), start, length, "")?;
-            is_judged(&rt, text.as_str(), base.as_ref(), None)?;
-            let mut text = long_reference(rt.alloc(), start, length, "")?;
-            let place = text.as_str().len();
-            text.push_str("^z")?;
-            let refused = Refusal {
-                place,
-                rule: Rule::CodePoint,
-            };
-            is_judged(&rt, text.as_str(), base.as_ref(), Some(refused))?;
-        }
+        is_judged_behind(&rt, base.as_ref(), "//h/", length)?;
+        is_judged_behind(&rt, base.as_ref(), "//h?", length)?;
+        is_judged_behind(&rt, base.as_ref(), "//h#", length)?;
     }
     Ok(())
 }

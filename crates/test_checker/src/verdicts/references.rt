@@ -3,15 +3,11 @@
 
 use super::*;
 use uv_model::{Text, TextList, UrlPath, well_formed};
+use uv_text::encode;
 
-// An ASCII text, empty in place of any other.
+// A text as a record has it, where it has no other code points than ASCII.
 pub(super) fn ascii(alloc: Global, text: &str) -> Result<Text, AllocError> {
-    let string = String::from_str(alloc, text)?;
-    if string.as_str().is_ascii() {
-        Ok(Text::of(string))
-    } else {
-        Ok(Text::of(String::new(alloc)))
-    }
+    Ok(Text::of(encode(alloc, text, false)?))
 }
 
 // A path of these segments.
@@ -166,7 +162,7 @@ fn judges_references_against_other_bases(rt: HostRuntime) -> Result<(), AllocErr
 }
 
 // `urn:a`.
-pub(super) fn opaque_base(alloc: Global) -> Result<Option<Record>, AllocError> {
+pub(crate) fn opaque_base(alloc: Global) -> Result<Option<Record>, AllocError> {
     let path = UrlPath::Opaque(ascii(alloc, "a")?);
     made(alloc, "urn", None, path, None)
 }
