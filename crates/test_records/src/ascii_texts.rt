@@ -10,8 +10,9 @@ pub fn ascii(alloc: Global, text: &str) -> Result<Text, AllocError>
     ensures kept { IsAscii text.now → IfOk result (λ made. made ≡ text.now) }
     ensures emptied { IsNotAscii text.now → IfOk result (λ made. made ≡ []) }
 {
-    if text.is_ascii() {
-        Ok(Text::of(String::from_str(alloc, text)?))
+    let string = String::from_str(alloc, text)?;
+    if string.as_str().is_ascii() {
+        Ok(Text::of(string))
     } else {
         Ok(Text::of(String::new(alloc)))
     }

@@ -1,13 +1,6 @@
 //! Names: of schemes, of rules, and domains that end in a number.
 
-use std::process::Abort;
 use uv_model::{Class, Rule, class_of, default_port, ends_in_number};
-
-// A scheme has this class, and this default port.
-fn is_scheme(rt: &impl Abort, scheme: &str, class: Class, port: Option<u16>) {
-    assert_eq!(rt; class_of(scheme), class, "{scheme}");
-    assert_eq!(rt; default_port(scheme), port, "{scheme}");
-}
 
 // The table of section 4.2 of the URL Standard, and schemes that it doesn't have.
 #[test]
@@ -19,13 +12,16 @@ fn knows_the_special_schemes(rt: HostRuntime) {
         ("ws", Some(80)),
         ("wSs", Some(443)),
     ] {
-        is_scheme(&rt, scheme, Class::Special, port);
+        assert_eq!(rt; class_of(scheme), Class::Special, "{scheme}");
+        assert_eq!(rt; default_port(scheme), port, "{scheme}");
     }
     for scheme in ["file", "FiLe"] {
-        is_scheme(&rt, scheme, Class::File, None);
+        assert_eq!(rt; class_of(scheme), Class::File, "{scheme}");
+        assert_eq!(rt; default_port(scheme), None, "{scheme}");
     }
     for scheme in ["", "foo", "https2", "htt", "\u{212A}"] {
-        is_scheme(&rt, scheme, Class::Other, None);
+        assert_eq!(rt; class_of(scheme), Class::Other, "{scheme}");
+        assert_eq!(rt; default_port(scheme), None, "{scheme}");
     }
 }
 
