@@ -94,7 +94,7 @@ fn is_kept(segment: &str) -> bool
     !is_double_dot(segment) && !is_single_dot(segment)
 }
 
-// The text of the URL, in one allocation but where an IPv6 address or many a `'` asks for more.
+// The text of the URL, in one allocation but where many a `'` in a query asks for more.
 fn write(
     alloc: Global,
     scheme: &str,
