@@ -37,6 +37,16 @@ ends_with() {
     if ! printf '%b' "$stderr" | cmp -s - "$room/err"; then fail "$what: on standard error: $(cat "$room/err")"; fi
 }
 
+# no_base PLACE RULE SENTENCE : what is said on standard error of a base that this rule refuses
+no_base() { printf '%s' "urlcheck: the base is refused: $3\\nbase refused $1 $2\\n"; }
+
+# What is said of an output on which no space is left, of one that is closed, of an input that is a folder, and of one
+# that is closed.
+no_space="urlcheck: standard output: can't be written: no space is left\\n"
+no_output="urlcheck: standard output: can't be written\\n"
+from_folder="urlcheck: standard input: can't be read: it is a folder\\n"
+no_input="urlcheck: standard input: can't be read\\n"
+
 # all_cases NUMBER : the last line of a file of cases, with the number of its runs
 all_cases() {
     complete=yes

@@ -93,6 +93,6 @@ done
 # The output can't be written.
 for words in 'explain' 'explain percent'; do
     "$program" $words >/dev/full 2>"$room/err"
-    ends_with 3 $? 'write\n' "$words to a full device"
+    ends_with 3 $? "${no_space}write\\n" "$words to a full device"
 done
 all_cases 49

@@ -17,8 +17,8 @@ reports 1 "$against" '' --base=http://h/
 wide='1 ok http://h/a\n2 ok http://h/\n3 ok http://x_y/\nlinks 3 ok 3 bad 0 differs 0\n'
 reports 0 "$wide" '' --wide --base http://h/
 reports 0 "${wide//h\//h_\/}" '' --wide --base http://h_/
-reports 2 '' 'base refused 7 host-domain\n' --base http://h_/
-reports 2 '' 'base refused 7 host-missing\n' --base http://
+reports 2 '' "$(no_base 7 host-domain 'the host that begins here is no valid domain')" --base http://h_/
+reports 2 '' "$(no_base 7 host-missing 'a host has to stand here')" --base http://
 
 # By the parser's profile an accepted line has the text that the second parser gives too: hosts of every kind, files
 # with and without a host, opaque paths with spaces, and what the narrower profiles take.
@@ -49,7 +49,7 @@ parsers 3 'urn:a b' '#f => urn:a b#f' 'urn:c d => urn:c d' 'http://1.2.3/ => htt
 printf 'http://256/\nurn:a \nfile://C:/x\nhttp://h/a b\n' >"$room/list"
 bad='1 bad 7 host-number\n2 bad 5 code-point\n3 bad 7 host-domain\n4 bad 10 code-point\n'
 reports 1 "${bad}links 4 ok 0 bad 4 differs 0\n" '' --profile parser
-reports 2 '' 'base refused 5 code-point\n' --wide --base 'urn:a b'
+reports 2 '' "$(no_base 5 code-point 'this code point may not stand in a URL')" --wide --base 'urn:a b'
 
 printf 'a\r\n\377\nb' >"$room/list"
 reports 1 '1 bad 0 no-scheme\n2 bad 0 not-utf8\n3 bad 0 no-scheme\nlinks 3 ok 0 bad 3 differs 0\n' ''
@@ -81,11 +81,11 @@ if [ "$answer" != 'links 3 ok 3 bad 0 differs 0' ]; then fail "a live pipe: it e
 # Streams that fail.
 printf 'urn:a\n' >"$room/list"
 "$program" links <"$room/list" >/dev/full 2>"$room/err"
-ends_with 3 $? 'write\n' 'links to a full device'
+ends_with 3 $? "${no_space}write\\n" 'links to a full device'
 (sleep 0.3; "$program" links <"$room/list" 2>"$room/err"; echo $? >"$room/status") | true
 ends_with 3 "$(cat "$room/status")" '' 'links to a closed pipe'
 "$program" links <"$room" >"$room/out" 2>"$room/err"
-ends_with 3 $? 'read\n' 'links from a folder'
+ends_with 3 $? "${from_folder}read\\n" 'links from a folder'
 
 # A list of 100,000 lines, whose report is made a second time here: five kinds of line, each with its known answer.
 awk 'BEGIN {

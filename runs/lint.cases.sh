@@ -49,8 +49,8 @@ places=$("$program" check --all 'http://a b:x/ %' | awk '{ print "1:" $2 + 1 " [
 [ "$(sed 's/.*txt:\([0-9]*:[0-9]*\): .* \(\[[a-z-]*\]\)$/\1 \2/' "$room/out")" = "$places" ] ||
     fail "lint --all: it wrote $(cat "$room/out")"
 [ "$(wc -l <"$room/out")" -gt 2 ] || fail "lint --all: it wrote $(cat "$room/out")"
-expect 2 '' 'base refused 7 host-domain\n' lint --base 'http://h a/' links.txt
-expect 2 '' 'base refused 0 no-scheme\n' lint --base '' missing.txt
+expect 2 '' "$(no_base 7 host-domain 'the host that begins here is no valid domain')" lint --base 'http://h a/' links.txt
+expect 2 '' "$(no_base 0 no-scheme 'it has no scheme')" lint --base '' missing.txt
 formats='urlcheck: the formats: gnu caret json github sarif checkstyle\nwords\n'
 for name in GNU gnu, gn jsan checkstle; do
     near=gnu
@@ -383,7 +383,7 @@ rm -f "$room/long"
 # found and a document alone would be written.
 for format in gnu caret json github sarif checkstyle; do
     (cd "$room" && "$program" lint --quiet --format $format links.txt missing) >/dev/full 2>"$room/err"
-    ends_with 3 $? 'write\n' "lint --format $format to a full device"
+    ends_with 3 $? "${no_space}write\\n" "lint --format $format to a full device"
 done
 for format in sarif checkstyle; do
     (cd "$room" && "$program" lint --format $format right.txt) >/dev/full 2>"$room/err"

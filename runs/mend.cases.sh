@@ -23,11 +23,11 @@ expect 0 'valid\n' '' mend --profile parser file://h/C:/x
 expect 0 'valid\n' '' mend --profile parser 'urn:a b'
 expect 1 'none\nrefused 0 no-scheme\n' '' mend ''
 expect 1 'none\nrefused 0 opaque-base\n' '' mend --base mailto:a b
-expect 2 '' 'base refused 0 no-scheme\n' mend --base '' 'http://h/a b'
+expect 2 '' "$(no_base 0 no-scheme 'it has no scheme')" mend --base '' 'http://h/a b'
 
 # A failed write.
 "$program" mend 'http://h/a b' >/dev/full 2>"$room/err"
-ends_with 3 $? 'write\n' 'mend to a full device'
+ends_with 3 $? "${no_space}write\\n" 'mend to a full device'
 
 # ---- without a TEXT: a filter of lines
 
@@ -66,7 +66,7 @@ printf 'http://a%%2Db/ c\nurn:a b\nfile://h/C:/x\n' >"$room/list"
 filters 0 'http://a-b/%20c\nurn:a%20b\nfile://h/./C:/x\n' '' --quiet --wide
 filters 0 'http://a%2Db/%20c\nurn:a b\nfile://h/C:/x\n' \
     'urlcheck: 3 lines, 1 mended (1 same, 0 escaped, 0 changed), 0 refused\n' --profile parser
-filters 2 '' 'base refused 0 no-scheme\n' --base ''
+filters 2 '' "$(no_base 0 no-scheme 'it has no scheme')" --base ''
 
 # Words.
 filters 2 '' "urlcheck: no kind is named 'sam'; the nearest is same\nurlcheck: the kinds: same escaped changed\nwords\n" \
@@ -135,13 +135,13 @@ ends_with 0 $? '' 'mend of a live pipe'
 printf 'http://h/a b\n' >"$room/list"
 counted='urlcheck: 1 line, 1 mended (1 same, 0 escaped, 0 changed), 0 refused\n'
 "$program" mend <"$room/list" >/dev/full 2>"$room/err"
-ends_with 3 $? "${counted}write\\n" 'mend of a list to a full device'
+ends_with 3 $? "$no_space${counted}write\\n" 'mend of a list to a full device'
 (sleep 0.3; "$program" mend <"$room/list" 2>"$room/err"; echo $? >"$room/status") | true
 ends_with 3 "$(cat "$room/status")" '' 'mend of a list to a closed pipe'
 "$program" mend --quiet <"$room" >"$room/out" 2>"$room/err"
-ends_with 3 $? 'read\n' 'mend of a folder'
+ends_with 3 $? "${from_folder}read\\n" 'mend of a folder'
 [ ! -s "$room/out" ] || fail "mend of a folder: it wrote $(head -c 40 "$room/out")"
 "$program" mend --quiet <&- >"$room/out" 2>"$room/err"
-ends_with 3 $? 'read\n' 'mend with standard input closed'
+ends_with 3 $? "${no_input}read\\n" 'mend with standard input closed'
 
 all_cases 50

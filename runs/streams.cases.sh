@@ -3,9 +3,9 @@
 printf 'urn:a\nurn:b\n' >"$room/list"
 for words in 'check urn:a' 'check x' 'links'; do
     "$program" $words <"$room/list" >/dev/full 2>"$room/err"
-    ends_with 3 $? 'write\n' "$words to a full device"
+    ends_with 3 $? "${no_space}write\\n" "$words to a full device"
     "$program" $words <"$room/list" >&- 2>"$room/err"
-    ends_with 3 $? 'write\n' "$words with standard output closed"
+    ends_with 3 $? "${no_output}write\\n" "$words with standard output closed"
     # A pipe without a reader, of which nothing is said, with the signal SIGPIPE at its default, and ignored.
     (sleep 0.2; "$program" $words <"$room/list" 2>"$room/err"; echo $? >"$room/status") | true
     ends_with 3 "$(cat "$room/status")" '' "$words to a closed pipe"
@@ -16,7 +16,7 @@ done
 # Help and the version, into a full device and to a closed pipe.
 for words in '--help' 'help' 'check --help' 'help lint' '--version'; do
     "$program" $words >/dev/full 2>"$room/err"
-    ends_with 3 $? 'write\n' "$words to a full device"
+    ends_with 3 $? "${no_space}write\\n" "$words to a full device"
     (sleep 0.2; "$program" $words 2>"$room/err"; echo $? >"$room/status") | true
     ends_with 3 "$(cat "$room/status")" '' "$words to a closed pipe"
 done
@@ -30,11 +30,11 @@ ends_with 3 "$(cat "$room/status")" '' 'links to a pipe closed behind one line'
 
 # Inputs: closed, open for writing alone, a folder; and a list that ends within a line, a code point and a scheme.
 "$program" links <&- >"$room/out" 2>"$room/err"
-ends_with 3 $? 'read\n' 'links with standard input closed'
+ends_with 3 $? "${no_input}read\\n" 'links with standard input closed'
 "$program" links 0>"$room/written" >"$room/out" 2>"$room/err"
-ends_with 3 $? 'read\n' 'links on an input for writing'
+ends_with 3 $? "${no_input}read\\n" 'links on an input for writing'
 "$program" links <"$room" >"$room/out" 2>"$room/err"
-ends_with 3 $? 'read\n' 'links on a folder'
+ends_with 3 $? "${from_folder}read\\n" 'links on a folder'
 [ ! -s "$room/out" ] || fail "links on a folder: it wrote $(head -c 40 "$room/out")"
 
 # ends_early BYTES REPORT : the report on the first bytes of the list, which then ends

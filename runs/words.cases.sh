@@ -91,14 +91,14 @@ expect 2 '' "$both" check --wide --profile parser urn:a
 # The text and the base are taken as they are given.
 expect 1 'refused 0 no-scheme\n' '' check ''
 expect 0 'valid\nscheme http\nhost domain h\nsegment \n' '' check --base http://h ''
-expect 2 '' 'base refused 0 no-scheme\n' check --base b ''
-expect 2 '' 'base refused 0 no-scheme\n' check --base= a
+expect 2 '' "$(no_base 0 no-scheme 'it has no scheme')" check --base b ''
+expect 2 '' "$(no_base 0 no-scheme 'it has no scheme')" check --base= a
 expect 1 'refused 0 no-scheme\n' '' check ' a '
 expect 1 'refused 5 code-point\n' '' check 'urn:a '
 expect 1 'refused 0 no-scheme\n' '' check -- --x
 expect 1 'refused 0 no-scheme\n' '' check -- -a
 expect 0 'valid\nscheme urn\nopaque a\n' '' check -- urn:a
-expect 2 '' 'base refused 7 host-missing\n' check --base http:// http://h/
+expect 2 '' "$(no_base 7 host-missing 'a host has to stand here')" check --base http:// http://h/
 expect 0 'links 0 ok 0 bad 0 differs 0\n' '' links --base x:
 
 # A refused text, a base in each way of giving it, and a base that is refused, also where the text has a scheme.
@@ -109,8 +109,8 @@ expect 0 'valid\nscheme http\nhost domain h\nsegment a\nsegment x\n' '' check '-
 expect 0 'valid\nscheme http\nhost domain h\nsegment -x\n' '' check --base=http://h/ -- -x
 expect 0 'valid\nscheme urn\nopaque a\nfragment t\n' '' check --base urn:a '#t'
 expect 1 'refused 0 drive-after-host\n' '' check --base file://h/a /C:/x
-expect 2 '' 'base refused 7 host-missing\n' check --base http:// x
-expect 2 '' 'base refused 0 no-scheme\n' check --base x urn:a
+expect 2 '' "$(no_base 7 host-missing 'a host has to stand here')" check --base http:// x
+expect 2 '' "$(no_base 0 no-scheme 'it has no scheme')" check --base x urn:a
 
 # All that is wrong with a text.
 expect 1 'refused 7 host-domain\nrefused 12 code-point\nrefused 15 percent\n' '' check --all 'http://u@h/a b?%4'
@@ -120,7 +120,7 @@ expect 1 'refused 0 opaque-base\n' '' check --all --base urn:a '//h%4/x'
 expect 1 'refused 7 host-missing\n' '' check http:// --all
 expect 0 'valid\nscheme file\nhost empty\nsegment x\n' '' check --all file:///x
 expect 0 'valid\nscheme urn\nopaque a\n' '' check --all urn:a
-expect 2 '' 'base refused 7 host-missing\n' check --all --base http:// 'a b'
+expect 2 '' "$(no_base 7 host-missing 'a host has to stand here')" check --all --base http:// 'a b'
 
 # The standard and the wide profile: each text is refused by the standard one, but the last, and taken or refused by the
 # wide one.
@@ -143,7 +143,7 @@ for flag in --all --wide; do
     expect 1 'refused 8 drive-after-host\n' '' check $flag file://h/C:/x
     expect 0 'valid\nscheme http\nhost domain h\nsegment \n' '' check $flag --base http://x/a //h
 done
-expect 2 '' 'base refused 7 host-domain\n' check --base http://a_b/ x
+expect 2 '' "$(no_base 7 host-domain 'the host that begins here is no valid domain')" check --base http://a_b/ x
 expect 0 'valid\nscheme http\nhost domain a_b\nsegment x\n' '' check --wide --base http://a_b/ x
 expect 1 'refused 7 host-domain\nrefused 11 code-point\n' '' check --all 'http://a_b/ '
 expect 1 'refused 11 code-point\n' '' check --all --wide 'http://a_b/ '
@@ -186,6 +186,6 @@ expect 1 'refused 7 host-domain\nrefused 14 port-digit\nrefused 16 code-point\n'
 # The base is judged by it too.
 expect 0 'valid\nscheme file\nhost domain h\nsegment C:\nsegment x\n' '' check --profile parser --base file://h/a /C:/x
 expect 0 'valid\nscheme urn\nopaque a b\nfragment f\n' '' check --profile parser --base 'urn:a b' '#f'
-expect 2 '' 'base refused 5 code-point\n' check --wide --base 'urn:a b' '#f'
-expect 2 '' 'base refused 7 host-number\n' check --profile parser --base http://256/ x
+expect 2 '' "$(no_base 5 code-point 'this code point may not stand in a URL')" check --wide --base 'urn:a b' '#f'
+expect 2 '' "$(no_base 7 host-number 'the host that begins here ends in a number, and is no IPv4 address')" check --profile parser --base http://256/ x
 all_cases 160

@@ -3,7 +3,7 @@
     answers.py PROGRAM CASES VECTORS..   writes the cases, as JSON
 
 A case has its text, its base or null, what the vectors want and by which profile or null, and for each profile what
-`check`, `check --all` and `mend` print, with the status and what stands on standard error.
+`check`, `check --all` and `mend` print, with the status and the last line on standard error.
 """
 
 import concurrent.futures
@@ -33,7 +33,8 @@ def run(program, command, text, base, profile):
     words = [program, *command, "--profile", profile]
     words += ([] if base is None else ["--base=" + base]) + ["--", text]
     ended = subprocess.run(words, capture_output=True, timeout=60)
-    return {"status": ended.returncode, "out": ended.stdout.decode(), "error": ended.stderr.decode()}
+    last = "".join(ended.stderr.decode().splitlines(True)[-1:])
+    return {"status": ended.returncode, "out": ended.stdout.decode(), "error": last}
 
 
 def said(program, text, base):

@@ -115,7 +115,7 @@ def said(program, case, profile):
         return ("0", record_text(lines[1:]))
     if run.returncode == 1:
         return ("1", lines[0].partition(" ")[2])
-    return ("3", run.stderr.decode().strip().replace("base refused ", ""))
+    return ("3", run.stderr.decode().splitlines()[-1].replace("base refused ", ""))
 
 
 def answered(line):

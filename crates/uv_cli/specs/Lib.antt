@@ -14,4 +14,5 @@ pub mod Filtered
 pub mod Filter
 pub mod Messages
 pub mod Program
+pub mod Reasons
 pub mod Unread

@@ -14,6 +14,7 @@ mod linted;
 mod mend;
 mod messages;
 pub mod program;
+mod reasons;
 mod report;
 mod unknown;
 mod unread;

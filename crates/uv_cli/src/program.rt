@@ -10,9 +10,10 @@ use crate::arguments::{OwnArguments, refused, words_of};
 use crate::ends::{End, end_after_output, end_without_file, end_without_job, error_line, status};
 use crate::jobs::run_job;
 use crate::messages::{message_line, message_lines, say};
+use crate::reasons::report_reason;
 use crate::unknown::unknown_lines;
 use crate::unread::{FileFault, read_vector_file, report_unread};
-use crate::watched::WatchedWriter;
+use crate::watched::{WatchedReader, WatchedWriter};
 use std::alloc::{AllocError, Global};
 use std::fs::Files;
 use std::io;
@@ -104,8 +105,11 @@ fn done<R: Files + Input + Print + Eprint + AllocGlobal>(rt: &R, job: &Job) -> E
         Ok(file) => file,
         Err(fault) => return open(end_without_file(fault)),
     };
-    let mut input = FromReader::new(rt.reader());
-    let (ended, _) = done_over(rt, job, file.as_slice(), &mut input, io::writer(rt));
+    let mut input = FromReader::new(WatchedReader::new(rt.reader()));
+    let (ended, out) = done_over(rt, job, file.as_slice(), &mut input, io::writer(rt));
+    if !ended.is_closed {
+        report_reason(rt, ended.end, input.into_reader().fault(), out.fault());
+    }
     ended
 }
 
@@ -173,23 +177,30 @@ fn shown<R: Print + Eprint + AllocGlobal>(rt: &R, fault: &WordsFault) -> Ended
         return open(end);
     };
     if fault.asks_to_show() {
-        return printed(end, error.print(rt));
+        return printed(rt, end, error.print(rt));
     }
     say(rt, clap_lines(rt.alloc(), error));
     open(end)
 }
 
 // The end once help is printed, or once that failed.
-fn printed(end: End, answer: io::Result<()>) -> Ended
+fn printed<R: Eprint + AllocGlobal>(rt: &R, end: End, answer: io::Result<()>) -> Ended
     ensures { MatchResult answer (λ done. result ≡ open_end end)
         (λ error. result ≡ ended_after end false (Some (error_kind error))) }
 {
     match answer {
         Ok(()) => open(end),
-        Err(error) => Ended {
-            end: end_after_output(end, false),
-            is_closed: is_closed_by(Some(error.kind())),
-        },
+        Err(error) => {
+            let kind = Some(error.kind());
+            let ended = Ended {
+                end: end_after_output(end, false),
+                is_closed: is_closed_by(kind),
+            };
+            if !ended.is_closed {
+                report_reason(rt, ended.end, None, kind);
+            }
+            ended
+        }
     }
 }
 

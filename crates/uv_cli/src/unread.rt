@@ -98,8 +98,8 @@ pub(crate) fn report_unread<R: Eprint + AllocGlobal>(rt: &R, file: &str, why: Un
     say(rt, unread_line(rt.alloc(), file, why));
 }
 
-// The line of a file that wasn't read. Its name is shown as a terminal may show it.
-fn unread_line(alloc: Global, file: &str, why: Unread) -> Result<String, AllocError>
+/// The line of a file that wasn't read. Its name is shown as a terminal may show it.
+pub(crate) fn unread_line(alloc: Global, file: &str, why: Unread) -> Result<String, AllocError>
     ensures { IfOk result (λ line. string_bytes line ≡ unread_text file.now why) }
 {
     let mut line = String::from_str(alloc, "urlcheck: ")?;
