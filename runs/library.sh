@@ -24,6 +24,10 @@ gcc -std=c99 "${strict[@]}" "${sanitized[@]}" -I "$include" answers.c "$archive"
 python3 cases.py compare "$program" "$room/c" "$top"/vectors/*.json
 "$room/answers_c" "$room/cases" places >"$room/places"
 python3 cases.py places "$room/places" "$top"/vectors/*.json
+python3 ../lengths.py vectors "$room/lengths.json"
+python3 cases.py pack "$room/lengths" "$room/lengths.json"
+"$room/answers_c" "$room/lengths" places >"$room/places"
+python3 cases.py places "$room/places" "$room/lengths.json"
 "$room/answers_c" "$room/cases" mended >"$room/mended"
 python3 cases.py mended "$program" "$room/mended" "$top"/vectors/*.json
 if python3 -m pip --version >/dev/null 2>&1; then

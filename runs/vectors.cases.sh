@@ -1,7 +1,8 @@
-# Runs over files of vectors. The three files of the repository pass.
+# Runs over files of vectors. The four files of the repository pass.
 vectors=$(dirname "$here")/vectors
 expect 0 'vectors 109 pass 109 fail 0\n' '' vectors "$vectors/standard.json"
 expect 0 'vectors 190 pass 190 fail 0\n' '' vectors "$vectors/parser.json"
+expect 0 'vectors 406 pass 406 fail 0\n' '' vectors "$vectors/urls.json"
 expect 0 'vectors 3781 pass 3781 fail 0\n' '' vectors "$vectors/uts46.json"
 
 # vector_file TEXT : a file in the room that has this text, read with escapes
@@ -93,4 +94,4 @@ count=$((count + 1))
 if ! sed -n '/r##"/,/^"##;$/p' "$suite" | sed '1s/.*r##"//; $d' | cmp -s - "$vectors/standard.json"; then
     fail 'the suite of the tests and vectors/standard.json differ'
 fi
-all_cases 44
+all_cases 45

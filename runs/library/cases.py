@@ -157,7 +157,9 @@ def mended(program, case, profile):
     text, base, _ = case
     words = [program, "mend", "--profile", profile] + ([] if base is None else ["--base=" + base]) + ["--", text]
     run = subprocess.run(words, capture_output=True, timeout=60)
-    return (run.stdout if run.returncode < 2 else run.stderr).decode().rstrip("\n").replace("\n", "\t")
+    if run.returncode < 2:
+        return run.stdout.decode().rstrip("\n").replace("\n", "\t")
+    return run.stderr.decode().splitlines()[-1]
 
 
 def compare_mended(program, answers, paths):

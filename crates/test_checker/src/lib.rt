@@ -1,9 +1,9 @@
-//! Tests of the checker: the verdicts and the faults of `uv_grammar`, and where it cuts a text. They stand above this
-//! crate, so that it isn't proved twice. The list of faults that a text is to have is made by one function that is proved.
+//! Tests of the checker: the verdicts and the faults of `uv_grammar`. They stand above this crate, so that it isn't
+//! proved twice. The list of faults that a text is to have is made by one function that is proved.
 #![tactic(auto)]
 
 #[cfg(test)]
-mod cuts;
+mod bases;
 #[cfg(test)]
 mod faults;
 #[cfg(test)]

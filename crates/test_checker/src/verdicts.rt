@@ -1,425 +1,368 @@
-//! Verdicts on texts, by the rules of the URL Standard, sections 3.4 and 4.3, and the grammar of hosts beside them.
-//! Each expected line is worked out by hand from those rules, never from a run of this code.
+//! Verdicts on texts, by the rules of the URL Standard, sections 3.4 and 4.3: the parts of a valid text in each form, and
+//! the refusal of another. Each is worked out by hand from those rules, never from a run of this code. The cases of
+//! `vectors/` and of `runs/lengths.py` are more of them, which the built program and the library for C are run on.
 
+use crate::bases::special_base;
 use std::alloc::{AllocError, Global};
-use std::process::Abort;
 use uv_grammar::{
-    BaseKind, Form, Parts, Verdict, check, check_alone, check_of_kind, is_valid, is_valid_of_kind,
+    BaseKind, BaseScheme, Form, HostRef, Parts, Verdict, check, check_alone, check_of_kind,
+    is_valid, is_valid_of_kind,
 };
-use uv_model::{Host, Profile, Record, Refusal};
+use uv_model::{Profile, Record, Refusal, Rule};
 
-mod host_references;
-mod lengths;
 mod memory;
-mod plain_links;
-mod profiles;
-pub(crate) mod references;
 
-/// The name of a form.
-fn form_name(form: Form) -> &'static str {
-    match form {
-        Form::SchemeAuthority => "scheme-authority",
-        Form::SchemePath => "scheme-path",
-        Form::SchemeOpaque => "scheme-opaque",
-        Form::Authority => "authority",
-        Form::PathAbsolute => "path-absolute",
-        Form::PathRelative => "path-relative",
-        Form::NoPath => "no-path",
+// A text, its form, its scheme, host and port, its path, and its query and fragment.
+struct Cut {
+    text: &'static str,
+    form: Form,
+    scheme: Option<&'static str>,
+    host: Option<&'static str>,
+    port: Option<&'static str>,
+    path: &'static str,
+    query: Option<&'static str>,
+    fragment: Option<&'static str>,
+}
+
+const ALONE: [Cut; 7] = [
+    Cut {
+        text: "https://EXAMPLE.com:443/a/../b?x='y'#\u{E9}",
+        form: Form::SchemeAuthority,
+        scheme: Some("https"),
+        host: Some("EXAMPLE.com"),
+        port: Some("443"),
+        path: "/a/../b",
+        query: Some("x='y'"),
+        fragment: Some("\u{E9}"),
+    },
+    Cut {
+        text: "http://h:?#",
+        form: Form::SchemeAuthority,
+        scheme: Some("http"),
+        host: Some("h"),
+        port: Some(""),
+        path: "",
+        query: Some(""),
+        fragment: Some(""),
+    },
+    Cut {
+        text: "foo://",
+        form: Form::SchemeAuthority,
+        scheme: Some("foo"),
+        host: Some(""),
+        port: None,
+        path: "",
+        query: None,
+        fragment: None,
+    },
+    Cut {
+        text: "file://[::1]/C:",
+        form: Form::SchemeAuthority,
+        scheme: Some("file"),
+        host: Some("[::1]"),
+        port: None,
+        path: "/C:",
+        query: None,
+        fragment: None,
+    },
+    Cut {
+        text: "foo:/.//a",
+        form: Form::SchemePath,
+        scheme: Some("foo"),
+        host: None,
+        port: None,
+        path: "/.//a",
+        query: None,
+        fragment: None,
+    },
+    Cut {
+        text: "urn:isbn:0451450523#",
+        form: Form::SchemeOpaque,
+        scheme: Some("urn"),
+        host: None,
+        port: None,
+        path: "isbn:0451450523",
+        query: None,
+        fragment: Some(""),
+    },
+    Cut {
+        text: "foo:?",
+        form: Form::SchemeOpaque,
+        scheme: Some("foo"),
+        host: None,
+        port: None,
+        path: "",
+        query: Some(""),
+        fragment: None,
+    },
+];
+
+const REFERENCES: [Cut; 6] = [
+    Cut {
+        text: "//a-b.c:80/e/../f?g?h#i",
+        form: Form::Authority,
+        scheme: None,
+        host: Some("a-b.c"),
+        port: Some("80"),
+        path: "/e/../f",
+        query: Some("g?h"),
+        fragment: Some("i"),
+    },
+    Cut {
+        text: "/x//y",
+        form: Form::PathAbsolute,
+        scheme: None,
+        host: None,
+        port: None,
+        path: "/x//y",
+        query: None,
+        fragment: None,
+    },
+    Cut {
+        text: "./a:b",
+        form: Form::PathRelative,
+        scheme: None,
+        host: None,
+        port: None,
+        path: "./a:b",
+        query: None,
+        fragment: None,
+    },
+    Cut {
+        text: "1:b",
+        form: Form::PathRelative,
+        scheme: None,
+        host: None,
+        port: None,
+        path: "1:b",
+        query: None,
+        fragment: None,
+    },
+    Cut {
+        text: "",
+        form: Form::NoPath,
+        scheme: None,
+        host: None,
+        port: None,
+        path: "",
+        query: None,
+        fragment: None,
+    },
+    Cut {
+        text: "?x#f",
+        form: Form::NoPath,
+        scheme: None,
+        host: None,
+        port: None,
+        path: "",
+        query: Some("x"),
+        fragment: Some("f"),
+    },
+];
+
+// Whether a verdict is that the text is valid, with the parts of the cut.
+fn is_cut(verdict: &Verdict<'_>, cut: &Cut) -> bool {
+    match verdict {
+        Verdict::Yes(parts) => has_front(parts, cut) && has_back(parts, cut),
+        Verdict::No(_) => false,
     }
 }
 
-/// The pieces, one behind the other.
-fn push_all(line: &mut String, pieces: &[&str]) -> Result<(), AllocError> {
-    for piece in pieces {
-        line.push_str(*piece)?;
+fn has_front(parts: &Parts<'_>, cut: &Cut) -> bool {
+    parts.form() == cut.form
+        && parts.scheme() == cut.scheme
+        && parts.host_text() == cut.host
+        && parts.port_text() == cut.port
+}
+
+fn has_back(parts: &Parts<'_>, cut: &Cut) -> bool {
+    parts.path_text() == cut.path && parts.query() == cut.query && parts.fragment() == cut.fragment
+}
+
+// Whether a text alone is cut so by each call.
+fn is_cut_alone(alloc: Global, cut: &Cut) -> Result<bool, AllocError> {
+    let text = cut.text;
+    Ok(
+        is_cut(&check(alloc, text, None, Profile::Standard)?, cut)
+            && is_cut(&check_alone(alloc, text, Profile::Standard)?, cut)
+            && is_valid(alloc, text, None, Profile::Standard)?,
+    )
+}
+
+// Whether a text against a base is cut so by each call.
+fn is_cut_against(alloc: Global, base: &Record, cut: &Cut) -> Result<bool, AllocError> {
+    let text = cut.text;
+    let kind = BaseKind::of(base);
+    Ok(
+        is_cut(&check(alloc, text, Some(base), Profile::Standard)?, cut)
+            && is_cut(&check_of_kind(alloc, text, kind, Profile::Standard)?, cut)
+            && is_valid(alloc, text, Some(base), Profile::Standard)?
+            && is_valid_of_kind(alloc, text, kind, Profile::Standard)?,
+    )
+}
+
+#[test]
+fn cuts_texts_alone(rt: HostRuntime) -> Result<(), AllocError> {
+    for cut in ALONE.iter() {
+        assert!(rt; is_cut_alone(rt.alloc(), cut)?);
     }
     Ok(())
 }
 
-/// A name and its text, where there is one.
-fn push_part(line: &mut String, name: &str, text: Option<&str>) -> Result<(), AllocError> {
-    match text {
-        Some(text) => push_all(line, &[" ", name, " ", text]),
-        None => Ok(()),
+#[test]
+fn cuts_references(rt: HostRuntime) -> Result<(), AllocError> {
+    let Some(base) = special_base(rt.alloc())? else {
+        panic!(rt; "no base");
+    };
+    for cut in REFERENCES.iter() {
+        assert!(rt; is_cut_against(rt.alloc(), &base, cut)?);
+    }
+    Ok(())
+}
+
+// Texts that are refused alone, and where and by which rule.
+const REFUSED: [(&str, usize, Rule); 8] = [
+    ("", 0, Rule::NoScheme),
+    ("http:x", 5, Rule::TwoSlashes),
+    ("http://", 7, Rule::HostMissing),
+    ("http://\u{AD}/", 7, Rule::HostDomain),
+    ("http://h:65536/", 9, Rule::PortRange),
+    ("https://example.com//a", 20, Rule::FirstSegmentEmpty),
+    ("http://h/a b", 10, Rule::CodePoint),
+    ("http://h/\u{E9}?%4", 11, Rule::Percent),
+];
+
+// Whether a verdict is this refusal.
+fn is_refusal(verdict: Verdict<'_>, wanted: Refusal) -> bool {
+    match verdict {
+        Verdict::Yes(_) => false,
+        Verdict::No(refusal) => refusal == wanted,
     }
 }
 
-/// A name and a number in decimal.
-fn push_number(
-    alloc: Global,
-    line: &mut String,
-    name: &str,
-    number: u32,
+// Whether a text alone is refused so by each call.
+fn is_refused(alloc: Global, text: &str, wanted: Refusal) -> Result<bool, AllocError> {
+    Ok(
+        is_refusal(check(alloc, text, None, Profile::Standard)?, wanted)
+            && is_refusal(check_alone(alloc, text, Profile::Standard)?, wanted)
+            && !is_valid(alloc, text, None, Profile::Standard)?,
+    )
+}
+
+#[test]
+fn refuses_texts_alone(rt: HostRuntime) -> Result<(), AllocError> {
+    for (text, place, rule) in REFUSED.iter() {
+        let wanted = Refusal {
+            place: *place,
+            rule: *rule,
+        };
+        assert!(rt; is_refused(rt.alloc(), *text, wanted)?);
+    }
+    Ok(())
+}
+
+// A kind of bases may be one that no base has.
+#[test]
+fn refuses_references_against_a_special_kind_of_opaque_paths(
+    rt: HostRuntime,
 ) -> Result<(), AllocError> {
-    let digits = number.to_string(alloc)?;
-    push_all(line, &[name, " ", digits.as_str()])
-}
-
-/// The eight pieces of an IPv6 address in decimal.
-fn push_pieces(alloc: Global, line: &mut String, pieces: &[u16; 8]) -> Result<(), AllocError> {
-    line.push_str("ipv6")?;
-    for piece in pieces {
-        push_number(alloc, line, "", u32::from(*piece))?;
-    }
+    let kind = BaseKind {
+        scheme: BaseScheme::Https,
+        has_opaque_path: true,
+        has_empty_host: false,
+    };
+    let wanted = Refusal {
+        place: 0,
+        rule: Rule::OpaqueBase,
+    };
+    let verdict = check_of_kind(rt.alloc(), "//g/x", kind, Profile::Standard)?;
+    assert!(rt; is_refusal(verdict, wanted));
+    assert!(rt; !is_valid_of_kind(rt.alloc(), "//g/x", kind, Profile::Standard)?);
     Ok(())
 }
 
-/// A kind of host and its value.
-fn push_host(alloc: Global, line: &mut String, host: Option<&Host>) -> Result<(), AllocError> {
-    match host {
-        None => line.push_str("-"),
-        Some(Host::Domain(text)) => push_all(line, &["domain ", text.as_str()]),
-        Some(Host::V4(value)) => push_number(alloc, line, "ipv4", *value),
-        Some(Host::V6(pieces)) => push_pieces(alloc, line, pieces),
-        Some(Host::Opaque(text)) => push_all(line, &["opaque ", text.as_str()]),
-        Some(Host::Empty) => line.push_str("empty"),
+// The value of a host. A copy of an opaque host's text isn't given.
+#[derive(Clone, Copy)]
+enum Value {
+    None,
+    Domain(&'static str),
+    V4(u32),
+    V6([u16; 8]),
+    Empty,
+}
+
+// Valid texts with the values of their hosts, the numbers of their ports, and their segments.
+type Row = (&'static str, Value, Option<u16>, &'static [&'static str]);
+
+const VALUES: [Row; 11] = [
+    (
+        "https://EXAMPLE.com:443/a/../b",
+        Value::Domain("example.com"),
+        None,
+        &["a", "..", "b"],
+    ),
+    (
+        "http://b\u{FC}cher.example.",
+        Value::Domain("xn--bcher-kva.example."),
+        None,
+        &[],
+    ),
+    ("http://192.168.0.1/", Value::V4(3232235521), None, &[""]),
+    (
+        "http://[::ffff:1.2.3.4]/",
+        Value::V6([0, 0, 0, 0, 0, 65535, 258, 772]),
+        None,
+        &[""],
+    ),
+    ("http://h:065535/", Value::Domain("h"), Some(65535), &[""]),
+    ("http://h:/", Value::Domain("h"), None, &[""]),
+    ("ws://h:80/x", Value::Domain("h"), None, &["x"]),
+    ("wss://h:80/x", Value::Domain("h"), Some(80), &["x"]),
+    ("foo://u%40h:80/a/", Value::None, Some(80), &["a", ""]),
+    ("file://localhost/etc", Value::Empty, None, &["etc"]),
+    ("urn:a/b", Value::None, None, &[]),
+];
+
+// Whether a host has this value.
+fn is_value(host: Option<HostRef<'_>>, value: &Value) -> bool {
+    match (host, value) {
+        (None, Value::None) | (Some(HostRef::Empty), Value::Empty) => true,
+        (Some(HostRef::Domain(form)), Value::Domain(wanted)) => form.as_str() == *wanted,
+        (Some(HostRef::V4(number)), Value::V4(wanted)) => number == *wanted,
+        (Some(HostRef::V6(pieces)), Value::V6(wanted)) => pieces == *wanted,
+        _ => false,
     }
 }
 
-/// The host of the parts, copied.
-fn host_of(alloc: Global, parts: &Parts) -> Result<Option<Host>, AllocError> {
-    match parts.host() {
-        Some(host) => Ok(Some(host.copy(alloc)?)),
-        None => Ok(None),
-    }
-}
-
-/// The text of the host, where there is an authority, with its kind and value.
-fn push_host_part(alloc: Global, line: &mut String, parts: &Parts) -> Result<(), AllocError> {
-    let Some(text) = parts.host_text() else {
-        return Ok(());
-    };
-    let host = host_of(alloc, parts)?;
-    push_all(line, &[" host ", text, " is "])?;
-    push_host(alloc, line, host.as_ref())
-}
-
-/// The text of the port, where there is a `:`, with its number.
-fn push_port_part(alloc: Global, line: &mut String, parts: &Parts) -> Result<(), AllocError> {
-    let Some(text) = parts.port_text() else {
-        return Ok(());
-    };
-    push_all(line, &[" port ", text, " is"])?;
-    match parts.port() {
-        Some(port) => push_number(alloc, line, "", u32::from(port)),
-        None => line.push_str(" none"),
-    }
-}
-
-/// The path, and each of its segments in parentheses.
-fn push_path(line: &mut String, parts: &Parts) -> Result<(), AllocError> {
-    push_all(line, &[" path ", parts.path_text()])?;
+// Whether the segments of the parts are these, in order.
+fn has_segments(parts: &Parts<'_>, wanted: &[&str]) -> bool {
+    let mut left = wanted.iter();
     for segment in parts.segments() {
-        push_all(line, &[" (", segment, ")"])?;
+        match left.next() {
+            Some(wanted) if segment == *wanted => {}
+            _ => return false,
+        }
+    }
+    left.next().is_none()
+}
+
+// Whether a valid text has what its row says.
+fn has_values(alloc: Global, row: &Row) -> Result<bool, AllocError> {
+    let (text, value, port, segments) = row;
+    match check_alone(alloc, text, Profile::Standard)? {
+        Verdict::Yes(parts) => Ok(
+            is_value(parts.host(), value)
+                && parts.port() == *port
+                && has_segments(&parts, segments),
+        ),
+        Verdict::No(_) => Ok(false),
+    }
+}
+
+#[test]
+fn gives_hosts_ports_and_segments(rt: HostRuntime) -> Result<(), AllocError> {
+    for row in VALUES.iter() {
+        assert!(rt; has_values(rt.alloc(), row)?);
     }
     Ok(())
-}
-
-/// The parts in their order: an absent text is left out.
-fn parts_line(alloc: Global, parts: &Parts) -> Result<String, AllocError> {
-    let mut line = String::from_str(alloc, form_name(parts.form()))?;
-    push_part(&mut line, "scheme", parts.scheme())?;
-    push_host_part(alloc, &mut line, parts)?;
-    push_port_part(alloc, &mut line, parts)?;
-    push_path(&mut line, parts)?;
-    push_part(&mut line, "query", parts.query())?;
-    push_part(&mut line, "fragment", parts.fragment())?;
-    Ok(line)
-}
-
-/// A refusal by its place and its rule.
-fn refusal_line(alloc: Global, refusal: Refusal) -> Result<String, AllocError> {
-    let place = refusal.place.to_string(alloc)?;
-    let mut line = String::new(alloc);
-    push_all(
-        &mut line,
-        &["no ", place.as_str(), " ", refusal.rule.name()],
-    )?;
-    Ok(line)
-}
-
-/// A verdict by a profile as one line.
-fn profile_line(
-    alloc: Global,
-    text: &str,
-    base: Option<&Record>,
-    profile: Profile,
-) -> Result<String, AllocError> {
-    match check(alloc, text, base, profile)? {
-        Verdict::Yes(parts) => parts_line(alloc, &parts),
-        Verdict::No(refusal) => refusal_line(alloc, refusal),
-    }
-}
-
-/// The same by the call that knows no base.
-fn alone_line(alloc: Global, text: &str, profile: Profile) -> Result<String, AllocError> {
-    match check_alone(alloc, text, profile)? {
-        Verdict::Yes(parts) => parts_line(alloc, &parts),
-        Verdict::No(refusal) => refusal_line(alloc, refusal),
-    }
-}
-
-/// Whether the verdict of a profile on a text is this line.
-fn is_line(
-    alloc: Global,
-    text: &str,
-    base: Option<&Record>,
-    profile: Profile,
-    line: &str,
-) -> Result<bool, AllocError> {
-    let found = profile_line(alloc, text, base, profile)?;
-    let held = match base {
-        Some(base) => kind_line(alloc, text, BaseKind::of(base), profile)?,
-        None => alone_line(alloc, text, profile)?,
-    };
-    let valid = is_valid(alloc, text, base, profile)? != line.starts_with("no ");
-    Ok(found.as_str() == line && held.as_str() == line && valid)
-}
-
-/// A verdict against a base of a kind as one line, and none where the verdict alone is another.
-fn kind_line(
-    alloc: Global,
-    text: &str,
-    base: BaseKind,
-    profile: Profile,
-) -> Result<String, AllocError> {
-    let valid = is_valid_of_kind(alloc, text, base, profile)?;
-    match check_of_kind(alloc, text, base, profile)? {
-        Verdict::Yes(parts) if valid => parts_line(alloc, &parts),
-        Verdict::No(refusal) if !valid => refusal_line(alloc, refusal),
-        _ => Ok(String::new(alloc)),
-    }
-}
-
-/// The verdict of a profile on each text of the table, alone or against a base, is its line.
-fn are_lines(
-    rt: &(impl Abort + AllocGlobal),
-    base: Option<&Record>,
-    profile: Profile,
-    rows: &[(&str, &str)],
-) -> Result<(), AllocError> {
-    for (text, line) in rows {
-        let found = is_line(rt.alloc(), *text, base, profile, *line)?;
-        assert!(rt; found, "{text}");
-    }
-    Ok(())
-}
-
-#[test]
-fn takes_hosts_of_special_schemes(rt: HostRuntime) -> Result<(), AllocError> {
-    are_lines(
-        &rt,
-        None,
-        Profile::Standard,
-        &[
-            (
-                "https://EXAMPLE.com:443/a/../b?x='y'#\u{E9}",
-                "scheme-authority scheme https host EXAMPLE.com is domain example.com port 443 is none \
-                path /a/../b (a) (..) (b) query x='y' fragment \u{E9}",
-            ),
-            (
-                "https://example.com/a//b",
-                "scheme-authority scheme https host example.com is domain example.com path /a//b (a) () (b)",
-            ),
-            (
-                "http://[1:2:3:4:5:6:7::]/",
-                "scheme-authority scheme http host [1:2:3:4:5:6:7::] is ipv6 1 2 3 4 5 6 7 0 path / ()",
-            ),
-            (
-                "http://[::ffff:1.2.3.4]/",
-                "scheme-authority scheme http host [::ffff:1.2.3.4] is ipv6 0 0 0 0 0 65535 258 772 path / ()",
-            ),
-            (
-                "http://192.168.0.1/",
-                "scheme-authority scheme http host 192.168.0.1 is ipv4 3232235521 path / ()",
-            ),
-            (
-                "https://b\u{FC}cher.example/",
-                "scheme-authority scheme https host b\u{FC}cher.example is domain xn--bcher-kva.example path / ()",
-            ),
-            (
-                "http://example.com./",
-                "scheme-authority scheme http host example.com. is domain example.com. path / ()",
-            ),
-        ],
-    )
-}
-
-#[test]
-fn takes_ports_and_paths_of_special_schemes(rt: HostRuntime) -> Result<(), AllocError> {
-    are_lines(
-        &rt,
-        None,
-        Profile::Standard,
-        &[
-            (
-                "http://h:065535/",
-                "scheme-authority scheme http host h is domain h port 065535 is 65535 path / ()",
-            ),
-            (
-                "http://h:/",
-                "scheme-authority scheme http host h is domain h port  is none path / ()",
-            ),
-            (
-                "ws://h:80/x",
-                "scheme-authority scheme ws host h is domain h port 80 is none path /x (x)",
-            ),
-            (
-                "wss://h:80/x",
-                "scheme-authority scheme wss host h is domain h port 80 is 80 path /x (x)",
-            ),
-            (
-                "http://h",
-                "scheme-authority scheme http host h is domain h path ",
-            ),
-            (
-                "http://h/a/%2E%2e/b",
-                "scheme-authority scheme http host h is domain h path /a/%2E%2e/b (a) (%2E%2e) (b)",
-            ),
-            (
-                "http://h/a/.",
-                "scheme-authority scheme http host h is domain h path /a/. (a) (.)",
-            ),
-        ],
-    )
-}
-
-#[test]
-fn refuses_texts_of_special_schemes(rt: HostRuntime) -> Result<(), AllocError> {
-    are_lines(
-        &rt,
-        None,
-        Profile::Standard,
-        &[
-            ("https://example.com//a", "no 20 first-segment-empty"),
-            ("http://1.2.3/", "no 7 host-number"),
-            ("http://\u{FF11}.2.3.4/", "no 7 host-number"),
-            ("http://256.0.0.1/", "no 7 host-number"),
-            ("http://1.2.3.4./", "no 7 host-number"),
-            ("http://user@example.com/", "no 7 host-domain"),
-            ("http://\u{AD}/", "no 7 host-domain"),
-            ("http://a..b/", "no 7 host-domain"),
-            ("http://a..1/", "no 7 host-domain"),
-            ("http://-a/", "no 7 host-domain"),
-            ("http://a=\u{338}/", "no 7 host-domain"),
-            ("http://user:pw@h/", "no 12 port-digit"),
-            ("http://h:8a/", "no 10 port-digit"),
-            ("http://h:65536/", "no 9 port-range"),
-            ("http://[1:2:3:4:5:6:7:8::]/", "no 7 host-ipv6"),
-            ("http://[::1]x/", "no 7 host-ipv6"),
-            ("http://[::1/", "no 7 host-ipv6"),
-            ("http://::1]/", "no 7 host-missing"),
-            ("http://", "no 7 host-missing"),
-            ("http:/", "no 6 two-slashes"),
-            ("http:", "no 5 two-slashes"),
-            ("http:x", "no 5 two-slashes"),
-            ("http", "no 0 no-scheme"),
-            ("", "no 0 no-scheme"),
-            (" http://h/", "no 0 no-scheme"),
-            ("http://h/%4?a", "no 9 percent"),
-            ("http://h/?\u{FFFE}", "no 10 code-point"),
-            ("http://h/a b", "no 10 code-point"),
-            ("http://h/#a#b", "no 11 code-point"),
-        ],
-    )
-}
-
-// A label of 63 code points, the most that one may have, with its line, and one of 64.
-const LONGEST_LABEL: &str =
-    "http://aaaaaaaaaaaaaaaaaaaaaaaaaaaaaaaaaaaaaaaaaaaaaaaaaaaaaaaaaaaaaaa/";
-
-const LONGEST_LINE: &str = "scheme-authority scheme http \
-    host aaaaaaaaaaaaaaaaaaaaaaaaaaaaaaaaaaaaaaaaaaaaaaaaaaaaaaaaaaaaaaa \
-    is domain aaaaaaaaaaaaaaaaaaaaaaaaaaaaaaaaaaaaaaaaaaaaaaaaaaaaaaaaaaaaaaa path / ()";
-
-const LONGER_LABEL: &str =
-    "http://aaaaaaaaaaaaaaaaaaaaaaaaaaaaaaaaaaaaaaaaaaaaaaaaaaaaaaaaaaaaaaaa/";
-
-#[test]
-fn judges_labels_of_63_and_64(rt: HostRuntime) -> Result<(), AllocError> {
-    are_lines(
-        &rt,
-        None,
-        Profile::Standard,
-        &[
-            (LONGEST_LABEL, LONGEST_LINE),
-            (LONGER_LABEL, "no 7 host-domain"),
-        ],
-    )
-}
-
-#[test]
-fn judges_texts_of_other_schemes(rt: HostRuntime) -> Result<(), AllocError> {
-    are_lines(
-        &rt,
-        None,
-        Profile::Standard,
-        &[
-            (
-                "urn:isbn:0451450523",
-                "scheme-opaque scheme urn path isbn:0451450523",
-            ),
-            ("foo:?", "scheme-opaque scheme foo path  query "),
-            ("foo://", "scheme-authority scheme foo host  is empty path "),
-            (
-                "foo://u%40h:80/a/",
-                "scheme-authority scheme foo host u%40h is - port 80 is 80 path /a/ (a) ()",
-            ),
-            (
-                "foo://[::1]",
-                "scheme-authority scheme foo host [::1] is ipv6 0 0 0 0 0 0 0 1 path ",
-            ),
-            ("foo:/.//a", "scheme-path scheme foo path /.//a (.) () (a)"),
-            ("foo://:80", "no 6 host-missing"),
-            ("foo://u@h/", "no 7 host-code-point"),
-            ("foo://a[:b/", "no 7 host-code-point"),
-            ("foo://h:8x9y/", "no 9 port-digit"),
-            ("foo://h//a", "no 8 first-segment-empty"),
-            ("urn:a b", "no 5 code-point"),
-            ("urn:%4", "no 4 percent"),
-        ],
-    )
-}
-
-#[test]
-fn judges_file_texts(rt: HostRuntime) -> Result<(), AllocError> {
-    are_lines(
-        &rt,
-        None,
-        Profile::Standard,
-        &[
-            (
-                "file://localhost/etc",
-                "scheme-authority scheme file host localhost is empty path /etc (etc)",
-            ),
-            (
-                "file:///",
-                "scheme-authority scheme file host  is empty path / ()",
-            ),
-            (
-                "file:///C:/..",
-                "scheme-authority scheme file host  is empty path /C:/.. (C:) (..)",
-            ),
-            (
-                "file:///c%3A/..",
-                "scheme-authority scheme file host  is empty path /c%3A/.. (c%3A) (..)",
-            ),
-            (
-                "file://h/C:",
-                "scheme-authority scheme file host h is domain h path /C: (C:)",
-            ),
-            (
-                "file://h?q",
-                "scheme-authority scheme file host h is domain h path  query q",
-            ),
-            ("file://", "no 7 host-missing"),
-            ("file:/x", "no 6 two-slashes"),
-            ("file:////a", "no 8 first-segment-empty"),
-            ("file://h/C:/x", "no 8 drive-after-host"),
-            ("file://h/C|/x", "no 8 drive-after-host"),
-            ("file://localhost/C:/x", "no 16 drive-after-host"),
-            ("file:///C|/x", "no 9 code-point"),
-            ("file://C:/x", "no 7 host-domain"),
-        ],
-    )
 }

@@ -2,15 +2,13 @@
 //! sections 3.4 and 4.3.
 
 use super::*;
-use crate::verdicts::references::base_of;
 use crate::without_memory::take_all;
 use uv_host::domain;
-use uv_model::{Host, Rule, Text};
 
 // A text, whether it is against a base, and its refusal.
 type Row = (&'static str, bool, Option<(usize, Rule)>);
 
-// Texts of whose host no form is made, each alone or against the base `http://x/a`, and their refusals.
+// Texts of whose host no form is made, each alone or against the base `http://h/`, and their refusals.
 const ROWS: [Row; 19] = [
     ("urn:a", false, None),
     ("http://1.2.3.4/a/b", false, None),
@@ -66,12 +64,6 @@ fn makes_form(alloc: Global, text: &str) -> bool {
     domain(alloc, text, Profile::Standard).is_ok()
 }
 
-// The base of the rows.
-fn row_base(alloc: Global) -> Result<Option<Record>, AllocError> {
-    let host = Host::Domain(Text::of(String::from_str(alloc, "x")?));
-    base_of(alloc, "http", Some(host), &["a"], None)
-}
-
 // What is seen while there is no memory: whether a form is made, whether a text whose host needs one is answered, and
 // the first row that is answered otherwise than it says.
 fn seen_without_memory(
@@ -88,7 +80,7 @@ fn seen_without_memory(
 
 #[test]
 fn takes_no_memory(rt: HostRuntime) -> Result<(), AllocError> {
-    let Some(base) = row_base(rt.alloc())? else {
+    let Some(base) = special_base(rt.alloc())? else {
         panic!(rt; "no base");
     };
     let (made, answered, wrong) = seen_without_memory(rt.alloc(), &base)?;

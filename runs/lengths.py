@@ -1,0 +1,209 @@
+"""Texts of each length, for what is read 32 bytes at a time and what is left of that.
+
+    lengths.py vectors FILE      writes the texts as a file of vectors
+    lengths.py check PROGRAM     has the program judge them in lists: `links` what each denotes, and `lint` all that is
+                                 wrong with it
+
+What each text denotes, or where and by which rule it is refused, follows from how it is made.
+"""
+
+import collections
+import itertools
+import json
+import os
+import subprocess
+import sys
+import tempfile
+
+# What is wrong with no text.
+NOTHING = ()
+# The lengths around each end of 32 bytes.
+LENGTHS = range(71)
+# A text, its base or None, the URL that it denotes where it is valid, and all that is wrong with it: places and rules.
+Case = collections.namedtuple("Case", "text base url faults")
+
+
+def valid(text, base, url):
+    return Case(text, base, url, NOTHING)
+
+
+def refused(text, base, *faults):
+    return Case(text, base, None, faults)
+
+
+def labels():
+    """Labels of up to 63 code points, and longer ones, in lower and in upper case."""
+    for length, letter in itertools.product(range(1, 71), "zZ"):
+        text = "http://" + letter * length + "/a"
+        yield valid(text, None, text.lower()) if length <= 63 else refused(text, None, (7, "host-domain"))
+
+
+def names():
+    """Names of up to 253 code points, and longer ones. A full stop at the end is the root's, and isn't counted."""
+    for length, letter in itertools.product(range(2, 261), "zZ"):
+        name = "".join("." if at % 32 == 0 else letter for at in range(1, length + 1))
+        text = "http://" + name + "/a"
+        is_valid = length <= 253 or (name.endswith(".") and length == 254)
+        yield valid(text, None, text.lower()) if is_valid else refused(text, None, (7, "host-domain"))
+
+
+def hosts_of_references():
+    """The same labels behind `//`, with each end that may follow them."""
+    ends = {"": "/", "/": "/", "?q": "/?q", "#f": "/#f", ":80": ":80/", ".com/a": ".com/a", "./": "./"}
+    for length, (end, written) in itertools.product(range(1, 71), ends.items()):
+        host = "z" * length
+        text = "//" + host + end
+        is_valid = length <= 63
+        yield (
+            valid(text, "https://h/a/b", "https://" + host + written)
+            if is_valid
+            else refused(text, "https://h/a/b", (2, "host-domain"))
+        )
+
+
+def wrong_places():
+    """Letters behind each mark, and `^` behind them, which is refused where it stands; the same beyond ASCII."""
+    for length, mark in itertools.product(LENGTHS, "/?#"):
+        written = mark if mark == "/" else "/" + mark
+        letters = "z" * length
+        yield refused("http://h" + mark + letters + "^a", None, (9 + length, "code-point"))
+        yield refused("http://h" + mark + "\u00e9" * length + "%4", None, (9 + length, "percent"))
+        yield valid("//h" + mark + letters, "https://h/a/b", "https://h" + written + letters)
+        yield refused("//h" + mark + letters + "^z", "https://h/a/b", (4 + length, "code-point"))
+    for length in LENGTHS:
+        yield refused("foo://" + "a" * length + "^/", None, (6 + length, "host-code-point"))
+
+
+def parts():
+    """A part of each length, with nothing that is encoded at its end, and with what is."""
+    ends = [
+        ("http://h/", "", ""),
+        ("http://h:81/", "", ""),
+        ("http://h/", "\u00e9", "%C3%A9"),
+        ("http://h/?", "'", "%27"),
+        ("http://h/#", "\u00e9'", "%C3%A9'"),
+        ("urn:", "\u00e9", "%C3%A9"),
+    ]
+    for length, (prefix, end, encoded) in itertools.product(LENGTHS, ends):
+        letters = prefix + "a" * length
+        yield valid(letters + end, None, letters + encoded)
+
+
+def references():
+    """References of each length, against a base."""
+    written = {"": "http://h/a/", "../": "http://h/", "/": "http://h/", "?": "http://h/a/b?"}
+    for length, (prefix, before) in itertools.product(range(1, 71), written.items()):
+        letters = "a" * length + "/x.html#f"
+        yield valid(prefix + letters, "http://h/a/b", before + letters)
+
+
+def bases():
+    """References against bases of each length: what stands behind a segment of the base, and behind it in the URL."""
+    behind = [
+        ("http://h:81/", "/b?q", "c", "/c"),
+        ("http://h/", "/b/c", "../d?r", "/d?r"),
+        ("http://h/", "?q", "#f", "?q#f"),
+        ("http://h/?", "#f", "", ""),
+    ]
+    for length, (prefix, end, text, written) in itertools.product(range(1, 71), behind):
+        letters = prefix + "a" * length
+        yield valid(text, letters + end, letters + written)
+
+
+def marks():
+    """Texts cut at the first `?` and the first `#`, as far behind the start and from one another as lengths go."""
+    between = [0, 1, 7, 14, 15, 16, 29, 30, 31, 32, 33, 61, 62, 63, 64]
+    for start, length in itertools.product(LENGTHS, between):
+        path, middle = "u:" + "a" * start, "b" * length
+        for text in (path + middle, path + "?" + middle + "#??", path + "?" + middle + "??", path + "#" + middle + "?"):
+            yield valid(text, None, text)
+        yield refused(path + "?" + middle + "#?#", None, (start + length + 5, "code-point"))
+
+
+def brackets():
+    """A port begins behind the first `:` that stands in no brackets. Two `:` in brackets are an address."""
+    for held in LENGTHS:
+        host = NOTHING if held == 2 else ((6, "host-ipv6"),)
+        inside = "foo://[" + ":" * held
+        yield refused(inside, None, (6, "host-ipv6"))
+        yield refused(inside + "]x[:]:8x", None, (6, "host-ipv6"), (held + 14, "port-digit"))
+        yield refused(inside + "]", None, *host) if host else valid(inside + "]", None, inside + "]")
+        yield refused(inside + "]:8:0", None, *host, (held + 10, "port-digit"))
+        at = held + 7
+        codes = [(at + more, "host-code-point") for more in range(3)]
+        yield refused("foo://" + "x" * held + "x[:]:8x", None, *codes, (at + 5, "port-digit"))
+
+
+def schemes():
+    """A scheme is a letter and then letters, digits and marks before the first `:`; a text without one is a path."""
+    for held in LENGTHS:
+        scheme = "a" + "+" * held + "::/"
+        yield valid(scheme, "http://h/a/b?q", scheme)
+        for path in ("1" + "a" * held + ":", "a" + "-" * held + "/:", "a" + "." * held):
+            yield valid(path, "http://h/a/b?q", "http://h/a/" + path)
+
+
+def cases():
+    made = (labels, names, hosts_of_references, wrong_places, parts, references, bases, marks, brackets, schemes)
+    return [case for make in made for case in make()]
+
+
+def as_vector(case):
+    vector = {"input": case.text} if case.base is None else {"input": case.text, "base": case.base}
+    if case.faults:
+        return {**vector, "place": case.faults[0][0], "rule": case.faults[0][1]}
+    return {**vector, "text": case.url}
+
+
+def answered(program, words, room, listed):
+    """What a command prints of a list of texts."""
+    path = os.path.join(room, "list")
+    with open(path, "w", encoding="utf-8", newline="\n") as out:
+        out.writelines(case.text + "\n" for case in listed)
+    with open(path, "rb") as given:
+        ended = subprocess.run([program, *words], cwd=room, stdin=given, capture_output=True, timeout=120)
+    return ended.stdout.decode().splitlines()
+
+
+def wanted_links(listed):
+    """The report of `links`. An empty text is none of its lines' links, but a valid reference where there is a base."""
+    good = sum(not case.faults for case in listed)
+    for number, case in enumerate(listed, start=1):
+        yield "{} bad {} {}".format(number, *case.faults[0]) if case.faults else "{} ok {}".format(number, case.url)
+    yield "links {} ok {} bad {} differs 0".format(len(listed), good, len(listed) - good)
+
+
+def is_as_wanted(program, room, base, listed):
+    against = [] if base is None else ["--base=" + base]
+    found = answered(program, ["links", *against], room, listed)
+    wanted = list(wanted_links(listed))
+    every = answered(program, ["lint", "--quiet", "--all", *against, "list"], room, listed)
+    places = [line.split(": error: ")[0] + " " + line.rpartition("[")[2][:-1] for line in every]
+    faults = [
+        "list:{}:{} {}".format(number, place + 1, rule)
+        for number, case in enumerate(listed, start=1)
+        for place, rule in case.faults
+    ]
+    if found != wanted:
+        print("FAILED: links --base", base, next(it for it in itertools.zip_longest(found, wanted) if it[0] != it[1]))
+    if places != faults:
+        print("FAILED: lint --base", base, next(it for it in itertools.zip_longest(places, faults) if it[0] != it[1]))
+    return found == wanted and places == faults
+
+
+def check(program):
+    lists = {}
+    for case in cases():
+        lists.setdefault(case.base, []).append(case)
+    with tempfile.TemporaryDirectory() as room:
+        answers = [is_as_wanted(program, room, base, listed) for base, listed in lists.items()]
+    print("lengths: {} lists".format(len(answers)))
+    return 0 if answers and all(answers) else 1
+
+
+if __name__ == "__main__":
+    if sys.argv[1] == "vectors":
+        with open(sys.argv[2], "w", encoding="utf-8") as out:
+            json.dump([as_vector(case) for case in cases()], out)
+    else:
+        sys.exit(check(os.path.realpath(sys.argv[2])))
