@@ -7,9 +7,9 @@ use uv_model::{
 
 #[test]
 fn takes_one_code_point(rt: HostRuntime) {
-    assert_eq!(rt; first_code_point(""), None);
-    assert_eq!(rt; first_code_point("a"), Some(('a', "")));
-    assert_eq!(rt; first_code_point("\u{10FFFD}b"), Some(('\u{10FFFD}', "b")));
+    assert!(rt; first_code_point("") == None);
+    assert!(rt; first_code_point("a") == Some(('a', "")));
+    assert!(rt; first_code_point("\u{10FFFD}b") == Some(('\u{10FFFD}', "b")));
 }
 
 #[test]
@@ -21,17 +21,17 @@ fn passes_code_points(rt: HostRuntime) {
         (3, ""),
         (4, ""),
     ] {
-        assert_eq!(rt; behind_code_points("a\u{E9}\u{10FFFD}", count), left);
+        assert!(rt; behind_code_points("a\u{E9}\u{10FFFD}", count) == left);
     }
 }
 
 #[test]
 fn sees_two_hex_digits(rt: HostRuntime) {
     for text in ["00", "aF", "3Ax"] {
-        assert!(rt; starts_with_two_hex(text), "of {text}");
+        assert!(rt; starts_with_two_hex(text));
     }
     for text in ["", "0", "g0", "0g", "\u{FF10}0"] {
-        assert!(rt; !starts_with_two_hex(text), "of {text}");
+        assert!(rt; !starts_with_two_hex(text));
     }
 }
 
@@ -69,7 +69,7 @@ fn refuses_the_last_two_code_points_of_each_plane(rt: HostRuntime) {
     for plane in 0..17u32 {
         for (last, taken) in [(0xFFFD, true), (0xFFFE, false), (0xFFFF, false)] {
             match char::from_u32(plane * 0x10000 + last) {
-                Some(c) => assert_eq!(rt; is_url_code_point(c), taken),
+                Some(c) => assert!(rt; is_url_code_point(c) == taken),
                 None => panic!(rt; "no code point"),
             }
         }
@@ -89,9 +89,9 @@ fn refuses_the_noncharacters_of_the_first_plane(rt: HostRuntime) {
 #[test]
 fn names_the_forbidden_host_code_points(rt: HostRuntime) {
     for c in "\0\t\n\r #/:<>?@[\\]^|".chars() {
-        assert!(rt; is_forbidden_host(c), "of {c}");
+        assert!(rt; is_forbidden_host(c));
     }
     for c in "az09%!$&'()*+,-.;=_~\"`{}\u{7F}\u{E9}".chars() {
-        assert!(rt; !is_forbidden_host(c), "of {c}");
+        assert!(rt; !is_forbidden_host(c));
     }
 }

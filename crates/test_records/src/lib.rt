@@ -13,8 +13,6 @@ mod record;
 #[cfg(test)]
 mod resolved;
 #[cfg(test)]
-mod serializer;
-#[cfg(test)]
 mod streams;
 #[cfg(test)]
 mod texts;

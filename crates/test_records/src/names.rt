@@ -2,26 +2,36 @@
 
 use uv_model::{Class, Rule, class_of, default_port, ends_in_number};
 
+// Whether a scheme is of this class, with this default port.
+fn is_scheme(scheme: &str, class: Class, port: Option<u16>) -> bool {
+    class_of(scheme) == class && default_port(scheme) == port
+}
+
 // The table of section 4.2 of the URL Standard, and schemes that it doesn't have.
 #[test]
 fn knows_the_special_schemes(rt: HostRuntime) {
     for (scheme, port) in [
-        ("ftp", Some(21)),
-        ("http", Some(80)),
-        ("HTTPS", Some(443)),
-        ("ws", Some(80)),
-        ("wSs", Some(443)),
+        ("ftp", 21),
+        ("http", 80),
+        ("HTTPS", 443),
+        ("ws", 80),
+        ("wSs", 443),
     ] {
-        assert_eq!(rt; class_of(scheme), Class::Special, "{scheme}");
-        assert_eq!(rt; default_port(scheme), port, "{scheme}");
+        assert!(rt; is_scheme(scheme, Class::Special, Some(port)));
     }
     for scheme in ["file", "FiLe"] {
-        assert_eq!(rt; class_of(scheme), Class::File, "{scheme}");
-        assert_eq!(rt; default_port(scheme), None, "{scheme}");
+        assert!(rt; is_scheme(scheme, Class::File, None));
     }
     for scheme in ["", "foo", "https2", "htt", "\u{212A}"] {
-        assert_eq!(rt; class_of(scheme), Class::Other, "{scheme}");
-        assert_eq!(rt; default_port(scheme), None, "{scheme}");
+        assert!(rt; is_scheme(scheme, Class::Other, None));
+    }
+}
+
+// Whether a name is that of the rule with this number.
+fn is_name(name: &str, number: usize) -> bool {
+    match Rule::of_name(name) {
+        Some(rule) => usize::from(rule.number()) == number && rule.name() == name,
+        None => false,
     }
 }
 
@@ -44,13 +54,7 @@ fn finds_each_rule_by_its_name(rt: HostRuntime) {
         "percent",
     ];
     for (at, name) in names.iter().enumerate() {
-        match Rule::of_name(name) {
-            Some(rule) => {
-                assert_eq!(rt; usize::from(rule.number()), at + 1);
-                assert_eq!(rt; rule.name(), *name);
-            }
-            None => panic!(rt; "no rule {name}"),
-        }
+        assert!(rt; is_name(name, at + 1));
     }
 }
 
@@ -65,7 +69,7 @@ fn finds_no_rule_by_another_text(rt: HostRuntime) {
         "code_point",
         " percent",
     ] {
-        assert_eq!(rt; Rule::of_name(text), None);
+        assert!(rt; Rule::of_name(text).is_none());
     }
 }
 
@@ -86,6 +90,6 @@ fn finds_numbers(rt: HostRuntime) {
         ("a.0X1F", false),
         ("\u{FF11}", false),
     ] {
-        assert_eq!(rt; ends_in_number(text), ends, "{text}");
+        assert!(rt; ends_in_number(text) == ends);
     }
 }

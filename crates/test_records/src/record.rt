@@ -1,133 +1,118 @@
-//! A record with every field, made, read and copied.
+//! Records with every field, copied and written: the copy has each field, and the text of a record stands behind what
+//! was written before. The cases of `vectors/` have more texts of records.
 
-use crate::ascii_texts::ascii;
-use std::alloc::Global;
-use std::test::Fail;
-use uv_model::{Host, Profile, Record, Text, TextList, UrlPath, well_formed};
+use std::alloc::{AllocError, Global};
+use uv_model::{Host, Profile, Record, Text, UrlPath};
+use uv_resolve::{ResolveFault, resolve};
 
-// The record of `foo://u%40h:80/a/?q#f`, field by field (URL Standard, section 4.1).
-fn sample(alloc: Global) -> Result<Option<Record>, Fail> {
-    let scheme = String::from_str(alloc, "foo")?;
-    let host = Host::Opaque(sample_text(alloc, "u%40h")?);
-    let mut items = Vec::new(alloc);
-    items.push(sample_text(alloc, "a")?)?;
-    items.push(sample_text(alloc, "")?)?;
-    let path = UrlPath::Segments(TextList::of(items));
-    let query = String::from_str(alloc, "q")?;
-    let fragment = String::from_str(alloc, "f")?;
-    let (some_query, some_fragment) = (Some(query.as_str()), Some(fragment.as_str()));
-    if !well_formed(
-        scheme.as_str(),
-        Some(&host),
-        Some(80),
-        &path,
-        some_query,
-        some_fragment,
-        Profile::Parser,
-    ) {
-        return Ok(None);
+// Whether the texts are these two, or this one.
+fn are_texts(texts: &[Text], first: &str, second: Option<&str>) -> bool {
+    match texts {
+        [one] => one.as_str() == first && second.is_none(),
+        [one, other] => one.as_str() == first && second == Some(other.as_str()),
+        _ => false,
     }
-    Ok(Some(Record::make(
-        scheme,
-        Some(host),
-        Some(80),
-        path,
-        Some(query),
-        Some(fragment),
-    )))
 }
 
-// An ASCII text. No clause says more of it: that a record of such texts may be made is what `well_formed` says of them.
-fn sample_text(alloc: Global, text: &str) -> Result<Text, Fail> {
-    Ok(ascii(alloc, text)?)
+// Whether the path has these segments.
+fn has_segments(path: &UrlPath, first: &str, second: Option<&str>) -> bool {
+    match path {
+        UrlPath::Segments(list) => are_texts(list.as_slice(), first, second),
+        UrlPath::Opaque(_) => false,
+    }
 }
 
-// Whether each field is that of the text.
-fn is_sample(record: &Record) -> bool {
+// Whether each field is that of `foo://u%40h:80/a/?q#f` (URL Standard, section 4.1).
+fn is_opaque_host_record(record: &Record) -> bool {
     let host = match record.host() {
         Some(Host::Opaque(text)) => text.as_str() == "u%40h",
         _ => false,
     };
-    let path = match record.path() {
-        UrlPath::Segments(list) => match list.as_slice() {
-            [first, last] => first.as_str() == "a" && last.as_str() == "",
-            _ => false,
-        },
-        UrlPath::Opaque(_) => false,
-    };
-    let ends = record.query() == Some("q") && record.fragment() == Some("f");
-    record.scheme() == "foo"
-        && host
+    host && record.scheme() == "foo"
         && record.port() == Some(80)
-        && path
-        && ends
-        && !record.is_opaque()
+        && has_segments(record.path(), "a", Some(""))
+        && has_ends(record, "q", "f")
 }
 
-#[test]
-fn keeps_each_field(rt: HostRuntime) -> Result<(), Fail> {
-    match sample(rt.alloc())? {
-        Some(record) => {
-            assert!(rt; is_sample(&record), "the record made");
-            let copy = record.copy(rt.alloc())?;
-            assert!(rt; is_sample(&copy), "its copy");
-        }
-        None => assert!(rt; false, "not well formed"),
-    }
-    Ok(())
-}
-
-// The record of `https://EXAMPLE.com:443/a/../b?x='y'#é`: scheme, domain, segment, query and fragment as they are
-// denoted.
-fn worked(alloc: Global) -> Result<Option<Record>, Fail> {
-    let scheme = String::from_str(alloc, "https")?;
-    let host = Host::Domain(ascii(alloc, "example.com")?);
-    let mut items = Vec::new(alloc);
-    items.push(ascii(alloc, "b")?)?;
-    let path = UrlPath::Segments(TextList::of(items));
-    let query = String::from_str(alloc, "x=%27y%27")?;
-    let fragment = String::from_str(alloc, "%C3%A9")?;
-    let (some_query, some_fragment) = (Some(query.as_str()), Some(fragment.as_str()));
-    if !well_formed(
-        scheme.as_str(),
-        Some(&host),
-        None,
-        &path,
-        some_query,
-        some_fragment,
-        Profile::Parser,
-    ) {
-        return Ok(None);
-    }
-    Ok(Some(Record::make(scheme, Some(host), None, path, Some(query), Some(fragment))))
-}
-
-// Whether each field is that of the worked record.
-fn is_worked(record: &Record) -> bool {
+// Whether each field is that of `https://EXAMPLE.com:443/a/../b?x='y'#é`: the scheme, the domain, the segment, the query
+// and the fragment as they are denoted.
+fn is_domain_record(record: &Record) -> bool {
     let host = match record.host() {
         Some(Host::Domain(form)) => form.as_str() == "example.com",
         _ => false,
     };
-    let path = match record.path() {
-        UrlPath::Segments(list) => match list.as_slice() {
-            [only] => only.as_str() == "b",
-            _ => false,
-        },
-        UrlPath::Opaque(_) => false,
-    };
-    let ends = record.query() == Some("x=%27y%27") && record.fragment() == Some("%C3%A9");
-    record.scheme() == "https" && host && record.port() == None && path && ends
+    host && record.scheme() == "https"
+        && record.port() == None
+        && has_segments(record.path(), "b", None)
+        && has_ends(record, "x=%27y%27", "%C3%A9")
+}
+
+// Whether the query and the fragment are these.
+fn has_ends(record: &Record, query: &str, fragment: &str) -> bool {
+    record.query() == Some(query) && record.fragment() == Some(fragment) && !record.is_opaque()
+}
+
+fn record_of(alloc: Global, text: &str) -> Result<Record, ResolveFault> {
+    resolve(alloc, text, None, Profile::Standard)
 }
 
 #[test]
-fn copies_a_worked_record(rt: HostRuntime) -> Result<(), Fail> {
-    match worked(rt.alloc())? {
-        Some(record) => {
-            let copy = record.copy(rt.alloc())?;
-            assert!(rt; is_worked(&copy), "the copy");
-            assert!(rt; is_worked(&record), "the record, which stays");
-        }
-        None => assert!(rt; false, "not well formed"),
+fn copies_a_record_with_an_opaque_host(rt: HostRuntime) -> Result<(), ResolveFault> {
+    let record = record_of(rt.alloc(), "foo://u%40h:80/a/?q#f")?;
+    let copy = record.copy(rt.alloc())?;
+    assert!(rt; is_opaque_host_record(&record));
+    assert!(rt; is_opaque_host_record(&copy));
+    Ok(())
+}
+
+#[test]
+fn copies_a_record_with_a_domain(rt: HostRuntime) -> Result<(), ResolveFault> {
+    let record = record_of(rt.alloc(), "https://EXAMPLE.com:443/a/../b?x='y'#\u{E9}")?;
+    let copy = record.copy(rt.alloc())?;
+    assert!(rt; is_domain_record(&record));
+    assert!(rt; is_domain_record(&copy));
+    Ok(())
+}
+
+// Whether the text of a record is pushed behind another.
+fn is_pushed(alloc: Global, record: &Record, text: &str) -> Result<bool, AllocError> {
+    let mut line = String::from_str(alloc, "ok ")?;
+    record.push_text(alloc, &mut line)?;
+    Ok(line.as_str().strip_prefix("ok ") == Some(text))
+}
+
+#[test]
+fn pushes_texts_of_records(rt: HostRuntime) -> Result<(), ResolveFault> {
+    for text in [
+        "https://example.com:8080/b?x=%27y%27#%C3%A9",
+        "http://127.0.0.1/",
+        "foo://[1:0:0:2::3]:0/a//b",
+        "foo:/.//a",
+        "file:///C:/",
+        "urn:a?q?#",
+    ] {
+        let record = record_of(rt.alloc(), text)?;
+        assert!(rt; is_pushed(rt.alloc(), &record, text)?);
     }
+    Ok(())
+}
+
+// Whether a host has this text.
+fn has_text(alloc: Global, host: &Host, text: &str) -> Result<bool, AllocError> {
+    Ok(host.text(alloc)?.as_str() == text)
+}
+
+#[test]
+fn writes_addresses(rt: HostRuntime) -> Result<(), AllocError> {
+    for (pieces, want) in [
+        ([1, 2, 3, 4, 5, 6, 7, 0], "[1:2:3:4:5:6:7:0]"),
+        ([0, 0, 0, 0, 0, 0xFFFF, 0x102, 0x304], "[::ffff:102:304]"),
+        ([0, 0, 0, 0, 0, 0, 0, 0], "[::]"),
+        ([1, 0, 0, 2, 0, 0, 0, 3], "[1:0:0:2::3]"),
+        ([1, 0, 0, 2, 3, 0, 0, 4], "[1::2:3:0:0:4]"),
+    ] {
+        assert!(rt; has_text(rt.alloc(), &Host::V6(pieces), want)?);
+    }
+    assert!(rt; has_text(rt.alloc(), &Host::V4(3232235521), "192.168.0.1")?);
     Ok(())
 }

@@ -2,9 +2,8 @@
 //! scripts played to their end, and past it.
 ghost use Rattle.std.specs.Prelude.{◌≡◌, ◌^◌, ◌<◌, ◌+◌, ◌-◌, None};
 
-use std::alloc::Global;
+use std::alloc::AllocError;
 use std::io::{self, Read};
-use std::test::Fail;
 use uv_model::{DeviceFault, FromReader, ScriptSink, ScriptSource, Sink, Source};
 
 // A reader that fails at its second call, and before and behind it gives one byte.
@@ -29,76 +28,60 @@ impl Read for Faltering {
     }
 }
 
-// What one read of a piece of two bytes gives, through the bound.
-fn given<S: Source>(alloc: Global, source: &mut S) -> Result<Option<Vec<u8>>, Fail>
+// Whether one read of a piece of two bytes gives these bytes, through the bound, or fails where none are wanted.
+fn gives<S: Source>(source: &mut S, wanted: Option<&[u8]>) -> bool
     requires { S.failed source.old < 2 ^ 64 - 1 }
     ensures { S.failed source.new < S.failed source.old + 2 }
 {
     let mut piece = [0; 2];
-    match source.read(&mut piece) {
-        Ok(count) => Ok(Some(piece[..count].to_vec(alloc)?)),
-        Err(DeviceFault) => Ok(None),
+    match (source.read(&mut piece), wanted) {
+        (Ok(count), Some(wanted)) => &piece[..count] == wanted,
+        (Err(DeviceFault), None) => true,
+        _ => false,
     }
 }
 
 #[test]
-fn reads_a_slice_to_its_end(rt: HostRuntime) -> Result<(), Fail> {
+fn reads_a_slice_to_its_end(rt: HostRuntime) {
     let text: &[u8] = b"abc";
     let mut source = FromReader::new(text);
-    let first = given(rt.alloc(), &mut source)?.ok_or("a read failed")?;
-    assert_eq!(rt; first.as_slice(), b"ab".as_slice());
-    let second = given(rt.alloc(), &mut source)?.ok_or("a read failed")?;
-    assert_eq!(rt; second.as_slice(), b"c".as_slice());
-    let third = given(rt.alloc(), &mut source)?.ok_or("a read failed")?;
-    assert!(rt; third.is_empty());
-    assert_eq!(rt; source.failures(), 0);
-    Ok(())
+    assert!(rt; gives(&mut source, Some(b"ab")));
+    assert!(rt; gives(&mut source, Some(b"c")));
+    assert!(rt; gives(&mut source, Some(b"")));
+    assert!(rt; source.failures() == 0);
 }
 
 #[test]
-fn counts_a_failed_read(rt: HostRuntime) -> Result<(), Fail> {
+fn counts_a_failed_read(rt: HostRuntime) {
     let mut source = FromReader::new(Faltering { calls: 0 });
-    let first = given(rt.alloc(), &mut source)?;
-    assert_eq!(rt;
-        first.as_ref().map(|bytes| bytes.as_slice()),
-        Some(&b"a"[..])
-    );
-    let second = given(rt.alloc(), &mut source)?;
-    assert!(rt; second.is_none());
-    assert_eq!(rt; source.failures(), 1);
-    let third = given(rt.alloc(), &mut source)?;
-    assert_eq!(rt;
-        third.as_ref().map(|bytes| bytes.as_slice()),
-        Some(&b"a"[..])
-    );
-    assert_eq!(rt; source.into_reader().calls, 3);
-    Ok(())
+    assert!(rt; gives(&mut source, Some(b"a")));
+    assert!(rt; gives(&mut source, None));
+    assert!(rt; source.failures() == 1);
+    assert!(rt; gives(&mut source, Some(b"a")));
+    assert!(rt; source.into_reader().calls == 3);
 }
 
 // A piece longer than the room for it comes in two reads, a failure takes nothing from what follows it, and behind the
 // last answer is the end.
 #[test]
-fn plays_reads(rt: HostRuntime) -> Result<(), Fail> {
+fn plays_reads(rt: HostRuntime) {
     let answers: [Result<&[u8], DeviceFault>; 4] = [
         Ok(b"abc"),
         Err(DeviceFault),
         Ok(b"d"),
         Err(DeviceFault),
     ];
-    let mut source = ScriptSource::new(&answers).ok_or("a piece is empty")?;
-    let mut piece = [0; 2];
-    assert_eq!(rt; source.read(&mut piece), Ok(2));
-    assert_eq!(rt; &piece, b"ab");
-    assert_eq!(rt; source.read(&mut piece), Ok(1));
-    assert_eq!(rt; piece[0], b'c');
-    assert_eq!(rt; source.read(&mut piece), Err(DeviceFault));
-    assert_eq!(rt; source.read(&mut piece), Ok(1));
-    assert_eq!(rt; piece[0], b'd');
-    assert_eq!(rt; source.read(&mut piece), Err(DeviceFault));
-    assert_eq!(rt; source.read(&mut piece), Ok(0));
-    assert_eq!(rt; source.read(&mut piece), Ok(0));
-    assert_eq!(rt; source.failures(), 2);
-    Ok(())
+    let Some(mut source) = ScriptSource::new(&answers) else {
+        panic!(rt; "a piece is empty");
+    };
+    assert!(rt; gives(&mut source, Some(b"ab")));
+    assert!(rt; gives(&mut source, Some(b"c")));
+    assert!(rt; gives(&mut source, None));
+    assert!(rt; gives(&mut source, Some(b"d")));
+    assert!(rt; gives(&mut source, None));
+    assert!(rt; gives(&mut source, Some(b"")));
+    assert!(rt; gives(&mut source, Some(b"")));
+    assert!(rt; source.failures() == 2);
 }
 
 #[test]
@@ -107,19 +90,31 @@ fn refuses_an_empty_piece(rt: HostRuntime) {
     assert!(rt; ScriptSource::new(&[]).is_some());
 }
 
+// Whether one write of the bytes takes so many, through the bound, or fails where no number is wanted.
+fn takes<S: Sink>(sink: &mut S, bytes: &[u8], wanted: Option<usize>) -> bool
+    requires { S.failed sink.old < 2 ^ 64 - 1 }
+    ensures { S.failed sink.new < S.failed sink.old + 2 }
+{
+    match (sink.write(bytes), wanted) {
+        (Ok(taken), Some(wanted)) => taken == wanted,
+        (Err(DeviceFault), None) => true,
+        _ => false,
+    }
+}
+
 // A sink takes what its answers say, no more than its room, and behind the last answer it fails.
 #[test]
-fn plays_writes(rt: HostRuntime) -> Result<(), Fail> {
+fn plays_writes(rt: HostRuntime) -> Result<(), AllocError> {
     let answers = [Ok(2), Err(DeviceFault), Ok(0), Ok(9), Ok(9), Ok(9)];
     let mut sink = ScriptSink::new(rt.alloc(), 5, &answers)?;
-    assert_eq!(rt; sink.write(b"abc"), Ok(2));
-    assert_eq!(rt; sink.write(b"c"), Err(DeviceFault));
-    assert_eq!(rt; sink.write(b"c"), Ok(0));
-    assert_eq!(rt; sink.write(b"c"), Ok(1));
-    assert_eq!(rt; sink.write(b"def"), Ok(2));
-    assert_eq!(rt; sink.write(b"f"), Ok(0));
-    assert_eq!(rt; sink.write(b"f"), Err(DeviceFault));
-    assert_eq!(rt; sink.bytes(), b"abcde".as_slice());
-    assert_eq!(rt; sink.failures(), 4);
+    assert!(rt; takes(&mut sink, b"abc", Some(2)));
+    assert!(rt; takes(&mut sink, b"c", None));
+    assert!(rt; takes(&mut sink, b"c", Some(0)));
+    assert!(rt; takes(&mut sink, b"c", Some(1)));
+    assert!(rt; takes(&mut sink, b"def", Some(2)));
+    assert!(rt; takes(&mut sink, b"f", Some(0)));
+    assert!(rt; takes(&mut sink, b"f", None));
+    assert!(rt; sink.bytes() == b"abcde".as_slice());
+    assert!(rt; sink.failures() == 4);
     Ok(())
 }

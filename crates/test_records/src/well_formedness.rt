@@ -1,74 +1,145 @@
 //! Rows of records that are well formed and of such that aren't, by the rules of section 4.1 of the URL Standard.
 
 use crate::ascii_texts::ascii;
-use crate::texts::{holds, segments};
-use std::test::Fail;
+use crate::texts::segments;
+use std::alloc::{AllocError, Global};
 use uv_model::{Host, Profile, UrlPath, well_formed};
 
-#[test]
-fn judges_hosts_and_ports(rt: HostRuntime) -> Result<(), Fail> {
-    let alloc = rt.alloc();
-    let path = segments(alloc, &["a"])?;
-    let domain = Host::Domain(ascii(alloc, "h.example")?);
-    let localhost = Host::Domain(ascii(alloc, "localhost")?);
-    let upper = Host::Domain(ascii(alloc, "H")?);
-    let number = Host::Domain(ascii(alloc, "h.1")?);
-    let opaque = Host::Opaque(ascii(alloc, "u%40H")?);
-    let forbidden = Host::Opaque(ascii(alloc, "u@h")?);
-    for (scheme, host, port, want) in [
-        ("http", Some(&domain), None, true),
-        ("http", Some(&localhost), Some(8080), true),
-        ("http", Some(&Host::V4(1)), Some(443), true),
-        ("https", Some(&Host::V6([0; 8])), None, true),
-        ("file", Some(&Host::Empty), None, true),
-        ("file", Some(&domain), None, true),
-        ("foo", Some(&opaque), Some(80), true),
-        ("foo", Some(&Host::Empty), None, true),
-        ("a+-.1", None, None, true),
-        ("http", Some(&domain), Some(80), false),
-        ("http", Some(&upper), None, false),
-        ("http", Some(&number), None, false),
-        ("http", Some(&opaque), None, false),
-        ("http", Some(&Host::Empty), None, false),
-        ("http", None, None, false),
-        ("file", Some(&localhost), None, false),
-        ("file", Some(&domain), Some(80), false),
-        ("file", None, None, false),
-        ("foo", Some(&domain), None, false),
-        ("foo", Some(&Host::V4(1)), None, false),
-        ("foo", Some(&forbidden), None, false),
-        ("foo", Some(&Host::Empty), Some(80), false),
-        ("foo", None, Some(80), false),
-        ("Foo", None, None, false),
-        ("1a", None, None, false),
-        ("", None, None, false),
-        ("f\u{F6}", None, None, false),
-    ] {
-        for profile in Profile::in_order() {
-            let judged = well_formed(scheme, host, port, &path, None, None, profile);
-            holds(&rt, judged == want, scheme);
+// A scheme, a port, and whether a record with them is well formed.
+type Row = (&'static str, Option<u16>, bool);
+
+// Whether each profile judges so of a record with this scheme, host, port and path, and nothing else.
+fn are_judged(
+    scheme: &str,
+    host: Option<&Host>,
+    port: Option<u16>,
+    path: &UrlPath,
+    want: bool,
+) -> bool {
+    for profile in Profile::in_order() {
+        if well_formed(scheme, host, port, path, None, None, profile) != want {
+            return false;
         }
     }
+    true
+}
+
+// Whether each row holds of a record with this host, and a path of one segment.
+fn hold(alloc: Global, host: Option<&Host>, rows: &[Row]) -> Result<bool, AllocError> {
+    let path = segments(alloc, &["a"])?;
+    for (scheme, port, want) in rows {
+        if !are_judged(scheme, host, *port, &path, *want) {
+            return Ok(false);
+        }
+    }
+    Ok(true)
+}
+
+// The same of a record with this domain.
+fn hold_of_domain(alloc: Global, domain: &str, rows: &[Row]) -> Result<bool, AllocError> {
+    hold(alloc, Some(&Host::Domain(ascii(alloc, domain)?)), rows)
+}
+
+// The same of a record with this opaque host.
+fn hold_of_opaque(alloc: Global, host: &str, rows: &[Row]) -> Result<bool, AllocError> {
+    hold(alloc, Some(&Host::Opaque(ascii(alloc, host)?)), rows)
+}
+
+const DOMAIN: [Row; 5] = [
+    ("http", None, true),
+    ("file", None, true),
+    ("http", Some(80), false),
+    ("file", Some(80), false),
+    ("foo", None, false),
+];
+
+const LOCALHOST: [Row; 2] = [("http", Some(8080), true), ("file", None, false)];
+
+#[test]
+fn judges_domains(rt: HostRuntime) -> Result<(), AllocError> {
+    let alloc = rt.alloc();
+    assert!(rt; hold_of_domain(alloc, "h.example", &DOMAIN)?);
+    assert!(rt; hold_of_domain(alloc, "localhost", &LOCALHOST)?);
+    assert!(rt; hold_of_domain(alloc, "H", &[("http", None, false)])?);
+    assert!(rt; hold_of_domain(alloc, "h.1", &[("http", None, false)])?);
     Ok(())
 }
 
 #[test]
-fn permits_underscores_in_wide_domains(rt: HostRuntime) -> Result<(), Fail> {
-    let alloc = rt.alloc();
+fn judges_addresses(rt: HostRuntime) -> Result<(), AllocError> {
+    let rows = [("http", Some(443), true), ("foo", None, false)];
+    assert!(rt; hold(rt.alloc(), Some(&Host::V4(1)), &rows)?);
+    assert!(rt;
+        hold(
+            rt.alloc(),
+            Some(&Host::V6([0; 8])),
+            &[("https", None, true)]
+        )?
+    );
+    Ok(())
+}
+
+#[test]
+fn judges_opaque_hosts(rt: HostRuntime) -> Result<(), AllocError> {
+    let rows = [("foo", Some(80), true), ("http", None, false)];
+    assert!(rt; hold_of_opaque(rt.alloc(), "u%40H", &rows)?);
+    assert!(rt; hold_of_opaque(rt.alloc(), "u@h", &[("foo", None, false)])?);
+    Ok(())
+}
+
+const EMPTY: [Row; 4] = [
+    ("file", None, true),
+    ("foo", None, true),
+    ("http", None, false),
+    ("foo", Some(80), false),
+];
+
+const ABSENT: [Row; 8] = [
+    ("a+-.1", None, true),
+    ("http", None, false),
+    ("file", None, false),
+    ("foo", Some(80), false),
+    ("Foo", None, false),
+    ("1a", None, false),
+    ("", None, false),
+    ("f\u{F6}", None, false),
+];
+
+#[test]
+fn judges_empty_and_absent_hosts(rt: HostRuntime) -> Result<(), AllocError> {
+    assert!(rt; hold(rt.alloc(), Some(&Host::Empty), &EMPTY)?);
+    assert!(rt; hold(rt.alloc(), None, &ABSENT)?);
+    Ok(())
+}
+
+// Whether a profile judges a record with a domain that has a `_`, and an empty first segment, to be well formed.
+fn is_wide(alloc: Global, scheme: &str, profile: Profile) -> Result<bool, AllocError> {
     let path = segments(alloc, &["", "a"])?;
     let host = Host::Domain(ascii(alloc, "a_b")?);
+    Ok(well_formed(scheme, Some(&host), None, &path, None, None, profile))
+}
+
+#[test]
+fn permits_underscores_in_wide_domains(rt: HostRuntime) -> Result<(), AllocError> {
     for scheme in ["http", "file"] {
-        for (profile, want) in [(Profile::Standard, false), (Profile::Wide, true)] {
-            let judged = well_formed(scheme, Some(&host), None, &path, None, None, profile);
-            holds(&rt, judged == want, scheme);
-        }
+        assert!(rt; !is_wide(rt.alloc(), scheme, Profile::Standard)?);
+        assert!(rt; is_wide(rt.alloc(), scheme, Profile::Wide)?);
     }
     Ok(())
 }
 
+// Whether a record with this scheme, host and path, and nothing else, is well formed.
+fn has_path(scheme: &str, host: Option<&Host>, path: &UrlPath) -> bool {
+    well_formed(scheme, host, None, path, None, None, Profile::Standard)
+}
+
+// Whether a path of these segments may stand behind `foo:`.
+fn takes_segments(alloc: Global, texts: &[&str]) -> Result<bool, AllocError> {
+    Ok(has_path("foo", None, &segments(alloc, texts)?))
+}
+
 #[test]
-fn judges_paths(rt: HostRuntime) -> Result<(), Fail> {
-    let alloc = rt.alloc();
+fn judges_paths(rt: HostRuntime) -> Result<(), AllocError> {
     for (texts, want) in [
         ([""; 2], true),
         (["a", "%2Fb"], true),
@@ -79,40 +150,32 @@ fn judges_paths(rt: HostRuntime) -> Result<(), Fail> {
         (["a b", "a"], false),
         (["%4", "a"], false),
     ] {
-        let path = segments(alloc, &texts)?;
-        let judged = well_formed("foo", None, None, &path, None, None, Profile::Standard);
-        holds(&rt, judged == want, texts[0]);
+        assert!(rt; takes_segments(rt.alloc(), &texts)? == want);
     }
-    let nothing = segments(alloc, &[])?;
-    assert!(rt;
-        well_formed(
-            "foo",
-            Some(&Host::Empty),
-            None,
-            &nothing,
-            None,
-            None,
-            Profile::Standard
-        )
-    );
-    assert!(rt; !well_formed("foo", None, None, &nothing, None, None, Profile::Standard));
-    assert!(rt;
-        !well_formed(
-            "file",
-            Some(&Host::Empty),
-            None,
-            &nothing,
-            None,
-            None,
-            Profile::Standard
-        )
-    );
     Ok(())
 }
 
 #[test]
-fn judges_opaque_paths(rt: HostRuntime) -> Result<(), Fail> {
-    let alloc = rt.alloc();
+fn judges_paths_without_segments(rt: HostRuntime) -> Result<(), AllocError> {
+    let nothing = segments(rt.alloc(), &[])?;
+    assert!(rt; has_path("foo", Some(&Host::Empty), &nothing));
+    assert!(rt; !has_path("foo", None, &nothing));
+    assert!(rt; !has_path("file", Some(&Host::Empty), &nothing));
+    Ok(())
+}
+
+// Whether an opaque path may stand behind the scheme.
+fn takes_opaque(
+    alloc: Global,
+    scheme: &str,
+    host: Option<&Host>,
+    text: &str,
+) -> Result<bool, AllocError> {
+    Ok(has_path(scheme, host, &UrlPath::Opaque(ascii(alloc, text)?)))
+}
+
+#[test]
+fn judges_opaque_paths(rt: HostRuntime) -> Result<(), AllocError> {
     for (scheme, text, want) in [
         ("urn", "isbn:0451450523", true),
         ("urn", "", true),
@@ -123,29 +186,26 @@ fn judges_opaque_paths(rt: HostRuntime) -> Result<(), Fail> {
         ("http", "a", false),
         ("file", "a", false),
     ] {
-        let path = UrlPath::Opaque(ascii(alloc, text)?);
-        let judged = well_formed(scheme, None, None, &path, None, None, Profile::Standard);
-        holds(&rt, judged == want, text);
+        assert!(rt; takes_opaque(rt.alloc(), scheme, None, text)? == want);
     }
-    let path = UrlPath::Opaque(ascii(alloc, "a")?);
-    assert!(rt;
-        !well_formed(
-            "urn",
-            Some(&Host::Empty),
-            None,
-            &path,
-            None,
-            None,
-            Profile::Standard
-        )
-    );
+    assert!(rt; !takes_opaque(rt.alloc(), "urn", Some(&Host::Empty), "a")?);
     Ok(())
 }
 
+// Whether a record with this scheme, query and fragment, and an empty host, is well formed.
+fn takes_ends(
+    alloc: Global,
+    scheme: &str,
+    query: Option<&str>,
+    fragment: Option<&str>,
+) -> Result<bool, AllocError> {
+    let path = segments(alloc, &["a"])?;
+    let empty = Some(&Host::Empty);
+    Ok(well_formed(scheme, empty, None, &path, query, fragment, Profile::Wide))
+}
+
 #[test]
-fn judges_queries_and_fragments(rt: HostRuntime) -> Result<(), Fail> {
-    let path = segments(rt.alloc(), &["a"])?;
-    let empty = Host::Empty;
+fn judges_queries_and_fragments(rt: HostRuntime) -> Result<(), AllocError> {
     for (scheme, query, fragment, want) in [
         ("foo", Some("a'?%20"), Some("a'?/"), true),
         ("file", Some(""), Some("'"), true),
@@ -156,16 +216,7 @@ fn judges_queries_and_fragments(rt: HostRuntime) -> Result<(), Fail> {
         ("foo", None, Some("%g0"), false),
         ("foo", None, Some("\u{E9}"), false),
     ] {
-        let judged = well_formed(
-            scheme,
-            Some(&empty),
-            None,
-            &path,
-            query,
-            fragment,
-            Profile::Wide,
-        );
-        holds(&rt, judged == want, scheme);
+        assert!(rt; takes_ends(rt.alloc(), scheme, query, fragment)? == want);
     }
     Ok(())
 }
