@@ -69,10 +69,32 @@ while IFS= read -r entry; do
     esac
 done <"$room/explained"
 
-# One rule is explained as among all, and a word that names none is refused.
-"$program" explain percent >"$room/out" 2>"$room/err"
-ends_with 0 $? '' 'explain percent'
-sed -n '/^rule percent$/,$p' "$room/explained" | cmp -s - "$room/out" || fail "explain percent: it wrote $(cat "$room/out")"
+# A rule is explained by its name, and without one each is, in the order of the table, and an empty line stands between
+# two.
+expect 0 'rule host-missing
+means a host has to stand here
+asks After //, ftp, http, https, ws and wss have a host, file a host or a path, and a port follows a host.
+section 3.4, 4.3
+text https:///a
+refused 8 host-missing
+mended https://example.com/a\n' '' explain host-missing
+expect 0 "rule opaque-base
+means there is no scheme, the base has an opaque path, and the text isn't # and a fragment
+asks Against a base whose path is opaque, a text without a scheme is # and a fragment, and nothing else.
+section 4.3 and 4.4, no scheme state
+base urn:isbn:0451450523
+text x
+refused 0 opaque-base
+mended #x\n" '' explain opaque-base
+for name in no-scheme opaque-base two-slashes host-missing host-domain host-number host-ipv6 host-code-point port-digit \
+    port-range first-segment-empty drive-after-host code-point percent; do
+    [ $name = no-scheme ] || echo
+    "$program" explain $name
+done >"$room/each" 2>"$room/err"
+ends_with 0 $? '' 'explain of each name'
+cmp -s "$room/explained" "$room/each" || fail 'explain: each rule is explained otherwise than by its name'
+
+# What a line may be wrong by beside the rules; and words that name nothing.
 expect 0 "rule not-utf8\nmeans this line isn't UTF-8\nasks A line is a text in UTF-8.\n" '' explain not-utf8
 expect 0 'rule line-too-long\nmeans this line has more than 65536 bytes\nasks A line has at most 65536 bytes.\n' '' \
     explain line-too-long
@@ -82,10 +104,11 @@ rules='urlcheck: the rules:'
 for name in $("$program" explain | awk '$1 == "rule" { print $2 }'); do rules+=" $name"; done
 rules+=' not-utf8 line-too-long not-located'
 for pair in 'PERCENT percent' 'percent_ percent' 'host-mising host-missing' 'codepoint code-point' 'not-utf-8 not-utf8' \
-    'not-locatd not-located'; do
+    'not-locatd not-located' 'Percent percent'; do
     word=${pair% *}
     expect 2 '' "urlcheck: no rule is named '${word/_/ }'; the nearest is ${pair#* }\\n$rules\\nwords\\n" explain "${word/_/ }"
 done
+expect 2 '' "urlcheck: no rule is named 'no-scheme\\0357\\0277\\0275'; the nearest is no-scheme\\n$rules\\nwords\\n" explain $'no-scheme\n'
 for word in host '' nothing; do
     expect 2 '' "urlcheck: no rule is named '$word'\\n$rules\\nwords\\n" explain "$word"
 done
@@ -95,4 +118,4 @@ for words in 'explain' 'explain percent'; do
     "$program" $words >/dev/full 2>"$room/err"
     ends_with 3 $? "${no_space}write\\n" "$words to a full device"
 done
-all_cases 49
+all_cases 53

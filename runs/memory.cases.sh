@@ -78,6 +78,28 @@ for prefix in http://h http://xn--bcher-kva.example http://192.168.0.1 'http://[
         fail "links of and against $prefix: it wrote $(head -c 100 "$room/out")"
 done
 
+# Long texts in each part, and many segments, alone, against a base and as the base. The system takes no argument of more
+# than 131,071 bytes.
+# repeated PIECE : the piece 65,000 times
+repeated() { yes "$1" | head -n 65000 | tr -d '\n'; }
+while IFS='|' read -r prefix piece before printed end; do
+    text=$prefix$(repeated "$piece")
+    wanted=$before$(repeated "$printed")$end
+    expect 0 "$wanted" '' check "$text"
+    expect 0 "$wanted" '' check --base urn:a "$text"
+    expect 0 'valid\nscheme urn\nopaque a\n' '' check --base "$text" urn:a
+done <<ROWS
+urn:|$(printf '\303\251')|valid\nscheme urn\nopaque |%C3%A9|\n
+foo://|a|valid\nscheme foo\nhost opaque |a|\n
+http://h/|a|valid\nscheme http\nhost domain h\nsegment |a|\n
+http://h/?|a|valid\nscheme http\nhost domain h\nsegment \nquery |a|\n
+http://h/#|a|valid\nscheme http\nhost domain h\nsegment \nfragment |a|\n
+http://h|/a|valid\nscheme http\nhost domain h\n|segment a\n|
+ROWS
+segments=$(repeated 'segment a\n')
+expect 0 "valid\nscheme http\nhost domain h\n${segments%segment a\\n}segment b\n" '' check --base "http://h$(repeated /a)" b
+expect 1 'refused 130009 code-point\n' '' check "http://h/$(repeated a/) "
+
 # 64 MiB of random bytes, in an address space that a list which memory grew with wouldn't fit into. Python counts the
 # lines, and those that aren't UTF-8, a second time.
 python3 - "$room" <<'PYTHON'
@@ -104,4 +126,4 @@ awk -v ends=0 '/^links / { print $2, other; if ($2 != $4 + $6 + $8 || $2 != NR -
     / bad 0 not-utf8$/ { other++ }' "$room/out" | cmp -s - "$room/wanted" ||
     fail "64 MiB of random bytes: $(tail -n 1 "$room/out"), and not $(cat "$room/wanted")"
 
-all_cases 26
+all_cases 46

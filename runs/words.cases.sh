@@ -33,16 +33,20 @@ refused 'requires a subcommand'
 refused "'-x'" -x
 refused '<TEXT>' check
 refused "'-a'" check -a
+refused "'-a'" lint -a b
 expect 2 '' "urlcheck: a value is required for '--base <TEXT>' but none was supplied\nurlcheck: For more information, try '--help'.\nwords\n" \
     check --base
 refused "'urn:b'" check urn:a urn:b
 refused "'urn:b'" check -- urn:a urn:b
+expect 2 '' "urlcheck: a value is required for '--profile <PROFILE>' but none was supplied\nurlcheck: For more information, try '--help'.\nwords\n" \
+    check --profile
 refused "'b'" check -- --base b t
 refused "'chek'" chek urn:a
 refused "'x'" links x
 refused "'--format'" mend --format gnu
 refused "'b'" mend a b
 refused '<FILE>' vectors
+refused "'percent'" explain percent percent
 expect 2 '' "urlcheck: argument 2 isn't UTF-8\nwords\n" check $'\xff'
 expect 2 '' "urlcheck: argument 1 isn't UTF-8\nwords\n" $'\xff'
 expect 2 '' "urlcheck: argument 3 isn't UTF-8\nwords\n" check a $'b\xff' --base $'\xfe'
@@ -74,6 +78,9 @@ expect 1 'refused 7 host-domain\n' '' check --profile=standard http://a_b/
 expect 0 'valid\nscheme http\nhost domain a_b\nsegment x\n' '' check x --base http://a_b/ --profile wide
 expect 0 'valid\nscheme http\nhost domain a-b\nsegment \n' '' check --profile parser http://a%2Db/
 expect 0 'valid\nscheme http\nhost ipv4 1.0.0.2\nsegment x\n' '' check x --base http://1.2/ --profile=parser
+expect 0 'links 0 ok 0 bad 0 differs 0\n' '' links --base http://h_/ --profile wide
+expect 2 '' "$(no_base 7 host-domain 'the host that begins here is no valid domain')" links --profile=standard --base http://h_/
+expect 0 'mended same\na%20b\n' '' mend --base http://h_/ --wide 'a b'
 refused "'--parser'" check --parser urn:a
 profiles='urlcheck: the profiles: standard wide parser\nwords\n'
 expect 2 '' "urlcheck: no profile is named 'wyde'; the nearest is wide\n$profiles" check --profile wyde urn:a
@@ -96,6 +103,7 @@ expect 2 '' "$(no_base 0 no-scheme 'it has no scheme')" check --base= a
 expect 1 'refused 0 no-scheme\n' '' check ' a '
 expect 1 'refused 5 code-point\n' '' check 'urn:a '
 expect 1 'refused 0 no-scheme\n' '' check -- --x
+expect 1 'refused 0 no-scheme\n' '' check -- --wide
 expect 1 'refused 0 no-scheme\n' '' check -- -a
 expect 0 'valid\nscheme urn\nopaque a\n' '' check -- urn:a
 expect 2 '' "$(no_base 7 host-missing 'a host has to stand here')" check --base http:// http://h/
@@ -112,14 +120,9 @@ expect 1 'refused 0 drive-after-host\n' '' check --base file://h/a /C:/x
 expect 2 '' "$(no_base 7 host-missing 'a host has to stand here')" check --base http:// x
 expect 2 '' "$(no_base 0 no-scheme 'it has no scheme')" check --base x urn:a
 
-# All that is wrong with a text.
-expect 1 'refused 7 host-domain\nrefused 12 code-point\nrefused 15 percent\n' '' check --all 'http://u@h/a b?%4'
-expect 1 'refused 5 two-slashes\nrefused 6 code-point\n' '' check --all 'http:x y'
-expect 1 'refused 7 host-code-point\nrefused 10 port-digit\nrefused 12 port-digit\n' '' check --all 'foo://a^:8x9y/'
-expect 1 'refused 0 opaque-base\n' '' check --all --base urn:a '//h%4/x'
+# All that is wrong with a text; runs/check.cases.sh has more.
 expect 1 'refused 7 host-missing\n' '' check http:// --all
-expect 0 'valid\nscheme file\nhost empty\nsegment x\n' '' check --all file:///x
-expect 0 'valid\nscheme urn\nopaque a\n' '' check --all urn:a
+expect 1 'refused 1 code-point\nrefused 4 percent\n' '' check --all --wide 'a b?%4' --base http://x_y//
 expect 2 '' "$(no_base 7 host-missing 'a host has to stand here')" check --all --base http:// 'a b'
 
 # The standard and the wide profile: each text is refused by the standard one, but the last, and taken or refused by the
@@ -188,4 +191,4 @@ expect 0 'valid\nscheme file\nhost domain h\nsegment C:\nsegment x\n' '' check -
 expect 0 'valid\nscheme urn\nopaque a b\nfragment f\n' '' check --profile parser --base 'urn:a b' '#f'
 expect 2 '' "$(no_base 5 code-point 'this code point may not stand in a URL')" check --wide --base 'urn:a b' '#f'
 expect 2 '' "$(no_base 7 host-number 'the host that begins here ends in a number, and is no IPv4 address')" check --profile parser --base http://256/ x
-all_cases 160
+all_cases 162
