@@ -27,16 +27,87 @@ expect 1 'fail 2\nfail 4\nvectors 4 pass 2 fail 2\n' '' vectors vectors.json
 vector_file '[{"input":"urn:a","profile":"Wide","text":"urn:a"}]'
 expect 2 '' "${case}vector 1 malformed\\n" vectors vectors.json
 
+# Cases that fail: against a base that is refused, where `null` is none; with another text, a refusal for a text, another
+# place, another rule; and at a place beyond all texts.
+vector_file '[{"input":"#t","base":"urn:a","text":"urn:a#t"},{"input":"urn:a","base":"x","text":"urn:a"},
+{"input":"urn:a","base":null,"text":"urn:a"}]'
+expect 1 'fail 2\nvectors 3 pass 2 fail 1\n' '' vectors vectors.json
+vector_file '[{"input":"urn:a","text":"urn:A"},{"input":"urn:a","place":0,"rule":"no-scheme"},
+{"input":"x","place":1,"rule":"no-scheme"},{"input":"x","place":0,"rule":"percent"},
+{"input":"x","base":"http://","place":0,"rule":"no-scheme"}]'
+expect 1 'fail 1\nfail 2\nfail 3\nfail 4\nfail 5\nvectors 5 pass 0 fail 5\n' '' vectors vectors.json
+vector_file '[{"input":"x","place":18446744073709551615,"rule":"no-scheme"}]'
+expect 1 'fail 1\nvectors 1 pass 0 fail 1\n' '' vectors vectors.json
+
+# The standard profile judges where a case names none, and else the named one, the base too.
+vector_file '[{"input":"http://x_y/","place":7,"rule":"host-domain"},{"input":"#f","base":"http://x_y/","text":"http://x_y/#f"}]'
+expect 1 'fail 2\nvectors 2 pass 1 fail 1\n' '' vectors vectors.json
+vector_file '[{"input":"http://x_y/","profile":"wide","text":"http://x_y/"},
+{"input":"#f","base":"http://x_y/","profile":"wide","text":"http://x_y/#f"},
+{"input":"http://x_y/","profile":"standard","place":7,"rule":"host-domain"},
+{"input":"#f","base":"http://x_y/","profile":"standard","text":"http://x_y/#f"},
+{"input":"http://x_y/","profile":"wide","place":7,"rule":"host-domain"},
+{"input":"http://1.2/","profile":"parser","text":"http://1.0.0.2/"},
+{"input":"http://1.2/","profile":"wide","place":7,"rule":"host-number"},
+{"input":"#f","base":"urn:a b","profile":"parser","text":"urn:a b#f"},
+{"input":"#f","base":"urn:a b","profile":"wide","text":"urn:a b#f"}]'
+expect 1 'fail 4\nfail 5\nfail 9\nvectors 9 pass 6 fail 3\n' '' vectors vectors.json
+
+# A key that is given more than once has its last value.
+vector_file '[{"input":"x","input":"urn:a","text":1,"text":"urn:a"}]'
+expect 0 'vectors 1 pass 1 fail 0\n' '' vectors vectors.json
+
+# malformed NUMBER FILE.. : the value with this number is the first of each of these files that is no case
+malformed() {
+    local number=$1 text
+    shift
+    for text in "$@"; do
+        vector_file "$text"
+        expect 2 '' "${case}vector $number malformed\\n" vectors vectors.json
+    done
+}
+malformed 1 '[{"input":"a"}]' '[1]' '[[]]'
+malformed 2 '[{"input":"urn:a","text":"urn:a"},{"input":"x","place":-1,"rule":"no-scheme"}]' \
+    '[{"input":"urn:a","text":"x"},{"input":"x"},{"input":"y"}]'
+
+# What a case may not be: with other keys, values of another kind, a place that isn't in digits alone, or the name of no
+# rule or profile.
+malformed 1 '[{"input":"x","place":0,"rule":"none"}]' \
+    '[{"input":"x","text":"x","place":0,"rule":"no-scheme"}]' \
+    '[{"input":"x","text":"x","rule":"no-scheme"}]' \
+    '[{"input":"x","place":0}]' \
+    '[{"input":"x","rule":"no-scheme"}]' \
+    '[{"text":"x"}]' \
+    '[{"input":1,"text":"x"}]' \
+    '[{"input":"x","text":null}]' \
+    '[{"input":"x","text":"x","base":1}]' \
+    '[{"input":"x","text":"x","profile":"Wide"}]' \
+    '[{"input":"x","text":"x","profile":"silent"}]' \
+    '[{"input":"x","text":"x","profile":null}]' \
+    '[{"input":"x","text":"x","comment":"x"}]' \
+    '[{"input":"x","place":"0","rule":"no-scheme"}]' \
+    '[{"input":"x","place":0,"rule":1}]' \
+    '[{"input":"x","place":0,"rule":"No-Scheme"}]' \
+    '[{"input":"x","place":-0,"rule":"no-scheme"}]' \
+    '[{"input":"x","place":0.0,"rule":"no-scheme"}]' \
+    '[{"input":"x","place":1e0,"rule":"no-scheme"}]' \
+    '[{"input":"x","place":18446744073709551616,"rule":"no-scheme"}]' \
+    '[{"input":"x","text":"urn:a","text":1}]'
+
 # What is no JSON text: nothing at all, a text that is cut, a comma too many, two values, bytes that aren't UTF-8, a number
-# beyond floats, a byte order mark, arrays a million deep. And a JSON text that is no array.
-for text in '' '[' '[{"input":"urn:a","text":"urn:a"}' '[1,]' '[][]' '["\xff"]' '[1e999]' '\xef\xbb\xbf[]'; do
+# beyond floats, one that begins with 0, a byte order mark, a lone surrogate, arrays a million deep. And JSON texts that
+# are no array.
+for text in '' '[' '[{"input":"urn:a","text":"urn:a"}' '[1,]' '[][]' '[] []' '["\xff"]' '[1e999]' '[01]' '\xef\xbb\xbf[]' \
+    '["\\ud800"]'; do
     vector_file "$text"
     expect 2 '' 'vectors not json\n' vectors vectors.json
 done
 head -c 1000000 /dev/zero | tr '\0' '[' >"$room/vectors.json"
 expect 2 '' 'vectors not json\n' vectors vectors.json
-vector_file '{"input":"urn:a","text":"urn:a"}'
-expect 2 '' 'vectors not an array\n' vectors vectors.json
+for text in '{"input":"urn:a","text":"urn:a"}' '{}' null '"[]"'; do
+    vector_file "$text"
+    expect 2 '' 'vectors not an array\n' vectors vectors.json
+done
 
 # A file of the most bytes is read; one of a byte more, and one of 17 MB, are too large, whatever they hold.
 { printf '[]'; head -c 16777214 /dev/zero | tr '\0' ' '; } >"$room/vectors.json"
@@ -88,10 +159,4 @@ vector_file '[]'
 (cd "$room" && "$program" vectors vectors.json) >/dev/full 2>"$room/err"
 ends_with 3 $? "${no_space}write\\n" 'vectors, into a full device'
 
-# The suite of the tests is the file for others, byte for byte.
-suite=$(dirname "$here")/crates/test_inputs/src/vectors/suite.rt
-count=$((count + 1))
-if ! sed -n '/r##"/,/^"##;$/p' "$suite" | sed '1s/.*r##"//; $d' | cmp -s - "$vectors/standard.json"; then
-    fail 'the suite of the tests and vectors/standard.json differ'
-fi
-all_cases 45
+all_cases 82
