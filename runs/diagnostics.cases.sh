@@ -1,0 +1,149 @@
+# Diagnostics of lists written out, word for word, from the rules of the URL Standard, section 4.3, and the documents of
+# the formats.
+
+# of_list STATUS STDOUT STDERR BYTES WORD.. : a lint with these words of a file named `list` with these bytes ends so
+of_list() {
+    local status=$1 stdout=$2 stderr=$3
+    printf '%b' "$4" >"$room/list"
+    shift 4
+    expect "$status" "$stdout" "$stderr" lint "$@" list
+}
+# counted LINES REFUSED : what standard error says of so many lines
+counted() { [ "$1" = 1 ] && echo "urlcheck: 1 line, $2 refused\\n" || echo "urlcheck: $1 lines, $2 refused\\n"; }
+domain='error: the host that begins here is no valid domain [host-domain]'
+utf8="error: this line isn't UTF-8 [not-utf8]"
+scheme='error: there is no scheme and no base [no-scheme]'
+space='error: U+0020 SPACE may not stand in a URL [code-point]'
+credentials='error: a URL string has no credentials: no user name, password or @ before its host [host-domain]'
+percent='error: U+0025 PERCENT SIGN has to be followed by two hex digits [percent]'
+slashes='error: // has to follow this scheme [two-slashes]'
+document='<?xml version="1.0" encoding="UTF-8"?>\n<checkstyle version="4.3">\n'
+
+# An empty line, a CR before LF, a byte that isn't UTF-8, a last line without LF, and a CR that stays.
+of_list 1 "list:3:8: $domain\nlist:4:1: $utf8\nlist:6:1: $scheme\n" "$(counted 4 3)" \
+    'http://h/\n\nhttp://x_y/\r\n\xff\n\r\nb'
+of_list 0 '' "$(counted 0 0)" ''
+of_list 0 '' "$(counted 0 0)" '\n\n\r\n'
+of_list 1 'list:2:11: error: U+000D CARRIAGE RETURN may not stand in a URL [code-point]\n' "$(counted 2 1)" \
+    'http://h/\nhttp://h/a\r'
+
+# A byte order mark at the start is no part of the first line, alone too; before another line it is one of its code
+# points.
+of_list 1 "list:1:10: $space\nlist:2:1: $scheme\n" "$(counted 2 2)" '\xef\xbb\xbfhttp://h/ \n\xef\xbb\xbfurn:a\n'
+of_list 0 '' "$(counted 0 0)" '\xef\xbb\xbf'
+of_list 1 "list:1:1: $scheme\nb\n^\n" "$(counted 1 1)" '\xef\xbb\xbfb' --format caret
+
+# The profile and the base.
+of_list 1 "list:1:8: $domain\nlist:2:1: $scheme\n" "$(counted 2 2)" 'http://x_y/\nb\n'
+of_list 1 "list:2:1: $scheme\n" "$(counted 2 1)" 'http://x_y/\nb\n' --wide
+of_list 1 "list:1:8: $domain\n" "$(counted 2 1)" 'http://x_y/\nb\n' --base http://h/
+of_list 0 '' "$(counted 2 0)" 'http://x_y/\nb\n' --wide --base http://h/
+of_list 1 'list:3:8: error: the host that begins here ends in a number, and is no IPv4 address [host-number]\n' \
+    "$(counted 3 1)" 'http://a%2Db/\nurn:a b\nhttp://256/\n' --profile parser
+
+# The least violation, or all.
+of_list 1 "list:1:11: $space\nlist:2:8: $credentials\n" "$(counted 2 2)" 'http://h/a b%zz\nhttp://u@h/a b\n'
+of_list 1 "list:1:11: $space\nlist:1:13: $percent\nlist:2:8: $credentials\nlist:2:13: $space\n" "$(counted 2 2)" \
+    'http://h/a b%zz\nhttp://u@h/a b\n' --all
+
+# A code point of two columns and one of two bytes before the fault of a line, and one that isn't UTF-8, in each format.
+both='/\xe6\x97\xa5\xc3\xa9 \na\xffb\n'
+of_list 1 "list:1:1: $scheme\nlist:2:1: $utf8\n" "$(counted 2 2)" "$both" --format gnu
+of_list 1 "list:1:1: $scheme\n/\xe6\x97\xa5\xc3\xa9 \n^\nlist:2:1: $utf8\na\xef\xbf\xbdb\n^\n" "$(counted 2 2)" "$both" \
+    --format caret
+of_list 1 '{"column":1,"cut":false,"file":"list","line":1,"message":"there is no scheme and no base","rule":"no-scheme",'\
+'"text":"/\xe6\x97\xa5\xc3\xa9 "}\n{"column":1,"cut":false,"file":"list","line":2,"message":"this line isn'"'"'t UTF-8",'\
+'"rule":"not-utf8","text":"a\xef\xbf\xbdb"}\n' "$(counted 2 2)" "$both" --format json
+of_list 1 "::error file=list,line=1,col=1,title=no-scheme::there is no scheme and no base
+::error file=list,line=2,col=1,title=not-utf8::this line isn't UTF-8\n" "$(counted 2 2)" "$both" --format github
+of_list 1 "$document<file name=\"list\">
+<error line=\"1\" column=\"1\" severity=\"error\" message=\"there is no scheme and no base\" source=\"urlcheck.no-scheme\"/>
+<error line=\"2\" column=\"1\" severity=\"error\" message=\"this line isn't UTF-8\" source=\"urlcheck.not-utf8\"/>
+</file>\n</checkstyle>\n" "$(counted 2 2)" "$both" --format checkstyle
+
+# What to write in place of a refused link, by the base and the profile: at the first diagnostic of its line, and only
+# where the format says it.
+of_list 1 "list:1:6: $space\nurn:a b c\n     ^\nhelp: write urn:a%20b%20c\nlist:1:8: $space\nurn:a b c\n       ^
+list:2:8: $domain\nhttp://x_y/\n       ^\n" "$(counted 2 2)" 'urn:a b c\nhttp://x_y/\n' --all --format caret
+of_list 1 "a:3:9: $slashes\nhttp:b\n     ^\nhelp: write http://b\n" "$(counted 1 1)" 'a:3:4:http:b\n' --all --format caret \
+    --located
+of_list 1 '{"column":12,"cut":false,"file":"list","kind":"same","line":1,"mended":"http://x_y/%20c",'\
+'"message":"U+0020 SPACE may not stand in a URL","rule":"code-point","text":"http://x_y/ c"}\n'\
+'{"column":6,"cut":false,"file":"list","kind":"changed","line":2,"mended":"http://a",'\
+'"message":"// has to follow this scheme","rule":"two-slashes","text":"http:a"}\n' "$(counted 2 2)" \
+    'http://x_y/ c\nhttp:a\n' --wide --base http://h/ --format json
+
+# A line of 65,536 code points is judged, also with its fault in the last column, and a longer one isn't. Of a long line
+# a window is shown.
+longest=urn:$(head -c 65531 /dev/zero | tr '\0' a)
+lines="${longest}b\r\n$longest \n${longest}bb\n${longest}bb\r"
+length='error: this line has more than 65536 bytes [line-too-long]'
+window=$(printf 'a%.0s' {1..99})
+of_list 1 "list:2:65536: $space\nlist:3:1: $length\nlist:4:1: $length\n" "$(counted 4 3)" "$lines"
+of_list 1 "list:2:65536: $space\n\xe2\x80\xa6$window \n ${window//a/ }^\nhelp: write \xe2\x80\xa6$window
+list:3:1: $length\n\n^\nlist:4:1: $length\n\n^\n" "$(counted 4 3)" "$lines" --format caret
+
+# A line of which each code point is wrong: its diagnostics are more than are written at once.
+carets=$(head -c 6995 /dev/zero | tr '\0' '^')
+of_list 1 "$(awk 'BEGIN {
+    for (n = 5; n <= 6999; n++)
+        print "list:1:" n ": error: U+005E CIRCUMFLEX ACCENT may not stand in a URL [code-point]"
+}')\n" "$(counted 1 1)" "urn:$carets" --all
+
+# Links that say where they stand, and lines that don't: the first run of two numbers ends the file's name.
+form="error: this line isn't FILE:LINE:COLUMN:LINK [not-located]"
+of_list 1 "a.html:3:20: $space\nC:\\\\y.html:3:4: $scheme\na:1:2: $scheme\na:1:2: $scheme\nlist:7:1: $form\nlist:8:1: $form
+a:7:8: $scheme\nlist:10:1: $form\nlist:11:1: $form\na:1:2: $utf8\nlist:13:1: $utf8\n" "$(counted 12 11)" \
+    'a.html:3:10:http://h/a b\n\nC:\\x.html:3:4:http://h/\nC:\\y.html:3:4:b\na:1:2:3:4:x\na:1:2:\na:1:0:x
+a:1:4294967296:x\na:007:08:x\n:1:2:x\nhttp://h/\na:1:2:\xff\n\xff:1:2:x\n' --located
+of_list 1 "$document<file name=\"a\">
+<error line=\"1\" column=\"2\" severity=\"error\" message=\"there is no scheme and no base\" source=\"urlcheck.no-scheme\"/>
+</file>\n<file name=\"list\">
+<error line=\"3\" column=\"1\" severity=\"error\" message=\"this line isn't FILE:LINE:COLUMN:LINK\" \
+source=\"urlcheck.not-located\"/>
+</file>\n</checkstyle>\n" "$(counted 3 2)" 'a:1:2:b\nb:1:2:urn:a\nurn:a\n' --located --format checkstyle
+of_list 0 "$document</checkstyle>\n" "$(counted 0 0)" '' --located --format checkstyle
+
+# Behind a combining mark, a wide code point and one beyond U+FFFF a space, a tab and another space: their columns in
+# each unit, in a line and in a link from the 100th column on.
+tab='error: U+0009 CHARACTER TABULATION may not stand in a URL [code-point]'
+link='urn:e\xcc\x81\xe6\x97\xa5\xf0\x9f\x98\x80 \tb '
+for row in code-points,9,10,12,108,109,111 bytes,15,16,18,114,115,117 utf16,10,11,13,109,110,112 \
+    screen,10,11,18,109,110,114; do
+    IFS=, read -r unit first second third in_file tab_in_file last_in_file <<<"$row"
+    of_list 1 "list:1:$first: $space\nlist:1:$second: $tab\nlist:1:$third: $space\n" "$(counted 1 1)" "$link" \
+        --all --columns "$unit"
+    of_list 1 "a:1:$in_file: $space\na:1:$tab_in_file: $tab\na:1:$last_in_file: $space\n" "$(counted 1 1)" \
+        "a:1:100:$link" --all --columns "$unit" --located
+done
+
+# Results of SARIF: two on the second line of a list, whose text has nine code points, and one on the third, of five. The
+# first on each says what to write in its place, and a comma stands before each but the first one of the whole report.
+# result LINE COLUMN TEXT : a result on a space
+result() {
+    echo "\"level\":\"error\",\"locations\":[{\"physicalLocation\":{\"artifactLocation\":{\"uri\":\"list\"},\
+\"region\":{\"startColumn\":$2,\"startLine\":$1}}}],\"message\":{\"text\":\"U+0020 SPACE may not stand in a URL\"},\
+\"properties\":{\"cut\":false,\"text\":\"$3\"},\"ruleId\":\"code-point\",\"ruleIndex\":15}"
+}
+# fix LINE END TEXT SENTENCE : what puts a text in place of the first columns of a line
+fix() {
+    echo "\"fixes\":[{\"artifactChanges\":[{\"artifactLocation\":{\"uri\":\"list\"},\"replacements\":[{\"deletedRegion\":{\
+\"endColumn\":$2,\"startColumn\":1,\"startLine\":$1},\"insertedContent\":{\"text\":\"$3\"}}]}],\
+\"description\":{\"text\":\"$4\"}}]"
+}
+printf 'urn:a\nurn:a b c\nurn: \n' >"$room/list"
+(cd "$room" && "$program" lint --all --format sarif list) >"$room/out" 2>"$room/err"
+ends_with 1 $? "$(counted 3 2)" 'results of SARIF'
+echo "{$(fix 2 10 urn:a%20b%20c 'percent-encode what may not stand in a URL string'),$(result 2 6 'urn:a b c')
+,{$(result 2 8 'urn:a b c')
+,{$(fix 3 6 urn: 'write the same URL as a valid URL string'),$(result 3 5 'urn: ')" >"$room/wanted"
+grep '"ruleIndex":' "$room/out" | cmp -s - "$room/wanted" || fail "results of SARIF: $(grep '"ruleIndex":' "$room/out")"
+# Behind those of other files too, and nothing where a file has none.
+printf 'urn:a\n' >"$room/right"
+(cd "$room" && "$program" lint --all --format sarif list right list) >"$room/out" 2>"$room/err"
+ends_with 1 $? "$(counted 7 4)" 'results of SARIF of three files'
+{ cat "$room/wanted"; sed '1s/^/,/' "$room/wanted"; } >"$room/twice"
+grep '"ruleIndex":' "$room/out" | cmp -s - "$room/twice" || fail "results of SARIF of three files: $(cat "$room/out")"
+rm -f "$room/wanted" "$room/twice" "$room/right"
+
+all_cases 38
