@@ -25,6 +25,46 @@ expect 1 'none\nrefused 0 no-scheme\n' '' mend ''
 expect 1 'none\nrefused 0 opaque-base\n' '' mend --base mailto:a b
 expect 2 '' "$(no_base 0 no-scheme 'it has no scheme')" mend --base '' 'http://h/a b'
 
+# Each edit by the rule that is violated.
+# mends BASE ROW.. : rows of three words, KIND TEXT WRITTEN: against the base, if there is one, the text is mended so
+mends() {
+    local base=$1
+    shift
+    while [ $# != 0 ]; do
+        expect 0 "mended $1\n$3\n" '' mend ${base:+--base "$base"} -- "$2"
+        shift 3
+    done
+}
+# refuses ROW.. : rows of three words, PLACE RULE TEXT: the text is refused so, and has no edit
+refuses() {
+    while [ $# != 0 ]; do
+        expect 1 "none\nrefused $1 $2\n" '' mend -- "$3"
+        shift 3
+    done
+}
+# Code points as escapes.
+expect 0 'valid\n' '' mend http://h/a%20b
+mends '' same 'http://h/a b' http://h/a%20b same $'http://h/\357\267\220' http://h/%EF%B7%90 \
+    same 'http://h/?<a>' http://h/?%3Ca%3E escaped 'http://h/a|b' http://h/a%7Cb escaped 'http://h/a?b\c' http://h/a?b%5Cc \
+    escaped 'http://h/#a#b' http://h/#a%23b escaped http://h/100% http://h/100%25 \
+    escaped 'http://h/%1?%x#%' http://h/%251?%25x#%25 escaped 'mailto:a b' mailto:a%20b escaped 'foo:a\b' foo:a%5Cb
+# What the parser passes over; slashes and hosts, as they are read.
+mends '' same $' http://h/a\n' http://h/a same $'ht\ttp://h/a\r\nb' http://h/ab same 'http://h/ a ' http://h/%20a
+mends '' same 'http://h/a\b' http://h/a/b same 'http:\\h\a' http://h/a same http:/h/a http://h/a same http:h/a http://h/a \
+    same https:///h/a https://h/a same file:/a/b file:///a/b same file:a file:///a same 'file:\a' file:///a \
+    same file:////a file:///.//a same http://h//a http://h/.//a same foo://h//a foo://h/.//a
+mends '' same http://127.0.01/ http://127.0.0.1/ same http://a%2Db:80/x http://a-b:80/x \
+    same $'http://\357\274\221.2.3.4/' http://1.2.3.4/ same 'http://0x7f.1?q#f' 'http://127.0.0.1?q#f' \
+    same 'http://127.0.01//a b' http://127.0.0.1/.//a%20b
+refuses 0 no-scheme '' 0 no-scheme 'a b' 7 host-missing http:// 7 host-domain http://a_b/ 7 host-domain http://u@a/ \
+    9 port-digit http://u:p@a/ 9 port-digit http://h:x/ 9 port-range http://h:65536/ 7 host-ipv6 'http://[::1/' \
+    7 host-number http://1.2.3.256/
+# References.
+mends http://h/a/b same 'c d' c%20d same 'c\d' c/d same '\\k\d' //k/d same ///k/d //k/d same ' ' '' changed http:c http://c \
+    same https:c https://c
+mends file://h/a same /C:/x /./C:/x
+mends mailto:a same '#a b' '#a%20b'
+
 # A failed write.
 "$program" mend 'http://h/a b' >/dev/full 2>"$room/err"
 ends_with 3 $? "${no_space}write\\n" 'mend to a full device'
@@ -67,6 +107,47 @@ filters 0 'http://a-b/%20c\nurn:a%20b\nfile://h/./C:/x\n' '' --quiet --wide
 filters 0 'http://a%2Db/%20c\nurn:a b\nfile://h/C:/x\n' \
     'urlcheck: 3 lines, 1 mended (1 same, 0 escaped, 0 changed), 0 refused\n' --profile parser
 filters 2 '' "$(no_base 0 no-scheme 'it has no scheme')" --base ''
+
+# Each list of bytes, what is written in its place, and its counts.
+# mends_list BYTES WRITTEN COUNTS WORD.. : COUNTS is how many lines there are, same, escaped, changed and refused
+mends_list() {
+    local lines same escaped changed refused noun=lines
+    printf '%b' "$1" >"$room/list"
+    read -r lines same escaped changed refused <<<"$3"
+    [ "$lines" != 1 ] || noun=line
+    filters $((refused > 0)) "$2" "urlcheck: $lines $noun, $((same + escaped + changed)) mended \
+($same same, $escaped escaped, $changed changed), $refused refused\n" "${@:4}"
+}
+mends_list 'http://h/a\nhttp://h/a b\r\nhttp://h/a|b\nhttp:c\nhttp://h:x/\r\n\n\0377\nhttp://h/\0' \
+    'http://h/a\nhttp://h/a%20b\r\nhttp://h/a%7Cb\nhttp://c\nhttp://h:x/\r\n\n\0377\nhttp://h/' '7 3 1 0 2'
+mends_list 'http://h/a b\nhttp://h/a|b\nhttp:c\n' 'http://h/a%20b\nhttp://h/a|b\nhttp:c\n' '3 1 0 0 2' --base http://h/x \
+    --only same
+mends_list 'http://h/a b\nhttp://h/a|b\nhttp:c\n' 'http://h/a b\nhttp://h/a|b\nhttp://c\n' '3 0 0 1 2' --base http://h/x \
+    --only changed
+mends_list 'a b\n' 'a%20b\n' '1 1 0 0 0' --base http://h/x
+mends_list 'a b\n' 'a b\n' '1 0 0 0 1'
+mends_list 'http://a_b/\n' 'http://a_b/\n' '1 0 0 0 1'
+mends_list 'http://a_b/\n' 'http://a_b/\n' '1 0 0 0 0' --wide
+mends_list 'http://%68/\n' 'http://h/\n' '1 1 0 0 0' --wide
+mends_list 'http://%68/\n' 'http://%68/\n' '1 0 0 0 0' --profile parser
+mends_list 'http://0x1/\n' 'http://0.0.0.1/\n' '1 1 0 0 0' --profile parser
+mends_list '\0001http://h/a\0' 'http://h/a' '1 1 0 0 0'
+# No line, empty ones, a byte order mark at the start and elsewhere, and CR that is no part of an end.
+mends_list '' '' '0 0 0 0 0'
+mends_list '\n\r\n' '\n\r\n' '0 0 0 0 0'
+mends_list '\xef\xbb\xbf' '\xef\xbb\xbf' '0 0 0 0 0'
+mends_list '\xef\xbb\xbfhttp://h/ a\r\n' '\xef\xbb\xbfhttp://h/%20a\r\n' '1 1 0 0 0'
+mends_list '\n\xef\xbb\xbfhttp://h/\n' '\n\xef\xbb\xbfhttp://h/\n' '1 0 0 0 1'
+mends_list 'http://h/\r\r\n' 'http://h/\r\n' '1 1 0 0 0'
+mends_list 'http://h/\ra\r' 'http://h/a' '1 1 0 0 0'
+# Lines of the most bytes, and of more, with each end, and of several pieces: they stay as they were.
+for row in a,65536,0 ' ,65537,1' ' ,65538,1' ' ,65539,1' ' ,200000,1'; do
+    IFS=, read -r byte length refused <<<"$row"
+    line=http://h/$(head -c $((length - 9)) /dev/zero | tr '\0' "${byte:- }")
+    mends_list "$line\nhttp://h/a b" "$line\nhttp://h/a%20b" "2 1 0 0 $refused"
+    mends_list "$line\r\nhttp://h/a b" "$line\r\nhttp://h/a%20b" "2 1 0 0 $refused"
+    mends_list "$line" "$line" "1 0 0 0 $refused"
+done
 
 # Words.
 filters 2 '' "urlcheck: no kind is named 'sam'; the nearest is same\nurlcheck: the kinds: same escaped changed\nwords\n" \
@@ -144,4 +225,4 @@ ends_with 3 $? "${from_folder}read\\n" 'mend of a folder'
 "$program" mend --quiet <&- >"$room/out" 2>"$room/err"
 ends_with 3 $? "${no_input}read\\n" 'mend with standard input closed'
 
-all_cases 50
+all_cases 132
