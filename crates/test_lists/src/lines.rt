@@ -3,7 +3,7 @@
 ghost use Rattle.std.specs.Prelude.{◌≡◌, ℕ, ◌≤◌, ◌++◌, List, OnErr, OnOk, codes};
 
 use std::alloc::{AllocError, Global};
-use std::test::Fail;
+use std::process::Abort;
 use uv_lines::{Frame, LineFault, LineLimits, ReportFault, Reporter, run_lines};
 use uv_model::{FromReader, Sink, ToWriter};
 
@@ -91,55 +91,46 @@ fn ran(
     (answer, reporter.lines, writer.into_writer())
 }
 
-// The lines of lists, with an empty line, a CR before LF and at the end, no line, and lines of the most bytes and more.
-#[test]
-fn reports_on_lines_in_order(rt: HostRuntime) -> Result<(), Fail> {
-    let rows: [(&[u8], &str, u64); 7] = [
-        (b"a\n\nbcd\n", "<1:1 2:0 3:3 .>", 3),
-        (b"a\r\n\r\nb", "<1:1 2:0 3:1 .>", 3),
-        (b"a\r", "<1:2 .>", 1),
-        (b"a\r\r\n", "<1:2 .>", 1),
-        (b"", "<.>", 0),
-        (b"abcd\nabcde\nabcd\r\nabcde\r\n", "<1:4 2:- 3:4 4:- .>", 4),
-        (b"abcdefgh", "<1:- .>", 1),
-    ];
+// A run over these bytes, of whose lines each may have four bytes, answers so, and writes this.
+fn says(
+    rt: &(impl Abort + AllocGlobal),
+    bytes: &[u8],
+    most: u64,
+    answer: Result<(), LineFault<AllocError>>,
+    lines: u64,
+    text: &str,
+)
+    requires { most ≤ 1000000000 }
+{
     let limits = LineLimits {
         line_bytes: 4,
-        lines: 100,
+        lines: most,
     };
-    for (bytes, want, lines) in rows {
-        let (answer, count, written) = ran(rt.alloc(), bytes, limits);
-        assert_eq!(rt; answer, Ok(()));
-        assert_eq!(rt; count, lines);
-        assert_eq!(rt; written.as_slice(), want.as_bytes());
-    }
-    Ok(())
+    let (found, count, written) = ran(rt.alloc(), bytes, limits);
+    assert!(rt; found == answer && count == lines);
+    assert!(rt; written.as_slice() == text.as_bytes());
+}
+
+// The lines of lists, with an empty line, a CR before LF and at the end, no line, and lines of the most bytes and more.
+#[test]
+fn reports_on_lines_in_order(rt: HostRuntime) {
+    says(&rt, b"a\n\nbcd\n", 100, Ok(()), 3, "<1:1 2:0 3:3 .>");
+    says(&rt, b"a\r\n\r\nb", 100, Ok(()), 3, "<1:1 2:0 3:1 .>");
+    says(&rt, b"a\r", 100, Ok(()), 1, "<1:2 .>");
+    says(&rt, b"a\r\r\n", 100, Ok(()), 1, "<1:2 .>");
+    says(&rt, b"", 100, Ok(()), 0, "<.>");
+    let list = b"abcd\nabcde\nabcd\r\nabcde\r\n";
+    says(&rt, list, 100, Ok(()), 4, "<1:4 2:- 3:4 4:- .>");
+    says(&rt, b"abcdefgh", 100, Ok(()), 1, "<1:- .>");
 }
 
 // Behind as many lines as may come a further one is a fault. What was said of those is out, and the end of the frame,
 // but not what is said behind the last line.
 #[test]
-fn stops_behind_the_last_line_that_may_come(rt: HostRuntime) -> Result<(), Fail> {
-    let two = LineLimits {
-        line_bytes: 4,
-        lines: 2,
-    };
-    let rows: [(&[u8], bool); 4] = [
-        (b"a\nb\n", true),
-        (b"a\nb\n\n", false),
-        (b"a\nb\nc", false),
-        (b"a\nb", true),
-    ];
-    for (bytes, ends) in rows {
-        let (answer, count, written) = ran(rt.alloc(), bytes, two);
-        let (want, text) = if ends {
-            (Ok(()), "<1:1 2:1 .>")
-        } else {
-            (Err(LineFault::TooManyLines), "<1:1 2:1 >")
-        };
-        assert_eq!(rt; answer, want);
-        assert_eq!(rt; count, 2);
-        assert_eq!(rt; written.as_slice(), text.as_bytes());
-    }
-    Ok(())
+fn stops_behind_the_last_line_that_may_come(rt: HostRuntime) {
+    let fault = Err(LineFault::TooManyLines);
+    says(&rt, b"a\nb\n", 2, Ok(()), 2, "<1:1 2:1 .>");
+    says(&rt, b"a\nb\n\n", 2, fault, 2, "<1:1 2:1 >");
+    says(&rt, b"a\nb\nc", 2, fault, 2, "<1:1 2:1 >");
+    says(&rt, b"a\nb", 2, Ok(()), 2, "<1:1 2:1 .>");
 }

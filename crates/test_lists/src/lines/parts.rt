@@ -4,6 +4,7 @@ ghost use Rattle.uv_lines.specs.Fault.{failed_within};
 ghost use Rattle.uv_lines.specs.Waiting.{LeavesParts, Passes};
 
 use std::alloc::{AllocError, Global};
+use std::process::Abort;
 use std::test::Fail;
 use uv_lines::{Frame, LineFault, LineLimits, ReportFault, Reporter, end_part, run_lines};
 use uv_model::{DeviceFault, FromReader, Sink};
@@ -173,103 +174,128 @@ fn framed(alloc: Global, parts: u64) -> Result<Vec<u8>, AllocError> {
     Ok(text)
 }
 
+// A run over a list with so many parts of each line answers so behind so many writes, reports on so many lines, and
+// writes this. Returned is how many bytes came at once at most, and how many writes failed.
+fn leaves(
+    rt: &(impl Abort + AllocGlobal),
+    (list, parts, is_whole, room): (&[u8], u64, bool, u32),
+    answer: Result<(), LineFault<AllocError>>,
+    lines: u64,
+    text: Option<&[u8]>,
+) -> (usize, u64) {
+    let reporter = Thousands {
+        lines: 0,
+        parts,
+        is_whole,
+    };
+    let (found, count, writer) = ran(rt.alloc(), list, reporter, room);
+    assert!(rt; found == answer && count == lines);
+    assert!(rt; Some(writer.text.as_slice()) == text);
+    (writer.most, writer.failures)
+}
+
 // What is said of 2,000 lines of one piece is 2,000,000 bytes, and so is what is said of one line, also where no LF
 // ends it. It is written in order where 262,144 bytes or more wait, which are the 263,000 of 263 parts.
 #[test]
 fn writes_what_is_much_in_the_midst_of_a_piece_and_of_a_line(rt: HostRuntime) -> Result<(), Fail> {
-    let lines = [b'\n'; 2_000];
-    let rows: [(&[u8], u64, u64); 3] = [
-        (lines.as_slice(), 1, 2_000),
-        (b"\n", 2_000, 1),
-        (b"a", 2_000, 1),
-    ];
     let whole = framed(rt.alloc(), 2_000)?;
-    for (list, parts, lines) in rows {
-        let reporter = Thousands {
-            lines: 0,
-            parts,
-            is_whole: true,
-        };
-        let (answer, count, writer) = ran(rt.alloc(), list, reporter, 100);
-        assert_eq!(rt; answer, Ok(()));
-        assert_eq!(rt; count, lines);
-        assert_eq!(rt; (writer.most, writer.failures), (263_000, 0));
-        assert!(rt; writer.text.as_slice() == whole.as_slice(), "{parts} parts");
-    }
+    let text = Some(whole.as_slice());
+    let lines = [b'\n'; 2_000];
+    let ends = leaves(&rt, (&lines, 1, true, 100), Ok(()), 2_000, text);
+    assert!(rt; ends == (263_000, 0));
+    let ends = leaves(&rt, (b"\n", 2_000, true, 100), Ok(()), 1, text);
+    assert!(rt; ends == (263_000, 0));
+    let ends = leaves(&rt, (b"a", 2_000, true, 100), Ok(()), 1, text);
+    assert!(rt; ends == (263_000, 0));
     Ok(())
 }
 
-// Whichever write fails, what was taken before it is a prefix, and nothing is written behind it. Those within the line
-// fail before it is counted; the last two, of what waits at the piece's end and of the frame's end, behind that.
+// Behind so many writes one fails. What was taken before it is a prefix, and nothing is written behind it.
+fn stops(
+    rt: &(impl Abort + AllocGlobal),
+    list: &[u8],
+    whole: &[u8],
+    (room, taken, lines): (u32, usize, u64),
+) {
+    let text = whole.get(..taken);
+    let (_, failures) = leaves(
+        rt,
+        (list, 2_000, true, room),
+        Err(LineFault::Write),
+        lines,
+        text,
+    );
+    assert!(rt; failures == 1);
+}
+
+// Each write of a list of one line fails in turn. Those within the line fail before it is counted; the last two, of what
+// waits at the piece's end and of the frame's end, behind that.
+fn stops_at_each_write(rt: &(impl Abort + AllocGlobal), list: &[u8], whole: &[u8]) {
+    stops(rt, list, whole, (0, 0, 0));
+    stops(rt, list, whole, (1, 1, 0));
+    stops(rt, list, whole, (2, 263_001, 0));
+    stops(rt, list, whole, (7, 1_578_001, 0));
+    stops(rt, list, whole, (8, 1_841_001, 1));
+    stops(rt, list, whole, (9, 2_000_001, 1));
+}
+
 #[test]
 fn stops_at_each_write_that_fails(rt: HostRuntime) -> Result<(), Fail> {
-    let lists: [&[u8]; 2] = [b"\n", b"a"];
-    let rows: [(u32, usize, u64); 6] = [
-        (0, 0, 0),
-        (1, 1, 0),
-        (2, 263_001, 0),
-        (7, 1_578_001, 0),
-        (8, 1_841_001, 1),
-        (9, 2_000_001, 1),
-    ];
     let whole = framed(rt.alloc(), 2_000)?;
-    for list in lists {
-        for (room, taken, lines) in rows {
-            let reporter = Thousands {
-                lines: 0,
-                parts: 2_000,
-                is_whole: true,
-            };
-            let (answer, count, writer) = ran(rt.alloc(), list, reporter, room);
-            assert_eq!(rt; answer, Err(LineFault::Write), "at {room}");
-            assert_eq!(rt; count, lines, "at {room}");
-            assert_eq!(rt; writer.failures, 1, "at {room}");
-            assert!(rt;
-                Some(writer.text.as_slice()) == whole.get(..taken),
-                "at {room}"
-            );
-        }
-    }
+    stops_at_each_write(&rt, b"\n", whole.as_slice());
+    stops_at_each_write(&rt, b"a", whole.as_slice());
     Ok(())
 }
 
-// Where no memory is left behind some parts of a line these are written, and the frame's end. The line isn't counted.
+// Where no memory is left behind so many parts of a line these are written, and the frame's end. The line isn't counted.
+fn writes_parts(
+    rt: &(impl Abort + AllocGlobal),
+    list: &[u8],
+    parts: u64,
+) -> Result<(), AllocError> {
+    let want = framed(rt.alloc(), parts)?;
+    let fault = Err(LineFault::Report(AllocError));
+    let text = Some(want.as_slice());
+    let (_, failures) = leaves(rt, (list, parts, false, 100), fault, 0, text);
+    assert!(rt; failures == 0);
+    Ok(())
+}
+
 #[test]
 fn writes_the_parts_before_a_fault_in_the_midst_of_a_line(rt: HostRuntime) -> Result<(), Fail> {
-    let rows: [(&[u8], u64); 4] = [(b"\n", 400), (b"a", 400), (b"\n", 1), (b"\n", 0)];
-    for (list, parts) in rows {
-        let reporter = Thousands {
-            lines: 0,
-            parts,
-            is_whole: false,
-        };
-        let (answer, count, writer) = ran(rt.alloc(), list, reporter, 100);
-        assert_eq!(rt; answer, Err(LineFault::Report(AllocError)));
-        assert_eq!(rt; (count, writer.failures), (0, 0));
-        let want = framed(rt.alloc(), parts)?;
-        assert!(rt; writer.text.as_slice() == want.as_slice(), "{parts} parts");
-    }
+    writes_parts(&rt, b"\n", 400)?;
+    writes_parts(&rt, b"a", 400)?;
+    writes_parts(&rt, b"\n", 1)?;
+    writes_parts(&rt, b"\n", 0)?;
+    Ok(())
+}
+
+// Where a part ends of so many bytes, so many of them are written, or the write fails.
+fn ends(
+    rt: &(impl Abort + AllocGlobal),
+    size: usize,
+    room: u32,
+    answer: Result<(), DeviceFault>,
+    taken: usize,
+) -> Result<(), AllocError> {
+    let mut text = vec![in rt.alloc(); b'.'; size]?;
+    let mut writer = Pieces {
+        room,
+        most: 0,
+        text: Vec::new(rt.alloc()),
+        failures: 0,
+    };
+    assert!(rt; end_part(&mut text, &mut writer) == answer);
+    assert!(rt; writer.text.len() == taken);
+    assert!(rt; text.len().saturating_add(taken) == size);
     Ok(())
 }
 
 // Of 262,143 bytes nothing is written where a part ends. Of one more all are, and none waits, or the write fails.
 #[test]
 fn ends_a_part_of_much(rt: HostRuntime) -> Result<(), Fail> {
-    let rows = [
-        (262_143, 0, Ok(()), 0),
-        (262_144, 1, Ok(()), 262_144),
-        (262_144, 0, Err(DeviceFault), 0),
-    ];
-    for (size, room, answer, taken) in rows {
-        let mut text = vec![in rt.alloc(); b'.'; size]?;
-        let mut writer = Pieces {
-            room,
-            most: 0,
-            text: Vec::new(rt.alloc()),
-            failures: 0,
-        };
-        assert_eq!(rt; end_part(&mut text, &mut writer), answer);
-        assert_eq!(rt; (writer.text.len(), text.len()), (taken, size - taken));
-    }
+    ends(&rt, 262_143, 0, Ok(()), 0)?;
+    ends(&rt, 262_144, 1, Ok(()), 262_144)?;
+    ends(&rt, 262_144, 0, Err(DeviceFault), 0)?;
     Ok(())
 }

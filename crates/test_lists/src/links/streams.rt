@@ -1,26 +1,42 @@
 //! Runs over readers and writers that play a list of answers: I/O errors written out, and each read and each write made
 //! to fail in turn, behind short ones, in each profile.
-ghost use Rattle.std.specs.Prelude.{◌-◌, ◌^◌, ◌<◌};
+ghost use Rattle.std.specs.Prelude.{◌<◌};
 
-use super::*;
 use crate::line_ends::line_feeds;
-use uv_model::{ScriptSink, ScriptSource};
+use std::alloc::Global;
+use std::process::Abort;
+use std::test::Fail;
+use uv_links::{Counts, LinkFault, LinkLimits, run_links};
+use uv_model::{DeviceFault, Profile, ScriptSink, ScriptSource, Sink};
+use uv_resolve::resolve_base;
 
-// A list, the base and the longest line of its run, the profile, and the report on it.
+// A list, the base of its run, the longest line and how many may come, the profile, and the report on it.
 #[derive(Clone, Copy)]
 struct Row<'r> {
     list: &'r [u8],
     base: Option<&'r str>,
     line_bytes: usize,
+    lines: u64,
     profile: Profile,
     report: &'r str,
 }
+
+// Nothing that is against a list of lines alone.
+const ALONE: Row<'static> = Row {
+    list: b"",
+    base: None,
+    line_bytes: 65_536,
+    lines: 1_000_000_000,
+    profile: Profile::Standard,
+    report: "",
+};
 
 const ROWS: [Row<'static>; 8] = [
     Row {
         list: b"a\n\nhttp://x_y/\n",
         base: Some("http://h/"),
         line_bytes: 65_536,
+        lines: 1_000_000_000,
         profile: Profile::Standard,
         report: "1 ok http://h/a\n2 ok http://h/\n3 bad 7 host-domain\nlinks 3 ok 2 bad 1 differs 0\n",
     },
@@ -28,6 +44,7 @@ const ROWS: [Row<'static>; 8] = [
         list: b"a\n\nhttp://x_y/\n",
         base: Some("http://h/"),
         line_bytes: 65_536,
+        lines: 1_000_000_000,
         profile: Profile::Wide,
         report: "1 ok http://h/a\n2 ok http://h/\n3 ok http://x_y/\nlinks 3 ok 3 bad 0 differs 0\n",
     },
@@ -35,6 +52,7 @@ const ROWS: [Row<'static>; 8] = [
         list: b"a\r\n\xff\nb",
         base: None,
         line_bytes: 65_536,
+        lines: 1_000_000_000,
         profile: Profile::Standard,
         report: "1 bad 0 no-scheme\n2 bad 0 not-utf8\n3 bad 0 no-scheme\nlinks 3 ok 0 bad 3 differs 0\n",
     },
@@ -42,6 +60,7 @@ const ROWS: [Row<'static>; 8] = [
         list: b"a\r\n\xff\nb",
         base: None,
         line_bytes: 65_536,
+        lines: 1_000_000_000,
         profile: Profile::Wide,
         report: "1 bad 0 no-scheme\n2 bad 0 not-utf8\n3 bad 0 no-scheme\nlinks 3 ok 0 bad 3 differs 0\n",
     },
@@ -49,6 +68,7 @@ const ROWS: [Row<'static>; 8] = [
         list: b"abcd\nabc\r\n",
         base: Some("http://h/"),
         line_bytes: 3,
+        lines: 1_000_000_000,
         profile: Profile::Standard,
         report: "1 bad 0 line-too-long\n2 ok http://h/abc\nlinks 2 ok 1 bad 1 differs 0\n",
     },
@@ -56,6 +76,7 @@ const ROWS: [Row<'static>; 8] = [
         list: b"abcd\nabc\r\n",
         base: Some("http://h/"),
         line_bytes: 3,
+        lines: 1_000_000_000,
         profile: Profile::Wide,
         report: "1 bad 0 line-too-long\n2 ok http://h/abc\nlinks 2 ok 1 bad 1 differs 0\n",
     },
@@ -63,6 +84,7 @@ const ROWS: [Row<'static>; 8] = [
         list: b"a\n\nhttp://%68/\nurn:a b\n",
         base: Some("http://h/"),
         line_bytes: 65_536,
+        lines: 1_000_000_000,
         profile: Profile::Parser,
         report: "1 ok http://h/a\n2 ok http://h/\n3 ok http://h/\n4 ok urn:a b\nlinks 4 ok 4 bad 0 differs 0\n",
     },
@@ -70,58 +92,69 @@ const ROWS: [Row<'static>; 8] = [
         list: b"http://256/\nhttp://1.2/",
         base: None,
         line_bytes: 65_536,
+        lines: 1_000_000_000,
         profile: Profile::Parser,
         report: "1 bad 7 host-number\n2 ok http://1.0.0.2/\nlinks 2 ok 1 bad 1 differs 0\n",
     },
 ];
 
-// What a run over these answers, with the base, limit and profile of the row.
-fn run_over<R: Source, W: Sink>(
-    alloc: Global,
-    row: &Row<'_>,
-    reader: &mut R,
-    writer: &mut W,
-) -> Result<Result<Counts, LinkFault>, Fail>
-    requires reads { R.failed reader.old < 2 ^ 64 - 1 }
-    requires writes { W.failed writer.old < 2 ^ 64 - 1 }
-{
-    let base = match row.base {
-        Some(text) => Some(resolve(alloc, text, None, row.profile)?),
-        None => None,
-    };
-    let limits = LinkLimits::new(row.line_bytes, 1_000_000_000).ok_or("the limits are refused")?;
-    Ok(run_links(alloc, reader, writer, base.as_ref(), limits, row.profile))
-}
+// More writes than a run makes, of which each takes all that it is given.
+const TAKEN: [Result<usize, DeviceFault>; 100] = [Ok(1_000); 100];
 
-// What a run over these reads answers, and what it has written.
-fn run_on_reads(
+// What a run over these reads and writes answers, with the base, limits and profile of the row, and what it has written.
+fn ran<'w>(
     alloc: Global,
     row: &Row<'_>,
     reads: &[Result<&[u8], DeviceFault>],
-) -> Result<(Result<Counts, LinkFault>, Vec<u8>), Fail> {
+    writes: &'w [Result<usize, DeviceFault>],
+) -> Result<(Result<Counts, LinkFault>, ScriptSink<'w>), Fail> {
+    let base = resolve_base(alloc, row.base, row.profile)?;
+    let limits = LinkLimits::new(row.line_bytes, row.lines).ok_or("the limits are refused")?;
     let mut reader = ScriptSource::new(reads).ok_or("a piece is empty")?;
-    let mut writer = ToWriter::new(Vec::new(alloc));
-    let answer = run_over(alloc, row, &mut reader, &mut writer)?;
-    Ok((answer, writer.into_writer()))
+    let mut writer = ScriptSink::new(alloc, 1_000, writes)?;
+    let answer = run_links(
+        alloc,
+        &mut reader,
+        &mut writer,
+        base.as_ref(),
+        limits,
+        row.profile,
+    );
+    Ok((answer, writer))
 }
 
-// The list in pieces of this length, as answers to reads.
-fn pieces_of<'r>(
-    alloc: Global,
-    list: &'r [u8],
-    length: usize,
-) -> Result<Vec<Result<&'r [u8], DeviceFault>>, Fail>
-    requires { 0 < length }
-{
-    let mut pieces = Vec::new(alloc);
-    for piece in list.chunks(length) {
-        pieces.push(Ok(piece))?;
-    }
-    Ok(pieces)
+#[test]
+fn reports_a_list_written_out(rt: HostRuntime) -> Result<(), Fail> {
+    let row = &ROWS[0];
+    let (answer, writer) = ran(rt.alloc(), row, &[Ok(row.list)], &TAKEN)?;
+    let counts = Counts {
+        lines: 3,
+        ok: 2,
+        bad: 1,
+        differs: 0,
+    };
+    assert!(rt; answer == Ok(counts));
+    assert!(rt; writer.bytes() == row.report.as_bytes());
+    Ok(())
 }
 
-// Each read behind so many pieces fails in turn: the report's lines of the lines that have ended are written, and no
-// more. Where none fails the report is whole.
+// Behind these reads one fails: of the report the lines of those that have ended, which are so many, are written, and no
+// more.
+fn fails_behind(
+    rt: &(impl Abort + AllocGlobal),
+    row: &Row<'_>,
+    reads: &[Result<&[u8], DeviceFault>],
+    ended: usize,
+) -> Result<(), Fail> {
+    let (answer, writer) = ran(rt.alloc(), row, reads, &TAKEN)?;
+    let written = writer.bytes();
+    assert!(rt; answer == Err(LinkFault::Read));
+    assert!(rt; row.report.as_bytes().starts_with(written) && line_feeds(written) == ended);
+    assert!(rt; written.is_empty() || written.ends_with(b"\n"));
+    Ok(())
+}
+
+// Each read behind so many pieces fails in turn. Where none fails the report is whole.
 fn fails_each_read(
     rt: &(impl Abort + AllocGlobal),
     row: &Row<'_>,
@@ -129,31 +162,32 @@ fn fails_each_read(
 ) -> Result<(), Fail>
     requires { 0 < length }
 {
-    let mut reads = Vec::new(rt.alloc());
+    let mut reads: Vec<Result<&[u8], DeviceFault>> = Vec::new(rt.alloc());
     let mut ended = 0usize;
     for piece in row.list.chunks(length) {
         reads.push(Err(DeviceFault))?;
-        let (answer, written) = run_on_reads(rt.alloc(), row, &reads)?;
-        assert_eq!(rt; answer, Err(LinkFault::Read));
-        assert!(rt; row.report.as_bytes().starts_with(&written));
-        assert!(rt; written.is_empty() || written.ends_with(b"\n"));
-        assert_eq!(rt; line_feeds(&written), ended);
+        fails_behind(rt, row, &reads, ended)?;
         reads.pop();
         reads.push(Ok(piece))?;
         ended = ended.saturating_add(line_feeds(piece));
     }
-    let (answer, written) = run_on_reads(rt.alloc(), row, &reads)?;
-    assert!(rt; answer.is_ok());
-    assert_eq!(rt; written.as_slice(), row.report.as_bytes());
+    let (answer, writer) = ran(rt.alloc(), row, &reads, &TAKEN)?;
+    assert!(rt; answer.is_ok() && writer.bytes() == row.report.as_bytes());
+    Ok(())
+}
+
+// The same of pieces of each length up to seven.
+fn fails_reads(rt: &(impl Abort + AllocGlobal), row: &Row<'_>) -> Result<(), Fail> {
+    for length in 1..8 {
+        fails_each_read(rt, row, length)?;
+    }
     Ok(())
 }
 
 #[test]
 fn reports_each_failed_read(rt: HostRuntime) -> Result<(), Fail> {
     for row in &ROWS {
-        for length in 1..8 {
-            fails_each_read(&rt, row, length)?;
-        }
+        fails_reads(&rt, row)?;
     }
     Ok(())
 }
@@ -169,15 +203,12 @@ fn writes_all(
     reads: &[Result<&[u8], DeviceFault>],
     writes: &[Result<usize, DeviceFault>],
 ) -> Result<bool, Fail> {
-    let mut reader = ScriptSource::new(reads).ok_or("a piece is empty")?;
-    let mut writer = ScriptSink::new(rt.alloc(), row.report.len(), writes)?;
-    let answer = run_over(rt.alloc(), row, &mut reader, &mut writer)?;
+    let (answer, writer) = ran(rt.alloc(), row, reads, writes)?;
     if answer.is_ok() {
-        assert_eq!(rt; writer.bytes(), row.report.as_bytes());
+        assert!(rt; writer.bytes() == row.report.as_bytes());
         return Ok(true);
     }
-    assert_eq!(rt; answer, Err(LinkFault::Write));
-    assert_eq!(rt; writer.failures(), 1);
+    assert!(rt; answer == Err(LinkFault::Write) && writer.failures() == 1);
     assert!(rt; row.report.as_bytes().starts_with(writer.bytes()));
     assert!(rt; writes.len() <= writer.bytes().len());
     Ok(false)
@@ -187,14 +218,12 @@ fn writes_all(
 fn fails_each_write(
     rt: &(impl Abort + AllocGlobal),
     row: &Row<'_>,
+    reads: &[Result<&[u8], DeviceFault>],
     length: usize,
-) -> Result<(), Fail>
-    requires { 0 < length }
-{
-    let reads = pieces_of(rt.alloc(), row.list, length)?;
+) -> Result<(), Fail> {
     let mut writes = Vec::new(rt.alloc());
     for _ in 0..MOST_WRITES {
-        if writes_all(rt, row, &reads, &writes)? {
+        if writes_all(rt, row, reads, &writes)? {
             return Ok(());
         }
         writes.push(Ok(length))?;
@@ -202,128 +231,111 @@ fn fails_each_write(
     Err("no run was whole".into())
 }
 
-#[test]
-fn reports_each_failed_write(rt: HostRuntime) -> Result<(), Fail> {
-    for row in &ROWS {
-        for length in 1..8 {
-            fails_each_write(&rt, row, length)?;
-        }
+// The same of pieces and of writes of this length.
+fn fails_pieces(rt: &(impl Abort + AllocGlobal), row: &Row<'_>, length: usize) -> Result<(), Fail>
+    requires { 0 < length }
+{
+    let mut reads: Vec<Result<&[u8], DeviceFault>> = Vec::new(rt.alloc());
+    for piece in row.list.chunks(length) {
+        reads.push(Ok(piece))?;
+    }
+    fails_each_write(rt, row, &reads, length)
+}
+
+// The same of each length up to seven.
+fn fails_writes(rt: &(impl Abort + AllocGlobal), row: &Row<'_>) -> Result<(), Fail> {
+    for length in 1..8 {
+        fails_pieces(rt, row, length)?;
     }
     Ok(())
 }
 
-// A read that fails within a line, a line cut within a code point, and what stands behind a CR at the end of the list.
 #[test]
-fn reads_what_a_source_gives(rt: HostRuntime) -> Result<(), Fail> {
-    let base = Some("http://h/");
-    let rows: [(
-        &[Result<&[u8], DeviceFault>],
-        Option<&str>,
-        usize,
-        Option<LinkFault>,
-        &str,
-    ); 6] = [
-        (
-            &[Ok(b"a\n"), Ok(b"b"), Err(DeviceFault)],
-            None,
-            65_536,
-            Some(LinkFault::Read),
-            "1 bad 0 no-scheme\n",
-        ),
-        (
-            &[Ok(b"http://h/\xc3\n")],
-            None,
-            65_536,
-            None,
-            "1 bad 0 not-utf8\nlinks 1 ok 0 bad 1 differs 0\n",
-        ),
-        (
-            &[Ok(b"http://h/\xc3"), Ok(b"\xa9\n")],
-            None,
-            65_536,
-            None,
-            "1 ok http://h/%C3%A9\nlinks 1 ok 1 bad 0 differs 0\n",
-        ),
-        (
-            &[Ok(b"a\r")],
-            base,
-            65_536,
-            None,
-            "1 bad 1 code-point\nlinks 1 ok 0 bad 1 differs 0\n",
-        ),
-        (
-            &[Ok(b"abc\r")],
-            base,
-            3,
-            None,
-            "1 bad 0 line-too-long\nlinks 1 ok 0 bad 1 differs 0\n",
-        ),
-        (
-            &[Ok(b"\xff\xff\xff\xff\n")],
-            base,
-            3,
-            None,
-            "1 bad 0 line-too-long\nlinks 1 ok 0 bad 1 differs 0\n",
-        ),
-    ];
-    for (reads, base, line_bytes, fault, report) in rows {
-        for profile in [Profile::Standard, Profile::Wide] {
-            let row = Row {
-                list: b"",
-                base,
-                line_bytes,
-                profile,
-                report,
-            };
-            let (answer, written) = run_on_reads(rt.alloc(), &row, reads)?;
-            assert_eq!(rt; answer.err(), fault, "at {report}");
-            assert_eq!(rt; written.as_slice(), report.as_bytes());
-        }
+fn reports_each_failed_write(rt: HostRuntime) -> Result<(), Fail> {
+    for row in &ROWS {
+        fails_writes(&rt, row)?;
     }
     Ok(())
+}
+
+// A run over these reads and writes answers so, and writes the report of the row, by the standard profile and the wide
+// one.
+fn ends(
+    rt: &(impl Abort + AllocGlobal),
+    row: Row<'_>,
+    reads: &[Result<&[u8], DeviceFault>],
+    writes: &[Result<usize, DeviceFault>],
+    fault: Option<LinkFault>,
+) -> Result<(), Fail> {
+    let wide = Row {
+        profile: Profile::Wide,
+        ..row
+    };
+    for row in [row, wide] {
+        let (answer, writer) = ran(rt.alloc(), &row, reads, writes)?;
+        assert!(rt; answer.err() == fault && writer.bytes() == row.report.as_bytes());
+    }
+    Ok(())
+}
+
+// A read that fails within a line, a line cut within a code point, and lines that are too long.
+#[test]
+fn reads_what_a_source_gives(rt: HostRuntime) -> Result<(), Fail> {
+    let begun = Row {
+        report: "1 bad 0 no-scheme\n",
+        ..ALONE
+    };
+    let reads = [Ok(b"a\n".as_slice()), Ok(b"b"), Err(DeviceFault)];
+    ends(&rt, begun, &reads, &TAKEN, Some(LinkFault::Read))?;
+    let cut = Row {
+        report: "1 ok http://h/%C3%A9\nlinks 1 ok 1 bad 0 differs 0\n",
+        ..ALONE
+    };
+    let reads = [Ok(b"http://h/\xc3".as_slice()), Ok(b"\xa9\n")];
+    ends(&rt, cut, &reads, &TAKEN, None)?;
+    let long = Row {
+        base: Some("http://h/"),
+        line_bytes: 3,
+        report: "1 bad 0 line-too-long\nlinks 1 ok 0 bad 1 differs 0\n",
+        ..ALONE
+    };
+    ends(&rt, long, &[Ok(b"abc\r")], &TAKEN, None)?;
+    ends(&rt, long, &[Ok(b"\xff\xff\xff\xff\n")], &TAKEN, None)
+}
+
+// Behind as many lines as may come a further one is a fault.
+#[test]
+fn stops_behind_the_last_line_that_may_come(rt: HostRuntime) -> Result<(), Fail> {
+    let one = Row {
+        base: Some("http://h/"),
+        line_bytes: 3,
+        lines: 1,
+        report: "1 bad 0 line-too-long\n",
+        ..ALONE
+    };
+    let fault = Some(LinkFault::TooManyLines);
+    ends(&rt, one, &[Ok(b"abcd\nabc\r\n")], &TAKEN, fault)?;
+    let none = Row {
+        line_bytes: 0,
+        lines: 0,
+        ..ALONE
+    };
+    ends(&rt, none, &[Ok(b"\n")], &TAKEN, fault)?;
+    let whole = Row {
+        report: "links 0 ok 0 bad 0 differs 0\n",
+        ..none
+    };
+    ends(&rt, whole, &[], &TAKEN, None)
 }
 
 // A sink that takes one byte a call and fails behind 20, and one that takes none.
 #[test]
 fn writes_what_a_sink_takes(rt: HostRuntime) -> Result<(), Fail> {
-    let rows: [(&[Result<usize, DeviceFault>], &str); 2] = [
-        (&[Ok(1); 20], "1 bad 0 no-scheme\nli"),
-        (&[Ok(0)], ""),
-    ];
-    for (writes, prefix) in rows {
-        for profile in [Profile::Standard, Profile::Wide] {
-            let row = Row {
-                list: b"a\n",
-                base: None,
-                line_bytes: 65_536,
-                profile,
-                report: prefix,
-            };
-            let mut reader = FromReader::new(row.list);
-            let mut writer = ScriptSink::new(rt.alloc(), 100, writes)?;
-            let answer = run_over(rt.alloc(), &row, &mut reader, &mut writer)?;
-            assert_eq!(rt; answer, Err(LinkFault::Write));
-            assert_eq!(rt; writer.bytes(), prefix.as_bytes());
-        }
-    }
-    Ok(())
-}
-
-// A line of 65,536 bytes is judged under the standard limits, and one of 65,537 is too long, with and without an LF.
-#[test]
-fn judges_the_longest_line(rt: HostRuntime) -> Result<(), Fail> {
-    assert_eq!(rt; LinkLimits::new(65_537, 1), None);
-    let mut longest = String::from_str(rt.alloc(), "urn:")?;
-    for _ in 0..65_532 {
-        longest.push('a')?;
-    }
-    let longest = longest.as_str();
-    let list = format!(in rt.alloc(); "{longest}\r\n{longest}a\n{longest}a")?;
-    let report = format!(in rt.alloc();
-        "1 ok {longest}\n2 bad 0 line-too-long\n3 bad 0 line-too-long\nlinks 3 ok 1 bad 2 differs 0\n"
-    )?;
-    let (answer, written) = ran(rt.alloc(), list.as_bytes(), None, LinkLimits::standard());
-    assert!(rt; answer.is_ok());
-    assert!(rt; written.as_slice() == report.as_bytes());
-    Ok(())
+    let begun = Row {
+        report: "1 bad 0 no-scheme\nli",
+        ..ALONE
+    };
+    let fault = Some(LinkFault::Write);
+    ends(&rt, begun, &[Ok(b"a\n")], &[Ok(1); 20], fault)?;
+    ends(&rt, ALONE, &[Ok(b"a\n")], &[Ok(0)], fault)
 }
