@@ -1,70 +1,126 @@
 //! What columns count, worked out by hand from the code points of a text.
 
+use std::process::Abort;
 use uv_report::{ColumnCounter, Columns};
+
+// The unit has this name, and is found by it.
+fn is_named(rt: &impl Abort, columns: Columns, name: &str) {
+    assert!(rt; columns.name() == name && Columns::of_name(name) == Some(columns));
+}
 
 #[test]
 fn finds_each_unit_by_its_name(rt: HostRuntime) {
-    for name in ["code-points", "bytes", "utf16", "screen"] {
-        match Columns::of_name(name) {
-            Some(columns) => assert_eq!(rt; columns.name(), name),
-            None => panic!(rt; "no unit {name}"),
-        }
-    }
+    is_named(&rt, Columns::CodePoints, "code-points");
+    is_named(&rt, Columns::Bytes, "bytes");
+    is_named(&rt, Columns::Utf16, "utf16");
+    is_named(&rt, Columns::Screen, "screen");
     for text in ["", "Bytes", "byte", "utf-16", "screens", "code points"] {
-        assert_eq!(rt; Columns::of_name(text), None);
+        assert!(rt; Columns::of_name(text).is_none());
+    }
+}
+
+// The columns of these places of the text, which are asked for in this order, are these.
+fn counts(rt: &impl Abort, columns: Columns, rows: &[(usize, u64)]) {
+    let mut counter = ColumnCounter::new(columns, 1, "e\u{301}\u{65E5}\u{1F600}\ta");
+    for (place, column) in rows {
+        assert!(rt; counter.column(*place) == *column);
     }
 }
 
 // A letter, a combining mark (U+0301), a wide code point (U+65E5), a wide one of two UTF-16 code units and four bytes
-// (U+1F600), a tab and a letter: the column of each, and of the end, in each unit.
+// (U+1F600), a tab and a letter: the column of each, of the end, and of some again, in each unit.
 #[test]
 fn counts_columns_in_each_unit(rt: HostRuntime) {
-    let text = "e\u{301}\u{65E5}\u{1F600}\ta";
-    for (columns, wanted) in [
-        (Columns::CodePoints, [1, 2, 3, 4, 5, 6, 7]),
-        (Columns::Bytes, [1, 2, 4, 7, 11, 12, 13]),
-        (Columns::Utf16, [1, 2, 3, 4, 6, 7, 8]),
-        (Columns::Screen, [1, 2, 2, 4, 6, 9, 10]),
-    ] {
-        let mut counter = ColumnCounter::new(columns, 1, text);
-        for place in [0, 1, 2, 3, 4, 5, 6, 6, 2, 0, 5] {
-            assert_eq!(rt; counter.column(place), wanted[place], "of {place}");
-        }
-        assert_eq!(rt; counter.column(99), wanted[6]);
-    }
+    let points = [
+        (0, 1),
+        (1, 2),
+        (2, 3),
+        (3, 4),
+        (4, 5),
+        (5, 6),
+        (6, 7),
+        (2, 3),
+        (0, 1),
+        (5, 6),
+        (99, 7),
+    ];
+    counts(&rt, Columns::CodePoints, &points);
+    let bytes = [
+        (0, 1),
+        (1, 2),
+        (2, 4),
+        (3, 7),
+        (4, 11),
+        (5, 12),
+        (6, 13),
+        (2, 4),
+        (0, 1),
+        (5, 12),
+        (99, 13),
+    ];
+    counts(&rt, Columns::Bytes, &bytes);
+    let units = [
+        (0, 1),
+        (1, 2),
+        (2, 3),
+        (3, 4),
+        (4, 6),
+        (5, 7),
+        (6, 8),
+        (2, 3),
+        (0, 1),
+        (5, 7),
+        (99, 8),
+    ];
+    counts(&rt, Columns::Utf16, &units);
+    let cells = [
+        (0, 1),
+        (1, 2),
+        (2, 2),
+        (3, 4),
+        (4, 6),
+        (5, 9),
+        (6, 10),
+        (2, 2),
+        (0, 1),
+        (5, 9),
+        (99, 10),
+    ];
+    counts(&rt, Columns::Screen, &cells);
+}
+
+// The end of a text that begins at this column of a screen has this one.
+fn ends_at(rt: &impl Abort, start: u64, text: &str, column: u64) {
+    let mut counter = ColumnCounter::new(Columns::Screen, start, text);
+    assert!(rt; counter.column(text.len()) == column);
 }
 
 // Tabs go on to the columns 9, 17 and so on of the line, wherever the text begins in it; what isn't shown as it is
 // takes one column.
 #[test]
 fn counts_tabs_and_controls_on_a_screen(rt: HostRuntime) {
-    for (start, text, column) in [
-        (1, "\t", 9),
-        (8, "\t", 9),
-        (9, "\t", 17),
-        (10, "\t\t", 25),
-        (40, "a\t", 49),
-        (1, "\u{1B}\u{202E}", 3),
-        (0, "\t", 8),
-    ] {
-        let mut counter = ColumnCounter::new(Columns::Screen, start, text);
-        assert_eq!(rt; counter.column(text.len()), column, "of {start}");
-    }
+    ends_at(&rt, 1, "\t", 9);
+    ends_at(&rt, 8, "\t", 9);
+    ends_at(&rt, 9, "\t", 17);
+    ends_at(&rt, 10, "\t\t", 25);
+    ends_at(&rt, 40, "a\t", 49);
+    ends_at(&rt, 1, "\u{1B}\u{202E}", 3);
+    ends_at(&rt, 0, "\t", 8);
 }
 
 // The greatest number of 64 bits stands for each column beyond it.
+fn stops(rt: &impl Abort, columns: Columns) {
+    let mut counter = ColumnCounter::new(columns, u64::MAX - 1, "\u{1F600}a\t");
+    assert!(rt; counter.column(0) == u64::MAX - 1);
+    assert!(rt; counter.column(1) == u64::MAX);
+    assert!(rt; counter.column(2) == u64::MAX);
+    assert!(rt; counter.column(3) == u64::MAX);
+}
+
 #[test]
 fn stops_at_the_greatest_column(rt: HostRuntime) {
-    for columns in [
-        Columns::CodePoints,
-        Columns::Bytes,
-        Columns::Utf16,
-        Columns::Screen,
-    ] {
-        let mut counter = ColumnCounter::new(columns, u64::MAX - 1, "\u{1F600}a\t");
-        assert_eq!(rt; counter.column(0), u64::MAX - 1);
-        for place in 1..4 {
-            assert_eq!(rt; counter.column(place), u64::MAX);
-        }
-    }
+    stops(&rt, Columns::CodePoints);
+    stops(&rt, Columns::Bytes);
+    stops(&rt, Columns::Utf16);
+    stops(&rt, Columns::Screen);
 }

@@ -17,7 +17,7 @@ fn writes(
     wanted: &str,
 ) -> Result<(), Fail> {
     let text = report(rt.alloc(), format, found)?;
-    assert!(rt; text.as_str() == wanted, "{wanted}");
+    assert!(rt; text.as_str() == wanted);
     Ok(())
 }
 
@@ -29,7 +29,7 @@ fn has_text(
     wanted: &str,
 ) -> Result<(), Fail> {
     let text = report(rt.alloc(), format, found)?;
-    assert!(rt; text.as_str().contains(wanted), "{wanted}");
+    assert!(rt; text.as_str().contains(wanted));
     Ok(())
 }
 
@@ -40,7 +40,7 @@ fn ends_with(
     wanted: &str,
 ) -> Result<(), Fail> {
     let text = report(rt.alloc(), Format::Caret, found)?;
-    assert!(rt; text.as_str().ends_with(wanted), "{wanted}");
+    assert!(rt; text.as_str().ends_with(wanted));
     Ok(())
 }
 
@@ -77,54 +77,40 @@ fn tells_the_column_in_the_line(rt: HostRuntime) -> Result<(), Fail> {
         column: 50,
         ..refused("page.html", Rule::CodePoint, 10, "http://h/a b")
     };
-    for (format, column) in [
-        (Format::Gnu, "page.html:3:50: error: "),
-        (Format::Caret, "page.html:3:50: error: "),
-        (Format::Json, "{\"column\":50,"),
-        (Format::Github, "::error file=page.html,line=3,col=50,"),
-        (Format::Checkstyle, "<error line=\"3\" column=\"50\" "),
-        (
-            Format::Sarif,
-            "\"region\":{\"startColumn\":50,\"startLine\":3}",
-        ),
-    ] {
-        has_text(&rt, format, &found, column)?;
-    }
+    has_text(&rt, Format::Gnu, &found, "page.html:3:50: error: ")?;
+    has_text(&rt, Format::Caret, &found, "page.html:3:50: error: ")?;
+    has_text(&rt, Format::Json, &found, "{\"column\":50,")?;
+    let github = "::error file=page.html,line=3,col=50,";
+    has_text(&rt, Format::Github, &found, github)?;
+    let element = "<error line=\"3\" column=\"50\" ";
+    has_text(&rt, Format::Checkstyle, &found, element)?;
+    let region = "\"region\":{\"startColumn\":50,\"startLine\":3}";
+    has_text(&rt, Format::Sarif, &found, region)?;
     ends_with(&rt, &found, "\nhttp://h/a b\n          ^\n")
 }
 
-// With carets a report has the line that compilers write, and these behind it.
+// With carets a report on a place of the text has the line that compilers write, and these behind it.
 fn has_lines(
     rt: &(impl Abort + AllocGlobal),
-    found: &Diagnostic<'_>,
+    text: &str,
+    place: usize,
     lines: &str,
 ) -> Result<(), Fail> {
-    let mut wanted = report(rt.alloc(), Format::Gnu, found)?;
+    let found = refused("f", Rule::CodePoint, place, text);
+    let mut wanted = report(rt.alloc(), Format::Gnu, &found)?;
     wanted.push_str(lines)?;
-    writes(rt, Format::Caret, found, wanted.as_str())
+    writes(rt, Format::Caret, &found, wanted.as_str())
 }
 
 #[test]
 fn puts_a_caret_below_the_place(rt: HostRuntime) -> Result<(), Fail> {
-    for (text, place, lines) in [
-        ("http://h/a b", 10, "http://h/a b\n          ^\n"),
-        (
-            "\u{65E5}\u{672C}\ta b",
-            4,
-            "\u{65E5}\u{672C}\ta b\n    \t ^\n",
-        ),
-        ("e\u{301} ", 2, "e\u{301} \n ^\n"),
-        (
-            "\u{1B}[31m\u{202E} x",
-            6,
-            "\u{FFFD}[31m\u{FFFD} x\n      ^\n",
-        ),
-        ("", 0, "\n^\n"),
-    ] {
-        let found = refused("f", Rule::CodePoint, place, text);
-        has_lines(&rt, &found, lines)?;
-    }
-    Ok(())
+    has_lines(&rt, "http://h/a b", 10, "http://h/a b\n          ^\n")?;
+    let tabbed = "\u{65E5}\u{672C}\ta b\n    \t ^\n";
+    has_lines(&rt, "\u{65E5}\u{672C}\ta b", 4, tabbed)?;
+    has_lines(&rt, "e\u{301} ", 2, "e\u{301} \n ^\n")?;
+    let shown = "\u{FFFD}[31m\u{FFFD} x\n      ^\n";
+    has_lines(&rt, "\u{1B}[31m\u{202E} x", 6, shown)?;
+    has_lines(&rt, "", 0, "\n^\n")
 }
 
 #[test]
@@ -307,16 +293,21 @@ fn writes_long_lines_and_long_names(rt: HostRuntime) -> Result<(), Fail> {
     writes(&rt, Format::Github, &long(file, line), github.as_str())
 }
 
+// The format has this name, and is found by it.
+fn is_named(rt: &impl Abort, format: Format, name: &str) {
+    assert!(rt; format.name() == name && Format::of_name(name) == Some(format));
+}
+
 #[test]
 fn finds_each_format_by_its_name(rt: HostRuntime) {
-    for name in ["gnu", "caret", "json", "github", "sarif", "checkstyle"] {
-        match Format::of_name(name) {
-            Some(format) => assert_eq!(rt; format.name(), name),
-            None => panic!(rt; "no format {name}"),
-        }
-    }
+    is_named(&rt, Format::Gnu, "gnu");
+    is_named(&rt, Format::Caret, "caret");
+    is_named(&rt, Format::Json, "json");
+    is_named(&rt, Format::Github, "github");
+    is_named(&rt, Format::Sarif, "sarif");
+    is_named(&rt, Format::Checkstyle, "checkstyle");
     for text in ["", "GNU", "jso", "jsonl", "xml"] {
-        assert_eq!(rt; Format::of_name(text), None);
+        assert!(rt; Format::of_name(text).is_none());
     }
 }
 

@@ -26,14 +26,14 @@ fn is_number_at(document: &Value, pointer: &str, wanted: u64) -> bool {
 // These texts stand at these pointers of a document.
 fn texts_are(rt: &impl Abort, document: &Value, rows: &[(&str, &str)]) {
     for (pointer, wanted) in rows {
-        assert!(rt; is_text_at(document, *pointer, *wanted), "at {pointer}");
+        assert!(rt; is_text_at(document, *pointer, *wanted));
     }
 }
 
 // These numbers stand at these pointers of a document.
 fn numbers_are(rt: &impl Abort, document: &Value, rows: &[(&str, u64)]) {
     for (pointer, wanted) in rows {
-        assert!(rt; is_number_at(document, *pointer, *wanted), "at {pointer}");
+        assert!(rt; is_number_at(document, *pointer, *wanted));
     }
 }
 
@@ -128,7 +128,7 @@ fn names_kind(
 ) -> Result<(), Fail> {
     let document = document_without(rt.alloc(), columns, Completion::Whole)?;
     match kind {
-        Some(kind) => assert!(rt; is_text_at(&document, "/runs/0/columnKind", kind), "{kind}"),
+        Some(kind) => assert!(rt; is_text_at(&document, "/runs/0/columnKind", kind)),
         None => assert!(rt; document.pointer("/runs/0/columnKind").is_none()),
     }
     assert!(rt; Format::Sarif.takes_columns(columns) == kind.is_some());
@@ -154,8 +154,7 @@ fn has_fix(rt: &(impl Abort + AllocGlobal), kind: MendKind, sentence: &str) -> R
             &document,
             "/runs/0/results/0/fixes/0/description/text",
             sentence
-        ),
-        "{sentence}"
+        )
     );
     has_change(rt, &document);
     Ok(())
@@ -236,7 +235,7 @@ fn has_ended(
     let successful = document.pointer(SUCCESS).and_then(Value::as_bool);
     assert!(rt; successful == Some(reported.is_none()));
     match reported {
-        Some(reported) => assert!(rt; is_text_at(&document, NOTIFICATION, reported), "{reported}"),
+        Some(reported) => assert!(rt; is_text_at(&document, NOTIFICATION, reported)),
         None => assert!(rt; document.pointer(NOTIFICATION).is_none()),
     }
     Ok(())

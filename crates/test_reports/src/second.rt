@@ -1,24 +1,30 @@
 //! What the second parser makes of texts. Each expected URL is that of the URL Standard, section 4.4.
 
+use std::process::Abort;
 use uv_second::{RoomFault, read_as, reading, reads_as, serial};
 
-// The second parser reads the text as the URL of this text, alone.
-#[test]
-fn reads_texts_alone(rt: HostRuntime) -> Result<(), RoomFault> {
-    for (text, want) in [
-        ("http://h/a/../b", "http://h/b"),
-        ("HTTP:\\\\h", "http://h/"),
-        ("mailto:a", "mailto:a"),
-    ] {
-        match reading(rt.alloc(), None, text)? {
-            Some(url) => assert_eq!(rt; serial(&url), want),
-            None => panic!(rt; "a text is refused"),
-        }
-    }
-    for text in ["", "a", "http://h:70000/"] {
-        assert!(rt; reading(rt.alloc(), None, text)?.is_none());
+// The second parser reads the text, alone, as the URL of this text, or refuses it.
+fn reads(
+    rt: &(impl Abort + AllocGlobal),
+    text: &str,
+    wanted: Option<&str>,
+) -> Result<(), RoomFault> {
+    let found = reading(rt.alloc(), None, text)?;
+    match &found {
+        Some(url) => assert!(rt; Some(serial(url)) == wanted),
+        None => assert!(rt; wanted.is_none()),
     }
     Ok(())
+}
+
+#[test]
+fn reads_texts_alone(rt: HostRuntime) -> Result<(), RoomFault> {
+    reads(&rt, "http://h/a/../b", Some("http://h/b"))?;
+    reads(&rt, "HTTP:\\\\h", Some("http://h/"))?;
+    reads(&rt, "mailto:a", Some("mailto:a"))?;
+    reads(&rt, "", None)?;
+    reads(&rt, "a", None)?;
+    reads(&rt, "http://h:70000/", None)
 }
 
 // The second parser's URL has the text that was asked for, or another one.
