@@ -39,7 +39,12 @@ http://h:065535/ => valid\nscheme http\nhost domain h\nport 65535\nsegment \n
 http://h:/ => valid\nscheme http\nhost domain h\nsegment \n
 ws://h:80/x => valid\nscheme ws\nhost domain h\nsegment x\n
 wss://h:80/x => valid\nscheme wss\nhost domain h\nport 80\nsegment x\n
+http://[::1]:8080/ => valid\nscheme http\nhost ipv6 [::1]\nport 8080\nsegment \n
 http://h => valid\nscheme http\nhost domain h\nsegment \n
+http://h/ => valid\nscheme http\nhost domain h\nsegment \n
+http://h/? => valid\nscheme http\nhost domain h\nsegment \nquery \n
+http://h/# => valid\nscheme http\nhost domain h\nsegment \nfragment \n
+http://h/?# => valid\nscheme http\nhost domain h\nsegment \nquery \nfragment \n
 http://h/a/%2E%2e/b => valid\nscheme http\nhost domain h\nsegment b\n
 http://h/a/. => valid\nscheme http\nhost domain h\nsegment a\nsegment \n
 https://b\xc3\xbccher.example/ => valid\nscheme https\nhost domain xn--bcher-kva.example\nsegment \n
@@ -81,6 +86,9 @@ expect 1 'refused 7 host-domain\n' '' check "http://${label}a/"
 
 # Texts of class Other with an authority or a path.
 says <<'ROWS'
+foo:/a => valid\nscheme foo\nsegment a\n
+foo://h => valid\nscheme foo\nhost opaque h\n
+foo://192.168.0.1/ => valid\nscheme foo\nhost opaque 192.168.0.1\nsegment \n
 foo://u%40h:80/a/ => valid\nscheme foo\nhost opaque u%40h\nport 80\nsegment a\nsegment \n
 foo:// => valid\nscheme foo\nhost empty\n
 foo:/.//a => valid\nscheme foo\nsegment \nsegment a\n
@@ -152,9 +160,9 @@ http:x => refused 5 two-slashes\n
 ROWS
 
 # A base that is refused alone is named with its own place and rule, and of many faults with the least.
-expect 2 '' 'base refused 7 host-missing\n' check --base http:// '#f'
-expect 2 '' 'base refused 10 code-point\n' check --base 'http://h/a b' x
-expect 2 '' 'base refused 5 two-slashes\n' check --all --base 'http:a b' 'x y'
+expect 2 '' "$(no_base 7 host-missing 'a host has to stand here')" check --base http:// '#f'
+expect 2 '' "$(no_base 10 code-point 'this code point may not stand in a URL')" check --base 'http://h/a b' x
+expect 2 '' "$(no_base 5 two-slashes '// has to follow this scheme')" check --all --base 'http:a b' 'x y'
 
 # All that is wrong with a text, alike by each profile, and where they differ.
 for profile in standard wide parser; do
@@ -206,4 +214,4 @@ foo|h|opaque h
 foo||empty
 foo|[1:2::8]|ipv6 [1:2::8]
 ROWS
-all_cases 173
+all_cases 181

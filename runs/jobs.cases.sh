@@ -44,7 +44,7 @@ does 2 '' "urlcheck: no format is named 'GNU'; the nearest is gnu
 urlcheck: the formats: gnu caret json github sarif checkstyle\nwords\n" 'x\n' lint --columns byte --format GNU -
 does 2 '' "urlcheck: no column unit is named ''\nurlcheck: the column units: code-points bytes utf16 screen\nwords\n" 'x\n' \
     lint --format sarif --columns= -
-does 2 '' 'base refused 0 no-scheme\n' 'x\n' lint --base x -
+does 2 '' "$(no_base 0 no-scheme 'it has no scheme')" 'x\n' lint --base x -
 
 # A filter of lines: a valid one, one whose mended text is the same URL, one whose mended text has escapes, and one that
 # has none. Each mended text is written, or only those that are the same URL, and the counts are said or not.
@@ -56,5 +56,5 @@ does 0 a%20b 'urlcheck: 1 line, 1 mended (1 same, 0 escaped, 0 changed), 0 refus
 does 1 'http://h_/%20a\nb|c\nd%20e\n' '' 'http://h_/ a\nb|c\nd e\n' mend --only same -q --base=http://k_/ --wide
 does 2 '' "urlcheck: no kind is named 'Same'; the nearest is same\nurlcheck: the kinds: same escaped changed\nwords\n" \
     'http://h/ a\n' mend --only Same
-does 2 '' 'base refused 0 no-scheme\n' 'a b\n' mend --base x
+does 2 '' "$(no_base 0 no-scheme 'it has no scheme')" 'a b\n' mend --base x
 all_cases 16
