@@ -18,7 +18,8 @@ walks() {
     wanted=$?
     [ ! -s "$room/err" ] || fail "$words: on standard error: $(cat "$room/err")"
     for ((kilobytes = 1500; kilobytes <= 40000; kilobytes += 20)); do
-        prlimit --as=$((kilobytes * 1024)) "$program" "$@" <"$room/list" >"$room/out" 2>"$room/err"
+        # (in a shell of its own, which says nothing of a signal)
+        (prlimit --as=$((kilobytes * 1024)) "$program" "$@" <"$room/list" >"$room/out" 2>"$room/err"; exit $?) 2>/dev/null
         status=$?
         case $status in
             127 | 137 | 139) [ $refused = 0 ] || fail "$words: status $status in $kilobytes KiB" ;;
