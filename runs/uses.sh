@@ -154,6 +154,13 @@ printf 'http://h/a%%20b\n' | cmp -s - right.links || { echo "FAILED: a list mend
 mkdir a.links
 ends 2 'a folder mended' sh ../mend.sh a.links right.links
 [ ! -e a.links.new ] || { echo 'FAILED: a folder mended: it left a.links.new'; failed=1; }
+# (bash ends a command whose input is missing with 1, and dash with 2)
+for shell in bash sh; do
+    echo 'what an earlier run left' >missing.links.new
+    ends 2 "a list that is missing, by $shell" $shell ../mend.sh missing.links 'two words.links'
+    [ ! -e missing.links ] && [ ! -e missing.links.new ] ||
+        { echo "FAILED: a list that is missing, by $shell: there is one"; failed=1; }
+done
 
 # What is new beside the known faults: none known yet, all known, one moved, one more, the same once more, no list.
 in_folder known
