@@ -1,6 +1,6 @@
 //! All the faults of texts, by the rules of the URL Standard, section 4.3. Each expected fault is worked out by hand
-//! from those rules, never from a run of this code. The cases of `runs/faults.cases.sh` and `runs/lengths.py` are more of
-//! them, which the built program is run on.
+//! from those rules, never from a run of this code. The cases of `runs/faults.cases.sh` and `runs/lengths.py` are more
+//! of them, which the built program is run on.
 
 use crate::bases::opaque_base;
 use crate::wanted::refusals_at;

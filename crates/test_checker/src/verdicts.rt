@@ -1,5 +1,5 @@
-//! Verdicts on texts, by the rules of the URL Standard, sections 3.4 and 4.3: the parts of a valid text in each form, and
-//! the refusal of another. Each is worked out by hand from those rules, never from a run of this code. The cases of
+//! Verdicts on texts, by the rules of the URL Standard, sections 3.4 and 4.3: the parts of a valid text in each form,
+//! and the refusal of another. Each is worked out by hand from those rules, never from a run of this code. The cases of
 //! `vectors/` and of `runs/lengths.py` are more of them, which the built program and the library for C are run on.
 
 use crate::bases::special_base;

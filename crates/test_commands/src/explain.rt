@@ -1,4 +1,5 @@
-//! Explanations of rules: that of one rule, the name of none, and each failed write. runs/explain.cases.sh has all rules.
+//! Explanations of rules: that of one rule, the name of none, and each failed write. runs/explain.cases.sh has all
+//! rules.
 
 use std::alloc::Global;
 use std::test::Fail;

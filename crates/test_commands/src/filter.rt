@@ -1,4 +1,5 @@
-//! Filters of lines over reads and writes that fail. runs/jobs.cases.sh and runs/mend.cases.sh have filters of many lists.
+//! Filters of lines over reads and writes that fail. runs/jobs.cases.sh and runs/mend.cases.sh have filters of many
+//! lists.
 
 use crate::jobs::{Wanted, ends};
 use std::test::Fail;

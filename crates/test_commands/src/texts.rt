@@ -1,5 +1,5 @@
-//! What the commands over one text answer: `check`, with the first violation or with all, and `mend`. runs/check.cases.sh and
-//! runs/mend.cases.sh have many more texts.
+//! What the commands over one text answer: `check`, with the first violation or with all, and `mend`.
+//! runs/check.cases.sh and runs/mend.cases.sh have many more texts.
 
 use crate::answered::is_answer;
 use std::test::Fail;

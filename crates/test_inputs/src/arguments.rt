@@ -1,5 +1,5 @@
-//! Arguments that are written out, and what they ask for by the program's usage: jobs with all their options, and arguments
-//! that ask for none. runs/words.cases.sh and runs/jobs.cases.sh have what the program makes of many more.
+//! Arguments that are written out, and what they ask for by the program's usage: jobs with all their options, and
+//! arguments that ask for none. runs/words.cases.sh and runs/jobs.cases.sh have what the program makes of many more.
 
 use crate::only_text::is_only;
 use clap::error::ErrorKind;

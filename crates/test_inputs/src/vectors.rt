@@ -1,4 +1,5 @@
-//! Runs over files of vectors that are written out. runs/vectors.cases.sh has many more, and those of the folder vectors/.
+//! Runs over files of vectors that are written out. runs/vectors.cases.sh has many more, and those of the folder
+//! vectors/.
 
 use std::alloc::Global;
 use std::test::Fail;

@@ -1,6 +1,6 @@
 //! Lists that are written out, and what a filter writes of them, worked out by hand: what to write in place of a text
-//! by the URL Standard, and the ends of the lines as they were. Each read and each write is made to fail in turn, behind
-//! short ones.
+//! by the URL Standard, and the ends of the lines as they were. Each read and each write is made to fail in turn,
+//! behind short ones.
 ghost use Rattle.std.specs.Prelude.{◌<◌};
 
 use crate::line_ends::line_feeds;

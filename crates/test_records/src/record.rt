@@ -34,8 +34,8 @@ fn is_opaque_host_record(record: &Record) -> bool {
         && has_ends(record, "q", "f")
 }
 
-// Whether each field is that of `https://EXAMPLE.com:443/a/../b?x='y'#é`: the scheme, the domain, the segment, the query
-// and the fragment as they are denoted.
+// Whether each field is that of `https://EXAMPLE.com:443/a/../b?x='y'#é`: the scheme, the domain, the segment, the
+// query and the fragment as they are denoted.
 fn is_domain_record(record: &Record) -> bool {
     let host = match record.host() {
         Some(Host::Domain(form)) => form.as_str() == "example.com",

@@ -27,66 +27,71 @@ fn counts(rt: &impl Abort, columns: Columns, rows: &[(usize, u64)]) {
     }
 }
 
-// A letter, a combining mark (U+0301), a wide code point (U+65E5), a wide one of two UTF-16 code units and four bytes
-// (U+1F600), a tab and a letter: the column of each, of the end, and of some again, in each unit.
+// The places of a letter, a combining mark (U+0301), a wide code point (U+65E5), a wide one of two UTF-16 code units and
+// four bytes (U+1F600), a tab, a letter and the end, and of some again, each with its column in code points; then in
+// bytes, in UTF-16 code units, and in columns of a screen.
+const CODE_POINTS: [(usize, u64); 11] = [
+    (0, 1),
+    (1, 2),
+    (2, 3),
+    (3, 4),
+    (4, 5),
+    (5, 6),
+    (6, 7),
+    (2, 3),
+    (0, 1),
+    (5, 6),
+    (99, 7),
+];
+
+const BYTES: [(usize, u64); 11] = [
+    (0, 1),
+    (1, 2),
+    (2, 4),
+    (3, 7),
+    (4, 11),
+    (5, 12),
+    (6, 13),
+    (2, 4),
+    (0, 1),
+    (5, 12),
+    (99, 13),
+];
+
+const UTF16: [(usize, u64); 11] = [
+    (0, 1),
+    (1, 2),
+    (2, 3),
+    (3, 4),
+    (4, 6),
+    (5, 7),
+    (6, 8),
+    (2, 3),
+    (0, 1),
+    (5, 7),
+    (99, 8),
+];
+
+const SCREEN: [(usize, u64); 11] = [
+    (0, 1),
+    (1, 2),
+    (2, 2),
+    (3, 4),
+    (4, 6),
+    (5, 9),
+    (6, 10),
+    (2, 2),
+    (0, 1),
+    (5, 9),
+    (99, 10),
+];
+
 #[test]
 fn counts_columns_in_each_unit(rt: HostRuntime) {
-    let points = [
-        (0, 1),
-        (1, 2),
-        (2, 3),
-        (3, 4),
-        (4, 5),
-        (5, 6),
-        (6, 7),
-        (2, 3),
-        (0, 1),
-        (5, 6),
-        (99, 7),
-    ];
-    counts(&rt, Columns::CodePoints, &points);
-    let bytes = [
-        (0, 1),
-        (1, 2),
-        (2, 4),
-        (3, 7),
-        (4, 11),
-        (5, 12),
-        (6, 13),
-        (2, 4),
-        (0, 1),
-        (5, 12),
-        (99, 13),
-    ];
-    counts(&rt, Columns::Bytes, &bytes);
-    let units = [
-        (0, 1),
-        (1, 2),
-        (2, 3),
-        (3, 4),
-        (4, 6),
-        (5, 7),
-        (6, 8),
-        (2, 3),
-        (0, 1),
-        (5, 7),
-        (99, 8),
-    ];
-    counts(&rt, Columns::Utf16, &units);
-    let cells = [
-        (0, 1),
-        (1, 2),
-        (2, 2),
-        (3, 4),
-        (4, 6),
-        (5, 9),
-        (6, 10),
-        (2, 2),
-        (0, 1),
-        (5, 9),
-        (99, 10),
-    ];
-    counts(&rt, Columns::Screen, &cells);
+    counts(&rt, Columns::CodePoints, &CODE_POINTS);
+    counts(&rt, Columns::Bytes, &BYTES);
+    counts(&rt, Columns::Utf16, &UTF16);
+    counts(&rt, Columns::Screen, &SCREEN);
 }
 
 // The end of a text that begins at this column of a screen has this one.

@@ -65,58 +65,56 @@ fn document_without(
     Ok(Value::from_str(alloc, text.as_str())?)
 }
 
+// Texts of a document on two diagnostics, by their pointers.
+const DOCUMENT_TEXTS: [(&str, &str); 15] = [
+    ("/version", "2.1.0"),
+    ("/runs/0/columnKind", "unicodeCodePoints"),
+    ("/runs/0/tool/driver/name", "urlcheck"),
+    ("/runs/0/tool/driver/rules/0/id", "not-utf8"),
+    ("/runs/0/tool/driver/rules/1/id", "line-too-long"),
+    ("/runs/0/tool/driver/rules/2/id", "not-located"),
+    ("/runs/0/tool/driver/rules/7/id", "host-domain"),
+    ("/runs/0/tool/driver/rules/16/id", "percent"),
+    ("/runs/0/results/1/ruleId", "host-domain"),
+    ("/runs/0/results/1/level", "error"),
+    (
+        "/runs/0/results/1/message/text",
+        "the host that begins here is no valid domain",
+    ),
+    ("/runs/0/results/1/properties/text", "http://a_b/"),
+    (
+        "/runs/0/tool/driver/rules/7/helpUri",
+        "https://url.spec.whatwg.org/#valid-domain-string",
+    ),
+    (
+        "/runs/0/tool/driver/rules/10/fullDescription/text",
+        "Under a scheme that isn't special a host has URL units, but no forbidden host code points.",
+    ),
+    (
+        "/runs/0/results/1/locations/0/physicalLocation/artifactLocation/uri",
+        "a%20b/%C3%A9.md",
+    ),
+];
+
+// Numbers of the same document.
+const DOCUMENT_NUMBERS: [(&str, u64); 3] = [
+    ("/runs/0/results/0/ruleIndex", 7),
+    (
+        "/runs/0/results/0/locations/0/physicalLocation/region/startLine",
+        3,
+    ),
+    (
+        "/runs/0/results/0/locations/0/physicalLocation/region/startColumn",
+        8,
+    ),
+];
+
 #[test]
 fn writes_a_document_of_sarif(rt: HostRuntime) -> Result<(), Fail> {
     let found = refused("a b/\u{E9}.md", Rule::HostDomain, 7, "http://a_b/");
     let document = document_of_two(rt.alloc(), &found)?;
-    texts_are(
-        &rt,
-        &document,
-        &[
-            ("/version", "2.1.0"),
-            ("/runs/0/columnKind", "unicodeCodePoints"),
-            ("/runs/0/tool/driver/name", "urlcheck"),
-            ("/runs/0/tool/driver/rules/0/id", "not-utf8"),
-            ("/runs/0/tool/driver/rules/1/id", "line-too-long"),
-            ("/runs/0/tool/driver/rules/2/id", "not-located"),
-            ("/runs/0/tool/driver/rules/7/id", "host-domain"),
-            ("/runs/0/tool/driver/rules/16/id", "percent"),
-            ("/runs/0/results/1/ruleId", "host-domain"),
-            ("/runs/0/results/1/level", "error"),
-            (
-                "/runs/0/results/1/message/text",
-                "the host that begins here is no valid domain",
-            ),
-            ("/runs/0/results/1/properties/text", "http://a_b/"),
-            (
-                "/runs/0/tool/driver/rules/7/helpUri",
-                "https://url.spec.whatwg.org/#valid-domain-string",
-            ),
-            (
-                "/runs/0/tool/driver/rules/10/fullDescription/text",
-                "Under a scheme that isn't special a host has URL units, but no forbidden host code points.",
-            ),
-            (
-                "/runs/0/results/1/locations/0/physicalLocation/artifactLocation/uri",
-                "a%20b/%C3%A9.md",
-            ),
-        ],
-    );
-    numbers_are(
-        &rt,
-        &document,
-        &[
-            ("/runs/0/results/0/ruleIndex", 7),
-            (
-                "/runs/0/results/0/locations/0/physicalLocation/region/startLine",
-                3,
-            ),
-            (
-                "/runs/0/results/0/locations/0/physicalLocation/region/startColumn",
-                8,
-            ),
-        ],
-    );
+    texts_are(&rt, &document, &DOCUMENT_TEXTS);
+    numbers_are(&rt, &document, &DOCUMENT_NUMBERS);
     Ok(())
 }
 

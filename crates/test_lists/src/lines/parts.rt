@@ -228,8 +228,8 @@ fn stops(
     assert!(rt; failures == 1);
 }
 
-// Each write of a list of one line fails in turn. Those within the line fail before it is counted; the last two, of what
-// waits at the piece's end and of the frame's end, behind that.
+// Each write of a list of one line fails in turn. Those within the line fail before it is counted; the last two, of
+// what waits at the piece's end and of the frame's end, behind that.
 fn stops_at_each_write(rt: &(impl Abort + AllocGlobal), list: &[u8], whole: &[u8]) {
     stops(rt, list, whole, (0, 0, 0));
     stops(rt, list, whole, (1, 1, 0));
@@ -247,7 +247,8 @@ fn stops_at_each_write_that_fails(rt: HostRuntime) -> Result<(), Fail> {
     Ok(())
 }
 
-// Where no memory is left behind so many parts of a line these are written, and the frame's end. The line isn't counted.
+// Where no memory is left behind so many parts of a line these are written, and the frame's end. The line isn't
+// counted.
 fn writes_parts(
     rt: &(impl Abort + AllocGlobal),
     list: &[u8],

@@ -101,7 +101,8 @@ const ROWS: [Row<'static>; 8] = [
 // More writes than a run makes, of which each takes all that it is given.
 const TAKEN: [Result<usize, DeviceFault>; 100] = [Ok(1_000); 100];
 
-// What a run over these reads and writes answers, with the base, limits and profile of the row, and what it has written.
+// What a run over these reads and writes answers, with the base, limits and profile of the row, and what it has
+// written.
 fn ran<'w>(
     alloc: Global,
     row: &Row<'_>,
@@ -138,8 +139,8 @@ fn reports_a_list_written_out(rt: HostRuntime) -> Result<(), Fail> {
     Ok(())
 }
 
-// Behind these reads one fails: of the report the lines of those that have ended, which are so many, are written, and no
-// more.
+// Behind these reads one fails: of the report the lines of those that have ended, which are so many, are written, and
+// no more.
 fn fails_behind(
     rt: &(impl Abort + AllocGlobal),
     row: &Row<'_>,
