@@ -429,8 +429,9 @@ def run(words: Optional[List[str]] = None) -> int:
         try:
             check("", given.base, profile)
         except BaseRefused as refused:
-            wrong = refused.place, sentence(refused.rule), refused.rule
-            return _stop("the base is refused at place {}: {} [{}]".format(*wrong))
+            # A base is judged alone, so that it needs a scheme.
+            why = "it has no scheme" if refused.rule == "no-scheme" else sentence(refused.rule)
+            return _stop("the base is refused at place {}: {} [{}]".format(refused.place, why, refused.rule))
     seen = Run(settings, Judge(settings) if given.check else None, _write, _tell)
     for name in documents_of(given.files):
         seen.take(name)

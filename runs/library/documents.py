@@ -187,7 +187,7 @@ class Documents(unittest.TestCase):
         self.judges("given.html", [("1:10", "drive-after-host"), ("1:28", "host-missing")], "--base", "file://h/a")
         status, _, said = self.run_on("--check", "--base", "x", "none.html")
         self.assertEqual(status, 2)
-        self.assertIn("the base is refused at place 0: there is no scheme and no base [no-scheme]", said)
+        self.assertIn("the base is refused at place 0: it has no scheme [no-scheme]", said)
 
     def test_profiles(self):
         self.write("a.html", '<a href="http://a_b/">')
