@@ -36,6 +36,12 @@ for profile in standard wide; do
     faulty file://h/C:/x '8 drive-after-host' --profile $profile
 done
 
+# A fault behind more than three times 32 bytes.
+letters=$(printf '%0100d' 0)
+for profile in standard wide parser; do
+    faulty "http://h/${letters//0/a} " '109 code-point' --profile $profile
+done
+
 # The texts of each length, and lists of them.
 python3 "$here/lengths.py" vectors "$room/vectors.json" || fail 'the texts of each length'
 expect 0 'vectors 9021 pass 9021 fail 0\n' '' vectors vectors.json
@@ -43,4 +49,4 @@ count=$((count + 1))
 python3 "$here/lengths.py" check "$program" >"$room/out" 2>&1 || fail "the texts of each length: $(cat "$room/out")"
 rm -f "$room/vectors.json"
 
-all_cases 24
+all_cases 27

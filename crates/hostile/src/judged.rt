@@ -1,23 +1,36 @@
-//! A text is judged alike by `check`, `faults` and `resolve`, and as lines of a list.
+//! A text is judged alike by `check`, `faults` and `resolve`.
 
 use crate::alike::is_refusal_of;
-use std::alloc::Global;
+use std::alloc::{AllocError, Global};
 use std::process::Abort;
-use std::test::Fail;
 use uv_grammar::{Verdict, check, faults};
-use uv_links::{LinkLimits, run_links};
-use uv_model::{FromReader, Profile, Record, Refusal, ToWriter};
+use uv_model::{Profile, Record, Refusal};
 use uv_resolve::{ResolveFault, resolve};
 
-/// The record of a base's text, where there is one.
-pub(crate) fn base_record(
+// What `check` refuses a text by, where it does.
+fn refusal_of_check(
     alloc: Global,
-    base: Option<&str>,
+    text: &str,
+    base: Option<&Record>,
     profile: Profile,
-) -> Result<Option<Record>, Fail> {
-    match base {
-        Some(text) => Ok(Some(resolve(alloc, text, None, profile)?)),
-        None => Ok(None),
+) -> Result<Option<Refusal>, AllocError> {
+    match check(alloc, text, base, profile)? {
+        Verdict::Yes(_) => Ok(None),
+        Verdict::No(refusal) => Ok(Some(refusal)),
+    }
+}
+
+// What `resolve` refuses a text by, where it does.
+fn refusal_of_resolve(
+    alloc: Global,
+    text: &str,
+    base: Option<&Record>,
+    profile: Profile,
+) -> Result<Option<Refusal>, AllocError> {
+    match resolve(alloc, text, base, profile) {
+        Ok(_) => Ok(None),
+        Err(ResolveFault::Refused(refusal)) => Ok(Some(refusal)),
+        Err(ResolveFault::Memory(error)) => Err(error),
     }
 }
 
@@ -28,41 +41,11 @@ pub(crate) fn judged(
     text: &str,
     base: Option<&Record>,
     profile: Profile,
-) -> Result<Vec<Refusal>, Fail> {
+) -> Result<Vec<Refusal>, AllocError> {
     let found = faults(rt.alloc(), text, base, profile)?;
-    let refusal = match check(rt.alloc(), text, base, profile)? {
-        Verdict::Yes(_) => None,
-        Verdict::No(refusal) => Some(refusal),
-    };
-    assert!(rt; is_refusal_of(refusal, found.as_slice()), "of {text}");
-    let refusal = match resolve(rt.alloc(), text, base, profile) {
-        Ok(_) => None,
-        Err(ResolveFault::Refused(refusal)) => Some(refusal),
-        Err(ResolveFault::Memory(error)) => return Err(error.into()),
-    };
-    assert!(rt; is_refusal_of(refusal, found.as_slice()), "of {text}");
+    let checked = refusal_of_check(rt.alloc(), text, base, profile)?;
+    assert!(rt; is_refusal_of(checked, found.as_slice()));
+    let resolved = refusal_of_resolve(rt.alloc(), text, base, profile)?;
+    assert!(rt; is_refusal_of(resolved, found.as_slice()));
     Ok(found)
-}
-
-/// The texts as lines of a list, each ended by LF: the run ends without a fault, and so many lines are bad as are
-/// refused.
-pub(crate) fn listed(
-    rt: &(impl Abort + AllocGlobal),
-    lines: &str,
-    base: Option<&Record>,
-    profile: Profile,
-    wanted: (u64, u64),
-) -> Result<(), Fail> {
-    let mut reader = FromReader::new(lines.as_bytes());
-    let mut writer = ToWriter::new(Vec::new(rt.alloc()));
-    let counts = run_links(
-        rt.alloc(),
-        &mut reader,
-        &mut writer,
-        base,
-        LinkLimits::standard(),
-        profile,
-    )?;
-    assert_eq!(rt; (counts.lines, counts.bad), wanted);
-    Ok(())
 }

@@ -1,26 +1,23 @@
 //! Long texts, of a unit repeated in each part of a text, with faults that are worked out by hand from the rules of the
-//! URL Standard, section 4.3.
+//! URL Standard, section 4.3. As lines of lists, up to the limit of lines, `runs/hostile.py` has the same.
 
-use crate::judged::{base_record, judged, listed};
+use crate::judged::judged;
+use std::alloc::{AllocError, Global};
 use std::process::Abort;
-use std::test::Fail;
-use uv_model::{Profile, Record, Refusal, Rule, UrlPath};
-use uv_resolve::resolve;
+use uv_model::{Profile, Record, Refusal, Rule};
+use uv_resolve::{ResolveFault, resolve};
 
 // How often a unit is repeated.
 const COUNT: usize = 1_000_000;
 
-// The largest line of a list, in bytes.
-const LINE_BYTES: usize = 65_536;
-
-// Faults of one rule: the first at the place, each other so many code points behind the one before, and so many in each
-// repetition of a unit, or one in all. They are faults up to this profile, and wider ones take them.
+// Faults of one rule: the first at the place, each other so many code points behind the one before, and so many in all.
+// They are faults up to this profile, and wider ones take them.
 #[derive(Clone, Copy)]
 struct Run {
     place: usize,
     rule: Rule,
     step: usize,
-    in_each: Option<usize>,
+    times: usize,
     until: Profile,
 }
 
@@ -30,7 +27,7 @@ fn once(place: usize, rule: Rule) -> Run {
         place,
         rule,
         step: 0,
-        in_each: None,
+        times: 1,
         until: Profile::Parser,
     }
 }
@@ -49,130 +46,136 @@ fn each(place: usize, rule: Rule) -> Run {
         place,
         rule,
         step: 1,
-        in_each: Some(1),
+        times: COUNT,
         until: Profile::Parser,
     }
 }
 
-// A part of a text that a unit fills: what stands before it and behind it, and the base.
+// A part of a text that a unit fills: what stands before it and behind it.
 #[derive(Clone, Copy)]
 struct Part {
     before: &'static str,
     behind: &'static str,
-    base: Option<&'static str>,
 }
 
 const PATH: Part = Part {
     before: "http://h/",
     behind: "",
-    base: None,
 };
 
 const HOST: Part = Part {
     before: "http://",
     behind: "/",
-    base: None,
 };
 
 const PORT: Part = Part {
     before: "http://h:",
     behind: "/",
-    base: None,
 };
 
 const QUERY: Part = Part {
     before: "http://h/?",
     behind: "",
-    base: None,
 };
 
 const REFERENCE: Part = Part {
     before: "",
     behind: "",
-    base: Some("http://h/a/b?q"),
 };
 
-// A unit so often repeated in a part.
-fn filled(rt: &impl AllocGlobal, part: Part, unit: &str, count: usize) -> Result<String, Fail> {
-    let mut text = String::from_str(rt.alloc(), part.before)?;
-    text.push_str(unit.repeat(rt.alloc(), count)?.as_str())?;
-    text.push_str(part.behind)?;
+// A text between two others.
+fn between(alloc: Global, before: &str, middle: &str, behind: &str) -> Result<String, AllocError> {
+    let mut text = String::from_str(alloc, before)?;
+    text.push_str(middle)?;
+    text.push_str(behind)?;
     Ok(text)
 }
 
-// Whether the run's faults are some by the profile.
-fn is_wrong(run: &Run, profile: Profile) -> bool {
-    match run.until {
+// A unit so often repeated, between two texts.
+fn filled(
+    alloc: Global,
+    before: &str,
+    unit: &str,
+    count: usize,
+    behind: &str,
+) -> Result<String, AllocError> {
+    let repeated = unit.repeat(alloc, count)?;
+    between(alloc, before, repeated.as_str(), behind)
+}
+
+// How many faults of the run there are by the profile.
+fn times_by(run: &Run, profile: Profile) -> usize {
+    let is_wrong = match run.until {
         Profile::Standard => profile == Profile::Standard,
         Profile::Wide => profile != Profile::Parser,
         Profile::Parser => true,
-    }
+    };
+    if is_wrong { run.times } else { 0 }
 }
 
-// The faults of these runs by the profile, where a unit is repeated so often.
-fn faults_in(
-    rt: &impl AllocGlobal,
-    runs: &[Run],
-    count: usize,
-    profile: Profile,
-) -> Result<Vec<Refusal>, Fail> {
-    let mut wanted = Vec::new(rt.alloc());
+// Whether so many faults of the run stand in the list from here on.
+fn stand_at(found: &[Refusal], from: usize, run: &Run, times: usize) -> bool {
+    let mut place = run.place;
+    for at in from..from.saturating_add(times) {
+        match found.get(at) {
+            Some(refusal) if refusal.rule == run.rule && refusal.place == place => {}
+            _ => return false,
+        }
+        place = place.saturating_add(run.step);
+    }
+    true
+}
+
+// Whether these are the faults of the runs by the profile.
+fn are_those(found: &[Refusal], runs: &[Run], profile: Profile) -> bool {
+    let mut from = 0usize;
     for run in runs {
-        let times = if is_wrong(run, profile) {
-            run.in_each
-                .map_or(1, |in_each| count.saturating_mul(in_each))
-        } else {
-            0
-        };
-        for at in 0..times {
-            wanted.push(Refusal {
-                place: run.place.saturating_add(at.saturating_mul(run.step)),
-                rule: run.rule,
-            })?;
+        let times = times_by(run, profile);
+        if !stand_at(found, from, run, times) {
+            return false;
+        }
+        from = from.saturating_add(times);
+    }
+    from == found.len()
+}
+
+// Whether the text has the faults of the runs, by each profile.
+fn has_faults(
+    rt: &(impl Abort + AllocGlobal),
+    text: &str,
+    base: Option<&Record>,
+    runs: &[Run],
+) -> Result<bool, AllocError> {
+    for profile in Profile::in_order() {
+        let found = judged(rt, text, base, profile)?;
+        if !are_those(found.as_slice(), runs, profile) {
+            return Ok(false);
         }
     }
-    Ok(wanted)
+    Ok(true)
 }
 
-// Each unit repeated in a part has the wanted faults, at a million times and, as a line, up to the limit of lines.
+// Each unit, a million times in a part, makes a text with the faults of its runs.
 fn judges(
     rt: &(impl Abort + AllocGlobal),
     part: Part,
+    base: Option<&Record>,
     rows: &[(&str, &[Run])],
-) -> Result<(), Fail> {
-    for profile in Profile::in_order() {
-        let base = base_record(rt.alloc(), part.base, profile)?;
-        for (unit, runs) in rows {
-            let text = filled(rt, part, unit, COUNT)?;
-            let found = judged(rt, text.as_str(), base.as_ref(), profile)?;
-            let wanted = faults_in(rt, runs, COUNT, profile)?;
-            assert!(rt; found.as_slice() == wanted.as_slice(), "of {unit}");
-            judges_line(rt, part, unit, base.as_ref(), profile)?;
-        }
+) -> Result<(), AllocError> {
+    for (unit, runs) in rows {
+        let text = filled(rt.alloc(), part.before, unit, COUNT, part.behind)?;
+        let is_so = has_faults(rt, text.as_str(), base, runs)?;
+        assert!(rt; is_so, "{unit}");
     }
     Ok(())
 }
 
-// The unit repeated up to the limit of lines is a line that is bad exactly where it has faults.
-fn judges_line(
-    rt: &(impl Abort + AllocGlobal),
-    part: Part,
-    unit: &str,
-    base: Option<&Record>,
-    profile: Profile,
-) -> Result<(), Fail> {
-    let room = LINE_BYTES.saturating_sub(part.before.len().saturating_add(part.behind.len()));
-    let count = room.checked_div(unit.len()).unwrap_or(0);
-    let text = filled(rt, part, unit, count)?;
-    let bad = !judged(rt, text.as_str(), base, profile)?.is_empty();
-    listed(rt, text.as_str(), base, profile, (1, u64::from(bad)))
-}
-
 #[test]
-fn judges_long_paths(rt: HostRuntime) -> Result<(), Fail> {
+fn judges_long_paths(rt: HostRuntime) -> Result<(), AllocError> {
     judges(
         &rt,
         PATH,
+        None,
         &[
             ("/", &[empty_segment(9)]),
             ("a/", &[]),
@@ -190,7 +193,7 @@ fn judges_long_paths(rt: HostRuntime) -> Result<(), Fail> {
 
 // By the parser's profile a domain of ASCII alone may have any length, and empty labels.
 #[test]
-fn judges_long_hosts(rt: HostRuntime) -> Result<(), Fail> {
+fn judges_long_hosts(rt: HostRuntime) -> Result<(), AllocError> {
     let domain = once(7, Rule::HostDomain);
     let until_wide = Run {
         until: Profile::Wide,
@@ -199,6 +202,7 @@ fn judges_long_hosts(rt: HostRuntime) -> Result<(), Fail> {
     judges(
         &rt,
         HOST,
+        None,
         &[
             ("/", &[once(7, Rule::HostMissing), empty_segment(8)]),
             ("a/", &[]),
@@ -215,16 +219,17 @@ fn judges_long_hosts(rt: HostRuntime) -> Result<(), Fail> {
 }
 
 #[test]
-fn judges_long_ports(rt: HostRuntime) -> Result<(), Fail> {
+fn judges_long_ports(rt: HostRuntime) -> Result<(), AllocError> {
     let digit = each(9, Rule::PortDigit);
     let of_escapes = Run { step: 3, ..digit };
     let of_four = Run {
-        in_each: Some(4),
+        times: 4_000_000,
         ..digit
     };
     judges(
         &rt,
         PORT,
+        None,
         &[
             ("/", &[empty_segment(10)]),
             ("a/", &[once(9, Rule::PortDigit)]),
@@ -241,10 +246,11 @@ fn judges_long_ports(rt: HostRuntime) -> Result<(), Fail> {
 }
 
 #[test]
-fn judges_long_queries(rt: HostRuntime) -> Result<(), Fail> {
+fn judges_long_queries(rt: HostRuntime) -> Result<(), AllocError> {
     judges(
         &rt,
         QUERY,
+        None,
         &[
             ("/", &[]),
             ("a/", &[]),
@@ -260,11 +266,22 @@ fn judges_long_queries(rt: HostRuntime) -> Result<(), Fail> {
     )
 }
 
+// The same of references, whose base has one record by all profiles.
+fn judges_against_base(
+    rt: &(impl Abort + AllocGlobal),
+    rows: &[(&str, &[Run])],
+) -> Result<(), AllocError> {
+    match resolve(rt.alloc(), "http://h/a/b?q", None, Profile::Standard) {
+        Ok(base) => judges(rt, REFERENCE, Some(&base), rows),
+        Err(ResolveFault::Memory(error)) => Err(error),
+        Err(ResolveFault::Refused(_)) => panic!(rt; "the base is refused"),
+    }
+}
+
 #[test]
-fn judges_long_references(rt: HostRuntime) -> Result<(), Fail> {
-    judges(
+fn judges_long_references(rt: HostRuntime) -> Result<(), AllocError> {
+    judges_against_base(
         &rt,
-        REFERENCE,
         &[
             ("/", &[once(2, Rule::HostMissing), empty_segment(3)]),
             ("a/", &[]),
@@ -280,84 +297,30 @@ fn judges_long_references(rt: HostRuntime) -> Result<(), Fail> {
     )
 }
 
-// A text of three pieces, of which the second is repeated, has this fault alone, or none.
+// A unit so often repeated between two texts has this run of faults alone.
 fn judges_one(
     rt: &(impl Abort + AllocGlobal),
     (before, unit, behind): (&str, &str, &str),
     count: usize,
-    wanted: Option<(usize, Rule)>,
-) -> Result<(), Fail> {
-    let mut text = String::from_str(rt.alloc(), before)?;
-    text.push_str(unit.repeat(rt.alloc(), count)?.as_str())?;
-    text.push_str(behind)?;
-    for profile in Profile::in_order() {
-        let found = judged(rt, text.as_str(), None, profile)?;
-        assert!(rt; found.len() <= 1, "of {before}");
-        let first = found.first().map(|refusal| (refusal.place, refusal.rule));
-        assert_eq!(rt; first, wanted, "of {before}");
-    }
+    runs: &[Run],
+) -> Result<(), AllocError> {
+    let text = filled(rt.alloc(), before, unit, count, behind)?;
+    let is_so = has_faults(rt, text.as_str(), None, runs)?;
+    assert!(rt; is_so, "{unit}");
     Ok(())
 }
 
 #[test]
-fn judges_long_texts_written_out(rt: HostRuntime) -> Result<(), Fail> {
-    judges_one(&rt, ("http://h/", "a", ""), COUNT, None)?;
-    judges_one(
-        &rt,
-        ("http://h/", "a", "%"),
-        COUNT,
-        Some((1_000_009, Rule::Percent)),
-    )?;
-    judges_one(&rt, ("http://h:", "0", "80/"), 1_000, None)?;
-    judges_one(
-        &rt,
-        ("http://h:", "0", "65536/"),
-        1_000,
-        Some((9, Rule::PortRange)),
-    )?;
-    judges_one(
-        &rt,
-        ("foo://h:", "9", ""),
-        1_000,
-        Some((8, Rule::PortRange)),
-    )?;
-    judges_one(
-        &rt,
-        ("http://[", ":", "]/"),
-        1_000,
-        Some((7, Rule::HostIpv6)),
-    )?;
-    judges_one(&rt, ("http://h/", "../", ""), 500_000, None)
-}
-
-// Faults behind more than one lane of bytes, at their places in code points.
-#[test]
-fn judges_faults_behind_lanes(rt: HostRuntime) -> Result<(), Fail> {
-    let behind_path = Some((109, Rule::CodePoint));
-    judges_one(&rt, ("http://h/", "a", " "), 100, behind_path)?;
-    let behind_letters = Some((49, Rule::Percent));
-    judges_one(&rt, ("http://h/", "é", "%4"), 40, behind_letters)?;
-    let in_host = Some((70, Rule::HostCodePoint));
-    judges_one(&rt, ("foo://", "a", "^/"), 64, in_host)
-}
-
-// The default port behind many zeros is no port, and many double dots leave one empty segment.
-#[test]
-fn resolves_long_texts_written_out(rt: HostRuntime) -> Result<(), Fail> {
-    let zeros = filled(&rt, PORT, "0", 1_000)?;
-    let mut text = String::from_str(rt.alloc(), zeros.as_str().trim_end_matches('/'))?;
-    text.push_str("80/")?;
-    let url = resolve(rt.alloc(), text.as_str(), None, Profile::Standard)?;
-    assert_eq!(rt; url.port(), None);
-    let text = filled(&rt, PATH, "../", 500_000)?;
-    let url = resolve(rt.alloc(), text.as_str(), None, Profile::Standard)?;
-    match url.path() {
-        UrlPath::Segments(segments) => {
-            let segments = segments.as_slice();
-            assert_eq!(rt; segments.len(), 1);
-            assert!(rt; segments.iter().all(|segment| segment.as_str().is_empty()));
-        }
-        UrlPath::Opaque(_) => return Err("the path is opaque".into()),
-    }
-    Ok(())
+fn judges_long_texts_written_out(rt: HostRuntime) -> Result<(), AllocError> {
+    judges_one(&rt, ("http://h/", "a", ""), COUNT, &[])?;
+    let behind_path = once(1_000_009, Rule::Percent);
+    judges_one(&rt, ("http://h/", "a", "%"), COUNT, &[behind_path])?;
+    judges_one(&rt, ("http://h:", "0", "80/"), 1_000, &[])?;
+    let of_port = once(9, Rule::PortRange);
+    judges_one(&rt, ("http://h:", "0", "65536/"), 1_000, &[of_port])?;
+    let of_nines = once(8, Rule::PortRange);
+    judges_one(&rt, ("foo://h:", "9", ""), 1_000, &[of_nines])?;
+    let of_host = once(7, Rule::HostIpv6);
+    judges_one(&rt, ("http://[", ":", "]/"), 1_000, &[of_host])?;
+    judges_one(&rt, ("http://h/", "../", ""), 500_000, &[])
 }
