@@ -25,7 +25,7 @@ fn holds_both_ends_of_a_range(rt: HostRuntime) {
         (b'd', true),
         (b'e', false),
     ] {
-        assert_eq!(rt; class.has(byte), held);
+        assert!(rt; class.has(byte) == held);
     }
     for byte in [b'y', b'z', 0xE2] {
         assert!(rt; !class.has(byte));
@@ -35,14 +35,14 @@ fn holds_both_ends_of_a_range(rt: HostRuntime) {
 #[test]
 fn counts_the_prefix_in_the_class(rt: HostRuntime) {
     let url = ByteClass::url();
-    assert_eq!(rt; unit_run(b"", &url), 0);
-    assert_eq!(rt; unit_run(b"a/b?c:d@e f", &url), 9);
-    assert_eq!(rt; unit_run(b"~!x", &url), 3);
-    assert_eq!(rt; unit_run("a\u{E9}".as_bytes(), &url), 1);
+    assert!(rt; unit_run(b"", &url) == 0);
+    assert!(rt; unit_run(b"a/b?c:d@e f", &url) == 9);
+    assert!(rt; unit_run(b"~!x", &url) == 3);
+    assert!(rt; unit_run("a\u{E9}".as_bytes(), &url) == 1);
     let host = ByteClass::opaque_host();
-    assert_eq!(rt; unit_run(b"a.b;c=d_e~f:80", &host), 11);
+    assert!(rt; unit_run(b"a.b;c=d_e~f:80", &host) == 11);
     for mark in [b'/', b':', b'?', b'@', b'[', b'%', b'^', b'|'] {
-        assert_eq!(rt; unit_run(&[b'h', mark, b'h'], &host), 1);
+        assert!(rt; unit_run(&[b'h', mark, b'h'], &host) == 1);
     }
 }
 

@@ -1,10 +1,11 @@
 //! Rows of domains. Each expected form is of a source named beside it, never of a run of this code: the test file of
 //! UTS #46 (`IdnaTestV2.txt`, column toAsciiN), a sample of an RFC, or the Unicode charts and the rules by hand.
 
+use crate::plain_names::are_answers;
 use crate::without_memory::take_all;
 use std::alloc::{AllocError, Global};
 use std::process::Abort;
-use uv_host::{DomainAnswer, PlainAnswer, domain, plain_answer};
+use uv_host::{DomainAnswer, domain};
 use uv_model::Profile;
 
 const A63: &str = "aaaaaaaaaaaaaaaaaaaaaaaaaaaaaaaaaaaaaaaaaaaaaaaaaaaaaaaaaaaaaaa";
@@ -282,8 +283,8 @@ fn refuses_by_the_host_parser(rt: HostRuntime) -> Result<(), AllocError> {
 
 #[test]
 fn counts_code_points(rt: HostRuntime) -> Result<(), AllocError> {
-    assert_eq!(rt; (A63.len(), A64.len()), (63, 64));
-    assert_eq!(rt; (LONGEST.len(), LONGER.len()), (253, 254));
+    assert!(rt; A63.len() == 63 && A64.len() == 64);
+    assert!(rt; LONGEST.len() == 253 && LONGER.len() == 254);
     are_forms(
         &rt,
         Profile::Standard,
@@ -299,32 +300,51 @@ fn counts_code_points(rt: HostRuntime) -> Result<(), AllocError> {
 
 #[test]
 fn answers_on_names_without_toascii(rt: HostRuntime) {
-    for (name, profile, answer) in [
-        // UTS #46, section 4.1: hyphens in the third and fourth place, and at an edge of a label
-        ("ab--c", Profile::Standard, Some(PlainAnswer::Not)),
-        ("a.-b", Profile::Standard, Some(PlainAnswer::Not)),
-        ("a-.b", Profile::Standard, Some(PlainAnswer::Not)),
-        ("a--b", Profile::Standard, Some(PlainAnswer::Domain)),
-        ("abc--d", Profile::Standard, Some(PlainAnswer::Domain)),
-        ("ab--c", Profile::Wide, Some(PlainAnswer::Domain)),
-        ("ab--c.1", Profile::Wide, Some(PlainAnswer::Number)),
-        ("-", Profile::Parser, Some(PlainAnswer::Domain)),
-        // the code points of a form by each profile
-        ("a_b", Profile::Standard, None),
-        ("a_b", Profile::Wide, Some(PlainAnswer::Domain)),
-        ("a_b.1", Profile::Wide, Some(PlainAnswer::Number)),
-        ("a..b_", Profile::Wide, Some(PlainAnswer::Not)),
-        ("a..b_", Profile::Parser, Some(PlainAnswer::Domain)),
-        ("a+b", Profile::Wide, None),
-        ("a+b", Profile::Parser, Some(PlainAnswer::Domain)),
-        // what ToASCII has to be asked for
-        ("Ab--c", Profile::Standard, None),
-        ("xn--a.ab--c", Profile::Standard, None),
-        ("a.xn--bcher-kva", Profile::Wide, None),
-        ("\u{E9}", Profile::Parser, None),
-    ] {
-        assert!(rt; plain_answer(name, profile) == answer, "{name}");
-    }
+    are_answers(
+        &rt,
+        Profile::Standard,
+        &[
+            // UTS #46, section 4.1: hyphens in the third and fourth place, and at an edge of a label
+            ("ab--c", "not"),
+            ("a.-b", "not"),
+            ("a-.b", "not"),
+            ("a--b", "domain"),
+            ("abc--d", "domain"),
+            // the code points of a form
+            ("a_b", "unknown"),
+            // what ToASCII has to be asked for
+            ("Ab--c", "unknown"),
+            ("xn--a.ab--c", "unknown"),
+        ],
+    );
+}
+
+// The same by the wider profiles.
+#[test]
+fn answers_on_more_names_without_toascii(rt: HostRuntime) {
+    are_answers(
+        &rt,
+        Profile::Wide,
+        &[
+            ("ab--c", "domain"),
+            ("ab--c.1", "number"),
+            ("a_b", "domain"),
+            ("a_b.1", "number"),
+            ("a..b_", "not"),
+            ("a+b", "unknown"),
+            ("a.xn--bcher-kva", "unknown"),
+        ],
+    );
+    are_answers(
+        &rt,
+        Profile::Parser,
+        &[
+            ("-", "domain"),
+            ("a..b_", "domain"),
+            ("a+b", "domain"),
+            ("\u{E9}", "unknown"),
+        ],
+    );
 }
 
 // What is seen while there is no memory: whether a text has a form, and whether two that have none are refused.
@@ -355,32 +375,34 @@ fn refuses_without_memory(rt: HostRuntime) -> Result<(), AllocError> {
 // root's full stop, at the end in a number, and at the lengths of a label and of a domain.
 #[test]
 fn answers_on_names_with_low_lines(rt: HostRuntime) {
-    for (name, wanted) in [
-        ("_a.b", Some(PlainAnswer::Domain)),
-        ("a_.b", Some(PlainAnswer::Domain)),
-        ("a._", Some(PlainAnswer::Domain)),
-        ("a_b.example.", Some(PlainAnswer::Domain)),
-        ("a_b-c.d-e", Some(PlainAnswer::Domain)),
-        ("a_-.b", Some(PlainAnswer::Domain)),
-        ("-_", Some(PlainAnswer::Domain)),
-        ("a_b.1", Some(PlainAnswer::Number)),
-        ("a_b.1.", Some(PlainAnswer::Number)),
-        ("a_b.0x", Some(PlainAnswer::Number)),
-        ("a_b.0x1f", Some(PlainAnswer::Number)),
-        ("a.1_", Some(PlainAnswer::Domain)),
-        ("a_b.0x_", Some(PlainAnswer::Domain)),
-        ("a_..b", Some(PlainAnswer::Not)),
-        ("._", Some(PlainAnswer::Not)),
-        ("_..", Some(PlainAnswer::Not)),
-        ("A_b.c", None),
-        ("xn--a_b.c", None),
-        ("a_b.xn--c", None),
-        (A63, Some(PlainAnswer::Domain)),
-        (A64, Some(PlainAnswer::Not)),
-        (LONGEST, Some(PlainAnswer::Domain)),
-        (LONGEST_ROOTED, Some(PlainAnswer::Domain)),
-        (LONGER, Some(PlainAnswer::Not)),
-    ] {
-        assert!(rt; plain_answer(name, Profile::Wide) == wanted, "{name}");
-    }
+    are_answers(
+        &rt,
+        Profile::Wide,
+        &[
+            ("_a.b", "domain"),
+            ("a_.b", "domain"),
+            ("a._", "domain"),
+            ("a_b.example.", "domain"),
+            ("a_b-c.d-e", "domain"),
+            ("a_-.b", "domain"),
+            ("-_", "domain"),
+            ("a_b.1", "number"),
+            ("a_b.1.", "number"),
+            ("a_b.0x", "number"),
+            ("a_b.0x1f", "number"),
+            ("a.1_", "domain"),
+            ("a_b.0x_", "domain"),
+            ("a_..b", "not"),
+            ("._", "not"),
+            ("_..", "not"),
+            ("A_b.c", "unknown"),
+            ("xn--a_b.c", "unknown"),
+            ("a_b.xn--c", "unknown"),
+            (A63, "domain"),
+            (A64, "not"),
+            (LONGEST, "domain"),
+            (LONGEST_ROOTED, "domain"),
+            (LONGER, "not"),
+        ],
+    );
 }

@@ -3,93 +3,127 @@
 use crate::repeated::repeated_before;
 use std::alloc::{AllocError, Global};
 use std::process::Abort;
-use uv_host::{PlainAnswer, is_plain_wide_domain, name_prefix, plain_answer, wide_name_prefix};
+use uv_host::{PlainAnswer, name_prefix, plain_answer, wide_name_prefix};
 use uv_model::Profile;
 use uv_text::Tail;
 
+// The end of a text that has no such name.
+const NONE: usize = usize::MAX;
+
+// Where a name ends at the start of a text.
+fn name_end(text: &str) -> usize {
+    name_prefix(&Tail::of(text)).unwrap_or(NONE)
+}
+
+// The same by the wide profile.
+fn wide_end(text: &str) -> usize {
+    wide_name_prefix(&Tail::of(text)).unwrap_or(NONE)
+}
+
+// In each text of the table a name ends there.
+fn end_at(rt: &impl Abort, rows: &[(&str, usize)]) {
+    for (text, end) in rows {
+        assert!(rt; name_end(*text) == *end, "{text}");
+    }
+}
+
+// The same by the wide profile.
+fn wide_end_at(rt: &impl Abort, rows: &[(&str, usize)]) {
+    for (text, end) in rows {
+        assert!(rt; wide_end(*text) == *end, "{text}");
+    }
+}
+
 #[test]
 fn ends_behind_a_letter_or_a_digit(rt: HostRuntime) {
-    for (text, end) in [
-        ("example.com/", 11),
-        ("a-b.c", 5),
-        ("example.com./", 12),
-        ("a.", 2),
-        ("a..b", 2),
-        ("3d.x1:80", 5),
-        ("a_b", 1),
-    ] {
-        assert_eq!(rt; name_prefix(&Tail::of(text)), Some(end), "of {text}");
-    }
-    for text in ["", ".", ".a", "a-/", "a-.b", "-a", "Ab"] {
-        assert_eq!(rt; name_prefix(&Tail::of(text)), None, "of {text}");
-    }
+    end_at(
+        &rt,
+        &[
+            ("example.com/", 11),
+            ("a-b.c", 5),
+            ("example.com./", 12),
+            ("a.", 2),
+            ("a..b", 2),
+            ("3d.x1:80", 5),
+            ("a_b", 1),
+            ("", NONE),
+            (".", NONE),
+            (".a", NONE),
+            ("a-/", NONE),
+            ("a-.b", NONE),
+            ("-a", NONE),
+            ("Ab", NONE),
+        ],
+    );
 }
 
 // By the wide profile a low line counts as a letter, and all else is as it is by the others.
 #[test]
 fn goes_on_behind_a_low_line(rt: HostRuntime) {
-    for (text, end) in [
-        ("example.com/", 11),
-        ("a_b", 3),
-        ("_dmarc.example.com/", 18),
-        ("_", 1),
-        ("a._.b:80", 5),
-        ("a_-_b", 5),
-        ("a_.", 3),
-        ("a_..b", 3),
-    ] {
-        assert_eq!(rt; wide_name_prefix(&Tail::of(text)), Some(end), "of {text}");
+    wide_end_at(
+        &rt,
+        &[
+            ("example.com/", 11),
+            ("a_b", 3),
+            ("_dmarc.example.com/", 18),
+            ("_", 1),
+            ("a._.b:80", 5),
+            ("a_-_b", 5),
+            ("a_.", 3),
+            ("a_..b", 3),
+            ("", NONE),
+            (".", NONE),
+            (".a", NONE),
+            ("_-/", NONE),
+            ("a-._", NONE),
+            ("-_", NONE),
+            ("A_", NONE),
+        ],
+    );
+}
+
+// Behind letters of each length, a name ends so many bytes behind the letters, or nowhere; the same by the wide profile.
+fn ends_behind_letters(
+    rt: &(impl Abort + AllocGlobal),
+    behind: &str,
+    more: usize,
+    wide: usize,
+) -> Result<(), AllocError> {
+    for length in 1..70usize {
+        let text = repeated_before(rt.alloc(), "a", length, behind)?;
+        assert!(rt;
+            name_end(text.as_str()) == length.saturating_add(more),
+            "{behind}"
+        );
+        assert!(rt;
+            wide_end(text.as_str()) == length.saturating_add(wide),
+            "{behind}"
+        );
     }
-    for text in ["", ".", ".a", "_-/", "a-._", "-_", "A_"] {
-        assert_eq!(rt; wide_name_prefix(&Tail::of(text)), None, "of {text}");
-    }
+    Ok(())
 }
 
 #[test]
 fn ends_alike_at_each_length(rt: HostRuntime) -> Result<(), AllocError> {
-    for length in 1..70usize {
-        for (behind, end) in [
-            ("/", Some(length)),
-            (".com/a", Some(length + 4)),
-            ("-b:80", Some(length + 2)),
-            ("./", Some(length + 1)),
-            ("..b", Some(length + 1)),
-            (".-b", Some(length + 1)),
-            ("--b", None),
-            ("-.b", None),
-            ("-", None),
-        ] {
-            let text = repeated_before(rt.alloc(), "a", length, behind)?;
-            let text = Tail::of(text.as_str());
-            assert_eq!(rt; name_prefix(&text), end, "of {length} before {behind}");
-            assert_eq!(rt; wide_name_prefix(&text), end, "of {length} before {behind}");
-        }
-    }
-    Ok(())
+    ends_behind_letters(&rt, "/", 0, 0)?;
+    ends_behind_letters(&rt, ".com/a", 4, 4)?;
+    ends_behind_letters(&rt, "-b:80", 2, 2)?;
+    ends_behind_letters(&rt, "./", 1, 1)?;
+    ends_behind_letters(&rt, "..b", 1, 1)?;
+    ends_behind_letters(&rt, ".-b", 1, 1)?;
+    ends_behind_letters(&rt, "--b", NONE, NONE)?;
+    ends_behind_letters(&rt, "-.b", NONE, NONE)?;
+    ends_behind_letters(&rt, "-", NONE, NONE)
 }
 
 #[test]
 fn ends_a_name_with_low_lines_alike_at_each_length(rt: HostRuntime) -> Result<(), AllocError> {
-    for length in 1..70usize {
-        for (behind, end, wide) in [
-            ("_/", Some(length), Some(length + 1)),
-            ("_.com/a", Some(length), Some(length + 5)),
-            ("-_:80", None, Some(length + 2)),
-            ("._./", Some(length + 1), Some(length + 3)),
-            ("_--b", Some(length), None),
-            ("_A", Some(length), Some(length + 1)),
-        ] {
-            let text = repeated_before(rt.alloc(), "a", length, behind)?;
-            let text = Tail::of(text.as_str());
-            assert_eq!(rt; name_prefix(&text), end, "of {length} before {behind}");
-            assert_eq!(rt;
-                wide_name_prefix(&text),
-                wide,
-                "of {length} before {behind}"
-            );
-        }
-    }
-    Ok(())
+    ends_behind_letters(&rt, "_/", 0, 1)?;
+    ends_behind_letters(&rt, "_.com/a", 0, 5)?;
+    ends_behind_letters(&rt, "-_:80", NONE, 2)?;
+    ends_behind_letters(&rt, "._./", 1, 3)?;
+    ends_behind_letters(&rt, "_--b", 0, NONE)?;
+    ends_behind_letters(&rt, "_A", 0, 1)
 }
 
 // What a name of so many bytes is, of which all are `a` but the one at a place: by hand from the URL Standard, section
@@ -155,22 +189,41 @@ fn answers_on_each_byte_at_each_place(rt: HostRuntime) -> Result<(), AllocError>
     Ok(())
 }
 
+// What is said of a name without ToASCII, which has to be asked of one that is unknown.
+fn answer_name(name: &str, profile: Profile) -> &'static str {
+    match plain_answer(name, profile) {
+        Some(PlainAnswer::Domain) => "domain",
+        Some(PlainAnswer::Number) => "number",
+        Some(PlainAnswer::Not) => "not",
+        None => "unknown",
+    }
+}
+
+/// The answer on each name of the table, without ToASCII, by the profile.
+pub(crate) fn are_answers(rt: &impl Abort, profile: Profile, rows: &[(&str, &str)]) {
+    for (name, answer) in rows {
+        assert!(rt; answer_name(*name, profile) == *answer, "{name}");
+    }
+}
+
 // Hyphens at an edge of a label, in its third and fourth place, and `xn--`, of which ToASCII has to be asked.
 #[test]
 fn reads_the_hyphens_of_labels(rt: HostRuntime) {
-    for (name, answer) in [
-        ("a", Some(PlainAnswer::Domain)),
-        ("a-b.c", Some(PlainAnswer::Domain)),
-        ("a--b", Some(PlainAnswer::Domain)),
-        ("ab--c", Some(PlainAnswer::Not)),
-        ("-a", Some(PlainAnswer::Not)),
-        ("a-.b", Some(PlainAnswer::Not)),
-        ("xn--a", None),
-        ("a.xn--b", None),
-        ("axn--b", Some(PlainAnswer::Domain)),
-        ("xn-a", Some(PlainAnswer::Domain)),
-        ("\u{E9}", None),
-    ] {
-        assert!(rt; plain_answer(name, Profile::Standard) == answer, "{name}");
-    }
+    are_answers(
+        &rt,
+        Profile::Standard,
+        &[
+            ("a", "domain"),
+            ("a-b.c", "domain"),
+            ("a--b", "domain"),
+            ("ab--c", "not"),
+            ("-a", "not"),
+            ("a-.b", "not"),
+            ("xn--a", "unknown"),
+            ("a.xn--b", "unknown"),
+            ("axn--b", "domain"),
+            ("xn-a", "domain"),
+            ("\u{E9}", "unknown"),
+        ],
+    );
 }

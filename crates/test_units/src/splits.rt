@@ -43,14 +43,24 @@ const ENDINGS: [(&str, &str); 14] = [
     ("\u{E9}%41\u{E9}^", "^"),
 ];
 
-// A text of so many times each, and an ending.
-fn joined(alloc: Global, units: [(&str, usize); 3], ending: &str) -> Result<String, AllocError> {
-    let mut text = String::new(alloc);
-    for (unit, count) in units {
-        for _ in 0..count {
-            text.push_str(unit)?;
-        }
+// Writes a unit so often behind a text.
+fn push_times(text: &mut String, unit: &str, count: usize) -> Result<(), AllocError> {
+    for _ in 0..count {
+        text.push_str(unit)?;
     }
+    Ok(())
+}
+
+// An escape, so many letters, so many escapes, and an ending.
+fn joined(
+    alloc: Global,
+    letters: usize,
+    escapes: usize,
+    ending: &str,
+) -> Result<String, AllocError> {
+    let mut text = String::from_str(alloc, "%2f")?;
+    push_times(&mut text, "a", letters)?;
+    push_times(&mut text, "%E2", escapes)?;
     text.push_str(ending)?;
     Ok(text)
 }
@@ -62,9 +72,8 @@ fn cuts_in_endings(
     letters: usize,
     escapes: usize,
 ) -> Result<(), AllocError> {
-    let before = [("%2f", 1), ("a", letters), ("%E2", escapes)];
     for (ending, left) in ENDINGS {
-        let text = joined(alloc, before, ending)?;
+        let text = joined(alloc, letters, escapes, ending)?;
         let (_, rest) = split_units(text.as_str(), UnitClass::Path);
         assert!(rt; rest == left, "{text}");
     }
@@ -93,13 +102,9 @@ fn cuts_behind_runs_of_escapes(rt: HostRuntime) -> Result<(), AllocError> {
 // So many bytes of a path, `?`, so many of a query, and two that are none.
 fn long_text(alloc: Global, before: usize, behind: usize) -> Result<String, AllocError> {
     let mut text = String::new(alloc);
-    for _ in 0..before {
-        text.push('a')?;
-    }
+    push_times(&mut text, "a", before)?;
     text.push('?')?;
-    for _ in 0..behind {
-        text.push('b')?;
-    }
+    push_times(&mut text, "b", behind)?;
     text.push_str("^?")?;
     Ok(text)
 }

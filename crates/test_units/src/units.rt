@@ -1,8 +1,8 @@
 //! The first fault of a text of units, and percent-encoding, by the URL Standard's sections 1.3 and 4.3.
 
 use crate::repeated::repeated_before;
+use std::alloc::{AllocError, Global};
 use std::process::Abort;
-use std::test::Fail;
 use uv_model::{Refusal, Rule};
 use uv_text::{encode, first_fault};
 
@@ -80,34 +80,35 @@ fn stops_beyond_the_url_code_points(rt: HostRuntime) {
 }
 
 #[test]
-fn counts_the_place_behind_a_long_prefix(rt: HostRuntime) -> Result<(), Fail> {
+fn counts_the_place_behind_a_long_prefix(rt: HostRuntime) -> Result<(), AllocError> {
     let text = repeated_before(rt.alloc(), "a", 100, " ")?;
-    assert_eq!(rt; first_fault(text.as_str()), at(100, Rule::CodePoint));
+    have_faults(&rt, &[(text.as_str(), at(100, Rule::CodePoint))]);
     Ok(())
 }
 
 #[test]
-fn counts_the_place_behind_a_long_prefix_beyond_ascii(rt: HostRuntime) -> Result<(), Fail> {
+fn counts_the_place_behind_a_long_prefix_beyond_ascii(rt: HostRuntime) -> Result<(), AllocError> {
     let text = repeated_before(rt.alloc(), "\u{E9}", 40, "%4")?;
-    assert_eq!(rt; first_fault(text.as_str()), at(40, Rule::Percent));
+    have_faults(&rt, &[(text.as_str(), at(40, Rule::Percent))]);
+    Ok(())
+}
+
+// Whether a text is encoded so, and its quotes too where asked.
+fn is_encoded(alloc: Global, text: &str, quote: bool, wanted: &str) -> Result<bool, AllocError> {
+    let encoded = encode(alloc, text, quote)?;
+    Ok(encoded.as_str() == wanted)
+}
+
+#[test]
+fn encodes_the_quote_where_asked(rt: HostRuntime) -> Result<(), AllocError> {
+    assert!(rt; is_encoded(rt.alloc(), "\u{E9}'", true, "%C3%A9%27")?);
+    assert!(rt; is_encoded(rt.alloc(), "\u{E9}'", false, "%C3%A9'")?);
+    assert!(rt; is_encoded(rt.alloc(), "x='y'", true, "x=%27y%27")?);
     Ok(())
 }
 
 #[test]
-fn encodes_the_quote_where_asked(rt: HostRuntime) -> Result<(), Fail> {
-    for (text, quote, wanted) in [
-        ("\u{E9}'", true, "%C3%A9%27"),
-        ("\u{E9}'", false, "%C3%A9'"),
-        ("x='y'", true, "x=%27y%27"),
-    ] {
-        let encoded = encode(rt.alloc(), text, quote)?;
-        assert_eq!(rt; encoded.as_str(), wanted);
-    }
-    Ok(())
-}
-
-#[test]
-fn encodes_beyond_ascii_and_keeps_all_else(rt: HostRuntime) -> Result<(), Fail> {
+fn encodes_beyond_ascii_and_keeps_all_else(rt: HostRuntime) -> Result<(), AllocError> {
     for (text, wanted) in [
         ("\u{20AC}", "%E2%82%AC"),
         ("\u{10FFFD}", "%F4%8F%BF%BD"),
@@ -115,8 +116,7 @@ fn encodes_beyond_ascii_and_keeps_all_else(rt: HostRuntime) -> Result<(), Fail> 
         ("%e9%E9", "%e9%E9"),
         ("aZ09!$&'()*+,-./:;=?@_~", "aZ09!$&'()*+,-./:;=?@_~"),
     ] {
-        let encoded = encode(rt.alloc(), text, false)?;
-        assert_eq!(rt; encoded.as_str(), wanted);
+        assert!(rt; is_encoded(rt.alloc(), text, false, wanted)?, "{text}");
     }
     Ok(())
 }
