@@ -82,7 +82,7 @@ fn goes_on_behind_a_low_line(rt: HostRuntime) {
     );
 }
 
-// Behind letters of each length, a name ends so many bytes behind the letters, or nowhere; the same by the wide profile.
+// Behind letters of each length a name ends so many bytes behind them or nowhere, and by the wide profile so many.
 fn ends_behind_letters(
     rt: &(impl Abort + AllocGlobal),
     behind: &str,
