@@ -13,42 +13,48 @@ use std::process::Abort;
 
 // What was found is this verdict and rule, at this place in code points and in bytes.
 fn finds(rt: &impl Abort, found: Finding, wanted: (u32, u32, usize, usize)) {
-    assert_eq!(rt; found.verdict, wanted.0);
-    assert_eq!(rt; found.rule, wanted.1);
-    assert_eq!(rt; found.place, wanted.2);
-    assert_eq!(rt; found.byte_place, wanted.3);
+    assert!(rt; found.verdict == wanted.0);
+    assert!(rt; found.rule == wanted.1);
+    assert!(rt; found.place == wanted.2);
+    assert!(rt; found.byte_place == wanted.3);
 }
 
-// A part begins here and is so long, or it is absent.
-fn stands(rt: &impl Abort, part: Span, wanted: Option<(usize, usize)>) {
-    assert_eq!(rt; part.present, u64::from(wanted.is_some()));
-    let (start, length) = wanted.unwrap_or((0, 0));
-    assert_eq!(rt; part.start, start);
-    assert_eq!(rt; part.length, length);
+// A part begins here and is so long.
+fn stands(rt: &impl Abort, part: Span, start: usize, length: usize) {
+    assert!(rt; part.present == 1);
+    assert!(rt; part.start == start);
+    assert!(rt; part.length == length);
+}
+
+// A part is absent.
+fn is_absent(rt: &impl Abort, part: Span) {
+    assert!(rt; part.present == 0);
+    assert!(rt; part.start == 0);
+    assert!(rt; part.length == 0);
 }
 
 #[test]
 fn lays_out_the_parts_in_bytes(rt: HostRuntime) {
     let parts = urlcheck_check(rt.alloc(), "http://h/\u{e9}?q#f".as_bytes(), 0).parts;
-    stands(&rt, parts.scheme, Some((0, 4)));
-    stands(&rt, parts.host, Some((7, 1)));
-    stands(&rt, parts.port, None);
-    stands(&rt, parts.path, Some((8, 3)));
-    stands(&rt, parts.query, Some((12, 1)));
-    stands(&rt, parts.fragment, Some((14, 1)));
+    stands(&rt, parts.scheme, 0, 4);
+    stands(&rt, parts.host, 7, 1);
+    is_absent(&rt, parts.port);
+    stands(&rt, parts.path, 8, 3);
+    stands(&rt, parts.query, 12, 1);
+    stands(&rt, parts.fragment, 14, 1);
 }
 
 #[test]
 fn lays_out_empty_parts(rt: HostRuntime) {
     let parts = urlcheck_check(rt.alloc(), b"http://h:?#", 0).parts;
-    stands(&rt, parts.port, Some((9, 0)));
-    stands(&rt, parts.path, Some((9, 0)));
-    stands(&rt, parts.query, Some((10, 0)));
-    stands(&rt, parts.fragment, Some((11, 0)));
+    stands(&rt, parts.port, 9, 0);
+    stands(&rt, parts.path, 9, 0);
+    stands(&rt, parts.query, 10, 0);
+    stands(&rt, parts.fragment, 11, 0);
     let parts = urlcheck_check(rt.alloc(), b"file:///a", 0).parts;
-    stands(&rt, parts.host, Some((7, 0)));
-    stands(&rt, parts.path, Some((7, 2)));
-    stands(&rt, parts.query, None);
+    stands(&rt, parts.host, 7, 0);
+    stands(&rt, parts.path, 7, 2);
+    is_absent(&rt, parts.query);
 }
 
 #[test]
@@ -81,39 +87,40 @@ fn refuses_at_a_place_in_code_points_and_in_bytes(rt: HostRuntime) {
     );
 }
 
+// A text is refused so up to the profile of this number, which takes it as the wider ones do.
+fn is_taken_from(
+    rt: &(impl Abort + AllocGlobal),
+    text: &[u8],
+    first: u32,
+    refused: (u32, u32, usize, usize),
+) {
+    for profile in 0..3 {
+        let found = urlcheck_check(rt.alloc(), text, profile).found;
+        if profile < first {
+            finds(rt, found, refused);
+        } else {
+            finds(rt, found, (0, 0, 0, 0));
+        }
+    }
+}
+
 // What each profile with a number of its own takes, the wider ones too.
 #[test]
 fn judges_by_each_profile(rt: HostRuntime) {
-    let rows: [(&[u8], (u32, u32, usize, usize), u32); 5] = [
-        (b"http://x_y/", (1, 5, 7, 7), 1),
-        (b"http://1.2.3/", (1, 6, 7, 7), 2),
-        (b"http://a%2Db/", (1, 5, 7, 7), 2),
-        (b"file://", (1, 4, 7, 7), 2),
-        (b"urn:a b", (1, 13, 5, 5), 2),
-    ];
-    for (text, refused, first) in rows {
-        for profile in 0..3 {
-            let wanted = if profile < first {
-                refused
-            } else {
-                (0, 0, 0, 0)
-            };
-            finds(&rt, urlcheck_check(rt.alloc(), text, profile).found, wanted);
-        }
-    }
-    finds(
-        &rt,
-        urlcheck_check(rt.alloc(), b"http://xn--a/", 2).found,
-        (1, 5, 7, 7),
-    );
+    is_taken_from(&rt, b"http://x_y/", 1, (1, 5, 7, 7));
+    is_taken_from(&rt, b"http://1.2.3/", 2, (1, 6, 7, 7));
+    is_taken_from(&rt, b"http://a%2Db/", 2, (1, 5, 7, 7));
+    is_taken_from(&rt, b"file://", 2, (1, 4, 7, 7));
+    is_taken_from(&rt, b"urn:a b", 2, (1, 13, 5, 5));
+    is_taken_from(&rt, b"http://xn--a/", 3, (1, 5, 7, 7));
 }
 
 // The parts of a text by the parser's profile are texts of it, and its record has what they denote.
 #[test]
 fn writes_a_record_of_the_parsers_profile(rt: HostRuntime) {
     let parts = urlcheck_check(rt.alloc(), b"http://%31.2/a", 2).parts;
-    stands(&rt, parts.host, Some((7, 5)));
-    stands(&rt, parts.path, Some((12, 2)));
+    stands(&rt, parts.host, 7, 5);
+    stands(&rt, parts.path, 12, 2);
     let mut out = [b'.'; 18];
     let full = urlcheck_resolve(rt.alloc(), b"http://%31.2/a", 2, &mut out);
     finds(&rt, full.found, (0, 0, 0, 0));
@@ -153,19 +160,22 @@ fn finds_with(
         urlcheck_check_with(rt.alloc(), text, base).found,
         wanted,
     );
-    assert_eq!(rt;
-        urlcheck_is_valid_with(rt.alloc(), text, base),
-        wanted.0 == 0
-    );
+    let is_valid = urlcheck_is_valid_with(rt.alloc(), text, base);
+    assert!(rt; is_valid == (wanted.0 == 0));
+}
+
+// A base that is held has these numbers of a profile and of a scheme, and neither an opaque path nor an empty host.
+fn is_held(rt: &impl Abort, base: &Base, profile: u32, scheme: u32) {
+    assert!(rt; base.profile == profile);
+    assert!(rt; base.scheme == scheme);
+    assert!(rt; base.opaque_path == 0);
+    assert!(rt; base.empty_host == 0);
 }
 
 #[test]
 fn judges_against_a_base_that_is_held(rt: HostRuntime) {
     let wide = urlcheck_prepare(rt.alloc(), b"ws://h/a", 1);
-    assert_eq!(rt;
-        (wide.profile, wide.scheme, wide.opaque_path, wide.empty_host),
-        (1, 2, 0, 0)
-    );
+    is_held(&rt, &wide, 1, 2);
     finds_with(&rt, &wide, b"//x_:80/b", (0, 0, 0, 0));
     finds_with(&rt, &wide, b"a\xff", (2, 0, 1, 1));
     let opaque = urlcheck_prepare(rt.alloc(), b"urn:a", 0);
@@ -176,15 +186,7 @@ fn judges_against_a_base_that_is_held(rt: HostRuntime) {
     let local = urlcheck_prepare(rt.alloc(), b"file:///a", 0);
     finds_with(&rt, &local, b"/C:/x", (0, 0, 0, 0));
     let parsers = urlcheck_prepare(rt.alloc(), b"file://h/C:/a", 2);
-    assert_eq!(rt;
-        (
-            parsers.profile,
-            parsers.scheme,
-            parsers.opaque_path,
-            parsers.empty_host
-        ),
-        (2, 4, 0, 0)
-    );
+    is_held(&rt, &parsers, 2, 4);
     finds_with(&rt, &parsers, b"/C:/x", (0, 0, 0, 0));
     finds_with(&rt, &parsers, b"//C:/x", (1, 5, 2, 2));
 }
@@ -222,12 +224,12 @@ fn says_no_more_than_yes_or_no(rt: HostRuntime) {
 fn writes_a_record_where_it_fits(rt: HostRuntime) {
     let mut out = [b'.'; 12];
     let short = urlcheck_resolve(rt.alloc(), b"HTTP://h", 0, &mut out[..8]);
-    assert_eq!(rt; short.length, 9);
-    assert_eq!(rt; out[0], b'.');
+    assert!(rt; short.length == 9);
+    assert!(rt; out[0] == b'.');
     let text = b"../x";
     let full = urlcheck_resolve_against(rt.alloc(), text, b"http://h/a/b", 0, &mut out);
     finds(&rt, full.found, (0, 0, 0, 0));
-    assert_eq!(rt; full.length, 10);
+    assert!(rt; full.length == 10);
     assert!(rt; out[..] == b"http://h/x.."[..]);
 }
 
@@ -236,18 +238,18 @@ fn writes_a_mended_text_where_it_fits(rt: HostRuntime) {
     let mut out = [b'.'; 14];
     let short = urlcheck_mend(rt.alloc(), b"http://h/a b", 0, &mut out[..13]);
     finds(&rt, short.found, (8, 0, 0, 0));
-    assert_eq!(rt; short.length, 14);
-    assert_eq!(rt; out[0], b'.');
+    assert!(rt; short.length == 14);
+    assert!(rt; out[0] == b'.');
     let full = urlcheck_mend(rt.alloc(), b"http://h/a b", 0, &mut out);
-    assert_eq!(rt; full.kind, 1);
+    assert!(rt; full.kind == 1);
     assert!(rt; out[..] == b"http://h/a%20b"[..]);
     let text = b"a b";
     let against = urlcheck_mend_against(rt.alloc(), text, b"http://h/", 0, &mut out);
     finds(&rt, against.found, (8, 0, 0, 0));
-    assert_eq!(rt; against.length, 5);
+    assert!(rt; against.length == 5);
     let valid = urlcheck_mend(rt.alloc(), b"http://h/", 0, &mut out);
     finds(&rt, valid.found, (0, 0, 0, 0));
-    assert_eq!(rt; (valid.kind, valid.length), (0, 0));
+    assert!(rt; valid.kind == 0 && valid.length == 0);
     let none = urlcheck_mend(rt.alloc(), b"a", 0, &mut out);
     finds(&rt, none.found, (1, 1, 0, 0));
 }
@@ -267,22 +269,20 @@ fn writes_as_many_faults_as_fit(rt: HostRuntime) {
         &mut out[..2],
     );
     finds(&rt, answer.found, (1, 5, 7, 7));
-    assert_eq!(rt; answer.count, 4);
-    assert_eq!(rt; out[1].rule, 13);
-    assert_eq!(rt; out[1].place, 12);
-    assert_eq!(rt; out[1].byte_place, 13);
-    assert_eq!(rt; out[2].rule, 0);
-    assert_eq!(rt;
-        urlcheck_faults_against(rt.alloc(), b"x", b"http://h/", 1, &mut out).count,
-        0
-    );
+    assert!(rt; answer.count == 4);
+    assert!(rt; out[1].rule == 13);
+    assert!(rt; out[1].place == 12);
+    assert!(rt; out[1].byte_place == 13);
+    assert!(rt; out[2].rule == 0);
+    let against = urlcheck_faults_against(rt.alloc(), b"x", b"http://h/", 1, &mut out);
+    assert!(rt; against.count == 0);
 }
 
 #[test]
 fn names_rules(rt: HostRuntime) {
     let mut out = [b'.'; 8];
-    assert_eq!(rt; urlcheck_rule_name(14, &mut out), 7);
+    assert!(rt; urlcheck_rule_name(14, &mut out) == 7);
     assert!(rt; out[..] == b"percent."[..]);
-    assert_eq!(rt; urlcheck_rule_name(15, &mut out), 0);
-    assert_eq!(rt; urlcheck_rule_sentence(14, &mut out), 36);
+    assert!(rt; urlcheck_rule_name(15, &mut out) == 0);
+    assert!(rt; urlcheck_rule_sentence(14, &mut out) == 36);
 }
