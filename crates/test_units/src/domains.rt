@@ -371,8 +371,8 @@ fn refuses_without_memory(rt: HostRuntime) -> Result<(), AllocError> {
     Ok(())
 }
 
-// By the wide profile without ToASCII, by hand: lower case with `_`, at each place of a label and of the whole, with the
-// root's full stop, at the end in a number, and at the lengths of a label and of a domain.
+// By the wide profile without ToASCII, by hand: lower case with `_`, at each place of a label and of the whole, with
+// the root's full stop, at the end in a number, and at the lengths of a label and of a domain.
 #[test]
 fn answers_on_names_with_low_lines(rt: HostRuntime) {
     are_answers(

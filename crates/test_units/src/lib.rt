@@ -1,6 +1,6 @@
-//! Tests of units and of hosts: how `uv_text` cuts texts and what it finds in their units, and how `uv_host` reads hosts.
-//! They stand above these crates, so that none of them is proved twice. Texts that repeat a piece are made by one function
-//! that is proved.
+//! Tests of units and of hosts: how `uv_text` cuts texts and what it finds in their units, and how `uv_host` reads
+//! hosts. They stand above these crates, so that none of them is proved twice. Texts that repeat a piece are made by
+//! one function that is proved.
 #![tactic(auto)]
 
 #[cfg(test)]
