@@ -1,5 +1,6 @@
 # What `check` writes of texts written out, as the URL Standard's section 4.3 and docs/DECISIONS.md give it. Each expected
-# line is worked out by hand from these.
+# line is worked out by hand from these. The texts that are refused are those of `vectors/`, with which runs/library.sh
+# compares what `check` writes of them.
 
 # says WORD.. : a run of `check` with these words and the text of each row of standard input writes the lines of that row,
 # `TEXT => LINES`, and ends with 0 where the first of them is `valid`, and else with 1. Both are read with escapes.
@@ -20,18 +21,12 @@ foo:? => valid\nscheme foo\nopaque \nquery \n
 urn:\xc3\xa9?x'y#' => valid\nscheme urn\nopaque %C3%A9\nquery x'y\nfragment '\n
 urn:\xf4\x8f\xbf\xbd => valid\nscheme urn\nopaque %F4%8F%BF%BD\n
 urn:%e9 => valid\nscheme urn\nopaque %e9\n
-urn:a b => refused 5 code-point\n
-urn:%4 => refused 4 percent\n
-urn:\xef\xbf\xbe => refused 4 code-point\n
-urn:\xf4\x8f\xbf\xbe => refused 4 code-point\n
- http://h/ => refused 0 no-scheme\n
 ROWS
 
 # Texts of class Special: hosts, ports, paths, queries and fragments.
 says <<'ROWS'
 https://EXAMPLE.com:443/a/../b?x='y'#\xc3\xa9 => valid\nscheme https\nhost domain example.com\nsegment b\nquery x=%27y%27\nfragment %C3%A9\n
 https://example.com/a//b => valid\nscheme https\nhost domain example.com\nsegment a\nsegment \nsegment b\n
-https://example.com//a => refused 20 first-segment-empty\n
 http://[1:2:3:4:5:6:7::]/ => valid\nscheme http\nhost ipv6 [1:2:3:4:5:6:7:0]\nsegment \n
 http://[::ffff:1.2.3.4]/ => valid\nscheme http\nhost ipv6 [::ffff:102:304]\nsegment \n
 http://192.168.0.1/ => valid\nscheme http\nhost ipv4 192.168.0.1\nsegment \n
@@ -51,34 +46,6 @@ https://b\xc3\xbccher.example/ => valid\nscheme https\nhost domain xn--bcher-kva
 http://example.com./ => valid\nscheme http\nhost domain example.com.\nsegment \n
 ROWS
 
-# Refusals in class Special: the first wrong place and there the least rule.
-says <<'ROWS'
-http://1.2.3/ => refused 7 host-number\n
-http://\xef\xbc\x91.2.3.4/ => refused 7 host-number\n
-http://user@example.com/ => refused 7 host-domain\n
-http://user:pw@h/ => refused 12 port-digit\n
-http://[1:2:3:4:5:6:7:8::]/ => refused 7 host-ipv6\n
-http://[::1]x/ => refused 7 host-ipv6\n
-http://[::1/ => refused 7 host-ipv6\n
-http://::1]/ => refused 7 host-missing\n
-http://256.0.0.1/ => refused 7 host-number\n
-http://h:65536/ => refused 9 port-range\n
-http://h:8a/ => refused 10 port-digit\n
-http => refused 0 no-scheme\n
-http: => refused 5 two-slashes\n
-http:/ => refused 6 two-slashes\n
-http:// => refused 7 host-missing\n
-http://h/%4?a => refused 9 percent\n
-http://h/?\xef\xbf\xbe => refused 10 code-point\n
-http://h/#a#b => refused 11 code-point\n
-http://\xc2\xad/ => refused 7 host-domain\n
-http://a..b/ => refused 7 host-domain\n
-http://-a/ => refused 7 host-domain\n
-http://a=\xcc\xb8/ => refused 7 host-domain\n
-http://a..1/ => refused 7 host-domain\n
-http://1.2.3.4./ => refused 7 host-number\n
-ROWS
-
 # A label of 63 code points is one of a domain, and one of 64 isn't.
 label=$(printf 'a%.0s' {1..63})
 expect 0 "valid\nscheme http\nhost domain $label\nsegment \n" '' check "http://$label/"
@@ -92,8 +59,6 @@ foo://192.168.0.1/ => valid\nscheme foo\nhost opaque 192.168.0.1\nsegment \n
 foo://u%40h:80/a/ => valid\nscheme foo\nhost opaque u%40h\nport 80\nsegment a\nsegment \n
 foo:// => valid\nscheme foo\nhost empty\n
 foo:/.//a => valid\nscheme foo\nsegment \nsegment a\n
-foo://:80 => refused 6 host-missing\n
-foo://u@h/ => refused 7 host-code-point\n
 ROWS
 
 # Texts of class File: hosts, empty hosts and drive letters.
@@ -106,13 +71,6 @@ file://h => valid\nscheme file\nhost domain h\nsegment \n
 file://h?q => valid\nscheme file\nhost domain h\nsegment \nquery q\n
 file:///C:/../.. => valid\nscheme file\nhost empty\nsegment C:\nsegment \n
 file:///c%3A/.. => valid\nscheme file\nhost empty\nsegment \n
-file:// => refused 7 host-missing\n
-file:/x => refused 6 two-slashes\n
-file://h/C:/x => refused 8 drive-after-host\n
-file:///C|/x => refused 9 code-point\n
-file://C:/x => refused 7 host-domain\n
-file://h/C|/x => refused 8 drive-after-host\n
-file://localhost/C:/x => refused 16 drive-after-host\n
 ROWS
 
 # References against bases of each class.
@@ -125,17 +83,9 @@ C:/x => valid\nscheme c\nsegment x\n
 ../../x => valid\nscheme file\nhost empty\nsegment C:\nsegment x\n
 ///x => valid\nscheme file\nhost empty\nsegment x\n
 //h/x => valid\nscheme file\nhost domain h\nsegment x\n
-// => refused 2 host-missing\n
-C|/x => refused 1 code-point\n
-/D|/x => refused 2 code-point\n
 ROWS
 says --base file://h/a <<'ROWS'
 /b => valid\nscheme file\nhost domain h\nsegment b\n
-file:/C:/x => refused 6 two-slashes\n
-ROWS
-says --base urn:a <<'ROWS'
-x => refused 0 opaque-base\n
- => refused 0 opaque-base\n
 ROWS
 says --base foo:/a <<'ROWS'
 ..//x => valid\nscheme foo\nsegment \nsegment x\n
@@ -154,9 +104,6 @@ says --base http://h/ <<'ROWS'
 a:b => valid\nscheme a\nopaque b\n
 ./a:b => valid\nscheme http\nhost domain h\nsegment a:b\n
 1:b => valid\nscheme http\nhost domain h\nsegment 1:b\n
-// => refused 2 host-missing\n
-///x => refused 2 host-missing\n
-http:x => refused 5 two-slashes\n
 ROWS
 
 # A base that is refused alone is named with its own place and rule, and of many faults with the least.
@@ -214,4 +161,4 @@ foo|h|opaque h
 foo||empty
 foo|[1:2::8]|ipv6 [1:2::8]
 ROWS
-all_cases 181
+all_cases 133

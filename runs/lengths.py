@@ -166,7 +166,7 @@ def answered(program, words, room, listed):
 
 
 def wanted_links(listed):
-    """The report of `links`. An empty text is none of its lines' links, but a valid reference where there is a base."""
+    """The report of `links` on a list."""
     good = sum(not case.faults for case in listed)
     for number, case in enumerate(listed, start=1):
         yield "{} bad {} {}".format(number, *case.faults[0]) if case.faults else "{} ok {}".format(number, case.url)

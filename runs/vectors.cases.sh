@@ -8,8 +8,8 @@ expect 0 'vectors 3781 pass 3781 fail 0\n' '' vectors "$vectors/uts46.json"
 # vector_file TEXT : a file in the room that has this text, read with escapes
 vector_file() { printf '%b' "$1" >"$room/vectors.json"; }
 
-# What is said of a case that is malformed.
-case='urlcheck: a case has "input", and either "text" or both "place" and "rule"; it may have "base" and "profile", and has no other key\n'
+# What is said of the keys of a case before one that is malformed.
+keys='urlcheck: a case has "input", and either "text" or both "place" and "rule"; it may have "base" and "profile", and has no other key\n'
 
 # The cases that fail are named, and a case that is malformed keeps all others from being judged.
 vector_file '[{"input":"urn:a","text":"urn:a"},{"input":"x","place":0,"rule":"no-scheme"},{"input":"http://h:65536/","text":"http://h/"}]'
@@ -17,7 +17,7 @@ expect 1 'fail 3\nvectors 3 pass 2 fail 1\n' '' vectors vectors.json
 vector_file '[]'
 expect 0 'vectors 0 pass 0 fail 0\n' '' vectors vectors.json
 vector_file '[{"input":"urn:a","text":"x"},{"input":"x","place":-1,"rule":"no-scheme"},{"input":"x"}]'
-expect 2 '' "${case}vector 2 malformed\\n" vectors vectors.json
+expect 2 '' "${keys}vector 2 malformed\\n" vectors vectors.json
 
 # The profile that a case names judges it, and a name that no profile has makes the case malformed.
 vector_file '[{"input":"http://x_y/","profile":"wide","text":"http://x_y/"},{"input":"http://x_y/","place":7,"rule":"host-domain"}]'
@@ -25,7 +25,7 @@ expect 0 'vectors 2 pass 2 fail 0\n' '' vectors vectors.json
 vector_file '[{"input":"http://1.2/","profile":"parser","text":"http://1.0.0.2/"},{"input":"http://1.2/","profile":"wide","text":"http://1.0.0.2/"},{"input":"#f","base":"urn:a b","profile":"parser","text":"urn:a b#f"},{"input":"#f","base":"urn:a b","text":"urn:a b#f"}]'
 expect 1 'fail 2\nfail 4\nvectors 4 pass 2 fail 2\n' '' vectors vectors.json
 vector_file '[{"input":"urn:a","profile":"Wide","text":"urn:a"}]'
-expect 2 '' "${case}vector 1 malformed\\n" vectors vectors.json
+expect 2 '' "${keys}vector 1 malformed\\n" vectors vectors.json
 
 # Cases that fail: against a base that is refused, where `null` is none; with another text, a refusal for a text, another
 # place, another rule; and at a place beyond all texts.
@@ -63,7 +63,7 @@ malformed() {
     shift
     for text in "$@"; do
         vector_file "$text"
-        expect 2 '' "${case}vector $number malformed\\n" vectors vectors.json
+        expect 2 '' "${keys}vector $number malformed\\n" vectors vectors.json
     done
 }
 malformed 1 '[{"input":"a"}]' '[1]' '[[]]'
