@@ -215,7 +215,7 @@ all_and_one p (y ∷ xs) x all one =
     and_from _ _ parts.0 (all_and_one p xs x parts.1 one)
 
 -- it adds an empty label
-labels_root : (name : List ℕ) → labels_of (name ++ full_stop ∷ []) ≡ labels_of name ++ [] ∷ []
+pub labels_root : (name : List ℕ) → labels_of (name ++ full_stop ∷ []) ≡ labels_of name ++ [] ∷ []
 labels_root [] = refl
 labels_root (c ∷ rest) =
     elim (cases_Bool (is_full_stop c)) [
@@ -232,7 +232,7 @@ unfolding passes_hyphens
 empty_passes = refl
 
 -- what is left of a name without it is no longer
-root_parts : (name : List ℕ) → is_full_stop (slice_index name (length name - 1)) ≡ true
+pub root_parts : (name : List ℕ) → is_full_stop (slice_index name (length name - 1)) ≡ true
     → name ≡ take (length name - 1) name ++ full_stop ∷ []
 root_parts [] stop = absurd (false≢true stop)
 root_parts (c ∷ rest) stop =

@@ -1,6 +1,9 @@
 pub mod BracketLemmas
 pub mod ChainLemmas
 pub mod DecodedLemmas
+pub mod FittingFormLemmas
+pub mod LabelCountLemmas
+pub mod LongLabelLemmas
 pub mod LowerLemmas
 pub mod NameBitsLemmas
 pub mod NameKindsLemmas

@@ -24,23 +24,23 @@ use Rattle.idna.proofs.ValidityLemmas.{denies-EMPTY}
 -- ---- a function that may fail, over a list
 
 -- there is a value or none
-cases_Option : {A : Type 0} (o : Option A) → (o ≡ None) ⊎ ((x : A) × (o ≡ Some x))
+pub cases_Option : {A : Type 0} (o : Option A) → (o ≡ None) ⊎ ((x : A) × (o ≡ Some x))
 cases_Option None = inl refl
 cases_Option (Some x) = inr (x, refl)
 
 -- what comes through a filter came before it, and passes
-filtered : {A : Type 0} (test : A → Bool) (o : Option A) (y : A) → option_and_then (if_passes test) o ≡ Some y
+pub filtered : {A : Type 0} (test : A → Bool) (o : Option A) (y : A) → option_and_then (if_passes test) o ≡ Some y
     → (o ≡ Some y) × (test y ≡ true)
 filtered test None y is = absurd (none-some y is)
 filtered test (Some x) y is = let parts = cond_some (test x) x y is in (ap Some parts.1, rw parts.1 at parts.0)
 
 -- where the function fails at the first value, it fails over the list
-each-None : {A B : Type 0} (f : A → Option B) (x : A) (xs : List A) → f x ≡ None → each f (x ∷ xs) ≡ None
+pub each-None : {A B : Type 0} (f : A → Option B) (x : A) (xs : List A) → f x ≡ None → each f (x ∷ xs) ≡ None
 unfolding each
 each-None f x xs none = ap (option_and_then (λ z. option_map (λ ys. z ∷ ys) (each f xs))) none
 
 -- and else the rest decides
-each-Some : {A B : Type 0} (f : A → Option B) (x : A) (xs : List A) (y : B) → f x ≡ Some y
+pub each-Some : {A B : Type 0} (f : A → Option B) (x : A) (xs : List A) (y : B) → f x ≡ Some y
     → each f (x ∷ xs) ≡ option_map (λ ys. y ∷ ys) (each f xs)
 unfolding each
 each-Some f x xs y is = ap (option_and_then (λ z. option_map (λ ys. z ∷ ys) (each f xs))) is

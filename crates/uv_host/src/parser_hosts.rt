@@ -101,8 +101,8 @@ fn taken_form(alloc: Global, decoded: CowSlice<'_, u8>) -> Result<Option<String>
     }
 }
 
-// Whether the bytes are the code points of a form, and ToASCII leaves them as they are. Where the answer is no, that says
-// nothing.
+// Whether the bytes are the code points of a form, and ToASCII leaves them as they are. Where the answer is no, that
+// says nothing.
 fn is_own_form(decoded: &[u8]) -> bool
     ensures ascii { IsTrue result → IsAscii decoded.now }
     ensures own { IsTrue result → taken_form decoded.now ≡ Some decoded.now }
