@@ -27,9 +27,9 @@ fn counts(rt: &impl Abort, columns: Columns, rows: &[(usize, u64)]) {
     }
 }
 
-// The places of a letter, a combining mark (U+0301), a wide code point (U+65E5), a wide one of two UTF-16 code units and
-// four bytes (U+1F600), a tab, a letter and the end, and of some again, each with its column in code points; then in
-// bytes, in UTF-16 code units, and in columns of a screen.
+// The places of a letter, a combining mark (U+0301), a wide code point (U+65E5), a wide one of two UTF-16 code units
+// and four bytes (U+1F600), a tab, a letter and the end, and of some again, each with its column in code points; then
+// in bytes, in UTF-16 code units, and in columns of a screen.
 const CODE_POINTS: [(usize, u64); 11] = [
     (0, 1),
     (1, 2),

@@ -1,6 +1,6 @@
 //! The links that people write, judged at one pass: a special scheme, a plain domain, a port or none, and a path, a
-//! query and a fragment of URL units; against a base of a special scheme also without the scheme. Where only what stands
-//! before the path is so, that is known of the text, and all other texts are judged by their parts.
+//! query and a fragment of URL units; against a base of a special scheme also without the scheme. Where only what
+//! stands before the path is so, that is known of the text, and all other texts are judged by their parts.
 ghost use Rattle.std.specs.Prelude.{◌≡◌, ◌≢◌, ◌++◌, ◌∷◌, ◌<◌, [], ℕ, List, false, true, Option, IfSome, IsTrue};
 ghost use Rattle.std.specs.Prelude.{drop, length};
 ghost use Rattle.std.specs.Char.{is_ascii_digit};

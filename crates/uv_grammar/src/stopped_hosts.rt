@@ -1,5 +1,5 @@
-//! Hosts of special and file URLs at which the URL parser stops before its host parser reads them (URL Standard, section
-//! 4.4): by the parser's profile they are refused. By the other profiles no such text is a host anyway.
+//! Hosts of special and file URLs at which the URL parser stops before its host parser reads them (URL Standard,
+//! section 4.4): by the parser's profile they are refused. By the other profiles no such text is a host anyway.
 ghost use Rattle.std.specs.List.{list_any};
 ghost use Rattle.std.specs.Prelude.{◌≡◌};
 ghost use Rattle.std.specs.Str.{chars};

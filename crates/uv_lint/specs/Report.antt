@@ -26,8 +26,8 @@ use Rattle.uv_lint.specs.Located.{LocatedLink}
 abbrev pub lent : List ℕ → Bor (List ℕ)
 lent text = record { ref_ptr = (0, 0); now = text }
 
--- What stands before the diagnostics of a file. Where lines say where their links stand, each diagnostic is about a file
--- of its own, and this stands before each diagnostic.
+-- What stands before the diagnostics of a file. Where lines say where their links stand, each diagnostic is about a
+-- file of its own, and this stands before each diagnostic.
 abbrev pub list_begin_text : LineForm → Format → List ℕ → List ℕ
 list_begin_text Plain format file = file_begin_text format file
 list_begin_text Located format file = []
@@ -192,8 +192,8 @@ pub record IsReport (setting : FileSetting) (line_bytes : ℕ) (is_first : Bool)
       ++ list_end_text setting.form setting.format)
   pub counts_are : counts ≡ tally (lines_within line_bytes lines) findings
 
--- The text is the report on lines, on the last of which it has only some of the first diagnostics; its end stands behind
--- them. The counts are those of the lines before that.
+-- The text is the report on lines, on the last of which it has only some of the first diagnostics; its end stands
+-- behind them. The counts are those of the lines before that.
 pub record IsReportBegun (setting : FileSetting) (line_bytes : ℕ) (is_first : Bool) (lines : List (List ℕ))
     (text : List ℕ) (counts : LintCounts) : Type 0 where
   pub before : List (List ℕ)

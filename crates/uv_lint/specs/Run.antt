@@ -41,9 +41,9 @@ pub record WroteNothing (old : Option (List ℕ)) (read : List ℕ) (counts : Li
   pub none : counts ≡ none_counted
 
 -- What a fault of a run leaves, when these bytes were read. What was written is the report on some of the first lines
--- with its end, or a prefix of that behind a failed write. Where memory ran out, or a write failed, that report may have
--- only some of the first diagnostics on the last of these lines; each of those is whole, but for the one that a failed
--- write has cut.
+-- with its end, or a prefix of that behind a failed write. Where memory ran out, or a write failed, that report may
+-- have only some of the first diagnostics on the last of these lines; each of those is whole, but for the one that a
+-- failed write has cut.
 abbrev pub Leaves : LintFault → FileSetting → LineLimits → Bool → Option (List ℕ) → List ℕ → Type 0 → LintCounts
     → Option (List ℕ) → Type 0
 Leaves Memory setting limits is_first old read at_end counts new =

@@ -31,10 +31,10 @@ const LINE_LIMITS: LineLimits = LineLimits {
 /// A line ends with LF, and one CR before that is no part of it; a last part without LF is a line where it isn't empty.
 /// A byte order mark at the file's start is no part of the first line, though it is among the bytes that this may have.
 /// Lines are numbered from 1, and an empty line, which is numbered too, isn't judged. A line may have 65,536 bytes, and
-/// 1,000,000,000 lines may come. What is found with the lines that a read has ended is written before the next read, and
-/// sooner where 262,144 bytes or more wait behind a diagnostic. What stands behind the diagnostics is written behind each
-/// fault but one of a write. The writer isn't flushed. The counts are those of the lines that were reported on whole, also
-/// behind a fault. After a fault nothing is tried again, and how far the reader was read is open.
+/// 1,000,000,000 lines may come. What is found with the lines that a read has ended is written before the next read,
+/// and sooner where 262,144 bytes or more wait behind a diagnostic. What stands behind the diagnostics is written
+/// behind each fault but one of a write. The writer isn't flushed. The counts are those of the lines that were reported
+/// on whole, also behind a fault. After a fault nothing is tried again, and how far the reader was read is open.
 pub fn run_lint<R: Source, W: Sink>(
     alloc: Global,
     reader: &mut R,

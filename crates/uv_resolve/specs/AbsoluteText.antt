@@ -1,4 +1,5 @@
--- Absolute texts of special schemes, and the URLs that they denote against any base (URL Standard, sections 4.3 to 4.5).
+-- Absolute texts of special schemes, and the URLs that they denote against any base (URL Standard, sections 4.3 to
+-- 4.5).
 use Rattle.std.specs.Prelude.{◌≡◌, ◌≢◌, ℕ, false, true, List, [], ◌∷◌, ◌++◌, codes, Option, Some, None, option_map}
 use Rattle.uv_model.specs.declared.host.Host.{Host}
 use Rattle.uv_model.specs.declared.scheme.Class.TheVariants.{Other}

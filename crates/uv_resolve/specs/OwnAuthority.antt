@@ -1,4 +1,5 @@
--- References that begin with `//` and stand behind their base's scheme as they are (URL Standard, sections 4.4 and 4.5).
+-- References that begin with `//` and stand behind their base's scheme as they are (URL Standard, sections 4.4 and
+-- 4.5).
 use Rattle.std.specs.Prelude.{◌≡◌, ℕ, true, List}
 use Rattle.std.specs.List.{list_all}
 use Rattle.uv_model.specs.Parts.{Authority, Parts}

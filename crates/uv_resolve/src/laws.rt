@@ -23,8 +23,8 @@ pub fn valid_text_runs_to_its_record(text: &str, base: Option<&Record>, profile:
 }
 
 /// Alone, or against a record as base, a text is valid by the parser's profile exactly where the URL parser runs to its
-/// end with no validation error and no failure, within 3n + 16 steps where the text has n code points, and its record is
-/// the one that the text's parts denote. On each other text the run stops at an error (URL Standard, section 4.4).
+/// end with no validation error and no failure, within 3n + 16 steps where the text has n code points, and its record
+/// is the one that the text's parts denote. On each other text the run stops at an error (URL Standard, section 4.4).
 pub fn parser_decides(text: &str, base: Option<&Record>)
     ensures { IsDecided (option_copied base.entry) (chars text.now) }
 {

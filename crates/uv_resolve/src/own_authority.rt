@@ -1,5 +1,5 @@
-//! References that begin with `//` and whose text stands behind their base's scheme as it is, but perhaps for a `/` at the
-//! end: no record has to be made of them.
+//! References that begin with `//` and whose text stands behind their base's scheme as it is, but perhaps for a `/` at
+//! the end: no record has to be made of them.
 ghost use Rattle.std.specs.Prelude.{◌≡◌, ◌++◌, ◌∷◌, IfOk, IsTrue, Some, chars, option_map, string_bytes};
 ghost use Rattle.uv_model.specs.declared.scheme.Class.TheVariants.{Special};
 ghost use Rattle.uv_model.specs.Ascii.{colon};
@@ -14,8 +14,8 @@ use uv_grammar::{Form, Parts};
 use uv_model::{Class, Record, class_of};
 
 /// The text of the URL that a valid reference with these parts denotes against its base, where the base's scheme is
-/// special, the reference begins with `//`, a host whose text is that of its value and no port, and is its own URL's text
-/// behind the scheme. None says nothing, and the error is out of memory.
+/// special, the reference begins with `//`, a host whose text is that of its value and no port, and is its own URL's
+/// text behind the scheme. None says nothing, and the error is out of memory.
 pub(crate) fn own_authority(
     alloc: Global,
     text: &str,

@@ -123,8 +123,8 @@ pub(crate) fn is_own_path(text: &str) -> bool
     is_without_dots(false, text.as_bytes())
 }
 
-/// Whether no `.` and no `%` stands behind a `/`, nor at the start where a segment begins there. No branch is taken for a
-/// byte, since those at a segment's start would be guessed wrong.
+/// Whether no `.` and no `%` stands behind a `/`, nor at the start where a segment begins there. No branch is taken for
+/// a byte, since those at a segment's start would be guessed wrong.
 pub(crate) fn is_without_dots(at_start: bool, path: &[u8]) -> bool
     ensures { result ≡ has_no_dots at_start path.now }
 {
