@@ -1,10 +1,14 @@
 -- What is found behind the number's digits.
-use Rattle.std.proofs.Common.{Bor, List, ℕ, ◌≡◌, ◌≢◌, ap, ◌∙◌, ◌++◌}
+use Rattle.std.proofs.Common.{Bor, IfSome, List, MatchOption, None, Option, Some, ℕ, ◌≡◌, ◌≢◌, ap, ◌∙◌, ◌++◌}
 use Rattle.std.proofs.lemmas.Bool.Decides.{Decides-eqb}
 use Rattle.std.proofs.lemmas.Option.{IfSome_then}
 use Rattle.std.proofs.lemmas.Slice.Eq.{strip_prefix_is}
-use Rattle.uv_resolve.proofs.HostTextLemmas.{where_some}
 use Rattle.uv_resolve.proofs.host_text.behind_number.Goals as goal
+
+-- what an answer says of the value that is found
+where_some : {A : Type 0} (r : Option A) (P : Type 0) (Q : A → Type 0) → MatchOption r P Q → IfSome r Q
+where_some None P Q m = tt
+where_some (Some x) P Q m = m
 
 pub returns : goal.returns
 returns c =
