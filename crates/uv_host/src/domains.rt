@@ -299,9 +299,10 @@ fn wide_form(alloc: Global, text: &str) -> Result<Option<CowStr<'_>>, AllocError
     }
 }
 
-/// The lengths of the longest label and the longest domain (URL Standard, section 3.3).
+/// The most code points of a label of a domain (URL Standard, section 3.3).
 const LONGEST_LABEL: usize = 63;
 
+/// The most of a whole domain, where a full stop at its end isn't counted.
 const LONGEST_NAME: usize = 253;
 
 /// The form that ToASCII gives with these settings, if it has the lengths of a domain. Punycode takes quadratic time,
@@ -344,8 +345,8 @@ fn is_misfit(
     }
 }
 
-/// Whether a name in Unicode is longer than that of any domain, or a label of it is. A full stop at its end may come on
-/// top.
+/// Whether a name in Unicode, or a label of it, has more code points than that of any domain. A full stop may stand at
+/// its end.
 fn is_long_name(name: &str) -> bool
     ensures { result ≡ is_long_name (chars name.now) }
 {
