@@ -1,5 +1,5 @@
 //! The checker of valid URL strings.
-ghost use Rattle.std.specs.Prelude.{◌≡◌, IfOk, IsOk, IsTrue, None, Some, option_copied, true};
+ghost use Rattle.std.specs.Prelude.{◌≡◌, IfOk, IsOk, IsTrue, None, Ok, Some, option_copied, true};
 ghost use Rattle.std.specs.Str.{chars};
 ghost use Rattle.uv_model.specs.declared.profile.Profile.{Profile};
 ghost use Rattle.uv_model.specs.Records.Url.{Url};
@@ -47,16 +47,12 @@ pub fn check<'t>(
     ensures memory { TakesNoMemoryAgainst profile (option_copied base.entry) (chars text.now) → IsOk result }
 {
     let Some(start) = plain_start(text) else {
-        return if has_slash(text) {
-            check_reference(alloc, text, Base::whole(base), profile)
-        } else {
-            check_by_parts(alloc, text, Base::whole(base), profile)
-        };
+        return check_unstarted(alloc, text, Base::whole(base), profile);
     };
-    match plain_cut(&start) {
-        Some(cut) => Ok(Verdict::Yes(plain_parts(&cut))),
-        None => check_from(alloc, text, start, Base::whole(base), profile),
+    if let Some(cut) = plain_cut(&start) {
+        return Ok(Verdict::Yes(plain_parts(&cut)));
     }
+    check_started(alloc, text, start, Base::whole(base), profile)
 }
 
 /// The same of a text alone. A program that calls it in one place gets it there, and the parts aren't copied.
@@ -69,12 +65,12 @@ pub fn check_alone<'t>(
     ensures memory { TakesNoMemoryAgainst profile None (chars text.now) → IsOk result }
 {
     let Some(start) = plain_start(text) else {
-        return check_by_parts(alloc, text, None, profile);
+        return check_unstarted(alloc, text, None, profile);
     };
-    match plain_cut(&start) {
-        Some(cut) => Ok(Verdict::Yes(plain_parts(&cut))),
-        None => check_from(alloc, text, start, None, profile),
+    if let Some(cut) = plain_cut(&start) {
+        return Ok(Verdict::Yes(plain_parts(&cut)));
     }
+    check_started(alloc, text, start, None, profile)
 }
 
 /// The same against every base of a kind.
@@ -89,20 +85,61 @@ pub fn check_of_kind<'t>(
         → IsOk result }
 {
     let Some(start) = plain_start(text) else {
-        return if has_slash(text) {
-            check_reference(alloc, text, Some(Base::Kind(base)), profile)
-        } else {
-            check_by_parts(alloc, text, Some(Base::Kind(base)), profile)
-        };
+        return check_unstarted(alloc, text, Some(Base::Kind(base)), profile);
     };
-    match plain_cut(&start) {
-        Some(cut) => Ok(Verdict::Yes(plain_parts(&cut))),
-        None => check_from(alloc, text, start, Some(Base::Kind(base)), profile),
+    if let Some(cut) = plain_cut(&start) {
+        return Ok(Verdict::Yes(plain_parts(&cut)));
+    }
+    check_started(alloc, text, start, Some(Base::Kind(base)), profile)
+}
+
+// The verdict on a text with a plain start that isn't known as a plain link. It is inlined, so that the place of the
+// verdicts that it asks for is filled with zeros here, and not before a link is known to be plain.
+#[inline(always)]
+fn check_started<'t>(
+    alloc: Global,
+    text: &'t str,
+    start: PlainStart<'t>,
+    base: Option<Base<'_>>,
+    profile: Profile,
+) -> Result<Verdict<'t>, AllocError>
+    requires { IsPlainStart profile (as_base base) (chars text.now) start }
+    ensures answer { IfOk result (IsVerdict profile (as_base base.entry) (chars text.now)) }
+    ensures memory { TakesNoMemoryAgainst profile (as_base base.entry) (chars text.now) → IsOk result }
+{
+    if goes_on(start.rest.as_str(), profile) {
+        check_from(alloc, text, start, base, profile)
+    } else {
+        check_by_parts(alloc, text, base, profile)
     }
 }
 
-/// The verdict on a text of which the start is known to be plain. It is never inlined, as plain links would then have to
-/// keep registers free for it.
+// The same of a text without a plain start.
+#[inline(always)]
+fn check_unstarted<'t>(
+    alloc: Global,
+    text: &'t str,
+    base: Option<Base<'_>>,
+    profile: Profile,
+) -> Result<Verdict<'t>, AllocError>
+    ensures answer { IfOk result (IsVerdict profile (as_base base.entry) (chars text.now)) }
+    ensures memory { TakesNoMemoryAgainst profile (as_base base.entry) (chars text.now) → IsOk result }
+{
+    if has_slash(text) {
+        check_reference(alloc, text, base, profile)
+    } else {
+        check_by_parts(alloc, text, base, profile)
+    }
+}
+
+// Whether what follows a plain start is judged from there. It spares other texts a verdict that is copied once more, and
+// no verdict rests on it.
+fn goes_on(rest: &str, profile: Profile) -> bool {
+    begins_behind(rest) || goes_on_wide(rest, profile)
+}
+
+/// The verdict on a text of which the start is known to be plain. It is never inlined, as plain links would then have
+/// to keep registers free for it.
 #[inline(never)]
 pub(crate) fn check_from<'t>(
     alloc: Global,
@@ -190,8 +227,8 @@ fn check_behind<'t>(
     }
 }
 
-/// The verdict on a text that begins with `/`, as a reference does that begins as a plain link without its scheme. It is
-/// never inlined, as other texts would then have to keep registers free for it.
+/// The verdict on a text that begins with `/`, as a reference does that begins as a plain link without its scheme. It
+/// is never inlined, as other texts would then have to keep registers free for it.
 #[inline(never)]
 pub(crate) fn check_reference<'t>(
     alloc: Global,
@@ -225,18 +262,26 @@ pub(crate) fn check_by_parts<'t>(
 {
     let (cut, setting) = cut_text(text, base, profile);
     if let Some(refusal) = start_fault(text, &cut, &setting) {
-        return Ok(Verdict::No(refusal));
+        return refused(refusal);
     }
     let host = match judge_host_part(alloc, &cut, &setting)? {
         Judged::Valid(host) => host,
-        Judged::Refused(refusal) => return Ok(Verdict::No(refusal)),
+        Judged::Refused(refusal) => return refused(refusal),
     };
     let port = match judge_port_part(&cut, &setting) {
         Judged::Valid(port) => port,
-        Judged::Refused(refusal) => return Ok(Verdict::No(refusal)),
+        Judged::Refused(refusal) => return refused(refusal),
     };
     match fault_behind_authority(&cut, &setting) {
-        Some(refusal) => Ok(Verdict::No(refusal)),
+        Some(refusal) => refused(refusal),
         None => Ok(Verdict::Yes(build(cut, host, port))),
     }
+}
+
+// The verdict that refuses a text. It is inlined, so that its place is filled with zeros only where a text is refused.
+#[inline(always)]
+fn refused<'t>(refusal: Refusal) -> Result<Verdict<'t>, AllocError>
+    ensures { result ≡ Ok (Verdict.No refusal) }
+{
+    Ok(Verdict::No(refusal))
 }

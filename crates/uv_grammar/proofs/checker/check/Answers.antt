@@ -18,6 +18,3 @@ returns-in-Some-plain_cut-clause-answer c =
     let base = option_copied c.args.base in
     c.plain_parts.ensures (chars c.args.text.now) c.args.profile base
     (c.in-Some-plain_cut.ensures c.args.profile base (chars c.args.text.now) (c.in-Some.ensures c.args.profile base))
-
-pub check_from-requires : goal.check_from-requires
-check_from-requires c = c.in-Some.ensures _ _

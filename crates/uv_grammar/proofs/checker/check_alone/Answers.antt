@@ -16,6 +16,3 @@ pub returns-in-Some-plain_cut-clause-answer : goal.returns-in-Some-plain_cut-cla
 returns-in-Some-plain_cut-clause-answer c =
     c.plain_parts.ensures (chars c.args.text.now) c.args.profile None
     (c.in-Some-plain_cut.ensures c.args.profile None (chars c.args.text.now) (c.in-Some.ensures c.args.profile None))
-
-pub check_from-requires : goal.check_from-requires
-check_from-requires c = c.in-Some.ensures _ _

@@ -15,9 +15,10 @@ start_fault-requires c =
 
 pub returns-in-Some-clause-answer : goal.returns-in-Some-clause-answer
 returns-in-Some-clause-answer c =
-    refused_start c.args.profile (as_base c.args.base) (chars c.args.text.now) c.cut_text-cut.result.0
+    rw c.refused.ensures
+    (refused_start c.args.profile (as_base c.args.base) (chars c.args.text.now) c.cut_text-cut.result.0
     c.cut_text-cut.result.1 c.in-Some.refusal c.cut_text-cut.ensures.cut c.cut_text-cut.ensures.setting
-    c.in-Some.ensures
+    c.in-Some.ensures)
 
 pub judge_host_part-requires : goal.judge_host_part-requires
 judge_host_part-requires c =
@@ -25,9 +26,10 @@ judge_host_part-requires c =
 
 pub returns-in-Refused-clause-answer : goal.returns-in-Refused-clause-answer
 returns-in-Refused-clause-answer c =
-    refused_host c.args.profile (as_base c.args.base) (chars c.args.text.now) c.cut_text-cut.result.0
+    rw c.refused-in-Refused.ensures
+    (refused_host c.args.profile (as_base c.args.base) (chars c.args.text.now) c.cut_text-cut.result.0
     c.cut_text-cut.result.1 c.in-Refused.refusal c.cut_text-cut.ensures.cut c.cut_text-cut.ensures.setting
-    c.in_default.ensures (rw c.in-Refused.is at c.in_ok-host.ensures.answer)
+    c.in_default.ensures (rw c.in-Refused.is at c.in_ok-host.ensures.answer))
 
 pub judge_port_part-requires : goal.judge_port_part-requires
 judge_port_part-requires c =
@@ -35,10 +37,11 @@ judge_port_part-requires c =
 
 pub returns-in-Refused-judge_port_part-clause-answer : goal.returns-in-Refused-judge_port_part-clause-answer
 returns-in-Refused-judge_port_part-clause-answer c =
-    refused_port c.args.profile (as_base c.args.base) (chars c.args.text.now) c.cut_text-cut.result.0
+    rw c.refused-in-Refused-judge_port_part.ensures
+    (refused_port c.args.profile (as_base c.args.base) (chars c.args.text.now) c.cut_text-cut.result.0
     c.cut_text-cut.result.1 c.in-Refused-judge_port_part.refusal c.cut_text-cut.ensures.cut
     c.cut_text-cut.ensures.setting c.in_default.ensures (rw c.in-Valid.is at c.in_ok-host.ensures.answer).1
-    c.in-Refused-judge_port_part.ensures
+    c.in-Refused-judge_port_part.ensures)
 
 pub fault_behind_authority-requires : goal.fault_behind_authority-requires
 fault_behind_authority-requires c =
@@ -46,10 +49,11 @@ fault_behind_authority-requires c =
 
 pub returns-in-Some-fault_behind_authority-clause-answer : goal.returns-in-Some-fault_behind_authority-clause-answer
 returns-in-Some-fault_behind_authority-clause-answer c =
-    refused_behind c.args.profile (as_base c.args.base) (chars c.args.text.now) c.cut_text-cut.result.0
+    rw c.refused-in-Some-fault_behind_authority.ensures
+    (refused_behind c.args.profile (as_base c.args.base) (chars c.args.text.now) c.cut_text-cut.result.0
     c.cut_text-cut.result.1 c.in-Some-fault_behind_authority.refusal c.cut_text-cut.ensures.cut
     c.cut_text-cut.ensures.setting c.in_default.ensures (rw c.in-Valid.is at c.in_ok-host.ensures.answer).1
-    c.in-Valid-judge_port_part.ensures.1 c.in-Some-fault_behind_authority.ensures
+    c.in-Valid-judge_port_part.ensures.1 c.in-Some-fault_behind_authority.ensures)
 
 pub returns-clause-answer : goal.returns-clause-answer
 returns-clause-answer c =

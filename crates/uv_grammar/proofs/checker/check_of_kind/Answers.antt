@@ -23,50 +23,32 @@ returns-in-Some-plain_cut-clause-answer c = λ url is.
     (c.in-Some-plain_cut.ensures c.args.profile (Some url) (chars c.args.text.now)
     (c.in-Some.ensures c.args.profile (Some url)))
 
-pub returns-in-None-clause-answer : goal.returns-in-None-clause-answer
-returns-in-None-clause-answer c = λ url is.
+pub returns-clause-answer : goal.returns-clause-answer
+returns-clause-answer c = λ url is.
     let text = chars c.args.text.now in
     let base = url_of_kind c.args.base in
-    IfOk-weaker c.check_from.result (IsVerdict c.args.profile (Some base) text)
+    IfOk-weaker c.check_started.result (IsVerdict c.args.profile (Some base) text)
     (IsVerdict c.args.profile (Some url) text)
-    (verdict_alike c.args.profile base url text (kind_alike url c.args.base is)) c.check_from.ensures.answer
+    (verdict_alike c.args.profile base url text (kind_alike url c.args.base is)) c.check_started.ensures.answer
 
-pub returns-in-None-clause-memory : goal.returns-in-None-clause-memory
-returns-in-None-clause-memory c = λ url is takes.
+pub returns-clause-memory : goal.returns-clause-memory
+returns-clause-memory c = λ url is takes.
     let base = url_of_kind c.args.base in
-    c.check_from.ensures.memory
+    c.check_started.ensures.memory
     (memory_alike c.args.profile url base (chars c.args.text.now)
     (flip base url (kind_alike url c.args.base is)) takes)
 
-pub returns-then-has_slash-clause-answer : goal.returns-then-has_slash-clause-answer
-returns-then-has_slash-clause-answer c = λ url is.
+pub returns-in_default-clause-answer : goal.returns-in_default-clause-answer
+returns-in_default-clause-answer c = λ url is.
     let text = chars c.args.text.now in
     let base = url_of_kind c.args.base in
-    IfOk-weaker c.check_reference.result (IsVerdict c.args.profile (Some base) text)
+    IfOk-weaker c.check_unstarted.result (IsVerdict c.args.profile (Some base) text)
     (IsVerdict c.args.profile (Some url) text)
-    (verdict_alike c.args.profile base url text (kind_alike url c.args.base is)) c.check_reference.ensures.answer
+    (verdict_alike c.args.profile base url text (kind_alike url c.args.base is)) c.check_unstarted.ensures.answer
 
-pub returns-then-has_slash-clause-memory : goal.returns-then-has_slash-clause-memory
-returns-then-has_slash-clause-memory c = λ url is takes.
+pub returns-in_default-clause-memory : goal.returns-in_default-clause-memory
+returns-in_default-clause-memory c = λ url is takes.
     let base = url_of_kind c.args.base in
-    c.check_reference.ensures.memory
+    c.check_unstarted.ensures.memory
     (memory_alike c.args.profile url base (chars c.args.text.now)
     (flip base url (kind_alike url c.args.base is)) takes)
-
-pub returns-else-has_slash-clause-answer : goal.returns-else-has_slash-clause-answer
-returns-else-has_slash-clause-answer c = λ url is.
-    let text = chars c.args.text.now in
-    let base = url_of_kind c.args.base in
-    IfOk-weaker c.check_by_parts.result (IsVerdict c.args.profile (Some base) text)
-    (IsVerdict c.args.profile (Some url) text)
-    (verdict_alike c.args.profile base url text (kind_alike url c.args.base is)) c.check_by_parts.ensures.answer
-
-pub returns-else-has_slash-clause-memory : goal.returns-else-has_slash-clause-memory
-returns-else-has_slash-clause-memory c = λ url is takes.
-    let base = url_of_kind c.args.base in
-    c.check_by_parts.ensures.memory
-    (memory_alike c.args.profile url base (chars c.args.text.now)
-    (flip base url (kind_alike url c.args.base is)) takes)
-
-pub check_from-requires : goal.check_from-requires
-check_from-requires c = c.in-Some.ensures _ _
