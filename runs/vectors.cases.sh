@@ -2,7 +2,7 @@
 vectors=$(dirname "$here")/vectors
 expect 0 'vectors 109 pass 109 fail 0\n' '' vectors "$vectors/standard.json"
 expect 0 'vectors 190 pass 190 fail 0\n' '' vectors "$vectors/parser.json"
-expect 0 'vectors 406 pass 406 fail 0\n' '' vectors "$vectors/urls.json"
+expect 0 'vectors 424 pass 424 fail 0\n' '' vectors "$vectors/urls.json"
 expect 0 'vectors 3781 pass 3781 fail 0\n' '' vectors "$vectors/uts46.json"
 
 # vector_file TEXT : a file in the room that has this text, read with escapes
