@@ -3,6 +3,7 @@
 
 mod counts;
 mod fault;
+mod found;
 pub mod laws;
 mod line_violations;
 mod located;

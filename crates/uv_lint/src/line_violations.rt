@@ -1,11 +1,12 @@
 //! What is found with a line.
-ghost use Rattle.std.specs.Prelude.{◌≡◌, [], ◌∷◌, IfOk, None, map, option_copied};
+ghost use Rattle.std.specs.Prelude.{IfOk, None, option_copied};
 ghost use Rattle.std.specs.Str.{chars};
 ghost use Rattle.uv_grammar.specs.Verdict.{IsRefused};
+ghost use Rattle.uv_lint.specs.Found.{violations_in};
 ghost use Rattle.uv_lint.specs.LineViolations.{AreBytesViolations, AreViolations, AreViolationsBy, AreStrayViolations};
 ghost use Rattle.uv_lint.specs.LineViolations.{AreTextViolations, AreWholeViolations};
-ghost use Rattle.uv_report.specs.declared.line_violation.LineViolation.TheVariants.{Refused};
 
+use crate::found::Found;
 use crate::located::link_of;
 use crate::reporter::LintReporter;
 use crate::setting::LineForm;
@@ -18,12 +19,9 @@ use uv_report::LineViolation;
 impl<'a> LintReporter<'a> {
     /// What is found with a line, or with its link: nothing with an empty line or a valid text. None stands for a line
     /// that is too long. No memory is asked for a valid line but where a domain's form is made.
-    pub(crate) fn violations(
-        &self,
-        alloc: Global,
-        line: Option<&[u8]>,
-    ) -> Result<Vec<LineViolation>, AllocError>
-        ensures { IfOk result (λ found. AreViolations self.now.setting (option_copied line.entry) found.items) }
+    pub(crate) fn violations(&self, alloc: Global, line: Option<&[u8]>) -> Result<Found, AllocError>
+        ensures { IfOk result (λ found.
+            AreViolations self.now.setting (option_copied line.entry) (violations_in found)) }
     {
         match link_of(self.form(), line) {
             Some(link) => self.bytes_violations(alloc, link.link),
@@ -32,53 +30,46 @@ impl<'a> LintReporter<'a> {
     }
 
     // What is found with a line that has no link.
-    fn line_violations(
-        &self,
-        alloc: Global,
-        line: Option<&[u8]>,
-    ) -> Result<Vec<LineViolation>, AllocError>
-        ensures { IfOk result (λ found. AreViolationsBy self.now.setting None (option_copied line.entry) found.items) }
+    fn line_violations(&self, alloc: Global, line: Option<&[u8]>) -> Result<Found, AllocError>
+        ensures { IfOk result (λ found.
+            AreViolationsBy self.now.setting None (option_copied line.entry) (violations_in found)) }
     {
         let Some(line) = line else {
-            return alone(alloc, LineViolation::TooLong);
+            return Ok(Found::One(LineViolation::TooLong));
         };
         if line.is_empty() {
-            return Ok(Vec::new(alloc));
+            return Ok(Found::Nothing);
         }
         self.whole_violations(alloc, line)
     }
 
     // What is found with a line that isn't empty and has no link.
-    fn whole_violations(&self, alloc: Global, line: &[u8]) -> Result<Vec<LineViolation>, AllocError>
+    fn whole_violations(&self, alloc: Global, line: &[u8]) -> Result<Found, AllocError>
         ensures { IfOk result (λ found.
-            AreWholeViolations self.now.setting.form self.now.setting line.now found.items) }
+            AreWholeViolations self.now.setting.form self.now.setting line.now (violations_in found)) }
     {
         match self.form() {
             LineForm::Plain => self.bytes_violations(alloc, line),
-            LineForm::Located => stray_violations(alloc, line),
+            LineForm::Located => Ok(stray_violations(line)),
         }
     }
 
     // What is found with bytes.
-    fn bytes_violations(
-        &self,
-        alloc: Global,
-        bytes: &[u8],
-    ) -> Result<Vec<LineViolation>, AllocError>
-        ensures { IfOk result (λ found. AreBytesViolations self.now.setting bytes.now found.items) }
+    fn bytes_violations(&self, alloc: Global, bytes: &[u8]) -> Result<Found, AllocError>
+        ensures { IfOk result (λ found. AreBytesViolations self.now.setting bytes.now (violations_in found)) }
     {
         match from_utf8(bytes) {
             Ok(text) => self.text_violations(alloc, text),
-            Err(_) => alone(alloc, LineViolation::NotUtf8),
+            Err(_) => Ok(Found::One(LineViolation::NotUtf8)),
         }
     }
 
     // What is found with a text.
-    fn text_violations(&self, alloc: Global, text: &str) -> Result<Vec<LineViolation>, AllocError>
-        ensures { IfOk result (λ found. AreTextViolations self.now.setting (chars text.now) found.items) }
+    fn text_violations(&self, alloc: Global, text: &str) -> Result<Found, AllocError>
+        ensures { IfOk result (λ found. AreTextViolations self.now.setting (chars text.now) (violations_in found)) }
     {
         match check(alloc, text, self.base(), self.profile())? {
-            Verdict::Yes(_) => Ok(Vec::new(alloc)),
+            Verdict::Yes(_) => Ok(Found::Nothing),
             Verdict::No(refusal) => self.refused_violations(alloc, text, refusal),
         }
     }
@@ -89,46 +80,26 @@ impl<'a> LintReporter<'a> {
         alloc: Global,
         text: &str,
         refusal: Refusal,
-    ) -> Result<Vec<LineViolation>, AllocError>
+    ) -> Result<Found, AllocError>
         requires { IsRefused self.now.setting.profile self.now.setting.base (chars text.now) refusal }
-        ensures { IfOk result (λ found. AreTextViolations self.now.setting (chars text.now) found.items) }
+        ensures { IfOk result (λ found. AreTextViolations self.now.setting (chars text.now) (violations_in found)) }
     {
         match self.extent() {
-            Extent::First => alone(alloc, LineViolation::Refused(refusal)),
+            Extent::First => Ok(Found::One(LineViolation::Refused(refusal))),
             Extent::All => {
                 let refusals = faults(alloc, text, self.base(), self.profile())?;
-                each_refused(alloc, refusals.as_slice())
+                Found::each_refused(alloc, refusals.as_slice())
             }
         }
     }
 }
 
 // What is found with a line that is to say where its link stands, and doesn't.
-fn stray_violations(alloc: Global, line: &[u8]) -> Result<Vec<LineViolation>, AllocError>
-    ensures { IfOk result (λ found. AreStrayViolations line.now found.items) }
+fn stray_violations(line: &[u8]) -> Found
+    ensures { AreStrayViolations line.now (violations_in result) }
 {
     match from_utf8(line) {
-        Ok(_) => alone(alloc, LineViolation::NotLocated),
-        Err(_) => alone(alloc, LineViolation::NotUtf8),
+        Ok(_) => Found::One(LineViolation::NotLocated),
+        Err(_) => Found::One(LineViolation::NotUtf8),
     }
-}
-
-// One violation.
-fn alone(alloc: Global, violation: LineViolation) -> Result<Vec<LineViolation>, AllocError>
-    ensures { IfOk result (λ found. found.items ≡ violation ∷ []) }
-{
-    let mut found = Vec::with_capacity(alloc, 1)?;
-    found.push(violation)?;
-    Ok(found)
-}
-
-// The violation of each refusal, in their order.
-fn each_refused(alloc: Global, refusals: &[Refusal]) -> Result<Vec<LineViolation>, AllocError>
-    ensures { IfOk result (λ found. found.items ≡ map Refused refusals.now) }
-{
-    let mut found = Vec::new(alloc);
-    for refusal in refusals {
-        found.push(LineViolation::Refused(*refusal))?;
-    }
-    Ok(found)
 }

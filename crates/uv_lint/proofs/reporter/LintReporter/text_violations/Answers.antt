@@ -13,6 +13,6 @@ returns c =
       | in-Yes w ↦ (
           let accepted : IsAccepted setting.profile setting.base text w.in-Yes.field-0 =
           rw (c.profile.ensures, c.base.ensures, w.in-Yes.is) at c.in_ok-refusal.ensures.answer in
-          rw (w.result-is, w.new.ensures.items) (valid_violations setting text w.in-Yes.field-0 accepted))
+          rw w.result-is (valid_violations setting text w.in-Yes.field-0 accepted))
       | in-No w ↦ rw w.result-is w.refused_violations.ensures
     ]
