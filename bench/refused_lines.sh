@@ -2,8 +2,8 @@
 # What `urlcheck lint` takes for a line that is refused, beside one that is valid: instructions by callgrind, what it
 # takes for no line taken off, on links of which each has one wrong code point and on plain ones, as many of each. In JSON
 # and in SARIF it also says what to write in place of the line. It fails where a figure is missing or too small, a line
-# isn't reported, or a format takes more times the instructions than its bound: what was seen when that was set, and 4 %.
-# The aim is 4 for gnu, and 8 for the others.
+# isn't reported, or a format takes more times the instructions than its bound: 4 for gnu, which is its aim, and for the
+# others what was seen when that was set, and 4 %.
 # Usage: bench/refused_lines.sh [--count COUNT] [--seed SEED] [--program FILE]
 set -euo pipefail
 top=$(dirname "$(dirname "$(realpath "$0")")")
@@ -55,7 +55,7 @@ compared() {
     awk -v r="$ratio" -v b="$2" 'BEGIN { exit r > b }' || fail "$1: $ratio, and at most $2 is wanted"
 }
 
-compared gnu 4.4
-compared json 22.2
-compared sarif 24.2
+compared gnu 4.0
+compared json 20.1
+compared sarif 21.9
 exit $failed
