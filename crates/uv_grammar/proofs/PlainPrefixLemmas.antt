@@ -1,14 +1,19 @@
 -- The prefixes of a plain link: its scheme, its name, its port and what follows a mark.
 use Rattle.std.proofs.Common.{get_or, ◌≤◌, ◌≡◌, ℕ, ◌<◌, Bool, true, false, List, [], ◌∷◌, ◌++◌, length, take, drop}
 use Rattle.std.proofs.Common.{Option, Some, None, refl, sym, ap, ◌∙◌, inl, inr, arith, append_assoc, lt-ltb}
+use Rattle.std.proofs.Common.{Fits, w8, nat_lt}
 use Rattle.std.specs.Prelude.{◌+◌, suc, codes}
+use Rattle.std.specs.Int.{from_le_bytes, w32}
 use Rattle.std.specs.Char.{is_ascii, is_ascii_digit}
 use Rattle.std.specs.List.{prefix_len}
 use Rattle.std.specs.Str.{chars, IsUtf8, IsCharBoundary}
-use Rattle.std.proofs.lemmas.Bool.{and_from, cases_Bool}
+use Rattle.std.proofs.lemmas.Bool.{and_from, cases_Bool, ltb-true}
 use Rattle.std.proofs.lemmas.Bool.Decides.{nat_tests}
-use Rattle.std.proofs.lemmas.List.{length-append, take-append-drop}
+use Rattle.std.proofs.lemmas.List.{drop-drop, get_or-drop, get_or-take, get_or_past, length-append, length-drop}
+use Rattle.std.proofs.lemmas.List.{length-take, length-take-le, take-append-drop, take-take, take_all}
+use Rattle.std.proofs.lemmas.Nat.{le_bytes_4}
 use Rattle.std.proofs.lemmas.Str.{chars-append, chars-IsAscii, IsUtf8-from_ascii, IsCharBoundary-from_take}
+use Rattle.std.proofs.Math.Nat.{min-le_left}
 use Rattle.std.proofs.Math.Seq.{take-append_seam, drop-append_seam}
 use Rattle.uv_model.specs.declared.scheme.Class.TheVariants.{Special}
 use Rattle.uv_model.specs.Ascii.{slash, colon}
@@ -222,3 +227,50 @@ digits_ascii (b ∷ bytes) = elim (cases_Bool (is_ascii_digit b)) [
       rw digit (rw next (omega arith, and_from _ _ small more.1))
   | inr other ↦ rw other (omega arith, refl)
 ]
+
+-- ---- prefixes by their ends
+
+-- bytes that have the ends of a prefix, of which there are four to eight, begin with it
+pub prefix_ends : (bytes prefix : List ℕ) (k : ℕ) → k ≤ 4 → length prefix ≡ k + 4
+    → take 4 bytes ≡ take 4 prefix → take 4 (drop k bytes) ≡ take 4 (drop k prefix)
+    → bytes ≡ prefix ++ drop (k + 4) bytes
+prefix_ends bytes prefix k few long front back =
+    let first : take k bytes ≡ take k prefix =
+    sym (take-take k 4 bytes few) ∙ (ap (take k) front ∙ take-take k 4 prefix few) in
+    let last : take 4 (drop k prefix) ≡ drop k prefix =
+    take_all 4 (drop k prefix) (omega (arith, length-drop k prefix)) in
+    let behind : drop k bytes ≡ drop k prefix ++ drop (k + 4) bytes =
+    sym (take-append-drop 4 (drop k bytes))
+    ∙ ap (λ s. s ++ drop 4 (drop k bytes)) (back ∙ last)
+    ∙ ap (λ s. drop k prefix ++ s) (drop-drop 4 k bytes) in
+    sym (take-append-drop k bytes)
+    ∙ ap (λ s. s ++ drop k bytes) first
+    ∙ ap (λ s. take k prefix ++ s) behind
+    ∙ sym (append_assoc (take k prefix) (drop k prefix) (drop (k + 4) bytes))
+    ∙ ap (λ s. s ++ drop (k + 4) bytes) (take-append-drop k prefix)
+
+-- four bytes of a list, and none behind its end, are bytes
+four_small : (bytes : List ℕ) (place i : ℕ) → ((k : ℕ) → Fits w8 (get_or bytes k 0))
+    → get_or (take 4 (drop place bytes)) i 0 < 256
+four_small bytes place i fit = elim (cases_Bool (nat_lt i 4)) [
+  | inl near ↦
+      let inside : i < 4 = ltb-true i 4 near in
+      let fits : get_or bytes (place + i) 0 < 256 = (fit (place + i)).fits in
+      rw (get_or-take 4 (drop place bytes) i 0 inside, get_or-drop place bytes i 0) fits
+  | inr far ↦
+      let behind : 4 ≤ i = grind (arith, nat_tests) in
+      rw (get_or_past (take 4 (drop place bytes)) i 0 (omega (arith, length-take 4 (drop place bytes), min-le_left 4 (length (drop place bytes))))) (omega arith)
+]
+
+-- four bytes that are one number are the same bytes
+pub four_alike : (a b : List ℕ) (place : ℕ) → place + 4 ≤ length a → place + 4 ≤ length b
+    → ((k : ℕ) → Fits w8 (get_or a k 0)) → ((k : ℕ) → Fits w8 (get_or b k 0))
+    → from_le_bytes w32 (take 4 (drop place a)) ≡ from_le_bytes w32 (take 4 (drop place b))
+    → take 4 (drop place a) ≡ take 4 (drop place b)
+four_alike a b place long_a long_b fit_a fit_b same =
+    let left = take 4 (drop place a) in
+    let right = take 4 (drop place b) in
+    sym (le_bytes_4 left (from_le_bytes w32 left) (length-take-le 4 (drop place a) (omega (arith, length-drop place a)))
+    (λ i. four_small a place i fit_a) refl)
+    ∙ le_bytes_4 right (from_le_bytes w32 left) (length-take-le 4 (drop place b) (omega (arith, length-drop place b)))
+    (λ i. four_small b place i fit_b) same

@@ -13,12 +13,12 @@ use crate::bases::{Base, BaseKind};
 use crate::built::build;
 use crate::cut::{Cut, cut_text};
 use crate::judged::Judged;
-use crate::marks::beginnings::has_slash;
 use crate::marks::split_marks;
 use crate::parts::Parts;
 use crate::parts_host::{AsciiText, PartsHost};
 use crate::plain_links::{
-    PlainStart, begins_behind, plain_cut, plain_parts, plain_start, reference_start, wide_start,
+    PlainStart, begins_behind, may_start_otherwise, other_start, plain_cut, plain_parts,
+    plain_start, wide_start,
 };
 use crate::setting::Setting;
 use crate::start_rules::start_fault;
@@ -93,10 +93,11 @@ pub fn check_of_kind<'t>(
     check_started(alloc, text, start, Some(Base::Kind(base)), profile)
 }
 
-// The verdict on a text with a plain start that isn't known as a plain link. It is inlined, so that the place of the
-// verdicts that it asks for is filled with zeros here, and not before a link is known to be plain.
+/// The verdict on a text with a plain start that isn't known as a plain link. It is inlined, so that the place of the
+/// verdicts that it asks for is filled with zeros here, and not before a link is known to be plain. (The three above
+/// begin alike: what they share would be too large to be inlined, and each verdict would be copied.)
 #[inline(always)]
-fn check_started<'t>(
+pub(crate) fn check_started<'t>(
     alloc: Global,
     text: &'t str,
     start: PlainStart<'t>,
@@ -114,9 +115,9 @@ fn check_started<'t>(
     }
 }
 
-// The same of a text without a plain start.
+/// The same of a text without a plain start.
 #[inline(always)]
-fn check_unstarted<'t>(
+pub(crate) fn check_unstarted<'t>(
     alloc: Global,
     text: &'t str,
     base: Option<Base<'_>>,
@@ -125,15 +126,15 @@ fn check_unstarted<'t>(
     ensures answer { IfOk result (IsVerdict profile (as_base base.entry) (chars text.now)) }
     ensures memory { TakesNoMemoryAgainst profile (as_base base.entry) (chars text.now) → IsOk result }
 {
-    if has_slash(text) {
-        check_reference(alloc, text, base, profile)
+    if may_start_otherwise(text) {
+        check_other_start(alloc, text, base, profile)
     } else {
         check_by_parts(alloc, text, base, profile)
     }
 }
 
-// Whether what follows a plain start is judged from there. It spares other texts a verdict that is copied once more, and
-// no verdict rests on it.
+// Whether what follows a plain start is judged from there. It spares other texts a verdict that is copied once more,
+// and no verdict rests on it.
 fn goes_on(rest: &str, profile: Profile) -> bool {
     begins_behind(rest) || goes_on_wide(rest, profile)
 }
@@ -227,10 +228,10 @@ fn check_behind<'t>(
     }
 }
 
-/// The verdict on a text that begins with `/`, as a reference does that begins as a plain link without its scheme. It
-/// is never inlined, as other texts would then have to keep registers free for it.
+/// The verdict on a text that may have a plain start without a scheme, or with a capital. It is never inlined, as other
+/// texts would then have to keep registers free for it.
 #[inline(never)]
-pub(crate) fn check_reference<'t>(
+pub(crate) fn check_other_start<'t>(
     alloc: Global,
     text: &'t str,
     base: Option<Base<'_>>,
@@ -239,7 +240,7 @@ pub(crate) fn check_reference<'t>(
     ensures answer { IfOk result (IsVerdict profile (as_base base.entry) (chars text.now)) }
     ensures memory { TakesNoMemoryAgainst profile (as_base base.entry) (chars text.now) → IsOk result }
 {
-    let Some(start) = reference_start(text, base) else {
+    let Some(start) = other_start(text, base) else {
         return check_by_parts(alloc, text, base, profile);
     };
     match plain_cut(&start) {

@@ -17,6 +17,7 @@ mod parts;
 mod parts_host;
 mod places;
 mod plain_links;
+mod plain_prefixes;
 mod port;
 mod scan;
 mod setting;

@@ -1,37 +1,30 @@
 //! The links that people write, judged at one pass: a special scheme, a plain domain, a port or none, and a path, a
 //! query and a fragment of URL units; against a base of a special scheme also without the scheme. Where only what
 //! stands before the path is so, that is known of the text, and all other texts are judged by their parts.
-ghost use Rattle.std.specs.Prelude.{◌≡◌, ◌≢◌, ◌++◌, ◌∷◌, ◌<◌, [], ℕ, List, false, true, Option, IfSome, IsTrue};
-ghost use Rattle.std.specs.Prelude.{drop, length};
-ghost use Rattle.std.specs.Char.{is_ascii_digit};
-ghost use Rattle.std.specs.List.{prefix_len};
+ghost use Rattle.std.specs.Prelude.{◌≡◌, ◌≢◌, ◌<◌, [], ℕ, List, false, true, Option, IfSome, IsTrue};
 ghost use Rattle.std.specs.Str.{IsAscii, chars};
 ghost use Rattle.uv_model.specs.declared.profile.Profile.{Profile};
-ghost use Rattle.uv_model.specs.Ascii.{slash};
 ghost use Rattle.uv_model.specs.Cut.{starts_with_two_slashes};
 ghost use Rattle.uv_model.specs.Path.{starts_with_slash};
 ghost use Rattle.uv_model.specs.Records.Url.{Url};
-ghost use Rattle.uv_model.specs.Scheme.{default_port};
 ghost use Rattle.uv_grammar.specs.Bases.{as_base};
-ghost use Rattle.uv_grammar.specs.PlainLinks.{HasAsciiPrefix, IsPrefixCut, IsNameCut, IsPartCut, IsPathCut};
-ghost use Rattle.uv_grammar.specs.PlainLinks.{IsPlainCut, IsPlainStart, IsPortCut, IsSpecialBase, IsSpecialCut};
-ghost use Rattle.uv_grammar.specs.PlainLinks.{IsSpecialPrefix, begins_behind};
+ghost use Rattle.uv_grammar.specs.PlainLinks.{IsPartCut, IsPathCut, IsPlainCut, IsPlainStart, IsSpecialBase};
+ghost use Rattle.uv_grammar.specs.PlainLinks.{begins_behind};
 ghost use Rattle.uv_grammar.specs.Slices.{chars_of, chars_of_option};
 ghost use Rattle.uv_grammar.specs.Verdict.{IsAccepted};
 
-use crate::authority::without_default;
 use crate::bases::Base;
 use crate::built::build;
-use crate::cut::{Cut, split_scheme};
-use crate::judged::Judged;
+use crate::cut::Cut;
 use crate::marks::beginnings::{has_slash, has_two_slashes};
-use crate::marks::behind_slash;
 use crate::parts::Parts;
 use crate::parts_host::{AsciiText, PartsHost};
-use crate::port::judge_port;
+use crate::plain_prefixes::{
+    begins_upper, begins_with, split_name, split_port, split_prefix, split_slashes, split_special,
+    split_upper, split_wide_name,
+};
 use crate::setting::known_class;
-use uv_host::{is_plain_domain, is_plain_wide_domain, name_prefix, wide_name_prefix};
-use uv_model::{Class, class_of, default_port};
+use uv_model::Class;
 use uv_text::{Tail, UnitClass, split_tail};
 
 /// The texts of the scheme, the domain and the port of a text, where they are those of a plain link, and what follows
@@ -124,10 +117,49 @@ pub(crate) fn wide_start<'t>(text: &'t str) -> Option<PlainStart<'t>>
     })
 }
 
-/// The plain start of a reference, by each profile: `//` in place of the scheme and `://`, against a base of a special
-/// scheme.
+/// Whether a text may have another plain start: `//` without a scheme, or a scheme that begins with a capital.
+pub(crate) fn may_start_otherwise(text: &str) -> bool {
+    has_slash(text) || begins_upper(text)
+}
+
+/// Such a start, by each profile.
 #[inline(always)]
-pub(crate) fn reference_start<'t>(text: &'t str, base: Option<Base<'_>>) -> Option<PlainStart<'t>>
+pub(crate) fn other_start<'t>(text: &'t str, base: Option<Base<'_>>) -> Option<PlainStart<'t>>
+    ensures { IfSome result (λ start. (profile : Profile)
+        → IsPlainStart profile (as_base base.entry) (chars text.now) start) }
+{
+    if has_slash(text) {
+        reference_start(text, base)
+    } else {
+        upper_start(text)
+    }
+}
+
+// The same of a text whose scheme begins with a capital, against any base.
+fn upper_start<'t>(text: &'t str) -> Option<PlainStart<'t>>
+    ensures { IfSome result (λ start. (profile : Profile) (base : Option Url)
+        → IsPlainStart profile base (chars text.now) start) }
+{
+    let Some((scheme, behind)) = split_upper(text) else {
+        return None;
+    };
+    let Some((name, rest)) = split_name(&behind) else {
+        return None;
+    };
+    let Some((port_text, port, rest)) = split_port(rest, scheme) else {
+        return None;
+    };
+    Some(PlainStart {
+        scheme: Some(scheme),
+        name,
+        port_text,
+        port,
+        rest,
+    })
+}
+
+// The same of a reference, against a base of a special scheme: `//` in place of the scheme and `://`.
+fn reference_start<'t>(text: &'t str, base: Option<Base<'_>>) -> Option<PlainStart<'t>>
     ensures { IfSome result (λ start. (profile : Profile)
         → IsPlainStart profile (as_base base.entry) (chars text.now) start) }
 {
@@ -195,69 +227,6 @@ fn has_behind(bytes: &[u8]) -> bool
     }
 }
 
-// A special scheme but `file`, in lower case or with a capital at its start, and what stands behind its `://`.
-#[inline(always)]
-fn split_special<'t>(text: &'t str) -> Option<(&'t str, Tail<'t>)>
-    ensures { IfSome result (λ r. IsSpecialCut (chars text.now) (chars_of r.0) (chars r.1)) }
-{
-    let Some(end) = special_end(text.as_bytes()) else {
-        return split_upper(text);
-    };
-    let (scheme, behind) = split_prefix(&Tail::of(text), end);
-    let (_, rest) = split_prefix(&behind, 3);
-    Some((scheme, rest))
-}
-
-// The same of a scheme that begins with a capital.
-fn split_upper<'t>(text: &'t str) -> Option<(&'t str, Tail<'t>)>
-    ensures { IfSome result (λ r. IsSpecialCut (chars text.now) (chars_of r.0) (chars r.1)) }
-{
-    if !begins_upper(text.as_bytes()) {
-        return None;
-    }
-    let (scheme, rest) = split_scheme(text);
-    let Some(scheme) = scheme else {
-        return None;
-    };
-    let Some(behind) = behind_two_slashes(rest) else {
-        return None;
-    };
-    match class_of(scheme) {
-        Class::Special => Some((scheme, Tail::of(behind))),
-        Class::File | Class::Other => None,
-    }
-}
-
-// Whether the first byte is an upper-case letter.
-fn begins_upper(bytes: &[u8]) -> bool {
-    match bytes {
-        [first, ..] => first.is_ascii_uppercase(),
-        [] => false,
-    }
-}
-
-// What follows `//` at the text's start.
-fn behind_two_slashes<'t>(text: &'t str) -> Option<&'t str>
-    ensures { IfSome result (λ r. chars text.now ≡ slash ∷ slash ∷ chars_of r) }
-{
-    match behind_slash(text) {
-        Some(rest) => behind_slash(rest),
-        None => None,
-    }
-}
-
-// What stands behind `//` at the text's start.
-#[inline(always)]
-fn split_slashes<'t>(text: &'t str) -> Option<Tail<'t>>
-    ensures { IfSome result (λ rest. chars text.now ≡ slash ∷ slash ∷ chars rest) }
-{
-    if !has_prefix(text.as_bytes(), b"//") {
-        return None;
-    }
-    let (_, rest) = split_prefix(&Tail::of(text), 2);
-    Some(rest)
-}
-
 // The scheme of a base, where it is a special one and the path isn't opaque.
 fn special_base<'b>(base: Option<Base<'b>>) -> Option<&'b str>
     ensures { IfSome result (λ scheme. IsSpecialBase (as_base base.entry) (chars_of scheme)) }
@@ -273,102 +242,6 @@ fn special_base<'b>(base: Option<Base<'b>>) -> Option<&'b str>
         Class::Special => Some(name),
         Class::File | Class::Other => None,
     }
-}
-
-// How many bytes a special scheme has at its start.
-#[inline(always)]
-fn special_end(bytes: &[u8]) -> Option<usize>
-    ensures { IfSome result (IsSpecialPrefix bytes.now) }
-{
-    if has_prefix(bytes, b"https://") {
-        Some(5)
-    } else if has_prefix(bytes, b"http://") {
-        Some(4)
-    } else if has_prefix(bytes, b"ftp://") {
-        Some(3)
-    } else if has_prefix(bytes, b"wss://") {
-        Some(3)
-    } else if has_prefix(bytes, b"ws://") {
-        Some(2)
-    } else {
-        None
-    }
-}
-
-// Whether the bytes begin with these.
-fn has_prefix(bytes: &[u8], prefix: &[u8]) -> bool
-    ensures { IsTrue result → bytes.now ≡ prefix.now ++ drop (length prefix.now) bytes.now }
-{
-    bytes.starts_with(prefix)
-}
-
-// Whether the first byte is this one.
-fn begins_with(bytes: &[u8], mark: u8) -> bool
-    ensures { IsTrue result → bytes.now ≡ mark ∷ drop 1 bytes.now }
-{
-    match bytes {
-        [first, ..] => *first == mark,
-        [] => false,
-    }
-}
-
-// A plain domain, and what follows it.
-#[inline(always)]
-fn split_name<'t>(text: &Tail<'t>) -> Option<(&'t str, Tail<'t>)>
-    ensures { IfSome result (λ r. (profile : Profile)
-        → IsNameCut profile (chars text.now) (chars_of r.0) r.0.now (chars r.1)) }
-{
-    let Some(end) = name_prefix(text) else {
-        return None;
-    };
-    let (name, rest) = split_prefix(text, end);
-    if is_plain_domain(name) {
-        Some((name, rest))
-    } else {
-        None
-    }
-}
-
-// The same by the wide profile, in which low lines count as letters.
-#[inline(always)]
-fn split_wide_name<'t>(text: &Tail<'t>) -> Option<(&'t str, Tail<'t>)>
-    ensures { IfSome result (λ r. IsNameCut Profile.Wide (chars text.now) (chars_of r.0) r.0.now (chars r.1)) }
-{
-    let Some(end) = wide_name_prefix(text) else {
-        return None;
-    };
-    let (name, rest) = split_prefix(text, end);
-    if is_plain_wide_domain(name) {
-        Some((name, rest))
-    } else {
-        None
-    }
-}
-
-// The text of a valid port, where there is a `:`, its number where it isn't the scheme's default, and what follows it.
-fn split_port<'t>(text: Tail<'t>, scheme: &str) -> Option<(Option<&'t str>, Option<u16>, Tail<'t>)>
-    ensures { IfSome result (λ r. IsPortCut (default_port (chars scheme.now)) (chars text.entry)
-        (chars_of_option r.0) r.1 (chars r.2)) }
-{
-    if !begins_with(text.as_str().as_bytes(), b':') {
-        return Some((None, None, text));
-    }
-    let (_, behind) = split_prefix(&text, 1);
-    let (port_text, rest) = split_prefix(&behind, digits_prefix(behind.as_str().as_bytes()));
-    match judge_port(port_text) {
-        Judged::Valid(number) => {
-            let port = without_default(default_port(scheme), number);
-            Some((Some(port_text), port, rest))
-        }
-        Judged::Refused(_) => None,
-    }
-}
-
-// How many digits the bytes begin with.
-fn digits_prefix(bytes: &[u8]) -> usize
-    ensures { result ≡ prefix_len is_ascii_digit bytes.now }
-{
-    bytes.iter().take_while(|b| b.is_ascii_digit()).count()
 }
 
 // A path of units, and what follows it.
@@ -407,13 +280,4 @@ fn split_part<'t>(text: Tail<'t>, mark: u8) -> (Option<&'t str>, Tail<'t>)
     let (_, behind) = split_prefix(&text, 1);
     let (part, rest) = split_tail(&behind, UnitClass::Url);
     (Some(part), rest)
-}
-
-// The two sides of the end of an ASCII prefix.
-#[inline(always)]
-fn split_prefix<'t>(text: &Tail<'t>, end: usize) -> (&'t str, Tail<'t>)
-    requires { HasAsciiPrefix text.now end }
-    ensures { IsPrefixCut text.now end result.0.now result.1 }
-{
-    text.split_at(end)
 }

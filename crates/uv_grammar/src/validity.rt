@@ -8,8 +8,7 @@ ghost use Rattle.uv_grammar.specs.PlainLinks.{IsPlainStart};
 ghost use Rattle.uv_grammar.specs.Verdict.{IsValidity};
 
 use crate::bases::{Base, BaseKind};
-use crate::checker::{Verdict, check_by_parts, check_from, check_reference};
-use crate::marks::beginnings::has_slash;
+use crate::checker::{Verdict, check_started, check_unstarted};
 use crate::plain_links::{PlainStart, plain_cut, plain_start};
 use std::alloc::{AllocError, Global};
 use uv_model::{Profile, Record};
@@ -66,7 +65,7 @@ fn is_valid_from(
     ensures answer { IfOk result (IsValidity profile (as_base base.entry) (chars text.now)) }
     ensures memory { TakesNoMemoryAgainst profile (as_base base.entry) (chars text.now) → IsOk result }
 {
-    match check_from(alloc, text, start, base, profile)? {
+    match check_started(alloc, text, start, base, profile)? {
         Verdict::Yes(..) => Ok(true),
         Verdict::No(..) => Ok(false),
     }
@@ -82,12 +81,7 @@ fn is_valid_otherwise(
     ensures answer { IfOk result (IsValidity profile (as_base base.entry) (chars text.now)) }
     ensures memory { TakesNoMemoryAgainst profile (as_base base.entry) (chars text.now) → IsOk result }
 {
-    let verdict = if has_slash(text) {
-        check_reference(alloc, text, base, profile)
-    } else {
-        check_by_parts(alloc, text, base, profile)
-    };
-    match verdict? {
+    match check_unstarted(alloc, text, base, profile)? {
         Verdict::Yes(_) => Ok(true),
         Verdict::No(_) => Ok(false),
     }

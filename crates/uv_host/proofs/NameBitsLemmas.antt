@@ -14,7 +14,7 @@ use Rattle.std.proofs.lemmas.Nat.{and_le_l, or_lt}
 use Rattle.std.proofs.lemmas.Simd.{bit_mask_l}
 use Rattle.std.proofs.lemmas.Nat.Bits.{bit_at-lt, bit_at-trailing_ones, bit_at_above, bit_at_and, bit_at_cat_high}
 use Rattle.std.proofs.lemmas.Nat.Bits.{bit_at_cat_low, bit_at_or}
-use Rattle.uv_text.specs.Rows.{high_bit, is_in_rows, row_at}
+use Rattle.uv_text.specs.Rows.{HasBitsOf, high_bit, is_in_rows, row_at}
 use Rattle.uv_text.proofs.MaskLemmas.{bit-set, mask-small}
 use Rattle.uv_host.specs.declared.plain_names.TheConstants.{JOINT_ROWS, SIGN_ROWS, WIDE_SIGN_ROWS}
 use Rattle.uv_host.specs.PlainNames.{IsJoined, goes_on, is_joint, is_sign, signed_before}
@@ -55,6 +55,12 @@ sign_bits xs = ap mask_l (same_map (is_in_rows SIGN_ROWS) (is_sign false) xs sig
 
 pub wide_sign_bits : (xs : List ℕ) → mask_l (map (is_in_rows WIDE_SIGN_ROWS) xs) ≡ mask_l (map (is_sign true) xs)
 wide_sign_bits xs = ap mask_l (same_map (is_in_rows WIDE_SIGN_ROWS) (is_sign true) xs wide_sign_rows)
+
+-- those of a load are those of its bytes
+pub loaded_signs : (low : Bool) (bytes load : List ℕ) → HasBitsOf bytes load
+    → mask_l (map (is_sign low) load) ≡ mask_l (map (is_sign low) bytes)
+loaded_signs false bytes load has = sym (sign_bits load) ∙ has SIGN_ROWS ∙ sign_bits bytes
+loaded_signs true bytes load has = sym (wide_sign_bits load) ∙ has WIDE_SIGN_ROWS ∙ wide_sign_bits bytes
 
 -- and the marks
 joint_rows : (b : ℕ) → is_in_rows JOINT_ROWS b ≡ is_joint b

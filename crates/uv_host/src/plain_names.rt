@@ -1,6 +1,6 @@
 //! Plain names: letters and digits with single marks between them.
 ghost use Rattle.std.specs.Prelude.{◌≡◌, ◌^◌, ◌<◌, ◌≤◌, false, IfSome, IsTrue, chars, drop, length, map, slice_index};
-ghost use Rattle.std.specs.Prelude.{take, true};
+ghost use Rattle.std.specs.Prelude.{true};
 ghost use Rattle.std.specs.Simd.Lanes.{mask_l};
 ghost use Rattle.uv_host.specs.PlainNames.{IsChainPrefix, IsChainPrefixOf, IsJoined, IsRootedChain, IsShortWideName};
 ghost use Rattle.uv_host.specs.PlainNames.{IsWideChainPrefix, is_rooted_chain, is_rooted_chain_of, is_sign};
@@ -9,7 +9,7 @@ ghost use Rattle.uv_model.specs.declared.profile.Profile.{Profile};
 ghost use Rattle.uv_model.specs.Hosts.Domain as spec;
 
 use crate::domains::{has_lengths, is_number};
-use uv_text::Tail;
+use uv_text::{Load, Tail};
 
 // The lower-case letters and the digits, by the low half of a byte: a bit for each high half.
 const SIGN_ROWS: [u8; 16] = [
@@ -85,8 +85,9 @@ fn chain_run(text: &Tail<'_>, place: usize, signed: bool, low: bool) -> (usize, 
     ensures short { length text.now < 2 ^ 64 }
     ensures signed { result.0 ≡ 32 → result.1 ≡ is_sign low (slice_index (drop place text.now) 31) }
 {
-    let signs = sign_bits(text, place, low);
-    let joints = text.row_bits(place, &JOINT_ROWS);
+    let load = text.load(place);
+    let signs = sign_bits(&load, low);
+    let joints = load.row_bits(&JOINT_ROWS);
     let behind_signs = signs << 1 | u64::from(signed);
     let joined = signs | joints & behind_signs;
     (joined.trailing_ones() as usize, signs >> 31 == 1)
@@ -123,9 +124,9 @@ pub(crate) fn ends_in_word(name: &[u8]) -> bool
     ensures { IsTrue result → spec.ends_in_number name.now ≡ false }
 {
     match name {
+        [.., last] if is_word_letter(*last) => true,
         [.., last, b'.'] => is_word_letter(*last),
-        [.., last] => is_word_letter(*last),
-        [] => false,
+        _ => false,
     }
 }
 
@@ -136,17 +137,15 @@ fn is_word_letter(b: u8) -> bool
     b > b'f' && b <= b'z' && b != b'x'
 }
 
-// At each of the 32 bytes from a place on a bit, which is set where the byte is a letter or a digit.
+// At each of the bytes a bit, which is set where the byte is a letter or a digit.
 #[inline(always)]
-fn sign_bits(text: &Tail<'_>, place: usize, low: bool) -> u64
-    requires { place ≤ length text.now }
-    ensures bits { result ≡ mask_l (map (is_sign low) (take 32 (drop place text.now))) }
-    ensures short { length text.now < 2 ^ 64 }
+fn sign_bits(load: &Load, low: bool) -> u64
+    ensures { result ≡ mask_l (map (is_sign low) load.now) }
 {
     if low {
-        text.row_bits(place, &WIDE_SIGN_ROWS)
+        load.row_bits(&WIDE_SIGN_ROWS)
     } else {
-        text.row_bits(place, &SIGN_ROWS)
+        load.row_bits(&SIGN_ROWS)
     }
 }
 

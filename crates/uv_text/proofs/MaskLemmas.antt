@@ -43,7 +43,7 @@ mask-drop (suc k) (m ∷ ms) =
     ∙ (div-div-eq-div-mul (cond m 1 0 + 2 * mask_l ms) 2 (2 ^ k) ∙ ap (λ n. (cond m 1 0 + 2 * mask_l ms) / n) two)
 
 -- what 32 bytes have behind their first so many, where no more than these 32 are left or none is passed over
-taken-behind : (start k : ℕ) (xs : List ℕ) → (k ≢ 0 → length xs ≤ start + 32)
+pub taken-behind : (start k : ℕ) (xs : List ℕ) → (k ≢ 0 → length xs ≤ start + 32)
     → drop k (take 32 (drop start xs)) ≡ take 32 (drop (start + k) xs)
 taken-behind start k xs last = elim (cases_eq k 0) [
   | inl none ↦ rw none (ap (λ n. take 32 (drop n xs)) (sym (add-zero start)))

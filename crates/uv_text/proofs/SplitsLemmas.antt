@@ -66,6 +66,15 @@ module _ (held : ℕ → Bool) where
       let whole : part.passed ≡ unit_length held text = omega (arith, part.further, none) in
       part.is_rest ∙ ap (λ n. drop n text) whole
 
+  -- behind a part stands what follows the prefix of what stands behind it
+  pub passes_prefix : (text behind rest : List ℕ) → PassesUnits held text behind
+      → rest ≡ drop (unit_length held behind) behind → rest ≡ drop (unit_length held text) text
+  passes_prefix text behind rest part is =
+      is
+      ∙ ap (drop (unit_length held behind)) part.is_rest
+      ∙ drop-drop (unit_length held behind) part.passed text
+      ∙ ap (λ n. drop n text) (sym part.further)
+
   -- the prefix is a part of the text
   pub unit_length-le : (text : List ℕ) → unit_length held text ≤ length text
   unit_length-le [] = omega arith
@@ -302,6 +311,16 @@ split_bytes bytes rest n u v is =
         is_rest = ap (λ k. drop k bytes) end ∙ ap (drop (length prefix)) spelled ∙ drop-append_seam prefix rest;
       };
     }
+
+-- what stands before them is the prefix
+pub prefix_before : (bytes prefix rest : List ℕ) (n : ℕ) → IsUtf8 bytes → IsUtf8 rest → prefix ++ rest ≡ bytes
+    → chars rest ≡ drop n (chars bytes) → chars prefix ≡ take n (chars bytes)
+prefix_before bytes prefix rest n u v joined is =
+    let long : length prefix ≡ length bytes - length rest =
+    omega (arith, ap length joined, length-append prefix rest) in
+    let same : prefix ≡ take (length bytes - length rest) bytes =
+    sym (take-append_seam prefix rest) ∙ ap (take (length prefix)) joined ∙ ap (λ k. take k bytes) long in
+    ap chars same ∙ (split_bytes bytes rest n u v is).prefix
 
 -- ---- classes of units
 

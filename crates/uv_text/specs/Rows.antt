@@ -1,6 +1,7 @@
 -- Classes of ASCII bytes by the two halves of a byte, as sixteen rows of eight bits.
 use Rattle.std.specs.Prelude.{◌≡◌, ℕ, ◌<◌, ◌+◌, ◌/◌, ◌%◌, Bool, not, List, [], ◌∷◌, ◌==◌, length, if◌then◌else◌}
-use Rattle.std.specs.Prelude.{slice_index, bit_and, bit_or}
+use Rattle.std.specs.Prelude.{slice_index, bit_and, bit_or, map}
+use Rattle.std.specs.Simd.Lanes.{mask_l}
 use Rattle.uv_text.specs.Class.{in_class}
 
 -- the row of a byte's low half
@@ -45,3 +46,7 @@ HoldClass rows held = (b : ℕ) → b < 256 → is_in_rows rows b ≡ held b
 pub record StandsTwice (table lanes : List ℕ) : Type 0 where
   pub long : length lanes ≡ 32
   pub each : (k : ℕ) → k < 32 → slice_index lanes k ≡ slice_index table (k % 16)
+
+-- by any rows the load has the bits of the bytes
+abbrev pub HasBitsOf : List ℕ → List ℕ → Type 0
+HasBitsOf bytes load = (rows : List ℕ) → mask_l (map (is_in_rows rows) load) ≡ mask_l (map (is_in_rows rows) bytes)

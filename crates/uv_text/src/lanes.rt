@@ -3,9 +3,10 @@
 ghost use Rattle.std.specs.Prelude.{◌≡◌, ◌+◌, ◌≤◌, ◌==◌, drop, length, map, take};
 ghost use Rattle.std.specs.Simd.Lanes.{mask_l};
 ghost use Rattle.std.specs.List.{prefix_len};
-ghost use Rattle.uv_text.specs.Rows.{StandsTwice, high_bit, is_in_rows, row_at};
+ghost use Rattle.uv_text.specs.Rows.{HasBitsOf, StandsTwice, high_bit, is_in_rows, row_at};
 ghost use Rattle.uv_text.specs.Splits.{ascii_unit_length};
 
+use std::marker::Model;
 use std::simd::prelude::*;
 
 // At the high half of a byte, its bit in a row.
@@ -57,29 +58,64 @@ fn lane_bits(v: u8x32, rows: &[u8; 16]) -> u64
         .to_bitmask()
 }
 
-// The same of at most 32 bytes, by a load that is filled up.
-fn short_bits(bytes: &[u8], rows: &[u8; 16]) -> u64
-    requires { length bytes.now ≤ 32 }
-    ensures { result ≡ mask_l (map (is_in_rows rows.now) bytes.now) }
-{
-    let mut block = [BEYOND_ASCII; 32];
-    block[..bytes.len()].copy_from_slice(bytes);
-    lane_bits(u8x32::from_array(block), rows)
+/// Up to 32 bytes of a text from a place on, loaded at once. Contracts see them, with what fills a load up behind the
+/// last of them, which is in no rows.
+#[derive(Drop)]
+pub struct Load {
+    lanes: u8x32,
+    before: usize,
 }
 
-/// At each of the 32 bytes from a place on a bit, the first the lowest, which is set where the byte is in the rows;
-/// behind the last byte there is none. Where fewer than 32 bytes are left, the load begins before the place, since what
-/// is copied into a block and loaded at once has to be waited for.
-#[inline(always)]
-pub(crate) fn row_bits(bytes: &[u8], place: usize, rows: &[u8; 16]) -> u64
-    requires { place ≤ length bytes.now }
-    ensures { result ≡ mask_l (map (is_in_rows rows.now) (take 32 (drop place bytes.now))) }
-{
-    if bytes.len() < 32 {
-        return short_bits(&bytes[place..], rows);
+impl Model for Load {
+    ghost use Rattle.std.specs.Prelude.{ℕ, List, ◌≤◌, drop};
+
+    ghost Value = { List ℕ };
+
+    ghost view = { λ l. drop l.before l.lanes };
+
+    ghost invariant = { λ l. l.before ≤ 32 };
+}
+
+impl Load {
+    /// The bytes from a place on. Where fewer than 32 are left, the load begins before the place, since what is copied
+    /// into a block and loaded at once has to be waited for.
+    #[inline(always)]
+    pub(crate) fn of(bytes: &[u8], place: usize) -> Load
+        requires { place ≤ length bytes.now }
+        ensures { HasBitsOf (take 32 (drop place bytes.now)) result }
+    {
+        if bytes.len() < 32 {
+            return Load::filled(&bytes[place..]);
+        }
+        let start = place.min(bytes.len() - 32);
+        Load {
+            lanes: u8x32::from_slice(&bytes[start..]),
+            before: place - start,
+        }
     }
-    let start = place.min(bytes.len() - 32);
-    lane_bits(u8x32::from_slice(&bytes[start..]), rows) >> (place - start)
+
+    // The same of at most 32 bytes, filled up.
+    #[inline(always)]
+    fn filled(bytes: &[u8]) -> Load
+        requires { length bytes.now ≤ 32 }
+        ensures { HasBitsOf bytes.now result }
+    {
+        let mut block = [BEYOND_ASCII; 32];
+        block[..bytes.len()].copy_from_slice(bytes);
+        Load {
+            lanes: u8x32::from_array(block),
+            before: 0,
+        }
+    }
+
+    /// At each of the bytes a bit, the first the lowest, which is set where the byte is in the rows. Behind the last
+    /// byte of the text there is none.
+    #[inline(always)]
+    pub fn row_bits(&self, rows: &[u8; 16]) -> u64
+        ensures { result ≡ mask_l (map (is_in_rows rows.now) self.now) }
+    {
+        lane_bits(self.lanes, rows) >> self.before
+    }
 }
 
 // How many of the 32 bytes from a place on are in the rows before one that isn't.
@@ -88,7 +124,8 @@ fn row_prefix(bytes: &[u8], place: usize, rows: &[u8; 16]) -> usize
     requires { place ≤ length bytes.now }
     ensures { result ≡ prefix_len (is_in_rows rows.now) (take 32 (drop place bytes.now)) }
 {
-    row_bits(bytes, place, rows).trailing_ones() as usize
+    let load = Load::of(bytes, place);
+    load.row_bits(rows).trailing_ones() as usize
 }
 
 /// The place behind the longest run of bytes in the rows that begins at a place.
@@ -136,9 +173,10 @@ fn unit_prefix(bytes: &[u8], place: usize, rows: &[u8; 16]) -> usize
     requires { place ≤ length bytes.now }
     ensures { result ≡ ascii_unit_length (is_in_rows rows.now) (take 32 (drop place bytes.now)) }
 {
-    let held = row_bits(bytes, place, rows);
-    let percents = row_bits(bytes, place, &PERCENT_ROWS);
-    let digits = row_bits(bytes, place, &HEX_ROWS);
+    let load = Load::of(bytes, place);
+    let held = load.row_bits(rows);
+    let percents = load.row_bits(&PERCENT_ROWS);
+    let digits = load.row_bits(&HEX_ROWS);
     let units = held | percents & digits >> 1 & digits >> 2;
     units.trailing_ones() as usize
 }

@@ -12,6 +12,7 @@ mod units;
 pub use class::{ByteClass, unit_run};
 pub use escapes::{encode, push_encoded};
 pub use faults::first_fault;
+pub use lanes::Load;
 pub use splits::{count_code_points, split_tail, split_units};
 pub use tail::Tail;
 pub use units::UnitClass;

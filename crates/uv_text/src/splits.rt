@@ -1,6 +1,6 @@
 //! A text cut behind its longest prefix of URL units, by lanes where it is ASCII.
-ghost use Rattle.std.specs.Prelude.{◌≡◌, ◌<◌, ◌==◌, IfSome, MatchOption, drop, false, length, true};
-ghost use Rattle.std.specs.Str.{chars};
+ghost use Rattle.std.specs.Prelude.{◌≡◌, ◌<◌, ◌==◌, ◌++◌, IfSome, MatchOption, drop, false, length, true};
+ghost use Rattle.std.specs.Str.{IsUtf8, chars};
 ghost use Rattle.uv_model.specs.Ascii.{percent_sign};
 ghost use Rattle.uv_text.specs.Splits.{IsUnitSplit, PassesMarks, PassesUnits, class_has, starts_beyond_ascii, starts_in};
 ghost use Rattle.uv_text.specs.Splits.{starts_with_mark, unit_length};
@@ -18,27 +18,18 @@ pub fn split_units<'t>(text: &'t str, class: UnitClass) -> (&'t str, &'t str)
     (prefix, rest.as_str())
 }
 
-/// The same of a tail.
+/// The same of a tail. Most texts have no escape and no code point beyond ASCII, and their prefix is one run.
 #[inline(always)]
 pub fn split_tail<'t>(text: &Tail<'t>, class: UnitClass) -> (&'t str, Tail<'t>)
     ensures { IsUnitSplit (class_has class) (chars text.now) (chars result.0.now) (chars result.1) }
 {
-    let rest = behind_units(text, class);
+    let (run, rest) = split_run(text, class);
+    if !may_begin_mark(rest.as_str().as_bytes()) {
+        return (run, rest);
+    }
+    let rest = behind_rest(rest, class);
     let whole = text.as_str();
     (&whole[..whole.len() - rest.as_str().len()], rest)
-}
-
-// What follows the prefix. Most texts have no escape and no code point beyond ASCII.
-#[inline(always)]
-fn behind_units<'t>(text: &Tail<'t>, class: UnitClass) -> Tail<'t>
-    ensures { chars result ≡ drop (unit_length (class_has class) (chars text.now)) (chars text.now) }
-{
-    let rest = behind_run(text, class);
-    if may_begin_mark(rest.as_str().as_bytes()) {
-        behind_rest(rest, class)
-    } else {
-        rest
-    }
 }
 
 // Whether the first byte is `%` or beyond ASCII.
@@ -114,8 +105,19 @@ fn behind_run<'t>(text: &Tail<'t>, class: UnitClass) -> Tail<'t>
     ensures passes { PassesUnits (class_has class) (chars text.now) (chars result) }
     ensures stops { starts_in (class_has class) (chars result) ≡ false }
 {
-    let (_, rest) = text.split_at(text.class_run(class));
+    let (_, rest) = split_run(text, class);
     rest
+}
+
+// A run of bytes of the class, and what stands behind it.
+#[inline(always)]
+fn split_run<'t>(text: &Tail<'t>, class: UnitClass) -> (&'t str, Tail<'t>)
+    ensures joined { result.0.now ++ result.1 ≡ text.now }
+    ensures text { IsUtf8 text.now }
+    ensures passes { PassesUnits (class_has class) (chars text.now) (chars result.1) }
+    ensures stops { starts_in (class_has class) (chars result.1) ≡ false }
+{
+    text.split_at(text.class_run(class))
 }
 
 // What stands behind a run of URL code points beyond ASCII, where the text begins with one: they come in runs, so each

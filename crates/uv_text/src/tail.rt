@@ -1,13 +1,12 @@
 //! What stands behind a place of a text.
-ghost use Rattle.std.specs.Prelude.{◌≡◌, ◌+◌, ◌^◌, ◌<◌, ◌≤◌, drop, length, map, take};
+ghost use Rattle.std.specs.Prelude.{◌≡◌, ◌+◌, ◌^◌, ◌<◌, ◌≤◌, drop, length, take};
 ghost use Rattle.std.specs.List.{prefix_len};
-ghost use Rattle.std.specs.Simd.Lanes.{mask_l};
 ghost use Rattle.std.specs.Str.{IsCharBoundary, IsUtf8};
-ghost use Rattle.uv_text.specs.Rows.{is_in_rows};
+ghost use Rattle.uv_text.specs.Rows.{HasBitsOf};
 ghost use Rattle.uv_text.specs.Splits.{ascii_unit_length, class_has};
 ghost use Rattle.uv_text.specs.Tails.{EndsWith};
 
-use crate::lanes::row_bits;
+use crate::lanes::Load;
 use crate::units::UnitClass;
 use std::marker::Model;
 
@@ -77,15 +76,14 @@ impl<'t> Tail<'t> {
         }
     }
 
-    /// At each of the 32 bytes from a place on a bit, the first the lowest, which is set where the byte is in the rows;
-    /// behind the last byte there is none.
+    /// The bytes from a place on, loaded at once.
     #[inline(always)]
-    pub fn row_bits(&self, place: usize, rows: &[u8; 16]) -> u64
+    pub fn load(&self, place: usize) -> Load
         requires { place ≤ length self.now }
-        ensures bits { result ≡ mask_l (map (is_in_rows rows.now) (take 32 (drop place self.now))) }
+        ensures bits { HasBitsOf (take 32 (drop place self.now)) result }
         ensures short { length self.now < 2 ^ 64 }
     {
-        row_bits(self.whole.as_bytes(), self.place + place, rows)
+        Load::of(self.whole.as_bytes(), self.place + place)
     }
 
     // How many bytes it begins with that are in the class.

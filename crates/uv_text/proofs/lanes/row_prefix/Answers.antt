@@ -10,5 +10,5 @@ pub returns : goal.returns
 returns c =
     let xs = take 32 (drop c.args.place c.args.bytes.now) in
     let few = length-take 32 (drop c.args.place c.args.bytes.now) in
-    c.trailing_ones.ensures ∙ ap (trailing_ones w64) c.row_bits.ensures
+    c.trailing_ones.ensures ∙ ap (trailing_ones w64) (c.row_bits.ensures ∙ c.of-load.ensures c.args.rows.now)
     ∙ prefix-bits (is_in_rows c.args.rows.now) xs (omega arith)
