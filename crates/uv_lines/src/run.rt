@@ -75,14 +75,12 @@ fn run_pieces<R: Source, W: Sink, T: Reporter>(
     ensures report { OnOk result ((read : List ℕ)
         × Consumes (R.remaining reader.old) (R.remaining reader.new) read × IsAtEnd (R.remaining reader.new)
         × WroteAll (Reported T.reports progress.old.limits.line_bytes progress.old.reporter) progress.old.limits
-        (W.contents writer.old) read
-        progress.new.reporter (W.contents writer.new)) }
+        (W.contents writer.old) read progress.new.reporter (W.contents writer.new)) }
     ensures fault { IfErr result (λ e. (read : List ℕ)
         × Consumes (R.remaining reader.old) (R.remaining reader.new) read
         × Leaves (Reported T.reports progress.old.limits.line_bytes progress.old.reporter)
         (ReportedPart T.reports T.begins progress.old.limits.line_bytes progress.old.reporter) progress.old.limits e
-        (W.contents writer.old) read
-        (IsAtEnd (R.remaining reader.new)) progress.new.reporter (W.contents writer.new)
+        (W.contents writer.old) read (IsAtEnd (R.remaining reader.new)) progress.new.reporter (W.contents writer.new)
         × (R.failed reader.new ≡ R.failed reader.old + reads_failed e)
         × (W.failed writer.new ≡ W.failed writer.old + writes_failed e)) }
     ensures quiet { OnOk result ((R.failed reader.new ≡ R.failed reader.old)
