@@ -34,4 +34,5 @@ pub use explanation::{Explanation, explain};
 pub use format::Format;
 pub use line_violation::LineViolation;
 pub use mended::Mended;
+pub use message::push_message;
 pub use report::{end_of, push_begin, push_diagnostic, push_file_begin, push_file_end};

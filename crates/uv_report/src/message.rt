@@ -28,8 +28,8 @@ pub(crate) fn message(
     Ok(text)
 }
 
-/// Pushes what is reported of a line.
-pub(crate) fn push_message(
+/// Pushes what is reported of a line, in a sentence without its end.
+pub fn push_message(
     alloc: Global,
     text: &mut String,
     line: &str,
