@@ -22,13 +22,13 @@ _urlcheck() {
         mend:--only) words='same escaped changed' is_value=yes ;;
         *)
             case $command in
-                '') words='check lint links mend vectors explain help --help --version' ;;
-                check) words='--base --all --profile --wide --help' ;;
-                lint) words='--base --all --profile --wide --format --columns --located --quiet --help' ;;
-                links) words='--base --profile --wide --help' ;;
-                mend) words='--base --profile --wide --only --quiet --help' ;;
-                vectors) words='--help' ;;
-                explain) words='no-scheme opaque-base two-slashes host-missing host-domain host-number host-ipv6 host-code-point port-digit port-range first-segment-empty drive-after-host code-point percent not-utf8 line-too-long not-located --help' ;;
+                '') words='check lint links mend vectors explain help --help -h --version -V' ;;
+                check) words='--base --all --profile --wide --help -h' ;;
+                lint) words='--base --all --profile --wide --format --columns --located --quiet -q --help -h' ;;
+                links) words='--base --profile --wide --help -h' ;;
+                mend) words='--base --profile --wide --only --quiet -q --help -h' ;;
+                vectors) words='--help -h' ;;
+                explain) words='no-scheme opaque-base two-slashes host-missing host-domain host-number host-ipv6 host-code-point port-digit port-range first-segment-empty drive-after-host code-point percent not-utf8 line-too-long not-located --help -h' ;;
                 help) words='check lint links mend vectors explain help' ;;
             esac ;;
     esac

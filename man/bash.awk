@@ -2,10 +2,13 @@
 
 # the options and listed values that a command takes, and whether it takes files
 {
-    if ($2 == "option") words[$1] = words[$1] " " $3
+    if ($2 == "option") words[$1] = words[$1] " " $3 ($7 == "" ? "" : " " $7)
     if ($2 == "argument" && $6 != "") words[$1] = words[$1] " " $6
     if ($2 == "argument" && $4 == "FILE") takes_files[$1] = 1
-    if ($2 == "option" && $4 != "") values = values sprintf("        %s:%s) words='%s' is_value=yes ;;\n", $1, $3, $6)
+    if ($2 == "option" && $4 != "") {
+        short = $7 == "" ? "" : " | " $1 ":" $7
+        values = values sprintf("        %s:%s%s) words='%s' is_value=yes ;;\n", $1, $3, short, $6)
+    }
     if ($2 == "command") {
         commands = commands " " $3
         order[++count] = $3

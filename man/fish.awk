@@ -24,7 +24,8 @@ $2 == "command" {
 }
 
 $2 == "option" {
-    complete($1, " -l " substr($3, 3) ($4 == "" ? "" : " -x") ($6 == "" ? "" : " -a " quoted($6)) " -d " quoted($5))
+    short = $7 == "" ? "" : " -s " substr($7, 2)
+    complete($1, short " -l " substr($3, 3) ($4 == "" ? "" : " -x") ($6 == "" ? "" : " -a " quoted($6)) " -d " quoted($5))
 }
 
 $2 == "argument" && $6 != "" { complete($1, " -a " quoted($6)) }

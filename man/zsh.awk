@@ -19,8 +19,12 @@ $2 == "command" {
     names = names " " $3
 }
 
+# an option by its name, or by that of one letter too: then one of both is enough
 $2 == "option" {
-    spec[$1] = spec[$1] sprintf(" \\\n                '%s%s[%s]%s'", $3, $4 == "" ? "" : "=", quoted($5),
+    name = $3 ($4 == "" ? "" : "=")
+    if ($7 == "") name = "'" name
+    else name = "'(" $7 " " $3 ")'{" $7 ($4 == "" ? "" : "+") "," name "}'"
+    spec[$1] = spec[$1] sprintf(" \\\n                %s[%s]%s'", name, quoted($5),
         $4 == "" ? "" : ":" $4 ":" action($4, $6))
 }
 

@@ -49,6 +49,32 @@ reads bash -n "$top/completions/urlcheck.bash"
 reads zsh -n "$top/completions/_urlcheck"
 reads fish -n "$top/completions/urlcheck.fish"
 
+# Each option of the help stands in the completions of each shell, by its name and by that of one letter, if it has one.
+# offers SHELL COMMAND OPTION : the completions of a shell have an option of a command, or of the program
+offers() {
+    local of="use_subcommand " name=" -l ${3#--} "
+    [ -z "$2" ] || of="seen_subcommand_from $2' "
+    [ "${3#--}" != "$3" ] || name=" -s ${3#-} "
+    case $1 in
+        bash) sed -n "s/^ *${2:-''}) words='\(.*\)' ;;$/ \1 /p" "$top/completions/urlcheck.bash" | grep -q -e " $3 " ;;
+        fish) grep -e "$of" "$top/completions/urlcheck.fish" | grep -q -e "$name" ;;
+        zsh) sed -n "/${2:-CURRENT == 2}${2:+)$}/,/${2:+;;$}${2:-return}/p" "$top/completions/_urlcheck" |
+            grep -q -e "[',{]$3[=+,}[]" ;;
+    esac
+}
+for shell in bash fish zsh; do
+    count=$((count + 1))
+    for command in '' $("$program" --help | sed -n '/^Commands:$/,/^$/s/^  \([a-z]*\) .*/\1/p'); do
+        [ "$command" != help ] || continue
+        options=$("$program" $command --help | sed -n '/^Options:$/,/^$/p' |
+            grep -o -e '^ *\(-[a-zA-Z], \)\?--[a-z-]*' | tr -d ,)
+        [ -n "$options" ] || fail "the help of '$command' names no option"
+        for option in $options; do
+            offers $shell "$command" "$option" || fail "completions of $shell: '$command' lacks $option"
+        done
+    done
+done
+
 # completes WORDS WORD.. : behind these words bash completes the last one so
 completes() {
     local wanted=$1
@@ -77,4 +103,6 @@ completes '' lint --base ma
 completes 'parser' check --profile p
 completes 'standard wide parser' links --profile =
 completes '--quiet' lint --q
-all_cases 32
+completes '-q' lint -q
+completes '-V' -V
+all_cases 37
