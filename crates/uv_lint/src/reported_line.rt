@@ -20,7 +20,8 @@ use std::str::from_utf8;
 use uv_lines::{ReportFault, end_part};
 use uv_model::{DeviceFault, Sink};
 use uv_report::{
-    ColumnCounter, Diagnostic, LineViolation, push_diagnostic, push_file_begin, push_file_end,
+    ColumnCounter, Diagnostic, LineViolation, Mended, push_diagnostic, push_file_begin,
+    push_file_end,
 };
 
 /// A line, or the link of one, with the place where it stands.
@@ -105,22 +106,9 @@ impl<'l> ReportedLine<'l> {
         let mut is_first = is_first;
         let mut told = mended_in_place(mended, setting.columns, self.start, self.text);
         for violation in violations {
-            let diagnostic = Diagnostic {
-                file: self.file,
-                line: self.line,
-                column: counter.column(violation.place()),
-                violation: *violation,
-                text: self.text,
-                mended: told,
-            };
+            let found = self.diagnostic_in(counter.column(violation.place()), *violation, told);
             if let Err(fault) = say_framed(
-                alloc,
-                reported,
-                setting,
-                &diagnostic,
-                is_first,
-                text,
-                writer,
+                alloc, reported, setting, &found, is_first, text, writer,
             ) {
                 return Err(fault);
             }
@@ -128,6 +116,32 @@ impl<'l> ReportedLine<'l> {
             told = None;
         }
         Ok(())
+    }
+
+    // A diagnostic on the text, in this column.
+    fn diagnostic_in(
+        &self,
+        column: u64,
+        violation: LineViolation,
+        mended: Option<Mended<'l>>,
+    ) -> Diagnostic<'l>
+        ensures { result ≡ record {
+          file = self.now.file;
+          line = self.now.line;
+          column = column;
+          violation = violation;
+          text = self.now.text;
+          mended = mended.entry;
+        } }
+    {
+        Diagnostic {
+            file: self.file,
+            line: self.line,
+            column,
+            violation,
+            text: self.text,
+            mended,
+        }
     }
 }
 

@@ -61,7 +61,8 @@ loop-violation-preserved g c =
         said.0 ++ one,
         subst (λ t. Passes t old new c.say_framed.new.text.items) (append_assoc c.args.text.now.items said.0 one)
             (passes_more (c.args.text.now.items ++ said.0) one old (g.W.Sink.contents c.loop-violation.writer) new
-            c.loop-violation.text.items c.say_framed.new.text.items said.1 c.in_default.ensures.text),
+            c.loop-violation.text.items c.say_framed.new.text.items said.1
+            (rw c.diagnostic_in-found.ensures at c.in_default.ensures.text)),
         subst (λ before. IsSaidBefore setting.form setting.format setting.columns (reported_view line) c.args.is_first
             mended before (said.0 ++ one) false None)
             (sym (take_more violations i none c.loop-violation-test.true))
@@ -106,7 +107,7 @@ returns-in-Err-clause-fault g c =
     (g.W.Sink.contents c.say_framed.new.writer) c.loop-violation.text.items c.say_framed.new.text.items said.1
     (λ parts is. first_with setting.form setting.format setting.columns (reported_view line) c.args.is_first mended
     violations i said.0 one c.loop-violation.is_first (lent_if_mended told) parts said.2 with_one is)
-    c.in-Err.ensures.fault
+    (rw c.diagnostic_in-found.ensures at c.in-Err.ensures.fault)
 
 pub returns-in-Err-clause-failed : goal.returns-in-Err-clause-failed
 returns-in-Err-clause-failed g c =
