@@ -14,8 +14,10 @@ use Rattle.uv_links.specs.Run.{Leaves, Reports, reads_failed, writes_failed}
 use Rattle.uv_second.specs.Second.{AgreesOnBase}
 use Rattle.uv_resolve.specs.Base.{IsBase, IsBaseRefused}
 use Rattle.uv_vectors.specs.Run.{WritesVectors, WritesVectorsPrefix, is_judged}
+use Rattle.uv_words.specs.declared.words.FilterJob.{FilterJob}
 use Rattle.uv_words.specs.declared.words.Job.{Job}
 use Rattle.uv_words.specs.declared.words.Job.TheVariants as job
+use Rattle.uv_words.specs.declared.words.LintJob.{LintJob}
 use Rattle.uv_cli.specs.declared.check.CheckEnd.TheVariants as check
 use Rattle.uv_cli.specs.declared.explain.ExplainEnd.TheVariants as explain
 use Rattle.uv_vectors.specs.declared.fault.CliFault.TheVariants as cli
@@ -122,20 +124,28 @@ abbrev pub AtLent : Option (String Global) → (Option (Bor (List ℕ)) → Type
 AtLent text P =
     (lent : Option (Bor (List ℕ))) × (option_map (λ t. t.now) lent ≡ option_map string_bytes text) × P lent
 
+-- what a lint has read and written
+abbrev pub HasDoneLint : LintJob → End → Stream → Stream → Stream → Stream → Type 0
+HasDoneLint asked end input rest old new =
+    AtLent asked.base (λ base. AtLent asked.format (λ format. AtLent asked.columns (λ columns.
+    HasLinted asked base format columns end input rest old new)))
+
+-- the same of a filter
+abbrev pub HasDoneFilter : FilterJob → End → Stream → Stream → Stream → Stream → Type 0
+HasDoneFilter asked end input rest old new =
+    AtLent asked.base (λ base. AtLent asked.only (λ only. HasFiltered asked base only end input rest old new))
+
 -- what the job has read and written, where its file has these bytes
 abbrev pub HasDone : Job → List ℕ → End → Stream → Stream → Stream → Stream → Type 0
 HasDone (job.Check text base extent profile) bytes end input rest old new =
     AtLent base (λ lent. HasChecked extent profile lent (chars (string_bytes text)) end old new
     × RunsAgainst profile lent (chars (string_bytes text))) × (rest ≡ input)
-HasDone (job.Lint asked) bytes end input rest old new =
-    AtLent asked.base (λ base. AtLent asked.format (λ format. AtLent asked.columns (λ columns.
-    HasLinted asked base format columns end input rest old new)))
+HasDone (job.Lint asked) bytes end input rest old new = HasDoneLint asked end input rest old new
 HasDone (job.Links base profile) bytes end input rest old new =
     AtLent base (λ lent. HasListed profile lent end input rest old new)
 HasDone (job.Mend text base profile) bytes end input rest old new =
     AtLent base (λ lent. HasMended profile lent (string_bytes text) end old new) × (rest ≡ input)
-HasDone (job.Filter asked) bytes end input rest old new =
-    AtLent asked.base (λ base. AtLent asked.only (λ only. HasFiltered asked base only end input rest old new))
+HasDone (job.Filter asked) bytes end input rest old new = HasDoneFilter asked end input rest old new
 HasDone job.FilterOfText bytes ended input rest old new = (ended ≡ end.Words) × (rest ≡ input) × (new ≡ old)
 HasDone (job.Vectors file) bytes end input rest old new = HasRunVectors bytes end old new × (rest ≡ input)
 HasDone (job.Explain rule) bytes end input rest old new =

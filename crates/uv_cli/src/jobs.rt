@@ -1,7 +1,8 @@
 //! A job and the run that it asks for, over any reader and writer.
 ghost use Rattle.std.specs.Prelude.{◌≡◌, ◌-◌, ◌^◌, ◌<◌, chars};
 ghost use Rattle.uv_cli.specs.Check.{RunsAgainst};
-ghost use Rattle.uv_cli.specs.Jobs.{HasChecked, HasDone, HasRunExplain, HasRunVectors};
+ghost use Rattle.uv_cli.specs.Jobs.{HasChecked, HasDone, HasDoneFilter, HasDoneLint, HasRunExplain};
+ghost use Rattle.uv_cli.specs.Jobs.{HasRunVectors};
 ghost use Rattle.uv_cli.specs.Mend.{HasMended};
 
 use crate::check::{run_check, run_faults};
@@ -15,7 +16,7 @@ use std::alloc::Global;
 use std::fs::Files;
 use uv_model::{Extent, Profile, Sink, Source};
 use uv_vectors::run_vectors;
-use uv_words::Job;
+use uv_words::{FilterJob, Job, LintJob};
 
 /// Does what a job asks for: it checks the job's text, against the job's base and by the profile that the job names, or
 /// says what to write in its place, or says what is wrong with the lines of the job's files, or reports on the lines of
@@ -45,42 +46,71 @@ pub fn run_job<R: Files + Eprint + AllocGlobal, I: Source, S: Sink>(
             base,
             extent,
             profile,
-        } => check_text(
-            alloc,
-            text.as_str(),
-            base.as_deref(),
-            *extent,
-            *profile,
-            out,
-        ),
-        Job::Lint(asked) => lint_files(
-            rt,
-            asked,
-            asked.base.as_deref(),
-            asked.format.as_deref(),
-            asked.columns.as_deref(),
-            input,
-            out,
-        ),
+        } => check_text(rt, text.as_str(), base.as_deref(), *extent, *profile, out),
+        Job::Lint(asked) => lint_asked(rt, asked, input, out),
         Job::Links { base, profile } => list_links(alloc, base.as_deref(), *profile, input, out),
         Job::Mend {
             text,
             base,
             profile,
         } => mend_text(alloc, text.as_str(), base.as_deref(), *profile, out),
-        Job::Filter(asked) => filter_lines(
-            alloc,
-            asked,
-            asked.base.as_deref(),
-            asked.only.as_deref(),
-            input,
-            out,
-        ),
+        Job::Filter(asked) => filter_asked(alloc, asked, input, out),
         Job::FilterOfText => End::Words,
         Job::Vectors { .. } => vectors_run(alloc, file, out),
         Job::Explain { rule } => explained(alloc, rule.as_deref(), out),
         Job::UnknownProfile { .. } => End::UnknownProfile,
     }
+}
+
+// Says what is wrong with the lines of a lint's files.
+fn lint_asked<R: Files + Eprint + AllocGlobal, I: Source, S: Sink>(
+    rt: &R,
+    asked: &LintJob,
+    input: &mut I,
+    out: &mut S,
+) -> End
+    requires reads { I.failed input.old < 2 ^ 64 - 1 }
+    requires writes { S.failed out.old < 2 ^ 64 - 1 }
+    ensures { HasDoneLint asked.now result
+        (record { bytes = I.remaining input.old; failed = I.failed input.old })
+        (record { bytes = I.remaining input.new; failed = I.failed input.new })
+        (record { bytes = S.contents out.old; failed = S.failed out.old })
+        (record { bytes = S.contents out.new; failed = S.failed out.new }) }
+{
+    lint_files(
+        rt,
+        asked,
+        asked.base.as_deref(),
+        asked.format.as_deref(),
+        asked.columns.as_deref(),
+        input,
+        out,
+    )
+}
+
+// Mends the lines of the input.
+fn filter_asked<I: Source, S: Sink>(
+    alloc: Global,
+    asked: &FilterJob,
+    input: &mut I,
+    out: &mut S,
+) -> End
+    requires reads { I.failed input.old < 2 ^ 64 - 1 }
+    requires writes { S.failed out.old < 2 ^ 64 - 1 }
+    ensures { HasDoneFilter asked.now result
+        (record { bytes = I.remaining input.old; failed = I.failed input.old })
+        (record { bytes = I.remaining input.new; failed = I.failed input.new })
+        (record { bytes = S.contents out.old; failed = S.failed out.old })
+        (record { bytes = S.contents out.new; failed = S.failed out.new }) }
+{
+    filter_lines(
+        alloc,
+        asked,
+        asked.base.as_deref(),
+        asked.only.as_deref(),
+        input,
+        out,
+    )
 }
 
 // Says what to write in place of a text, alone or against a base.
@@ -120,8 +150,8 @@ fn vectors_run<S: Sink>(alloc: Global, file: &[u8], out: &mut S) -> End
 }
 
 // Checks a text, alone or against a base.
-fn check_text<S: Sink>(
-    alloc: Global,
+fn check_text<R: AllocGlobal, S: Sink>(
+    rt: &R,
     text: &str,
     base: Option<&str>,
     extent: Extent,
@@ -134,6 +164,7 @@ fn check_text<S: Sink>(
         (record { bytes = S.contents out.new; failed = S.failed out.new }) }
     ensures runs { RunsAgainst profile base.entry (chars text.now) }
 {
+    let alloc = rt.alloc();
     match extent {
         Extent::First => end_of_check(run_check(alloc, text, base, profile, out)),
         Extent::All => end_of_check(run_faults(alloc, text, base, profile, out)),
