@@ -38,7 +38,7 @@ ends_with() {
 }
 
 # no_base PLACE RULE SENTENCE : what is said on standard error of a base that this rule refuses
-no_base() { printf '%s' "urlcheck: the base is refused: $3\\nbase refused $1 $2\\n"; }
+no_base() { printf '%s' "urlcheck: the base is refused at place $1: $3\\nbase refused $1 $2\\n"; }
 
 # What is said of an output on which no space is left, of one that is closed, of an input that is a folder, and of one
 # that is closed.

@@ -108,7 +108,9 @@ ROWS
 
 # A base that is refused alone is named with its own place and rule, and of many faults with the least.
 expect 2 '' "$(no_base 7 host-missing 'a host has to stand here')" check --base http:// '#f'
-expect 2 '' "$(no_base 10 code-point 'this code point may not stand in a URL')" check --base 'http://h/a b' x
+expect 2 '' "$(no_base 10 code-point 'U+0020 SPACE may not stand in a URL')" check --base 'http://h/a b' x
+expect 2 '' "$(no_base 7 host-domain 'a URL string has no credentials: no user name, password or @ before its host')" \
+    check --base http://u@h/ x
 expect 2 '' "$(no_base 5 two-slashes '// has to follow this scheme')" check --all --base 'http:a b' 'x y'
 
 # All that is wrong with a text, alike by each profile, and where they differ.
@@ -161,4 +163,4 @@ foo|h|opaque h
 foo||empty
 foo|[1:2::8]|ipv6 [1:2::8]
 ROWS
-all_cases 133
+all_cases 134

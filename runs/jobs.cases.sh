@@ -19,7 +19,7 @@ does 0 '' 'urlcheck: 2 lines, 0 refused\n' 'urn:a\nx\n' lint --base http://h/ -
 # A name behind `--` is that of a file, also an empty one and one that begins as an option.
 printf 'x\n' | tee "$room/a" >"$room/--all"
 scheme='1:1: error: there is no scheme and no base [no-scheme]\n'
-does 2 "a:$scheme--all:$scheme" "urlcheck: : can't be read: there is no such file\nurlcheck: 2 lines, 2 refused\n" '' \
+does 2 "a:$scheme--all:$scheme" "urlcheck: '': can't be read: there is no such file\nurlcheck: 2 lines, 2 refused\n" '' \
     lint a -- --all ''
 rm -f "$room/a" "$room/--all"
 

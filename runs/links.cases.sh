@@ -91,7 +91,7 @@ gives parser 'urn:a b' 3 '#f => urn:a b#f' 'urn:c d => urn:c d' 'http://1.2.3/ =
 printf 'http://256/\nurn:a \nfile://C:/x\nhttp://h/a b\n' >"$room/list"
 bad='1 bad 7 host-number\n2 bad 5 code-point\n3 bad 7 host-domain\n4 bad 10 code-point\n'
 reports 1 "${bad}links 4 ok 0 bad 4 differs 0\n" '' --profile parser
-reports 2 '' "$(no_base 5 code-point 'this code point may not stand in a URL')" --wide --base 'urn:a b'
+reports 2 '' "$(no_base 5 code-point 'U+0020 SPACE may not stand in a URL')" --wide --base 'urn:a b'
 
 printf 'a\r\n\377\nb' >"$room/list"
 reports 1 '1 bad 0 no-scheme\n2 bad 0 not-utf8\n3 bad 0 no-scheme\nlinks 3 ok 0 bad 3 differs 0\n' ''

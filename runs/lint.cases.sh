@@ -302,13 +302,18 @@ of_input 0 '' 'urlcheck: 0 lines, 0 refused\n' '\xef\xbb\xbf\n' -
 of_input 1 '-:2:1: error: there is no scheme and no base [no-scheme]\n' 'urlcheck: 2 lines, 1 refused\n' \
     'urn:a\n\xef\xbb\xbfurn:a\n' -
 "$program" lint - <&- >"$room/out" 2>"$room/err"
-ends_with 2 $? "urlcheck: -: can't be read\\nurlcheck: 0 lines, 0 refused\\n" 'lint of a standard input that is closed'
+ends_with 2 $? "${no_input}urlcheck: 0 lines, 0 refused\\n" 'lint of a standard input that is closed'
+"$program" lint - <"$room" >"$room/out" 2>"$room/err"
+ends_with 2 $? "${from_folder}urlcheck: 0 lines, 0 refused\\n" 'lint of a standard input that is a folder'
+(cd "$room" && "$program" lint --quiet - other.txt - missing <"$room") >"$room/out" 2>"$room/err"
+ends_with 2 $? "urlcheck: missing: can't be read: there is no such file\\n$from_folder" 'lint of a folder among files'
+printf '%b' "$other" | cmp -s - "$room/out" || fail "lint of a folder among files: it wrote $(cat "$room/out")"
 
 # Files that can't be opened or read are reported by their names, and the others go on: one that isn't there, a folder, a
 # path through a file, one whose first read fails, and one that may not be read.
 expect 2 "$other" "urlcheck: missing: can't be read: there is no such file\\nurlcheck: 1 line, 1 refused\\n" \
     lint missing other.txt
-expect 2 "$other" "urlcheck: .: can't be read: it is a folder\\nurlcheck: : can't be read: there is no such file\\n\
+expect 2 "$other" "urlcheck: .: can't be read: it is a folder\\nurlcheck: '': can't be read: there is no such file\\n\
 urlcheck: other.txt/x: can't be read: a part of its path is no folder\\nurlcheck: 1 line, 1 refused\\n" \
     lint . '' other.txt other.txt/x
 expect 2 '' "urlcheck: /proc/self/mem: can't be read\\nurlcheck: 2 lines, 0 refused\\n" lint /proc/self/mem right.txt
@@ -497,4 +502,4 @@ ends_with 1 $? 'urlcheck: 1000000 lines, 10000 refused\n' 'lint of a million lin
 grep -qxF "$room/million:1000000:11: error: U+0020 SPACE may not stand in a URL [code-point]" "$room/out" ||
     fail "lint of a million lines: it ends with $(tail -n 1 "$room/out")"
 rm -f "$room/million" "$room"/hostile.* "$room"/none.*
-all_cases 176
+all_cases 178

@@ -8,8 +8,10 @@ expect 0 'vectors 3781 pass 3781 fail 0\n' '' vectors "$vectors/uts46.json"
 # vector_file TEXT : a file in the room that has this text, read with escapes
 vector_file() { printf '%b' "$1" >"$room/vectors.json"; }
 
-# What is said of the keys of a case before one that is malformed.
-keys='urlcheck: a case has "input", and either "text" or both "place" and "rule"; it may have "base" and "profile", and has no other key\n'
+# no_case NUMBER REASON : what is said on standard error of a value that is no case
+no_case() { printf '%s' "urlcheck: vector $1: $2\\nvector $1 malformed\\n"; }
+either='it has to have either "text" or both "place" and "rule"'
+digits='"place" has to be a number in digits alone, below 2^64'
 
 # The cases that fail are named, and a case that is malformed keeps all others from being judged.
 vector_file '[{"input":"urn:a","text":"urn:a"},{"input":"x","place":0,"rule":"no-scheme"},{"input":"http://h:65536/","text":"http://h/"}]'
@@ -17,7 +19,7 @@ expect 1 'fail 3\nvectors 3 pass 2 fail 1\n' '' vectors vectors.json
 vector_file '[]'
 expect 0 'vectors 0 pass 0 fail 0\n' '' vectors vectors.json
 vector_file '[{"input":"urn:a","text":"x"},{"input":"x","place":-1,"rule":"no-scheme"},{"input":"x"}]'
-expect 2 '' "${keys}vector 2 malformed\\n" vectors vectors.json
+expect 2 '' "$(no_case 2 "$digits")" vectors vectors.json
 
 # The profile that a case names judges it, and a name that no profile has makes the case malformed.
 vector_file '[{"input":"http://x_y/","profile":"wide","text":"http://x_y/"},{"input":"http://x_y/","place":7,"rule":"host-domain"}]'
@@ -25,7 +27,7 @@ expect 0 'vectors 2 pass 2 fail 0\n' '' vectors vectors.json
 vector_file '[{"input":"http://1.2/","profile":"parser","text":"http://1.0.0.2/"},{"input":"http://1.2/","profile":"wide","text":"http://1.0.0.2/"},{"input":"#f","base":"urn:a b","profile":"parser","text":"urn:a b#f"},{"input":"#f","base":"urn:a b","text":"urn:a b#f"}]'
 expect 1 'fail 2\nfail 4\nvectors 4 pass 2 fail 2\n' '' vectors vectors.json
 vector_file '[{"input":"urn:a","profile":"Wide","text":"urn:a"}]'
-expect 2 '' "${keys}vector 1 malformed\\n" vectors vectors.json
+expect 2 '' "$(no_case 1 '"profile" has to be "standard", "wide" or "parser"')" vectors vectors.json
 
 # Cases that fail: against a base that is refused, where `null` is none; with another text, a refusal for a text, another
 # place, another rule; and at a place beyond all texts.
@@ -57,42 +59,42 @@ expect 1 'fail 4\nfail 5\nfail 9\nvectors 9 pass 6 fail 3\n' '' vectors vectors.
 vector_file '[{"input":"x","input":"urn:a","text":1,"text":"urn:a"}]'
 expect 0 'vectors 1 pass 1 fail 0\n' '' vectors vectors.json
 
-# malformed NUMBER FILE.. : the value with this number is the first of each of these files that is no case
+# malformed NUMBER REASON FILE.. : the value with this number is the first of each of these files that is no case
 malformed() {
-    local number=$1 text
-    shift
+    local number=$1 reason=$2 text
+    shift 2
     for text in "$@"; do
         vector_file "$text"
-        expect 2 '' "${keys}vector $number malformed\\n" vectors vectors.json
+        expect 2 '' "$(no_case "$number" "$reason")" vectors vectors.json
     done
 }
-malformed 1 '[{"input":"a"}]' '[1]' '[[]]'
-malformed 2 '[{"input":"urn:a","text":"urn:a"},{"input":"x","place":-1,"rule":"no-scheme"}]' \
-    '[{"input":"urn:a","text":"x"},{"input":"x"},{"input":"y"}]'
+malformed 1 'it is no object' '[1]' '[[]]'
+malformed 1 "$either" '[{"input":"a"}]'
+malformed 2 "$digits" '[{"input":"urn:a","text":"urn:a"},{"input":"x","place":-1,"rule":"no-scheme"}]'
+malformed 2 "$either" '[{"input":"urn:a","text":"x"},{"input":"x"},{"input":"y"}]'
 
 # What a case may not be: with other keys, values of another kind, a place that isn't in digits alone, or the name of no
 # rule or profile.
-malformed 1 '[{"input":"x","place":0,"rule":"none"}]' \
-    '[{"input":"x","text":"x","place":0,"rule":"no-scheme"}]' \
+malformed 1 '"rule" has to be the name of a rule' '[{"input":"x","place":0,"rule":"none"}]' \
+    '[{"input":"x","place":0,"rule":1}]' \
+    '[{"input":"x","place":0,"rule":"No-Scheme"}]'
+malformed 1 "$either" '[{"input":"x","text":"x","place":0,"rule":"no-scheme"}]' \
     '[{"input":"x","text":"x","rule":"no-scheme"}]' \
     '[{"input":"x","place":0}]' \
-    '[{"input":"x","rule":"no-scheme"}]' \
-    '[{"text":"x"}]' \
-    '[{"input":1,"text":"x"}]' \
-    '[{"input":"x","text":null}]' \
-    '[{"input":"x","text":"x","base":1}]' \
-    '[{"input":"x","text":"x","profile":"Wide"}]' \
+    '[{"input":"x","rule":"no-scheme"}]'
+malformed 1 '"input" has to be a string' '[{"text":"x"}]' '[{"input":1,"text":"x"}]'
+malformed 1 '"text" has to be a string' '[{"input":"x","text":null}]' '[{"input":"x","text":"urn:a","text":1}]'
+malformed 1 '"base" has to be a string or null' '[{"input":"x","text":"x","base":1}]'
+malformed 1 '"profile" has to be "standard", "wide" or "parser"' '[{"input":"x","text":"x","profile":"Wide"}]' \
     '[{"input":"x","text":"x","profile":"silent"}]' \
-    '[{"input":"x","text":"x","profile":null}]' \
-    '[{"input":"x","text":"x","comment":"x"}]' \
-    '[{"input":"x","place":"0","rule":"no-scheme"}]' \
-    '[{"input":"x","place":0,"rule":1}]' \
-    '[{"input":"x","place":0,"rule":"No-Scheme"}]' \
+    '[{"input":"x","text":"x","profile":null}]'
+malformed 1 'it may have "input", "base", "profile", "text", "place" and "rule" alone' \
+    '[{"input":"x","text":"x","comment":"x"}]'
+malformed 1 "$digits" '[{"input":"x","place":"0","rule":"no-scheme"}]' \
     '[{"input":"x","place":-0,"rule":"no-scheme"}]' \
     '[{"input":"x","place":0.0,"rule":"no-scheme"}]' \
     '[{"input":"x","place":1e0,"rule":"no-scheme"}]' \
-    '[{"input":"x","place":18446744073709551616,"rule":"no-scheme"}]' \
-    '[{"input":"x","text":"urn:a","text":1}]'
+    '[{"input":"x","place":18446744073709551616,"rule":"no-scheme"}]'
 
 # What is no JSON text: nothing at all, a text that is cut, a comma too many, two values, bytes that aren't UTF-8, a number
 # beyond floats, one that begins with 0, a byte order mark, a lone surrogate, arrays a million deep. And JSON texts that
@@ -128,7 +130,7 @@ expect 1 "$(seq 1000 1000 100000 | sed 's/^/fail /; s/$/\\n/' | tr -d '\n')vecto
 # A file that isn't there, a folder, a path through a file, and a file whose first read fails: memory at address 0.
 expect 3 '' "urlcheck: missing.json: can't be read: there is no such file\\nread\\n" vectors missing.json
 expect 3 '' "urlcheck: .: can't be read: it is a folder\\nread\\n" vectors .
-expect 3 '' "urlcheck: : can't be read: there is no such file\\nread\\n" vectors ''
+expect 3 '' "urlcheck: '': can't be read: there is no such file\\nread\\n" vectors ''
 expect 3 '' "urlcheck: vectors.json/x: can't be read: a part of its path is no folder\\nread\\n" \
     vectors vectors.json/x
 expect 3 '' "urlcheck: /proc/self/mem: can't be read\\nread\\n" vectors /proc/self/mem

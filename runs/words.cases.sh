@@ -189,6 +189,6 @@ expect 1 'refused 7 host-domain\nrefused 14 port-digit\nrefused 16 code-point\n'
 # The base is judged by it too.
 expect 0 'valid\nscheme file\nhost domain h\nsegment C:\nsegment x\n' '' check --profile parser --base file://h/a /C:/x
 expect 0 'valid\nscheme urn\nopaque a b\nfragment f\n' '' check --profile parser --base 'urn:a b' '#f'
-expect 2 '' "$(no_base 5 code-point 'this code point may not stand in a URL')" check --wide --base 'urn:a b' '#f'
+expect 2 '' "$(no_base 5 code-point 'U+0020 SPACE may not stand in a URL')" check --wide --base 'urn:a b' '#f'
 expect 2 '' "$(no_base 7 host-number 'the host that begins here ends in a number, and is no IPv4 address')" check --profile parser --base http://256/ x
 all_cases 162

@@ -72,28 +72,32 @@ pub files_all : (files : List (String Global)) (at : ℕ) → length files ≤ a
 files_all files at end = ap (map string_bytes) (take_all at files end)
 
 -- a source that was linted: where no write has failed, none was counted
-source_quiet : (before : Linted) (counts : LintCounts) (answer : Result (Unit {0}) LintFault)
+source_quiet : (before : Linted) (is_input : Bool) (counts : LintCounts) (answer : Result (Unit {0}) LintFault)
     (input rest old new : Stream)
-    → FailsAsAnswered answer input rest old new → is_writable (with_file before counts answer).stopped ≡ true
+    → FailsAsAnswered answer input rest old new → is_writable (with_file before is_input counts answer).stopped ≡ true
     → new.failed ≡ old.failed
-source_quiet before counts (Ok u) input rest old new failed writable = failed.1
-source_quiet before counts (Err Memory) input rest old new failed writable = let h = failed.1 in omega (arith, h)
-source_quiet before counts (Err Read) input rest old new failed writable = let h = failed.1 in omega (arith, h)
-source_quiet before counts (Err Write) input rest old new failed writable = grind (arith, writable)
-source_quiet before counts (Err TooManyLines) input rest old new failed writable = let h = failed.1 in omega (arith, h)
-source_quiet before counts (Err Endless) input rest old new failed writable = let h = failed.1 in omega (arith, h)
+source_quiet before is_input counts (Ok u) input rest old new failed writable = failed.1
+source_quiet before is_input counts (Err Memory) input rest old new failed writable =
+    let h = failed.1 in omega (arith, h)
+source_quiet before is_input counts (Err Read) input rest old new failed writable =
+    let h = failed.1 in omega (arith, h)
+source_quiet before is_input counts (Err Write) input rest old new failed writable = grind (arith, writable)
+source_quiet before is_input counts (Err TooManyLines) input rest old new failed writable =
+    let h = failed.1 in omega (arith, h)
+source_quiet before is_input counts (Err Endless) input rest old new failed writable =
+    let h = failed.1 in omega (arith, h)
 
 -- the same of a file by its name
 named_quiet : (is_input : Bool) (setting : FileSetting) (is_first : Bool) (before : Linted) (counts : LintCounts)
     (answer : Result (Unit {0}) LintFault) (input rest old new : Stream)
     → LintsNamed is_input setting is_first counts answer input rest old new
-    → is_writable (with_file before counts answer).stopped ≡ true → new.failed ≡ old.failed
+    → is_writable (with_file before is_input counts answer).stopped ≡ true → new.failed ≡ old.failed
 named_quiet true setting is_first before counts answer input rest old new named writable = elim named [
-  | inl source ↦ source_quiet before counts answer input rest old new source.failed writable
+  | inl source ↦ source_quiet before true counts answer input rest old new source.failed writable
   | inr nothing ↦ ap (λ d. d.failed) nothing.0.1
 ]
 named_quiet false setting is_first before counts answer input rest old new named writable = elim (named.0) [
-  | inl opened ↦ source_quiet before counts answer opened.0 opened.1 old new opened.2.failed writable
+  | inl opened ↦ source_quiet before false counts answer opened.0 opened.1 old new opened.2.failed writable
   | inr nothing ↦ ap (λ d. d.failed) nothing.0.1
 ]
 

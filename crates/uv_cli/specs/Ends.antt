@@ -128,7 +128,7 @@ vectors_text vectors.SomeFail = []
 vectors_text vectors.NotJson = codes "vectors not json\n"
 vectors_text vectors.NotArray = codes "vectors not an array\n"
 vectors_text vectors.TooLarge = codes "vectors too large\n"
-vectors_text (vectors.Malformed number) = malformed_text number
+vectors_text (vectors.Malformed number fault) = malformed_text number
 
 -- the last line on standard error, with the counts of a lint or a filter before it, or nothing
 abbrev pub error_text : End → List ℕ

@@ -124,12 +124,16 @@ LintsNamed false setting is_first counts answer input rest old new =
     (LintsOpened setting is_first counts answer old new
     ⊎ (LintsNothing counts old new × IsUnopened answer)) × (rest ≡ input)
 
+-- the file with this name is the standard input
+abbrev pub is_input : List ℕ → Bool
+is_input file = bytes_eq file (codes "-")
+
 -- the next file was linted
 pub record LintsFile (setting : FileSetting) (before after : Linted) (input rest old new : Stream) : Type 0 where
   pub counts : LintCounts
   pub answer : Result (Unit {0}) LintFault
-  pub named : LintsNamed (bytes_eq setting.file (codes "-")) setting (is_clean before) counts answer input rest old new
-  pub is_after : after ≡ with_file before counts answer
+  pub named : LintsNamed (is_input setting.file) setting (is_clean before) counts answer input rest old new
+  pub is_after : after ≡ with_file before (is_input setting.file) counts answer
 
 -- nothing is done behind what stopped the lint
 pub record StaysStopped (before after : Linted) (input rest old new : Stream) : Type 0 where

@@ -1,6 +1,6 @@
 -- What a lint of files has come to, its exit status, and its lines on standard error.
-use Rattle.std.specs.Prelude.{ℕ, ◌+◌, ◌-◌, ◌^◌, ◌==◌, Bool, true, false, List, [], ◌++◌, Option, Some, None, Result}
-use Rattle.std.specs.Prelude.{Ok, Err, codes, decimal, is_some, min, if◌then◌else◌}
+use Rattle.std.specs.Prelude.{ℕ, ◌+◌, ◌-◌, ◌^◌, ◌==◌, ◌||◌, Bool, true, false, List, [], ◌++◌, Option, Some, None}
+use Rattle.std.specs.Prelude.{Result, Ok, Err, codes, decimal, is_some, min, if◌then◌else◌}
 use Rattle.uv_lint.specs.declared.counts.LintCounts.{LintCounts}
 use Rattle.uv_lint.specs.declared.fault.LintFault.{LintFault}
 use Rattle.uv_lint.specs.declared.fault.LintFault.TheVariants.{Memory, Read, Write, TooManyLines, Endless}
@@ -11,7 +11,13 @@ use Rattle.uv_cli.specs.declared.linted.Linted.{Linted}
 
 -- before the first file
 abbrev pub no_file : Bool → Linted
-no_file is_quiet = record { counts = none_counted; is_unread = false; stopped = None; is_quiet = is_quiet }
+no_file is_quiet = record {
+  counts = none_counted;
+  is_unread = false;
+  is_input_unread = false;
+  stopped = None;
+  is_quiet = is_quiet;
+}
 
 -- two counts together, each 2^64 - 1 at most
 abbrev pub sum_counts : LintCounts → LintCounts → LintCounts
@@ -24,19 +30,20 @@ sum_counts a b = record {
 abbrev pub with_fault : Linted → LintFault → Linted
 with_fault linted fault = record linted { stopped = Some fault }
 
--- behind a file that can't be opened, or not be read to its end
-abbrev pub with_unread : Linted → Linted
-with_unread linted = record linted { is_unread = true }
+-- behind a file that can't be opened, or not be read to its end: the standard input, or another one
+abbrev pub with_unread : Linted → Bool → Linted
+with_unread linted is_input =
+    record linted { is_unread = true; is_input_unread = is_input || linted.is_input_unread }
 
 -- behind a file with these counts
 abbrev pub with_counts : Linted → LintCounts → Linted
 with_counts linted counts = record linted { counts = sum_counts linted.counts counts }
 
 -- behind a file with these counts and this answer: a failed read stops nothing, and each other fault does
-abbrev pub with_file : Linted → LintCounts → Result (Unit {0}) LintFault → Linted
-with_file linted counts (Ok done) = with_counts linted counts
-with_file linted counts (Err Read) = with_unread (with_counts linted counts)
-with_file linted counts (Err fault) = with_fault (with_counts linted counts) fault
+abbrev pub with_file : Linted → Bool → LintCounts → Result (Unit {0}) LintFault → Linted
+with_file linted is_input counts (Ok done) = with_counts linted counts
+with_file linted is_input counts (Err Read) = with_unread (with_counts linted counts) is_input
+with_file linted is_input counts (Err fault) = with_fault (with_counts linted counts) fault
 
 -- something stopped it
 abbrev pub is_stopped : Linted → Bool

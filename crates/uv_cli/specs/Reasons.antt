@@ -1,8 +1,9 @@
 -- Why the program ends so, where its last line doesn't say it: what is reported on standard error before that line.
-use Rattle.std.specs.Prelude.{ℕ, List, [], ◌++◌, Option, Some, None, codes}
+use Rattle.std.specs.Prelude.{ℕ, List, [], ◌++◌, Option, Some, None, codes, decimal, if◌then◌else◌, string_bytes}
+use Rattle.std.specs.Option.{option_map_or}
 use Rattle.std.specs.declared.io.ErrorKind.{ErrorKind}
 use Rattle.std.specs.declared.io.ErrorKind.TheVariants.{StorageFull, QuotaExceeded, FileTooLarge}
-use Rattle.uv_model.specs.Violations.Rule.{rule_sentence}
+use Rattle.uv_model.specs.declared.rule.Refusal.{Refusal}
 use Rattle.uv_model.specs.declared.rule.Rule.{Rule}
 use Rattle.uv_model.specs.declared.rule.Rule.TheVariants.{NoScheme}
 use Rattle.uv_filter.specs.declared.fault.FilterFault.{FilterFault}
@@ -10,8 +11,14 @@ use Rattle.uv_filter.specs.declared.fault.FilterFault.TheVariants as filter
 use Rattle.uv_links.specs.declared.fault.LinkFault.TheVariants as link
 use Rattle.uv_lint.specs.declared.fault.LintFault.{LintFault}
 use Rattle.uv_lint.specs.declared.fault.LintFault.TheVariants as lint
+use Rattle.uv_report.specs.Message.{message}
+use Rattle.uv_report.specs.declared.line_violation.LineViolation.TheVariants.{Refused}
+use Rattle.uv_vectors.specs.declared.case_fault.CaseFault.{CaseFault}
+use Rattle.uv_vectors.specs.declared.case_fault.CaseFault.TheVariants as malformed
 use Rattle.uv_vectors.specs.declared.fault.CliFault.TheVariants as cli
 use Rattle.uv_vectors.specs.declared.run.VectorEnd.TheVariants as vectors
+use Rattle.uv_words.specs.declared.words.Job.{Job}
+use Rattle.uv_words.specs.declared.words.Job.TheVariants as job
 use Rattle.uv_cli.specs.Unread.{unread_text}
 use Rattle.uv_cli.specs.declared.ends.End.{End}
 use Rattle.uv_cli.specs.declared.ends.End.TheVariants as end
@@ -55,38 +62,72 @@ unwritten_text kind =
 
 -- ---- bases and cases
 
--- why a base is refused: it is judged alone, so that it needs a scheme
-abbrev pub base_reason : Rule → List ℕ
-base_reason NoScheme = codes "it has no scheme"
-base_reason rule = rule_sentence rule
+-- the text of the job's base, where it has one
+abbrev pub base_of : Job → List ℕ
+base_of (job.Check text base extent profile) = option_map_or string_bytes base []
+base_of (job.Lint asked) = option_map_or string_bytes asked.base []
+base_of (job.Links base profile) = option_map_or string_bytes base []
+base_of (job.Mend text base profile) = option_map_or string_bytes base []
+base_of (job.Filter asked) = option_map_or string_bytes asked.base []
+base_of other = []
 
--- the line of a base that is refused by a rule
-abbrev pub base_text : Rule → List ℕ
-base_text rule = codes "urlcheck: the base is refused: " ++ (base_reason rule ++ codes "\n")
+-- why a base is refused, as a diagnostic says it; but it is judged alone, so that it needs a scheme
+abbrev pub base_reason : List ℕ → Refusal → Rule → List ℕ
+base_reason base refusal NoScheme = codes "it has no scheme"
+base_reason base refusal rule = message base (Refused refusal)
 
--- what a case of a vector file has
-abbrev pub case_text : List ℕ
-case_text =
-    codes "urlcheck: a case has \"input\", and either \"text\" or both \"place\" and \"rule\"; it may have "
-    ++ codes "\"base\" and \"profile\", and has no other key\n"
+-- the line of a base that is refused
+abbrev pub base_text : List ℕ → Refusal → List ℕ
+base_text base refusal =
+    codes "urlcheck: the base is refused at place " ++ (decimal refusal.place ++ (codes ": "
+    ++ (base_reason base refusal refusal.rule ++ codes "\n")))
+
+-- why a value of a vector file is no case
+abbrev pub case_reason : CaseFault → List ℕ
+case_reason malformed.NoObject = codes "it is no object"
+case_reason malformed.UnknownKey =
+    codes "it may have \"input\", \"base\", \"profile\", \"text\", \"place\" and \"rule\" alone"
+case_reason malformed.Input = codes "\"input\" has to be a string"
+case_reason malformed.Base = codes "\"base\" has to be a string or null"
+case_reason malformed.Profile = codes "\"profile\" has to be \"standard\", \"wide\" or \"parser\""
+case_reason malformed.Expectation = codes "it has to have either \"text\" or both \"place\" and \"rule\""
+case_reason malformed.Text = codes "\"text\" has to be a string"
+case_reason malformed.Place = codes "\"place\" has to be a number in digits alone, below 2^64"
+case_reason malformed.Rule = codes "\"rule\" has to be the name of a rule"
+
+-- the line of a value that is no case, by its number
+abbrev pub case_text : ℕ → CaseFault → List ℕ
+case_text number fault =
+    codes "urlcheck: vector " ++ (decimal number ++ (codes ": " ++ (case_reason fault ++ codes "\n")))
 
 -- ---- an end
 
 -- what is reported of an end of which no stream's failure is the reason
-abbrev pub text_without_stream : End → List ℕ
-text_without_stream (end.BaseRefused refusal) = base_text refusal.rule
-text_without_stream (end.Vectors (vectors.Malformed number)) = case_text
-text_without_stream other = []
+abbrev pub text_without_stream : List ℕ → End → List ℕ
+text_without_stream base (end.BaseRefused refusal) = base_text base refusal
+text_without_stream base (end.Vectors (vectors.Malformed number fault)) = case_text number fault
+text_without_stream base other = []
 
 -- what is reported of a stream's failure
 abbrev pub stream_text : FailedStream → Unread → Option ErrorKind → List ℕ
 stream_text Output read written = unwritten_text written
 stream_text Input read written = unread_text (codes "standard input") read
 
--- what is reported of why the program ends so, or nothing
-abbrev pub text_of : Option FailedStream → End → Unread → Option ErrorKind → List ℕ
-text_of (Some stream) end read written = stream_text stream read written
-text_of None end read written = text_without_stream end
+-- what is reported by the stream whose failure is the reason, where one's is
+abbrev pub text_of : Option FailedStream → List ℕ → End → Unread → Option ErrorKind → List ℕ
+text_of (Some stream) base end read written = stream_text stream read written
+text_of None base end read written = text_without_stream base end
 
-abbrev pub reason_text : End → Unread → Option ErrorKind → List ℕ
-reason_text end read written = text_of (failed_stream end) end read written
+-- what is reported of why the program ends so, or nothing, where the base has this text
+abbrev pub reason_text : List ℕ → End → Unread → Option ErrorKind → List ℕ
+reason_text base end read written = text_of (failed_stream end) base end read written
+
+-- the line of an input that a lint couldn't read to its end: no such read has stopped it
+abbrev pub input_text : End → Unread → List ℕ
+input_text (end.Linted linted) read =
+    if linted.is_input_unread then unread_text (codes "standard input") read else []
+input_text other read = []
+
+-- all that is reported at the end, before the last lines
+abbrev pub reasons_text : List ℕ → End → Unread → Option ErrorKind → List ℕ
+reasons_text base end read written = input_text end read ++ reason_text base end read written

@@ -1,5 +1,5 @@
 -- Why a file isn't read, and what is reported of it.
-use Rattle.std.specs.Prelude.{◌≡◌, ◌≢◌, ℕ, List, [], ◌++◌, codes, Option, Some}
+use Rattle.std.specs.Prelude.{◌≡◌, ◌≢◌, ℕ, List, [], ◌∷◌, ◌++◌, codes, Option, Some}
 use Rattle.std.specs.declared.io.ErrorKind.{ErrorKind}
 use Rattle.std.specs.declared.io.ErrorKind.TheVariants.{NotFound, PermissionDenied, NotADirectory, IsADirectory}
 use Rattle.std.specs.declared.io.ErrorKind.TheVariants.{OutOfMemory}
@@ -32,7 +32,12 @@ reason_text unread.NoFolder = codes ": a part of its path is no folder"
 reason_text unread.NotPermitted = codes ": it may not be read"
 reason_text unread.Other = []
 
+-- a file's name, as a terminal may show it: an empty one in quotes
+abbrev pub name_text : List ℕ → List ℕ
+name_text [] = codes "''"
+name_text (b ∷ rest) = shown_text (b ∷ rest)
+
 -- the line of a file that wasn't read
 abbrev pub unread_text : List ℕ → Unread → List ℕ
 unread_text file why =
-    codes "urlcheck: " ++ (shown_text file ++ (codes ": can't be read" ++ (reason_text why ++ codes "\n")))
+    codes "urlcheck: " ++ (name_text file ++ (codes ": can't be read" ++ (reason_text why ++ codes "\n")))

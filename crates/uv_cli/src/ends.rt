@@ -199,7 +199,7 @@ fn vectors_line(alloc: Global, end: VectorEnd) -> Result<String, AllocError>
         VectorEnd::NotJson => "vectors not json\n".to_string(alloc),
         VectorEnd::NotArray => "vectors not an array\n".to_string(alloc),
         VectorEnd::TooLarge => "vectors too large\n".to_string(alloc),
-        VectorEnd::Malformed(number) => malformed_line(alloc, number),
+        VectorEnd::Malformed(number, _) => malformed_line(alloc, number),
     }
 }
 

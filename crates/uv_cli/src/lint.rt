@@ -1,11 +1,10 @@
 //! The command `lint`: a report on the lines of files, in a format that people or tools read.
-ghost use Rattle.std.specs.Prelude.{◌≡◌, ◌-◌, ◌^◌, ◌<◌, ◌⊎◌, IfOk, codes, map, option_copied, string_bytes, true};
-ghost use Rattle.std.specs.Str.{bytes_eq};
+ghost use Rattle.std.specs.Prelude.{◌≡◌, ◌-◌, ◌^◌, ◌<◌, ◌⊎◌, IfOk, map, option_copied, string_bytes, true};
 ghost use Rattle.uv_lint.specs.LineViolations.{file_setting};
 ghost use Rattle.uv_report.specs.Report.{begin_text};
 ghost use Rattle.uv_cli.specs.Lint.{HasLinted, HasLintedAgainst, LintsAll, LintsNamed, LintsNext, LintsNothing};
 ghost use Rattle.uv_cli.specs.Lint.{LintsOpened, IsUnopened, IsWhyUnopened, WritesPiece, columns_of, form_of};
-ghost use Rattle.uv_cli.specs.Lint.{format_of};
+ghost use Rattle.uv_cli.specs.Lint.{format_of, is_input};
 ghost use Rattle.uv_cli.specs.Linted.{is_stopped, is_writable};
 
 use crate::arguments::said_of;
@@ -37,7 +36,8 @@ const NONE_COUNTED: LintCounts = LintCounts {
 /// `-`.
 ///
 /// A file that can't be opened, or not be read to its end, is reported on standard error by its name, and the next
-/// files go on. Another fault stops the lint; what the report ends with is still written where no write has failed.
+/// files go on; of the input the end says it. Another fault stops the lint; what the report ends with is still written
+/// where no write has failed.
 pub(crate) fn lint_files<R: Files + Eprint + AllocGlobal, I: Source, S: Sink>(
     rt: &R,
     job: &LintJob,
@@ -205,13 +205,22 @@ fn lint_next<R: Files + Eprint + AllocGlobal, I: Source, S: Sink>(
     if linted.is_stopped() {
         return linted;
     }
-    let (counts, answer) = lint_named(rt, file, setting, linted.is_clean(), input, out);
-    linted.with_file(counts, answer)
+    let is_input = is_input(file);
+    let (counts, answer) = lint_named(rt, is_input, file, setting, linted.is_clean(), input, out);
+    linted.with_file(is_input, counts, answer)
 }
 
-// Reports on the file with a name: on the input where that is `-`.
+// Whether the file with a name is the standard input.
+fn is_input(file: &str) -> bool
+    ensures { result ≡ is_input file.now }
+{
+    file == "-"
+}
+
+// Reports on the file with a name, or on the input by this name.
 fn lint_named<R: Files + Eprint + AllocGlobal, I: Source, S: Sink>(
     rt: &R,
+    is_input: bool,
     file: &str,
     setting: LintSetting<'_>,
     is_first: bool,
@@ -219,19 +228,16 @@ fn lint_named<R: Files + Eprint + AllocGlobal, I: Source, S: Sink>(
     out: &mut S,
 ) -> (LintCounts, Result<(), LintFault>)
     requires { S.failed out.old < 2 ^ 64 - 1 }
-    ensures { LintsNamed (bytes_eq file.now (codes "-")) (file_setting file.now setting.entry) is_first
-        result.0 result.1
+    ensures { LintsNamed is_input (file_setting file.now setting.entry) is_first result.0 result.1
         (record { bytes = I.remaining input.old; failed = I.failed input.old })
         (record { bytes = I.remaining input.new; failed = I.failed input.new })
         (record { bytes = S.contents out.old; failed = S.failed out.old })
         (record { bytes = S.contents out.new; failed = S.failed out.new }) }
 {
-    if file != "-" {
-        return lint_opened(rt, file, setting, is_first, out);
+    if is_input {
+        return lint_input(rt.alloc(), file, setting, is_first, input, out);
     }
-    let answer = lint_input(rt.alloc(), file, setting, is_first, input, out);
-    report_failed_read(rt, file, answer.1, None);
-    answer
+    lint_opened(rt, file, setting, is_first, out)
 }
 
 // Reports on the input by this name, unless its count of failed reads stands at its end.

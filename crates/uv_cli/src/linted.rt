@@ -14,6 +14,8 @@ pub struct Linted {
     pub counts: LintCounts,
     /// Whether a file couldn't be opened, or not be read to its end.
     pub is_unread: bool,
+    /// Whether the standard input is among these.
+    pub is_input_unread: bool,
     /// What stopped the lint, if something did. A failed read stops none.
     pub stopped: Option<LintFault>,
     /// Whether no counts are wanted.
@@ -31,33 +33,55 @@ impl Linted {
                 refused: 0,
             },
             is_unread: false,
+            is_input_unread: false,
             stopped: None,
             is_quiet,
         }
     }
 
-    /// The same behind a file of which so many lines were counted.
-    pub(crate) fn with_file(self, counts: LintCounts, answer: Result<(), LintFault>) -> Linted
-        ensures { result ≡ spec.with_file self counts answer }
+    /// The same behind a file of which so many lines were counted: the standard input, or another one.
+    pub(crate) fn with_file(
+        self,
+        is_input: bool,
+        counts: LintCounts,
+        answer: Result<(), LintFault>,
+    ) -> Linted
+        ensures { result ≡ spec.with_file self is_input counts answer }
     {
-        let counted = Linted {
+        let counted = self.with_counts(counts);
+        match answer {
+            Ok(()) => counted,
+            Err(LintFault::Read) => counted.with_unread(is_input),
+            Err(fault) => counted.with_fault(fault),
+        }
+    }
+
+    // The same behind a file of which so many lines were counted.
+    fn with_counts(self, counts: LintCounts) -> Linted
+        ensures { result ≡ spec.with_counts self counts }
+    {
+        Linted {
             counts: LintCounts {
                 lines: self.counts.lines.saturating_add(counts.lines),
                 refused: self.counts.refused.saturating_add(counts.refused),
             },
             is_unread: self.is_unread,
+            is_input_unread: self.is_input_unread,
             stopped: self.stopped,
             is_quiet: self.is_quiet,
-        };
-        match answer {
-            Ok(()) => counted,
-            Err(LintFault::Read) => Linted {
-                counts: counted.counts,
-                is_unread: true,
-                stopped: self.stopped,
-                is_quiet: self.is_quiet,
-            },
-            Err(fault) => counted.with_fault(fault),
+        }
+    }
+
+    // The same behind a file that can't be opened, or not be read to its end: the standard input, or another one.
+    fn with_unread(self, is_input: bool) -> Linted
+        ensures { result ≡ spec.with_unread self is_input }
+    {
+        Linted {
+            counts: self.counts,
+            is_unread: true,
+            is_input_unread: is_input || self.is_input_unread,
+            stopped: self.stopped,
+            is_quiet: self.is_quiet,
         }
     }
 
@@ -68,6 +92,7 @@ impl Linted {
         Linted {
             counts: self.counts,
             is_unread: self.is_unread,
+            is_input_unread: self.is_input_unread,
             stopped: Some(fault),
             is_quiet: self.is_quiet,
         }

@@ -1,6 +1,7 @@
 //! Why the program ends so, where its last line doesn't say it: what is reported on standard error before that line.
-ghost use Rattle.std.specs.Prelude.{◌≡◌, IfOk, string_bytes};
-ghost use Rattle.uv_cli.specs.Reasons.{base_reason, base_text, failed_stream, reason_text, unwritten_text, write_reason};
+ghost use Rattle.std.specs.Prelude.{◌≡◌, ◌++◌, IfOk, OnOk, string_bytes};
+ghost use Rattle.uv_cli.specs.Reasons.{base_of, base_reason, base_text, case_reason, case_text, failed_stream};
+ghost use Rattle.uv_cli.specs.Reasons.{input_text, reason_text, reasons_text, unwritten_text, write_reason};
 
 use crate::ends::End;
 use crate::messages::say;
@@ -10,13 +11,13 @@ use std::io::ErrorKind;
 use uv_filter::FilterFault;
 use uv_links::LinkFault;
 use uv_lint::LintFault;
-use uv_model::Rule;
-use uv_vectors::{CliFault, VectorEnd};
+use uv_model::{Refusal, Rule};
+use uv_report::{LineViolation, push_message};
+use uv_vectors::{CaseFault, CliFault, VectorEnd};
+use uv_words::Job;
 
-// What a case of a vector file has.
-const CASE: &str =
-    "urlcheck: a case has \"input\", and either \"text\" or both \"place\" and \"rule\"; it may have \
-    \"base\" and \"profile\", and has no other key\n";
+// How the standard input is named.
+const INPUT: &str = "standard input";
 
 /// A stream by whose failure the program ends.
 #[derive(Clone, Copy)]
@@ -51,32 +52,75 @@ impl FailedStream {
     }
 }
 
-/// Reports why the program ends so: which stream failed, by the kinds of the last errors of both, why the base is
-/// refused, or what a case has.
-pub(crate) fn report_reason<R: Eprint + AllocGlobal>(
+/// Reports why the program ends so: which streams failed, by the kinds of the last errors of both, why the base, whose
+/// text is given, is refused, or why a value is no case.
+pub(crate) fn report_reasons<R: Eprint + AllocGlobal>(
     rt: &R,
+    base: &str,
     end: End,
     read: Option<ErrorKind>,
     written: Option<ErrorKind>,
 ) {
-    say(rt, reason_line(rt.alloc(), end, Unread::of(read), written));
+    let lines = reason_lines(rt.alloc(), base, end, Unread::of(read), written);
+    say(rt, lines);
 }
 
-/// What is reported of why the program ends so, or nothing, by why a read failed and by the kind of a failed write's
-/// error, if these are known.
-pub(crate) fn reason_line(
+/// The text of the job's base, or an empty one.
+pub(crate) fn base_of(job: &Job) -> &str
+    ensures { result.now ≡ base_of job.now }
+{
+    let base = match job {
+        Job::Check { base, .. } | Job::Links { base, .. } | Job::Mend { base, .. } => base,
+        Job::Lint(asked) => &asked.base,
+        Job::Filter(asked) => &asked.base,
+        _ => return "",
+    };
+    base.as_deref().unwrap_or("")
+}
+
+/// What is reported at the end: of an input that a lint couldn't read, and of why the program ends so, by why a read
+/// failed and by the kind of a failed write's error, if these are known.
+pub(crate) fn reason_lines(
     alloc: Global,
+    base: &str,
     end: End,
     read: Unread,
     written: Option<ErrorKind>,
 ) -> Result<String, AllocError>
-    ensures { IfOk result (λ line. string_bytes line ≡ reason_text end read written) }
+    ensures { IfOk result (λ lines. string_bytes lines ≡ reasons_text base.now end read written) }
+{
+    let mut lines = input_line(alloc, end, read)?;
+    lines.push_str(reason_line(alloc, base, end, read, written)?.as_str())?;
+    Ok(lines)
+}
+
+// The line of an input that a lint couldn't read to its end, or nothing.
+fn input_line(alloc: Global, end: End, read: Unread) -> Result<String, AllocError>
+    ensures { IfOk result (λ line. string_bytes line ≡ input_text end read) }
+{
+    match end {
+        End::Linted(linted) if linted.is_input_unread => unread_line(alloc, INPUT, read),
+        _ => Ok(String::new(alloc)),
+    }
+}
+
+// What is reported of why the program ends so, or nothing.
+fn reason_line(
+    alloc: Global,
+    base: &str,
+    end: End,
+    read: Unread,
+    written: Option<ErrorKind>,
+) -> Result<String, AllocError>
+    ensures { IfOk result (λ line. string_bytes line ≡ reason_text base.now end read written) }
 {
     match (FailedStream::of(end), end) {
         (Some(FailedStream::Output), _) => unwritten_line(alloc, written),
-        (Some(FailedStream::Input), _) => unread_line(alloc, "standard input", read),
-        (None, End::BaseRefused(refusal)) => base_line(alloc, refusal.rule),
-        (None, End::Vectors(VectorEnd::Malformed(_))) => CASE.to_string(alloc),
+        (Some(FailedStream::Input), _) => unread_line(alloc, INPUT, read),
+        (None, End::BaseRefused(refusal)) => base_line(alloc, base, refusal),
+        (None, End::Vectors(VectorEnd::Malformed(number, fault))) => {
+            case_line(alloc, number, fault)
+        }
         (None, _) => Ok(String::new(alloc)),
     }
 }
@@ -103,22 +147,61 @@ fn write_reason(kind: Option<ErrorKind>) -> &'static str
     }
 }
 
-// The line of a base that is refused by a rule.
-fn base_line(alloc: Global, rule: Rule) -> Result<String, AllocError>
-    ensures { IfOk result (λ line. string_bytes line ≡ base_text rule) }
+// The line of a value that is no case, by its number.
+fn case_line(alloc: Global, number: usize, fault: CaseFault) -> Result<String, AllocError>
+    ensures { IfOk result (λ line. string_bytes line ≡ case_text number fault) }
 {
-    let mut line = String::from_str(alloc, "urlcheck: the base is refused: ")?;
-    line.push_str(base_reason(rule))?;
+    let mut line = String::from_str(alloc, "urlcheck: vector ")?;
+    line.push_str(number.to_string(alloc)?.as_str())?;
+    line.push_str(": ")?;
+    line.push_str(case_reason(fault))?;
     line.push_str("\n")?;
     Ok(line)
 }
 
-// Why a base is refused: a base is judged alone, so that it needs a scheme.
-fn base_reason(rule: Rule) -> &'static str
-    ensures { result.now ≡ base_reason rule }
+// Why a value is no case.
+fn case_reason(fault: CaseFault) -> &'static str
+    ensures { result.now ≡ case_reason fault }
 {
-    match rule {
-        Rule::NoScheme => "it has no scheme",
-        rule => rule.sentence(),
+    match fault {
+        CaseFault::NoObject => "it is no object",
+        CaseFault::UnknownKey => {
+            "it may have \"input\", \"base\", \"profile\", \"text\", \"place\" and \"rule\" alone"
+        }
+        CaseFault::Input => "\"input\" has to be a string",
+        CaseFault::Base => "\"base\" has to be a string or null",
+        CaseFault::Profile => "\"profile\" has to be \"standard\", \"wide\" or \"parser\"",
+        CaseFault::Expectation => "it has to have either \"text\" or both \"place\" and \"rule\"",
+        CaseFault::Text => "\"text\" has to be a string",
+        CaseFault::Place => "\"place\" has to be a number in digits alone, below 2^64",
+        CaseFault::Rule => "\"rule\" has to be the name of a rule",
+    }
+}
+
+// The line of a base that is refused.
+fn base_line(alloc: Global, base: &str, refusal: Refusal) -> Result<String, AllocError>
+    ensures { IfOk result (λ line. string_bytes line ≡ base_text base.now refusal) }
+{
+    let mut line = String::from_str(alloc, "urlcheck: the base is refused at place ")?;
+    line.push_str(refusal.place.to_string(alloc)?.as_str())?;
+    line.push_str(": ")?;
+    push_base_reason(alloc, &mut line, base, refusal)?;
+    line.push_str("\n")?;
+    Ok(line)
+}
+
+// Pushes why a base is refused: a base is judged alone, so that it needs a scheme.
+fn push_base_reason(
+    alloc: Global,
+    line: &mut String,
+    base: &str,
+    refusal: Refusal,
+) -> Result<(), AllocError>
+    ensures { OnOk result (string_bytes line.new
+        ≡ string_bytes line.old ++ base_reason base.now refusal refusal.rule) }
+{
+    match refusal.rule {
+        Rule::NoScheme => line.push_str("it has no scheme"),
+        _ => push_message(alloc, line, base, LineViolation::Refused(refusal)),
     }
 }

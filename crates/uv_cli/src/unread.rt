@@ -1,6 +1,6 @@
 //! Files that can't be read: why, and what is reported of them on standard error.
 ghost use Rattle.std.specs.Prelude.{◌≡◌, ◌++◌, IfOk, OnOk, string_bytes};
-ghost use Rattle.uv_cli.specs.Unread.{IsFault, IsReason, reason_text, unread_text};
+ghost use Rattle.uv_cli.specs.Unread.{IsFault, IsReason, name_text, reason_text, unread_text};
 
 use crate::messages::say;
 use std::alloc::{AllocError, Global};
@@ -98,14 +98,25 @@ pub(crate) fn report_unread<R: Eprint + AllocGlobal>(rt: &R, file: &str, why: Un
     say(rt, unread_line(rt.alloc(), file, why));
 }
 
-/// The line of a file that wasn't read. Its name is shown as a terminal may show it.
+/// The line of a file that wasn't read.
 pub(crate) fn unread_line(alloc: Global, file: &str, why: Unread) -> Result<String, AllocError>
     ensures { IfOk result (λ line. string_bytes line ≡ unread_text file.now why) }
 {
     let mut line = String::from_str(alloc, "urlcheck: ")?;
-    push_shown(&mut line, file)?;
+    push_name(&mut line, file)?;
     line.push_str(": can't be read")?;
     line.push_str(why.text())?;
     line.push_str("\n")?;
     Ok(line)
+}
+
+// Pushes a file's name, as a terminal may show it: an empty one in quotes.
+fn push_name(line: &mut String, file: &str) -> Result<(), AllocError>
+    ensures { OnOk result (string_bytes line.new ≡ string_bytes line.old ++ name_text file.now) }
+{
+    if file.is_empty() {
+        line.push_str("''")
+    } else {
+        push_shown(line, file)
+    }
 }

@@ -1,6 +1,6 @@
 -- How a run over the bytes of a vector file ends, and what it writes.
 use Rattle.std.specs.Prelude.{◌≡◌, ◌≤◌, ◌<◌, ℕ, ◌+◌, Bool, true, false, IsUtf8, List, Option, Some, None, length}
-use Rattle.std.specs.Prelude.{position, string_bytes, take}
+use Rattle.std.specs.Prelude.{option_map, position, slice_get, string_bytes, take}
 use Rattle.std.specs.Io.KnownBytes.{Appends}
 use Rattle.serde_json.specs.Data.{Data, Items}
 use Rattle.serde_json.specs.Find.{as_array}
@@ -10,6 +10,8 @@ use Rattle.uv_vectors.specs.declared.run.VectorEnd.TheVariants as ends
 use Rattle.uv_vectors.specs.declared.run.Ending.{Ending}
 use Rattle.uv_vectors.specs.declared.run.Ending.TheVariants as ending
 use Rattle.uv_vectors.specs.Case.{is_malformed, list_of}
+use Rattle.uv_vectors.specs.CaseFault.{case_fault}
+use Rattle.uv_vectors.specs.declared.case_fault.CaseFault.{CaseFault}
 use Rattle.uv_vectors.specs.Report.{IsReportOn}
 
 -- ---- what the bytes are
@@ -33,9 +35,11 @@ HasArray value P = (items : Items) × (as_array value ≡ Some items) × P (list
 
 -- ---- how a run ends
 
--- the first value that is no case has this number, from 1
-abbrev pub IsFirstMalformed : ℕ → List Data → Type 0
-IsFirstMalformed number values = (at : ℕ) × (position is_malformed values ≡ Some at) × (number ≡ at + 1)
+-- the first value that is no case has this number, from 1, and is none for this reason
+abbrev pub IsFirstMalformed : ℕ → CaseFault → List Data → Type 0
+IsFirstMalformed number fault values =
+    (at : ℕ) × (position is_malformed values ≡ Some at) × (number ≡ at + 1)
+    × (option_map case_fault (slice_get values at) ≡ Some fault)
 
 -- all values are cases, this is the report on them, and a run that writes it ends so
 pub record IsReport (values : List Data) (end : VectorEnd) (text : List ℕ) : Type 0 where
@@ -45,7 +49,7 @@ pub record IsReport (values : List Data) (end : VectorEnd) (text : List ℕ) : T
 -- a run that judges no case of the value ends so
 abbrev pub EndsValueUnjudged : Data → VectorEnd → Type 0
 EndsValueUnjudged value ends.NotArray = as_array value ≡ None
-EndsValueUnjudged value (ends.Malformed number) = HasArray value (IsFirstMalformed number)
+EndsValueUnjudged value (ends.Malformed number fault) = HasArray value (IsFirstMalformed number fault)
 EndsValueUnjudged value _ = ⊥
 
 -- A run that judges no case of the bytes ends so: there are too many; else they are no JSON; else no array; else a

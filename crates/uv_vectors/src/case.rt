@@ -158,7 +158,8 @@ fn is_known_key(key: &str) -> bool
     )
 }
 
-fn has_only_known_keys(members: &Map<String, Value>) -> bool
+/// Whether each key is one that a case may have.
+pub(crate) fn has_only_known_keys(members: &Map<String, Value>) -> bool
     ensures { result ≡ has_known_keys (members_view members.now.entries) }
 {
     all_keys_known(members)
@@ -170,8 +171,8 @@ fn all_keys_known(members: &Map<String, Value>) -> bool
     members.keys().all(|key| is_known_key(key.as_str()))
 }
 
-// The base: none where the key is absent or null. Nothing where the value is neither null nor a string.
-fn base_in<'v>(found: Option<&'v Value>) -> Option<Option<&'v str>>
+/// The base: none where the key is absent or null. Nothing where the value is neither null nor a string.
+pub(crate) fn base_in<'v>(found: Option<&'v Value>) -> Option<Option<&'v str>>
     ensures { option_map option_copied result ≡ base_of (value_view found.entry) }
 {
     match found {
@@ -184,8 +185,8 @@ fn base_in<'v>(found: Option<&'v Value>) -> Option<Option<&'v str>>
     }
 }
 
-// The profile: the standard one where the key is absent. Nothing where the value is no profile's name.
-fn profile_in<'v>(found: Option<&'v Value>) -> Option<Profile>
+/// The profile: the standard one where the key is absent. Nothing where the value is no profile's name.
+pub(crate) fn profile_in<'v>(found: Option<&'v Value>) -> Option<Profile>
     ensures { result ≡ profile_of (value_view found.entry) }
 {
     match found {

@@ -2,9 +2,11 @@
 #![tactic(auto)]
 
 mod case;
+mod case_fault;
 mod fault;
 mod report;
 mod run;
 
+pub use case_fault::CaseFault;
 pub use fault::CliFault;
 pub use run::{MOST_BYTES, VectorEnd, run_vectors};

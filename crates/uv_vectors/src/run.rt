@@ -6,6 +6,7 @@ ghost use Rattle.uv_vectors.specs.Case.{is_malformed, list_of};
 ghost use Rattle.uv_vectors.specs.Run.{IsReport, EndsBytes, EndsValue, WritesVectors, WritesVectorsPrefix, is_judged};
 
 use crate::case::VectorCase;
+use crate::case_fault::{CaseFault, fault_at};
 use crate::fault::CliFault;
 use crate::report::report_on;
 use serde_json::Value;
@@ -29,8 +30,8 @@ pub enum VectorEnd {
     NotArray,
     /// There are more than `MOST_BYTES` bytes.
     TooLarge,
-    /// The value with this number, from 1, is no case, and it is the first such value.
-    Malformed(usize),
+    /// The value with this number, from 1, is no case for this reason, and it is the first such value.
+    Malformed(usize, CaseFault),
 }
 
 // How a run over a vector file ends, and the report, where cases are judged.
@@ -88,7 +89,8 @@ fn ending_of_value(alloc: Global, value: &Value) -> Result<Ending, AllocError>
         return Ok(Ending::Unjudged(VectorEnd::NotArray));
     };
     if let Some(at) = first_malformed(values.as_slice()) {
-        return Ok(Ending::Unjudged(VectorEnd::Malformed(at + 1)));
+        let fault = fault_at(values.as_slice(), at);
+        return Ok(Ending::Unjudged(VectorEnd::Malformed(at + 1, fault)));
     }
     let (end, text) = report_on(alloc, values.as_slice())?;
     Ok(Ending::Report(end, text))

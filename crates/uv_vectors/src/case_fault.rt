@@ -1,0 +1,91 @@
+//! Why a value of a vector file is no case.
+ghost use Rattle.std.specs.Prelude.{◌≡◌, ◌<◌, Some, is_some, length, option_and_then, option_map, slice_get};
+ghost use Rattle.serde_json.specs.Find.{as_str};
+ghost use Rattle.serde_json.specs.View.{items_view, view};
+ghost use Rattle.uv_vectors.specs.Case.{list_of};
+ghost use Rattle.uv_vectors.specs.CaseFault.{case_fault, expected_fault};
+ghost use Rattle.uv_vectors.specs.Views.{value_view};
+
+use crate::case::{base_in, has_only_known_keys, profile_in};
+use serde_json::Value;
+
+/// Why a value of a vector file is no case: the first of these that fits.
+#[derive(Clone, Copy, PartialEq, Eq)]
+pub enum CaseFault {
+    /// It is no object.
+    NoObject,
+    /// It has a key that no case has.
+    UnknownKey,
+    /// `input` is absent, or no string.
+    Input,
+    /// `base` is neither a string nor null.
+    Base,
+    /// `profile` is the name of no profile.
+    Profile,
+    /// It has neither `text` alone nor `place` and `rule`.
+    Expectation,
+    /// `text` is no string.
+    Text,
+    /// `place` is no number below 2^64 in digits alone.
+    Place,
+    /// `rule` is the name of no rule.
+    Rule,
+}
+
+impl CaseFault {
+    /// Why a value that is no case is none.
+    pub(crate) fn of(value: &Value) -> CaseFault
+        ensures { result ≡ case_fault (view value.now) }
+    {
+        let Some(members) = value.as_object() else {
+            return CaseFault::NoObject;
+        };
+        if !has_only_known_keys(members) {
+            CaseFault::UnknownKey
+        } else if !is_string(value.get("input")) {
+            CaseFault::Input
+        } else if base_in(value.get("base")).is_none() {
+            CaseFault::Base
+        } else if profile_in(value.get("profile")).is_none() {
+            CaseFault::Profile
+        } else {
+            expected_fault(value.get("text"), value.get("place"), value.get("rule"))
+        }
+    }
+}
+
+/// Why the value at a place is none, where it is no case.
+pub(crate) fn fault_at(values: &[Value], at: usize) -> CaseFault
+    requires { at < length values.now }
+    ensures { option_map case_fault (slice_get (list_of (items_view values.now)) at) ≡ Some result }
+{
+    CaseFault::of(&values[at])
+}
+
+// Why these values say nothing that is expected.
+fn expected_fault(text: Option<&Value>, place: Option<&Value>, rule: Option<&Value>) -> CaseFault
+    ensures { result
+        ≡ expected_fault (value_view text.entry) (value_view place.entry) (value_view rule.entry) }
+{
+    match (text, place, rule) {
+        (Some(_), None, None) => CaseFault::Text,
+        (None, Some(place), Some(_)) => {
+            if place.as_u64().is_none() {
+                CaseFault::Place
+            } else {
+                CaseFault::Rule
+            }
+        }
+        _ => CaseFault::Expectation,
+    }
+}
+
+// Whether a value was found, and is a string.
+fn is_string(found: Option<&Value>) -> bool
+    ensures { result ≡ is_some (option_and_then as_str (value_view found.entry)) }
+{
+    match found {
+        Some(value) => value.as_str().is_some(),
+        None => false,
+    }
+}
