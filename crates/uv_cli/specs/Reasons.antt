@@ -16,7 +16,7 @@ use Rattle.uv_report.specs.declared.line_violation.LineViolation.TheVariants.{Re
 use Rattle.uv_vectors.specs.declared.case_fault.CaseFault.{CaseFault}
 use Rattle.uv_vectors.specs.declared.case_fault.CaseFault.TheVariants as malformed
 use Rattle.uv_vectors.specs.declared.fault.CliFault.TheVariants as cli
-use Rattle.uv_vectors.specs.declared.run.VectorEnd.TheVariants as vectors
+use Rattle.uv_vectors.specs.declared.ends.CasesEnd.TheVariants as vectors
 use Rattle.uv_words.specs.declared.words.Job.{Job}
 use Rattle.uv_words.specs.declared.words.Job.TheVariants as job
 use Rattle.uv_cli.specs.Unread.{unread_text}

@@ -15,7 +15,7 @@ use crate::mend::run_mend;
 use std::alloc::Global;
 use std::fs::Files;
 use uv_model::{Extent, Profile, Sink, Source};
-use uv_vectors::run_vectors;
+use uv_vectors::run_cases;
 use uv_words::{FilterJob, Job, LintJob};
 
 /// Does what a job asks for: it checks the job's text, against the job's base and by the profile that the job names, or
@@ -146,7 +146,7 @@ fn vectors_run<S: Sink>(alloc: Global, file: &[u8], out: &mut S) -> End
         (record { bytes = S.contents out.old; failed = S.failed out.old })
         (record { bytes = S.contents out.new; failed = S.failed out.new }) }
 {
-    end_of_vectors(run_vectors(alloc, file, out))
+    end_of_vectors(run_cases(alloc, file, out))
 }
 
 // Checks a text, alone or against a base.

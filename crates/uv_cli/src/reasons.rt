@@ -13,7 +13,7 @@ use uv_links::LinkFault;
 use uv_lint::LintFault;
 use uv_model::{Refusal, Rule};
 use uv_report::{LineViolation, push_message};
-use uv_vectors::{CaseFault, CliFault, VectorEnd};
+use uv_vectors::{CaseFault, CasesEnd, CliFault};
 use uv_words::Job;
 
 // How the standard input is named.
@@ -118,7 +118,7 @@ fn reason_line(
         (Some(FailedStream::Output), _) => unwritten_line(alloc, written),
         (Some(FailedStream::Input), _) => unread_line(alloc, INPUT, read),
         (None, End::BaseRefused(refusal)) => base_line(alloc, base, refusal),
-        (None, End::Vectors(VectorEnd::Malformed(number, fault))) => {
+        (None, End::Vectors(CasesEnd::Malformed(number, fault))) => {
             case_line(alloc, number, fault)
         }
         (None, _) => Ok(String::new(alloc)),

@@ -8,7 +8,7 @@ use Rattle.std.proofs.lemmas.Slice.Zip.{AllZip-long}
 use Rattle.serde_json.specs.Data.{Data}
 use Rattle.serde_json.specs.View.{items_view, view}
 use Rattle.serde_json.specs.declared.value.Value.{Value}
-use Rattle.uv_vectors.specs.declared.run.VectorEnd.{VectorEnd}
+use Rattle.uv_vectors.specs.declared.ends.CasesEnd.{CasesEnd}
 use Rattle.uv_vectors.specs.Case.{list_of}
 use Rattle.uv_vectors.specs.Passes.{Judges}
 use Rattle.uv_vectors.proofs.CaseLemmas.{list_of-items_of}
@@ -95,7 +95,7 @@ passed_and_failed (false ∷ rest) =
     omega (arith, h, pass, fail)
 
 -- the report of the failures and the counts
-pub report_of : (values : List Data) (end : VectorEnd) (size count : ℕ) (lines text : List ℕ)
+pub report_of : (values : List Data) (end : CasesEnd) (size count : ℕ) (lines text : List ℕ)
     → HasFailures values count lines → size ≡ length values
     → text ≡ lines ++ vector_counts size (size - count) count → end ≡ end_by count
     → IsReportOn values end text

@@ -3,8 +3,8 @@ use Rattle.std.specs.Prelude.{◌≡◌, ℕ, ◌+◌, zero, suc, Bool, true, fa
 use Rattle.std.specs.Prelude.{decimal, length, sum_by}
 use Rattle.std.specs.List.{AllZip}
 use Rattle.serde_json.specs.Data.{Data}
-use Rattle.uv_vectors.specs.declared.run.VectorEnd.{VectorEnd}
-use Rattle.uv_vectors.specs.declared.run.VectorEnd.TheVariants.{AllPass, SomeFail}
+use Rattle.uv_vectors.specs.declared.ends.CasesEnd.{CasesEnd}
+use Rattle.uv_vectors.specs.declared.ends.CasesEnd.TheVariants.{AllPass, SomeFail}
 use Rattle.uv_vectors.specs.Passes.{Judges}
 
 -- how many of the cases pass
@@ -45,12 +45,12 @@ abbrev pub vector_text : List Bool → List ℕ
 vector_text answers = case_lines 1 answers ++ vector_counts (length answers) (passed answers) (failed answers)
 
 -- how a run ends by the number of cases that fail
-abbrev pub end_by : ℕ → VectorEnd
+abbrev pub end_by : ℕ → CasesEnd
 end_by zero = AllPass
 end_by (suc count) = SomeFail
 
 -- how a run ends whose cases were judged so
-abbrev pub judged_end : List Bool → VectorEnd
+abbrev pub judged_end : List Bool → CasesEnd
 judged_end answers = end_by (failed answers)
 
 -- these are the lines of the values that fail, and how many
@@ -61,7 +61,7 @@ pub record HasFailures (values : List Data) (count : ℕ) (lines : List ℕ) : T
   pub listed : lines ≡ case_lines 1 answers
 
 -- all values are judged, this is the report on them, and a run that writes it ends so
-pub record IsReportOn (values : List Data) (end : VectorEnd) (text : List ℕ) : Type 0 where
+pub record IsReportOn (values : List Data) (end : CasesEnd) (text : List ℕ) : Type 0 where
   pub answers : List Bool
   pub judged : AllZip Judges values answers
   pub ends : end ≡ judged_end answers

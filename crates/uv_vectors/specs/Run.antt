@@ -5,8 +5,8 @@ use Rattle.std.specs.Io.KnownBytes.{Appends}
 use Rattle.serde_json.specs.Data.{Data, Items}
 use Rattle.serde_json.specs.Find.{as_array}
 use Rattle.serde_json.specs.Read.{read}
-use Rattle.uv_vectors.specs.declared.run.VectorEnd.{VectorEnd}
-use Rattle.uv_vectors.specs.declared.run.VectorEnd.TheVariants as ends
+use Rattle.uv_vectors.specs.declared.ends.CasesEnd.{CasesEnd}
+use Rattle.uv_vectors.specs.declared.ends.CasesEnd.TheVariants as ends
 use Rattle.uv_vectors.specs.declared.run.Ending.{Ending}
 use Rattle.uv_vectors.specs.declared.run.Ending.TheVariants as ending
 use Rattle.uv_vectors.specs.Case.{is_malformed, list_of}
@@ -42,19 +42,19 @@ IsFirstMalformed number fault values =
     × (option_map case_fault (slice_get values at) ≡ Some fault)
 
 -- all values are cases, this is the report on them, and a run that writes it ends so
-pub record IsReport (values : List Data) (end : VectorEnd) (text : List ℕ) : Type 0 where
+pub record IsReport (values : List Data) (end : CasesEnd) (text : List ℕ) : Type 0 where
   pub cases : position is_malformed values ≡ None
   pub report : IsReportOn values end text
 
 -- a run that judges no case of the value ends so
-abbrev pub EndsValueUnjudged : Data → VectorEnd → Type 0
+abbrev pub EndsValueUnjudged : Data → CasesEnd → Type 0
 EndsValueUnjudged value ends.NotArray = as_array value ≡ None
 EndsValueUnjudged value (ends.Malformed number fault) = HasArray value (IsFirstMalformed number fault)
 EndsValueUnjudged value _ = ⊥
 
 -- A run that judges no case of the bytes ends so: there are too many; else they are no JSON; else no array; else a
 -- value of it is no case.
-abbrev pub EndsUnjudged : List ℕ → VectorEnd → Type 0
+abbrev pub EndsUnjudged : List ℕ → CasesEnd → Type 0
 EndsUnjudged bytes ends.TooLarge = most_bytes < length bytes
 EndsUnjudged bytes ends.NotJson = (length bytes ≤ most_bytes) × ((value : Data) → IsJson bytes value → ⊥)
 EndsUnjudged bytes end = HasValue bytes (λ value. EndsValueUnjudged value end)
@@ -65,7 +65,7 @@ EndsValue value (ending.Unjudged end) = EndsValueUnjudged value end
 EndsValue value (ending.Report end text) = HasArray value (λ values. IsReport values end (string_bytes text))
 
 -- this is the report on the bytes, and it ends so
-abbrev pub IsFileReport : List ℕ → VectorEnd → List ℕ → Type 0
+abbrev pub IsFileReport : List ℕ → CasesEnd → List ℕ → Type 0
 IsFileReport bytes end text = HasValue bytes (λ value. HasArray value (λ values. IsReport values end text))
 
 -- a run over the bytes ends so
@@ -76,17 +76,17 @@ EndsBytes bytes (ending.Report end text) = IsFileReport bytes end (string_bytes 
 -- ---- what is written
 
 -- cases were judged
-abbrev pub is_judged : VectorEnd → Bool
+abbrev pub is_judged : CasesEnd → Bool
 is_judged ends.AllPass = true
 is_judged ends.SomeFail = true
 is_judged _ = false
 
 -- the report on the bytes was written, and ends so
-abbrev pub WritesReport : List ℕ → VectorEnd → Option (List ℕ) → Option (List ℕ) → Type 0
+abbrev pub WritesReport : List ℕ → CasesEnd → Option (List ℕ) → Option (List ℕ) → Type 0
 WritesReport bytes end old new = (text : List ℕ) × IsFileReport bytes end text × Appends old new text
 
 -- the run ends so before a case is judged; or the report was written, and ends so
-abbrev pub WritesVectors : List ℕ → VectorEnd → Option (List ℕ) → Option (List ℕ) → Type 0
+abbrev pub WritesVectors : List ℕ → CasesEnd → Option (List ℕ) → Option (List ℕ) → Type 0
 WritesVectors bytes ends.AllPass old new = WritesReport bytes ends.AllPass old new
 WritesVectors bytes ends.SomeFail old new = WritesReport bytes ends.SomeFail old new
 WritesVectors bytes end old new = EndsUnjudged bytes end
@@ -94,5 +94,5 @@ WritesVectors bytes end old new = EndsUnjudged bytes end
 -- a prefix of the report was written
 abbrev pub WritesVectorsPrefix : List ℕ → Option (List ℕ) → Option (List ℕ) → Type 0
 WritesVectorsPrefix bytes old new =
-    (end : VectorEnd) × (text : List ℕ) × IsFileReport bytes end text
+    (end : CasesEnd) × (text : List ℕ) × IsFileReport bytes end text
     × ((count : ℕ) × Appends old new (take count text))

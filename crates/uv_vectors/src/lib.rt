@@ -3,10 +3,12 @@
 
 mod case;
 mod case_fault;
+mod ends;
 mod fault;
 mod report;
 mod run;
 
 pub use case_fault::CaseFault;
+pub use ends::{CasesEnd, VectorEnd};
 pub use fault::CliFault;
-pub use run::{MOST_BYTES, VectorEnd, run_vectors};
+pub use run::{MOST_BYTES, run_cases, run_vectors};

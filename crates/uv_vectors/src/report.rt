@@ -5,12 +5,12 @@ ghost use Rattle.uv_vectors.specs.Case.{list_of};
 ghost use Rattle.uv_vectors.specs.Report.{HasFailures, IsReportOn, case_line, end_by, fail_line, fails, vector_counts};
 
 use crate::case::passes;
-use crate::run::VectorEnd;
+use crate::ends::CasesEnd;
 use serde_json::Value;
 use std::alloc::{AllocError, Global};
 
 /// The report on values, and how a run ends that writes it. The error is out of memory.
-pub(crate) fn report_on(alloc: Global, values: &[Value]) -> Result<(VectorEnd, String), AllocError>
+pub(crate) fn report_on(alloc: Global, values: &[Value]) -> Result<(CasesEnd, String), AllocError>
     ensures { IfOk result (λ r. IsReportOn (list_of (items_view values.now)) r.0 (string_bytes r.1)) }
 {
     let (failed, mut text) = failures(alloc, values)?;
@@ -20,12 +20,12 @@ pub(crate) fn report_on(alloc: Global, values: &[Value]) -> Result<(VectorEnd, S
 }
 
 // How a run ends after so many cases failed.
-fn end_after(failed: usize) -> VectorEnd
+fn end_after(failed: usize) -> CasesEnd
     ensures { result ≡ end_by failed }
 {
     match failed {
-        0 => VectorEnd::AllPass,
-        _ => VectorEnd::SomeFail,
+        0 => CasesEnd::AllPass,
+        _ => CasesEnd::SomeFail,
     }
 }
 

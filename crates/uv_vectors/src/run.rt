@@ -3,10 +3,12 @@ ghost use Rattle.std.specs.Prelude.{◌≡◌, ◌+◌, ◌-◌, ◌^◌, ◌<�
 ghost use Rattle.std.specs.Prelude.{position, string_bytes};
 ghost use Rattle.serde_json.specs.View.{items_view, view};
 ghost use Rattle.uv_vectors.specs.Case.{is_malformed, list_of};
-ghost use Rattle.uv_vectors.specs.Run.{IsReport, EndsBytes, EndsValue, WritesVectors, WritesVectorsPrefix, is_judged};
+ghost use Rattle.uv_vectors.specs.Ends.{IsEndOf};
+ghost use Rattle.uv_vectors.specs.Run.{EndsBytes, EndsValue, WritesVectors, WritesVectorsPrefix, is_judged};
 
 use crate::case::VectorCase;
-use crate::case_fault::{CaseFault, fault_at};
+use crate::case_fault::fault_at;
+use crate::ends::{CasesEnd, VectorEnd};
 use crate::fault::CliFault;
 use crate::report::report_on;
 use serde_json::Value;
@@ -16,29 +18,11 @@ use uv_model::{DeviceFault, Sink, write_whole};
 /// The most bytes that a vector file may have.
 pub const MOST_BYTES: usize = 16_777_216;
 
-/// How a run over a vector file ends. Where more than one end fits, it is the first of `TooLarge`, `NotJson`,
-/// `NotArray` and `Malformed`, and of those nothing is written.
-#[derive(Clone, Copy, PartialEq, Eq)]
-pub enum VectorEnd {
-    /// Every case passes, and the report was written.
-    AllPass,
-    /// A case fails, and the report was written.
-    SomeFail,
-    /// The bytes are no JSON text.
-    NotJson,
-    /// The JSON value is no array.
-    NotArray,
-    /// There are more than `MOST_BYTES` bytes.
-    TooLarge,
-    /// The value with this number, from 1, is no case for this reason, and it is the first such value.
-    Malformed(usize, CaseFault),
-}
-
 // How a run over a vector file ends, and the report, where cases are judged.
 #[derive(Drop)]
 enum Ending {
-    Unjudged(VectorEnd),
-    Report(VectorEnd, String),
+    Unjudged(CasesEnd),
+    Report(CasesEnd, String),
 }
 
 /// Runs the cases of a vector file, each by the profile that it names or the standard one, and writes the report:
@@ -48,6 +32,24 @@ enum Ending {
 /// or the refusal, that the case expects. No case is judged before all of them have been read. A fault of memory leaves
 /// the output as it was; a fault of a write leaves a beginning of the report.
 pub fn run_vectors<S: Sink>(alloc: Global, bytes: &[u8], out: &mut S) -> Result<VectorEnd, CliFault>
+    requires { S.failed out.old < 2 ^ 64 - 1 }
+    ensures written { IfOk result (λ end. IsEndOf end (λ told.
+        WritesVectors bytes.now told (S.contents out.old) (S.contents out.new))) }
+    ensures unjudged { IfOk result (λ end. IsEndOf end (λ told. is_judged told ≡ false → out.new ≡ out.old)) }
+    ensures quiet { OnOk result (S.failed out.new ≡ S.failed out.old) }
+    ensures memory { result ≡ Err CliFault.Memory → out.new ≡ out.old }
+    ensures prefix { result ≡ Err CliFault.Write →
+        WritesVectorsPrefix bytes.now (S.contents out.old) (S.contents out.new) }
+    ensures failed { result ≡ Err CliFault.Write → S.failed out.new ≡ S.failed out.old + 1 }
+{
+    match run_cases(alloc, bytes, out) {
+        Ok(end) => Ok(end.without_reason()),
+        Err(fault) => Err(fault),
+    }
+}
+
+/// The same, and where a value is no case, why it is none.
+pub fn run_cases<S: Sink>(alloc: Global, bytes: &[u8], out: &mut S) -> Result<CasesEnd, CliFault>
     requires { S.failed out.old < 2 ^ 64 - 1 }
     ensures written { IfOk result (λ end.
         WritesVectors bytes.now end (S.contents out.old) (S.contents out.new)) }
@@ -72,12 +74,12 @@ fn ending_of_bytes(alloc: Global, bytes: &[u8]) -> Result<Ending, AllocError>
     ensures { IfOk result (EndsBytes bytes.now) }
 {
     if bytes.len() > MOST_BYTES {
-        return Ok(Ending::Unjudged(VectorEnd::TooLarge));
+        return Ok(Ending::Unjudged(CasesEnd::TooLarge));
     }
     match Value::from_slice(alloc, bytes) {
         Ok(value) => ending_of_value(alloc, &value),
         Err(error) if error.is_memory() => Err(AllocError),
-        Err(_) => Ok(Ending::Unjudged(VectorEnd::NotJson)),
+        Err(_) => Ok(Ending::Unjudged(CasesEnd::NotJson)),
     }
 }
 
@@ -86,11 +88,11 @@ fn ending_of_value(alloc: Global, value: &Value) -> Result<Ending, AllocError>
     ensures { IfOk result (EndsValue (view value.now)) }
 {
     let Some(values) = value.as_array() else {
-        return Ok(Ending::Unjudged(VectorEnd::NotArray));
+        return Ok(Ending::Unjudged(CasesEnd::NotArray));
     };
     if let Some(at) = first_malformed(values.as_slice()) {
         let fault = fault_at(values.as_slice(), at);
-        return Ok(Ending::Unjudged(VectorEnd::Malformed(at + 1, fault)));
+        return Ok(Ending::Unjudged(CasesEnd::Malformed(at + 1, fault)));
     }
     let (end, text) = report_on(alloc, values.as_slice())?;
     Ok(Ending::Report(end, text))
