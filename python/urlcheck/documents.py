@@ -296,7 +296,7 @@ class Run:
         self.counts.add(taken)
         self._write(taken.lines)
         if taken.reason is not None:
-            self._tell("{}: {}".format(shown, taken.reason))
+            self._tell("{}: {}".format(shown or "''", taken.reason))
 
     def _taken(self, name: str, shown: str) -> Taken:
         try:
@@ -403,7 +403,7 @@ def _parser() -> argparse.ArgumentParser:
         "reads; with --check, judges them.",
         epilog="A reference is judged against the base that its document names, else against --base, else against "
         + SOMEWHERE
-        + ", since a verdict depends on the scheme and the path of the base alone. "
+        + ", since a verdict depends on the base's scheme, whether its host is empty and whether its path is opaque. "
         "`urlcheck: ignore` in a comment on the line before a link in HTML, XML and Markdown leaves it out. "
         "Status: 0 where no link is refused, 1 where one is, 2 where a document can't be read or the arguments are "
         "wrong, 3 where the output can't be written.",

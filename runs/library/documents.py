@@ -228,10 +228,11 @@ class Documents(unittest.TestCase):
         self.write("utf16.html", "<a href=x>".encode("utf-16"))
         self.write("broken.xml", "<urlset>\n<loc>http://h/</loc><b></urlset>")
         self.write("a.txt", "x")
-        status, out, said = self.run_on("missing.html", "missing", "utf16.html", "broken.xml", "a.txt", "a.html")
+        status, out, said = self.run_on("missing.html", "missing", "", "utf16.html", "broken.xml", "a.txt", "a.html")
         self.assertEqual(status, 2)
         self.assertEqual(out, "broken.xml:2:6:http://h/\na.html:1:9:x\n")
         for word in ("missing.html: can't be read: No such file", "missing: can't be read: No such file",
+                     "urlcheck-documents: '': can't be read: No such file",
                      "utf16.html: isn't UTF-8 at byte 0", "broken.xml: 2:",
                      "a.txt: its name's end says no kind"):
             self.assertIn(word, said)
