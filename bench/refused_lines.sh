@@ -56,6 +56,6 @@ compared() {
 }
 
 compared gnu 4.0
-compared json 20.1
-compared sarif 21.9
+compared json 21.6
+compared sarif 23.5
 exit $failed
