@@ -2,9 +2,8 @@
 # What a call from C costs beside `check` in Rattle: instructions a text, counted by valgrind as the difference of five
 # rounds and one over the same texts, which both sides find before the first round. Alone a text is judged by
 # `urlcheck_check`, and against a base that both sides keep by `urlcheck_check_with`. From C a call also sees that the
-# bytes are UTF-8, and lays out the places of the parts. At most 1.3 times the instructions are the aim; the bound of a
-# row that misses it is what was seen when it was set, and 3 %. It fails where a bound is broken, a figure is missing or
-# too small, or an answer isn't the wanted one.
+# bytes are UTF-8, and lays out the places of the parts. It fails where a call takes more than 1.3 times the instructions,
+# a figure is missing or too small, or an answer isn't the wanted one.
 # Usage: bench/library.sh [COUNT [SEED]]
 set -euo pipefail
 top=$(dirname "$(dirname "$(realpath "$0")")")
@@ -58,8 +57,8 @@ compared() {
     awk -v s="$ratio" -v b="$2" 'BEGIN { exit s > b }' || fail "$3: $ratio, and at most $2 is wanted"
 }
 
-compared plain 1.37 'plain links'
-compared mixed 1.37 'mixed links'
-compared plain 1.40 'plain links, the base kept' "$base"
+compared plain 1.3 'plain links'
+compared mixed 1.3 'mixed links'
+compared plain 1.3 'plain links, the base kept' "$base"
 compared reference 1.3 'references, the base kept' "$base"
 exit $failed

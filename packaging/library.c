@@ -7,12 +7,16 @@
 
 #define EXPORT __attribute__((visibility("default")))
 
-/* The functions of one build. */
+/*
+ * The functions of one build. A function that returns an answer is handed the place of it first, and returns that place
+ * (System V ABI for x86-64, section 3.2.3). The two that are called most are declared so: a call at the end is then a
+ * jump, which compilers don't make of a call that returns a struct.
+ */
 #define DECLARE(build)                                                                                                 \
-    urlcheck_answer urlcheck_check_##build(const uint8_t *, size_t, uint32_t);                                         \
+    urlcheck_answer *urlcheck_check_##build(urlcheck_answer *, const uint8_t *, size_t, uint32_t);                     \
     urlcheck_answer urlcheck_check_against_##build(const uint8_t *, size_t, const uint8_t *, size_t, uint32_t);        \
     urlcheck_base urlcheck_prepare_##build(const uint8_t *, size_t, uint32_t);                                         \
-    urlcheck_answer urlcheck_check_with_##build(const uint8_t *, size_t, const urlcheck_base *);                       \
+    urlcheck_answer *urlcheck_check_with_##build(urlcheck_answer *, const uint8_t *, size_t, const urlcheck_base *);   \
     urlcheck_bool urlcheck_is_valid_##build(const uint8_t *, size_t, uint32_t);                                        \
     urlcheck_bool urlcheck_is_valid_with_##build(const uint8_t *, size_t, const urlcheck_base *);                      \
     urlcheck_fault_count urlcheck_faults_with_##build(const uint8_t *, size_t, const urlcheck_base *,                  \
@@ -36,8 +40,18 @@ DECLARE(x86_64_v2);
 /* Whether the build for x86-64-v2 answers. A call before that is known gets the plain build, which says the same. */
 static int is_newer;
 
+/* The functions of that build that are called most. */
+static urlcheck_answer *(*check_here)(urlcheck_answer *, const uint8_t *, size_t, uint32_t) = urlcheck_check_x86_64;
+static urlcheck_answer *(*check_with_here)(urlcheck_answer *, const uint8_t *, size_t,
+                                           const urlcheck_base *) = urlcheck_check_with_x86_64;
+
 /* Asks the processor when the library is loaded, so that no call has to see whether that was done. */
-static __attribute__((constructor)) void ask(void) { __atomic_store_n(&is_newer, is_x86_64_v2(), __ATOMIC_RELAXED); }
+static __attribute__((constructor)) void ask(void) {
+    if (!is_x86_64_v2()) return;
+    __atomic_store_n(&check_here, urlcheck_check_x86_64_v2, __ATOMIC_RELAXED);
+    __atomic_store_n(&check_with_here, urlcheck_check_with_x86_64_v2, __ATOMIC_RELAXED);
+    __atomic_store_n(&is_newer, 1, __ATOMIC_RELAXED);
+}
 
 #define CALL(name, ...)                                                                                                \
     (__atomic_load_n(&is_newer, __ATOMIC_RELAXED) ? name##_x86_64_v2(__VA_ARGS__) : name##_x86_64(__VA_ARGS__))
@@ -52,8 +66,13 @@ static uint8_t *written_to(uint8_t *bytes) { return bytes ? bytes : no_bytes; }
 static const urlcheck_base *held_in(const urlcheck_base *base) { return base ? base : &no_base; }
 static urlcheck_fault *listed_in(urlcheck_fault *faults) { return faults ? faults : no_faults; }
 
-EXPORT urlcheck_answer urlcheck_check(const uint8_t *text, size_t length, uint32_t profile) {
-    return CALL(urlcheck_check, read_from(text), length, profile);
+EXPORT urlcheck_answer *check(urlcheck_answer *, const uint8_t *, size_t, uint32_t) __asm__("urlcheck_check");
+EXPORT urlcheck_answer *check_with(urlcheck_answer *, const uint8_t *, size_t,
+                                   const urlcheck_base *) __asm__("urlcheck_check_with");
+
+urlcheck_answer *check(urlcheck_answer *answer, const uint8_t *text, size_t length, uint32_t profile) {
+    if (__builtin_expect(!text, 0)) text = no_bytes;
+    return __atomic_load_n(&check_here, __ATOMIC_RELAXED)(answer, text, length, profile);
 }
 
 EXPORT urlcheck_answer urlcheck_check_against(const uint8_t *text, size_t length, const uint8_t *base,
@@ -65,8 +84,10 @@ EXPORT urlcheck_base urlcheck_prepare(const uint8_t *base, size_t length, uint32
     return CALL(urlcheck_prepare, read_from(base), length, profile);
 }
 
-EXPORT urlcheck_answer urlcheck_check_with(const uint8_t *text, size_t length, const urlcheck_base *base) {
-    return CALL(urlcheck_check_with, read_from(text), length, held_in(base));
+urlcheck_answer *check_with(urlcheck_answer *answer, const uint8_t *text, size_t length, const urlcheck_base *base) {
+    if (__builtin_expect(!text, 0)) text = no_bytes;
+    if (__builtin_expect(!base, 0)) base = &no_base;
+    return __atomic_load_n(&check_with_here, __ATOMIC_RELAXED)(answer, text, length, base);
 }
 
 EXPORT urlcheck_bool urlcheck_is_valid(const uint8_t *text, size_t length, uint32_t profile) {
