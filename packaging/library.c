@@ -71,7 +71,7 @@ EXPORT urlcheck_answer *check_with(urlcheck_answer *, const uint8_t *, size_t,
                                    const urlcheck_base *) __asm__("urlcheck_check_with");
 
 urlcheck_answer *check(urlcheck_answer *answer, const uint8_t *text, size_t length, uint32_t profile) {
-    if (__builtin_expect(!text, 0)) text = no_bytes;
+    text = read_from(text);
     return __atomic_load_n(&check_here, __ATOMIC_RELAXED)(answer, text, length, profile);
 }
 
@@ -85,8 +85,8 @@ EXPORT urlcheck_base urlcheck_prepare(const uint8_t *base, size_t length, uint32
 }
 
 urlcheck_answer *check_with(urlcheck_answer *answer, const uint8_t *text, size_t length, const urlcheck_base *base) {
-    if (__builtin_expect(!text, 0)) text = no_bytes;
-    if (__builtin_expect(!base, 0)) base = &no_base;
+    text = read_from(text);
+    base = held_in(base);
     return __atomic_load_n(&check_with_here, __ATOMIC_RELAXED)(answer, text, length, base);
 }
 

@@ -1,10 +1,12 @@
 -- The form that ToASCII gives of a text, if it has the lengths of a domain, and what shows that none has them.
-use Rattle.std.proofs.Common.{◌≡◌, ℕ, ◌+◌, ◌-◌, ◌<◌, ◌≤◌, Bool, true, false, ◌||◌, nat_lt, List, [], ◌∷◌, length, take}
+use Rattle.std.proofs.Common.{◌≡◌, ℕ, ◌+◌, ◌-◌, ◌<◌, ◌≤◌, Bool, true, false, ◌||◌, nat_lt}
+use Rattle.std.proofs.Common.{List, [], ◌∷◌, ◌++◌, length, take}
 use Rattle.std.proofs.Common.{Option, Some, None, Result, Ok, Err, IfOk, MatchOption, option_map, option_and_then}
-use Rattle.std.proofs.Common.{chars, encode_utf8_all, refl, sym, ap, ◌∙◌, inl, inr, arith, length-take, ltb-true}
+use Rattle.std.proofs.Common.{chars, encode_utf8_all, map, refl, sym, ap, ap₂, ◌∙◌, inl, inr, arith, length-take}
+use Rattle.std.proofs.Common.{ltb-true}
 use Rattle.std.specs.Int.{is_in_range}
 use Rattle.std.specs.List.{list_all, list_any, slice_index}
-use Rattle.std.proofs.lemmas.Bool.{and_left, and_right, cases_Bool, cond-false, cond-true, false≢true}
+use Rattle.std.proofs.lemmas.Bool.{and_left, and_right, cases_Bool, cond-false, cond-true, false≢true, or_right}
 use Rattle.std.proofs.lemmas.Bool.Decides.{nat_tests}
 use Rattle.std.proofs.lemmas.List.Folds.{list_any-append}
 use Rattle.std.proofs.lemmas.Option.{none-some}
@@ -13,13 +15,16 @@ use Rattle.idna.specs.declared.deny_list.TheConstants.AsciiDenyList.{STD3, EMPTY
 use Rattle.idna.specs.declared.options.DnsLength.TheVariants.{Ignore}
 use Rattle.idna.specs.declared.options.Hyphens.{Hyphens}
 use Rattle.idna.specs.declared.options.Hyphens.TheVariants.{Allow, Check}
+use Rattle.idna.specs.BidiRule.{is_bidi_domain}
+use Rattle.idna.specs.Display.{shown_label, shown_name, stays_as_it_is, tld_of, to_user_interface}
 use Rattle.idna.specs.Labels.{is_full_stop, join_labels, labels_of}
 use Rattle.idna.specs.Uts46.{if_passes, process_utf8, to_ascii, to_unicode}
+use Rattle.idna.proofs.LabelsLemmas.{join_labels-labels_of}
 use Rattle.idna.proofs.Uts46Lemmas.{to_ascii-invalid}
 use Rattle.uv_model.specs.declared.profile.Profile.TheVariants.{Standard, Wide}
 use Rattle.uv_model.specs.Hosts.Domain.{HasNoForm, IsForm, has_lengths, has_permitted, without_root}
 use Rattle.uv_model.proofs.Hosts.DomainLemmas.{IsForm-from, parser_form-is}
-use Rattle.uv_host.specs.Domains.{fitting_form, has_long_label, is_long_label, is_long_name}
+use Rattle.uv_host.specs.FittingForms.{fitting_form, has_long_label, is_long_label, is_long_name}
 use Rattle.uv_host.proofs.ChainLemmas.{labels_root, root_parts}
 use Rattle.uv_host.proofs.LongLabelLemmas.{shown_shorter}
 use Rattle.uv_host.proofs.StrictLemmas.{allowed_form, cases_Option, filtered}
@@ -104,6 +109,45 @@ refused_misfit deny hyphens text refused =
     none : (o : Option (List (List ℕ))) → option_map (λ them. encode_utf8_all (join_labels them)) o ≡ None → o ≡ None
     none None is = refl
     none (Some labels) is = absurd (none-some _ (sym is))
+
+-- ---- ToUnicode by `Uts46::process`
+
+-- the policy that leaves each label in Unicode
+abbrev pub each_shown : List ℕ → List ℕ → Bool → Bool
+each_shown label tld bidi = true
+
+-- it leaves them all as they are
+labels_shown : (tld : List ℕ) (bidi : Bool) (labels : List (List ℕ))
+    → map (shown_label each_shown tld bidi) labels ≡ labels
+labels_shown tld bidi [] = refl
+labels_shown tld bidi (label ∷ labels) =
+    ap₂ (◌∷◌) (cond-true _ _ _ (or_right (stays_as_it_is label) true refl)) (labels_shown tld bidi labels)
+
+-- and so the name
+name_shown : (bidi : Bool) (name : List ℕ) → shown_name each_shown bidi name ≡ name
+unfolding shown_name
+name_shown bidi name =
+    ap join_labels (labels_shown (tld_of name) bidi (labels_of name)) ∙ join_labels-labels_of name
+
+-- what a user is then shown is what ToUnicode gives
+pub in_unicode : (deny : AsciiDenyList) (hyphens : Hyphens) (bytes : List ℕ)
+    → to_user_interface each_shown deny hyphens bytes ≡ to_unicode deny hyphens bytes
+unfolding to_user_interface to_unicode
+in_unicode deny hyphens bytes = each_of (process_utf8 deny hyphens bytes)
+  where
+    each_of : (o : Option (List (List ℕ)))
+        → option_map (λ labels. encode_utf8_all (shown_name each_shown (is_bidi_domain labels) (join_labels labels))) o
+        ≡ option_map (λ labels. encode_utf8_all (join_labels labels)) o
+    each_of None = refl
+    each_of (Some labels) =
+        ap (λ name. Some (encode_utf8_all name)) (name_shown (is_bidi_domain labels) (join_labels labels))
+
+-- and a sink that was empty then has it
+pub sunk : (deny : AsciiDenyList) (hyphens : Hyphens) (bytes shown old new : List ℕ)
+    → to_user_interface each_shown deny hyphens bytes ≡ Some shown → old ≡ [] → new ≡ old ++ shown
+    → to_unicode deny hyphens bytes ≡ Some new
+sunk deny hyphens bytes shown old new is empty written =
+    sym (in_unicode deny hyphens bytes) ∙ is ∙ ap Some (sym (written ∙ ap (λ before. before ++ shown) empty))
 
 -- ---- forms of the written profiles
 

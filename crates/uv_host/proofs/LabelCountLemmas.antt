@@ -7,7 +7,7 @@ use Rattle.std.proofs.lemmas.Bool.{cases_Bool, cond-false, cond-true}
 use Rattle.std.proofs.lemmas.List.{drop_more}
 use Rattle.idna.specs.Labels.{is_full_stop, labels_of}
 use Rattle.idna.proofs.LabelsLemmas.{labels_of_cons, slice_split-no, slice_split-yes}
-use Rattle.uv_host.specs.Domains.{has_long_label, is_long_label}
+use Rattle.uv_host.specs.FittingForms.{has_long_label, is_long_label}
 
 -- behind so many code points of a label it goes on to be too long, or a label after it is
 abbrev pub is_long_behind : ℕ → List ℕ → Bool

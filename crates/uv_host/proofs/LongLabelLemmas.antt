@@ -28,7 +28,7 @@ use Rattle.idna.proofs.LabelsLemmas.{All-join_labels, All-labels_of, HasNoFullSt
 use Rattle.idna.proofs.LabelsLemmas.{labels_of-join_labels, labels_of_cons}
 use Rattle.idna.proofs.Uts46Lemmas.{All-to_ascii, IsProcessed-process_utf8, IsValid-is_valid_label, convert-ace}
 use Rattle.idna.proofs.Uts46Lemmas.{convert-plain, process_utf8-lowercase, to_unicode-to_ascii}
-use Rattle.uv_host.specs.Domains.{has_long_label, is_long_label}
+use Rattle.uv_host.specs.FittingForms.{has_long_label, is_long_label}
 use Rattle.uv_host.proofs.StrictLemmas.{cases_Option, each-None, each-Some, filtered}
 
 -- ---- what Punycode stands for

@@ -1,17 +1,12 @@
 -- The answers on domains, after the URL Standard, sections 3.3 to 3.5, and UTS #46, section 4.
-use Rattle.std.specs.Prelude.{◌≡◌, ℕ, Bool, true, false, not, ◌&&◌, ◌||◌, ◌==◌, nat_lt, List, length, string_bytes}
-use Rattle.std.specs.Prelude.{encode_utf8_all, Option, option_and_then}
+use Rattle.std.specs.Prelude.{◌≡◌, ℕ, Bool, true, false, not, ◌&&◌, ◌||◌, ◌==◌, List, length, string_bytes}
 use Rattle.std.specs.Char.{is_ascii_digit, is_ascii_lowercase}
-use Rattle.std.specs.List.{list_all, list_any}
+use Rattle.std.specs.List.{list_all}
 use Rattle.std.specs.Str.{IsAscii}
-use Rattle.idna.specs.declared.deny_list.AsciiDenyList.{AsciiDenyList}
 use Rattle.idna.specs.declared.deny_list.TheConstants.AsciiDenyList.{STD3}
-use Rattle.idna.specs.declared.options.DnsLength.TheVariants.{Ignore}
-use Rattle.idna.specs.declared.options.Hyphens.{Hyphens}
 use Rattle.idna.specs.declared.options.Hyphens.TheVariants.{Allow, Check}
 use Rattle.idna.specs.Display.{IsPlain}
 use Rattle.idna.specs.Labels.{labels_of}
-use Rattle.idna.specs.Uts46.{if_passes, to_ascii}
 use Rattle.idna.specs.Validity.{passes_hyphens}
 use Rattle.uv_model.specs.Ascii.{full_stop}
 use Rattle.uv_model.specs.declared.profile.Profile.{Profile}
@@ -63,24 +58,6 @@ pub record HasFormByLengths (profile : Profile) (text form : List ℕ) : Type 0 
   pub ascii : IsAscii form
   pub fits : fits_lengths profile form ≡ true → IsForm profile text form
   pub wrong : fits_lengths profile form ≡ false → HasNoForm profile text
-
--- the form that ToASCII gives of a text with these settings, if it has the lengths of a domain
-abbrev pub fitting_form : AsciiDenyList → Hyphens → List ℕ → Option (List ℕ)
-fitting_form deny hyphens text =
-    option_and_then (if_passes has_lengths) (to_ascii deny hyphens Ignore (encode_utf8_all text))
-
--- the label has more than 63 code points
-abbrev pub is_long_label : List ℕ → Bool
-is_long_label label = nat_lt 63 (length label)
-
--- a label of the name has
-abbrev pub has_long_label : List ℕ → Bool
-has_long_label name = list_any is_long_label (labels_of name)
-
--- the name is too long to be that of a form in Unicode: it has a label that is, or more than 253 code points and a full
--- stop at its end
-abbrev pub is_long_name : List ℕ → Bool
-is_long_name name = nat_lt 254 (length name) || has_long_label name
 
 -- ToASCII leaves the name as it is: at its strict settings by the standard profile, and at those of the URL parser, of
 -- code points of a form, by the others

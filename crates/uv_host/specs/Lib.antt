@@ -1,4 +1,5 @@
 pub mod Domains
+pub mod FittingForms
 pub mod NameKinds
 pub mod OpaqueHosts
 pub mod ParserHosts

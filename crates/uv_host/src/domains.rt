@@ -3,23 +3,21 @@ ghost use Rattle.std.specs.Cow.{cow_str_bytes};
 ghost use Rattle.std.specs.Prelude.{chars, encode_utf8_all, false, IfOk, IfSome, IsSome, IsTrue, List, MatchOption};
 ghost use Rattle.std.specs.Prelude.{None, option_map, string_bytes, true, ◌≡◌, ℕ};
 ghost use Rattle.std.specs.Str.{IsAscii};
-ghost use Rattle.idna.specs.Uts46.{to_ascii};
 ghost use Rattle.uv_host.specs.Domains.{HasFormByLengths, IsAnswer, IsOwnForm, IsPlainAnswer, fits_lengths};
-ghost use Rattle.uv_host.specs.Domains.{fitting_form, has_long_label, is_long_name, is_lower_name, is_plain_name};
-ghost use Rattle.uv_host.specs.Domains.{takes_hyphens};
+ghost use Rattle.uv_host.specs.Domains.{is_lower_name, is_plain_name, takes_hyphens};
 ghost use Rattle.uv_model.specs.Hosts.Domain as spec;
 ghost use Rattle.uv_model.specs.declared.profile.Profile.{Profile};
 ghost use Rattle.uv_model.specs.WrittenProfiles.{IsWritten};
 
+use crate::fitting_forms::fitting_form;
 use crate::names::Name;
 use crate::parser_hosts::parser_form;
 use crate::plain_names::{ends_in_word, is_short_wide_name};
-use idna::uts46::{DnsLength, Hyphens, Uts46, verify_dns_length};
-use idna::{AsciiDenyList, Errors};
+use idna::AsciiDenyList;
+use idna::uts46::{Hyphens, verify_dns_length};
 use std::alloc::{AllocError, Global};
 use std::borrow::CowStr;
 use uv_model::{Profile, ends_in_number, is_domain_mark};
-use uv_text::count_code_points;
 
 /// What a text is as the domain of a special URL.
 #[derive(Drop)]
@@ -296,94 +294,6 @@ fn wide_form(alloc: Global, text: &str) -> Result<Option<CowStr<'_>>, AllocError
         Ok(Some(form))
     } else {
         Ok(None)
-    }
-}
-
-/// The most code points of a label of a domain (URL Standard, section 3.3).
-const LONGEST_LABEL: usize = 63;
-
-/// The most of a whole domain, where a full stop at its end isn't counted.
-const LONGEST_NAME: usize = 253;
-
-/// The form that ToASCII gives with these settings, if it has the lengths of a domain. Punycode takes quadratic time,
-/// so a name that is too long in Unicode is refused before it is made. A text of few bytes needs no such look.
-fn fitting_form<'a>(
-    alloc: Global,
-    text: &'a str,
-    deny: AsciiDenyList,
-    hyphens: Hyphens,
-) -> Result<Option<CowStr<'a>>, AllocError>
-    ensures { IfOk result (λ form. option_map cow_str_bytes form ≡ fitting_form deny hyphens (chars text.now)) }
-{
-    if text.len() > LONGEST_NAME && is_misfit(alloc, text, deny, hyphens)? {
-        return Ok(None);
-    }
-    let Some(form) = ascii_form(alloc, text, deny, hyphens)? else {
-        return Ok(None);
-    };
-    if has_lengths(form.as_str()) {
-        Ok(Some(form))
-    } else {
-        Ok(None)
-    }
-}
-
-/// Whether ToUnicode (UTS #46, section 4.3), which makes no Punycode, shows that no form of a text has the lengths of
-/// a domain: it refuses the text, as ToASCII then does, or it gives a label that is too long. Punycode has no fewer
-/// code points than what it stands for. Where the answer is no, that says nothing.
-fn is_misfit(
-    alloc: Global,
-    text: &str,
-    deny: AsciiDenyList,
-    hyphens: Hyphens,
-) -> Result<bool, AllocError>
-    ensures { IfOk result (λ answer. IsTrue answer → fitting_form deny hyphens (chars text.now) ≡ None) }
-{
-    match Uts46::new().to_unicode(alloc, text.as_bytes(), deny, hyphens)? {
-        (name, Ok(())) => Ok(is_long_name(name.as_str())),
-        (_, Err(_)) => Ok(true),
-    }
-}
-
-/// Whether a name in Unicode, or a label of it, has more code points than that of any domain. A full stop may stand at
-/// its end.
-fn is_long_name(name: &str) -> bool
-    ensures { result ≡ is_long_name (chars name.now) }
-{
-    count_code_points(name) > LONGEST_NAME + 1 || has_long_label(name)
-}
-
-/// Whether a label of a name has more code points than any label of a domain.
-fn has_long_label(name: &str) -> bool
-    ensures { result ≡ has_long_label (chars name.now) }
-{
-    let mut length = 0;
-    for c in name.chars() {
-        if c == '.' {
-            length = 0;
-        } else if length == LONGEST_LABEL {
-            return true;
-        } else {
-            length += 1;
-        }
-    }
-    false
-}
-
-/// ToASCII (UTS #46, section 4.2), nontransitional, with CheckBidi and CheckJoiners, and no check of the lengths.
-fn ascii_form<'a>(
-    alloc: Global,
-    text: &'a str,
-    deny: AsciiDenyList,
-    hyphens: Hyphens,
-) -> Result<Option<CowStr<'a>>, AllocError>
-    ensures { IfOk result (λ form. option_map cow_str_bytes form
-        ≡ to_ascii deny hyphens DnsLength.Ignore (encode_utf8_all (chars text.now))) }
-{
-    match Uts46::new().to_ascii(alloc, text.as_bytes(), deny, hyphens, DnsLength::Ignore) {
-        Ok(form) => Ok(Some(form)),
-        Err(Errors::Invalid) => Ok(None),
-        Err(Errors::OutOfMemory) => Err(AllocError),
     }
 }
 

@@ -3,6 +3,7 @@
 
 mod addresses;
 mod domains;
+mod fitting_forms;
 mod names;
 mod numbers;
 mod opaque_hosts;

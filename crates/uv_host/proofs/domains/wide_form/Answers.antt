@@ -7,7 +7,7 @@ use Rattle.idna.specs.declared.options.Hyphens.TheVariants.{Allow}
 use Rattle.uv_model.specs.declared.profile.Profile.TheVariants.{Wide}
 use Rattle.uv_model.specs.Hosts.Domain.{is_form_code_point}
 use Rattle.uv_model.proofs.Hosts.DomainLemmas.{IsForm-wide, no_letters}
-use Rattle.uv_host.specs.Domains.{fitting_form}
+use Rattle.uv_host.specs.FittingForms.{fitting_form}
 use Rattle.uv_host.proofs.FittingFormLemmas.{fitting_parts, no_wide_form}
 use Rattle.uv_host.proofs.domains.wide_form.Goals as goal
 

@@ -3,7 +3,7 @@ use Rattle.std.proofs.Common.{arith, chars, map-id, ne_eqb, refl, sym, ◌∙◌
 use Rattle.std.proofs.lemmas.Iterator.{YieldsList-from_chars}
 use Rattle.std.proofs.lemmas.Iterator.Consumers.{YieldsList-end, YieldsList-so_far, YieldsList-turn}
 use Rattle.uv_host.proofs.LabelCountLemmas.{end_of_label, long_here, more_of_label, none_long}
-use Rattle.uv_host.proofs.domains.has_long_label.Goals as goal
+use Rattle.uv_host.proofs.fitting_forms.has_long_label.Goals as goal
 
 pub returns-then-length-eq-LONGEST_LABEL : goal.returns-then-length-eq-LONGEST_LABEL
 returns-then-length-eq-LONGEST_LABEL c =

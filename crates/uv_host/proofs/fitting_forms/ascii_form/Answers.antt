@@ -3,7 +3,7 @@ use Rattle.std.proofs.Common.{sym, ap, ◌∙◌}
 use Rattle.std.proofs.lemmas.Str.{encodes-chars}
 use Rattle.idna.specs.declared.options.DnsLength.TheVariants.{Ignore}
 use Rattle.idna.specs.Uts46.{to_ascii}
-use Rattle.uv_host.proofs.domains.ascii_form.Goals as goal
+use Rattle.uv_host.proofs.fitting_forms.ascii_form.Goals as goal
 
 pub returns-in-Ok : goal.returns-in-Ok
 returns-in-Ok c =
