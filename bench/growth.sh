@@ -2,10 +2,9 @@
 # Shows that the cost of a check, of all faults (`check --all`), of a mended text (`mend`) and of a line of a list
 # (`links`) grows with the text and no faster: instructions by callgrind for each shape, the reading of the same text
 # taken off. Ten times the length costs at most eleven times: a line at a hundredth, a tenth and the whole of the length
-# that it may have, all else at 10 thousand, 100 thousand and a million code points. A label beyond ASCII may cost up to 18
-# times where it comes to more than 1,000 code points. The bytes that `lint --all` writes of a line in which each code
-# point is wrong, in each format, are held to eleven too. It fails where a figure is missing or below one instruction for
-# 32 bytes, and where an answer isn't the wanted one. It needs valgrind.
+# that it may have, all else at 10 thousand, 100 thousand and a million code points. The bytes that `lint --all` writes of
+# a line in which each code point is wrong, in each format, are held to eleven too. It fails where a figure is missing or
+# below one instruction for 32 bytes, and where an answer isn't the wanted one. It needs valgrind.
 # Usage: bench/growth.sh [--only check|faults|mend|links|written] [COUNT..]
 set -euo pipefail
 export LC_ALL=C.UTF-8
@@ -213,15 +212,6 @@ of_written() {
     right="${wanted%% *} faults"
 }
 
-# most WHAT SHAPE COUNT : how many times a tenth of the length this may cost: 11, but where a label comes to more than 1,000
-# code points, which ToUnicode refuses, and then marks
-most() {
-    case "$1 $2 $3" in
-        'links host+é 3270') echo 18 ;;
-        *) echo 11 ;;
-    esac
-}
-
 # grows WHAT SHAPE COUNT.. : the figures of a shape at each length, which grow no faster than the text
 grows() {
     local what=$1 shape=$2 count before=0 cost whole reading said right
@@ -238,7 +228,7 @@ grows() {
         printf ' %8d: %-11d' "$count" $cost
         [ "$said" = "$right" ] || fail "$what of $shape, $count: it said: $said, and not: $right"
         ((cost >= count / 32)) || fail "$what of $shape, $count: $cost instructions are too few"
-        ((before == 0 || cost <= $(most "$what" "$shape" "$count") * before)) ||
+        ((before == 0 || cost <= 11 * before)) ||
             fail "$what of $shape, $count: it grows faster than the text"
         before=$cost
     done

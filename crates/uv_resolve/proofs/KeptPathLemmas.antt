@@ -1,11 +1,10 @@
 -- Paths of segments that a walk keeps: what is denoted is each of them percent-encoded.
 use Rattle.std.proofs.Common.{◌≡◌, ◌≢◌, ℕ, Bool, true, false, not, List, [], ◌∷◌, ◌++◌, Option, Some, None, refl}
-use Rattle.std.proofs.Common.{◌||◌, sym, ap, ◌∙◌, subst, inl, inr, append_assoc, append-nil, map}
-use Rattle.std.proofs.Common.{◌==◌, ◌<◌, ◌≤◌, ◌+◌, ◌&&◌, suc, length, drop, drop-cons, slice_index_or, codes, arith}
+use Rattle.std.proofs.Common.{sym, ap, ◌∙◌, subst, inl, inr, append_assoc, append-nil, map}
+use Rattle.std.proofs.Common.{◌==◌, ◌&&◌, codes, arith}
 use Rattle.std.specs.Char.{to_ascii_lowercase}
 use Rattle.std.specs.Str.{bytes_eq}
 use Rattle.std.specs.List.{join_with_byte, list_all}
-use Rattle.std.proofs.Math.ListN.{drop_of_length-le}
 use Rattle.std.proofs.lemmas.Slice.Eq.{bytes_eq-Decides}
 use Rattle.std.proofs.lemmas.Bool.Decides.{nat_tests}
 use Rattle.std.proofs.lemmas.Bool.{and_parts, and_from, false_from_ne_true, false≢true, not-true}
@@ -159,30 +158,6 @@ no_dots-behind true [] rest h = no_dots-weaker rest h
 no_dots-behind begins (c ∷ prefix) rest h =
     no_dots-behind (c == slash) prefix rest
     (and_parts (not (begins && is_dot_mark c)) (has_no_dots (c == slash) (prefix ++ rest)) h).1
-
--- such a text is known by its next byte and what follows it
-no_dots-first : (begins : Bool) (text : List ℕ) (k : ℕ) → k < length text
-    → has_no_dots begins (drop k text) ≡ (not (begins && is_dot_mark (slice_index_or text k 0))
-    && has_no_dots (slice_index_or text k 0 == slash) (drop (k + 1) text))
-no_dots-first begins text k below =
-    let next : suc k ≡ k + 1 = omega arith in
-    ap (has_no_dots begins) (drop-cons text k 0 below)
-    ∙ ap (λ n. not (begins && is_dot_mark (slice_index_or text k 0))
-    && has_no_dots (slice_index_or text k 0 == slash) (drop n text)) next
-
--- the next byte is seen, where one before it was found to begin a dot segment or not
-pub no_dots-next : (found begins : Bool) (text : List ℕ) (k : ℕ) → k < length text
-    → (not (found || (begins && is_dot_mark (slice_index_or text k 0)))
-    && has_no_dots (slice_index_or text k 0 == slash) (drop (k + 1) text))
-    ≡ (not found && has_no_dots begins (drop k text))
-no_dots-next true begins text k below = refl
-no_dots-next false begins text k below = sym (no_dots-first begins text k below)
-
--- no byte is left
-pub no_dots-end : (found begins : Bool) (text : List ℕ) (k : ℕ) → length text ≤ k
-    → (not found && has_no_dots begins (drop k text)) ≡ not found
-no_dots-end true begins text k none = refl
-no_dots-end false begins text k none = ap (has_no_dots begins) (drop_of_length-le text none)
 
 -- a segment in such a text is kept
 kept-first : (segment rest : List ℕ) → has_no_dots true (segment ++ rest) ≡ true → is_kept_segment segment ≡ true

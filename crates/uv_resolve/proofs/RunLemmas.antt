@@ -4,10 +4,6 @@ use Rattle.uv_model.specs.declared.profile.Profile.{Profile}
 use Rattle.uv_model.specs.declared.profile.Profile.TheVariants.{Standard, Wide, Parser}
 use Rattle.uv_model.specs.Records.Url.{Url}
 use Rattle.uv_model.specs.Records.WellFormed.{MayBeWellFormed}
-use Rattle.uv_model.specs.Parts.{Parts}
-use Rattle.uv_model.specs.Valid.{Valid}
-use Rattle.uv_model.proofs.Hosts.ParserTexts.{wide_texts_are_parsers}
-use Rattle.uv_model.proofs.Hosts.StandardTexts.{standard_texts_are_wide}
 use Rattle.uv_model.proofs.Records.DenotedRecords.{denoted_records_are_well_formed}
 use Rattle.uv_parser.specs.Laws.DecidedTexts.{IsDecided}
 use Rattle.uv_resolve.specs.declared.fault.ResolveFault.{ResolveFault}

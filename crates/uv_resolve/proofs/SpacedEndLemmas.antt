@@ -2,7 +2,6 @@
 use Rattle.std.proofs.Common.{◌≡◌, ◌≢◌, ℕ, true, false, List, [], ◌∷◌, ◌++◌, length, take_at, codes, encode_utf8_all}
 use Rattle.std.proofs.Common.{refl, sym, ap, ◌∙◌, inl, inr, eqb-true, lit<}
 use Rattle.std.specs.Char.{encode_utf8}
-use Rattle.std.specs.Prelude.{◌==◌}
 use Rattle.std.specs.Str.{IsAscii, IsUtf8, chars}
 use Rattle.std.proofs.lemmas.Bool.{cases_Bool, false≢true}
 use Rattle.std.proofs.lemmas.Str.{IsCharBoundary-at_seam, IsUtf8-from_ascii, IsUtf8-take, chars-IsAscii, chars-append}

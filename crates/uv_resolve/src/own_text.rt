@@ -1,6 +1,6 @@
 //! Texts that are the text of the URL that they denote, but perhaps for a `/` at the end, as most links are: no record
 //! has to be made of them.
-ghost use Rattle.std.specs.Prelude.{◌≡◌, ◌&&◌, [], IsTrue, true};
+ghost use Rattle.std.specs.Prelude.{◌≡◌, [], false, IsTrue, true};
 ghost use Rattle.std.specs.List.{list_all};
 ghost use Rattle.std.specs.Str.{chars};
 ghost use Rattle.uv_grammar.specs.Slices.{chars_of_option};
@@ -123,23 +123,31 @@ pub(crate) fn is_own_path(text: &str) -> bool
     is_without_dots(false, text.as_bytes())
 }
 
-/// Whether no `.` and no `%` stands behind a `/`, nor at the start where a segment begins there. No branch is taken for
-/// a byte, since those at a segment's start would be guessed wrong.
+/// Whether no `.` and no `%` stands behind a `/`, nor at the start where a segment begins there.
 pub(crate) fn is_without_dots(at_start: bool, path: &[u8]) -> bool
     ensures { result ≡ has_no_dots at_start path.now }
 {
-    let mut begins = at_start;
+    match path.first() {
+        Some(first) if at_start && is_dot_mark(*first) => false,
+        _ => is_without_dots_within(path),
+    }
+}
+
+// Whether no `.` and no `%` stands behind a `/`. No branch is taken for a byte, since those at a segment's start would be
+// guessed wrong, and no byte waits for what was found of the one before it, so that many are compared at once.
+fn is_without_dots_within(path: &[u8]) -> bool
+    ensures { result ≡ has_no_dots false path.now }
+{
     let mut has_dots = false;
-    for &byte in path {
-        has_dots |= may_be_dots(begins, byte);
-        begins = byte == b'/';
+    for at in 1..path.len() {
+        has_dots |= (path[at - 1] == b'/') & is_dot_mark(path[at]);
     }
     !has_dots
 }
 
-// Whether a dot segment may begin with a byte, where a segment begins there.
-fn may_be_dots(begins: bool, byte: u8) -> bool
-    ensures { result ≡ (begins && is_dot_mark byte) }
+// Whether a dot segment may begin with a byte.
+fn is_dot_mark(byte: u8) -> bool
+    ensures { result ≡ is_dot_mark byte }
 {
-    begins & ((byte == b'.') | (byte == b'%'))
+    (byte == b'.') | (byte == b'%')
 }
