@@ -10,7 +10,7 @@ of_list() {
 }
 # counted LINES REFUSED : what standard error says of so many lines
 counted() { [ "$1" = 1 ] && echo "urlcheck: 1 line, $2 refused\\n" || echo "urlcheck: $1 lines, $2 refused\\n"; }
-domain='error: the host that begins here is no valid domain [host-domain]'
+domain='error: U+005F LOW LINE may not stand in a domain [host-domain]'
 utf8="error: this line isn't UTF-8 [not-utf8]"
 scheme='error: there is no scheme and no base [no-scheme]'
 space='error: U+0020 SPACE may not stand in a URL [code-point]'
@@ -40,6 +40,36 @@ of_list 1 "list:1:8: $domain\n" "$(counted 2 1)" 'http://x_y/\nb\n' --base http:
 of_list 0 '' "$(counted 2 0)" 'http://x_y/\nb\n' --wide --base http://h/
 of_list 1 'list:3:8: error: the host that begins here ends in a number, and is no IPv4 address [host-number]\n' \
     "$(counted 3 1)" 'http://a%2Db/\nurn:a b\nhttp://256/\n' --profile parser
+
+# Why a host is no valid domain: the first ASCII code point that the profile doesn't permit, else a label that is empty,
+# has more than 63 code points, or has hyphens where the standard profile permits none. Of one that begins with `xn--`,
+# and of what ToASCII makes of code points beyond ASCII, nothing is said.
+# in_domain CODE_POINT : that it may not stand in a domain
+in_domain() { echo "error: U+$1 may not stand in a domain [host-domain]"; }
+empty='error: a label of this domain is empty [host-domain]'
+long='error: a label of this domain has more than 63 code points [host-domain]'
+outer='error: a label of this domain begins or ends with - [host-domain]'
+inner='error: a label of this domain has -- in its third and fourth place [host-domain]'
+none='error: the host that begins here is no valid domain [host-domain]'
+label=$(printf 'a%.0s' {1..64})
+of_list 1 "list:1:9: $(in_domain '0020 SPACE')\nlist:2:8: $(in_domain '005C REVERSE SOLIDUS')
+list:3:8: $(in_domain '0025 PERCENT SIGN')\nlist:4:8: $(in_domain '005F LOW LINE')
+list:5:8: $(in_domain '005E CIRCUMFLEX ACCENT')\nlist:6:8: $(in_domain '005F LOW LINE')\n" "$(counted 6 6)" \
+    'https://exa mple.com/\nhttp://a\\b/\nhttp://a%41/\nhttp://x.._!/\nfile://a^b/x\nhttp://\xc3\xa9_/\n'
+of_list 1 "list:1:8: $empty\nlist:2:8: $empty\nlist:3:8: $empty\nlist:4:8: $empty\n" "$(counted 5 4)" \
+    'http://a..b/_\nhttp://.\nhttp://.a?_\nhttp://\xc3\xa9..b:80\nhttp://a./\n'
+of_list 1 "list:1:8: $long\nlist:3:8: $none\n" "$(counted 3 2)" \
+    "http://b.$label./\nhttp://b.${label#a}/\nhttp://xn--$label/\n"
+of_list 1 "list:1:8: $outer\nlist:2:8: $outer\nlist:3:8: $outer\nlist:4:8: $inner\nlist:5:8: $inner\n" \
+    "$(counted 6 5)" \
+    'http://a-:80/\nhttp://a.-b.c/\nhttp://ab--c.-\nhttp://a.bc--d/\nhttp://XM--a#\nhttp://a-b/-\n'
+of_list 1 "list:1:8: $none\nlist:2:8: $none\nlist:3:8: $none\n" "$(counted 3 3)" \
+    'http://Xn--a-/\nhttp://\xc2\xad/\nhttp://-\xe3\x80\x82a/\n'
+of_list 1 "list:1:8: $(in_domain '0021 EXCLAMATION MARK')\nlist:2:8: $empty\nlist:3:8: $long\nlist:5:8: $none\n" \
+    "$(counted 5 4)" "http://x_y!/\nhttp://a..b/\nhttp://$label/\nhttp://-a--b-/\nhttp://xn--a-/\n" --wide
+of_list 1 "list:1:8: $(in_domain '0020 SPACE')\nlist:2:8: $none\nlist:3:8: $(in_domain '003C LESS-THAN SIGN')
+list:5:8: $(in_domain '0009 CHARACTER TABULATION')\n" "$(counted 5 4)" \
+    'http://x_y! z/\nhttp://a..%20/\nhttp://%<>/\nhttp://a..b/\nhttp://a\tb/\n' --profile parser
 
 # The least violation, or all.
 of_list 1 "list:1:11: $space\nlist:2:8: $credentials\n" "$(counted 2 2)" 'http://h/a b%zz\nhttp://u@h/a b\n'
@@ -146,4 +176,4 @@ ends_with 1 $? "$(counted 7 4)" 'results of SARIF of three files'
 grep '"ruleIndex":' "$room/out" | cmp -s - "$room/twice" || fail "results of SARIF of three files: $(cat "$room/out")"
 rm -f "$room/wanted" "$room/twice" "$room/right"
 
-all_cases 38
+all_cases 45

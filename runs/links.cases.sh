@@ -17,7 +17,7 @@ reports 1 "$against" '' --base=http://h/
 wide='1 ok http://h/a\n2 ok http://h/\n3 ok http://x_y/\nlinks 3 ok 3 bad 0 differs 0\n'
 reports 0 "$wide" '' --wide --base http://h/
 reports 0 "${wide//h\//h_\/}" '' --wide --base http://h_/
-reports 2 '' "$(no_base 7 host-domain 'the host that begins here is no valid domain')" --base http://h_/
+reports 2 '' "$(no_base 7 host-domain 'U+005F LOW LINE may not stand in a domain')" --base http://h_/
 reports 2 '' "$(no_base 7 host-missing 'a host has to stand here')" --base http://
 
 # An accepted line has the text that the second parser gives too. Each is worked out by hand from the URL Standard's

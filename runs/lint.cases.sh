@@ -5,7 +5,7 @@ printf 'http://h/a b\n\nhttp://ok/\r\nhttp://x_y/\n\xff\nnope' >"$room/links.txt
 printf 'https:///a\n' >"$room/other.txt"
 printf 'http://h/\n\n\r\nurn:a\n' >"$room/right.txt"
 first='links.txt:1:11: error: U+0020 SPACE may not stand in a URL [code-point]\n'
-underscore='links.txt:4:8: error: the host that begins here is no valid domain [host-domain]\n'
+underscore='links.txt:4:8: error: U+005F LOW LINE may not stand in a domain [host-domain]\n'
 bytes="links.txt:5:1: error: this line isn't UTF-8 [not-utf8]\\n"
 last='links.txt:6:1: error: there is no scheme and no base [no-scheme]\n'
 other='other.txt:1:9: error: a host has to stand here [host-missing]\n'
@@ -36,20 +36,20 @@ expect 1 "$first$bytes" 'urlcheck: 5 lines, 2 refused\n' lint --base=http://b/ -
 printf 'http://a%%2Db/\nhttp://1.2.3/\nurn:a b\nfile://\nhttp://0x1/\n' >"$room/parser.txt"
 number='parser.txt:5:8: error: the host that begins here ends in a number, and is no IPv4 address [host-number]\n'
 expect 1 "$number" 'urlcheck: 5 lines, 1 refused\n' lint --profile parser parser.txt
-expect 1 "parser.txt:1:8: error: the host that begins here is no valid domain [host-domain]\n${number//:5:/:2:}\
+expect 1 "parser.txt:1:8: error: U+0025 PERCENT SIGN may not stand in a domain [host-domain]\n${number//:5:/:2:}\
 parser.txt:3:6: error: U+0020 SPACE may not stand in a URL [code-point]\n\
 parser.txt:4:8: error: a host has to stand here [host-missing]\n$number" \
     'urlcheck: 5 lines, 5 refused\n' lint --wide parser.txt
 printf 'http://a b:x/ %%\n' >"$room/faults.txt"
-expect 1 'faults.txt:1:8: error: the host that begins here is no valid domain [host-domain]\n' 'urlcheck: 1 line, 1 refused\n' \
-    lint faults.txt
+expect 1 'faults.txt:1:8: error: U+0020 SPACE may not stand in a domain [host-domain]\n' \
+    'urlcheck: 1 line, 1 refused\n' lint faults.txt
 "$program" lint --all "$room/faults.txt" >"$room/out" 2>"$room/err"
 ends_with 1 $? 'urlcheck: 1 line, 1 refused\n' 'lint --all'
 places=$("$program" check --all 'http://a b:x/ %' | awk '{ print "1:" $2 + 1 " [" $3 "]" }')
 [ "$(sed 's/.*txt:\([0-9]*:[0-9]*\): .* \(\[[a-z-]*\]\)$/\1 \2/' "$room/out")" = "$places" ] ||
     fail "lint --all: it wrote $(cat "$room/out")"
 [ "$(wc -l <"$room/out")" -gt 2 ] || fail "lint --all: it wrote $(cat "$room/out")"
-expect 2 '' "$(no_base 7 host-domain 'the host that begins here is no valid domain')" lint --base 'http://h a/' links.txt
+expect 2 '' "$(no_base 7 host-domain 'U+0020 SPACE may not stand in a domain')" lint --base 'http://h a/' links.txt
 expect 2 '' "$(no_base 0 no-scheme 'it has no scheme')" lint --base '' missing.txt
 formats='urlcheck: the formats: gnu caret json github sarif checkstyle\nwords\n'
 for name in GNU gnu, gn jsan checkstle; do
@@ -124,7 +124,7 @@ sentence='a URL string has no credentials: no user name, password or @ before it
 expect 1 "credentials.txt:1:13: error: $sentence [port-digit]
 credentials.txt:2:8: error: $sentence [host-domain]
 credentials.txt:3:8: error: $sentence [host-code-point]
-credentials.txt:4:8: error: the host that begins here is no valid domain [host-domain]
+credentials.txt:4:8: error: U+005F LOW LINE may not stand in a domain [host-domain]
 credentials.txt:5:8: error: U+005E CIRCUMFLEX ACCENT may not stand in a host [host-code-point]
 credentials.txt:6:11: error: U+0078 LATIN SMALL LETTER X is no digit of a port [port-digit]
 " 'urlcheck: 6 lines, 6 refused\n' lint credentials.txt
@@ -174,7 +174,7 @@ http://h/a b %
 mended.txt:1:14: error: $percent
 http://h/a b %
              ^
-mended.txt:2:8: error: the host that begins here is no valid domain [host-domain]
+mended.txt:2:8: error: U+005F LOW LINE may not stand in a domain [host-domain]
 http://x_y/
        ^
 mended.txt:3:13: error: $percent

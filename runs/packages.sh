@@ -81,7 +81,7 @@ PYTHONPATH=$at/lib/$python python3 "$room/page.py" | cmp - "$room/page.py.out" |
 # (the package finds the library that was installed with it)
 printf '<a href="http://x_y/">\n' >"$room/page.html"
 { (cd "$room" && PYTHONPATH=$at/lib/$python python3 "$at/bin/urlcheck-documents" --check page.html 2>"$room/said") ||
-    [ $? = 1 ]; } | cmp - <(echo 'page.html:1:17: error: the host that begins here is no valid domain [host-domain]') ||
+    [ $? = 1 ]; } | cmp - <(echo 'page.html:1:17: error: U+005F LOW LINE may not stand in a domain [host-domain]') ||
     { cat "$room/said"; fail "urlcheck-documents"; }
 told=$(PYTHONPATH=$at/lib/$python python3 -c 'import urlcheck; print(urlcheck.version())')
 [ "$told" = "$version" ] || fail "the library says that its version is $told"

@@ -77,7 +77,7 @@ if [ $# = 1 ] && has rg; then
     printf 'a\nsee <http://x_y/>, https://example.com/\n\303\251 http://x/\303\251^\n' >a.txt
     ends 1 'links in text files' bash -o pipefail ../text.sh
     says 'links in text files' \
-        './a.txt:2:13: error: the host that begins here is no valid domain [host-domain]' \
+        './a.txt:2:13: error: U+005F LOW LINE may not stand in a domain [host-domain]' \
         './a.txt:3:15: error: U+005E CIRCUMFLEX ACCENT may not stand in a URL [code-point]' 'urlcheck: 3 lines, 2 refused'
     printf 'see https://example.com/\n' >a.txt
     ends 0 'right links in text files' bash -o pipefail ../text.sh
@@ -92,7 +92,7 @@ if [ -n "${URLCHECK_LIBRARY:-}" ]; then
     # (a runner runs a step with `shell: bash` so)
     recipe 'Links in documents' yaml | sed -n 's/^ *run: //p' >../step.sh
     recipe 'A sitemap or a feed' sh >../feeds.sh
-    sentence='the host that begins here is no valid domain'
+    sentence='U+005F LOW LINE may not stand in a domain'
     for recipe in 'check.sh' 'formats.sh' '-eo pipefail step.sh'; do
         script=../${recipe##* } options=${recipe%"${recipe##* }"}
         rm -rf docs

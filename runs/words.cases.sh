@@ -79,7 +79,9 @@ expect 0 'valid\nscheme http\nhost domain a_b\nsegment x\n' '' check x --base ht
 expect 0 'valid\nscheme http\nhost domain a-b\nsegment \n' '' check --profile parser http://a%2Db/
 expect 0 'valid\nscheme http\nhost ipv4 1.0.0.2\nsegment x\n' '' check x --base http://1.2/ --profile=parser
 expect 0 'links 0 ok 0 bad 0 differs 0\n' '' links --base http://h_/ --profile wide
-expect 2 '' "$(no_base 7 host-domain 'the host that begins here is no valid domain')" links --profile=standard --base http://h_/
+expect 2 '' "$(no_base 7 host-domain 'U+005F LOW LINE may not stand in a domain')" links --profile=standard --base http://h_/
+expect 2 '' "$(no_base 7 host-domain 'U+0021 EXCLAMATION MARK may not stand in a domain')" links --wide --base http://h_!/
+expect 2 '' "$(no_base 7 host-domain 'U+0020 SPACE may not stand in a domain')" mend --profile parser --base 'http://h_! /' x
 expect 0 'mended same\na%20b\n' '' mend --base http://h_/ --wide 'a b'
 refused "'--parser'" check --parser urn:a
 profiles='urlcheck: the profiles: standard wide parser\nwords\n'
@@ -146,7 +148,7 @@ for flag in --all --wide; do
     expect 1 'refused 8 drive-after-host\n' '' check $flag file://h/C:/x
     expect 0 'valid\nscheme http\nhost domain h\nsegment \n' '' check $flag --base http://x/a //h
 done
-expect 2 '' "$(no_base 7 host-domain 'the host that begins here is no valid domain')" check --base http://a_b/ x
+expect 2 '' "$(no_base 7 host-domain 'U+005F LOW LINE may not stand in a domain')" check --base http://a_b/ x
 expect 0 'valid\nscheme http\nhost domain a_b\nsegment x\n' '' check --wide --base http://a_b/ x
 expect 1 'refused 7 host-domain\nrefused 11 code-point\n' '' check --all 'http://a_b/ '
 expect 1 'refused 11 code-point\n' '' check --all --wide 'http://a_b/ '
@@ -191,4 +193,4 @@ expect 0 'valid\nscheme file\nhost domain h\nsegment C:\nsegment x\n' '' check -
 expect 0 'valid\nscheme urn\nopaque a b\nfragment f\n' '' check --profile parser --base 'urn:a b' '#f'
 expect 2 '' "$(no_base 5 code-point 'U+0020 SPACE may not stand in a URL')" check --wide --base 'urn:a b' '#f'
 expect 2 '' "$(no_base 7 host-number 'the host that begins here ends in a number, and is no IPv4 address')" check --profile parser --base http://256/ x
-all_cases 162
+all_cases 164

@@ -6,7 +6,7 @@ use std::alloc::{AllocError, Global};
 use std::process::Abort;
 use std::test::Fail;
 use uv_mend::MendKind;
-use uv_model::Rule;
+use uv_model::{Profile, Rule};
 use uv_report::{Diagnostic, Format, LineViolation, push_shown};
 
 // The report on a diagnostic in a format is this text.
@@ -53,14 +53,7 @@ fn writes_a_line_as_compilers_do(rt: HostRuntime) -> Result<(), Fail> {
         &found,
         "docs/a.md:3:11: error: U+0020 SPACE may not stand in a URL [code-point]\n",
     )?;
-    let unread = Diagnostic {
-        file: "-",
-        line: 1,
-        column: 1,
-        violation: LineViolation::NotUtf8,
-        text: "\u{FFFD}",
-        mended: None,
-    };
+    let unread = unjudged(LineViolation::NotUtf8, "\u{FFFD}");
     writes(
         &rt,
         Format::Gnu,
@@ -68,6 +61,55 @@ fn writes_a_line_as_compilers_do(rt: HostRuntime) -> Result<(), Fail> {
         "-:1:1: error: this line isn't UTF-8 [not-utf8]\n",
     )?;
     Ok(())
+}
+
+// A diagnostic on the first line of a file, which isn't judged.
+fn unjudged(violation: LineViolation, text: &str) -> Diagnostic<'_> {
+    Diagnostic {
+        file: "-",
+        line: 1,
+        column: 1,
+        profile: Profile::Standard,
+        violation,
+        text,
+        mended: None,
+    }
+}
+
+// By a profile a diagnostic on a host that begins behind `http://` says this.
+fn says_of_host(
+    rt: &(impl Abort + AllocGlobal),
+    profile: Profile,
+    text: &str,
+    sentence: &str,
+) -> Result<(), Fail> {
+    let found = Diagnostic {
+        profile,
+        ..refused("f", Rule::HostDomain, 7, text)
+    };
+    has_text(rt, Format::Gnu, &found, sentence)
+}
+
+// The first code point that the profile doesn't permit, else what is wrong with a label by the profile.
+#[test]
+fn says_why_a_host_is_no_domain(rt: HostRuntime) -> Result<(), Fail> {
+    let low_line = ": U+005F LOW LINE may not stand in a domain [";
+    says_of_host(&rt, Profile::Standard, "http://a!..b", ": U+0021 EX")?;
+    says_of_host(&rt, Profile::Standard, "http://x_y/!", low_line)?;
+    says_of_host(&rt, Profile::Wide, "http://x_y!", ": U+0021 EX")?;
+    says_of_host(&rt, Profile::Parser, "http://%_ /", ": U+0020 SP")?;
+    let empty = ": a label of this domain is empty [";
+    says_of_host(&rt, Profile::Standard, "http://a-..b", empty)?;
+    says_of_host(&rt, Profile::Wide, "http://-a..", empty)?;
+    let outer = ": a label of this domain begins or ends with - [";
+    says_of_host(&rt, Profile::Standard, "http://a.b-:80", outer)?;
+    let inner = " has -- in its third and fourth place [";
+    says_of_host(&rt, Profile::Standard, "http://xm--", " begins or ends")?;
+    says_of_host(&rt, Profile::Standard, "http://xm--n?", inner)?;
+    let none = ": the host that begins here is no valid domain [";
+    says_of_host(&rt, Profile::Standard, "http://xn--a-", none)?;
+    says_of_host(&rt, Profile::Wide, "http://-a--b-", none)?;
+    says_of_host(&rt, Profile::Parser, "http://a..%20", none)
 }
 
 // A text that doesn't begin its line: the column is reported in the line, and the caret stands below the text.

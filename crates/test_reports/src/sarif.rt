@@ -79,7 +79,7 @@ const DOCUMENT_TEXTS: [(&str, &str); 15] = [
     ("/runs/0/results/1/level", "error"),
     (
         "/runs/0/results/1/message/text",
-        "the host that begins here is no valid domain",
+        "U+005F LOW LINE may not stand in a domain",
     ),
     ("/runs/0/results/1/properties/text", "http://a_b/"),
     (

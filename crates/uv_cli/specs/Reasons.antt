@@ -3,6 +3,8 @@ use Rattle.std.specs.Prelude.{ℕ, List, [], ◌++◌, Option, Some, None, codes
 use Rattle.std.specs.Option.{option_map_or}
 use Rattle.std.specs.declared.io.ErrorKind.{ErrorKind}
 use Rattle.std.specs.declared.io.ErrorKind.TheVariants.{StorageFull, QuotaExceeded, FileTooLarge}
+use Rattle.uv_model.specs.declared.profile.Profile.{Profile}
+use Rattle.uv_model.specs.declared.profile.Profile.TheVariants.{Standard}
 use Rattle.uv_model.specs.declared.rule.Refusal.{Refusal}
 use Rattle.uv_model.specs.declared.rule.Rule.{Rule}
 use Rattle.uv_model.specs.declared.rule.Rule.TheVariants.{NoScheme}
@@ -71,16 +73,25 @@ base_of (job.Mend text base profile) = option_map_or string_bytes base []
 base_of (job.Filter asked) = option_map_or string_bytes asked.base []
 base_of other = []
 
--- why a base is refused, as a diagnostic says it; but it is judged alone, so that it needs a scheme
-abbrev pub base_reason : List ℕ → Refusal → Rule → List ℕ
-base_reason base refusal NoScheme = codes "it has no scheme"
-base_reason base refusal rule = message base (Refused refusal)
+-- the profile that its text is judged by
+abbrev pub profile_of : Job → Profile
+profile_of (job.Check text base extent profile) = profile
+profile_of (job.Lint asked) = asked.profile
+profile_of (job.Links base profile) = profile
+profile_of (job.Mend text base profile) = profile
+profile_of (job.Filter asked) = asked.profile
+profile_of other = Standard
+
+-- why a base is refused by a profile, as a diagnostic says it; but it is judged alone, so that it needs a scheme
+abbrev pub base_reason : Profile → List ℕ → Refusal → Rule → List ℕ
+base_reason profile base refusal NoScheme = codes "it has no scheme"
+base_reason profile base refusal rule = message profile base (Refused refusal)
 
 -- the line of a base that is refused
-abbrev pub base_text : List ℕ → Refusal → List ℕ
-base_text base refusal =
+abbrev pub base_text : Profile → List ℕ → Refusal → List ℕ
+base_text profile base refusal =
     codes "urlcheck: the base is refused at place " ++ (decimal refusal.place ++ (codes ": "
-    ++ (base_reason base refusal refusal.rule ++ codes "\n")))
+    ++ (base_reason profile base refusal refusal.rule ++ codes "\n")))
 
 -- why a value of a vector file is no case
 abbrev pub case_reason : CaseFault → List ℕ
@@ -103,10 +114,10 @@ case_text number fault =
 -- ---- an end
 
 -- what is reported of an end of which no stream's failure is the reason
-abbrev pub text_without_stream : List ℕ → End → List ℕ
-text_without_stream base (end.BaseRefused refusal) = base_text base refusal
-text_without_stream base (end.Vectors (vectors.Malformed number fault)) = case_text number fault
-text_without_stream base other = []
+abbrev pub text_without_stream : Profile → List ℕ → End → List ℕ
+text_without_stream profile base (end.BaseRefused refusal) = base_text profile base refusal
+text_without_stream profile base (end.Vectors (vectors.Malformed number fault)) = case_text number fault
+text_without_stream profile base other = []
 
 -- what is reported of a stream's failure
 abbrev pub stream_text : FailedStream → Unread → Option ErrorKind → List ℕ
@@ -114,13 +125,13 @@ stream_text Output read written = unwritten_text written
 stream_text Input read written = unread_text (codes "standard input") read
 
 -- what is reported by the stream whose failure is the reason, where one's is
-abbrev pub text_of : Option FailedStream → List ℕ → End → Unread → Option ErrorKind → List ℕ
-text_of (Some stream) base end read written = stream_text stream read written
-text_of None base end read written = text_without_stream base end
+abbrev pub text_of : Option FailedStream → Profile → List ℕ → End → Unread → Option ErrorKind → List ℕ
+text_of (Some stream) profile base end read written = stream_text stream read written
+text_of None profile base end read written = text_without_stream profile base end
 
--- what is reported of why the program ends so, or nothing, where the base has this text
-abbrev pub reason_text : List ℕ → End → Unread → Option ErrorKind → List ℕ
-reason_text base end read written = text_of (failed_stream end) base end read written
+-- what is reported of why the program ends so, or nothing, where the base has this text and is judged by this profile
+abbrev pub reason_text : Profile → List ℕ → End → Unread → Option ErrorKind → List ℕ
+reason_text profile base end read written = text_of (failed_stream end) profile base end read written
 
 -- the line of an input that a lint couldn't read to its end: no such read has stopped it
 abbrev pub input_text : End → Unread → List ℕ
@@ -129,5 +140,5 @@ input_text (end.Linted linted) read =
 input_text other read = []
 
 -- all that is reported at the end, before the last lines
-abbrev pub reasons_text : List ℕ → End → Unread → Option ErrorKind → List ℕ
-reasons_text base end read written = input_text end read ++ reason_text base end read written
+abbrev pub reasons_text : Profile → List ℕ → End → Unread → Option ErrorKind → List ℕ
+reasons_text profile base end read written = input_text end read ++ reason_text profile base end read written

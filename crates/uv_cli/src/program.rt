@@ -10,7 +10,7 @@ use crate::arguments::{OwnArguments, refused, words_of};
 use crate::ends::{End, end_after_output, end_without_file, end_without_job, error_line, status};
 use crate::jobs::run_job;
 use crate::messages::{message_line, message_lines, say};
-use crate::reasons::{base_of, report_reasons};
+use crate::reasons::{base_of, profile_of, report_reasons};
 use crate::unknown::unknown_lines;
 use crate::unread::{FileFault, read_vector_file, report_unread};
 use crate::watched::{WatchedReader, WatchedWriter};
@@ -19,7 +19,7 @@ use std::fs::Files;
 use std::io;
 use std::io::{ErrorKind, Write};
 use std::rt::Env;
-use uv_model::{FromReader, Source, ToWriter};
+use uv_model::{FromReader, Profile, Source, ToWriter};
 use uv_vectors::CliFault;
 use uv_words::{Job, WordsFault, read_words};
 
@@ -109,7 +109,8 @@ fn done<R: Files + Input + Print + Eprint + AllocGlobal>(rt: &R, job: &Job) -> E
     let (ended, out) = done_over(rt, job, file.as_slice(), &mut input, io::writer(rt));
     if !ended.is_closed {
         let read = input.into_reader().fault();
-        report_reasons(rt, base_of(job), ended.end, read, out.fault());
+        let profile = profile_of(job);
+        report_reasons(rt, profile, base_of(job), ended.end, read, out.fault());
     }
     ended
 }
@@ -198,7 +199,7 @@ fn printed<R: Eprint + AllocGlobal>(rt: &R, end: End, answer: io::Result<()>) ->
                 is_closed: is_closed_by(kind),
             };
             if !ended.is_closed {
-                report_reasons(rt, "", ended.end, None, kind);
+                report_reasons(rt, Profile::Standard, "", ended.end, None, kind);
             }
             ended
         }

@@ -1,7 +1,7 @@
 //! Why the program ends so, where its last line doesn't say it: what is reported on standard error before that line.
 ghost use Rattle.std.specs.Prelude.{◌≡◌, ◌++◌, IfOk, OnOk, string_bytes};
 ghost use Rattle.uv_cli.specs.Reasons.{base_of, base_reason, base_text, case_reason, case_text, failed_stream};
-ghost use Rattle.uv_cli.specs.Reasons.{input_text, reason_text, reasons_text, unwritten_text, write_reason};
+ghost use Rattle.uv_cli.specs.Reasons.{input_text, profile_of, reason_text, reasons_text, unwritten_text, write_reason};
 
 use crate::ends::End;
 use crate::messages::say;
@@ -11,7 +11,7 @@ use std::io::ErrorKind;
 use uv_filter::FilterFault;
 use uv_links::LinkFault;
 use uv_lint::LintFault;
-use uv_model::{Refusal, Rule};
+use uv_model::{Profile, Refusal, Rule};
 use uv_report::{LineViolation, push_message};
 use uv_vectors::{CaseFault, CasesEnd, CliFault};
 use uv_words::Job;
@@ -53,15 +53,16 @@ impl FailedStream {
 }
 
 /// Reports why the program ends so: which streams failed, by the kinds of the last errors of both, why the base, whose
-/// text is given, is refused, or why a value is no case.
+/// text is given, is refused by the profile, or why a value is no case.
 pub(crate) fn report_reasons<R: Eprint + AllocGlobal>(
     rt: &R,
+    profile: Profile,
     base: &str,
     end: End,
     read: Option<ErrorKind>,
     written: Option<ErrorKind>,
 ) {
-    let lines = reason_lines(rt.alloc(), base, end, Unread::of(read), written);
+    let lines = reason_lines(rt.alloc(), profile, base, end, Unread::of(read), written);
     say(rt, lines);
 }
 
@@ -78,19 +79,34 @@ pub(crate) fn base_of(job: &Job) -> &str
     base.as_deref().unwrap_or("")
 }
 
+/// By which profile the job's base is judged.
+pub(crate) fn profile_of(job: &Job) -> Profile
+    ensures { result ≡ profile_of job.now }
+{
+    match job {
+        Job::Check { profile, .. } | Job::Links { profile, .. } | Job::Mend { profile, .. } => {
+            *profile
+        }
+        Job::Lint(asked) => asked.profile,
+        Job::Filter(asked) => asked.profile,
+        _ => Profile::Standard,
+    }
+}
+
 /// What is reported at the end: of an input that a lint couldn't read, and of why the program ends so, by why a read
 /// failed and by the kind of a failed write's error, if these are known.
 pub(crate) fn reason_lines(
     alloc: Global,
+    profile: Profile,
     base: &str,
     end: End,
     read: Unread,
     written: Option<ErrorKind>,
 ) -> Result<String, AllocError>
-    ensures { IfOk result (λ lines. string_bytes lines ≡ reasons_text base.now end read written) }
+    ensures { IfOk result (λ lines. string_bytes lines ≡ reasons_text profile base.now end read written) }
 {
     let mut lines = input_line(alloc, end, read)?;
-    lines.push_str(reason_line(alloc, base, end, read, written)?.as_str())?;
+    lines.push_str(reason_line(alloc, profile, base, end, read, written)?.as_str())?;
     Ok(lines)
 }
 
@@ -107,17 +123,18 @@ fn input_line(alloc: Global, end: End, read: Unread) -> Result<String, AllocErro
 // What is reported of why the program ends so, or nothing.
 fn reason_line(
     alloc: Global,
+    profile: Profile,
     base: &str,
     end: End,
     read: Unread,
     written: Option<ErrorKind>,
 ) -> Result<String, AllocError>
-    ensures { IfOk result (λ line. string_bytes line ≡ reason_text base.now end read written) }
+    ensures { IfOk result (λ line. string_bytes line ≡ reason_text profile base.now end read written) }
 {
     match (FailedStream::of(end), end) {
         (Some(FailedStream::Output), _) => unwritten_line(alloc, written),
         (Some(FailedStream::Input), _) => unread_line(alloc, INPUT, read),
-        (None, End::BaseRefused(refusal)) => base_line(alloc, base, refusal),
+        (None, End::BaseRefused(refusal)) => base_line(alloc, profile, base, refusal),
         (None, End::Vectors(CasesEnd::Malformed(number, fault))) => {
             case_line(alloc, number, fault)
         }
@@ -178,30 +195,36 @@ fn case_reason(fault: CaseFault) -> &'static str
     }
 }
 
-// The line of a base that is refused.
-fn base_line(alloc: Global, base: &str, refusal: Refusal) -> Result<String, AllocError>
-    ensures { IfOk result (λ line. string_bytes line ≡ base_text base.now refusal) }
+// The line of a base that is refused by a profile.
+fn base_line(
+    alloc: Global,
+    profile: Profile,
+    base: &str,
+    refusal: Refusal,
+) -> Result<String, AllocError>
+    ensures { IfOk result (λ line. string_bytes line ≡ base_text profile base.now refusal) }
 {
     let mut line = String::from_str(alloc, "urlcheck: the base is refused at place ")?;
     line.push_str(refusal.place.to_string(alloc)?.as_str())?;
     line.push_str(": ")?;
-    push_base_reason(alloc, &mut line, base, refusal)?;
+    push_base_reason(alloc, &mut line, profile, base, refusal)?;
     line.push_str("\n")?;
     Ok(line)
 }
 
-// Pushes why a base is refused: a base is judged alone, so that it needs a scheme.
+// Pushes why a base is refused by a profile: a base is judged alone, so that it needs a scheme.
 fn push_base_reason(
     alloc: Global,
     line: &mut String,
+    profile: Profile,
     base: &str,
     refusal: Refusal,
 ) -> Result<(), AllocError>
     ensures { OnOk result (string_bytes line.new
-        ≡ string_bytes line.old ++ base_reason base.now refusal refusal.rule) }
+        ≡ string_bytes line.old ++ base_reason profile base.now refusal refusal.rule) }
 {
     match refusal.rule {
         Rule::NoScheme => line.push_str("it has no scheme"),
-        _ => push_message(alloc, line, base, LineViolation::Refused(refusal)),
+        _ => push_message(alloc, line, profile, base, LineViolation::Refused(refusal)),
     }
 }

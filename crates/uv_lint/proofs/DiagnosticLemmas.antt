@@ -2,7 +2,9 @@
 use Rattle.std.proofs.Common.{◌≡◌, ℕ, Bool, false, List, [], ◌∷◌, ◌++◌, Option, Some, None, refl, sym, ap, ◌∙◌}
 use Rattle.std.proofs.Common.{◌+◌, append_assoc, append-nil, inl, inr, take}
 use Rattle.std.specs.Borrow.{Bor}
+use Rattle.uv_model.specs.declared.profile.Profile.{Profile}
 use Rattle.uv_report.specs.declared.column.Columns.{Columns}
+use Rattle.uv_report.specs.declared.diagnostic.Diagnostic.{Diagnostic}
 use Rattle.uv_report.specs.declared.line_violation.LineViolation.{LineViolation}
 use Rattle.uv_report.specs.declared.format.Format.{Format}
 use Rattle.uv_report.specs.declared.format.Format.TheVariants.{Gnu, Caret, Json, Github, Sarif, Checkstyle}
@@ -24,114 +26,144 @@ use Rattle.uv_lint.specs.ReportedView.{lent_if_mended}
 
 -- a diagnostic's text is the same with its texts behind other references
 pub diagnostic_text-lent : (format : Format) (is_first : Bool) (file text : Bor (List ℕ)) (line column : ℕ)
-    (violation : LineViolation) (mended : Option Mended)
+    (profile : Profile) (violation : LineViolation) (mended : Option Mended)
     → diagnostic_text format is_first
-    (record { file = file; line = line; column = column; violation = violation; text = text; mended = mended })
+    (record {
+      file = file;
+      line = line;
+      column = column;
+      profile = profile;
+      violation = violation;
+      text = text;
+      mended = mended;
+    })
     ≡ diagnostic_text format is_first (record {
       file = lent file.now;
       line = line;
       column = column;
+      profile = profile;
       violation = violation;
       text = lent text.now;
       mended = lent_if_mended mended;
     })
 unfolding gnu_text gnu_position caret_text json_text github_text command_place sarif_text checkstyle_text error_place
-diagnostic_text-lent Gnu is_first file text line column violation mended = refl
-diagnostic_text-lent Caret is_first file text line column violation None = refl
-diagnostic_text-lent Caret is_first file text line column violation (Some mended) = refl
-diagnostic_text-lent Json is_first file text line column violation None = refl
-diagnostic_text-lent Json is_first file text line column violation (Some mended) = refl
-diagnostic_text-lent Github is_first file text line column violation mended = refl
-diagnostic_text-lent Sarif is_first file text line column violation None = refl
-diagnostic_text-lent Sarif is_first file text line column violation (Some mended) = refl
-diagnostic_text-lent Checkstyle is_first file text line column violation mended = refl
+diagnostic_text-lent Gnu is_first file text line column profile violation mended = refl
+diagnostic_text-lent Caret is_first file text line column profile violation None = refl
+diagnostic_text-lent Caret is_first file text line column profile violation (Some mended) = refl
+diagnostic_text-lent Json is_first file text line column profile violation None = refl
+diagnostic_text-lent Json is_first file text line column profile violation (Some mended) = refl
+diagnostic_text-lent Github is_first file text line column profile violation mended = refl
+diagnostic_text-lent Sarif is_first file text line column profile violation None = refl
+diagnostic_text-lent Sarif is_first file text line column profile violation (Some mended) = refl
+diagnostic_text-lent Checkstyle is_first file text line column profile violation mended = refl
 
 -- a text behind two references
 abbrev pub reported_of : Bor (List ℕ) → Bor (List ℕ) → ℕ → ℕ → ReportedText
 reported_of file text line start = record { file = file.now; line = line; start = start; text = text.now }
 
+-- a diagnostic on it
+abbrev pub diagnostic_in : Bor (List ℕ) → Bor (List ℕ) → ℕ → ℕ → Profile → LineViolation → Option Mended → Diagnostic
+diagnostic_in file text line column profile violation mended = record {
+  file = file;
+  line = line;
+  column = column;
+  profile = profile;
+  violation = violation;
+  text = text;
+  mended = mended;
+}
+
 -- the diagnostics so far, and one more, whose column is that of the violation's place
-pub push_one : (form : LineForm) (format : Format) (columns : Columns) (file text : Bor (List ℕ))
+pub push_one : (form : LineForm) (format : Format) (columns : Columns) (profile : Profile) (file text : Bor (List ℕ))
     (line start column : ℕ) (is_first : Bool) (mended : Option Mended) (violation : LineViolation)
     (rest : List LineViolation) (old new : List ℕ)
     → column ≡ column_at columns start text.now (violation_place violation)
     → new ≡ old ++ framed_text form format file.now (diagnostic_text format is_first
-    (record { file = file; line = line; column = column; violation = violation; text = text; mended = mended }))
-    → new ++ diagnostics_text form format columns (reported_of file text line start) false None rest
-    ≡ old ++ diagnostics_text form format columns (reported_of file text line start) is_first (lent_if_mended mended)
-    (violation ∷ rest)
-push_one form format columns file text line start column is_first mended violation rest old new here pushed =
+    (diagnostic_in file text line column profile violation mended))
+    → new ++ diagnostics_text form format columns profile (reported_of file text line start) false None rest
+    ≡ old ++ diagnostics_text form format columns profile (reported_of file text line start) is_first
+    (lent_if_mended mended) (violation ∷ rest)
+push_one form format columns profile file text line start column is_first mended violation rest old new here pushed =
     let reported = reported_of file text line start in
     let one = framed_text form format file.now
-    (diagnostic_text format is_first (diagnostic_on columns reported (lent_if_mended mended) violation)) in
-    let more = diagnostics_text form format columns reported false None rest in
+    (diagnostic_text format is_first (diagnostic_on columns profile reported (lent_if_mended mended) violation)) in
+    let more = diagnostics_text form format columns profile reported false None rest in
     ap (λ t. t ++ more) (pushed ∙ ap (λ t. old ++ framed_text form format file.now t)
     (rw here (diagnostic_text-lent format is_first file text line (column_at columns start text.now
-    (violation_place violation)) violation mended)))
+    (violation_place violation)) profile violation mended)))
     ∙ append_assoc old one more
 
 -- ---- the diagnostics so far, and what follows them
 
 -- The diagnostics on the violations before this one were said. Whatever follows them, they and what is to be said of
 -- that are the diagnostics on all of it.
-abbrev pub IsSaidBefore : LineForm → Format → Columns → ReportedText → Bool → Option Mended → List LineViolation
-    → List ℕ → Bool → Option Mended → Type 0
-IsSaidBefore form format columns reported is_first mended before said now_first told =
-    (rest : List LineViolation) → said ++ diagnostics_text form format columns reported now_first told rest
-    ≡ diagnostics_text form format columns reported is_first mended (before ++ rest)
+abbrev pub IsSaidBefore : LineForm → Format → Columns → Profile → ReportedText → Bool → Option Mended
+    → List LineViolation → List ℕ → Bool → Option Mended → Type 0
+IsSaidBefore form format columns profile reported is_first mended before said now_first told =
+    (rest : List LineViolation) → said ++ diagnostics_text form format columns profile reported now_first told rest
+    ≡ diagnostics_text form format columns profile reported is_first mended (before ++ rest)
 
 -- where none is said
-pub said_none : (form : LineForm) (format : Format) (columns : Columns) (reported : ReportedText) (is_first : Bool)
-    (mended : Option Mended) → IsSaidBefore form format columns reported is_first mended [] [] is_first mended
-said_none form format columns reported is_first mended = λ rest. refl
+pub said_none : (form : LineForm) (format : Format) (columns : Columns) (profile : Profile) (reported : ReportedText)
+    (is_first : Bool) (mended : Option Mended)
+    → IsSaidBefore form format columns profile reported is_first mended [] [] is_first mended
+said_none form format columns profile reported is_first mended = λ rest. refl
 
 -- they are the first diagnostics
-pub said_first : (form : LineForm) (format : Format) (columns : Columns) (reported : ReportedText) (is_first : Bool)
-    (mended : Option Mended) (before : List LineViolation) (said : List ℕ) (now_first : Bool) (told : Option Mended)
-    → IsSaidBefore form format columns reported is_first mended before said now_first told
-    → said ≡ diagnostics_text form format columns reported is_first mended before
-said_first form format columns reported is_first mended before said now_first told is =
+pub said_first : (form : LineForm) (format : Format) (columns : Columns) (profile : Profile) (reported : ReportedText)
+    (is_first : Bool) (mended : Option Mended)
+    (before : List LineViolation) (said : List ℕ) (now_first : Bool) (told : Option Mended)
+    → IsSaidBefore form format columns profile reported is_first mended before said now_first told
+    → said ≡ diagnostics_text form format columns profile reported is_first mended before
+said_first form format columns profile reported is_first mended before said now_first told is =
     sym (append-nil said) ∙ is []
-    ∙ ap (λ vs. diagnostics_text form format columns reported is_first mended vs) (append-nil before)
+    ∙ ap (λ vs. diagnostics_text form format columns profile reported is_first mended vs) (append-nil before)
 
 -- one more
-pub said_more : (form : LineForm) (format : Format) (columns : Columns) (file text : Bor (List ℕ))
+pub said_more : (form : LineForm) (format : Format) (columns : Columns) (profile : Profile) (file text : Bor (List ℕ))
     (line start column : ℕ) (is_first now_first : Bool) (mended : Option Mended) (told : Option Mended)
     (before : List LineViolation) (violation : LineViolation) (said : List ℕ)
     → column ≡ column_at columns start text.now (violation_place violation)
-    → IsSaidBefore form format columns (reported_of file text line start) is_first mended before said now_first
+    → IsSaidBefore form format columns profile (reported_of file text line start) is_first mended before said now_first
     (lent_if_mended told)
-    → IsSaidBefore form format columns (reported_of file text line start) is_first mended (before ++ violation ∷ [])
-    (said ++ framed_text form format file.now (diagnostic_text format now_first
-    (record { file = file; line = line; column = column; violation = violation; text = text; mended = told }))) false
+    → IsSaidBefore form format columns profile (reported_of file text line start) is_first mended
+    (before ++ violation ∷ []) (said ++ framed_text form format file.now (diagnostic_text format now_first
+    (diagnostic_in file text line column profile violation told))) false
     None
-said_more form format columns file text line start column is_first now_first mended told before violation said here is =
+said_more form format columns profile file text line start column is_first now_first mended told before violation said
+    here is =
     λ rest.
-    push_one form format columns file text line start column now_first told violation rest said
+    push_one form format columns profile file text line start column now_first told violation rest said
     (said ++ framed_text form format file.now (diagnostic_text format now_first
-    (record { file = file; line = line; column = column; violation = violation; text = text; mended = told }))) here
+    (diagnostic_in file text line column profile violation told))) here
     refl
     ∙ is (violation ∷ rest)
-    ∙ ap (λ vs. diagnostics_text form format columns (reported_of file text line start) is_first mended vs)
+    ∙ ap (λ vs. diagnostics_text form format columns profile (reported_of file text line start) is_first mended vs)
     (sym (append_assoc before (violation ∷ []) rest))
 
 -- of one that may be said too the first diagnostics are those before it, or with it
-pub first_with : (form : LineForm) (format : Format) (columns : Columns) (reported : ReportedText) (is_first : Bool)
-    (mended : Option Mended) (violations : List LineViolation) (i : ℕ) (said one : List ℕ) (now_first : Bool)
+pub first_with : (form : LineForm) (format : Format) (columns : Columns) (profile : Profile) (reported : ReportedText)
+    (is_first : Bool) (mended : Option Mended)
+    (violations : List LineViolation) (i : ℕ) (said one : List ℕ) (now_first : Bool)
     (told : Option Mended) (parts : List ℕ)
-    → IsSaidBefore form format columns reported is_first mended (take i violations) said now_first told
-    → IsSaidBefore form format columns reported is_first mended (take (i + 1) violations) (said ++ one) false None
-    → IsNoneOr one parts → AreFirstDiagnostics form format columns reported is_first mended violations (said ++ parts)
-first_with form format columns reported is_first mended violations i said one now_first told parts before with_one
+    → IsSaidBefore form format columns profile reported is_first mended (take i violations) said now_first told
+    → IsSaidBefore form format columns profile reported is_first mended
+    (take (i + 1) violations) (said ++ one) false None
+    → IsNoneOr one parts
+    → AreFirstDiagnostics form format columns profile reported is_first mended violations (said ++ parts)
+first_with form format columns profile reported is_first mended violations i said one now_first told parts before
+    with_one
     (inl none) = (
       i,
       ap (λ t. said ++ t) none ∙ append-nil said
-          ∙ said_first form format columns reported is_first mended (take i violations) said now_first told before,
+          ∙ said_first form format columns profile reported is_first mended (take i violations) said now_first told
+          before,
     )
-first_with form format columns reported is_first mended violations i said one now_first told parts before with_one
+first_with form format columns profile reported is_first mended violations i said one now_first told parts before
+    with_one
     (inr is) = (
       i + 1,
       ap (λ t. said ++ t) is
-          ∙ said_first form format columns reported is_first mended (take (i + 1) violations) (said ++ one) false None
-          with_one,
+          ∙ said_first form format columns profile reported is_first mended (take (i + 1) violations) (said ++ one)
+          false None with_one,
     )

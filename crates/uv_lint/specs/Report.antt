@@ -4,6 +4,7 @@ use Rattle.std.specs.Prelude.{◌≡◌, ℕ, ◌+◌, ◌==◌, Bool, false, Li
 use Rattle.std.specs.Prelude.{if◌then◌else◌, length, map, option_map, sum_by, take}
 use Rattle.std.specs.Borrow.{Bor}
 use Rattle.std.specs.Str.{bytes_eq, chars}
+use Rattle.uv_model.specs.declared.profile.Profile.{Profile}
 use Rattle.uv_report.specs.declared.column.Columns.{Columns}
 use Rattle.uv_report.specs.declared.diagnostic.Diagnostic.{Diagnostic}
 use Rattle.uv_report.specs.declared.line_violation.LineViolation.{LineViolation}
@@ -62,12 +63,13 @@ mended_at columns start text mended =
 abbrev pub mended_on : Columns → ReportedText → Option MendedText → Option Mended
 mended_on columns reported mended = option_map (mended_at columns reported.start reported.text) mended
 
--- a diagnostic on a text: its column is that of the violation's place
-abbrev pub diagnostic_on : Columns → ReportedText → Option Mended → LineViolation → Diagnostic
-diagnostic_on columns reported mended violation = record {
+-- a diagnostic on a text that is judged by a profile: its column is that of the violation's place
+abbrev pub diagnostic_on : Columns → Profile → ReportedText → Option Mended → LineViolation → Diagnostic
+diagnostic_on columns profile reported mended violation = record {
   file = lent reported.file;
   line = reported.line;
   column = column_at columns reported.start reported.text (violation_place violation);
+  profile = profile;
   violation = violation;
   text = lent reported.text;
   mended = mended;
@@ -75,24 +77,24 @@ diagnostic_on columns reported mended violation = record {
 
 -- A diagnostic for each violation; the first of them is the first one of the report, or isn't, and it alone says what
 -- to write in place of the text.
-abbrev pub diagnostics_text : LineForm → Format → Columns → ReportedText → Bool → Option Mended → List LineViolation
-    → List ℕ
-diagnostics_text form format columns reported is_first mended [] = []
-diagnostics_text form format columns reported is_first mended (violation ∷ rest) =
+abbrev pub diagnostics_text : LineForm → Format → Columns → Profile → ReportedText → Bool → Option Mended
+    → List LineViolation → List ℕ
+diagnostics_text form format columns profile reported is_first mended [] = []
+diagnostics_text form format columns profile reported is_first mended (violation ∷ rest) =
     framed_text form format reported.file
-    (diagnostic_text format is_first (diagnostic_on columns reported mended violation))
-    ++ diagnostics_text form format columns reported false None rest
+    (diagnostic_text format is_first (diagnostic_on columns profile reported mended violation))
+    ++ diagnostics_text form format columns profile reported false None rest
 
 -- some of the first of these diagnostics
-abbrev pub AreFirstDiagnostics : LineForm → Format → Columns → ReportedText → Bool → Option Mended
+abbrev pub AreFirstDiagnostics : LineForm → Format → Columns → Profile → ReportedText → Bool → Option Mended
     → List LineViolation → List ℕ → Type 0
-AreFirstDiagnostics form format columns reported is_first mended violations text =
-    (count : ℕ) × (text ≡ diagnostics_text form format columns reported is_first mended (take count violations))
+AreFirstDiagnostics form format columns profile reported is_first mended violations text =
+    (count : ℕ) × (text ≡ diagnostics_text form format columns profile reported is_first mended (take count violations))
 
 -- the diagnostics on a text of which this was found
 abbrev pub text_diagnostics : FileSetting → ReportedText → Bool → Findings → List ℕ
 text_diagnostics setting reported is_first findings =
-    diagnostics_text setting.form setting.format setting.columns reported is_first
+    diagnostics_text setting.form setting.format setting.columns setting.profile reported is_first
     (mended_on setting.columns reported findings.mended) findings.violations
 
 -- what the diagnostics on a line tell: its link, where the line says that it stands, else the line with this number

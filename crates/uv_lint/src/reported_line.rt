@@ -18,7 +18,7 @@ use std::alloc::{AllocError, Global};
 use std::borrow::CowStr;
 use std::str::from_utf8;
 use uv_lines::{ReportFault, end_part};
-use uv_model::{DeviceFault, Sink};
+use uv_model::{DeviceFault, Profile, Sink};
 use uv_report::{
     ColumnCounter, Diagnostic, LineViolation, Mended, push_diagnostic, push_file_begin,
     push_file_end,
@@ -91,13 +91,14 @@ impl<'l> ReportedLine<'l> {
     ) -> Result<(), ReportFault<AllocError>>
         requires { W.failed writer.old < 2 ^ 64 - 1 }
         ensures text { OnOk result (Passes (text.old.items
-            ++ diagnostics_text setting.entry.form setting.entry.format setting.entry.columns
+            ++ diagnostics_text setting.entry.form setting.entry.format setting.entry.columns setting.entry.profile
             (reported_view self.now) is_first (mended_on setting.entry.columns (reported_view self.now)
             (option_map mended_line_view mended.entry.now)) violations.now)
             (W.contents writer.old) (W.contents writer.new) text.new.items) }
         ensures quiet { OnOk result (W.failed writer.new ≡ W.failed writer.old) }
         ensures fault { IfErr result (λ e. LeavesParts (AreFirstDiagnostics setting.entry.form setting.entry.format
-            setting.entry.columns (reported_view self.now) is_first (mended_on setting.entry.columns
+            setting.entry.columns setting.entry.profile (reported_view self.now) is_first
+            (mended_on setting.entry.columns
             (reported_view self.now) (option_map mended_line_view mended.entry.now)) violations.now) e text.old.items
             (W.contents writer.old) text.new.items (W.contents writer.new)) }
         ensures failed { IfErr result (λ e. W.failed writer.new ≡ W.failed writer.old + failed_within e) }
@@ -106,7 +107,8 @@ impl<'l> ReportedLine<'l> {
         let mut is_first = is_first;
         let mut told = mended_in_place(mended, setting.columns, self.start, self.text);
         for violation in violations {
-            let found = self.diagnostic_in(counter.column(violation.place()), *violation, told);
+            let column = counter.column(violation.place());
+            let found = self.diagnostic_in(column, setting.profile, *violation, told);
             if let Err(fault) = say_framed(
                 alloc, reported, setting, &found, is_first, text, writer,
             ) {
@@ -118,10 +120,11 @@ impl<'l> ReportedLine<'l> {
         Ok(())
     }
 
-    // A diagnostic on the text, in this column.
+    // A diagnostic on the text, which is judged by a profile, in this column.
     fn diagnostic_in(
         &self,
         column: u64,
+        profile: Profile,
         violation: LineViolation,
         mended: Option<Mended<'l>>,
     ) -> Diagnostic<'l>
@@ -129,6 +132,7 @@ impl<'l> ReportedLine<'l> {
           file = self.now.file;
           line = self.now.line;
           column = column;
+          profile = profile;
           violation = violation;
           text = self.now.text;
           mended = mended.entry;
@@ -138,6 +142,7 @@ impl<'l> ReportedLine<'l> {
             file: self.file,
             line: self.line,
             column,
+            profile,
             violation,
             text: self.text,
             mended,

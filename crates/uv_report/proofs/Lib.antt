@@ -1,5 +1,6 @@
 pub mod PieceLemmas
 mod ColumnLemmas
+mod FirstLemmas
 mod JsonLemmas
 mod NameLemmas
 mod PlaceLemmas

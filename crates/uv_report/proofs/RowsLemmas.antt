@@ -3,12 +3,14 @@ use Rattle.std.proofs.Common.{refl}
 use Rattle.std.specs.Fmt.{char_count, digits, padded_integral}
 use Rattle.std.specs.Char.{encode_utf8}
 use Rattle.std.specs.Str.{chars}
+use Rattle.idna.specs.Validity.{has_ace_prefix}
 use Rattle.percent_encoding.specs.Percent.{percent_encode_byte}
 use Rattle.unicode_width.specs.Width.{char_width}
 use Rattle.uv_report.specs.CodePoint.{ascii_names, capital_names, control_names, digit_names, last_names, mark_names}
 use Rattle.uv_report.specs.CodePoint.{point_name, point_text, sign_names, small_names}
+use Rattle.uv_report.specs.Domain.{domain_sentence}
 use Rattle.uv_report.specs.Message.{refusal_message}
-use Rattle.uv_report.specs.Rows.{ColumnRows, MessageRows, PointRows, UriRows, WindowRows}
+use Rattle.uv_report.specs.Rows.{ColumnRows, DomainRows, MessageRows, PointRows, UriRows, WindowRows}
 use Rattle.uv_report.specs.Uri.{uri_part, uri_path}
 use Rattle.uv_report.specs.Window.{cut_out, window, window_place, window_points}
 
@@ -46,6 +48,25 @@ pub message_rows : MessageRows
 unfolding refusal_message point_text point_name ascii_names control_names sign_names digit_names capital_names
     mark_names small_names last_names digits padded_integral char_count encode_utf8 chars
 message_rows = record { point = refl; port = refl; user = refl; password = refl; path = refl }
+
+-- messages on hosts
+pub domain_rows : DomainRows
+unfolding refusal_message domain_sentence has_ace_prefix point_text point_name ascii_names control_names sign_names
+    digit_names capital_names mark_names small_names last_names digits padded_integral char_count encode_utf8 chars
+domain_rows = record {
+  mark = refl;
+  wide = refl;
+  parser = refl;
+  percent = refl;
+  empty = refl;
+  root = refl;
+  long = refl;
+  outer = refl;
+  inner = refl;
+  punycode = refl;
+  hyphens = refl;
+  decoded = refl;
+}
 
 -- windows
 pub window_rows : WindowRows

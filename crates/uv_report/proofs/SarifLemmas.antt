@@ -13,7 +13,7 @@ use Rattle.uv_report.specs.Sarif.{fix_value, link_value, location_value, message
 abbrev rest_of : Diagnostic → List ℕ
 rest_of d =
     codes "\"level\":\"error\",\"locations\":" ++ (compact_text (single (location_value d))
-    ++ (codes ",\"message\":" ++ (compact_text (message (reported.message d.text.now d.violation))
+    ++ (codes ",\"message\":" ++ (compact_text (message (reported.message d.profile d.text.now d.violation))
     ++ (codes ",\"properties\":" ++ (compact_text (link_value d)
     ++ ((codes ",\"ruleId\":" ++ quoted (violation_name d.violation))
     ++ ((codes ",\"ruleIndex\":" ++ decimal (violation_index d.violation)) ++ codes "}")))))))

@@ -1,5 +1,6 @@
 -- A diagnostic as an element of a document of Checkstyle, in XML 1.0.
 use Rattle.std.specs.Prelude.{ℕ, List, ◌++◌, codes, decimal}
+use Rattle.uv_model.specs.declared.profile.Profile.{Profile}
 use Rattle.uv_report.specs.declared.diagnostic.Diagnostic.{Diagnostic}
 use Rattle.uv_report.specs.declared.escapes.Escapes.TheVariants.{Attribute}
 use Rattle.uv_report.specs.declared.line_violation.LineViolation.{LineViolation}
@@ -30,11 +31,12 @@ error_place diagnostic =
     ++ (decimal diagnostic.column ++ codes "\" severity=\"error\" message=\"")))
 
 -- its message and what it comes from
-unfoldable pub error_text : List ℕ → LineViolation → List ℕ
-error_text line violation =
-    escaped Attribute (message line violation) ++ (codes "\" source=\"urlcheck."
+unfoldable pub error_text : Profile → List ℕ → LineViolation → List ℕ
+error_text profile line violation =
+    escaped Attribute (message profile line violation) ++ (codes "\" source=\"urlcheck."
     ++ (escaped Attribute (violation_name violation) ++ codes "\"/>\n"))
 
 -- the element of a diagnostic
 unfoldable pub checkstyle_text : Diagnostic → List ℕ
-checkstyle_text diagnostic = error_place diagnostic ++ error_text diagnostic.text.now diagnostic.violation
+checkstyle_text diagnostic =
+    error_place diagnostic ++ error_text diagnostic.profile diagnostic.text.now diagnostic.violation

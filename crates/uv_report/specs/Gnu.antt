@@ -1,5 +1,6 @@
 -- A diagnostic as compilers write it (GNU Coding Standards, Formatting Error Messages).
 use Rattle.std.specs.Prelude.{ℕ, List, ◌++◌, codes, decimal}
+use Rattle.uv_model.specs.declared.profile.Profile.{Profile}
 use Rattle.uv_report.specs.declared.diagnostic.Diagnostic.{Diagnostic}
 use Rattle.uv_report.specs.declared.escapes.Escapes.TheVariants.{Shown}
 use Rattle.uv_report.specs.declared.line_violation.LineViolation.{LineViolation}
@@ -14,10 +15,10 @@ gnu_position diagnostic =
     ++ decimal diagnostic.column)))
 
 -- `: error: SENTENCE [RULE]` and a line feed
-unfoldable pub gnu_words : List ℕ → LineViolation → List ℕ
-gnu_words line violation =
-    codes ": error: " ++ (message line violation ++ (codes " [" ++ (violation_name violation ++ codes "]\n")))
+unfoldable pub gnu_words : Profile → List ℕ → LineViolation → List ℕ
+gnu_words profile line violation =
+    codes ": error: " ++ (message profile line violation ++ (codes " [" ++ (violation_name violation ++ codes "]\n")))
 
 -- `FILE:LINE:COLUMN: error: SENTENCE [RULE]` and a line feed
 unfoldable pub gnu_text : Diagnostic → List ℕ
-gnu_text diagnostic = gnu_position diagnostic ++ gnu_words diagnostic.text.now diagnostic.violation
+gnu_text diagnostic = gnu_position diagnostic ++ gnu_words diagnostic.profile diagnostic.text.now diagnostic.violation

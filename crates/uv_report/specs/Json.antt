@@ -17,7 +17,7 @@ plain_members diagnostic =
     (member (codes "cut") (boolean (is_cut diagnostic.text.now))
     (member (codes "file") (string diagnostic.file.now)
     (member (codes "line") (number (unsigned diagnostic.line))
-    (member (codes "message") (string (message diagnostic.text.now diagnostic.violation))
+    (member (codes "message") (string (message diagnostic.profile diagnostic.text.now diagnostic.violation))
     (member (codes "rule") (string (violation_name diagnostic.violation))
     (member (codes "text") (string (carried diagnostic.text.now (violation_place diagnostic.violation)))
     no_members))))))

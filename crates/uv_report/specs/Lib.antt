@@ -5,6 +5,7 @@ pub mod Escapes
 pub mod Column
 pub mod ColumnCounter
 pub mod CodePoint
+pub mod Domain
 pub mod Message
 pub mod Window
 pub mod Format

@@ -1,14 +1,16 @@
--- What is reported of a line: a sentence that names the code point at the place, where the rule is about one, or that
--- says that a URL string has no credentials.
-use Rattle.std.specs.Prelude.{ℕ, Bool, true, false, ◌&&◌, ◌||◌, ◌==◌, List, ◌++◌, codes, drop, find, if◌then◌else◌}
-use Rattle.std.specs.Prelude.{Option, Some, None, slice_get}
+-- What is reported of a line: a sentence that names the code point at the place, where the rule is about one, that
+-- says why a host is no valid domain, or that a URL string has no credentials.
+use Rattle.std.specs.Prelude.{ℕ, Bool, true, false, ◌&&◌, ◌||◌, ◌==◌, List, ◌++◌, codes, drop, find}
+use Rattle.std.specs.Prelude.{if◌then◌else◌, Option, Some, None, slice_get}
 use Rattle.std.specs.Str.{chars}
+use Rattle.uv_model.specs.declared.profile.Profile.{Profile}
 use Rattle.uv_model.specs.declared.rule.Refusal.{Refusal}
 use Rattle.uv_model.specs.declared.rule.Rule.{Rule}
 use Rattle.uv_model.specs.declared.rule.Rule.TheVariants.{HostMissing, HostDomain, HostNumber, HostIpv6}
 use Rattle.uv_model.specs.declared.rule.Rule.TheVariants.{HostCodePoint, PortDigit, PortRange, CodePoint, Percent}
 use Rattle.uv_model.specs.Violations.Rule.{rule_sentence}
 use Rattle.uv_report.specs.CodePoint.{point_text}
+use Rattle.uv_report.specs.Domain.{domain_sentence, host_text}
 use Rattle.uv_report.specs.LineViolation.{violation_sentence}
 use Rattle.uv_report.specs.declared.line_violation.LineViolation.{LineViolation}
 use Rattle.uv_report.specs.declared.line_violation.LineViolation.TheVariants.{Refused, NotUtf8, TooLong, NotLocated}
@@ -64,15 +66,20 @@ credentials_sentence = codes "a URL string has no credentials: no user name, pas
 
 -- ---- a line
 
--- what is reported of a refused line
-unfoldable pub refusal_message : List ℕ → Refusal → List ℕ
-refusal_message line refusal =
-    if is_of_authority refusal.rule && has_credentials line refusal.place then credentials_sentence
-    else point_sentence refusal.rule (said_of_point refusal.rule) (slice_get (chars line) refusal.place)
+-- what is said of a place by a rule that the profile asks
+abbrev pub rule_message : Profile → List ℕ → ℕ → Rule → List ℕ
+rule_message profile line place HostDomain = domain_sentence profile (host_text line place)
+rule_message profile line place rule = point_sentence rule (said_of_point rule) (slice_get (chars line) place)
 
--- what is reported of a line
-abbrev pub message : List ℕ → LineViolation → List ℕ
-message line (Refused refusal) = refusal_message line refusal
-message line NotUtf8 = violation_sentence NotUtf8
-message line TooLong = violation_sentence TooLong
-message line NotLocated = violation_sentence NotLocated
+-- what is reported of a line that is refused by a profile
+unfoldable pub refusal_message : Profile → List ℕ → Refusal → List ℕ
+refusal_message profile line refusal =
+    if is_of_authority refusal.rule && has_credentials line refusal.place then credentials_sentence
+    else rule_message profile line refusal.place refusal.rule
+
+-- what is reported of a line that is judged by a profile
+abbrev pub message : Profile → List ℕ → LineViolation → List ℕ
+message profile line (Refused refusal) = refusal_message profile line refusal
+message profile line NotUtf8 = violation_sentence NotUtf8
+message profile line TooLong = violation_sentence TooLong
+message profile line NotLocated = violation_sentence NotLocated

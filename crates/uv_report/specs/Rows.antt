@@ -1,6 +1,9 @@
 -- Code points that are named, columns, messages and windows, written out.
 use Rattle.std.specs.Prelude.{◌≡◌, ℕ, true, false, List, [], ◌∷◌, ◌++◌, codes, replicate}
+use Rattle.uv_model.specs.declared.profile.Profile.{Profile}
+use Rattle.uv_model.specs.declared.profile.Profile.TheVariants.{Standard, Wide, Parser}
 use Rattle.uv_model.specs.declared.rule.Rule.TheVariants.{HostDomain, PortDigit, CodePoint}
+use Rattle.uv_model.specs.Violations.Rule.{rule_sentence}
 use Rattle.uv_report.specs.declared.line_violation.LineViolation.TheVariants.{Refused}
 use Rattle.uv_report.specs.declared.column.Columns.TheVariants.{CodePoints, Bytes, Utf16, Screen}
 use Rattle.uv_report.specs.CodePoint.{point_text}
@@ -38,13 +41,36 @@ pub record ColumnRows : Type 0 where
 
 -- messages: of a code point, and of credentials where an `@` follows in the authority
 pub record MessageRows : Type 0 where
-  pub point : message (codes "urn:a b") (Refused (record { place = 5; rule = CodePoint }))
+  pub point : message Standard (codes "urn:a b") (Refused (record { place = 5; rule = CodePoint }))
       ≡ codes "U+0020 SPACE may not stand in a URL"
-  pub port : message (codes "http://h:8x#@") (Refused (record { place = 10; rule = PortDigit }))
+  pub port : message Standard (codes "http://h:8x#@") (Refused (record { place = 10; rule = PortDigit }))
       ≡ codes "U+0078 LATIN SMALL LETTER X is no digit of a port"
-  pub user : message (codes "http://u@h/") (Refused (record { place = 7; rule = HostDomain })) ≡ credentials_sentence
+  pub user : message Standard (codes "http://u@h/") (Refused (record { place = 7; rule = HostDomain }))
+      ≡ credentials_sentence
   pub password : has_credentials (codes "http://user:pw@h/") 12 ≡ true
   pub path : has_credentials (codes "http://x_y/@") 7 ≡ false
+
+-- the message on a host that begins behind `http://`
+abbrev pub of_host : Profile → List ℕ → List ℕ
+of_host profile line = message profile line (Refused (record { place = 7; rule = HostDomain }))
+
+-- hosts that are no valid domains: a code point that a profile doesn't permit, and the first one; labels that are
+-- empty, too long, or have hyphens where the standard profile permits none; and hosts of which nothing is shown
+pub record DomainRows : Type 0 where
+  pub mark : of_host Standard (codes "http://x_y!/") ≡ codes "U+005F LOW LINE may not stand in a domain"
+  pub wide : of_host Wide (codes "http://x_y!/") ≡ codes "U+0021 EXCLAMATION MARK may not stand in a domain"
+  pub parser : of_host Parser (codes "http://x_y!%20\\z/") ≡ codes "U+005C REVERSE SOLIDUS may not stand in a domain"
+  pub percent : of_host Standard (codes "http://a%41/") ≡ codes "U+0025 PERCENT SIGN may not stand in a domain"
+  pub empty : of_host Wide (codes "http://a..b/") ≡ codes "a label of this domain is empty"
+  pub root : of_host Standard (codes "http://.:80") ≡ codes "a label of this domain is empty"
+  pub long : of_host Standard (codes "http://b." ++ (replicate 64 97 ++ codes "./"))
+      ≡ codes "a label of this domain has more than 63 code points"
+  pub outer : of_host Standard (codes "http://a.b-?c--d") ≡ codes "a label of this domain begins or ends with -"
+  pub inner : of_host Standard (codes "http://XM--a.b/")
+      ≡ codes "a label of this domain has -- in its third and fourth place"
+  pub punycode : of_host Standard (codes "http://Xn--a-/") ≡ rule_sentence HostDomain
+  pub hyphens : of_host Wide (codes "http://-a--b/") ≡ rule_sentence HostDomain
+  pub decoded : of_host Parser (codes "http://a..%20/") ≡ rule_sentence HostDomain
 
 -- windows of a line of 250 letters, and of a short one
 pub record WindowRows : Type 0 where

@@ -166,7 +166,7 @@ result_with diagnostic mended =
     object (fixes_member diagnostic mended
     (member (codes "level") (string (codes "error"))
     (member (codes "locations") (single (location_value diagnostic))
-    (member (codes "message") (message (reported.message diagnostic.text.now diagnostic.violation))
+    (member (codes "message") (message (reported.message diagnostic.profile diagnostic.text.now diagnostic.violation))
     (member (codes "properties") (link_value diagnostic)
     (member (codes "ruleId") (string (violation_name diagnostic.violation))
     (member (codes "ruleIndex") (number (unsigned (violation_index diagnostic.violation))) no_members)))))))

@@ -8,6 +8,7 @@ use crate::gnu::push_number;
 use crate::line_violation::LineViolation;
 use crate::message::push_escaped_message;
 use std::alloc::{AllocError, Global};
+use uv_model::Profile;
 
 /// Pushes the start tag of a file.
 #[tactic(auto, unfolding(crate::specs::Checkstyle::file_begin))]
@@ -30,7 +31,13 @@ pub(crate) fn push_checkstyle(
     ensures { OnOk result (string_bytes text.new ≡ string_bytes text.old ++ checkstyle_text diagnostic.now) }
 {
     push_place(text, diagnostic)?;
-    push_message(alloc, text, diagnostic.text, diagnostic.violation)?;
+    push_message(
+        alloc,
+        text,
+        diagnostic.profile,
+        diagnostic.text,
+        diagnostic.violation,
+    )?;
     Ok(())
 }
 
@@ -52,12 +59,13 @@ fn push_place(text: &mut String, diagnostic: &Diagnostic<'_>) -> Result<(), Allo
 fn push_message(
     alloc: Global,
     text: &mut String,
+    profile: Profile,
     line: &str,
     violation: LineViolation,
 ) -> Result<(), AllocError>
-    ensures { OnOk result (string_bytes text.new ≡ string_bytes text.old ++ error_text line.now violation) }
+    ensures { OnOk result (string_bytes text.new ≡ string_bytes text.old ++ error_text profile line.now violation) }
 {
-    push_escaped_message(alloc, text, line, violation, Escapes::Attribute)?;
+    push_escaped_message(alloc, text, profile, line, violation, Escapes::Attribute)?;
     text.push_str("\" source=\"urlcheck.")?;
     push_escaped(text, violation.name(), Escapes::Attribute)?;
     text.push_str("\"/>\n")?;

@@ -2,6 +2,7 @@
 
 use crate::line_violation::LineViolation;
 use crate::mended::Mended;
+use uv_model::Profile;
 
 /// What is wrong with a line of a file, or with a text that is a part of one.
 #[derive(Clone, Copy)]
@@ -12,6 +13,8 @@ pub struct Diagnostic<'a> {
     pub line: u64,
     /// The column of the place at which the text is wrong, in its line, from 1: `ColumnCounter::column` tells it.
     pub column: u64,
+    /// By which profile the text is judged.
+    pub profile: Profile,
     /// What is wrong with the text.
     pub violation: LineViolation,
     /// The text, without the line's end. Where it isn't UTF-8, U+FFFD stands for what can't be read.

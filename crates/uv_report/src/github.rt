@@ -8,6 +8,7 @@ use crate::gnu::push_number;
 use crate::line_violation::LineViolation;
 use crate::message::push_escaped_message;
 use std::alloc::{AllocError, Global};
+use uv_model::Profile;
 
 /// Pushes the command `error` with its properties and its message, and a line feed.
 #[tactic(auto, unfolding(crate::specs::Github::github_text))]
@@ -19,7 +20,13 @@ pub(crate) fn push_github(
     ensures { OnOk result (string_bytes text.new ≡ string_bytes text.old ++ github_text diagnostic.now) }
 {
     push_place(text, diagnostic)?;
-    push_message(alloc, text, diagnostic.text, diagnostic.violation)?;
+    push_message(
+        alloc,
+        text,
+        diagnostic.profile,
+        diagnostic.text,
+        diagnostic.violation,
+    )?;
     Ok(())
 }
 
@@ -42,15 +49,16 @@ fn push_place(text: &mut String, diagnostic: &Diagnostic<'_>) -> Result<(), Allo
 fn push_message(
     alloc: Global,
     text: &mut String,
+    profile: Profile,
     line: &str,
     violation: LineViolation,
 ) -> Result<(), AllocError>
-    ensures { OnOk result (string_bytes text.new ≡ string_bytes text.old ++ command_text line.now violation) }
+    ensures { OnOk result (string_bytes text.new ≡ string_bytes text.old ++ command_text profile line.now violation) }
 {
     text.push_str(",title=")?;
     push_escaped(text, violation.name(), Escapes::Property)?;
     text.push_str("::")?;
-    push_escaped_message(alloc, text, line, violation, Escapes::Message)?;
+    push_escaped_message(alloc, text, profile, line, violation, Escapes::Message)?;
     text.push_str("\n")?;
     Ok(())
 }

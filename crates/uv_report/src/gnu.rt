@@ -8,6 +8,7 @@ use crate::line_violation::LineViolation;
 use crate::message::push_message;
 use itoa::Buffer;
 use std::alloc::{AllocError, Global};
+use uv_model::Profile;
 
 /// Pushes `FILE:LINE:COLUMN: error: SENTENCE [RULE]` and a line feed.
 #[tactic(auto, unfolding(crate::specs::Gnu::gnu_text))]
@@ -19,7 +20,13 @@ pub(crate) fn push_gnu(
     ensures { OnOk result (string_bytes text.new ≡ string_bytes text.old ++ gnu_text diagnostic.now) }
 {
     push_position(text, diagnostic)?;
-    push_words(alloc, text, diagnostic.text, diagnostic.violation)?;
+    push_words(
+        alloc,
+        text,
+        diagnostic.profile,
+        diagnostic.text,
+        diagnostic.violation,
+    )?;
     Ok(())
 }
 
@@ -41,13 +48,14 @@ fn push_position(text: &mut String, diagnostic: &Diagnostic<'_>) -> Result<(), A
 fn push_words(
     alloc: Global,
     text: &mut String,
+    profile: Profile,
     line: &str,
     violation: LineViolation,
 ) -> Result<(), AllocError>
-    ensures { OnOk result (string_bytes text.new ≡ string_bytes text.old ++ gnu_words line.now violation) }
+    ensures { OnOk result (string_bytes text.new ≡ string_bytes text.old ++ gnu_words profile line.now violation) }
 {
     text.push_str(": error: ")?;
-    push_message(alloc, text, line, violation)?;
+    push_message(alloc, text, profile, line, violation)?;
     text.push_str(" [")?;
     text.push_str(violation.name())?;
     text.push_str("]\n")?;

@@ -15,6 +15,7 @@ use crate::message::message;
 use crate::quoted::push_quoted;
 use crate::window::{is_cut, window};
 use std::alloc::{AllocError, Global};
+use uv_model::Profile;
 
 /// Pushes the object of a diagnostic, and a line feed.
 #[tactic(auto, unfolding(crate::specs::Json::json_text))]
@@ -45,7 +46,13 @@ fn push_object(
     push_kind(alloc, text, diagnostic)?;
     push_number_member(text, ",\"line\":", diagnostic.line)?;
     push_mended(alloc, text, diagnostic)?;
-    push_message(alloc, text, diagnostic.text, diagnostic.violation)?;
+    push_message(
+        alloc,
+        text,
+        diagnostic.profile,
+        diagnostic.text,
+        diagnostic.violation,
+    )?;
     push_rule(alloc, text, diagnostic.violation)?;
     push_link(alloc, text, diagnostic.text, diagnostic.violation)?;
     text.push_str("}")?;
@@ -130,13 +137,14 @@ fn push_mended(
 fn push_message(
     alloc: Global,
     text: &mut String,
+    profile: Profile,
     line: &str,
     violation: LineViolation,
 ) -> Result<(), AllocError>
     ensures { OnOk result (string_bytes text.new
-        ≡ string_bytes text.old ++ (codes ",\"message\":" ++ quoted (reported.message line.now violation))) }
+        ≡ string_bytes text.old ++ (codes ",\"message\":" ++ quoted (reported.message profile line.now violation))) }
 {
-    let message = message(alloc, line, violation)?;
+    let message = message(alloc, profile, line, violation)?;
     push_text_member(alloc, text, ",\"message\":", message.as_str())
 }
 

@@ -9,6 +9,7 @@ mod column;
 mod column_counter;
 mod completion;
 mod diagnostic;
+mod domain;
 mod escapes;
 mod explanation;
 mod format;

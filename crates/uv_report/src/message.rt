@@ -1,44 +1,47 @@
-//! What is reported of a line: a sentence that names the code point at the place, where the rule is about one, or that
-//! says that a URL string has no credentials.
+//! What is reported of a line: a sentence that names the code point at the place, where the rule is about one, that
+//! says why a host is no valid domain, or that a URL string has no credentials.
 ghost use Rattle.std.specs.Prelude.{◌≡◌, ◌++◌, IfOk, OnOk, option_copied, string_bytes};
 ghost use Rattle.uv_report.specs.Escapes.{escaped};
 ghost use Rattle.uv_report.specs.Message as spec;
 
 use crate::code_point::push_point;
+use crate::domain::push_domain_sentence;
 use crate::escapes::{Escapes, push_escaped};
 use crate::line_violation::LineViolation;
 use crate::window::{point_at, rest_at};
 use std::alloc::{AllocError, Global};
-use uv_model::{Refusal, Rule};
+use uv_model::{Profile, Refusal, Rule};
 
 const CREDENTIALS: &str =
     "a URL string has no credentials: no user name, password or @ before its host";
 
-/// What is reported of a line, in a sentence without its end.
+/// What is reported of a line that is judged by a profile, in a sentence without its end.
 pub(crate) fn message(
     alloc: Global,
+    profile: Profile,
     line: &str,
     violation: LineViolation,
 ) -> Result<String, AllocError>
-    ensures { IfOk result (λ text. string_bytes text ≡ spec.message line.now violation) }
+    ensures { IfOk result (λ text. string_bytes text ≡ spec.message profile line.now violation) }
 {
     // Room for most sentences.
     let mut text = String::with_capacity(alloc, 100)?;
-    push_message(alloc, &mut text, line, violation)?;
+    push_message(alloc, &mut text, profile, line, violation)?;
     Ok(text)
 }
 
-/// Pushes what is reported of a line, in a sentence without its end.
+/// Pushes what is reported of a line that is judged by a profile, in a sentence without its end.
 pub fn push_message(
     alloc: Global,
     text: &mut String,
+    profile: Profile,
     line: &str,
     violation: LineViolation,
 ) -> Result<(), AllocError>
-    ensures { OnOk result (string_bytes text.new ≡ string_bytes text.old ++ spec.message line.now violation) }
+    ensures { OnOk result (string_bytes text.new ≡ string_bytes text.old ++ spec.message profile line.now violation) }
 {
     match violation {
-        LineViolation::Refused(refusal) => push_refusal(alloc, text, line, refusal),
+        LineViolation::Refused(refusal) => push_refusal(alloc, text, profile, line, refusal),
         LineViolation::NotUtf8 | LineViolation::TooLong | LineViolation::NotLocated => {
             text.push_str(violation.sentence())
         }
@@ -49,14 +52,15 @@ pub fn push_message(
 pub(crate) fn push_escaped_message(
     alloc: Global,
     text: &mut String,
+    profile: Profile,
     line: &str,
     violation: LineViolation,
     escapes: Escapes,
 ) -> Result<(), AllocError>
     ensures { OnOk result (string_bytes text.new
-        ≡ string_bytes text.old ++ escaped escapes (spec.message line.now violation)) }
+        ≡ string_bytes text.old ++ escaped escapes (spec.message profile line.now violation)) }
 {
-    let message = message(alloc, line, violation)?;
+    let message = message(alloc, profile, line, violation)?;
     push_escaped(text, message.as_str(), escapes)
 }
 
@@ -65,16 +69,34 @@ pub(crate) fn push_escaped_message(
 fn push_refusal(
     alloc: Global,
     text: &mut String,
+    profile: Profile,
     line: &str,
     refusal: Refusal,
 ) -> Result<(), AllocError>
     ensures { OnOk result (string_bytes text.new
-        ≡ string_bytes text.old ++ spec.refusal_message line.now refusal) }
+        ≡ string_bytes text.old ++ spec.refusal_message profile line.now refusal) }
 {
     if is_of_authority(refusal.rule) && has_credentials(line, refusal.place) {
         return text.push_str(CREDENTIALS);
     }
-    push_point_sentence(alloc, text, refusal.rule, point_at(line, refusal.place))
+    push_rule_message(alloc, text, profile, line, refusal)
+}
+
+// Pushes what is said of a place by the rule.
+fn push_rule_message(
+    alloc: Global,
+    text: &mut String,
+    profile: Profile,
+    line: &str,
+    refusal: Refusal,
+) -> Result<(), AllocError>
+    ensures { OnOk result (string_bytes text.new
+        ≡ string_bytes text.old ++ spec.rule_message profile line.now refusal.place refusal.rule) }
+{
+    match refusal.rule {
+        Rule::HostDomain => push_domain_sentence(alloc, text, profile, line, refusal.place),
+        _ => push_point_sentence(alloc, text, refusal.rule, point_at(line, refusal.place)),
+    }
 }
 
 // Pushes what is said of a code point that violates a rule, where the rule is about one, else the rule's sentence.

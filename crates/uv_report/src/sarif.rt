@@ -21,7 +21,7 @@ use crate::uri::push_uri_path;
 use crate::window::is_cut;
 use serde_json::{Value, json};
 use std::alloc::{AllocError, Global};
-use uv_model::{MendKind, Refusal, Rule};
+use uv_model::{MendKind, Profile, Refusal, Rule};
 
 /// Pushes the document up to its results: the version, what columns count, the tool and its rules.
 #[tactic(auto, unfolding(crate::specs::Sarif::sarif_begin))]
@@ -164,7 +164,13 @@ fn push_result(
     text.push_str("\"level\":\"error\",\"locations\":")?;
     push_locations(text, diagnostic)?;
     text.push_str(",\"message\":")?;
-    push_said(alloc, text, diagnostic.text, diagnostic.violation)?;
+    push_said(
+        alloc,
+        text,
+        diagnostic.profile,
+        diagnostic.text,
+        diagnostic.violation,
+    )?;
     text.push_str(",\"properties\":")?;
     push_link_object(alloc, text, diagnostic.text, diagnostic.violation)?;
     push_rule_id(alloc, text, diagnostic.violation)?;
@@ -275,13 +281,14 @@ fn push_region(text: &mut String, diagnostic: &Diagnostic<'_>) -> Result<(), All
 fn push_said(
     alloc: Global,
     text: &mut String,
+    profile: Profile,
     line: &str,
     violation: LineViolation,
 ) -> Result<(), AllocError>
     ensures { OnOk result (string_bytes text.new
-        ≡ string_bytes text.old ++ compact_text (spec.message (reported.message line.now violation))) }
+        ≡ string_bytes text.old ++ compact_text (spec.message (reported.message profile line.now violation))) }
 {
-    let message = message(alloc, line, violation)?;
+    let message = message(alloc, profile, line, violation)?;
     push_text_object(alloc, text, message.as_str())
 }
 

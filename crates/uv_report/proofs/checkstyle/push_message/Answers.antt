@@ -11,7 +11,8 @@ pub returns : goal.returns
 unfolding error_text
 returns c =
     rw (← c.name.ensures)
-    (four_pieces (string_bytes c.args.text.now) (escaped Attribute (message c.args.line.now c.args.violation))
+    (four_pieces (string_bytes c.args.text.now)
+    (escaped Attribute (message c.args.profile c.args.line.now c.args.violation))
     (codes "\" source=\"urlcheck.") (escaped Attribute c.name.result.now) (codes "\"/>\n")
     c.in_ok-push_escaped_message.ensures c.in_ok-push_str.ensures.bytes c.in_ok-push_escaped.ensures
     c.in_ok-push_str-2.ensures.bytes)

@@ -25,9 +25,11 @@ loop-violation-init g c =
       said = (
         [],
         rw (append-nil waited) (passes_none waited (g.W.Sink.contents c.args.writer.now)),
-        subst (λ told. IsSaidBefore setting.form setting.format setting.columns (reported_view line) c.args.is_first
+        subst (λ told. IsSaidBefore setting.form setting.format setting.columns setting.profile (reported_view
+            line) c.args.is_first
             mended [] [] c.args.is_first told) (sym c.mended_in_place-told.ensures)
-            (said_none setting.form setting.format setting.columns (reported_view line) c.args.is_first mended),
+            (said_none setting.form setting.format setting.columns setting.profile (reported_view line)
+            c.args.is_first mended),
       );
       quiet = refl;
       counter = c.new-counter.ensures;
@@ -49,7 +51,8 @@ loop-violation-preserved g c =
     c.loop-violation.is_first (record {
       file = line.file;
       line = line.line;
-      column = c.column.result;
+      column = c.column-column.result;
+      profile = setting.profile;
       violation = violation;
       text = line.text;
       mended = told;
@@ -63,15 +66,17 @@ loop-violation-preserved g c =
             (passes_more (c.args.text.now.items ++ said.0) one old (g.W.Sink.contents c.loop-violation.writer) new
             c.loop-violation.text.items c.say_framed.new.text.items said.1
             (rw c.diagnostic_in-found.ensures at c.in_default.ensures.text)),
-        subst (λ before. IsSaidBefore setting.form setting.format setting.columns (reported_view line) c.args.is_first
+        subst (λ before. IsSaidBefore setting.form setting.format setting.columns setting.profile
+            (reported_view line) c.args.is_first
             mended before (said.0 ++ one) false None)
             (sym (take_more violations i none c.loop-violation-test.true))
-            (said_more setting.form setting.format setting.columns line.file line.text line.line line.start
-            c.column.result c.args.is_first c.loop-violation.is_first mended told (take i violations) violation said.0
-            (c.column.ensures.column ∙ rw (invariant.counter, c.place.ensures) refl) said.2),
+            (said_more setting.form setting.format setting.columns setting.profile line.file line.text
+            line.line line.start
+            c.column-column.result c.args.is_first c.loop-violation.is_first mended told (take i violations) violation said.0
+            (c.column-column.ensures.column ∙ rw (invariant.counter, c.place.ensures) refl) said.2),
       );
       quiet = c.in_default.ensures.quiet ∙ invariant.quiet;
-      counter = c.column.ensures.same ∙ invariant.counter;
+      counter = c.column-column.ensures.same ∙ invariant.counter;
     }
 
 pub returns-in-Err-clause-fault : goal.returns-in-Err-clause-fault
@@ -90,22 +95,26 @@ returns-in-Err-clause-fault g c =
     c.loop-violation.is_first (record {
       file = line.file;
       line = line.line;
-      column = c.column.result;
+      column = c.column-column.result;
+      profile = setting.profile;
       violation = violation;
       text = line.text;
       mended = told;
     })) in
-    let with_one = subst (λ before. IsSaidBefore setting.form setting.format setting.columns (reported_view line)
+    let with_one = subst (λ before. IsSaidBefore setting.form setting.format setting.columns setting.profile
+    (reported_view line)
     c.args.is_first mended before (said.0 ++ one) false None)
     (sym (take_more violations i none c.loop-violation-test.true))
-    (said_more setting.form setting.format setting.columns line.file line.text line.line line.start
-    c.column.result c.args.is_first c.loop-violation.is_first mended told (take i violations) violation said.0
-    (c.column.ensures.column ∙ rw (invariant.counter, c.place.ensures) refl) said.2) in
-    parts_behind (IsNoneOr one) (AreFirstDiagnostics setting.form setting.format setting.columns (reported_view line)
+    (said_more setting.form setting.format setting.columns setting.profile line.file line.text line.line line.start
+    c.column-column.result c.args.is_first c.loop-violation.is_first mended told (take i violations) violation said.0
+    (c.column-column.ensures.column ∙ rw (invariant.counter, c.place.ensures) refl) said.2) in
+    parts_behind (IsNoneOr one) (AreFirstDiagnostics setting.form setting.format setting.columns
+    setting.profile (reported_view line)
     c.args.is_first mended violations) c.in-Err.fault c.args.text.now.items said.0
     (g.W.Sink.contents c.args.writer.now) (g.W.Sink.contents c.loop-violation.writer)
     (g.W.Sink.contents c.say_framed.new.writer) c.loop-violation.text.items c.say_framed.new.text.items said.1
-    (λ parts is. first_with setting.form setting.format setting.columns (reported_view line) c.args.is_first mended
+    (λ parts is. first_with setting.form setting.format setting.columns setting.profile (reported_view line)
+    c.args.is_first mended
     violations i said.0 one c.loop-violation.is_first (lent_if_mended told) parts said.2 with_one is)
     (rw c.diagnostic_in-found.ensures at c.in-Err.ensures.fault)
 
@@ -125,7 +134,9 @@ returns-clause-text g c =
     take_all i violations (let last = c.loop-violation-test.false in omega (arith, last)) in
     subst (λ t. Passes (c.args.text.now.items ++ t) (g.W.Sink.contents c.args.writer.now)
     (g.W.Sink.contents c.loop-violation.writer) c.loop-violation.text.items)
-    (said_first setting.form setting.format setting.columns (reported_view line) c.args.is_first mended
+    (said_first setting.form setting.format setting.columns setting.profile (reported_view line)
+    c.args.is_first mended
     (take i violations) said.0 c.loop-violation.is_first (lent_if_mended c.loop-violation.told) said.2
-    ∙ ap (λ vs. diagnostics_text setting.form setting.format setting.columns (reported_view line) c.args.is_first mended
+    ∙ ap (λ vs. diagnostics_text setting.form setting.format setting.columns setting.profile (reported_view
+    line) c.args.is_first mended
     vs) all) said.1

@@ -1,0 +1,32 @@
+-- What stands before the first element that passes, by where that is.
+use Rattle.std.proofs.Common.{◌≡◌, ◌≤◌, ℕ, Bool, true, false, List, length, take, nat_lt, Option, Some, None}
+use Rattle.std.proofs.Common.{ap, arith, refl, if◌then◌else◌, sym, take_all}
+use Rattle.std.specs.List.{before_first, position_or_len}
+
+-- the place where there is one
+place_of : (there : Bool) (n place : ℕ) → Some place ≡ (if there then Some n else None) → place ≡ n
+place_of true n place is = ap (λ (o : Option ℕ). elim o [ None ↦ n | Some k ↦ k ]) is
+place_of false n place is = cc
+
+-- there is none
+not_there : (there : Bool) (n : ℕ) → (if there then Some n else None) ≡ None → there ≡ false
+not_there true n is = cc
+not_there false n is = refl
+
+-- before the place that a search gives
+pub before_found : (p : ℕ → Bool) (text : List ℕ) (place : ℕ)
+    → Some place
+    ≡ (if nat_lt (position_or_len p text) (length text) then Some (position_or_len p text) else None)
+    → take place text ≡ before_first p text
+before_found p text place is =
+    ap (λ n. take n text) (place_of (nat_lt (position_or_len p text) (length text)) (position_or_len p text) place is)
+
+-- where a search gives none
+pub before_none : (p : ℕ → Bool) (text : List ℕ)
+    → (if nat_lt (position_or_len p text) (length text) then Some (position_or_len p text) else None) ≡ None
+    → text ≡ before_first p text
+before_none p text is =
+    let n = position_or_len p text in
+    let past = not_there (nat_lt n (length text)) n is in
+    let long : length text ≤ n = grind (arith, past) in
+    sym (take_all n text long)

@@ -1,0 +1,86 @@
+-- Why a host is no valid domain by a profile, as far as its text shows it (URL Standard, sections 3.3 and 3.4; UTS #46,
+-- section 4.1). What its ASCII code points and labels show is said; what ToASCII makes of the others isn't.
+use Rattle.std.specs.Prelude.{ℕ, Bool, not, ◌&&◌, ◌||◌, ◌==◌, nat_lt, List, [], ◌∷◌, ◌++◌, codes, drop}
+use Rattle.std.specs.Prelude.{encode_utf8_all, find, length, Option, Some, None}
+use Rattle.std.specs.List.{before_first, list_any}
+use Rattle.std.specs.Str.{chars}
+use Rattle.idna.specs.Labels.{labels_of}
+use Rattle.idna.specs.Validity.{has_ace_prefix, has_hyphen_first_or_last, has_hyphens_third_and_fourth, is_all_ascii}
+use Rattle.uv_model.specs.declared.profile.Profile.{Profile}
+use Rattle.uv_model.specs.declared.profile.Profile.TheVariants.{Standard, Wide, Parser}
+use Rattle.uv_model.specs.declared.rule.Rule.TheVariants.{HostDomain}
+use Rattle.uv_model.specs.Ascii.{percent_sign}
+use Rattle.uv_model.specs.Hosts.Domain.{is_permitted, without_root}
+use Rattle.uv_model.specs.Scheme.{lowercase}
+use Rattle.uv_model.specs.Violations.Rule.{rule_sentence}
+use Rattle.uv_report.specs.declared.domain.LabelFault.{LabelFault}
+use Rattle.uv_report.specs.declared.domain.LabelFault.TheVariants.{Empty, Long, OuterHyphen, InnerHyphens}
+use Rattle.uv_report.specs.CodePoint.{point_text}
+
+-- ---- the host
+
+-- `/`, `?`, `#` and `:` end a host; one that has `[` is refused for it
+abbrev pub ends_host : ℕ → Bool
+ends_host c = (c == 0x2F) || ((c == 0x3F) || ((c == 0x23) || (c == 0x3A)))
+
+-- the host that begins at a place of a line, in UTF-8
+abbrev pub host_text : List ℕ → ℕ → List ℕ
+host_text line place = before_first ends_host (encode_utf8_all (drop place (chars line)))
+
+-- ---- its code points
+
+-- A host with this byte has no form by the profile, whatever else it has: an ASCII code point that isn't permitted. By
+-- the parser's profile a host may be percent-encoded, so that `%` may stand in it.
+abbrev pub is_foreign : Profile → ℕ → Bool
+is_foreign Parser c = not ((c == percent_sign) || is_permitted Parser c)
+is_foreign profile c = not (is_permitted profile c)
+
+-- ---- its labels
+
+-- the labels, where one full stop at the end isn't counted
+abbrev pub host_labels : List ℕ → List (List ℕ)
+host_labels host = labels_of (without_root host)
+
+-- an ASCII label that doesn't begin with `xn--` in any case: it is its own form but for its letters' case
+abbrev pub is_plain_label : List ℕ → Bool
+is_plain_label label = is_all_ascii label && not (has_ace_prefix (lowercase label))
+
+-- what may be wrong with a label
+abbrev pub has_label_fault : LabelFault → List ℕ → Bool
+has_label_fault Empty label = length label == 0
+has_label_fault Long label = nat_lt 63 (length label) && is_plain_label label
+has_label_fault OuterHyphen label = has_hyphen_first_or_last label && is_plain_label label
+has_label_fault InnerHyphens label = has_hyphens_third_and_fourth label && is_plain_label label
+
+-- what a profile refuses of that: the parser's takes labels of any length, and the standard one alone asks for hyphens
+abbrev pub label_faults : Profile → List LabelFault
+label_faults Standard = Empty ∷ Long ∷ OuterHyphen ∷ InnerHyphens ∷ []
+label_faults Wide = Empty ∷ Long ∷ []
+label_faults Parser = []
+
+-- the first that a label of the host has
+abbrev pub label_fault : Profile → List ℕ → Option LabelFault
+label_fault profile host = find (λ fault. list_any (has_label_fault fault) (host_labels host)) (label_faults profile)
+
+-- ---- what is said
+
+-- of a label
+abbrev pub label_sentence : LabelFault → List ℕ
+label_sentence Empty = codes "a label of this domain is empty"
+label_sentence Long = codes "a label of this domain has more than 63 code points"
+label_sentence OuterHyphen = codes "a label of this domain begins or ends with -"
+label_sentence InnerHyphens = codes "a label of this domain has -- in its third and fourth place"
+
+-- of a host whose code points show nothing: the rule's sentence, where its labels show nothing either
+abbrev pub labels_sentence : Option LabelFault → List ℕ
+labels_sentence (Some fault) = label_sentence fault
+labels_sentence None = rule_sentence HostDomain
+
+-- of a host with this first foreign code point, or of none
+abbrev pub host_sentence : Profile → List ℕ → Option ℕ → List ℕ
+host_sentence profile host (Some c) = point_text c ++ codes " may not stand in a domain"
+host_sentence profile host None = labels_sentence (label_fault profile host)
+
+-- of a host that is no valid domain
+unfoldable pub domain_sentence : Profile → List ℕ → List ℕ
+domain_sentence profile host = host_sentence profile host (find (is_foreign profile) host)
