@@ -29,7 +29,8 @@ of_list 1 'list:2:11: error: U+000D CARRIAGE RETURN may not stand in a URL [code
 
 # A byte order mark at the start is no part of the first line, alone too; before another line it is one of its code
 # points.
-of_list 1 "list:1:10: $space\nlist:2:1: $scheme\n" "$(counted 2 2)" '\xef\xbb\xbfhttp://h/ \n\xef\xbb\xbfurn:a\n'
+of_list 1 "list:1:10: $space\nlist:2:1: error: U+FEFF stands before the scheme [no-scheme]\n" "$(counted 2 2)" \
+    '\xef\xbb\xbfhttp://h/ \n\xef\xbb\xbfurn:a\n'
 of_list 0 '' "$(counted 0 0)" '\xef\xbb\xbf'
 of_list 1 "list:1:1: $scheme\nb\n^\n" "$(counted 1 1)" '\xef\xbb\xbfb' --format caret
 
@@ -70,6 +71,13 @@ of_list 1 "list:1:8: $(in_domain '0021 EXCLAMATION MARK')\nlist:2:8: $empty\nlis
 of_list 1 "list:1:8: $(in_domain '0020 SPACE')\nlist:2:8: $none\nlist:3:8: $(in_domain '003C LESS-THAN SIGN')
 list:5:8: $(in_domain '0009 CHARACTER TABULATION')\n" "$(counted 5 4)" \
     'http://x_y! z/\nhttp://a..%20/\nhttp://%<>/\nhttp://a..b/\nhttp://a\tb/\n' --profile parser
+
+# What stands before a scheme: a space, a C0 control or a byte order mark. Of another code point nothing is said.
+of_list 1 'list:1:1: error: U+0020 SPACE stands before the scheme [no-scheme]
+list:2:1: error: U+0009 CHARACTER TABULATION stands before the scheme [no-scheme]
+list:3:1: error: U+001F INFORMATION SEPARATOR ONE stands before the scheme [no-scheme]
+'"list:4:1: $scheme\nlist:5:1: $scheme\n" "$(counted 5 5)" \
+    ' https://a/\n\thttp://h/\n\x1furn:a\n\xc2\xa0urn:a\n:a\n'
 
 # The least violation, or all.
 of_list 1 "list:1:11: $space\nlist:2:8: $credentials\n" "$(counted 2 2)" 'http://h/a b%zz\nhttp://u@h/a b\n'
@@ -176,4 +184,4 @@ ends_with 1 $? "$(counted 7 4)" 'results of SARIF of three files'
 grep '"ruleIndex":' "$room/out" | cmp -s - "$room/twice" || fail "results of SARIF of three files: $(cat "$room/out")"
 rm -f "$room/wanted" "$room/twice" "$room/right"
 
-all_cases 45
+all_cases 46

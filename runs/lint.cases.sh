@@ -299,7 +299,7 @@ of_input 0 '' 'urlcheck: 0 lines, 0 refused\n' '\n\r\n\n' -
 of_input 1 '-:1:10: error: U+0020 SPACE may not stand in a URL [code-point]\n' 'urlcheck: 2 lines, 1 refused\n' \
     '\xef\xbb\xbfhttp://h/ \nurn:a\n' -
 of_input 0 '' 'urlcheck: 0 lines, 0 refused\n' '\xef\xbb\xbf\n' -
-of_input 1 '-:2:1: error: there is no scheme and no base [no-scheme]\n' 'urlcheck: 2 lines, 1 refused\n' \
+of_input 1 '-:2:1: error: U+FEFF stands before the scheme [no-scheme]\n' 'urlcheck: 2 lines, 1 refused\n' \
     'urn:a\n\xef\xbb\xbfurn:a\n' -
 "$program" lint - <&- >"$room/out" 2>"$room/err"
 ends_with 2 $? "${no_input}urlcheck: 0 lines, 0 refused\\n" 'lint of a standard input that is closed'

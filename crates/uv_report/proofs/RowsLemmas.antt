@@ -25,6 +25,7 @@ point_rows = record {
   delete = refl;
   beyond = refl;
   hidden = refl;
+  byte_order_mark = refl;
   digits = refl;
 }
 
@@ -47,7 +48,16 @@ column_rows = record {
 pub message_rows : MessageRows
 unfolding refusal_message point_text point_name ascii_names control_names sign_names digit_names capital_names
     mark_names small_names last_names digits padded_integral char_count encode_utf8 chars
-message_rows = record { point = refl; port = refl; user = refl; password = refl; path = refl }
+message_rows = record {
+  point = refl;
+  port = refl;
+  space = refl;
+  byte_order_mark = refl;
+  relative = refl;
+  user = refl;
+  password = refl;
+  path = refl;
+}
 
 -- messages on hosts
 pub domain_rows : DomainRows

@@ -1,6 +1,6 @@
 -- How a code point is named: by `U+` and its number, and by its name, where it is an ASCII code point.
-use Rattle.std.specs.Prelude.{ℕ, ◌-◌, ◌^◌, true, false, List, [], ◌∷◌, ◌++◌, codes, encode_utf8, if◌then◌else◌}
-use Rattle.std.specs.Prelude.{Option, Some, None, slice_get}
+use Rattle.std.specs.Prelude.{ℕ, ◌-◌, ◌^◌, ◌||◌, ◌==◌, true, false, List, [], ◌∷◌, ◌++◌, codes, encode_utf8}
+use Rattle.std.specs.Prelude.{if◌then◌else◌, Option, Some, None, slice_get}
 use Rattle.std.specs.Fmt.{digits, format_spec, padded_integral}
 use Rattle.uv_report.specs.Escapes.{is_hidden}
 
@@ -84,9 +84,9 @@ ascii_names =
 abbrev pub hex_number : ℕ → List ℕ
 hex_number c = padded_integral (format_spec 32 0 4 4 (2 ^ 64 - 1)) false [] (digits 16 true c)
 
--- a code point beyond ASCII as it is, where it is one that is shown
+-- a code point beyond ASCII as it is, where it is one that is shown; a byte order mark (U+FEFF) shows nothing
 abbrev pub glyph : ℕ → List ℕ
-glyph c = if is_hidden c then [] else codes " " ++ encode_utf8 c
+glyph c = if is_hidden c || (c == 0xFEFF) then [] else codes " " ++ encode_utf8 c
 
 -- the name of an ASCII code point, else the code point
 abbrev pub name_or_glyph : ℕ → Option (List ℕ) → List ℕ

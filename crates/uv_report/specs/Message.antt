@@ -1,12 +1,12 @@
 -- What is reported of a line: a sentence that names the code point at the place, where the rule is about one, that
 -- says why a host is no valid domain, or that a URL string has no credentials.
-use Rattle.std.specs.Prelude.{ℕ, Bool, true, false, ◌&&◌, ◌||◌, ◌==◌, List, ◌++◌, codes, drop, find}
+use Rattle.std.specs.Prelude.{ℕ, Bool, true, false, ◌&&◌, ◌||◌, ◌==◌, List, ◌++◌, codes, drop, find, nat_le}
 use Rattle.std.specs.Prelude.{if◌then◌else◌, Option, Some, None, slice_get}
 use Rattle.std.specs.Str.{chars}
 use Rattle.uv_model.specs.declared.profile.Profile.{Profile}
 use Rattle.uv_model.specs.declared.rule.Refusal.{Refusal}
 use Rattle.uv_model.specs.declared.rule.Rule.{Rule}
-use Rattle.uv_model.specs.declared.rule.Rule.TheVariants.{HostMissing, HostDomain, HostNumber, HostIpv6}
+use Rattle.uv_model.specs.declared.rule.Rule.TheVariants.{NoScheme, HostMissing, HostDomain, HostNumber, HostIpv6}
 use Rattle.uv_model.specs.declared.rule.Rule.TheVariants.{HostCodePoint, PortDigit, PortRange, CodePoint, Percent}
 use Rattle.uv_model.specs.Violations.Rule.{rule_sentence}
 use Rattle.uv_report.specs.CodePoint.{point_text}
@@ -29,6 +29,19 @@ said_of_point _ = None
 abbrev pub point_sentence : Rule → Option (List ℕ) → Option ℕ → List ℕ
 point_sentence rule (Some said) (Some c) = point_text c ++ said
 point_sentence rule _ _ = rule_sentence rule
+
+-- ---- what stands before a scheme (URL Standard, sections 4.3 and 4.4: spaces and C0 controls, which may not stand
+-- there, are removed by the parser)
+
+-- a space, a C0 control, or a byte order mark
+abbrev pub is_stray : ℕ → Bool
+is_stray c = nat_le c 0x20 || (c == 0xFEFF)
+
+-- where a text that has no scheme begins with one of these, that it stands before the scheme
+abbrev pub start_sentence : Option ℕ → List ℕ
+start_sentence (Some c) =
+    if is_stray c then point_text c ++ codes " stands before the scheme" else rule_sentence NoScheme
+start_sentence None = rule_sentence NoScheme
 
 -- ---- credentials (URL Standard, sections 4.1 and 4.3: a valid URL string has none)
 
@@ -68,6 +81,7 @@ credentials_sentence = codes "a URL string has no credentials: no user name, pas
 
 -- what is said of a place by a rule that the profile asks
 abbrev pub rule_message : Profile → List ℕ → ℕ → Rule → List ℕ
+rule_message profile line place NoScheme = start_sentence (slice_get (chars line) place)
 rule_message profile line place HostDomain = domain_sentence profile (host_text line place)
 rule_message profile line place rule = point_sentence rule (said_of_point rule) (slice_get (chars line) place)
 

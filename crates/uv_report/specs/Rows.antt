@@ -2,7 +2,7 @@
 use Rattle.std.specs.Prelude.{◌≡◌, ℕ, true, false, List, [], ◌∷◌, ◌++◌, codes, replicate}
 use Rattle.uv_model.specs.declared.profile.Profile.{Profile}
 use Rattle.uv_model.specs.declared.profile.Profile.TheVariants.{Standard, Wide, Parser}
-use Rattle.uv_model.specs.declared.rule.Rule.TheVariants.{HostDomain, PortDigit, CodePoint}
+use Rattle.uv_model.specs.declared.rule.Rule.TheVariants.{NoScheme, HostDomain, PortDigit, CodePoint}
 use Rattle.uv_model.specs.Violations.Rule.{rule_sentence}
 use Rattle.uv_report.specs.declared.line_violation.LineViolation.TheVariants.{Refused}
 use Rattle.uv_report.specs.declared.column.Columns.TheVariants.{CodePoints, Bytes, Utf16, Screen}
@@ -12,7 +12,7 @@ use Rattle.uv_report.specs.Message.{credentials_sentence, has_credentials, messa
 use Rattle.uv_report.specs.Uri.{uri_path}
 use Rattle.uv_report.specs.Window.{cut_mark, is_cut, window, window_place}
 
--- code points: a control, a space, a letter, one beyond ASCII, one that isn't shown, and one of five digits
+-- code points: a control, a space, a letter, one beyond ASCII, two that aren't shown, and one of five digits
 pub record PointRows : Type 0 where
   pub escape : point_text 0x1B ≡ codes "U+001B ESCAPE"
   pub space : point_text 0x20 ≡ codes "U+0020 SPACE"
@@ -20,6 +20,7 @@ pub record PointRows : Type 0 where
   pub delete : point_text 0x7F ≡ codes "U+007F DELETE"
   pub beyond : point_text 0xE9 ≡ codes "U+00E9 " ++ (0xC3 ∷ 0xA9 ∷ [])
   pub hidden : point_text 0x202E ≡ codes "U+202E"
+  pub byte_order_mark : point_text 0xFEFF ≡ codes "U+FEFF"
   pub digits : point_text 0x1FFFE ≡ codes "U+1FFFE " ++ (0xF0 ∷ 0x9F ∷ 0xBF ∷ 0xBE ∷ [])
 
 -- `e` with a combining acute accent, a wide code point, one beyond U+FFFF, and a tab
@@ -39,12 +40,19 @@ pub record ColumnRows : Type 0 where
   pub first : column_at Bytes 40 (codes "ab") 0 ≡ 40
   pub second : column_at Screen 40 (codes "a\tb") 2 ≡ 49
 
--- messages: of a code point, and of credentials where an `@` follows in the authority
+-- messages: of a code point, of one before a scheme, and of credentials where an `@` follows in the authority
 pub record MessageRows : Type 0 where
   pub point : message Standard (codes "urn:a b") (Refused (record { place = 5; rule = CodePoint }))
       ≡ codes "U+0020 SPACE may not stand in a URL"
   pub port : message Standard (codes "http://h:8x#@") (Refused (record { place = 10; rule = PortDigit }))
       ≡ codes "U+0078 LATIN SMALL LETTER X is no digit of a port"
+  pub space : message Standard (codes " https://a/") (Refused (record { place = 0; rule = NoScheme }))
+      ≡ codes "U+0020 SPACE stands before the scheme"
+  pub byte_order_mark : message Standard (0xEF ∷ 0xBB ∷ 0xBF ∷ codes "a:")
+      (Refused (record { place = 0; rule = NoScheme }))
+      ≡ codes "U+FEFF stands before the scheme"
+  pub relative : message Standard (codes "a b") (Refused (record { place = 0; rule = NoScheme }))
+      ≡ codes "there is no scheme and no base"
   pub user : message Standard (codes "http://u@h/") (Refused (record { place = 7; rule = HostDomain }))
       ≡ credentials_sentence
   pub password : has_credentials (codes "http://user:pw@h/") 12 ≡ true

@@ -178,7 +178,7 @@ fn point_number(alloc: Global, c: char) -> Result<String, AllocError>
 fn push_glyph(text: &mut String, c: char) -> Result<(), AllocError>
     ensures { OnOk result (string_bytes text.new ≡ string_bytes text.old ++ spec.glyph c) }
 {
-    if is_hidden(c) {
+    if is_hidden(c) || c == '\u{FEFF}' {
         return Ok(());
     }
     text.push_str(" ")?;

@@ -1,6 +1,7 @@
 //! What is reported of a line: a sentence that names the code point at the place, where the rule is about one, that
 //! says why a host is no valid domain, or that a URL string has no credentials.
-ghost use Rattle.std.specs.Prelude.{◌≡◌, ◌++◌, IfOk, OnOk, option_copied, string_bytes};
+ghost use Rattle.std.specs.Prelude.{◌≡◌, ◌++◌, IfOk, OnOk, codes, option_copied, string_bytes};
+ghost use Rattle.uv_report.specs.CodePoint.{point_text};
 ghost use Rattle.uv_report.specs.Escapes.{escaped};
 ghost use Rattle.uv_report.specs.Message as spec;
 
@@ -94,9 +95,41 @@ fn push_rule_message(
         ≡ string_bytes text.old ++ spec.rule_message profile line.now refusal.place refusal.rule) }
 {
     match refusal.rule {
+        Rule::NoScheme => push_start_sentence(alloc, text, point_at(line, refusal.place)),
         Rule::HostDomain => push_domain_sentence(alloc, text, profile, line, refusal.place),
         _ => push_point_sentence(alloc, text, refusal.rule, point_at(line, refusal.place)),
     }
+}
+
+// Pushes that the first code point stands before the scheme, where it may be one that does, else the rule's sentence.
+fn push_start_sentence(
+    alloc: Global,
+    text: &mut String,
+    first: Option<char>,
+) -> Result<(), AllocError>
+    ensures { OnOk result (string_bytes text.new ≡ string_bytes text.old ++ spec.start_sentence first) }
+{
+    match first {
+        Some(c) if is_stray(c) => push_stray(alloc, text, c),
+        _ => text.push_str(Rule::NoScheme.sentence()),
+    }
+}
+
+// Pushes that a code point stands before the scheme.
+fn push_stray(alloc: Global, text: &mut String, c: char) -> Result<(), AllocError>
+    ensures { OnOk result (string_bytes text.new
+        ≡ string_bytes text.old ++ (point_text c ++ codes " stands before the scheme")) }
+{
+    push_point(alloc, text, c)?;
+    text.push_str(" stands before the scheme")?;
+    Ok(())
+}
+
+// Whether a code point is a space, a C0 control, or a byte order mark.
+fn is_stray(c: char) -> bool
+    ensures { result ≡ spec.is_stray c }
+{
+    c <= ' ' || c == '\u{FEFF}'
 }
 
 // Pushes what is said of a code point that violates a rule, where the rule is about one, else the rule's sentence.
