@@ -119,7 +119,7 @@ length='error: this line has more than 65536 bytes [line-too-long]'
 window=$(printf 'a%.0s' {1..99})
 of_list 1 "list:2:65536: $space\nlist:3:1: $length\nlist:4:1: $length\n" "$(counted 4 3)" "$lines"
 of_list 1 "list:2:65536: $space\n\xe2\x80\xa6$window \n ${window//a/ }^\nhelp: write \xe2\x80\xa6$window
-list:3:1: $length\n\n^\nlist:4:1: $length\n\n^\n" "$(counted 4 3)" "$lines" --format caret
+list:3:1: $length\nlist:4:1: $length\n" "$(counted 4 3)" "$lines" --format caret
 
 # A line of which each code point is wrong: its diagnostics are more than are written at once.
 carets=$(head -c 6995 /dev/zero | tr '\0' '^')

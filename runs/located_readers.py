@@ -122,6 +122,7 @@ def blocks(text):
     rows = text.split("\n")[:-1]
     while rows:
         count = 4 if len(rows) > 3 and rows[3].startswith("help: write ") else 3
+        count = 1 if rows[0].endswith(" [line-too-long]") else count
         yield rows[:count]
         rows = rows[count:]
 

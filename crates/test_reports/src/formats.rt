@@ -76,6 +76,29 @@ fn unjudged(violation: LineViolation, text: &str) -> Diagnostic<'_> {
     }
 }
 
+// Where no text is carried there is no line to show and no place below it.
+#[test]
+fn shows_no_line_without_a_text(rt: HostRuntime) -> Result<(), Fail> {
+    writes(
+        &rt,
+        Format::Caret,
+        &unjudged(LineViolation::TooLong, ""),
+        "-:1:1: error: this line has more than 65536 bytes [line-too-long]\n",
+    )?;
+    writes(
+        &rt,
+        Format::Caret,
+        &unjudged(LineViolation::NotUtf8, ""),
+        "-:1:1: error: this line isn't UTF-8 [not-utf8]\n",
+    )?;
+    writes(
+        &rt,
+        Format::Caret,
+        &unjudged(LineViolation::NotUtf8, "\u{FFFD}"),
+        "-:1:1: error: this line isn't UTF-8 [not-utf8]\n\u{FFFD}\n^\n",
+    )
+}
+
 // By a profile a diagnostic on a host that begins behind `http://` says this.
 fn says_of_host(
     rt: &(impl Abort + AllocGlobal),

@@ -1,9 +1,13 @@
--- A diagnostic with the line that it is about, a caret below the place, and what to write in place of the line.
-use Rattle.std.specs.Prelude.{ℕ, ◌==◌, List, [], ◌++◌, codes, if◌then◌else◌, replicate, take, Option, Some, None}
+-- A diagnostic with the line that it is about, a caret below the place, and what to write in place of the line. Of a
+-- line that isn't judged and of which no text is carried, as of one that is too long, the diagnostic stands alone.
+use Rattle.std.specs.Prelude.{ℕ, Bool, true, not, ◌==◌, List, [], ◌++◌, codes, if◌then◌else◌, length, replicate}
+use Rattle.std.specs.Prelude.{take, Option, Some, None}
 use Rattle.std.specs.List.{flat_map}
 use Rattle.std.specs.Str.{chars}
 use Rattle.uv_report.specs.declared.diagnostic.Diagnostic.{Diagnostic}
 use Rattle.uv_report.specs.declared.escapes.Escapes.TheVariants.{Shown}
+use Rattle.uv_report.specs.declared.line_violation.LineViolation.{LineViolation}
+use Rattle.uv_report.specs.declared.line_violation.LineViolation.TheVariants.{Refused}
 use Rattle.uv_report.specs.declared.mended.Mended.{Mended}
 use Rattle.uv_report.specs.Column.{shown_width}
 use Rattle.uv_report.specs.Escapes.{escaped}
@@ -27,6 +31,16 @@ caret_lines line place = escaped Shown line ++ (codes "\n" ++ (padding (take pla
 unfoldable pub window_lines : List ℕ → ℕ → List ℕ
 window_lines line place = caret_lines (window line place) (window_place line place)
 
+-- the diagnostic carries the text that is wrong: one that is refused, also an empty one, or else what isn't empty
+abbrev pub shows_line : LineViolation → List ℕ → Bool
+shows_line (Refused refusal) line = true
+shows_line violation line = not (length line == 0)
+
+-- the two lines, where it carries that
+abbrev pub shown_lines : LineViolation → List ℕ → List ℕ
+shown_lines violation line =
+    if shows_line violation line then window_lines line (violation_place violation) else []
+
 -- `help: write TEXT`, of a mended text what is shown of it around a place
 unfoldable pub help_line : ℕ → List ℕ → List ℕ
 help_line place mended = codes "help: write " ++ (escaped Shown (window mended place) ++ codes "\n")
@@ -39,5 +53,5 @@ help_text place (Some mended) = help_line place mended.text.now
 -- the line of the format `gnu`, these two, and that one
 unfoldable pub caret_text : Diagnostic → List ℕ
 caret_text diagnostic =
-    gnu_text diagnostic ++ (window_lines diagnostic.text.now (violation_place diagnostic.violation)
+    gnu_text diagnostic ++ (shown_lines diagnostic.violation diagnostic.text.now
     ++ help_text (violation_place diagnostic.violation) diagnostic.mended)

@@ -2,18 +2,20 @@
 ghost use Rattle.std.specs.Prelude.{◌≡◌, ◌++◌, OnOk, replicate, string_bytes, take};
 ghost use Rattle.std.specs.List.{flat_map};
 ghost use Rattle.std.specs.Str.{chars};
-ghost use Rattle.uv_report.specs.Caret.{below, caret_lines, caret_text, help_line, help_text, padding, window_lines};
+ghost use Rattle.uv_report.specs.Caret.{below, caret_lines, caret_text, help_line, help_text, padding, shown_lines};
+ghost use Rattle.uv_report.specs.Caret.{shows_line, window_lines};
 
 use crate::column::shown_width;
 use crate::diagnostic::Diagnostic;
 use crate::escapes::{Escapes, push_escaped};
 use crate::gnu::push_gnu;
+use crate::line_violation::LineViolation;
 use crate::mended::Mended;
 use crate::window::{window, window_place};
 use std::alloc::{AllocError, Global};
 
-/// Pushes the line of `gnu`, what is shown of the line that it is about, the line of the caret, and `help: write TEXT`
-/// where there is a mended text.
+/// Pushes the line of `gnu`, what is shown of the line that it is about and the line of the caret where a text is
+/// carried, and `help: write TEXT` where there is a mended text.
 #[tactic(auto, unfolding(crate::specs::Caret::caret_text))]
 pub(crate) fn push_caret(
     alloc: Global,
@@ -24,9 +26,36 @@ pub(crate) fn push_caret(
 {
     let place = diagnostic.violation.place();
     push_gnu(alloc, text, diagnostic)?;
-    push_window(alloc, text, diagnostic.text, place)?;
+    push_shown(alloc, text, diagnostic.text, diagnostic.violation)?;
     push_help(alloc, text, place, diagnostic.mended)?;
     Ok(())
+}
+
+// Pushes what is shown of a line, and a caret below the place, where the text that is wrong is carried.
+fn push_shown(
+    alloc: Global,
+    text: &mut String,
+    line: &str,
+    violation: LineViolation,
+) -> Result<(), AllocError>
+    ensures { OnOk result (string_bytes text.new ≡ string_bytes text.old ++ shown_lines violation line.now) }
+{
+    if !shows_line(line, violation) {
+        return Ok(());
+    }
+    push_window(alloc, text, line, violation.place())
+}
+
+// Whether the text that is wrong is carried: one that is refused, also an empty one, or else what isn't empty.
+fn shows_line(line: &str, violation: LineViolation) -> bool
+    ensures { result ≡ shows_line violation line.now }
+{
+    match violation {
+        LineViolation::Refused(_) => true,
+        LineViolation::NotUtf8 | LineViolation::TooLong | LineViolation::NotLocated => {
+            !line.is_empty()
+        }
+    }
 }
 
 // Pushes what is shown of a line, and a caret below one of the line's places.
