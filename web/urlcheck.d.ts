@@ -187,7 +187,7 @@ export type MendKind = 'same' | 'escaped' | 'changed'
 /** The record that a valid text denotes. */
 export interface Resolved {
   valid: true
-  /** The record's text, as a browser shows it: ASCII alone. */
+  /** The record's text, as `href` of an engine's `URL` has it: ASCII alone. */
   text: string
   record: UrlRecord
 }
