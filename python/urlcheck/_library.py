@@ -2,6 +2,9 @@
 
 import ctypes
 import os
+import sys
+from types import FrameType
+from typing import Optional
 
 SIZE = ctypes.c_size_t
 NUMBER = ctypes.c_uint32
@@ -82,14 +85,45 @@ def _path() -> str:
     return next(filter(os.path.exists, files), NAME)
 
 
+PROGRAM = "urlcheck-documents"
+"""The program over this package."""
+
+
+def _is_asked_for(frame: Optional[FrameType]) -> bool:
+    """Whether Python loads the package to run the program: by its name, or as the module ``urlcheck.documents``, whose
+    package Python loads before the module itself."""
+    if [os.path.basename(word) for word in sys.argv[:1]] == [PROGRAM]:
+        return True
+    while frame is not None:
+        if frame.f_code.co_name == "_run_module_as_main":
+            return bool(frame.f_locals.get("mod_name") == "urlcheck.documents")
+        frame = frame.f_back
+    return False
+
+
+def _unloaded(why: str) -> BaseException:
+    """What is raised where no library fits: an ``ImportError``, and for the program an end with status 2, once its
+    standard error says why."""
+    said = (
+        "the shared library {}; the wheel of a release has it, './build-library DIR' makes it in a checkout, and "
+        "URLCHECK_LIBRARY may name its file"
+    ).format(why)
+    if not _is_asked_for(sys._getframe()):
+        return ImportError(said)
+    # (there is no standard error where it was closed before the start, and it may take nothing)
+    try:
+        if sys.stderr is not None:
+            print("{}: {}".format(PROGRAM, said), file=sys.stderr, flush=True)
+    except OSError:
+        os.dup2(os.open(os.devnull, os.O_WRONLY), 2)
+    return SystemExit(2)
+
+
 def _opened() -> ctypes.CDLL:
-    """The library. Raises ``ImportError`` where it isn't found."""
     try:
         return ctypes.CDLL(_path())
     except OSError as error:
-        raise ImportError(
-            "the library for C isn't found: {}; the environment's URLCHECK_LIBRARY may name its file".format(error)
-        ) from None
+        raise _unloaded("can't be loaded: {}".format(error)) from None
 
 
 def _load() -> ctypes.CDLL:
@@ -116,7 +150,9 @@ def _load() -> ctypes.CDLL:
         ("urlcheck_rule_sentence", SIZE, [NUMBER] + out),
         ("urlcheck_version", NUMBER, []),
     ):
-        function = getattr(library, name)
+        function = getattr(library, name, None)
+        if function is None:
+            raise _unloaded("{} has no function {}".format(library._name, name))
         function.restype = result
         function.argtypes = words
     return library

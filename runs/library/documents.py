@@ -267,6 +267,38 @@ class Documents(unittest.TestCase):
             ran = subprocess.run(["bash", "-c", prelude + command], cwd=self.room, capture_output=True)
             self.assertEqual(ran.stdout.decode(), wanted, command)
 
+    def test_no_library(self):
+        """Where no shared library fits: a sentence on standard error and status 2, and of an import an error with it."""
+        self.write("text.so", "no library")
+        self.write("urlcheck-documents", "from urlcheck.documents import main\nmain()\n")
+        self.write("other.py", "import urlcheck\n")
+        remedy = ("; the wheel of a release has it, './build-library DIR' makes it in a checkout, and "
+                  "URLCHECK_LIBRARY may name its file\n")
+        opened = "can't be loaded: {}: cannot open shared object file: No such file or directory"
+        text = os.path.join(self.room, "text.so")
+        for library, why in (
+            ("/missing/liburlcheck.so.0", opened.format("/missing/liburlcheck.so.0")),
+            (text, "can't be loaded: {}: file too short".format(text)),
+            ("libc.so.6", "libc.so.6 has no function urlcheck_check"),
+        ):
+            given = dict(os.environ, URLCHECK_LIBRARY=library)
+            wanted = "the shared library " + why + remedy
+            for words in (["-m", "urlcheck.documents", "a.html"], ["-m", "urlcheck.documents"], ["urlcheck-documents"]):
+                with self.subTest(library=library, words=words):
+                    ran = subprocess.run([sys.executable, *words], cwd=self.room, env=given, capture_output=True)
+                    self.assertEqual((ran.returncode, ran.stdout), (2, b""))
+                    self.assertEqual(ran.stderr.decode(), "urlcheck-documents: " + wanted)
+            for words in (["-c", "import urlcheck"], ["-m", "other"]):
+                with self.subTest(library=library, words=words):
+                    ran = subprocess.run([sys.executable, *words], cwd=self.room, env=given, capture_output=True)
+                    self.assertEqual((ran.returncode, ran.stdout), (1, b""))
+                    self.assertTrue(ran.stderr.decode().endswith("\nImportError: " + wanted), ran.stderr)
+            for shut in ("2>&-", "2>/dev/full"):
+                with self.subTest(library=library, shut=shut):
+                    line = '"{}" -m urlcheck.documents a.html {}'.format(sys.executable, shut)
+                    ran = subprocess.run(["bash", "-c", line], cwd=self.room, env=given, capture_output=True)
+                    self.assertEqual((ran.returncode, ran.stdout, ran.stderr), (2, b"", b""))
+
     def test_full_output(self):
         self.write("a.html", "<a href=x>")
         with open("/dev/full", "wb") as full:
