@@ -153,7 +153,7 @@ done
 filters 2 '' "urlcheck: no kind is named 'sam'; the nearest is same\nurlcheck: the kinds: same escaped changed\nwords\n" \
     --only sam
 filters 2 '' "urlcheck: no kind is named ''\nurlcheck: the kinds: same escaped changed\nwords\n" --only ''
-of_lines='urlcheck: --only and --quiet are for the lines of the standard input, not for a TEXT\nwords\n'
+of_lines='urlcheck: --only and --quiet are for the lines of standard input, not for a TEXT\nwords\n'
 filters 2 '' "$of_lines" --only same urn:a
 filters 2 '' "$of_lines" --quiet urn:a
 

@@ -53,8 +53,8 @@ expect 2 '' "urlcheck: argument 3 isn't UTF-8\nwords\n" check a $'b\xff' --base 
 expect 2 '' "urlcheck: argument 2 isn't UTF-8\nwords\n" vectors $'\xff'
 refused $'unexpected argument \'--\xef\xbf\xbd[2J\'' check $'--\e[2J' a
 refused $'unrecognized subcommand \'a\xef\xbf\xbd\'' $'a\a'
-shows "  2  the arguments, the base or the vector file are refused, or a file of lint can't be read" --help
-shows "  2  the arguments, the base or the vector file are refused, or a file of lint can't be read" -h
+shows "  2  the arguments, the base or the file of vectors are refused, or lint couldn't read a file" --help
+shows "  2  the arguments, the base or the file of vectors are refused, or lint couldn't read a file" -h
 shows "  urlcheck check 'http://h/a b'" help
 shows '  urlcheck check --base http://h/a/b ../x' check --help
 shows '  urlcheck links --base http://h/ < links.txt' help links
@@ -67,7 +67,7 @@ shows "urlcheck $(cat "$(dirname "$here")/VERSION")" --version
 shows '  1  the text is refused' check --help
 shows "  2  the arguments or the base are refused, or a file can't be read; the others are judged" lint --help
 shows "  1  a line isn't ok" help links
-shows '  1  a vector fails' vectors --help
+shows '  1  a case fails' vectors --help
 shows '  2  the arguments are refused, or no rule has the name' explain --help
 shows '      --profile <PROFILE>  standard, wide or parser; without it standard' links --help
 shows '  -q, --quiet              Leaves out the counts on standard error' lint --help

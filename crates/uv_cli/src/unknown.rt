@@ -70,7 +70,7 @@ const KIND: Noun = Noun {
 };
 
 // What is said where one text is to be mended as lines are.
-const OF_LINES: &str = "--only and --quiet are for the lines of the standard input, not for a TEXT";
+const OF_LINES: &str = "--only and --quiet are for the lines of standard input, not for a TEXT";
 
 /// What is reported before the last line where a job names what there is none of: the name, the nearest one, if one is
 /// near, and the names that there are; and where it asks of a text what is asked of lines.

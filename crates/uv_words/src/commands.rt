@@ -12,9 +12,9 @@ use std::alloc::{AllocError, Global};
 
 const STATUSES: &str = "Exit statuses:
   0  every text is as it should be, or help was asked for
-  1  a text is refused or can't be mended, a line isn't ok, or a vector fails
-  2  the arguments, the base or the vector file are refused, or a file of lint can't be read
-  3  memory ran out, or reading or writing failed
+  1  a text is refused or can't be mended, a line isn't ok, or a case fails
+  2  the arguments, the base or the file of vectors are refused, or lint couldn't read a file
+  3  out of memory, or reading or writing failed
 
 Example:
   urlcheck check 'http://h/a b'";
@@ -25,7 +25,7 @@ Exit statuses:
   0  the text is valid
   1  the text is refused
   2  the arguments or the base are refused
-  3  memory ran out, or the output failed
+  3  out of memory, or the output failed
 
 Example:
   urlcheck check --base http://h/a/b ../x";
@@ -37,7 +37,7 @@ Exit statuses:
   0  no line is refused
   1  a line is refused
   2  the arguments or the base are refused, or a file can't be read; the others are judged
-  3  memory ran out, a file has too many lines, or the output failed
+  3  out of memory, a file has too many lines, or the output failed
 
 Example:
   urlcheck lint --format caret links.txt";
@@ -48,7 +48,7 @@ Exit statuses:
   0  each line is ok
   1  a line isn't ok
   2  the arguments or the base are refused, or the second parser reads the base as another URL
-  3  memory ran out, the list is too long, or the input or the output failed
+  3  out of memory, the list is too long, or the input or the output failed
 
 Example:
   urlcheck links --base http://h/ < links.txt";
@@ -57,27 +57,26 @@ const MEND_NOTES: &str =
     "Prints `mended KIND` and the mended text, `valid`, or `none` and `refused PLACE RULE`.
 KIND is `same` where a second parser reads both texts as one URL, `escaped`
 where code points are percent-encoded and no more, else `changed`.
-Without TEXT it writes each line of the standard input with its end: mended
+Without TEXT it writes each line of standard input with its end: mended
 where there is a mended text, and else as it was.
 
 Exit statuses:
   0  the text is valid, or a mended text is, or so is each line
   1  no edit makes the text valid, or a line stays refused
   2  the arguments or the base are refused
-  3  memory ran out, or the input or the output failed
+  3  out of memory, or the input or the output failed
 
 Examples:
   urlcheck mend 'http://h/a b'
   urlcheck mend --only same < links.txt > links.new";
 
-const VECTORS_NOTES: &str =
-    "Prints `fail N` for each vector that fails, and at the end how many pass.
+const VECTORS_NOTES: &str = "Prints `fail N` for each case that fails, and at the end how many pass.
 
 Exit statuses:
-  0  each vector passes
-  1  a vector fails
+  0  each case passes
+  1  a case fails
   2  the arguments or the file are refused
-  3  memory ran out, the file can't be read, or the output failed
+  3  out of memory, the file can't be read, or the output failed
 
 Example:
   urlcheck vectors vectors/standard.json";
@@ -89,7 +88,7 @@ Without RULE it prints this of each rule.
 Exit statuses:
   0  the rule is explained, or each rule
   2  the arguments are refused, or no rule has the name
-  3  memory ran out, or the output failed
+  3  out of memory, or the output failed
 
 Example:
   urlcheck explain host-missing";
@@ -143,7 +142,7 @@ fn bare<'a>(alloc: Global, name: &'a str, about: &'a str, notes: &'a str) -> Com
 fn check<'a>(alloc: Global) -> Result<Command<'a>, AllocError>
     ensures { IfOk result (IsApp check_command) }
 {
-    let command = bare(alloc, "check", "Checks one text", CHECK_NOTES);
+    let command = bare(alloc, "check", "Judges one text", CHECK_NOTES);
     let command = and_arg(Ok(command), base(alloc));
     let command = and_arg(command, all(alloc));
     let command = and_arg(command, profile(alloc));
@@ -154,7 +153,7 @@ fn check<'a>(alloc: Global) -> Result<Command<'a>, AllocError>
 fn lint<'a>(alloc: Global) -> Result<Command<'a>, AllocError>
     ensures { IfOk result (IsApp lint_command) }
 {
-    let about = "Says what is wrong with the lines of files";
+    let about = "Judges each line of files";
     let command = bare(alloc, "lint", about, LINT_NOTES);
     let command = and_arg(Ok(command), base(alloc));
     let command = and_arg(command, all(alloc));
@@ -170,7 +169,7 @@ fn lint<'a>(alloc: Global) -> Result<Command<'a>, AllocError>
 fn links<'a>(alloc: Global) -> Result<Command<'a>, AllocError>
     ensures { IfOk result (IsApp links_command) }
 {
-    let about = "Checks each line of the standard input";
+    let about = "Judges each line of standard input";
     let command = bare(alloc, "links", about, LINKS_NOTES);
     let command = and_arg(Ok(command), base(alloc));
     let command = and_arg(command, profile(alloc));
@@ -193,7 +192,7 @@ fn mend<'a>(alloc: Global) -> Result<Command<'a>, AllocError>
 fn vectors<'a>(alloc: Global) -> Result<Command<'a>, AllocError>
     ensures { IfOk result (IsApp vectors_command) }
 {
-    let about = "Runs the vectors of a file";
+    let about = "Runs the cases of a file of vectors";
     and_arg(
         Ok(bare(alloc, "vectors", about, VECTORS_NOTES)),
         file(alloc),
@@ -248,7 +247,7 @@ fn all<'a>(alloc: Global) -> Arg<'a>
     ensures rule { rule_of result ≡ flag_rule (codes "all") }
     ensures local { result.global ≡ false }
 {
-    let help = "Prints all that is wrong with a text, and not the first alone";
+    let help = "Prints all violations of a text, and not the least alone";
     flag(alloc, "all", help)
 }
 
@@ -314,7 +313,7 @@ fn files<'a>(alloc: Global) -> Arg<'a>
     Arg::new(alloc, "FILE")
         .required(true)
         .action(ArgAction::Append)
-        .help("A file of links, one a line; - is the standard input")
+        .help("A file of links, one a line; - is standard input")
 }
 
 fn text<'a>(alloc: Global) -> Arg<'a>
@@ -330,7 +329,7 @@ fn mended<'a>(alloc: Global) -> Arg<'a>
     ensures rule { rule_of result ≡ mended_rule }
     ensures local { result.global ≡ false }
 {
-    let help = "The text to mend; without it, the lines of the standard input are mended";
+    let help = "The text to mend; without it, the lines of standard input are mended";
     Arg::new(alloc, "TEXT").help(help)
 }
 
@@ -340,7 +339,7 @@ fn file<'a>(alloc: Global) -> Arg<'a>
 {
     Arg::new(alloc, "FILE")
         .required(true)
-        .help("The file of vectors, a JSON array")
+        .help("The file of vectors, a JSON array of cases")
 }
 
 fn name<'a>(alloc: Global) -> Arg<'a>

@@ -50,7 +50,7 @@ pub enum Job {
     Filter(FilterJob),
     /// To mend one text by `--only` or `--quiet`, which are of lists alone.
     FilterOfText,
-    /// To run the vectors of a file.
+    /// To run the cases of a file of vectors.
     Vectors {
         /// The file's name.
         file: String,
