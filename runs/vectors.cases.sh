@@ -88,24 +88,68 @@ malformed 1 '"base" has to be a string or null' '[{"input":"x","text":"x","base"
 malformed 1 '"profile" has to be "standard", "wide" or "parser"' '[{"input":"x","text":"x","profile":"Wide"}]' \
     '[{"input":"x","text":"x","profile":"silent"}]' \
     '[{"input":"x","text":"x","profile":null}]'
-malformed 1 'it may have "input", "base", "profile", "text", "place" and "rule" alone' \
-    '[{"input":"x","text":"x","comment":"x"}]'
+no_key='is no key of a case, which may have "input", "base", "profile", "text", "place" and "rule" alone'
+malformed 1 "\"comment\" $no_key" '[{"input":"x","text":"x","comment":"x"}]' '[{"comment":null}]' '[{"comment":1,"text":1}]'
 malformed 1 "$digits" '[{"input":"x","place":"0","rule":"no-scheme"}]' \
     '[{"input":"x","place":-0,"rule":"no-scheme"}]' \
     '[{"input":"x","place":0.0,"rule":"no-scheme"}]' \
     '[{"input":"x","place":1e0,"rule":"no-scheme"}]' \
     '[{"input":"x","place":18446744073709551616,"rule":"no-scheme"}]'
 
-# What is no JSON text: nothing at all, a text that is cut, a comma too many, two values, bytes that aren't UTF-8, a number
-# beyond floats, one that begins with 0, a byte order mark, a lone surrogate, arrays a million deep. And JSON texts that
-# are no array.
-for text in '' '[' '[{"input":"urn:a","text":"urn:a"}' '[1,]' '[][]' '[] []' '["\xff"]' '[1e999]' '[01]' '\xef\xbb\xbf[]' \
-    '["\\ud800"]'; do
-    vector_file "$text"
-    expect 2 '' 'vectors not json\n' vectors vectors.json
-done
+# A key that no case has: the first in the order of bytes, however it is spelt, one with a control, and one of 81 bytes,
+# of which 77 are shown. It is named before all else that is wrong with its value.
+malformed 3 "\"bass\" $no_key" '[{"input":"urn:a","text":"urn:a"},{"input":"x","place":0,"rule":"no-scheme"},{"input":"x","zoo":1,"bass":null,"text":"x"}]'
+malformed 1 "\"Input\" $no_key" '[{"Input":"x","text":"x"}]'
+malformed 1 "\"\" $no_key" '[{"input":"x","text":"x","":0}]'
+malformed 1 "\"a\\0357\\0277\\0275[2J\" $no_key" '[{"a\\u001b[2J":0}]'
+malformed 1 "\"$(printf 'k%.0s' {1..80})\" $no_key" "[{\"$(printf 'k%.0s' {1..80})\":0}]"
+malformed 1 "\"$(printf 'k%.0s' {1..77})...\" $no_key" "[{\"$(printf 'k%.0s' {1..81})\":0}]"
+
+# not_json LINE COLUMN WHY FILE.. : each of these files is no JSON, for this reason and at this place
+not_json() {
+    local place="line $1, column $2: $3" text
+    shift 3
+    for text in "$@"; do
+        vector_file "$text"
+        expect 2 '' "urlcheck: vectors.json: $place\\nvectors not json\\n" vectors vectors.json
+    done
+}
+
+# A text that is cut: the place is behind its last code point.
+cut='the file ends before its JSON does'
+not_json 1 1 "$cut" ''
+not_json 1 2 "$cut" '['
+not_json 2 1 "$cut" '\n' '[1,\n'
+not_json 1 34 "$cut" '[{"input":"urn:a","text":"urn:a"}'
+not_json 1 6 "$cut" '["abc' '{"a":' '["\xc3\xa9bc'
+
+# What can't be read: a comma or a value too many, a value or a colon too few, no name of JSON's, a number that begins with
+# 0, a byte order mark, a lone surrogate and a line feed in a string, and text behind the value. Columns are code points.
+unreadable="this can't be read as JSON"
+not_json 1 4 "$unreadable" '[1,]' '[] []' '[1 2]' '[1]]'
+not_json 1 3 "$unreadable" '[][]'
+not_json 1 2 "$unreadable" '[01]' '["\\ud800"]' '["a\nb"]' '[nul]' '{a:1}' '[.5]'
+not_json 1 1 "$unreadable" '\xef\xbb\xbf[]' 'x'
+not_json 2 21 "$unreadable" '[\n  {"input": "urn:a" "text": "urn:a"}\n]\n'
+not_json 3 9 "$unreadable" '[\n{"input":"x",\n "text" "urn:a"}]'
+not_json 1 16 "$unreadable" '[{"input":"\xc3\xa9\xe6\x97\xa5",}]' '[{"input":"x"} {"input":"y"}]'
+not_json 2 25 "$unreadable" '[\n{"input": "a\xc3\xa9", "text": x}\n]'
+not_json 3 2 "$unreadable" '[]\n\n x'
+
+# What isn't UTF-8 is named before all else, and a number beyond floats and arrays of which one is within 128 others by
+# what stands behind them.
+not_json 1 3 "this isn't UTF-8" '["\xff"]' '["\xff' '[[\xff[x'
+not_json 2 2 "this isn't UTF-8" '[\xc3\xa9\n"\xc3"]'
+not_json 1 7 "$unreadable" '[1e999]'
 head -c 1000000 /dev/zero | tr '\0' '[' >"$room/vectors.json"
-expect 2 '' 'vectors not json\n' vectors vectors.json
+expect 2 '' "urlcheck: vectors.json: line 1, column 129: $unreadable\\nvectors not json\\n" vectors vectors.json
+
+# The name of the file is shown as a terminal may have it.
+printf '[' >"$room/$(printf 'a\033b')"
+expect 2 '' "urlcheck: a\\0357\\0277\\0275b: line 1, column 2: $cut\\nvectors not json\\n" vectors "$(printf 'a\033b')"
+rm -f "$room/$(printf 'a\033b')"
+
+# JSON texts that are no array.
 for text in '{"input":"urn:a","text":"urn:a"}' '{}' null '"[]"'; do
     vector_file "$text"
     expect 2 '' 'vectors not an array\n' vectors vectors.json
@@ -161,4 +205,4 @@ vector_file '[]'
 (cd "$room" && "$program" vectors vectors.json) >/dev/full 2>"$room/err"
 ends_with 3 $? "${no_space}write\\n" 'vectors, into a full device'
 
-all_cases 82
+all_cases 112

@@ -21,8 +21,10 @@ use Rattle.uv_cli.specs.declared.ends.End.TheVariants.{Valid, Refused, Shown, Wo
 use Rattle.uv_cli.specs.declared.ends.End.TheVariants.{UnknownColumns, ColumnsRefused, UnknownProfile}
 use Rattle.uv_cli.specs.declared.ends.End.TheVariants.{UnknownKind, BaseRefused}
 use Rattle.uv_cli.specs.declared.ends.End.TheVariants.{Fault, Filtered, Linted, Stopped, Vectors, Unread}
+use Rattle.uv_vectors.specs.Ends.{vector_end}
 use Rattle.uv_vectors.specs.declared.ends.CasesEnd.{CasesEnd}
-use Rattle.uv_vectors.specs.declared.ends.CasesEnd.TheVariants as vectors
+use Rattle.uv_vectors.specs.declared.ends.VectorEnd.{VectorEnd}
+use Rattle.uv_vectors.specs.declared.ends.VectorEnd.TheVariants as vectors
 use Rattle.uv_cli.specs.declared.unread.FileFault.{FileFault}
 use Rattle.uv_cli.specs.declared.unread.FileFault.TheVariants as file
 use Rattle.uv_filter.specs.declared.fault.FilterFault.TheVariants as filter
@@ -46,7 +48,7 @@ end_of_list (Err fault) = Stopped fault
 
 -- the end of what a run over a vector file gave
 abbrev pub end_of_vectors : Result CasesEnd CliFault → End
-end_of_vectors (Ok end) = Vectors end
+end_of_vectors (Ok told) = Vectors (vector_end told)
 end_of_vectors (Err fault) = Fault fault
 
 -- the end of what an explanation gave
@@ -122,13 +124,13 @@ unfoldable pub malformed_text : ℕ → List ℕ
 malformed_text number = codes "vector " ++ (decimal number ++ codes " malformed\n")
 
 -- the line of a vector file that isn't run
-abbrev pub vectors_text : CasesEnd → List ℕ
+abbrev pub vectors_text : VectorEnd → List ℕ
 vectors_text vectors.AllPass = []
 vectors_text vectors.SomeFail = []
 vectors_text vectors.NotJson = codes "vectors not json\n"
 vectors_text vectors.NotArray = codes "vectors not an array\n"
 vectors_text vectors.TooLarge = codes "vectors too large\n"
-vectors_text (vectors.Malformed number fault) = malformed_text number
+vectors_text (vectors.Malformed number) = malformed_text number
 
 -- the last line on standard error, with the counts of a lint or a filter before it, or nothing
 abbrev pub error_text : End → List ℕ

@@ -13,6 +13,7 @@ use Rattle.uv_links.specs.Report.{ListSetting}
 use Rattle.uv_links.specs.Run.{Leaves, Reports, reads_failed, writes_failed}
 use Rattle.uv_second.specs.Second.{AgreesOnBase}
 use Rattle.uv_resolve.specs.Base.{IsBase, IsBaseRefused}
+use Rattle.uv_vectors.specs.Ends.{IsEndOf}
 use Rattle.uv_vectors.specs.Run.{WritesVectors, WritesVectorsPrefix, is_judged}
 use Rattle.uv_words.specs.declared.words.FilterJob.{FilterJob}
 use Rattle.uv_words.specs.declared.words.Job.{Job}
@@ -99,7 +100,8 @@ HasListed profile base end input rest old new =
 -- what a run over the bytes of a vector file has written
 abbrev pub HasRunVectors : List ℕ → End → Stream → Stream → Type 0
 HasRunVectors bytes (end.Vectors ended) old new =
-    WritesVectors bytes ended old.bytes new.bytes × (is_judged ended ≡ false → new ≡ old) × (new.failed ≡ old.failed)
+    IsEndOf ended (λ told. WritesVectors bytes told old.bytes new.bytes × (is_judged told ≡ false → new ≡ old))
+    × (new.failed ≡ old.failed)
 HasRunVectors bytes (end.Fault cli.Memory) old new = new ≡ old
 HasRunVectors bytes (end.Fault cli.Write) old new =
     WritesVectorsPrefix bytes old.bytes new.bytes × (new.failed ≡ old.failed + 1)

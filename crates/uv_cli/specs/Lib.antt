@@ -15,4 +15,5 @@ pub mod Filter
 pub mod Messages
 pub mod Program
 pub mod Reasons
+pub mod Unjudged
 pub mod Unread

@@ -15,10 +15,7 @@ use Rattle.uv_lint.specs.declared.fault.LintFault.{LintFault}
 use Rattle.uv_lint.specs.declared.fault.LintFault.TheVariants as lint
 use Rattle.uv_report.specs.Message.{message}
 use Rattle.uv_report.specs.declared.line_violation.LineViolation.TheVariants.{Refused}
-use Rattle.uv_vectors.specs.declared.case_fault.CaseFault.{CaseFault}
-use Rattle.uv_vectors.specs.declared.case_fault.CaseFault.TheVariants as malformed
 use Rattle.uv_vectors.specs.declared.fault.CliFault.TheVariants as cli
-use Rattle.uv_vectors.specs.declared.ends.CasesEnd.TheVariants as vectors
 use Rattle.uv_words.specs.declared.words.Job.{Job}
 use Rattle.uv_words.specs.declared.words.Job.TheVariants as job
 use Rattle.uv_cli.specs.Unread.{unread_text}
@@ -62,7 +59,7 @@ abbrev pub unwritten_text : Option ErrorKind → List ℕ
 unwritten_text kind =
     codes "urlcheck: standard output: can't be written" ++ (write_reason kind ++ codes "\n")
 
--- ---- bases and cases
+-- ---- bases
 
 -- the text of the job's base, where it has one
 abbrev pub base_of : Job → List ℕ
@@ -93,30 +90,11 @@ base_text profile base refusal =
     codes "urlcheck: the base is refused at place " ++ (decimal refusal.place ++ (codes ": "
     ++ (base_reason profile base refusal refusal.rule ++ codes "\n")))
 
--- why a value of a vector file is no case
-abbrev pub case_reason : CaseFault → List ℕ
-case_reason malformed.NoObject = codes "it is no object"
-case_reason malformed.UnknownKey =
-    codes "it may have \"input\", \"base\", \"profile\", \"text\", \"place\" and \"rule\" alone"
-case_reason malformed.Input = codes "\"input\" has to be a string"
-case_reason malformed.Base = codes "\"base\" has to be a string or null"
-case_reason malformed.Profile = codes "\"profile\" has to be \"standard\", \"wide\" or \"parser\""
-case_reason malformed.Expectation = codes "it has to have either \"text\" or both \"place\" and \"rule\""
-case_reason malformed.Text = codes "\"text\" has to be a string"
-case_reason malformed.Place = codes "\"place\" has to be a number in digits alone, below 2^64"
-case_reason malformed.Rule = codes "\"rule\" has to be the name of a rule"
-
--- the line of a value that is no case, by its number
-abbrev pub case_text : ℕ → CaseFault → List ℕ
-case_text number fault =
-    codes "urlcheck: vector " ++ (decimal number ++ (codes ": " ++ (case_reason fault ++ codes "\n")))
-
 -- ---- an end
 
 -- what is reported of an end of which no stream's failure is the reason
 abbrev pub text_without_stream : Profile → List ℕ → End → List ℕ
 text_without_stream profile base (end.BaseRefused refusal) = base_text profile base refusal
-text_without_stream profile base (end.Vectors (vectors.Malformed number fault)) = case_text number fault
 text_without_stream profile base other = []
 
 -- what is reported of a stream's failure

@@ -14,7 +14,7 @@ use uv_filter::FilterFault;
 use uv_links::{Counts, LinkFault};
 use uv_lint::LintFault;
 use uv_model::Refusal;
-use uv_vectors::{CasesEnd, CliFault};
+use uv_vectors::{CasesEnd, CliFault, VectorEnd};
 use uv_words::WordsFault;
 
 /// How a run of the program ends.
@@ -51,7 +51,7 @@ pub enum End {
     /// The run over a list stopped.
     Stopped(LinkFault),
     /// The run over a vector file ended so.
-    Vectors(CasesEnd),
+    Vectors(VectorEnd),
     /// The vector file can't be opened or read.
     Unread,
 }
@@ -85,12 +85,12 @@ pub(crate) fn end_of_list(gave: Result<Counts, LinkFault>) -> End
 }
 
 /// The end of what a run over a vector file gave.
-pub(crate) fn end_of_vectors(gave: Result<CasesEnd, CliFault>) -> End
-    ensures { result ≡ spec.end_of_vectors gave }
+pub(crate) fn end_of_vectors(gave: &Result<CasesEnd, CliFault>) -> End
+    ensures { result ≡ spec.end_of_vectors gave.now }
 {
     match gave {
-        Ok(end) => End::Vectors(end),
-        Err(why) => End::Fault(why),
+        Ok(end) => End::Vectors(end.without_reason()),
+        Err(why) => End::Fault(*why),
     }
 }
 
@@ -141,7 +141,7 @@ pub(crate) fn end_after_output(end: End, is_out: bool) -> End
         End::Filtered(filtered) if !is_out => {
             End::Filtered(filtered.with_fault(FilterFault::Write))
         }
-        End::Vectors(CasesEnd::AllPass | CasesEnd::SomeFail) if !is_out => {
+        End::Vectors(VectorEnd::AllPass | VectorEnd::SomeFail) if !is_out => {
             End::Fault(CliFault::Write)
         }
         end => end,
@@ -155,8 +155,8 @@ pub fn status(end: End) -> u8
     ensures { result ≡ status_of end }
 {
     match end {
-        End::Valid | End::Shown | End::Vectors(CasesEnd::AllPass) => 0,
-        End::Refused | End::Vectors(CasesEnd::SomeFail) => 1,
+        End::Valid | End::Shown | End::Vectors(VectorEnd::AllPass) => 0,
+        End::Refused | End::Vectors(VectorEnd::SomeFail) => 1,
         End::Linted(linted) => linted.status(),
         End::Filtered(filtered) => filtered.status(),
         End::Words | End::UnknownRule | End::UnknownFormat | End::UnknownProfile => 2,
@@ -191,15 +191,15 @@ pub fn error_line(alloc: Global, end: End) -> Result<String, AllocError>
     }
 }
 
-fn vectors_line(alloc: Global, end: CasesEnd) -> Result<String, AllocError>
+fn vectors_line(alloc: Global, end: VectorEnd) -> Result<String, AllocError>
     ensures { IfOk result (λ text. string_bytes text ≡ vectors_text end) }
 {
     match end {
-        CasesEnd::AllPass | CasesEnd::SomeFail => Ok(String::new(alloc)),
-        CasesEnd::NotJson => "vectors not json\n".to_string(alloc),
-        CasesEnd::NotArray => "vectors not an array\n".to_string(alloc),
-        CasesEnd::TooLarge => "vectors too large\n".to_string(alloc),
-        CasesEnd::Malformed(number, _) => malformed_line(alloc, number),
+        VectorEnd::AllPass | VectorEnd::SomeFail => Ok(String::new(alloc)),
+        VectorEnd::NotJson => "vectors not json\n".to_string(alloc),
+        VectorEnd::NotArray => "vectors not an array\n".to_string(alloc),
+        VectorEnd::TooLarge => "vectors too large\n".to_string(alloc),
+        VectorEnd::Malformed(number) => malformed_line(alloc, number),
     }
 }
 

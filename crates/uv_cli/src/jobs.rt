@@ -12,6 +12,7 @@ use crate::filter::filter_lines;
 use crate::links::list_links;
 use crate::lint::lint_files;
 use crate::mend::run_mend;
+use crate::unjudged::report_unjudged;
 use std::alloc::Global;
 use std::fs::Files;
 use uv_model::{Extent, Profile, Sink, Source};
@@ -56,7 +57,7 @@ pub fn run_job<R: Files + Eprint + AllocGlobal, I: Source, S: Sink>(
         } => mend_text(alloc, text.as_str(), base.as_deref(), *profile, out),
         Job::Filter(asked) => filter_asked(alloc, asked, input, out),
         Job::FilterOfText => End::Words,
-        Job::Vectors { .. } => vectors_run(alloc, file, out),
+        Job::Vectors { file: name } => vectors_run(rt, name.as_str(), file, out),
         Job::Explain { rule } => explained(alloc, rule.as_deref(), out),
         Job::UnknownProfile { .. } => End::UnknownProfile,
     }
@@ -139,14 +140,23 @@ fn explained<S: Sink>(alloc: Global, rule: Option<&str>, out: &mut S) -> End
     end_of_explanation(run_explain(alloc, rule, out))
 }
 
-// Runs the cases of a vector file.
-fn vectors_run<S: Sink>(alloc: Global, file: &[u8], out: &mut S) -> End
+// Runs the cases of a vector file with this name, or reports why they aren't judged.
+fn vectors_run<R: Eprint + AllocGlobal, S: Sink>(
+    rt: &R,
+    name: &str,
+    file: &[u8],
+    out: &mut S,
+) -> End
     requires { S.failed out.old < 2 ^ 64 - 1 }
     ensures { HasRunVectors file.now result
         (record { bytes = S.contents out.old; failed = S.failed out.old })
         (record { bytes = S.contents out.new; failed = S.failed out.new }) }
 {
-    end_of_vectors(run_cases(alloc, file, out))
+    let gave = run_cases(rt.alloc(), file, out);
+    if let Ok(end) = &gave {
+        report_unjudged(rt, name, end);
+    }
+    end_of_vectors(&gave)
 }
 
 // Checks a text, alone or against a base.

@@ -16,6 +16,7 @@ mod messages;
 pub mod program;
 mod reasons;
 mod report;
+mod unjudged;
 mod unknown;
 mod unread;
 mod watched;

@@ -1,6 +1,6 @@
 //! Why the program ends so, where its last line doesn't say it: what is reported on standard error before that line.
 ghost use Rattle.std.specs.Prelude.{◌≡◌, ◌++◌, IfOk, OnOk, string_bytes};
-ghost use Rattle.uv_cli.specs.Reasons.{base_of, base_reason, base_text, case_reason, case_text, failed_stream};
+ghost use Rattle.uv_cli.specs.Reasons.{base_of, base_reason, base_text, failed_stream};
 ghost use Rattle.uv_cli.specs.Reasons.{input_text, profile_of, reason_text, reasons_text, unwritten_text, write_reason};
 
 use crate::ends::End;
@@ -13,7 +13,7 @@ use uv_links::LinkFault;
 use uv_lint::LintFault;
 use uv_model::{Profile, Refusal, Rule};
 use uv_report::{LineViolation, push_message};
-use uv_vectors::{CaseFault, CasesEnd, CliFault};
+use uv_vectors::CliFault;
 use uv_words::Job;
 
 // How the standard input is named.
@@ -52,8 +52,8 @@ impl FailedStream {
     }
 }
 
-/// Reports why the program ends so: which streams failed, by the kinds of the last errors of both, why the base, whose
-/// text is given, is refused by the profile, or why a value is no case.
+/// Reports why the program ends so: which streams failed, by the kinds of the last errors of both, or why the base,
+/// whose text is given, is refused by the profile.
 pub(crate) fn report_reasons<R: Eprint + AllocGlobal>(
     rt: &R,
     profile: Profile,
@@ -135,9 +135,6 @@ fn reason_line(
         (Some(FailedStream::Output), _) => unwritten_line(alloc, written),
         (Some(FailedStream::Input), _) => unread_line(alloc, INPUT, read),
         (None, End::BaseRefused(refusal)) => base_line(alloc, profile, base, refusal),
-        (None, End::Vectors(CasesEnd::Malformed(number, fault))) => {
-            case_line(alloc, number, fault)
-        }
         (None, _) => Ok(String::new(alloc)),
     }
 }
@@ -161,37 +158,6 @@ fn write_reason(kind: Option<ErrorKind>) -> &'static str
         Some(ErrorKind::QuotaExceeded) => ": the quota is used up",
         Some(ErrorKind::FileTooLarge) => ": the file may not get larger",
         _ => "",
-    }
-}
-
-// The line of a value that is no case, by its number.
-fn case_line(alloc: Global, number: usize, fault: CaseFault) -> Result<String, AllocError>
-    ensures { IfOk result (λ line. string_bytes line ≡ case_text number fault) }
-{
-    let mut line = String::from_str(alloc, "urlcheck: vector ")?;
-    line.push_str(number.to_string(alloc)?.as_str())?;
-    line.push_str(": ")?;
-    line.push_str(case_reason(fault))?;
-    line.push_str("\n")?;
-    Ok(line)
-}
-
-// Why a value is no case.
-fn case_reason(fault: CaseFault) -> &'static str
-    ensures { result.now ≡ case_reason fault }
-{
-    match fault {
-        CaseFault::NoObject => "it is no object",
-        CaseFault::UnknownKey => {
-            "it may have \"input\", \"base\", \"profile\", \"text\", \"place\" and \"rule\" alone"
-        }
-        CaseFault::Input => "\"input\" has to be a string",
-        CaseFault::Base => "\"base\" has to be a string or null",
-        CaseFault::Profile => "\"profile\" has to be \"standard\", \"wide\" or \"parser\"",
-        CaseFault::Expectation => "it has to have either \"text\" or both \"place\" and \"rule\"",
-        CaseFault::Text => "\"text\" has to be a string",
-        CaseFault::Place => "\"place\" has to be a number in digits alone, below 2^64",
-        CaseFault::Rule => "\"rule\" has to be the name of a rule",
     }
 }
 

@@ -110,8 +110,8 @@ pub(crate) fn unread_line(alloc: Global, file: &str, why: Unread) -> Result<Stri
     Ok(line)
 }
 
-// Pushes a file's name, as a terminal may show it: an empty one in quotes.
-fn push_name(line: &mut String, file: &str) -> Result<(), AllocError>
+/// Pushes a file's name, as a terminal may show it: an empty one in quotes.
+pub(crate) fn push_name(line: &mut String, file: &str) -> Result<(), AllocError>
     ensures { OnOk result (string_bytes line.new ≡ string_bytes line.old ++ name_text file.now) }
 {
     if file.is_empty() {

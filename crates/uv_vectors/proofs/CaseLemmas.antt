@@ -1,16 +1,16 @@
 -- Members and items of a JSON value beside the lists that they come from.
 use Rattle.std.proofs.Common.{◌≡◌, ◌∙◌, ◌+◌, List, [], ◌∷◌, Some, None, ap, ap₂, sym, refl, map, nat_lt, cond, not}
-use Rattle.std.proofs.Common.{◌<◌, ℕ, Bool, String, Global, get_or, length, option_map, slice_get, string_bytes}
+use Rattle.std.proofs.Common.{◌<◌, ℕ, Bool, true, false, String, Global, get_or, length, option_map, slice_get}
+use Rattle.std.proofs.Common.{string_bytes}
 use Rattle.std.proofs.lemmas.List.{length-map}
 use Rattle.std.proofs.lemmas.Option.{slice_get-map, slice_get_read}
-use Rattle.std.specs.List.{list_all, position, prefix_len}
+use Rattle.std.specs.List.{find, list_all, position, prefix_len}
 use Rattle.std.specs.Prelude.{◌&&◌}
 use Rattle.serde_json.specs.Data.{Data}
 use Rattle.serde_json.specs.View.{items_of, items_view, members_view, view}
 use Rattle.serde_json.specs.declared.value.Value.{Value}
-use Rattle.uv_vectors.specs.Case.{has_known_keys, is_known, is_malformed, list_of}
-use Rattle.uv_vectors.specs.CaseFault.{case_fault}
-use Rattle.uv_vectors.specs.declared.case_fault.CaseFault.{CaseFault}
+use Rattle.uv_vectors.specs.Case.{has_known_keys, is_known, is_malformed, list_of, unknown_key}
+use Rattle.uv_vectors.specs.CaseFault.{Flaw, case_flaw}
 
 -- each key is known where the members have known keys alone
 pub known_keys-members_view : (entries : List (String Global × Value))
@@ -18,6 +18,21 @@ pub known_keys-members_view : (entries : List (String Global × Value))
 known_keys-members_view [] = refl
 known_keys-members_view (e ∷ entries) =
     ap (λ rest. is_known (string_bytes e.0) && rest) (known_keys-members_view entries)
+
+-- the first key that isn't known, as the code finds it
+pub unknown_key-members_view : (entries : List (String Global × Value))
+    → option_map string_bytes (find (λ key. not (is_known (string_bytes key))) (map (λ e. e.0) entries))
+    ≡ unknown_key (members_view entries)
+unknown_key-members_view [] = refl
+unknown_key-members_view (e ∷ entries) = at (is_known (string_bytes e.0)) refl (unknown_key-members_view entries)
+  where
+    at : (known : Bool) → is_known (string_bytes e.0) ≡ known
+        → option_map string_bytes (find (λ key. not (is_known (string_bytes key))) (map (λ e. e.0) entries))
+        ≡ unknown_key (members_view entries)
+        → option_map string_bytes (find (λ key. not (is_known (string_bytes key))) (map (λ e. e.0) (e ∷ entries)))
+        ≡ unknown_key (members_view (e ∷ entries))
+    at true is rest = rw is rest
+    at false is rest = rw is refl
 
 -- the values of an array made from a list are that list
 pub list_of-items_of : (values : List Data) → list_of (items_of values) ≡ values
@@ -43,12 +58,12 @@ position-items_view values =
     position-map is_malformed view values ∙ ap (position is_malformed) (sym (list_of-items_of (map view values)))
 
 -- why the value at a place is no case, as the code reads it
-pub fault-items_view : (values : List Value) (at : ℕ) (value : Value) (fault : CaseFault)
-    → at < length values → value ≡ get_or values at value → fault ≡ case_fault (view value)
-    → option_map case_fault (slice_get (list_of (items_view values)) at) ≡ Some fault
-fault-items_view values at value fault within here is =
-    ap (λ vs. option_map case_fault (slice_get vs at)) (list_of-items_of (map view values))
-    ∙ ap (option_map case_fault) (slice_get-map view values at)
-    ∙ ap (λ v. option_map case_fault (option_map view v))
+pub flaw-items_view : (values : List Value) (at : ℕ) (value : Value) (flaw : Flaw)
+    → at < length values → value ≡ get_or values at value → flaw ≡ case_flaw (view value)
+    → option_map case_flaw (slice_get (list_of (items_view values)) at) ≡ Some flaw
+flaw-items_view values at value flaw within here is =
+    ap (λ vs. option_map case_flaw (slice_get vs at)) (list_of-items_of (map view values))
+    ∙ ap (option_map case_flaw) (slice_get-map view values at)
+    ∙ ap (λ v. option_map case_flaw (option_map view v))
     (slice_get_read values (length values) at value refl within here)
     ∙ ap Some (sym is)

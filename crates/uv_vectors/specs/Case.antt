@@ -36,6 +36,11 @@ abbrev pub has_known_keys : Members → Bool
 has_known_keys no_members = true
 has_known_keys (member key value rest) = is_known key && has_known_keys rest
 
+-- the first other key
+abbrev pub unknown_key : Members → Option (List ℕ)
+unknown_key no_members = None
+unknown_key (member key value rest) = if is_known key then unknown_key rest else Some key
+
 -- ---- the values of the keys
 
 -- no base, where the key is absent or its value is null; or the string; no other value is allowed

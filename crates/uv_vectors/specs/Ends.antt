@@ -1,4 +1,4 @@
--- How a run over a vector file ends, with the reason of a value that is no case and without.
+-- How a run over a vector file ends, with the reason of what is no JSON text and of a value that is no case, and without.
 use Rattle.std.specs.Prelude.{◌≡◌}
 use Rattle.uv_vectors.specs.declared.ends.CasesEnd.{CasesEnd}
 use Rattle.uv_vectors.specs.declared.ends.CasesEnd.TheVariants as ends
@@ -9,7 +9,7 @@ use Rattle.uv_vectors.specs.declared.ends.VectorEnd.TheVariants.{AllPass, SomeFa
 abbrev pub vector_end : CasesEnd → VectorEnd
 vector_end ends.AllPass = AllPass
 vector_end ends.SomeFail = SomeFail
-vector_end ends.NotJson = NotJson
+vector_end (ends.NotJson fault) = NotJson
 vector_end ends.NotArray = NotArray
 vector_end ends.TooLarge = TooLarge
 vector_end (ends.Malformed number fault) = Malformed number

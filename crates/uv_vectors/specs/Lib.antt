@@ -2,6 +2,7 @@
 pub mod Case
 pub mod CaseFault
 pub mod Ends
+pub mod JsonFault
 pub mod Passes
 pub mod Report
 pub mod Views

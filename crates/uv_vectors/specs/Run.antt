@@ -10,7 +10,8 @@ use Rattle.uv_vectors.specs.declared.ends.CasesEnd.TheVariants as ends
 use Rattle.uv_vectors.specs.declared.run.Ending.{Ending}
 use Rattle.uv_vectors.specs.declared.run.Ending.TheVariants as ending
 use Rattle.uv_vectors.specs.Case.{is_malformed, list_of}
-use Rattle.uv_vectors.specs.CaseFault.{case_fault}
+use Rattle.uv_vectors.specs.CaseFault.{case_flaw, flaw_of}
+use Rattle.uv_vectors.specs.JsonFault.{IsFaultOf}
 use Rattle.uv_vectors.specs.declared.case_fault.CaseFault.{CaseFault}
 use Rattle.uv_vectors.specs.Report.{IsReportOn}
 
@@ -39,7 +40,7 @@ HasArray value P = (items : Items) × (as_array value ≡ Some items) × P (list
 abbrev pub IsFirstMalformed : ℕ → CaseFault → List Data → Type 0
 IsFirstMalformed number fault values =
     (at : ℕ) × (position is_malformed values ≡ Some at) × (number ≡ at + 1)
-    × (option_map case_fault (slice_get values at) ≡ Some fault)
+    × (option_map case_flaw (slice_get values at) ≡ Some (flaw_of fault))
 
 -- all values are cases, this is the report on them, and a run that writes it ends so
 pub record IsReport (values : List Data) (end : CasesEnd) (text : List ℕ) : Type 0 where
@@ -52,11 +53,12 @@ EndsValueUnjudged value ends.NotArray = as_array value ≡ None
 EndsValueUnjudged value (ends.Malformed number fault) = HasArray value (IsFirstMalformed number fault)
 EndsValueUnjudged value _ = ⊥
 
--- A run that judges no case of the bytes ends so: there are too many; else they are no JSON; else no array; else a
--- value of it is no case.
+-- A run that judges no case of the bytes ends so: there are too many; else they are no JSON, for this reason; else no
+-- array; else a value of it is no case.
 abbrev pub EndsUnjudged : List ℕ → CasesEnd → Type 0
 EndsUnjudged bytes ends.TooLarge = most_bytes < length bytes
-EndsUnjudged bytes ends.NotJson = (length bytes ≤ most_bytes) × ((value : Data) → IsJson bytes value → ⊥)
+EndsUnjudged bytes (ends.NotJson fault) =
+    (length bytes ≤ most_bytes) × ((value : Data) → IsJson bytes value → ⊥) × IsFaultOf bytes fault
 EndsUnjudged bytes end = HasValue bytes (λ value. EndsValueUnjudged value end)
 
 -- a run over the value ends so

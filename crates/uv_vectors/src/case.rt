@@ -1,13 +1,13 @@
 //! One case of a vector file.
-ghost use Rattle.std.specs.Prelude.{◌≡◌, Bool, Decides, IfOk, List, Option, chars, option_copied, option_map};
-ghost use Rattle.std.specs.Prelude.{string_bytes};
+ghost use Rattle.std.specs.Prelude.{◌≡◌, Bool, Decides, IfOk, List, Option, chars, find, not, option_copied};
+ghost use Rattle.std.specs.Prelude.{option_map, string_bytes};
 ghost use Rattle.std.specs.BTreeMap.{keys};
 ghost use Rattle.std.specs.List.{list_all};
 ghost use Rattle.serde_json.specs.Data.{Data};
 ghost use Rattle.serde_json.specs.View.{members_view, view};
 ghost use Rattle.uv_grammar.specs.Verdict.{IsRefused};
 ghost use Rattle.uv_resolve.specs.Resolve.{DenotesText};
-ghost use Rattle.uv_vectors.specs.Case.{Expectation, Vector, base_of, expected_of, has_known_keys, is_known};
+ghost use Rattle.uv_vectors.specs.Case.{Expectation, Vector, base_of, expected_of, has_known_keys, is_known, unknown_key};
 ghost use Rattle.uv_vectors.specs.Case.{profile_of, refusal_of, vector_of};
 ghost use Rattle.uv_vectors.specs.Passes.{IsAsExpected, Judges, Passes};
 ghost use Rattle.uv_vectors.specs.Views.{expected_view, value_view};
@@ -158,8 +158,25 @@ fn is_known_key(key: &str) -> bool
     )
 }
 
-/// Whether each key is one that a case may have.
-pub(crate) fn has_only_known_keys(members: &Map<String, Value>) -> bool
+/// The first key that no case has, where there is one.
+pub(crate) fn unknown_key(members: &Map<String, Value>) -> Option<&str>
+    ensures { option_copied result ≡ unknown_key (members_view members.now.entries) }
+{
+    match unknown_name(members) {
+        Some(key) => Some(key.as_str()),
+        None => None,
+    }
+}
+
+fn unknown_name(members: &Map<String, Value>) -> Option<&String>
+    ensures { option_map (λ key. key.now) result
+        ≡ find (λ key. not (is_known (string_bytes key))) (keys members.now) }
+{
+    members.keys().find(|key| !is_known_key(key.as_str()))
+}
+
+// Whether each key is one that a case may have.
+fn has_only_known_keys(members: &Map<String, Value>) -> bool
     ensures { result ≡ has_known_keys (members_view members.now.entries) }
 {
     all_keys_known(members)

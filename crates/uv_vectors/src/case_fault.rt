@@ -1,21 +1,22 @@
 //! Why a value of a vector file is no case.
-ghost use Rattle.std.specs.Prelude.{◌≡◌, ◌<◌, Some, is_some, length, option_and_then, option_map, slice_get};
+ghost use Rattle.std.specs.Prelude.{◌≡◌, ◌<◌, IfOk, Some, is_some, length, option_and_then, option_map, slice_get};
 ghost use Rattle.serde_json.specs.Find.{as_str};
 ghost use Rattle.serde_json.specs.View.{items_view, view};
 ghost use Rattle.uv_vectors.specs.Case.{list_of};
-ghost use Rattle.uv_vectors.specs.CaseFault.{case_fault, expected_fault};
+ghost use Rattle.uv_vectors.specs.CaseFault.{case_flaw, expected_flaw, flaw_of, value_flaw};
 ghost use Rattle.uv_vectors.specs.Views.{value_view};
 
-use crate::case::{base_in, has_only_known_keys, profile_in};
+use crate::case::{base_in, profile_in, unknown_key};
 use serde_json::Value;
+use std::alloc::{AllocError, Global};
 
 /// Why a value of a vector file is no case: the first of these that fits.
-#[derive(Clone, Copy, PartialEq, Eq)]
+#[derive(Debug, Drop, PartialEq, Eq)]
 pub enum CaseFault {
     /// It is no object.
     NoObject,
-    /// It has a key that no case has.
-    UnknownKey,
+    /// It has this key, which no case has: the first of these in the order of their bytes.
+    UnknownKey(String),
     /// `input` is absent, or no string.
     Input,
     /// `base` is neither a string nor null.
@@ -33,39 +34,49 @@ pub enum CaseFault {
 }
 
 impl CaseFault {
-    /// Why a value that is no case is none.
-    pub(crate) fn of(value: &Value) -> CaseFault
-        ensures { result ≡ case_fault (view value.now) }
+    /// Why a value that is no case is none. The error is out of memory.
+    pub(crate) fn of(alloc: Global, value: &Value) -> Result<CaseFault, AllocError>
+        ensures { IfOk result (λ fault. flaw_of fault ≡ case_flaw (view value.now)) }
     {
         let Some(members) = value.as_object() else {
-            return CaseFault::NoObject;
+            return Ok(CaseFault::NoObject);
         };
-        if !has_only_known_keys(members) {
-            CaseFault::UnknownKey
-        } else if !is_string(value.get("input")) {
-            CaseFault::Input
-        } else if base_in(value.get("base")).is_none() {
-            CaseFault::Base
-        } else if profile_in(value.get("profile")).is_none() {
-            CaseFault::Profile
-        } else {
-            expected_fault(value.get("text"), value.get("place"), value.get("rule"))
+        match unknown_key(members) {
+            Some(key) => Ok(CaseFault::UnknownKey(String::from_str(alloc, key)?)),
+            None => Ok(value_fault(value)),
         }
     }
 }
 
-/// Why the value at a place is none, where it is no case.
-pub(crate) fn fault_at(values: &[Value], at: usize) -> CaseFault
+/// Why the value at a place is none, where it is no case. The error is out of memory.
+pub(crate) fn fault_at(alloc: Global, values: &[Value], at: usize) -> Result<CaseFault, AllocError>
     requires { at < length values.now }
-    ensures { option_map case_fault (slice_get (list_of (items_view values.now)) at) ≡ Some result }
+    ensures { IfOk result (λ fault.
+        option_map case_flaw (slice_get (list_of (items_view values.now)) at) ≡ Some (flaw_of fault)) }
 {
-    CaseFault::of(&values[at])
+    let fault = CaseFault::of(alloc, &values[at])?;
+    Ok(fault)
+}
+
+// Why a value that has no other key than those of a case is none.
+fn value_fault(value: &Value) -> CaseFault
+    ensures { flaw_of result ≡ value_flaw (view value.now) }
+{
+    if !is_string(value.get("input")) {
+        CaseFault::Input
+    } else if base_in(value.get("base")).is_none() {
+        CaseFault::Base
+    } else if profile_in(value.get("profile")).is_none() {
+        CaseFault::Profile
+    } else {
+        expected_fault(value.get("text"), value.get("place"), value.get("rule"))
+    }
 }
 
 // Why these values say nothing that is expected.
 fn expected_fault(text: Option<&Value>, place: Option<&Value>, rule: Option<&Value>) -> CaseFault
-    ensures { result
-        ≡ expected_fault (value_view text.entry) (value_view place.entry) (value_view rule.entry) }
+    ensures { flaw_of result
+        ≡ expected_flaw (value_view text.entry) (value_view place.entry) (value_view rule.entry) }
 {
     match (text, place, rule) {
         (Some(_), None, None) => CaseFault::Text,

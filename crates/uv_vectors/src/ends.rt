@@ -3,6 +3,7 @@ ghost use Rattle.std.specs.Prelude.{◌≡◌};
 ghost use Rattle.uv_vectors.specs.Ends.{vector_end};
 
 use crate::case_fault::CaseFault;
+use crate::json_fault::JsonFault;
 
 /// How a run over a vector file ends. Where more than one end fits, it is the first of `TooLarge`, `NotJson`,
 /// `NotArray` and `Malformed`, and of those nothing is written.
@@ -22,15 +23,15 @@ pub enum VectorEnd {
     Malformed(usize),
 }
 
-/// The same, with why a value is no case.
-#[derive(Clone, Copy, PartialEq, Eq)]
+/// The same, with why the bytes are no JSON text, or a value is no case.
+#[derive(Debug, Drop, PartialEq, Eq)]
 pub enum CasesEnd {
     /// Every case passes, and the report was written.
     AllPass,
     /// A case fails, and the report was written.
     SomeFail,
-    /// The bytes are no JSON text.
-    NotJson,
+    /// The bytes are no JSON text, for this reason.
+    NotJson(JsonFault),
     /// The JSON value is no array.
     NotArray,
     /// There are more than `MOST_BYTES` bytes.
@@ -41,16 +42,16 @@ pub enum CasesEnd {
 
 impl CasesEnd {
     /// The end alone.
-    pub fn without_reason(self) -> VectorEnd
-        ensures { result ≡ vector_end self }
+    pub fn without_reason(&self) -> VectorEnd
+        ensures { result ≡ vector_end self.now }
     {
         match self {
             CasesEnd::AllPass => VectorEnd::AllPass,
             CasesEnd::SomeFail => VectorEnd::SomeFail,
-            CasesEnd::NotJson => VectorEnd::NotJson,
+            CasesEnd::NotJson(_) => VectorEnd::NotJson,
             CasesEnd::NotArray => VectorEnd::NotArray,
             CasesEnd::TooLarge => VectorEnd::TooLarge,
-            CasesEnd::Malformed(number, _) => VectorEnd::Malformed(number),
+            CasesEnd::Malformed(number, _) => VectorEnd::Malformed(*number),
         }
     }
 }

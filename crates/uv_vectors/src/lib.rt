@@ -5,10 +5,12 @@ mod case;
 mod case_fault;
 mod ends;
 mod fault;
+mod json_fault;
 mod report;
 mod run;
 
 pub use case_fault::CaseFault;
 pub use ends::{CasesEnd, VectorEnd};
 pub use fault::CliFault;
+pub use json_fault::{FilePlace, JsonFault};
 pub use run::{MOST_BYTES, run_cases, run_vectors};

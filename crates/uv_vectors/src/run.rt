@@ -10,6 +10,7 @@ use crate::case::VectorCase;
 use crate::case_fault::fault_at;
 use crate::ends::{CasesEnd, VectorEnd};
 use crate::fault::CliFault;
+use crate::json_fault::JsonFault;
 use crate::report::report_on;
 use serde_json::Value;
 use std::alloc::{AllocError, Global};
@@ -48,7 +49,7 @@ pub fn run_vectors<S: Sink>(alloc: Global, bytes: &[u8], out: &mut S) -> Result<
     }
 }
 
-/// The same, and where a value is no case, why it is none.
+/// The same, and why the bytes are no JSON text, or a value is no case.
 pub fn run_cases<S: Sink>(alloc: Global, bytes: &[u8], out: &mut S) -> Result<CasesEnd, CliFault>
     requires { S.failed out.old < 2 ^ 64 - 1 }
     ensures written { IfOk result (λ end.
@@ -79,7 +80,10 @@ fn ending_of_bytes(alloc: Global, bytes: &[u8]) -> Result<Ending, AllocError>
     match Value::from_slice(alloc, bytes) {
         Ok(value) => ending_of_value(alloc, &value),
         Err(error) if error.is_memory() => Err(AllocError),
-        Err(_) => Ok(Ending::Unjudged(CasesEnd::NotJson)),
+        Err(error) => {
+            let fault = JsonFault::of(bytes, &error);
+            Ok(Ending::Unjudged(CasesEnd::NotJson(fault)))
+        }
     }
 }
 
@@ -91,7 +95,7 @@ fn ending_of_value(alloc: Global, value: &Value) -> Result<Ending, AllocError>
         return Ok(Ending::Unjudged(CasesEnd::NotArray));
     };
     if let Some(at) = first_malformed(values.as_slice()) {
-        let fault = fault_at(values.as_slice(), at);
+        let fault = fault_at(alloc, values.as_slice(), at)?;
         return Ok(Ending::Unjudged(CasesEnd::Malformed(at + 1, fault)));
     }
     let (end, text) = report_on(alloc, values.as_slice())?;

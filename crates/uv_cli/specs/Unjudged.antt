@@ -1,0 +1,72 @@
+-- Why the cases of a file of vectors aren't judged: what is reported on standard error before the last line.
+use Rattle.std.specs.Prelude.{ℕ, List, [], ◌++◌, codes, decimal}
+use Rattle.std.specs.Fmt.Cut.{cut_to}
+use Rattle.uv_report.specs.Escapes.{shown_text}
+use Rattle.uv_vectors.specs.CaseFault.{Flaw, no_object, key, input, base, profile, expectation, text, place, rule, flaw_of}
+use Rattle.uv_vectors.specs.declared.ends.CasesEnd.{CasesEnd}
+use Rattle.uv_vectors.specs.declared.ends.CasesEnd.TheVariants as ends
+use Rattle.uv_vectors.specs.declared.json_fault.FilePlace.{FilePlace}
+use Rattle.uv_vectors.specs.declared.json_fault.JsonFault.{JsonFault}
+use Rattle.uv_vectors.specs.declared.json_fault.JsonFault.TheVariants.{NotUtf8, CutShort, Unreadable}
+use Rattle.uv_cli.specs.Unread.{name_text}
+
+-- ---- a file that is no JSON
+
+-- where a file is no JSON
+abbrev pub fault_place : JsonFault → FilePlace
+fault_place (NotUtf8 at) = at
+fault_place (CutShort at) = at
+fault_place (Unreadable at) = at
+
+-- why it is none
+abbrev pub json_reason : JsonFault → List ℕ
+json_reason (NotUtf8 at) = codes "this isn't UTF-8"
+json_reason (CutShort at) = codes "the file ends before its JSON does"
+json_reason (Unreadable at) = codes "this can't be read as JSON"
+
+-- a line and a column
+abbrev pub place_text : FilePlace → List ℕ
+place_text at = codes "line " ++ (decimal at.line ++ (codes ", column " ++ decimal at.column))
+
+-- the line of a file that is no JSON
+abbrev pub json_text : List ℕ → JsonFault → List ℕ
+json_text file fault =
+    codes "urlcheck: " ++ (name_text file ++ (codes ": " ++ (place_text (fault_place fault) ++ (codes ": "
+    ++ (json_reason fault ++ codes "\n")))))
+
+-- ---- a value that is no case
+
+-- a key that no case has, as a terminal may show it: of a long one the first bytes
+abbrev pub key_text : List ℕ → List ℕ
+key_text other = shown_text (cut_to 80 other)
+
+-- what is said of a key that no case has
+abbrev pub unknown_key_text : List ℕ → List ℕ
+unknown_key_text other =
+    codes "\"" ++ (key_text other
+    ++ codes "\" is no key of a case, which may have \"input\", \"base\", \"profile\", \"text\", \"place\" and \"rule\" alone")
+
+-- why a value of a vector file is no case
+abbrev pub case_reason : Flaw → List ℕ
+case_reason no_object = codes "it is no object"
+case_reason (key other) = unknown_key_text other
+case_reason input = codes "\"input\" has to be a string"
+case_reason base = codes "\"base\" has to be a string or null"
+case_reason profile = codes "\"profile\" has to be \"standard\", \"wide\" or \"parser\""
+case_reason expectation = codes "it has to have either \"text\" or both \"place\" and \"rule\""
+case_reason text = codes "\"text\" has to be a string"
+case_reason place = codes "\"place\" has to be a number in digits alone, below 2^64"
+case_reason rule = codes "\"rule\" has to be the name of a rule"
+
+-- the line of a value that is no case, by its number
+abbrev pub case_text : ℕ → Flaw → List ℕ
+case_text number flaw =
+    codes "urlcheck: vector " ++ (decimal number ++ (codes ": " ++ (case_reason flaw ++ codes "\n")))
+
+-- ---- an end
+
+-- what is reported of how a run over the file with this name ended
+abbrev pub unjudged_text : List ℕ → CasesEnd → List ℕ
+unjudged_text file (ends.NotJson fault) = json_text file fault
+unjudged_text file (ends.Malformed number fault) = case_text number (flaw_of fault)
+unjudged_text file other = []
