@@ -42,7 +42,12 @@ expect 2 '' "urlcheck: a value is required for '--profile <PROFILE>' but none wa
     check --profile
 refused "'b'" check -- --base b t
 refused "'chek'" chek urn:a
-refused "'x'" links x
+no_file='urlcheck: links reads standard input, and takes no file: urlcheck links <FILE'
+usage="urlcheck: Usage: urlcheck links [OPTIONS]\nurlcheck: For more information, try '--help'.\n"
+expect 2 '' "urlcheck: unexpected argument 'x' found\n$usage$no_file\nwords\n" links x
+expect 2 '' "urlcheck: unexpected argument 'links.txt' found\n$usage$no_file\nwords\n" links --base http://h/ links.txt
+expect 2 '' "urlcheck: unexpected argument '--all' found\n$usage$no_file\nwords\n" links --all links.txt
+expect 2 '' "urlcheck: unexpected argument '--all' found\n$usage""words\n" links --all
 refused "'--format'" mend --format gnu
 refused "'b'" mend a b
 refused '<FILE>' vectors
@@ -88,6 +93,8 @@ profiles='urlcheck: the profiles: standard wide parser\nwords\n'
 expect 2 '' "urlcheck: no profile is named 'wyde'; the nearest is wide\n$profiles" check --profile wyde urn:a
 expect 2 '' "urlcheck: no profile is named 'WIDE'; the nearest is wide\n$profiles" links --profile WIDE --base 'a b'
 expect 2 '' "urlcheck: no profile is named 'STANDRAD'; the nearest is standard\n$profiles" check --profile STANDRAD urn:a
+expect 2 '' "urlcheck: no profile is named 'wdie'; the nearest is wide\n$profiles" check --profile wdie urn:a
+expect 2 '' "urlcheck: no profile is named 'wdei'\n$profiles" check --profile wdei urn:a
 expect 2 '' "urlcheck: no profile is named '\0357\0277\0275x'\n$profiles" check --profile $'\ex' urn:a
 expect 2 '' "urlcheck: no profile is named 'Parse'; the nearest is parser\n$profiles" mend --profile Parse urn:a
 expect 2 '' "urlcheck: no profile is named 'browser'\n$profiles" lint --profile browser missing
@@ -96,6 +103,18 @@ both='urlcheck: --wide stands for --profile wide: only one of them may be given\
 expect 2 '' "$both" check --wide --profile wide urn:a
 expect 2 '' "$both" links --profile standard --wide
 expect 2 '' "$both" check --wide --profile parser urn:a
+
+# A text that is `-` alone is no standard input: where it is refused, a hint says so.
+of_check='urlcheck: - is the text here; lint - and links read standard input\n'
+of_mend='urlcheck: - is the text here; mend without a TEXT reads standard input\n'
+expect 1 'refused 0 no-scheme\n' "$of_check" check -
+expect 1 'refused 0 no-scheme\n' "$of_check" check --all --wide -- -
+expect 1 'none\nrefused 0 no-scheme\n' "$of_mend" mend -
+expect 0 'valid\nscheme http\nhost domain h\nsegment -\n' '' check --base http://h/ -
+expect 0 'valid\n' '' mend --base http://h/ -
+expect 1 'refused 0 no-scheme\n' '' check -- --
+expect 1 'none\nrefused 0 no-scheme\n' '' mend -- -x
+expect 2 '' "$(no_base 0 no-scheme 'it has no scheme')" check --base - -
 
 # The text and the base are taken as they are given.
 expect 1 'refused 0 no-scheme\n' '' check ''
@@ -193,4 +212,4 @@ expect 0 'valid\nscheme file\nhost domain h\nsegment C:\nsegment x\n' '' check -
 expect 0 'valid\nscheme urn\nopaque a b\nfragment f\n' '' check --profile parser --base 'urn:a b' '#f'
 expect 2 '' "$(no_base 5 code-point 'U+0020 SPACE may not stand in a URL')" check --wide --base 'urn:a b' '#f'
 expect 2 '' "$(no_base 7 host-number 'the host that begins here ends in a number, and is no IPv4 address')" check --profile parser --base http://256/ x
-all_cases 164
+all_cases 177

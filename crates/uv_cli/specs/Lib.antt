@@ -6,6 +6,7 @@ pub mod Stream
 pub mod Ends
 pub mod Explain
 pub mod Flushed
+pub mod Hints
 pub mod Jobs
 pub mod Lint
 pub mod Linted

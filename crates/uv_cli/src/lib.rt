@@ -7,6 +7,7 @@ mod ends;
 mod explain;
 mod filter;
 mod filtered;
+mod hints;
 mod jobs;
 mod links;
 mod lint;

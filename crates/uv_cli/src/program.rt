@@ -8,6 +8,7 @@ ghost use Rattle.uv_cli.specs.Program.{HasAnswered, HasEndedJob, HasFile, HasRun
 
 use crate::arguments::{OwnArguments, refused, words_of};
 use crate::ends::{End, end_after_output, end_without_file, end_without_job, error_line, status};
+use crate::hints::{job_hint, words_hint};
 use crate::jobs::run_job;
 use crate::messages::{message_line, message_lines, say};
 use crate::reasons::{base_of, profile_of, report_reasons};
@@ -62,12 +63,13 @@ fn outcome<R: Env + Files + Input + Print + Eprint + AllocGlobal>(
     if let Some(said) = refused(words.as_slice(), job) {
         return Ok(refusal(rt, said));
     }
-    Ok(answered(rt, &asked))
+    Ok(answered(rt, texts.as_slice(), &asked))
 }
 
-// Does what the arguments ask for, or says why there is nothing to do.
+// Does what the arguments, which are these words, ask for, or says why there is nothing to do.
 fn answered<R: Files + Input + Print + Eprint + AllocGlobal>(
     rt: &R,
+    words: &[&str],
     asked: &Result<Option<Job>, WordsFault>,
 ) -> Ended
     ensures { HasAnswered asked.now result }
@@ -75,7 +77,7 @@ fn answered<R: Files + Input + Print + Eprint + AllocGlobal>(
     match asked {
         Ok(Some(job)) => done(rt, job),
         Ok(None) => refusal(rt, NO_JOB),
-        Err(fault) => shown(rt, fault),
+        Err(fault) => shown(rt, words, fault),
     }
 }
 
@@ -111,6 +113,7 @@ fn done<R: Files + Input + Print + Eprint + AllocGlobal>(rt: &R, job: &Job) -> E
         let read = input.into_reader().fault();
         let profile = profile_of(job);
         report_reasons(rt, profile, base_of(job), ended.end, read, out.fault());
+        say(rt, job_hint(rt.alloc(), job, ended.end));
     }
     ended
 }
@@ -170,8 +173,9 @@ fn is_closed_by(fault: Option<ErrorKind>) -> bool
     matches!(fault, Some(ErrorKind::BrokenPipe))
 }
 
-// Shows what the reader of the arguments says: help on standard output, a refusal on standard error.
-fn shown<R: Print + Eprint + AllocGlobal>(rt: &R, fault: &WordsFault) -> Ended
+// Shows what the reader of the arguments, which are these words, says: help on standard output, a refusal on standard
+// error.
+fn shown<R: Print + Eprint + AllocGlobal>(rt: &R, words: &[&str], fault: &WordsFault) -> Ended
     ensures { HasShown fault.now result }
 {
     let end = end_without_job(fault);
@@ -182,6 +186,9 @@ fn shown<R: Print + Eprint + AllocGlobal>(rt: &R, fault: &WordsFault) -> Ended
         return printed(rt, end, error.print(rt));
     }
     say(rt, clap_lines(rt.alloc(), error));
+    // (before the command stands the program's name)
+    let (command, last) = (words.get(1).copied(), words.last().copied());
+    say(rt, words_hint(rt.alloc(), command, last, error.kind()));
     open(end)
 }
 

@@ -5,7 +5,7 @@ ghost use Rattle.uv_cli.specs.Messages.{named_text, near_text, unknown_text};
 use crate::ends::End;
 use crate::messages::message_line;
 use std::alloc::{AllocError, Global};
-use strsim::levenshtein;
+use strsim::osa_distance;
 use uv_mend::MendKind;
 use uv_model::{Profile, Rule};
 use uv_report::{Columns, Format, LineViolation, push_shown};
@@ -218,7 +218,7 @@ fn push_names(text: &mut String, noun: &str, names: &[&str]) -> Result<(), Alloc
 }
 
 // The nearest of the names, where no more than a third of the word's letters, or one of a shorter word, have to be
-// changed, taken away or added, whatever their case.
+// changed, taken away, added or swapped with the next one, whatever their case.
 fn nearest<'n>(
     alloc: Global,
     word: &str,
@@ -228,7 +228,7 @@ fn nearest<'n>(
     let mut near = None;
     let mut least = (word.len() / 3).max(1);
     for name in names {
-        let edits = levenshtein(alloc, word.as_str(), name)?;
+        let edits = osa_distance(alloc, word.as_str(), name)?;
         if edits <= least && (near.is_none() || edits < least) {
             near = Some(*name);
             least = edits;
