@@ -31,8 +31,8 @@ abbrev pub is_file_of : Option (List ℕ) → Option (List ℕ) → Bool
 is_file_of (Some command) (Some last) = bytes_eq command (codes "links") && not (begins_with_hyphen last)
 is_file_of _ _ = false
 
--- the hint where words of this command, with this last one, are refused for this reason: of `links` with a word too many,
--- whose last one may be a file
+-- the hint where words of this command, with this last one, are refused for this reason: of `links` with a word too
+-- many, whose last one may be a file
 abbrev pub words_hint : Option (List ℕ) → Option (List ℕ) → ErrorKind → List ℕ
 words_hint command last UnknownArgument =
     if is_file_of command last

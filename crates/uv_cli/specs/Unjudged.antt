@@ -2,7 +2,8 @@
 use Rattle.std.specs.Prelude.{ℕ, List, [], ◌++◌, codes, decimal}
 use Rattle.std.specs.Fmt.Cut.{cut_to}
 use Rattle.uv_report.specs.Escapes.{shown_text}
-use Rattle.uv_vectors.specs.CaseFault.{Flaw, no_object, key, input, base, profile, expectation, text, place, rule, flaw_of}
+use Rattle.uv_vectors.specs.CaseFault.{Flaw, no_object, key, input, base, profile, expectation, text, place, rule}
+use Rattle.uv_vectors.specs.CaseFault.{flaw_of}
 use Rattle.uv_vectors.specs.declared.ends.CasesEnd.{CasesEnd}
 use Rattle.uv_vectors.specs.declared.ends.CasesEnd.TheVariants as ends
 use Rattle.uv_vectors.specs.declared.json_fault.FilePlace.{FilePlace}
@@ -40,11 +41,15 @@ json_text file fault =
 abbrev pub key_text : List ℕ → List ℕ
 key_text other = shown_text (cut_to 80 other)
 
+-- what is said of what no case has
+abbrev pub no_key : List ℕ
+no_key =
+    codes "\" is no key of a case, which may have \"input\", \"base\", \"profile\", \"text\", \"place\" and \"rule\" alone"
+
 -- what is said of a key that no case has
 abbrev pub unknown_key_text : List ℕ → List ℕ
 unknown_key_text other =
-    codes "\"" ++ (key_text other
-    ++ codes "\" is no key of a case, which may have \"input\", \"base\", \"profile\", \"text\", \"place\" and \"rule\" alone")
+    codes "\"" ++ (key_text other ++ no_key)
 
 -- why a value of a vector file is no case
 abbrev pub case_reason : Flaw → List ℕ

@@ -53,7 +53,8 @@ pub(crate) fn words_hint(
     last: Option<&str>,
     kind: ErrorKind,
 ) -> Result<String, AllocError>
-    ensures { IfOk result (λ hint. string_bytes hint ≡ words_hint (option_copied command.entry) (option_copied last.entry) kind) }
+    ensures { IfOk result (λ hint. string_bytes hint
+        ≡ words_hint (option_copied command.entry) (option_copied last.entry) kind) }
 {
     match kind {
         ErrorKind::UnknownArgument if is_file_of(command, last) => {

@@ -11,6 +11,10 @@ use std::fmt::InlineText;
 use uv_report::push_shown;
 use uv_vectors::{CaseFault, CasesEnd, FilePlace, JsonFault};
 
+// What is said of a key that no case has.
+const NO_KEY: &str = "\" is no key of a case, which may have \
+    \"input\", \"base\", \"profile\", \"text\", \"place\" and \"rule\" alone";
+
 // How many bytes of a key are shown.
 const KEY_BYTES: usize = 80;
 
@@ -117,9 +121,7 @@ fn push_unknown_key(line: &mut String, key: &str) -> Result<(), AllocError>
 {
     line.push_str("\"")?;
     push_key(line, key)?;
-    line.push_str(
-        "\" is no key of a case, which may have \"input\", \"base\", \"profile\", \"text\", \"place\" and \"rule\" alone",
-    )
+    line.push_str(NO_KEY)
 }
 
 // Pushes a key, as a terminal may show it: of a long one the first bytes.

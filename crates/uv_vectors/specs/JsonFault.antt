@@ -1,5 +1,6 @@
 -- Why bytes are no JSON text, and where.
-use Rattle.std.specs.Prelude.{◌≡◌, ℕ, ◌+◌, ◌<◌, ◌==◌, ◌&&◌, Bool, IsUtf8, List, fold, if◌then◌else◌, length, nat_le, nat_lt, take}
+use Rattle.std.specs.Prelude.{◌≡◌, ℕ, ◌+◌, ◌<◌, ◌==◌, ◌&&◌, Bool, IsUtf8, List, fold, if◌then◌else◌, length, nat_le}
+use Rattle.std.specs.Prelude.{nat_lt, take}
 use Rattle.std.specs.Str.Lossy.{utf8_valid_len}
 use Rattle.uv_vectors.specs.declared.json_fault.FilePlace.{FilePlace}
 use Rattle.uv_vectors.specs.declared.json_fault.JsonFault.{JsonFault}
@@ -27,8 +28,8 @@ place_behind bytes = fold place_after first_place bytes
 
 -- ---- faults
 
--- Where the bytes aren't UTF-8, this is the place of the first that go wrong. Else they end before their JSON does, which
--- is at their end; or what stands at a place of them can't be read as JSON.
+-- Where the bytes aren't UTF-8, this is the place of the first that goes wrong. Else they end before their JSON does,
+-- which is at their end; or what stands at a place of them can't be read as JSON.
 abbrev pub IsFaultOf : List ℕ → JsonFault → Type 0
 IsFaultOf bytes (NotUtf8 place) = ¬ IsUtf8 bytes × (place ≡ place_behind (take (utf8_valid_len bytes) bytes))
 IsFaultOf bytes (CutShort place) = IsUtf8 bytes × (place ≡ place_behind bytes)
