@@ -5,7 +5,8 @@ ghost use Rattle.std.specs.List.{list_all};
 ghost use Rattle.std.specs.Str.{chars};
 ghost use Rattle.uv_grammar.specs.Slices.{chars_of_option};
 ghost use Rattle.uv_resolve.specs.OwnText.{EndsInHost, HasNoPort, HasOwnPrefix, HasOwnHost, HasOwnScheme, IsOwnPath};
-ghost use Rattle.uv_resolve.specs.OwnText.{IsOwnRoot, IsOwnScheme, IsOwnText, has_no_dots, is_dot_mark, is_never_encoded};
+ghost use Rattle.uv_resolve.specs.OwnText.{IsOwnRoot, IsOwnScheme, IsOwnText, has_no_dots, is_dot_mark};
+ghost use Rattle.uv_resolve.specs.OwnText.{is_never_encoded};
 
 use crate::host_text::is_serialized;
 use uv_grammar::{Form, Parts};
@@ -133,8 +134,8 @@ pub(crate) fn is_without_dots(at_start: bool, path: &[u8]) -> bool
     }
 }
 
-// Whether no `.` and no `%` stands behind a `/`. No branch is taken for a byte, since those at a segment's start would be
-// guessed wrong, and no byte waits for what was found of the one before it, so that many are compared at once.
+// Whether no `.` and no `%` stands behind a `/`. No branch is taken for a byte, since those at a segment's start would
+// be guessed wrong, and no byte waits for what was found of the one before it, so that many are compared at once.
 fn is_without_dots_within(path: &[u8]) -> bool
     ensures { result ≡ has_no_dots false path.now }
 {

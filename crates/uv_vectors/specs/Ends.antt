@@ -3,7 +3,8 @@ use Rattle.std.specs.Prelude.{◌≡◌}
 use Rattle.uv_vectors.specs.declared.ends.CasesEnd.{CasesEnd}
 use Rattle.uv_vectors.specs.declared.ends.CasesEnd.TheVariants as ends
 use Rattle.uv_vectors.specs.declared.ends.VectorEnd.{VectorEnd}
-use Rattle.uv_vectors.specs.declared.ends.VectorEnd.TheVariants.{AllPass, SomeFail, NotJson, NotArray, TooLarge, Malformed}
+use Rattle.uv_vectors.specs.declared.ends.VectorEnd.TheVariants.{AllPass, SomeFail, NotJson, NotArray, TooLarge}
+use Rattle.uv_vectors.specs.declared.ends.VectorEnd.TheVariants.{Malformed}
 
 -- the end alone
 abbrev pub vector_end : CasesEnd → VectorEnd

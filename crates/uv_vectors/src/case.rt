@@ -7,8 +7,8 @@ ghost use Rattle.serde_json.specs.Data.{Data};
 ghost use Rattle.serde_json.specs.View.{members_view, view};
 ghost use Rattle.uv_grammar.specs.Verdict.{IsRefused};
 ghost use Rattle.uv_resolve.specs.Resolve.{DenotesText};
-ghost use Rattle.uv_vectors.specs.Case.{Expectation, Vector, base_of, expected_of, has_known_keys, is_known, unknown_key};
-ghost use Rattle.uv_vectors.specs.Case.{profile_of, refusal_of, vector_of};
+ghost use Rattle.uv_vectors.specs.Case.{Expectation, Vector, base_of, expected_of, has_known_keys, is_known};
+ghost use Rattle.uv_vectors.specs.Case.{profile_of, refusal_of, unknown_key, vector_of};
 ghost use Rattle.uv_vectors.specs.Passes.{IsAsExpected, Judges, Passes};
 ghost use Rattle.uv_vectors.specs.Views.{expected_view, value_view};
 

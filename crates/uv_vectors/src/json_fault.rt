@@ -52,8 +52,8 @@ fn text_fault(bytes: &[u8], error: &Error) -> JsonFault
     }
 }
 
-// How many bytes stand before the one that a reader names by its line and its column in bytes, both from 1. What it names
-// is pinned by no contract, so that this isn't either.
+// How many bytes stand before the one that a reader names by its line and its column in bytes, both from 1. What it
+// names is pinned by no contract, so that this isn't either.
 fn offset_of(bytes: &[u8], line: usize, column: usize) -> usize {
     let mut start = 0;
     let mut lines = 1;

@@ -72,7 +72,8 @@ loop-violation-preserved g c =
             (sym (take_more violations i none c.loop-violation-test.true))
             (said_more setting.form setting.format setting.columns setting.profile line.file line.text
             line.line line.start
-            c.column-column.result c.args.is_first c.loop-violation.is_first mended told (take i violations) violation said.0
+            c.column-column.result c.args.is_first c.loop-violation.is_first mended told (take i violations) violation
+            said.0
             (c.column-column.ensures.column ∙ rw (invariant.counter, c.place.ensures) refl) said.2),
       );
       quiet = c.in_default.ensures.quiet ∙ invariant.quiet;

@@ -11,7 +11,8 @@ abbrev pub invariant-loop-violation : goal.invariant-loop-violation
 invariant-loop-violation g l = record {
   said : (said : List ℕ) × Passes (l.initial.text.items ++ said) (g.W.Sink.contents l.initial.writer)
       (g.W.Sink.contents l.writer) l.text.items
-      × IsSaidBefore l.setting.form l.setting.format l.setting.columns l.setting.profile (reported_view l.self) l.is_first-2
+      × IsSaidBefore l.setting.form l.setting.format l.setting.columns l.setting.profile (reported_view l.self)
+      l.is_first-2
       (mended_on l.setting.columns (reported_view l.self) (option_map mended_line_view l.mended))
       (take l.violation-index l.violations) said l.is_first (lent_if_mended l.told);
   quiet : g.W.Sink.failed l.writer ≡ g.W.Sink.failed l.initial.writer;
