@@ -247,7 +247,7 @@ fn all<'a>(alloc: Global) -> Arg<'a>
     ensures rule { rule_of result ≡ flag_rule (codes "all") }
     ensures local { result.global ≡ false }
 {
-    let help = "Prints all violations of a text, and not the least alone";
+    let help = "Prints all violations of a text, and not the first alone";
     flag(alloc, "all", help)
 }
 
