@@ -3,8 +3,6 @@
 import ctypes
 import os
 import sys
-from types import FrameType
-from typing import Optional
 
 SIZE = ctypes.c_size_t
 NUMBER = ctypes.c_uint32
@@ -89,16 +87,13 @@ PROGRAM = "urlcheck-documents"
 """The program over this package."""
 
 
-def _is_asked_for(frame: Optional[FrameType]) -> bool:
-    """Whether Python loads the package to run the program: by its name, or as the module ``urlcheck.documents``, whose
-    package Python loads before the module itself."""
-    if [os.path.basename(word) for word in sys.argv[:1]] == [PROGRAM]:
-        return True
-    while frame is not None:
-        if frame.f_code.co_name == "_run_module_as_main":
-            return bool(frame.f_locals.get("mod_name") == "urlcheck.documents")
-        frame = frame.f_back
-    return False
+def _is_asked_for() -> bool:
+    """Whether Python loads the package to run the program: by its name, or by ``-m urlcheck.documents``, where it loads
+    the package before the module. (Before 3.10 Python doesn't tell that.)"""
+    if sys.argv[:1] == ["-m"]:
+        words = getattr(sys, "orig_argv", [])
+        return ("-m", "urlcheck.documents") in zip(words, words[1:])
+    return [os.path.basename(word) for word in sys.argv[:1]] == [PROGRAM]
 
 
 def _unloaded(why: str) -> BaseException:
@@ -108,7 +103,7 @@ def _unloaded(why: str) -> BaseException:
         "the shared library {}; the wheel of a release has it, './build-library DIR' makes it in a checkout, and "
         "URLCHECK_LIBRARY may name its file"
     ).format(why)
-    if not _is_asked_for(sys._getframe()):
+    if not _is_asked_for():
         return ImportError(said)
     # (there is no standard error where it was closed before the start, and it may take nothing)
     try:
