@@ -52,9 +52,9 @@ places=$("$program" check --all 'http://a b:x/ %' | awk '{ print "1:" $2 + 1 " [
 expect 2 '' "$(no_base 7 host-domain 'U+0020 SPACE may not stand in a domain')" lint --base 'http://h a/' links.txt
 expect 2 '' "$(no_base 0 no-scheme 'it has no scheme')" lint --base '' missing.txt
 formats='urlcheck: the formats: gnu caret json github sarif checkstyle\nwords\n'
-for name in GNU gnu, gn jsan checkstle; do
+for name in GNU gnu, gn jsan checkstle sarfi; do
     near=gnu
-    case $name in j*) near=json ;; c*) near=checkstyle ;; esac
+    case $name in j*) near=json ;; c*) near=checkstyle ;; s*) near=sarif ;; esac
     expect 2 '' "urlcheck: no format is named '$name'; the nearest is $near\\n$formats" \
         lint --base 'a b' --format "$name" links.txt
 done
@@ -502,4 +502,4 @@ ends_with 1 $? 'urlcheck: 1000000 lines, 10000 refused\n' 'lint of a million lin
 grep -qxF "$room/million:1000000:11: error: U+0020 SPACE may not stand in a URL [code-point]" "$room/out" ||
     fail "lint of a million lines: it ends with $(tail -n 1 "$room/out")"
 rm -f "$room/million" "$room"/hostile.* "$room"/none.*
-all_cases 178
+all_cases 179
