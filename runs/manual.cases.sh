@@ -9,6 +9,15 @@ for file in man/urlcheck.1 completions/urlcheck.bash completions/_urlcheck compl
     cmp -s "$room/made/$file" "$top/$file" || fail "$file is old; ./make-manual crates/urlcheck/out/urlcheck . makes it anew"
 done
 
+# It explains itself, and takes no other option and no other number of words.
+bash "$top/make-manual" --help >"$room/out" 2>"$room/err"
+ends_with 0 $? '' 'make-manual --help'
+grep -q '^\./make-manual PROGRAM DIR: ' "$room/out" || fail "make-manual --help says: $(cat "$room/out")"
+for words in '' --other one 'one two three'; do
+    bash "$top/make-manual" $words >"$room/out" 2>"$room/err"
+    ends_with 2 $? 'usage: ./make-manual PROGRAM DIR\n' "make-manual $words"
+done
+
 # A program without help, and one whose help names no command: nothing is made.
 printf '#!/bin/sh\n' >"$room/silent"
 chmod +x "$room/silent"
@@ -45,9 +54,11 @@ reads groff -ww -man -Tutf8 "$top/man/urlcheck.1"
 reads mandoc -T lint -W style "$top/man/urlcheck.1"
 reads mandoc -T lint -W style "$top/man/urlcheck-documents.1"
 reads groff -ww -man -Tutf8 "$top/man/urlcheck-documents.1"
-reads bash -n "$top/completions/urlcheck.bash"
-reads zsh -n "$top/completions/_urlcheck"
-reads fish -n "$top/completions/urlcheck.fish"
+for name in urlcheck urlcheck-documents; do
+    reads bash -n "$top/completions/$name.bash"
+    reads zsh -n "$top/completions/_$name"
+    reads fish -n "$top/completions/$name.fish"
+done
 
 # Each option of the help stands in the completions of each shell, by its name and by that of one letter, if it has one.
 # offers SHELL COMMAND OPTION : the completions of a shell have an option of a command, or of the program
@@ -75,15 +86,16 @@ for shell in bash fish zsh; do
     done
 done
 
-# completes WORDS WORD.. : behind these words bash completes the last one so
+# completes WORDS WORD.. : behind these words of a program bash completes the last one so, by the function completer
+completer=_urlcheck
 completes() {
     local wanted=$1
     shift
     count=$((count + 1))
-    COMP_WORDS=(urlcheck "$@")
+    COMP_WORDS=(program "$@")
     COMP_CWORD=$#
     COMPREPLY=()
-    (cd "$room" && _urlcheck 2>/dev/null; echo "${COMPREPLY[*]}") >"$room/out"
+    (cd "$room" && $completer 2>/dev/null; echo "${COMPREPLY[*]}") >"$room/out"
     [ "$(cat "$room/out")" = "$wanted" ] || fail "completions of '$*': $(cat "$room/out")"
 }
 . "$top/completions/urlcheck.bash"
@@ -105,4 +117,15 @@ completes 'standard wide parser' links --profile =
 completes '--quiet' lint --q
 completes '-q' lint -q
 completes '-V' -V
-all_cases 37
+. "$top/completions/urlcheck-documents.bash"
+completer=_urlcheck_documents
+completes '--exclude' --ex
+completes '-q' -q
+completes 'made' --check ma
+completes 'made' --ignore ma
+completes '--ignore=made' --ignore=ma
+completes '' --exclude ma
+completes 'wide' --profile w
+completes 'html markdown xml' --type =
+completes '--type=xml' --type=x
+all_cases 54

@@ -87,7 +87,9 @@ told=$(PYTHONPATH=$at/lib/$python python3 -c 'import urlcheck; print(urlcheck.ve
 [ "$told" = "$version" ] || fail "the library says that its version is $told"
 told=$(PYTHONPATH=$at/lib/$python python3 -c 'from importlib.metadata import version; print(version("urlcheck"))')
 [ "$told" = "$version" ] || fail "the Python package says that its version is $told"
-bash -n "$at/share/bash-completion/completions/urlcheck"
+for completions in urlcheck urlcheck-documents; do
+    bash -n "$at/share/bash-completion/completions/$completions"
+done
 if command -v man >/dev/null; then
     man --warnings -E UTF-8 -l "$at/share/man/man1/urlcheck.1" >"$room/page.txt" 2>"$room/said"
     [ ! -s "$room/said" ] || { cat "$room/said"; fail "the manual page has warnings"; }
@@ -141,7 +143,7 @@ if ./install --other 2>"$room/said"; then fail "another option is taken"; fi
 
 # ---- the scripts: what they say of themselves, no other option, and paths of the folder that they are called in
 
-for script in install build-library build-packages build-page build-program packaging/build-{both,crate}; do
+for script in install make-manual build-library build-packages build-page build-program packaging/build-{both,crate}; do
     ./$script --help >"$room/help" || fail "$script --help"
     grep -q "^[./]*$script" "$room/help" || fail "$script --help says: $(cat "$room/help")"
     if ./$script --other >"$room/help" 2>"$room/said" || ! grep -q "^usage: [./]*$script" "$room/said"; then

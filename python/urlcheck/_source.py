@@ -32,7 +32,7 @@ class Broken(ValueError):
     """Why a reader stopped before a document's end, and where, from 1; what was found before stands."""
 
     def __init__(self, line: int, column: int, reason: str) -> None:
-        super().__init__("{}:{}: {}".format(line, column, reason))
+        super().__init__("{}:{}: can't be read from here on: {}".format(line, column, reason))
 
 
 class Source:

@@ -55,7 +55,7 @@ def links_of(source: Source, data: bytes) -> Tuple[List[Link], Set[int], Optiona
     try:
         reader.parser.Parse(data, True)
     except expat.ExpatError as error:
-        broken = Broken(error.lineno, error.offset + 1, expat.ErrorString(error.code))
+        broken = reader.failed(expat.ErrorString(error.code))
     except Broken as stopped:
         broken = stopped
     return reader.links, reader.ignored, broken
@@ -88,9 +88,19 @@ class _Reader:
         # The text of the element that is being read, if it is a URL: its pieces with their places.
         self._pieces: Optional[List[Tuple[str, int]]] = None
 
+    def failed(self, reason: str) -> Broken:
+        """Why the parser stopped. (Of a document that ends within an element it says that it has found none.)"""
+        is_within = reason == expat.errors.XML_ERROR_NO_ELEMENTS and len(self._bases) > 1
+        return self.broken("the document ends within an element" if is_within else reason)
+
+    def broken(self, reason: str) -> Broken:
+        """Why the document can't be read from here on. (The parser's own lines end with a carriage return too.)"""
+        return Broken(*self._source.position(self._offset()), reason)
+
     def _offset(self) -> int:
         """Where what is being read begins in the source, in code points."""
-        at = self.parser.CurrentByteIndex
+        # (an old parser says -1 of an empty document)
+        at = max(0, self.parser.CurrentByteIndex)
         if self._is_ascii:
             return at
         if at < self._seen_bytes:
@@ -99,11 +109,8 @@ class _Reader:
         self._seen_bytes = at
         return self._seen_points
 
-    def _stop(self, reason: str) -> None:
-        raise Broken(self.parser.CurrentLineNumber, self.parser.CurrentColumnNumber + 1, reason)
-
     def _entity(self, *_: object) -> None:
-        self._stop("declares an entity, and none is expanded but the five of XML")
+        raise self.broken("an entity is declared, and none is expanded but the five of XML")
 
     def _comment(self, data: str) -> None:
         if data.strip() == IGNORE:
@@ -112,7 +119,7 @@ class _Reader:
 
     def _start(self, name: str, attributes: List[str]) -> None:
         if len(self._bases) > MOST_DEPTH:
-            self._stop("more than {} elements stand within one another".format(MOST_DEPTH))
+            raise self.broken("more than {} elements stand within one another".format(MOST_DEPTH))
         element = _split(name)
         if len(self._bases) == 1:
             self._is_rss = element == ("", "rss")

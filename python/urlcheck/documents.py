@@ -8,6 +8,7 @@ those that ``urlcheck lint --located -`` reads, which judges them too and has mo
 import argparse
 import codecs
 import errno
+import fnmatch
 import os
 import pickle
 import re
@@ -51,12 +52,48 @@ KINDS = {
 MARKDOWN = "the package markdown-it-py: pip install markdown-it-py, or Debian's python3-markdown-it"
 """What reads Markdown, and how to have it."""
 
+REASONS = {
+    errno.ENOENT: "there is no such file",
+    errno.EISDIR: "it is a folder",
+    errno.ENOTDIR: "a part of its path is no folder",
+    errno.EACCES: "it may not be read",
+    errno.EPERM: "it may not be read",
+    errno.ENOSPC: "no space is left",
+    errno.EDQUOT: "the quota is used up",
+    errno.EFBIG: "the file may not get larger",
+}
+"""Why a file can't be read or written, as ``urlcheck`` says it; any other reason is said in the system's words."""
+
 Report = Callable[[str], None]
 Writer = Callable[[bytes], None]
 
 
 class Unread(Exception):
     """Why a document can't be read."""
+
+
+def reason_of(error: OSError) -> str:
+    """Why the system couldn't do what was asked of it."""
+    return REASONS.get(error.errno or 0) or str(error.strerror or error)
+
+
+class Excluded(NamedTuple):
+    """What is left out of a folder: all that a pattern matches."""
+
+    pattern: "re.Pattern[str]"
+    is_of_folders: bool
+    """Whether the pattern ended with ``/``, so that it is one of folders alone."""
+
+    @classmethod
+    def by(cls, pattern: str) -> "Excluded":
+        """What a pattern of the shell leaves out, in which ``*`` and ``?`` stand for ``/`` too."""
+        return cls(re.compile(fnmatch.translate(pattern.rstrip("/"))), pattern.endswith("/"))
+
+    def has(self, below: str, name: str, is_folder: bool) -> bool:
+        """Whether a file or a folder of that name is left out, which stands in the folder at the path ``below``."""
+        if self.is_of_folders and not is_folder:
+            return False
+        return any(self.pattern.match(it) for it in (name, os.path.join(below, name)))
 
 
 class Settings(NamedTuple):
@@ -66,6 +103,7 @@ class Settings(NamedTuple):
     base: Optional[str] = None
     profile: Profile = Profile.STANDARD
     ignored: Tuple["re.Pattern[str]", ...] = ()
+    excluded: Tuple[Excluded, ...] = ()
 
 
 class Counts:
@@ -84,7 +122,7 @@ class Counts:
         self.links += taken.links
         self.refused += taken.refused
         self.ignored += taken.ignored
-        self.unread += taken.reason is not None
+        self.unread += taken.fault is not None
 
     def status(self) -> int:
         """2 where a document wasn't read, else 1 where a link is refused, else 0."""
@@ -187,12 +225,12 @@ def read_document(name: str) -> bytes:
         with open(name, "rb") as file:
             return file.read(MOST_BYTES + 1)
     except OSError as error:
-        raise Unread("can't be read: {}".format(error.strerror)) from None
+        raise Unread("can't be read: {}".format(reason_of(error))) from None
 
 
-def documents_of(names: List[str]) -> Iterator[str]:
-    """The documents of these names, and those within a folder whose names' ends say a kind, in order; then a folder of
-    them that can't be read, and one that has no document in it."""
+def documents_of(names: List[str], excluded: Tuple[Excluded, ...] = ()) -> Iterator[str]:
+    """The documents of these names, and those within a folder whose names' ends say a kind, in order, but for what is
+    left out of folders; then a folder of them that can't be read, and one that has no document in it."""
     for name in names:
         if name == "-" or not os.path.isdir(name):
             yield name
@@ -200,20 +238,27 @@ def documents_of(names: List[str]) -> Iterator[str]:
         count = 0
         closed: List[str] = []
         for folder, folders, files in os.walk(name, onerror=lambda error: closed.append(error.filename)):
-            folders.sort()
+            below = folder[len(name) :].lstrip("/")
+            folders[:] = [it for it in sorted(folders) if not _is_excluded(excluded, below, it, True)]
             for file in sorted(filter(kind_of, files)):
-                count += 1
-                yield os.path.join(folder, file)
+                if not _is_excluded(excluded, below, file, False):
+                    count += 1
+                    yield os.path.join(folder, file)
         yield from closed or [name] * (count == 0)
 
 
-def _no_document(folder: str) -> str:
-    """Why a folder gives no document."""
+def _is_excluded(excluded: Tuple[Excluded, ...], below: str, name: str, is_folder: bool) -> bool:
+    return any(it.has(below, name, is_folder) for it in excluded)
+
+
+def _no_document(folder: str, is_all: bool) -> str:
+    """Why a folder gives no document, of which nothing is left out if ``is_all``."""
     try:
         os.listdir(folder)
     except OSError as error:
-        return "can't be read: {}".format(error.strerror)
-    return "has no document: no name in this folder ends in ." + ", .".join(KINDS)
+        return "can't be read: {}".format(reason_of(error))
+    taken = "no name in this folder" if is_all else "no name in this folder that isn't excluded"
+    return "has no document: {} ends in .{}".format(taken, ", .".join(KINDS))
 
 
 class Taken(NamedTuple):
@@ -224,13 +269,13 @@ class Taken(NamedTuple):
     refused: int
     ignored: int
     lines: bytes
-    reason: Optional[str]
-    """Why it wasn't read to its end, if so."""
+    fault: Optional[str]
+    """What is said behind its name where it wasn't read to its end: the place where the reader stopped, and why."""
 
 
 def _nothing(reason: str) -> Taken:
     """What a document gives that isn't read."""
-    return Taken(0, 0, 0, 0, b"", reason)
+    return Taken(0, 0, 0, 0, b"", ": " + reason)
 
 
 def _apart(take: Callable[[], Taken]) -> Taken:
@@ -242,7 +287,7 @@ def _apart(take: Callable[[], Taken]) -> Taken:
     except OSError as error:
         os.close(reader)
         os.close(writer)
-        return _nothing("can't be read: no process: {}".format(error.strerror))
+        return _nothing("can't be read: no process: {}".format(reason_of(error)))
     if child == 0:
         ended = 1
         try:
@@ -295,8 +340,9 @@ class Run:
         taken = _apart(lambda: self._taken(name, shown))
         self.counts.add(taken)
         self._write(taken.lines)
-        if taken.reason is not None:
-            self._tell("{}: {}".format(shown or "''", taken.reason))
+        if taken.fault is not None:
+            is_input = name == "-" and taken.fault.startswith(": ")
+            self._tell(("standard input" if is_input else shown or "''") + taken.fault)
 
     def _taken(self, name: str, shown: str) -> Taken:
         try:
@@ -318,17 +364,18 @@ class Run:
                     refused += 1
                     lines.append(finding)
         data = "".join(line + "\n" for line in lines).encode("utf-8", "surrogateescape")
-        broken = None if found.broken is None else str(found.broken)
+        broken = None if found.broken is None else ":{}".format(found.broken)
         return Taken(1, len(found.links), refused, ignored, data, broken)
 
     def _read(self, name: str, shown: str) -> Found:
         if os.path.isdir(name):
-            raise Unread(_no_document(name))
+            raise Unread(_no_document(name, not self._settings.excluded))
         kind = self._settings.kind or kind_of(name)
         if kind is None:
             if name != "-" and not os.path.exists(name):
                 read_document(name)
-            raise Unread("its name's end says no kind: give --type html, xml or markdown")
+            says = "it has no name that says its kind" if name == "-" else "its name's end says no kind"
+            raise Unread(says + ": give --type html, xml or markdown")
         if self._judge is None and shown != name:
             raise Unread("its name has a control, which no located line can hold")
         place = _PLACE.search(name + ":1:1:")
@@ -347,8 +394,10 @@ def _patterns(name: Optional[str]) -> Tuple["re.Pattern[str]", ...]:
     try:
         with open(name, encoding="utf-8") as file:
             lines = [line.rstrip("\r\n") for line in file]
-    except (OSError, UnicodeDecodeError) as error:
-        raise SystemExit(_stop("{}: can't be read: {}".format(name, getattr(error, "strerror", None) or error)))
+    except OSError as error:
+        raise SystemExit(_stop("{}: can't be read: {}".format(name, reason_of(error))))
+    except UnicodeDecodeError:
+        raise SystemExit(_stop("{}: isn't UTF-8".format(name))) from None
     patterns = []
     for number, line in enumerate(lines, 1):
         if line.strip() and not line.startswith("#"):
@@ -416,6 +465,15 @@ def _parser() -> argparse.ArgumentParser:
     add("--profile", choices=names, default="standard", help="the profile to judge by")
     add("--type", dest="kind", choices=sorted(set(KINDS.values())), help="the kind of all documents")
     add("--ignore", metavar="FILE", help="regular expressions, one a line, of links that are meant as they are")
+    add(
+        "--exclude",
+        action="append",
+        default=[],
+        metavar="PATTERN",
+        help="a pattern of the shell: what is found in a folder is left out where its name, or its path below that "
+        "folder, matches; it may be given more than once",
+    )
+    add("-q", "--quiet", action="store_true", help="leave out the counts on standard error")
     add("--version", action="version", version="urlcheck-documents " + version())
     return parser
 
@@ -424,7 +482,8 @@ def run(words: Optional[List[str]] = None) -> int:
     """Runs the program on these words, and gives its status."""
     given = _parser().parse_args(words)
     profile = Profile[given.profile.upper()]
-    settings = Settings(given.kind, given.base, profile, _patterns(given.ignore))
+    excluded = tuple(Excluded.by(it) for it in given.exclude)
+    settings = Settings(given.kind, given.base, profile, _patterns(given.ignore), excluded)
     if given.base is not None:
         try:
             check("", given.base, profile)
@@ -433,15 +492,20 @@ def run(words: Optional[List[str]] = None) -> int:
             why = "it has no scheme" if refused.rule == "no-scheme" else sentence(refused.rule)
             return _stop("the base is refused at place {}: {} [{}]".format(refused.place, why, refused.rule))
     seen = Run(settings, Judge(settings) if given.check else None, _write, _tell)
-    for name in documents_of(given.files):
+    for name in documents_of(given.files, excluded):
         seen.take(name)
     if sys.stdout is not None:
         sys.stdout.buffer.flush()
-    counts = seen.counts
-    refused_links = ", {} refused".format(counts.refused) if given.check else ""
+    if not given.quiet:
+        _tell(_counted(seen.counts, given.check))
+    return seen.counts.status()
+
+
+def _counted(counts: Counts, is_judged: bool) -> str:
+    """The counts, as standard error ends with them."""
     documents, links = _number(counts.documents, "document"), _number(counts.links, "link")
-    _tell("{}, {}{}, {} ignored".format(documents, links, refused_links, counts.ignored))
-    return counts.status()
+    refused = ", {} refused".format(counts.refused) if is_judged else ""
+    return "{}, {}{}, {} ignored".format(documents, links, refused, counts.ignored)
 
 
 def _number(count: int, noun: str) -> str:
@@ -465,7 +529,7 @@ def main() -> None:
     except OSError as error:
         _write_nowhere(1)
         if not isinstance(error, BrokenPipeError):
-            _tell("the output can't be written: {}".format(error.strerror))
+            _tell("standard output: can't be written: {}".format(reason_of(error)))
         status = 3
     sys.exit(status)
 

@@ -1,5 +1,6 @@
 """Tests of urlcheck.documents: where links stand, what is judged, and hostile documents. The package is on PYTHONPATH."""
 
+import errno
 import importlib.util
 import os
 import re
@@ -8,6 +9,8 @@ import subprocess
 import sys
 import tempfile
 import unittest
+
+from urlcheck.documents import REASONS, reason_of
 
 TOP = os.path.join(os.path.dirname(os.path.abspath(__file__)), "..", "..")
 PROGRAM = [sys.executable, "-m", "urlcheck.documents"]
@@ -205,7 +208,9 @@ class Documents(unittest.TestCase):
         self.write("d/c.txt", "<a href=z>")
         self.assertEqual(self.run_on("d")[1], "d/a.html:1:9:y\nd/b.html:1:9:x\n")
         self.assertEqual(self.run_on("--type", "html", "-", stdin=b"\n<a href=x>")[1], "-:2:9:x\n")
-        self.assertEqual(self.run_on("-")[0], 2)
+        wanted = "standard input: it has no name that says its kind: give --type html, xml or markdown\n"
+        status, _, said = self.run_on("--quiet", "-")
+        self.assertEqual((status, said), (2, "urlcheck-documents: " + wanted))
 
     def test_folders_that_give_nothing(self):
         os.mkdir(os.path.join(self.room, "empty"))
@@ -214,6 +219,100 @@ class Documents(unittest.TestCase):
         self.assertEqual((status, out), (2, ""))
         self.assertIn("empty: has no document: no name in this folder ends in .html, ", said)
         self.assertIn("1 document, 1 link", said)
+
+    def test_excluded(self):
+        names = ["d/a.html", "d/a.min.html", "d/.hidden/h.html", "d/drafts/x.html", "d/drafts/deep/y.html",
+                 "d/node_modules/m.html", "d/sub/v.html", "d/sub/drafts/z.html", "d/sub/node_modules/n.html",
+                 "d/v.html/p.html"]
+        for name in names:
+            os.makedirs(os.path.join(self.room, os.path.dirname(name)), exist_ok=True)
+            self.write(name, "<a href=x>")
+        for patterns, out in (
+            ([], ""),
+            (["node_modules"], "mn"),
+            (["node_modules", "*.min.html", "drafts/*"], "mn-xy"),
+            (["drafts"], "xyz"),
+            (["*/drafts"], "z"),
+            (["drafts/deep"], "y"),
+            (["d*s/x*"], "x"),
+            (["sub/*"], "vzn"),
+            (["**/n.html"], "n"),
+            (["v.html"], "vp"),
+            (["v.html/"], "p"),
+            (["*/"], "hxymvznp"),
+            ([".*"], "h"),
+            (["?.html"], "ahxymvznp"),
+            (["[hx].html"], "hx"),
+            (["[!a]*.html"], "hxymvznp"),
+            # What matches nothing: another case, a part of a name, the folder that is named, a path of the shell.
+            (["A.html", "min.html", "d", "d/*", "./a.html", "/a.html", "", "/", "[", "{a,v}.html", "*.min"], ""),
+        ):
+            # (a letter stands for the document that is named so, and - for the one with a longer name)
+            left = [it for it in names if ("-" if ".min." in it else os.path.basename(it)[0]) not in out]
+            words = [word for pattern in patterns for word in ("--exclude", pattern)]
+            with self.subTest(patterns):
+                status, found, said = self.run_on("--quiet", *words, "d")
+                self.assertEqual((status, found, said), (0, "".join(it + ":1:9:x\n" for it in left), ""))
+
+    def test_what_is_named_is_read(self):
+        """A pattern leaves nothing out that is an argument itself."""
+        os.makedirs(os.path.join(self.room, "d", "e"))
+        self.write("d/a.html", "<a href=x>")
+        self.write("d/e/b.html", "<a href=x>")
+        folder = os.path.join(self.room, "d")
+        for pattern, name, found in (
+            ("*", "d/a.html", ["d/a.html"]),
+            ("d", "d", ["d/a.html", "d/e/b.html"]),
+            ("e", "d/e", ["d/e/b.html"]),
+            ("e/*", "d/", ["d/a.html"]),
+            ("d/e/*", ".", ["./d/a.html"]),
+            ("e/*", ".", ["./d/a.html", "./d/e/b.html"]),
+            ("e/*", folder, [folder + "/a.html"]),
+        ):
+            with self.subTest(pattern=pattern, name=name):
+                status, out, _ = self.run_on("--exclude", pattern, name)
+                self.assertEqual((status, out), (0, "".join(it + ":1:9:x\n" for it in found)))
+
+    def test_excluded_without_a_word(self):
+        """What is left out is neither read nor counted; a folder of which nothing is left has no document."""
+        os.mkdir(os.path.join(self.room, "d"))
+        self.write("d/a.html", "<a href=x>")
+        os.symlink("missing", os.path.join(self.room, "d", "b.html"))
+        status, _, said = self.run_on("d")
+        self.assertEqual(status, 2)
+        self.assertIn("urlcheck-documents: d/b.html: can't be read: there is no such file\n", said)
+        said = self.run_on("--exclude", "b.*", "d")[2]
+        self.assertEqual(said, "urlcheck-documents: 1 document, 1 link, 0 ignored\n")
+        status, out, said = self.run_on("--exclude", "*.html", "d")
+        self.assertEqual((status, out), (2, ""))
+        self.assertIn("d: has no document: no name in this folder that isn't excluded ends in .html, ", said)
+
+    def test_quiet(self):
+        """The counts alone are left out."""
+        self.write("a.html", "<a href='x y'>")
+        for quiet in ("-q", "--quiet"):
+            for words, wanted in ((["a.html"], 0), (["--check", "a.html"], 1)):
+                status, out, said = self.run_on(quiet, *words)
+                self.assertEqual((status, out.count("\n"), said), (wanted, 1, ""))
+            status, _, said = self.run_on(quiet, "b.html", "a.html")
+            self.assertEqual((status, said), (2, "urlcheck-documents: b.html: can't be read: there is no such file\n"))
+
+    def test_options(self):
+        """The manual page, the completions and the page have the options of the help, and no other."""
+        shown = subprocess.run([*PROGRAM, "--help"], capture_output=True).stdout.decode()
+        wanted = {name for names in re.findall(r"^  (?:(-[a-z]), )?(--[a-z]+)", shown, re.M) for name in names if name}
+        self.assertLessEqual({"-h", "-q", "--exclude", "--version"}, wanted)
+        for path, part, name in (
+            ("docs/DOCUMENTS.md", r"^\| (`-.*?) \|", r"`(--?[a-z]+)"),
+            ("man/urlcheck-documents.1", r"^\.B[IR]* (\\-.*)", r"(?<![a-z-])--?[a-z]+"),
+            ("completions/urlcheck-documents.bash", r"^ *\*\) words='(.*?)'", r"\S+"),
+            ("completions/_urlcheck-documents", r"^    (.*)", r"(?<=[',{*])--?[a-z]+(?=[\[=,}])"),
+            ("completions/urlcheck-documents.fish", r"^complete -c urlcheck-documents(.*) -d", r" (-[sl] [a-z]+)"),
+        ):
+            with self.subTest(path), open(os.path.join(TOP, path), encoding="utf-8") as file:
+                parts = "\n".join(re.findall(part, file.read(), re.M)).replace("\\-", "-")
+                names = {it.replace("-s ", "-").replace("-l ", "--") for it in re.findall(name, parts)}
+                self.assertEqual(names, wanted)
 
     def test_ignored(self):
         self.write("patterns", "# templates\n\\{\\{\n")
@@ -231,11 +330,61 @@ class Documents(unittest.TestCase):
         status, out, said = self.run_on("missing.html", "missing", "", "utf16.html", "broken.xml", "a.txt", "a.html")
         self.assertEqual(status, 2)
         self.assertEqual(out, "broken.xml:2:6:http://h/\na.html:1:9:x\n")
-        for word in ("missing.html: can't be read: No such file", "missing: can't be read: No such file",
-                     "urlcheck-documents: '': can't be read: No such file",
-                     "utf16.html: isn't UTF-8 at byte 0", "broken.xml: 2:",
+        for word in ("missing.html: can't be read: there is no such file",
+                     "missing: can't be read: there is no such file",
+                     "urlcheck-documents: '': can't be read: there is no such file",
+                     "utf16.html: isn't UTF-8 at byte 0", "broken.xml:2:26: can't be read from here on: mismatched tag",
                      "a.txt: its name's end says no kind"):
             self.assertIn(word, said)
+
+    def test_reasons(self):
+        """Why a file can't be read or written, in the words of `urlcheck`."""
+        self.write("a.html", "<a href=x>")
+        self.write("wrong", b"a\xff")
+        for words, wanted in (
+            (["a.html/b.html"], "a.html/b.html: can't be read: a part of its path is no folder"),
+            (["--ignore", ".", "a.html"], ".: can't be read: it is a folder"),
+            (["--ignore", "missing", "a.html"], "missing: can't be read: there is no such file"),
+            (["--ignore", "wrong", "a.html"], "wrong: isn't UTF-8"),
+        ):
+            status, _, said = self.run_on("--quiet", *words)
+            self.assertEqual((status, said), (2, "urlcheck-documents: {}\n".format(wanted)))
+        for number, reason in ((errno.EACCES, "it may not be read"), (errno.EPERM, "it may not be read"),
+                               (errno.EIO, os.strerror(errno.EIO)), (errno.EFBIG, "the file may not get larger")):
+            self.assertEqual(reason_of(OSError(number, os.strerror(number))), reason)
+        with open(os.path.join(TOP, "docs", "ERRORS.md"), encoding="utf-8") as page:
+            text = page.read()
+        for reason in REASONS.values():
+            self.assertIn("`: {}`".format(reason), text)
+
+    def test_broken(self):
+        """Where a document can't be read from a place on, what stands before it is written or judged."""
+        self.write("b.xml", "<urlset><loc>http://h/ a</loc>\r<loc>http://h/ b</urlset>")
+        place = "urlcheck-documents: b.xml:1:50: can't be read from here on: mismatched tag\n"
+        status, out, said = self.run_on("b.xml")
+        self.assertEqual((status, out), (2, "b.xml:1:14:http://h/ a\n"))
+        self.assertEqual(said, place + "urlcheck-documents: 1 document, 1 link, 0 ignored\n")
+        status, out, said = self.run_on("--check", "b.xml")
+        self.assertEqual((status, out), (2, "b.xml:1:23: error: U+0020 SPACE may not stand in a URL [code-point]\n"))
+        self.assertEqual(said, place + "urlcheck-documents: 1 document, 1 link, 1 refused, 0 ignored\n")
+        for text, wanted in (
+            ("<rss><a>\n", "2:1: can't be read from here on: the document ends within an element"),
+            ("", "1:1: can't be read from here on: no element found"),
+            ("\n<!-- x -->\n", "3:1: can't be read from here on: no element found"),
+            ("<\u00e9>\u00e9<x y=<>", "1:10: can't be read from here on: not well-formed (invalid token)"),
+            ("\ufeff<a>\r\n</b>", "2:3: can't be read from here on: mismatched tag"),
+        ):
+            with self.subTest(text):
+                status, _, said = self.run_on("--quiet", "--type", "xml", "-", stdin=text.encode("utf-8"))
+                self.assertEqual((status, said), (2, "urlcheck-documents: -:{}\n".format(wanted)))
+        self.write("e.xml", '<!DOCTYPE a [\n<!ENTITY b "c">]><a/>')
+        said = self.run_on("e.xml")[2]
+        self.assertRegex(said, "^urlcheck-documents: e.xml:2:[0-9]+: can't .*: an entity is declared, ")
+        self.write("a.html", "<a href='x y'>\n" + "<a " * 400_000 + ">")
+        status, out, said = self.run_on("--quiet", "a.html")
+        self.assertEqual((status, out), (2, "a.html:1:10:x y\n"))
+        wanted = "a.html:2:1: can't be read from here on: a tag has more than 1048576 code points\n"
+        self.assertEqual(said, "urlcheck-documents: " + wanted)
 
     def test_names(self):
         self.write("a\nb.html", "<a href='x y'>")
@@ -305,7 +454,7 @@ class Documents(unittest.TestCase):
         with open("/dev/full", "wb") as full:
             ran = subprocess.run([*PROGRAM, "a.html"], cwd=self.room, stdout=full, stderr=subprocess.PIPE)
         self.assertEqual(ran.returncode, 3)
-        self.assertIn(b"can't be written", ran.stderr)
+        self.assertIn(b"urlcheck-documents: standard output: can't be written: no space is left\n", ran.stderr)
 
     def test_closed_files(self):
         """Where a file of the three was closed before the start: a status of the page, and no traceback."""

@@ -1,0 +1,21 @@
+# Completions of urlcheck-documents for bash.
+_urlcheck_documents() {
+    local word=${COMP_WORDS[COMP_CWORD]} previous=${COMP_WORDS[COMP_CWORD - 1]} words= takes_files= option=
+    # A value behind `=` is a word of its own, or with COMP_WORDBREAKS changed a part of the option.
+    if [[ $word == = ]]; then word=
+    elif [[ $previous == = ]]; then previous=${COMP_WORDS[COMP_CWORD - 2]}
+    elif [[ $word == --*=* ]]; then previous=${word%%=*} option=$previous= word=${word#*=}; fi
+    case $previous in
+        --profile) words='standard wide parser' ;;
+        --type) words='html markdown xml' ;;
+        --ignore) takes_files=yes ;;
+        --base | --exclude) ;;
+        *) words='--check --base --profile --type --ignore --exclude --quiet -q --help -h --version' takes_files=yes ;;
+    esac
+    mapfile -t COMPREPLY < <(compgen -P "$option" -W "$words" -- "$word")
+    if [[ -n $takes_files ]]; then
+        compopt -o filenames
+        mapfile -t -O ${#COMPREPLY[@]} COMPREPLY < <(compgen -P "$option" -f -- "$word")
+    fi
+}
+complete -F _urlcheck_documents urlcheck-documents

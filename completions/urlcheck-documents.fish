@@ -1,0 +1,10 @@
+# Completions of urlcheck-documents for fish.
+complete -c urlcheck-documents -l check -d 'Judge the links, and report those that are refused'
+complete -c urlcheck-documents -l base -x -d 'What the references of the documents are relative to'
+complete -c urlcheck-documents -l profile -x -a 'standard wide parser' -d 'The profile to judge by'
+complete -c urlcheck-documents -l type -x -a 'html markdown xml' -d 'The kind of all documents'
+complete -c urlcheck-documents -l ignore -r -d 'A file with regular expressions of links that are meant as they are'
+complete -c urlcheck-documents -l exclude -x -d 'A pattern of what is left out of a folder, by its name or its path below that folder'
+complete -c urlcheck-documents -s q -l quiet -d 'Leave out the counts on standard error'
+complete -c urlcheck-documents -s h -l help -d 'Print help'
+complete -c urlcheck-documents -l version -d 'Print version'
