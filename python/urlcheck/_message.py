@@ -1,9 +1,11 @@
-"""What is said of a link that is refused, as ``urlcheck lint`` says it: code points are named, and credentials."""
+"""What is said of a link that is refused, as ``urlcheck lint`` says it: code points are named, what is wrong with a
+host, and credentials."""
 
 import re
 import unicodedata
+from typing import Callable, Dict, List, Tuple
 
-from . import Refused, sentence
+from . import Profile, sentence
 
 _CREDENTIALS = "a URL string has no credentials: no user name, password or @ before its host"
 
@@ -26,6 +28,32 @@ _SAID_OF_POINT = {
 }
 """What is said of a code point, where the rule is about one."""
 
+_FOREIGN = {
+    Profile.STANDARD: re.compile("[\0-\x7f](?<![-.0-9A-Za-z])"),
+    Profile.WIDE: re.compile("[\0-\x7f](?<![-._0-9A-Za-z])"),
+    Profile.PARSER: re.compile("[\0- <>@\\[\\]\\\\^|\x7f]"),
+}
+"""The ASCII code points that a profile refuses in a host, whatever else it has."""
+
+_Faults = List[Tuple[str, Callable[[str], bool]]]
+
+_FAULTS: _Faults = [
+    ("a label of this domain is empty", lambda label: not label),
+    ("a label of this domain has more than 63 code points", lambda label: len(label) > 63 and _is_plain(label)),
+    (
+        "a label of this domain begins or ends with -",
+        lambda label: (label.startswith("-") or label.endswith("-")) and _is_plain(label),
+    ),
+    (
+        "a label of this domain has -- in its third and fourth place",
+        lambda label: label[2:4] == "--" and _is_plain(label),
+    ),
+]
+"""What may be wrong with a label of a domain."""
+
+_REFUSES: Dict[Profile, _Faults] = {Profile.STANDARD: _FAULTS, Profile.WIDE: _FAULTS[:2], Profile.PARSER: []}
+"""What a profile refuses of that."""
+
 _CONTROLS = (
     "NULL,START OF HEADING,START OF TEXT,END OF TEXT,END OF TRANSMISSION,ENQUIRY,ACKNOWLEDGE,ALERT,BACKSPACE,"
     "CHARACTER TABULATION,LINE FEED,LINE TABULATION,FORM FEED,CARRIAGE RETURN,SHIFT OUT,SHIFT IN,DATA LINK ESCAPE,"
@@ -39,14 +67,33 @@ _HIDDEN = re.compile("[\x00-\x1f\x7f-\x9f\u061c\u200e\u200f\u2028-\u202e\u2066-\
 """The controls, and what turns the direction of a text or ends its line."""
 
 
-def message(text: str, refused: Refused) -> str:
-    """What is wrong with a text that is refused."""
-    if refused.rule in _OF_AUTHORITY and _has_credentials(text, refused.place):
+def message(text: str, rule: str, place: int, profile: Profile) -> str:
+    """What is wrong with a text that a profile refuses by this rule at this place."""
+    if rule in _OF_AUTHORITY and _has_credentials(text, place):
         return _CREDENTIALS
-    said = _SAID_OF_POINT.get(refused.rule)
-    if said is None or refused.place >= len(text):
-        return sentence(refused.rule)
-    return "{} {}".format(_named(text[refused.place]), said)
+    if rule == "host-domain":
+        return _of_domain(re.split("[/?#:]", text[place:], maxsplit=1)[0], profile)
+    said = _SAID_OF_POINT.get(rule)
+    if said is None or place >= len(text):
+        return sentence(rule)
+    return "{} {}".format(_named(text[place]), said)
+
+
+def _of_domain(host: str, profile: Profile) -> str:
+    """Why a host is no valid domain: the first code point that may not stand in it, else what is wrong with a label."""
+    foreign = _FOREIGN[profile].search(host)
+    if foreign:
+        return "{} may not stand in a domain".format(_named(foreign.group()))
+    labels = (host[:-1] if host.endswith(".") else host).split(".")
+    for said, is_wrong in _REFUSES[profile]:
+        if any(map(is_wrong, labels)):
+            return said
+    return sentence("host-domain")
+
+
+def _is_plain(label: str) -> bool:
+    """Whether a label is ASCII and no Punycode, so that it is its own form but for the case of its letters."""
+    return label.isascii() and not label.lower().startswith("xn--")
 
 
 def _has_credentials(text: str, place: int) -> bool:

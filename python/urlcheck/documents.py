@@ -17,7 +17,7 @@ import signal
 import sys
 from typing import Callable, Dict, Iterator, List, NamedTuple, Optional, Set, Tuple
 
-from . import BaseRefused, Profile, check, resolve, sentence, version
+from . import BaseRefused, Profile, check, resolve, version
 from . import _html_links, _markdown_links, _xml_links
 from ._message import message
 from ._source import Broken, Link, Source
@@ -210,7 +210,7 @@ class Judge:
         if answer:
             return None
         offset = link.offset + answer.place if link.is_verbatim else link.offset
-        said = message(link.text, answer)
+        said = message(link.text, answer.rule, answer.place, self._settings.profile)
         return "{}:{}:{}: error: {} [{}]".format(name, *source.position(offset), said, answer.rule)
 
 
@@ -489,8 +489,9 @@ def run(words: Optional[List[str]] = None) -> int:
             check("", given.base, profile)
         except BaseRefused as refused:
             # A base is judged alone, so that it needs a scheme.
-            why = "it has no scheme" if refused.rule == "no-scheme" else sentence(refused.rule)
-            return _stop("the base is refused at place {}: {} [{}]".format(refused.place, why, refused.rule))
+            rule, place = refused.rule, refused.place
+            why = "it has no scheme" if rule == "no-scheme" else message(given.base, rule, place, profile)
+            return _stop("the base is refused at place {}: {} [{}]".format(place, why, rule))
     seen = Run(settings, Judge(settings) if given.check else None, _write, _tell)
     for name in documents_of(given.files, excluded):
         seen.take(name)

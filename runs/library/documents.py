@@ -181,6 +181,38 @@ class Documents(unittest.TestCase):
             "a.html:2:85: error: U+FDD0 \ufdd0 may not stand in a URL [code-point]",
         ])
 
+    def test_hosts(self):
+        """Why a host is no valid domain, by each profile."""
+        empty, long = "a label of this domain is empty", "a label of this domain has more than 63 code points"
+        outer = "a label of this domain begins or ends with -"
+        inner = "a label of this domain has -- in its third and fourth place"
+        none, point = "the host that begins here is no valid domain", "U+{} may not stand in a domain"
+        label = "a" * 64
+        for profile, rows in (
+            ("standard", (
+                ("exa mple.com/", point.format("0020 SPACE")), ("a%41/", point.format("0025 PERCENT SIGN")),
+                ("x.._!/", point.format("005F LOW LINE")), ("\u00e9_/", point.format("005F LOW LINE")),
+                ("a^b:80", point.format("005E CIRCUMFLEX ACCENT")), ("a\x7fb?", point.format("007F DELETE")),
+                ("a..b/_", empty), (".", empty), (".a?_", empty), ("\u00e9..b:80", empty), ("a..", empty),
+                ("b." + label + "./", long), ("xn--" + label, none), ("a-:80/", outer), ("a.-b.c#_", outer),
+                ("ab--c.-", outer), ("a.bc--d/", inner), ("XM--a#", inner), ("Xn--a-/", none), ("\u00ad/", none),
+                ("-\u3002a/", none), ("\u00e9" * 64, none),
+            )),
+            ("wide", (
+                ("x_y!/", point.format("0021 EXCLAMATION MARK")), ("a..b/", empty), (label, long), ("xn--a-/", none),
+            )),
+            ("parser", (
+                ("x_y! z/", point.format("0020 SPACE")), ("a..%20/", none),
+                ("%<>/", point.format("003C LESS-THAN SIGN")), ("a\tb/", point.format("0009 CHARACTER TABULATION")),
+            )),
+        ):
+            self.write("a.html", "".join('<a href="http://{}">\n'.format(host) for host, _ in rows))
+            lines = self.run_on("--check", "--profile", profile, "a.html")[1].splitlines()
+            for (host, said), line in zip(rows, lines):
+                with self.subTest(profile=profile, host=host):
+                    self.assertRegex(line, "^a.html:[0-9]+:17: error: {} \\[host-domain\\]$".format(re.escape(said)))
+            self.assertEqual(len(lines), len(rows))
+
     def test_bases(self):
         self.write("none.html", '<a href="//h/C|">')
         self.judges("none.html", [("1:15", "code-point")])
@@ -191,6 +223,14 @@ class Documents(unittest.TestCase):
         status, _, said = self.run_on("--check", "--base", "x", "none.html")
         self.assertEqual(status, 2)
         self.assertIn("the base is refused at place 0: it has no scheme [no-scheme]", said)
+        for base, wanted in (
+            ("http://a_b/", "7: U+005F LOW LINE may not stand in a domain [host-domain]"),
+            ("http://h/a b", "10: U+0020 SPACE may not stand in a URL [code-point]"),
+            ("http://u@h/", "7: a URL string has no credentials: no user name, password or @ before its host"),
+        ):
+            status, _, said = self.run_on("--base", base, "none.html")
+            self.assertEqual(status, 2)
+            self.assertIn("urlcheck-documents: the base is refused at place " + wanted, said)
 
     def test_profiles(self):
         self.write("a.html", '<a href="http://a_b/">')
