@@ -43,7 +43,8 @@ expect 2 '' "urlcheck: a value is required for '--profile <PROFILE>' but none wa
 refused "'b'" check -- --base b t
 refused "'chek'" chek urn:a
 no_file='urlcheck: links reads standard input, and takes no file: urlcheck links <FILE'
-usage="urlcheck: Usage: urlcheck links [OPTIONS]\nurlcheck: For more information, try '--help'.\n"
+# (the usage names the file of the program)
+usage="urlcheck: Usage: $(basename "$program") links [OPTIONS]\nurlcheck: For more information, try '--help'.\n"
 expect 2 '' "urlcheck: unexpected argument 'x' found\n$usage$no_file\nwords\n" links x
 expect 2 '' "urlcheck: unexpected argument 'links.txt' found\n$usage$no_file\nwords\n" links --base http://h/ links.txt
 expect 2 '' "urlcheck: unexpected argument '--all' found\n$usage$no_file\nwords\n" links --all links.txt
