@@ -472,17 +472,16 @@ class Documents(unittest.TestCase):
         ):
             given = dict(os.environ, URLCHECK_LIBRARY=library)
             wanted = "the shared library " + why + remedy
-            runs = [["-m", "urlcheck.documents", "a.html"], ["-m", "urlcheck.documents"], ["urlcheck-documents"]]
-            for words in runs if hasattr(sys, "orig_argv") else runs[2:]:
+            runs = [(["urlcheck-documents"], 2), (["-c", "import urlcheck"], 1), (["-m", "other"], 1)]
+            if hasattr(sys, "orig_argv"):
+                runs += [(["-m", "urlcheck.documents", "a.html"], 2), (["-m", "urlcheck.documents"], 2)]
+            for words, status in runs:
                 with self.subTest(library=library, words=words):
                     ran = subprocess.run([sys.executable, *words], cwd=self.room, env=given, capture_output=True)
-                    self.assertEqual((ran.returncode, ran.stdout), (2, b""))
-                    self.assertEqual(ran.stderr.decode(), "urlcheck-documents: " + wanted)
-            for words in (["-c", "import urlcheck"], ["-m", "other"]):
-                with self.subTest(library=library, words=words):
-                    ran = subprocess.run([sys.executable, *words], cwd=self.room, env=given, capture_output=True)
-                    self.assertEqual((ran.returncode, ran.stdout), (1, b""))
-                    self.assertTrue(ran.stderr.decode().endswith("\nImportError: " + wanted), ran.stderr)
+                    self.assertEqual((ran.returncode, ran.stdout), (status, b""))
+                    *before, last = ran.stderr.decode().splitlines(True)
+                    self.assertEqual(last, ("urlcheck-documents: " if status == 2 else "ImportError: ") + wanted)
+                    self.assertEqual(before == [], status == 2, ran.stderr)
             for shut in ("2>&-", "2>/dev/full"):
                 with self.subTest(library=library, shut=shut):
                     line = '"{}" urlcheck-documents a.html {}'.format(sys.executable, shut)
