@@ -18,7 +18,7 @@ impl Record {
     pub fn text(&self, alloc: Global) -> Result<String, AllocError>
         ensures { IfOk result (λ text. string_bytes text ≡ serial self.now) }
     {
-        let mut text = String::new(alloc);
+        let mut text = String::with_capacity(alloc, room_for(self))?;
         self.push_text(alloc, &mut text)?;
         Ok(text)
     }
@@ -32,6 +32,53 @@ impl Record {
     {
         push_before_path(alloc, out, self)?;
         push_from_path(out, self)
+    }
+}
+
+// The length of that text, with room for any address and any port. No clause says it: a text that outgrows it is written
+// all the same.
+fn room_for(url: &Record) -> usize {
+    url.scheme()
+        .len()
+        .saturating_add(host_room(url.host()))
+        .saturating_add(path_room(url.path()))
+        .saturating_add(part_room(url.query()))
+        .saturating_add(part_room(url.fragment()))
+        .saturating_add("://:65535".len())
+}
+
+// The length of a name, or the most of an address.
+fn host_room(host: Option<&Host>) -> usize {
+    match host {
+        Some(Host::Domain(form)) => form.as_str().len(),
+        Some(Host::Opaque(text)) => text.as_str().len(),
+        Some(Host::V4(_) | Host::V6(_)) => "[1111:2222:3333:4444:5555:6666:7777:8888]".len(),
+        Some(Host::Empty) | None => 0,
+    }
+}
+
+// The length of a path.
+fn path_room(path: &UrlPath) -> usize {
+    match path {
+        UrlPath::Opaque(text) => text.as_str().len(),
+        UrlPath::Segments(segments) => segments_room(segments.as_slice()),
+    }
+}
+
+// The length of segments, each with its `/`.
+fn segments_room(segments: &[Text]) -> usize {
+    let mut room = 0usize;
+    for segment in segments {
+        room = room.saturating_add(part_room(Some(segment.as_str())));
+    }
+    room
+}
+
+// The length of a part with the mark before it, where there is one.
+fn part_room(text: Option<&str>) -> usize {
+    match text {
+        Some(text) => text.len().saturating_add(1),
+        None => 0,
     }
 }
 

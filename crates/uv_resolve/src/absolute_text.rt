@@ -11,13 +11,12 @@ ghost use Rattle.uv_resolve.specs.AbsoluteText as spec;
 ghost use Rattle.uv_resolve.specs.AbsoluteText.{AreSomeParts, HasLowerScheme, IsLowerScheme, IsSerialOnAnyBase};
 ghost use Rattle.uv_resolve.specs.OwnText.{is_kept_segment};
 
-use crate::own_text::is_never_encoded;
+use crate::encoded_parts::push_encoded_part;
 use itoa::Buffer;
 use std::alloc::{AllocError, Global};
 use std::net::Ipv6Addr;
 use uv_grammar::{Form, HostRef, Parts, Segments};
 use uv_model::{is_double_dot, is_name, is_single_dot};
-use uv_text::push_encoded;
 
 /// The text of the URL that a valid text with these parts denotes against any base, where it begins with a special
 /// scheme and an authority, and has no dot segment. None says nothing, and the error is out of memory.
@@ -109,7 +108,7 @@ fn write(
     written.push_str("://")?;
     push_host(alloc, &mut written, host)?;
     push_port(&mut written, parts.port())?;
-    push_part(&mut written, path_or_slash(parts.path_text()), false)?;
+    push_encoded_part(&mut written, path_or_slash(parts.path_text()), false)?;
     push_part_behind(&mut written, '?', parts.query(), true)?;
     push_part_behind(&mut written, '#', parts.fragment(), false)?;
     Ok(written)
@@ -220,15 +219,5 @@ fn push_part_behind(
         return Ok(());
     };
     out.push(mark)?;
-    push_part(out, text, quote)
-}
-
-// The text percent-encoded, which leaves most texts as they are.
-fn push_part(out: &mut String, text: &str, quote: bool) -> Result<(), AllocError>
-    ensures { OnOk result (string_bytes out.new ≡ string_bytes out.old ++ encoded quote (chars text.now)) }
-{
-    if is_never_encoded(text) {
-        return out.push_str(text);
-    }
-    push_encoded(out, text, quote)
+    push_encoded_part(out, text, quote)
 }

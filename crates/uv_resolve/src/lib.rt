@@ -4,6 +4,7 @@
 
 mod absolute_text;
 mod base;
+mod encoded_parts;
 mod fault;
 mod host_text;
 pub mod laws;

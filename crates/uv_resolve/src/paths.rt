@@ -5,13 +5,13 @@ ghost use Rattle.uv_model.specs.Encoding.{encoded};
 ghost use Rattle.uv_model.specs.Path as path_spec;
 ghost use Rattle.uv_resolve.specs.Resolve.{HaveValidText};
 
+use crate::encoded_parts::encoded_part;
 use crate::walker::{shorten, walk};
 use std::alloc::{AllocError, Global};
 use uv_grammar::{Form, Parts};
 use uv_model::{
     Class, Record, Text, TextList, UrlPath, is_drive_letter, is_normalized_drive_letter,
 };
-use uv_text::encode;
 
 /// The path that the parts denote against the base, in a URL of this class.
 pub(crate) fn path_of(
@@ -95,7 +95,7 @@ fn encoded_path(alloc: Global, text: &str, followed: bool) -> Result<String, All
     if followed {
         followed_path(alloc, text)
     } else {
-        encode(alloc, text, false)
+        encoded_part(alloc, text, false)
     }
 }
 
@@ -106,11 +106,11 @@ fn followed_path(alloc: Global, text: &str) -> Result<String, AllocError>
 {
     match text.strip_suffix(' ') {
         Some(kept) => {
-            let mut path = encode(alloc, kept, false)?;
+            let mut path = encoded_part(alloc, kept, false)?;
             path.push_str("%20")?;
             Ok(path)
         }
-        None => encode(alloc, text, false),
+        None => encoded_part(alloc, text, false),
     }
 }
 

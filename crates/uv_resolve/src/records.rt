@@ -9,11 +9,11 @@ ghost use Rattle.uv_model.specs.Records.WellFormed.{WellFormed};
 ghost use Rattle.uv_resolve.specs.Resolve.{HaveValidText};
 ghost use Rattle.uv_grammar.specs.Slices.{chars_of_option};
 
+use crate::encoded_parts::encoded_part;
 use crate::paths::path_of;
 use std::alloc::{AllocError, Global};
 use uv_grammar::{Form, Parts};
 use uv_model::{Class, Host, Profile, Record, Text, class_of};
-use uv_text::encode;
 
 /// The record that the parts denote against the base.
 pub(crate) fn denoted(
@@ -113,7 +113,7 @@ fn opaque_host(alloc: Global, text: Option<&str>) -> Result<Option<Host>, AllocE
         host ≡ option_map (λ t. Host.Opaque (encoded false t)) (chars_of_option text.entry)) }
 {
     match text {
-        Some(text) => Ok(Some(Host::Opaque(Text::of(encode(alloc, text, false)?)))),
+        Some(text) => Ok(Some(Host::Opaque(Text::of(encoded_part(alloc, text, false)?)))),
         None => Ok(None),
     }
 }
@@ -206,7 +206,7 @@ fn encoded_text(
         ≡ option_map (encoded quote) (chars_of_option text.entry)) }
 {
     match text {
-        Some(text) => Ok(Some(encode(alloc, text, quote)?)),
+        Some(text) => Ok(Some(encoded_part(alloc, text, quote)?)),
         None => Ok(None),
     }
 }

@@ -3,10 +3,10 @@ ghost use Rattle.std.specs.Prelude.{◌≡◌, IfOk, IsTrue, false, map, chars, 
 ghost use Rattle.uv_model.specs.Path as spec;
 ghost use Rattle.uv_resolve.specs.Walk.{is_dots};
 
+use crate::encoded_parts::encoded_part;
 use std::alloc::{AllocError, Global};
 use uv_grammar::Segments;
 use uv_model::{Class, Text, is_double_dot, is_normalized_drive_letter, is_single_dot};
-use uv_text::encode;
 
 /// The segments after a walk from a start list over the segments of a text.
 pub(crate) fn walk(
@@ -46,7 +46,7 @@ fn step(
     if is_single_dot(segment) {
         return Ok(true);
     }
-    path.push(Text::of(encode(alloc, segment, false)?))?;
+    path.push(Text::of(encoded_part(alloc, segment, false)?))?;
     Ok(false)
 }
 
