@@ -312,6 +312,24 @@ LISP
     done
 fi
 
+# The task of an editor that runs a command and matches each line it writes.
+recipe 'Visual Studio Code' json >tasks.json
+cat >task.py <<'PYTHON'
+import json, re, subprocess, sys
+task, = json.load(open("tasks.json"))["tasks"]
+command = [task["command"], *(word.replace("${file}", sys.argv[1]) for word in task["args"])]
+ran = subprocess.run(command, stdout=subprocess.PIPE, text=True)
+pattern = task["problemMatcher"]["pattern"]
+parts = ("file", "line", "column", "message", "code")
+for line in ran.stdout.splitlines():
+    found = re.search(pattern["regexp"], line)
+    print(*(found[pattern[name]] for name in parts), sep="|")
+sys.exit(ran.returncode)
+PYTHON
+printf 'http://h/\nhttp://h/\360\237\230\200 x\n' >'two words.links'
+ends 1 'the task of Visual Studio Code' python3 task.py 'two words.links'
+says 'the task of Visual Studio Code' 'two words.links|2|12|U+0020 SPACE may not stand in a URL|code-point'
+
 # Documents: each kind, a wrong link in each, a document that is cut, one without links, a link over two lines.
 in_folder documents
 recipe 'A sitemap or a feed' bash >recipe.sh

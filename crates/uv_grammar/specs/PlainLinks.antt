@@ -1,6 +1,7 @@
 -- The cuts of the links that people write, after the URL Standard, sections 3.4 and 4.3.
 use Rattle.std.specs.Prelude.{◌≡◌, ◌≢◌, ℕ, ◌≤◌, Bool, true, false, ◌||◌, ◌==◌, List, [], ◌∷◌, ◌++◌, length, take, drop}
 use Rattle.std.specs.Prelude.{Option, Some, None}
+use Rattle.std.specs.Borrow.{Bor}
 use Rattle.std.specs.Char.{is_ascii}
 use Rattle.std.specs.List.{list_all}
 use Rattle.std.specs.Str.{chars}
@@ -141,6 +142,14 @@ IsPlainCut profile base text cut =
     IsPlainLink profile base text (chars_of_option cut.scheme) (chars_of cut.name) cut.name.now
     (chars_of_option cut.port_text) cut.port (chars_of cut.path_text) (chars_of_option cut.query)
     (chars_of_option cut.fragment)
+
+-- the start has this scheme, written or not, and this name, and the text behind the name begins with its port, or has
+-- none, beside the default port of the scheme
+pub record IsStartBehind (written : Option (Bor (List ℕ))) (scheme : List ℕ) (name : Bor (List ℕ)) (text : List ℕ)
+    (start : PlainStart) : Type 0 where
+  pub written_scheme : start.scheme ≡ written
+  pub same_name : start.name ≡ name
+  pub port_cut : IsPortCut (default_port scheme) text (chars_of_option start.port_text) start.port (chars start.rest)
 
 -- the text, against the base, has by the profile this plain start
 abbrev pub IsPlainStart : Profile → Option Url → List ℕ → PlainStart → Type 0

@@ -9,7 +9,7 @@ ghost use Rattle.uv_model.specs.Path.{starts_with_slash};
 ghost use Rattle.uv_model.specs.Records.Url.{Url};
 ghost use Rattle.uv_grammar.specs.Bases.{as_base};
 ghost use Rattle.uv_grammar.specs.PlainLinks.{IsPartCut, IsPathCut, IsPlainCut, IsPlainStart, IsSpecialBase};
-ghost use Rattle.uv_grammar.specs.PlainLinks.{begins_behind};
+ghost use Rattle.uv_grammar.specs.PlainLinks.{IsStartBehind, begins_behind};
 ghost use Rattle.uv_grammar.specs.Slices.{chars_of, chars_of_option};
 ghost use Rattle.uv_grammar.specs.Verdict.{IsAccepted};
 
@@ -82,16 +82,7 @@ pub(crate) fn plain_start<'t>(text: &'t str) -> Option<PlainStart<'t>>
     let Some((name, rest)) = split_name(&behind) else {
         return None;
     };
-    let Some((port_text, port, rest)) = split_port(rest, scheme) else {
-        return None;
-    };
-    Some(PlainStart {
-        scheme: Some(scheme),
-        name,
-        port_text,
-        port,
-        rest,
-    })
+    start_behind(Some(scheme), scheme, name, rest)
 }
 
 /// The same by the wide profile, in which low lines count as letters of a domain.
@@ -105,16 +96,7 @@ pub(crate) fn wide_start<'t>(text: &'t str) -> Option<PlainStart<'t>>
     let Some((name, rest)) = split_wide_name(&behind) else {
         return None;
     };
-    let Some((port_text, port, rest)) = split_port(rest, scheme) else {
-        return None;
-    };
-    Some(PlainStart {
-        scheme: Some(scheme),
-        name,
-        port_text,
-        port,
-        rest,
-    })
+    start_behind(Some(scheme), scheme, name, rest)
 }
 
 /// Whether a text may have another plain start: `//` without a scheme, or a scheme that begins with a capital.
@@ -146,16 +128,7 @@ fn upper_start<'t>(text: &'t str) -> Option<PlainStart<'t>>
     let Some((name, rest)) = split_name(&behind) else {
         return None;
     };
-    let Some((port_text, port, rest)) = split_port(rest, scheme) else {
-        return None;
-    };
-    Some(PlainStart {
-        scheme: Some(scheme),
-        name,
-        port_text,
-        port,
-        rest,
-    })
+    start_behind(Some(scheme), scheme, name, rest)
 }
 
 // The same of a reference, against a base of a special scheme: `//` in place of the scheme and `://`.
@@ -172,11 +145,24 @@ fn reference_start<'t>(text: &'t str, base: Option<Base<'_>>) -> Option<PlainSta
     let Some((name, rest)) = split_name(&behind) else {
         return None;
     };
+    start_behind(None, scheme, name, rest)
+}
+
+// The start with this name and a scheme that is written or the base's: a port follows, or none.
+#[inline(always)]
+fn start_behind<'t>(
+    written: Option<&'t str>,
+    scheme: &str,
+    name: &'t str,
+    rest: Tail<'t>,
+) -> Option<PlainStart<'t>>
+    ensures { IfSome result (IsStartBehind written.entry (chars scheme.now) name.entry (chars rest.entry)) }
+{
     let Some((port_text, port, rest)) = split_port(rest, scheme) else {
         return None;
     };
     Some(PlainStart {
-        scheme: None,
+        scheme: written,
         name,
         port_text,
         port,
