@@ -29,14 +29,37 @@ python3 "$here/answers.py" "$program" "$room/cases.json" "$top"/vectors/*.json
 node "$here/vectors.mjs" "$folder" "$room/cases.json"
 node "$here/calls.mjs" "$folder"
 
-# The program of docs/BROWSER.md, as it stands there.
+# example PAGE FOLDER : the program of a page, as it stands there, prints in the folder what the page says
+example() {
+    local name=${1#"$top/"}
+    sed -n '/^```js$/,/^```$/p' "$1" | sed '/^```/d' >"$2/example.mjs"
+    awk '/^```js$/ { found = 1 } found && /^```$/ { fences++; next } fences == 2' "$1" >"$room/wanted"
+    [ -s "$room/wanted" ] || { echo "FAILED: $name has no example"; exit 1; }
+    node "$2/example.mjs" >"$room/said" || { cat "$room/said"; exit 1; }
+    diff "$room/wanted" "$room/said" || { echo "FAILED: the example of $name prints something else"; exit 1; }
+    echo "browser: the example of $name"
+}
 cp -r "$folder" "$room/example"
-sed -n '/^```js$/,/^```$/p' "$top/docs/BROWSER.md" | sed '/^```/d' >"$room/example/example.mjs"
-awk '/^```js$/ { found = 1 } found && /^```$/ { fences++; next } fences == 2' "$top/docs/BROWSER.md" >"$room/wanted"
-[ -s "$room/wanted" ] || { echo 'FAILED: docs/BROWSER.md has no example'; exit 1; }
-node "$room/example/example.mjs" >"$room/said" || { cat "$room/said"; exit 1; }
-diff "$room/wanted" "$room/said" || { echo 'FAILED: the example of docs/BROWSER.md prints something else'; exit 1; }
-echo 'browser: the example of docs/BROWSER.md'
+example "$top/docs/BROWSER.md" "$room/example"
+
+# What a release hands out: the package, which npm installs and would make of the same files, and the page.
+"$top/packaging/pack-page" "$folder" "$room/packed"
+package=$(cd "$room/packed" && ls "$PWD"/urlcheck-[0-9]*.tgz)
+mkdir -p "$room/user/node_modules/urlcheck"
+if command -v npm >/dev/null; then
+    (cd "$room/user" && npm install --offline --no-audit --no-fund "$package") >"$room/said" 2>&1 ||
+        { cat "$room/said"; exit 1; }
+    (cd "$folder" && npm pack --dry-run --json 2>/dev/null) |
+        node -p 'JSON.parse(fs.readFileSync(0))[0].files.map(it => `package/${it.path}`).sort().join("\n")' >"$room/wanted"
+    tar -tzf "$package" | grep -v '/$' | sort | diff "$room/wanted" - ||
+        { echo 'FAILED: npm makes the package of other files'; exit 1; }
+else
+    echo "browser: npm is left out, since it isn't installed"
+    tar -C "$room/user/node_modules/urlcheck" --strip-components=1 -xzf "$package"
+fi
+example "$top/web/README.md" "$room/user"
+tar -C "$room" -xzf "$room"/packed/urlcheck-page-*.tar.gz
+diff -r "$folder" "$room"/urlcheck-page-* || { echo 'FAILED: the page is packed otherwise than it was built'; exit 1; }
 
 if command -v tsc >/dev/null; then
     mkdir "$room/types"
