@@ -1,7 +1,8 @@
 """Builds the wheel of the package (PEP 517) by the standard library alone, so that installing it needs no network.
 
 The folder is what ./build-library writes: beside pyproject.toml stand VERSION, PLATFORM (the tag of the systems on
-which the shared library runs), the licences, and the package with the shared library. Two builds give the same bytes.
+which the shared library runs), the licences, and the package with the shared library. Where there is a folder `bin` too,
+the programs in it are installed with the package, as those of a release's wheel. Two builds give the same bytes.
 """
 
 import base64
@@ -14,6 +15,7 @@ import zipfile
 
 NAME = "urlcheck"
 LIBRARY = "liburlcheck.so.0"
+PROGRAMS = "bin"
 TABLE = "pyproject.toml"
 
 
@@ -72,14 +74,27 @@ def prepare_metadata_for_build_wheel(metadata_directory, config_settings=None):
     return write_about(metadata_directory)
 
 
-def _files(tag):
-    """What the wheel holds, by its names."""
+def _scripts():
+    """The folder of the wheel whose files become programs on the path."""
+    return "{}-{}.data/scripts/".format(NAME, _text("VERSION"))
+
+
+def _held(folder, within):
+    """The files of a folder, by their names within the wheel."""
     files = {}
-    for name in sorted(os.listdir(NAME)):
-        path = os.path.join(NAME, name)
+    for name in sorted(os.listdir(folder)):
+        path = os.path.join(folder, name)
         if os.path.isfile(path):
             with open(path, "rb") as file:
-                files[NAME + "/" + name] = file.read()
+                files[within + name] = file.read()
+    return files
+
+
+def _files(tag):
+    """What the wheel holds, by its names."""
+    files = _held(NAME, NAME + "/")
+    if os.path.isdir(PROGRAMS):
+        files.update(_held(PROGRAMS, _scripts()))
     if NAME + "/" + LIBRARY not in files:
         raise FileNotFoundError(LIBRARY + " is missing: run ./build-library DIR, and install DIR/python")
     files[_folder() + "/METADATA"] = _metadata().encode()
@@ -114,6 +129,6 @@ def build_wheel(wheel_directory, config_settings=None, metadata_directory=None):
         for name, data in files.items():
             entry = zipfile.ZipInfo(name, _date())
             entry.compress_type = zipfile.ZIP_DEFLATED
-            entry.external_attr = 0o644 << 16
+            entry.external_attr = (0o755 if name.startswith(_scripts()) else 0o644) << 16
             out.writestr(entry, data)
     return wheel

@@ -132,6 +132,19 @@ for compiler in gcc clang g++ clang++; do
     done
 done
 
+# ---- the wheel, which has the program as a release's has it
+
+if python3 -m pip --version >/dev/null 2>&1; then
+    cp -r "$library/python" "$room/wheel"
+    install -D -m 755 "$program" "$room/wheel/bin/urlcheck"
+    quietly python3 -m pip install --no-deps --no-index --target "$room/site" "$room/wheel"
+    "$room/site/bin/urlcheck" --version | cmp - <(echo "urlcheck $version") || fail "the wheel's program"
+    PYTHONPATH=$room/site "$room/site/bin/urlcheck-documents" --version >"$room/said" || fail "the wheel's urlcheck-documents"
+    grep -qF "$version" "$room/said" || fail "the wheel's urlcheck-documents says: $(cat "$room/said")"
+else
+    echo "packages: the wheel is left out, since pip isn't installed"
+fi
+
 # ---- removed again
 
 quietly ./install $prefix

@@ -97,4 +97,6 @@ cc "$room/page.c" $(pkg-config --cflags --libs urlcheck) -Wl,-rpath,"$at/lib" -o
 python3 -m pip install --quiet --no-deps --no-index --target "$room/site" "$room"/one/*.whl 2>"$room/said" ||
     { cat "$room/said"; fail "pip doesn't install the wheel"; }
 PYTHONPATH=$room/site python3 "$room/page.py" | cmp - "$room/page.py.out" || fail "the program in Python by the wheel"
+"$room/site/bin/urlcheck" --version | cmp - <(echo "urlcheck $version") || fail "the wheel's program"
+PYTHONPATH=$room/site "$room/site/bin/urlcheck-documents" --version | grep -qF "$version" || fail "the wheel's other program"
 echo "release: the archive and the wheel work; version $version"
