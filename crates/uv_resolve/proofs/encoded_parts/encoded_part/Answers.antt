@@ -1,9 +1,9 @@
--- A text that no part encodes is its own encoding, and ASCII.
+-- A text that no part encodes is its own encoding.
 use Rattle.std.proofs.Common.{rules, sym}
 use Rattle.uv_resolve.proofs.AbsoluteTextLemmas.{never_encoded-encoded}
-use Rattle.uv_resolve.proofs.OwnTextLemmas.{never_encoded-IsAscii}
 use Rattle.uv_resolve.proofs.encoded_parts.encoded_part.Goals as goal
 
-pub returns-then-is_never_encoded-text : goal.returns-then-is_never_encoded-text
-returns-then-is_never_encoded-text c =
-    sym (never_encoded-encoded c.args.quote c.args.text.now (c.is_never_encoded.ensures c.if-is_never_encoded.true))
+pub returns-then-is_never_encoded-clause-text : goal.returns-then-is_never_encoded-clause-text
+returns-then-is_never_encoded-clause-text c =
+    rw (sym (never_encoded-encoded c.args.quote c.args.text.now (c.is_never_encoded.ensures c.if-is_never_encoded.true)))
+    (search rules)

@@ -8,4 +8,4 @@ returns-then-followed c = rw c.if-followed.true c.followed_path.ensures
 
 pub returns-else-followed : goal.returns-else-followed
 returns-else-followed c =
-    rw (c.if-followed.false, escaped_alone (chars c.args.text.now)) c.encode.ensures.text
+    rw (c.if-followed.false, escaped_alone (chars c.args.text.now)) c.encoded_part.ensures.text

@@ -15,4 +15,4 @@ returns-in_ok-push_str-in-Some c =
 pub returns-in-None : goal.returns-in-None
 returns-in-None c =
     let none = strip_suffix_char space c.args.text.now None c.in-None.ensures.cases (lit< tt) in
-    rw (other_encoded c.args.text.now c.utf8.text none) c.encode-in-None.ensures.text
+    rw (other_encoded c.args.text.now c.utf8.text none) c.encoded_part-in-None.ensures.text
