@@ -86,18 +86,29 @@ of_list 1 "list:1:11: $space\nlist:1:13: $percent\nlist:2:8: $credentials\nlist:
 
 # A code point of two columns and one of two bytes before the fault of a line, and one that isn't UTF-8, in each format.
 both='/\xe6\x97\xa5\xc3\xa9 \na\xffb\n'
-of_list 1 "list:1:1: $scheme\nlist:2:1: $utf8\n" "$(counted 2 2)" "$both" --format gnu
-of_list 1 "list:1:1: $scheme\n/\xe6\x97\xa5\xc3\xa9 \n^\nlist:2:1: $utf8\na\xef\xbf\xbdb\n^\n" "$(counted 2 2)" "$both" \
+of_list 1 "list:1:1: $scheme\nlist:2:2: $utf8\n" "$(counted 2 2)" "$both" --format gnu
+of_list 1 "list:1:1: $scheme\n/\xe6\x97\xa5\xc3\xa9 \n^\nlist:2:2: $utf8\na\xef\xbf\xbdb\n ^\n" "$(counted 2 2)" "$both" \
     --format caret
 of_list 1 '{"column":1,"cut":false,"file":"list","line":1,"message":"there is no scheme and no base","rule":"no-scheme",'\
-'"text":"/\xe6\x97\xa5\xc3\xa9 "}\n{"column":1,"cut":false,"file":"list","line":2,"message":"this line isn'"'"'t UTF-8",'\
+'"text":"/\xe6\x97\xa5\xc3\xa9 "}\n{"column":2,"cut":false,"file":"list","line":2,"message":"this line isn'"'"'t UTF-8",'\
 '"rule":"not-utf8","text":"a\xef\xbf\xbdb"}\n' "$(counted 2 2)" "$both" --format json
 of_list 1 "::error file=list,line=1,col=1,title=no-scheme::there is no scheme and no base
-::error file=list,line=2,col=1,title=not-utf8::this line isn't UTF-8\n" "$(counted 2 2)" "$both" --format github
+::error file=list,line=2,col=2,title=not-utf8::this line isn't UTF-8\n" "$(counted 2 2)" "$both" --format github
 of_list 1 "$document<file name=\"list\">
 <error line=\"1\" column=\"1\" severity=\"error\" message=\"there is no scheme and no base\" source=\"urlcheck.no-scheme\"/>
-<error line=\"2\" column=\"1\" severity=\"error\" message=\"this line isn't UTF-8\" source=\"urlcheck.not-utf8\"/>
+<error line=\"2\" column=\"2\" severity=\"error\" message=\"this line isn't UTF-8\" source=\"urlcheck.not-utf8\"/>
 </file>\n</checkstyle>\n" "$(counted 2 2)" "$both" --format checkstyle
+
+# The column of the first byte that isn't UTF-8, in each unit: behind U+FFFD, which is UTF-8, U+65E5, `e` with U+0301,
+# U+1F600 and a tab; behind the column 10 of a link; and where a code point is cut off by the line's end.
+foreign='\xef\xbf\xbd\xe6\x97\xa5e\xcc\x81\xf0\x9f\x98\x80\t\xff\xfe'
+for unit in code-points,7 bytes,15 utf16,8 screen,9; do
+    of_list 1 "list:1:${unit#*,}: $utf8\n" "$(counted 1 1)" "$foreign" --columns "${unit%,*}"
+done
+of_list 1 "a:3:16: $utf8\na:3:12: $utf8\n" "$(counted 2 2)" "a:3:10:$foreign\na:3:10:ab\xe6\x97\n" --located
+of_list 1 "a:3:24: $utf8\n" "$(counted 1 1)" "a:3:10:$foreign" --located --columns bytes
+of_list 1 "list:1:7: $utf8\n" "$(counted 1 1)" 'urn:\xc3\xa9 \xed\xa0\x80 \n' --all
+of_list 1 "list:1:2: $utf8\n" "$(counted 1 1)" 'a\xff:1:2:x\n' --located
 
 # What to write in place of a refused link, by the base and the profile: at the first diagnostic of its line, and only
 # where the format says it.
@@ -129,15 +140,18 @@ of_list 1 "$(awk 'BEGIN {
 }')\n" "$(counted 1 1)" "urn:$carets" --all
 
 # Links that say where they stand, and lines that don't: the first run of two numbers ends the file's name.
-form="error: this line isn't FILE:LINE:COLUMN:LINK [not-located]"
-of_list 1 "a.html:3:20: $space\nC:\\\\y.html:3:4: $scheme\na:1:2: $scheme\na:1:2: $scheme\nlist:7:1: $form\nlist:8:1: $form
-a:7:8: $scheme\nlist:10:1: $form\nlist:11:1: $form\na:1:2: $utf8\nlist:13:1: $utf8\n" "$(counted 12 11)" \
+# form_of REASON : the diagnostic of a line that doesn't say where its link stands
+form_of() { echo "error: this line isn't FILE:LINE:COLUMN:LINK, since $1 [not-located]"; }
+no_line=$(form_of 'LINE is missing') no_file=$(form_of 'FILE is empty')
+column_range=$(form_of "COLUMN isn't from 1 to 4294967295")
+of_list 1 "a.html:3:20: $space\nC:\\\\y.html:3:4: $scheme\na:1:2: $scheme\na:1:2: $scheme\nlist:7:1: $column_range\nlist:8:1: $column_range
+a:7:8: $scheme\nlist:10:1: $no_file\nlist:11:1: $no_line\na:1:2: $utf8\nlist:13:1: $utf8\n" "$(counted 12 11)" \
     'a.html:3:10:http://h/a b\n\nC:\\x.html:3:4:http://h/\nC:\\y.html:3:4:b\na:1:2:3:4:x\na:1:2:\na:1:0:x
 a:1:4294967296:x\na:007:08:x\n:1:2:x\nhttp://h/\na:1:2:\xff\n\xff:1:2:x\n' --located
 of_list 1 "$document<file name=\"a\">
 <error line=\"1\" column=\"2\" severity=\"error\" message=\"there is no scheme and no base\" source=\"urlcheck.no-scheme\"/>
 </file>\n<file name=\"list\">
-<error line=\"3\" column=\"1\" severity=\"error\" message=\"this line isn't FILE:LINE:COLUMN:LINK\" \
+<error line=\"3\" column=\"1\" severity=\"error\" message=\"this line isn't FILE:LINE:COLUMN:LINK, since LINE is missing\" \
 source=\"urlcheck.not-located\"/>
 </file>\n</checkstyle>\n" "$(counted 3 2)" 'a:1:2:b\nb:1:2:urn:a\nurn:a\n' --located --format checkstyle
 of_list 0 "$document</checkstyle>\n" "$(counted 0 0)" '' --located --format checkstyle

@@ -448,19 +448,25 @@ sees_spoiled diagnostics hostile readers 'gnu s/:1: error/:2: error/' 'caret s/^
 # Lines that say where their links stand: FILE is all before the first run of two numbers, which are from 1 to 2^32 - 1; an
 # empty link is judged, an empty line isn't. What isn't of the form is reported by the list's own name and line.
 scheme='error: there is no scheme and no base [no-scheme]'
-form="error: this line isn't FILE:LINE:COLUMN:LINK [not-located]"
+form_of() { echo "error: this line isn't FILE:LINE:COLUMN:LINK, since $1 [not-located]"; }
+no_column=$(form_of 'COLUMN is missing') line_range=$(form_of "LINE isn't from 1 to 4294967295")
+column_range=$(form_of "COLUMN isn't from 1 to 4294967295")
 of_input 1 "page.html:12:44: error: U+0020 SPACE may not stand in a URL [code-point]\n" 'urlcheck: 2 lines, 1 refused\n' \
     'page.html:12:34:http://h/a b\n\npage.html:13:1:urn:a\n' --located -
 of_input 1 "a:b.html:3:4: $scheme\na:1:2: $scheme\na:7:8: $scheme\n" 'urlcheck: 4 lines, 3 refused\n' \
     'C:\\x.html:3:4:http://h/\na:b.html:3:4:x\na:1:2:3:4:x\na:007:08:x\n' --located -
-of_input 1 "a:1:2: $scheme\n-:2:1: $form\n-:3:1: $form\n-:4:1: $form\n-:5:1: $form\n-:6:1: $form\n" \
+of_input 1 "a:1:2: $scheme\n-:2:1: $no_column\n-:3:1: $column_range\n-:4:1: $line_range\n-:5:1: $column_range
+-:6:1: $(form_of 'FILE is empty')\n" \
     'urlcheck: 6 lines, 6 refused\n' 'a:1:2:\na:1:http://h/\na:1:0:x\na:0:1:x\na:1:4294967296:x\n:1:2:x\n' --located -
-of_input 1 "a:4294967295:4294967295: $scheme\n-:2:1: $form\n" 'urlcheck: 2 lines, 2 refused\n' \
+of_input 1 "a:4294967295:4294967295: $scheme\n-:2:1: $line_range\n" 'urlcheck: 2 lines, 2 refused\n' \
     'a:4294967295:4294967295:x\na:4294967296:1:x\n' --located -
 of_input 0 '' 'urlcheck: 2 lines, 0 refused\n' '\xef\xbb\xbfa:1:2:\na:1:2:x\n' --located --base http://h/ -
 of_input 1 "-:1:1: $scheme\n" 'urlcheck: 1 line, 1 refused\n' '1:2:3:4:x' -
+# LINE is the first number that stands between two colons, or between one and the end: a port before a path is none.
+of_input 1 "-:1:1: $(form_of 'LINE is missing')\n-:2:1: $no_column\n-:3:1: $no_column\n-:4:1: $(form_of 'LINK is missing')\n" \
+    'urlcheck: 4 lines, 4 refused\n' 'http://h:80/\na:1\na:1:b:2:3\na:1:2\n' --located -
 printf 'a:1:2:b\n' >"$room/located"
-expect 1 "a:1:2: $scheme\nother.txt:1:1: $form\n" 'urlcheck: 2 lines, 2 refused\n' lint --located located other.txt
+expect 1 "a:1:2: $scheme\nother.txt:1:1: $(form_of 'LINE is missing')\n" 'urlcheck: 2 lines, 2 refused\n' lint --located located other.txt
 "$program" lint --located </dev/null >"$room/out" 2>"$room/err"
 ended=$?
 count=$((count + 1))

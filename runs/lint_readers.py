@@ -72,6 +72,14 @@ def text_of(one):
     return "" if len(raw) > 65536 else raw.decode(errors="replace")
 
 
+def foreign_place(raw):
+    """How many code points stand before the first byte that isn't UTF-8."""
+    try:
+        raw.decode()
+    except UnicodeDecodeError as error:
+        return len(raw[:error.start].decode())
+
+
 found, texts, mended = [], [], []
 for entry in read("hostile.json").split("\n")[:-1]:
     one = json.loads(entry)
@@ -90,6 +98,8 @@ for entry in read("hostile.json").split("\n")[:-1]:
     want(0 <= place <= len(text), f"json: column {one['column']} of line {one['line']}")
     if one["rule"] in ("code-point", "host-code-point", "port-digit", "percent"):
         want(names_point(one["message"], text[place]), f"json: {one['message']} of line {one['line']}")
+    if one["rule"] == "not-utf8":
+        want(place == foreign_place(lines[one["file"]][one["line"] - 1]), f"json: column {one['column']} of line {one['line']}")
 want(len(found) > 14 * len(names), f"json: {len(found)} diagnostics")
 want(sum(bool(it) for it in mended) > 5 * len(names), f"json: {sum(bool(it) for it in mended)} mended texts")
 want(all(one[3] not in ("not-utf8", "line-too-long") for one, it in zip(found, mended) if it), "json: no text is mended")

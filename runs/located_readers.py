@@ -37,6 +37,25 @@ def lines():
         yield line, False
 
 
+# LINE and COLUMN, by another reader than the program's: what stands between colons, or between one and the end.
+NUMBER = re.compile(r"[0-9]+")
+RANGE = "isn't from 1 to 4294967295"
+
+
+def reason(line):
+    """Why a line doesn't say where its link stands."""
+    form = FORM.match(line)
+    if form and not form[1]:
+        return "FILE is empty"
+    if form:
+        return f"LINE {RANGE}" if not 0 < int(form[2]) < 2 ** 32 else f"COLUMN {RANGE}"
+    parts = line.split(":")
+    first = next((index for index, part in enumerate(parts) if index and NUMBER.fullmatch(part)), None)
+    if first is None:
+        return "LINE is missing"
+    return "LINK is missing" if len(parts) == first + 2 and NUMBER.fullmatch(parts[-1]) else "COLUMN is missing"
+
+
 def make():
     with open(f"{directory}/located.txt", "wb") as located, open(f"{directory}/alone.txt", "wb") as alone:
         for line, is_located in lines():
@@ -67,7 +86,7 @@ def wanted():
     count = 0
     for count, (line, is_located) in enumerate(lines(), 1):
         if not is_located:
-            yield "located.txt", count, 1, "not-located", "this line isn't FILE:LINE:COLUMN:LINK"
+            yield "located.txt", count, 1, "not-located", f"this line isn't FILE:LINE:COLUMN:LINK, since {reason(line)}"
             continue
         name, number, column, link = FORM.match(line).groups()
         places = found.get(count, []) if link else [(0, "no-scheme", "there is no scheme and no base")]

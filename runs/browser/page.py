@@ -211,6 +211,7 @@ def write_list(path):
     links = subprocess.run([sys.executable, script, str(LINES), "3"], capture_output=True, check=True).stdout
     lines = links.split(b"\n")[:LINES]
     odd = [b"", b"\r", b"\xff\xfe", b"x" * 70_000, b"http://h/\x1b[31m\xe2\x80\xae\xd7\x90", b"\xc2\xadnope\r", b"/rel"]
+    odd += [b"http://h/\xef\xbf\xbd\xc3\xa9\xe6\x97 \xff"]
     odd += ["http://a_b:x/ %4?^ \u05d0<b>".encode(), b"http://h/" + "\u00e9\U0001f600 ".encode()]
     for number in range(0, LINES, 1000):
         lines[number] = odd[number // 1000 % len(odd)]

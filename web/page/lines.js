@@ -5,15 +5,16 @@
 /** A line has at most so many bytes. */
 export const LONGEST_LINE = 65536
 
-/** A line that isn't judged: by which rule, and what is shown of it. */
+/** A line that isn't judged: by which rule and at which place, and what is shown of it. */
 export class Unjudged {
-  constructor(rule, text) {
+  constructor(rule, place, text) {
     this.rule = rule
+    this.place = place
     this.text = text
   }
 }
 
-const TOO_LONG = new Unjudged('line-too-long', '')
+const TOO_LONG = new Unjudged('line-too-long', 0, '')
 
 const LF = 10
 const BYTE_ORDER_MARK = [0xef, 0xbb, 0xbf]
@@ -28,12 +29,26 @@ function lineOf(text) {
   return isLong ? TOO_LONG : line
 }
 
+/** A line that isn't UTF-8: so many code points stand before the first byte that isn't. */
+function foreign(bytes) {
+  const text = lossy.decode(bytes)
+  let place = 0
+  let read = 0
+  for (const point of text) {
+    const own = encoder.encode(point)
+    if (own.some((byte, index) => byte !== bytes[read + index])) break
+    read += own.length
+    place++
+  }
+  return new Unjudged('not-utf8', place, text)
+}
+
 function decoded(bytes) {
   try {
     return lineOf(decoder.decode(bytes))
   } catch {
     const end = bytes[bytes.length - 1] === 13 ? bytes.length - 1 : bytes.length
-    return end > LONGEST_LINE ? TOO_LONG : new Unjudged('not-utf8', lossy.decode(bytes.subarray(0, end)))
+    return end > LONGEST_LINE ? TOO_LONG : foreign(bytes.subarray(0, end))
   }
 }
 

@@ -25,6 +25,11 @@ function messagesAreRead() {
   return new Promise(done => setTimeout(done, 0))
 }
 
+/** The place of the first lone surrogate of a text. */
+function lonePlace(text) {
+  return [...text].findIndex(point => /\p{Cs}/u.test(point))
+}
+
 class Job {
   constructor(urlcheck, { number, source, name, base, profile }) {
     this.urlcheck = urlcheck
@@ -55,12 +60,12 @@ class Job {
 
   /** What is wrong with a line: a rule and a place, or nothing. */
   judged(line) {
-    if (line instanceof Unjudged) return { rule: line.rule, place: 0 }
+    if (line instanceof Unjudged) return { rule: line.rule, place: line.place }
     try {
       const answer = this.urlcheck.check(line, this.options)
       return answer.valid ? null : answer
     } catch (error) {
-      if (error instanceof TypeError) return { rule: 'not-utf8', place: 0 }
+      if (error instanceof TypeError) return { rule: 'not-utf8', place: lonePlace(line) }
       if (error instanceof RangeError) return { rule: 'memory', place: 0 }
       throw error
     }

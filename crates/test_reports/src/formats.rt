@@ -53,7 +53,7 @@ fn writes_a_line_as_compilers_do(rt: HostRuntime) -> Result<(), Fail> {
         &found,
         "docs/a.md:3:11: error: U+0020 SPACE may not stand in a URL [code-point]\n",
     )?;
-    let unread = unjudged(LineViolation::NotUtf8, "\u{FFFD}");
+    let unread = unjudged(LineViolation::NotUtf8(0), "\u{FFFD}");
     writes(
         &rt,
         Format::Gnu,
@@ -88,13 +88,13 @@ fn shows_no_line_without_a_text(rt: HostRuntime) -> Result<(), Fail> {
     writes(
         &rt,
         Format::Caret,
-        &unjudged(LineViolation::NotUtf8, ""),
+        &unjudged(LineViolation::NotUtf8(0), ""),
         "-:1:1: error: this line isn't UTF-8 [not-utf8]\n",
     )?;
     writes(
         &rt,
         Format::Caret,
-        &unjudged(LineViolation::NotUtf8, "\u{FFFD}"),
+        &unjudged(LineViolation::NotUtf8(0), "\u{FFFD}"),
         "-:1:1: error: this line isn't UTF-8 [not-utf8]\n\u{FFFD}\n^\n",
     )
 }

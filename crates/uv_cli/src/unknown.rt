@@ -8,7 +8,7 @@ use std::alloc::{AllocError, Global};
 use strsim::osa_distance;
 use uv_mend::MendKind;
 use uv_model::{Profile, Rule};
-use uv_report::{Columns, Format, LineViolation, push_shown};
+use uv_report::{Columns, Format, LineViolation, LocatedFault, push_shown};
 use uv_words::Job;
 
 // The formats in the order of docs and help.
@@ -119,9 +119,9 @@ fn rule_names(alloc: Global) -> Result<Vec<&'static str>, AllocError> {
     for rule in &Rule::in_order() {
         names.push(rule.name())?;
     }
-    names.push(LineViolation::NotUtf8.name())?;
+    names.push(LineViolation::NotUtf8(0).name())?;
     names.push(LineViolation::TooLong.name())?;
-    names.push(LineViolation::NotLocated.name())?;
+    names.push(LineViolation::NotLocated(LocatedFault::NoFile).name())?;
     Ok(names)
 }
 

@@ -1,7 +1,8 @@
 -- The text of a diagnostic is that of its texts, wherever those stand.
 use Rattle.std.proofs.Common.{◌≡◌, ℕ, Bool, false, List, [], ◌∷◌, ◌++◌, Option, Some, None, refl, sym, ap, ◌∙◌}
-use Rattle.std.proofs.Common.{◌+◌, append_assoc, append-nil, inl, inr, take}
+use Rattle.std.proofs.Common.{◌+◌, ◌<◌, append_assoc, append-nil, get_or, inl, inr, length, take}
 use Rattle.std.specs.Borrow.{Bor}
+use Rattle.std.proofs.lemmas.List.{take_more}
 use Rattle.uv_model.specs.declared.profile.Profile.{Profile}
 use Rattle.uv_report.specs.declared.column.Columns.{Columns}
 use Rattle.uv_report.specs.declared.diagnostic.Diagnostic.{Diagnostic}
@@ -24,28 +25,24 @@ use Rattle.uv_lint.specs.Report.{lent}
 use Rattle.uv_lint.specs.Reporting.{IsNoneOr}
 use Rattle.uv_lint.specs.ReportedView.{lent_if_mended}
 
+-- a diagnostic on a text behind a reference, with its file's name behind another
+abbrev pub diagnostic_in : Bor (List ℕ) → Bor (List ℕ) → ℕ → ℕ → Profile → LineViolation → Option Mended → Diagnostic
+diagnostic_in file text line column profile violation mended = record {
+  file = file;
+  line = line;
+  column = column;
+  profile = profile;
+  violation = violation;
+  text = text;
+  mended = mended;
+}
+
 -- a diagnostic's text is the same with its texts behind other references
 pub diagnostic_text-lent : (format : Format) (is_first : Bool) (file text : Bor (List ℕ)) (line column : ℕ)
     (profile : Profile) (violation : LineViolation) (mended : Option Mended)
-    → diagnostic_text format is_first
-    (record {
-      file = file;
-      line = line;
-      column = column;
-      profile = profile;
-      violation = violation;
-      text = text;
-      mended = mended;
-    })
-    ≡ diagnostic_text format is_first (record {
-      file = lent file.now;
-      line = line;
-      column = column;
-      profile = profile;
-      violation = violation;
-      text = lent text.now;
-      mended = lent_if_mended mended;
-    })
+    → diagnostic_text format is_first (diagnostic_in file text line column profile violation mended)
+    ≡ diagnostic_text format is_first
+    (diagnostic_in (lent file.now) (lent text.now) line column profile violation (lent_if_mended mended))
 unfolding gnu_text gnu_position caret_text json_text github_text command_place sarif_text checkstyle_text error_place
 diagnostic_text-lent Gnu is_first file text line column profile violation mended = refl
 diagnostic_text-lent Caret is_first file text line column profile violation None = refl
@@ -60,18 +57,6 @@ diagnostic_text-lent Checkstyle is_first file text line column profile violation
 -- a text behind two references
 abbrev pub reported_of : Bor (List ℕ) → Bor (List ℕ) → ℕ → ℕ → ReportedText
 reported_of file text line start = record { file = file.now; line = line; start = start; text = text.now }
-
--- a diagnostic on it
-abbrev pub diagnostic_in : Bor (List ℕ) → Bor (List ℕ) → ℕ → ℕ → Profile → LineViolation → Option Mended → Diagnostic
-diagnostic_in file text line column profile violation mended = record {
-  file = file;
-  line = line;
-  column = column;
-  profile = profile;
-  violation = violation;
-  text = text;
-  mended = mended;
-}
 
 -- the diagnostics so far, and one more, whose column is that of the violation's place
 pub push_one : (form : LineForm) (format : Format) (columns : Columns) (profile : Profile) (file text : Bor (List ℕ))
@@ -120,7 +105,7 @@ said_first form format columns profile reported is_first mended before said now_
     ∙ ap (λ vs. diagnostics_text form format columns profile reported is_first mended vs) (append-nil before)
 
 -- one more
-pub said_more : (form : LineForm) (format : Format) (columns : Columns) (profile : Profile) (file text : Bor (List ℕ))
+said_more : (form : LineForm) (format : Format) (columns : Columns) (profile : Profile) (file text : Bor (List ℕ))
     (line start column : ℕ) (is_first now_first : Bool) (mended : Option Mended) (told : Option Mended)
     (before : List LineViolation) (violation : LineViolation) (said : List ℕ)
     → column ≡ column_at columns start text.now (violation_place violation)
@@ -140,6 +125,23 @@ said_more form format columns profile file text line start column is_first now_f
     ∙ is (violation ∷ rest)
     ∙ ap (λ vs. diagnostics_text form format columns profile (reported_of file text line start) is_first mended vs)
     (sym (append_assoc before (violation ∷ []) rest))
+
+-- the same of the next violation of a list
+pub said_next : (form : LineForm) (format : Format) (columns : Columns) (profile : Profile) (file text : Bor (List ℕ))
+    (line start column : ℕ) (is_first now_first : Bool) (mended : Option Mended) (told : Option Mended)
+    (violations : List LineViolation) (i : ℕ) (none : LineViolation) (said : List ℕ)
+    → i < length violations
+    → column ≡ column_at columns start text.now (violation_place (get_or violations i none))
+    → IsSaidBefore form format columns profile (reported_of file text line start) is_first mended (take i violations)
+    said now_first (lent_if_mended told)
+    → IsSaidBefore form format columns profile (reported_of file text line start) is_first mended
+    (take (i + 1) violations) (said ++ framed_text form format file.now (diagnostic_text format now_first
+    (diagnostic_in file text line column profile (get_or violations i none) told))) false None
+said_next form format columns profile file text line start column is_first now_first mended told violations i none said
+    within here is =
+    rw (take_more violations i none within)
+    (said_more form format columns profile file text line start column is_first now_first mended told
+    (take i violations) (get_or violations i none) said here is)
 
 -- of one that may be said too the first diagnostics are those before it, or with it
 pub first_with : (form : LineForm) (format : Format) (columns : Columns) (profile : Profile) (reported : ReportedText)

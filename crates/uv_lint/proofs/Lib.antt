@@ -3,5 +3,7 @@ pub mod LineViolationLemmas
 pub mod ReporterLemmas
 pub mod RunLemmas
 pub mod LocatedLemmas
+pub mod LocatedFaultLemmas
+pub mod ForeignLemmas
 pub mod ReportRowsLemmas
 pub mod LocatedRowsLemmas

@@ -11,7 +11,7 @@ use Rattle.uv_report.specs.Escapes.{escaped}
 use Rattle.uv_report.specs.Gnu.{gnu_position, gnu_text, gnu_words}
 use Rattle.uv_report.specs.Message.{refusal_message}
 use Rattle.uv_lint.specs.Located.{run_of}
-use Rattle.uv_lint.specs.LocatedRows.{LocatedReportRows, LocatedRows}
+use Rattle.uv_lint.specs.LocatedRows.{LocatedFaultRows, LocatedReportRows, LocatedRows}
 
 -- which lines are of the form
 pub located_rows : LocatedRows
@@ -38,6 +38,24 @@ located_rows = record {
   no_utf8 = refl;
 }
 
+-- why others aren't
+pub located_fault_rows : LocatedFaultRows
+unfolding run_of
+located_fault_rows = record {
+  no_line = refl;
+  port = refl;
+  no_column = refl;
+  short = refl;
+  sign = refl;
+  broken = refl;
+  no_link = refl;
+  no_file = refl;
+  line_0 = refl;
+  column_0 = refl;
+  line_above = refl;
+  column_above = refl;
+}
+
 -- the diagnostics on a list
 pub located_report_rows : LocatedReportRows
 unfolding run_of gnu_position gnu_text gnu_words refusal_message point_text point_name ascii_names control_names
@@ -47,6 +65,7 @@ unfolding run_of gnu_position gnu_text gnu_words refusal_message point_text poin
 located_report_rows = record {
   gnu = refl;
   checkstyle = refl;
+  foreign = refl;
   points = refl;
   bytes = refl;
   utf16 = refl;

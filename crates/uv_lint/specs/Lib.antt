@@ -1,7 +1,7 @@
 pub mod Located
 pub mod LocatedViews
+pub mod LocatedFault
 pub mod LineViolations
-pub mod Found
 pub mod Findings
 pub mod Report
 pub mod ReportedView

@@ -1,6 +1,8 @@
--- What is found with a line of a file.
-use Rattle.std.specs.Prelude.{◌≡◌, ℕ, List, [], ◌∷◌, ◌⊎◌, Option, Some, None, map, option_and_then, option_copied}
+-- What is wrong with a line of a file.
+use Rattle.std.specs.Prelude.{◌≡◌, ℕ, List, [], ◌∷◌, ◌⊎◌, Option, Some, None, length, map, option_and_then}
+use Rattle.std.specs.Prelude.{option_copied, take}
 use Rattle.std.specs.Str.{IsUtf8, chars}
+use Rattle.std.specs.Str.Lossy.{utf8_valid_len}
 use Rattle.uv_model.specs.declared.extent.Extent.{Extent}
 use Rattle.uv_model.specs.declared.extent.Extent.TheVariants.{First, All}
 use Rattle.uv_model.specs.declared.profile.Profile.{Profile}
@@ -14,10 +16,14 @@ use Rattle.uv_report.specs.declared.column.Columns.{Columns}
 use Rattle.uv_report.specs.declared.line_violation.LineViolation.{LineViolation}
 use Rattle.uv_report.specs.declared.line_violation.LineViolation.TheVariants.{Refused, NotUtf8, TooLong, NotLocated}
 use Rattle.uv_report.specs.declared.format.Format.{Format}
+use Rattle.uv_lint.specs.declared.line_violations.LineViolations.{LineViolations}
+use Rattle.uv_lint.specs.declared.line_violations.LineViolations.TheVariants.{Nothing, One}
+use Rattle.uv_lint.specs.declared.line_violations.LineViolations.TheVariants as lines
 use Rattle.uv_lint.specs.declared.setting.LineForm.{LineForm}
 use Rattle.uv_lint.specs.declared.setting.LineForm.TheVariants.{Plain, Located}
 use Rattle.uv_lint.specs.declared.setting.LintSetting.{LintSetting}
 use Rattle.uv_lint.specs.Located.{LocatedLink, located}
+use Rattle.uv_lint.specs.LocatedFault.{located_fault}
 
 -- a file's name, what its lines are judged by, how what is found is written, what columns count, and what a line is
 pub record FileSetting : Type 0 where
@@ -41,6 +47,12 @@ file_setting file setting = record {
   form = setting.form;
 }
 
+-- the violations that are told of a line, in their order
+abbrev pub violations_in : LineViolations → List LineViolation
+violations_in Nothing = []
+violations_in (One violation) = violation ∷ []
+violations_in (lines.All violations) = violations.items
+
 -- there is no refusal and the text is valid, or the text is refused by the first of them
 abbrev pub Judges : Profile → Option Url → List ℕ → List Refusal → Type 0
 Judges profile base text [] = (parts : Parts) × Valid profile base text parts
@@ -56,25 +68,30 @@ abbrev pub AreReported : Extent → Profile → Option Url → List ℕ → List
 AreReported First profile base text refusals = HasOneAtMost refusals
 AreReported All profile base text refusals = AreFaults profile base text refusals
 
--- what is found with a text: nothing where it is valid, else the violations of it that are reported
+-- what is wrong with a text: nothing where it is valid, else the violations of it that are reported
 pub record AreTextViolations (setting : FileSetting) (text : List ℕ) (violations : List LineViolation) : Type 0 where
   pub refusals : List Refusal
   pub judges : Judges setting.profile setting.base text refusals
   pub reported : AreReported setting.extent setting.profile setting.base text refusals
   pub are : violations ≡ map Refused refusals
 
--- what is found with bytes: that they aren't UTF-8, else what is found with their text
+-- the place of the first byte that isn't UTF-8: so many code points stand before it
+abbrev pub foreign_place : List ℕ → ℕ
+foreign_place bytes = length (chars (take (utf8_valid_len bytes) bytes))
+
+-- what is wrong with bytes: that they aren't UTF-8, else what is wrong with their text
 abbrev pub AreBytesViolations : FileSetting → List ℕ → List LineViolation → Type 0
 AreBytesViolations setting bytes violations =
     (IsUtf8 bytes × AreTextViolations setting (chars bytes) violations)
-    ⊎ (¬ (IsUtf8 bytes) × (violations ≡ NotUtf8 ∷ []))
+    ⊎ (¬ (IsUtf8 bytes) × (violations ≡ NotUtf8 (foreign_place bytes) ∷ []))
 
--- what is found with a line that is to say where its link stands and doesn't: that, or that it isn't UTF-8
+-- what is wrong with a line that is to say where its link stands and doesn't: that, or that it isn't UTF-8
 abbrev pub AreStrayViolations : List ℕ → List LineViolation → Type 0
 AreStrayViolations line violations =
-    (IsUtf8 line × (violations ≡ NotLocated ∷ [])) ⊎ (¬ (IsUtf8 line) × (violations ≡ NotUtf8 ∷ []))
+    (IsUtf8 line × (violations ≡ NotLocated (located_fault line) ∷ []))
+    ⊎ (¬ (IsUtf8 line) × (violations ≡ NotUtf8 (foreign_place line) ∷ []))
 
--- what is found with a line that isn't empty and has no link, by what a line is
+-- what is wrong with a line that isn't empty and has no link, by what a line is
 abbrev pub AreWholeViolations : LineForm → FileSetting → List ℕ → List LineViolation → Type 0
 AreWholeViolations Plain setting line violations = AreBytesViolations setting line violations
 AreWholeViolations Located setting line violations = AreStrayViolations line violations
@@ -84,8 +101,8 @@ abbrev pub link_of : LineForm → Option (List ℕ) → Option LocatedLink
 link_of Plain line = None
 link_of Located line = option_and_then located line
 
--- What is found with a line, and with its link where it has one; none stands for a line that has more bytes than a line
--- may have. It is found that such a line is too long, and nothing with an empty line. An empty link is judged.
+-- What is wrong with a line, and with its link where it has one; none stands for a line that has more bytes than a line
+-- may have. Such a line is too long, and nothing is wrong with an empty line. An empty link is judged.
 abbrev pub AreViolationsBy : FileSetting → Option LocatedLink → Option (List ℕ) → List LineViolation → Type 0
 AreViolationsBy setting (Some link) line violations = AreBytesViolations setting link.link violations
 AreViolationsBy setting None None violations = violations ≡ TooLong ∷ []

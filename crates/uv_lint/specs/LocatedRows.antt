@@ -1,12 +1,14 @@
--- Located lines that are written out: where their links stand, and the diagnostics on a list of them.
+-- Located lines that are written out: where their links stand, why others aren't of the form, and the diagnostics on a
+-- list of them.
 use Rattle.std.specs.Prelude.{◌≡◌, ℕ, ◌++◌, true, List, [], ◌∷◌, Option, Some, None, codes, map}
 use Rattle.uv_model.specs.declared.extent.Extent.TheVariants.{First}
-use Rattle.uv_model.specs.declared.profile.Profile.TheVariants.{Standard}
 use Rattle.uv_model.specs.declared.rule.Rule.TheVariants.{NoScheme, CodePoint}
 use Rattle.uv_report.specs.declared.column.Columns.{Columns}
 use Rattle.uv_report.specs.declared.column.Columns.TheVariants.{CodePoints, Bytes, Utf16}
 use Rattle.uv_report.specs.declared.line_violation.LineViolation.{LineViolation}
 use Rattle.uv_report.specs.declared.line_violation.LineViolation.TheVariants.{Refused, NotUtf8, TooLong, NotLocated}
+use Rattle.uv_report.specs.declared.located_fault.LocatedFault.TheVariants.{NoFile, NoLine, LineRange, NoColumn}
+use Rattle.uv_report.specs.declared.located_fault.LocatedFault.TheVariants.{ColumnRange, NoLink}
 use Rattle.uv_report.specs.declared.format.Format.{Format}
 use Rattle.uv_report.specs.declared.format.Format.TheVariants.{Gnu, Checkstyle}
 use Rattle.uv_lines.specs.Lines.{lines_of}
@@ -14,7 +16,9 @@ use Rattle.uv_lint.specs.declared.setting.LineForm.TheVariants.{Located}
 use Rattle.uv_lint.specs.Findings.{Findings, unmended}
 use Rattle.uv_lint.specs.LineViolations.{FileSetting}
 use Rattle.uv_lint.specs.Located.{LocatedLink, located}
+use Rattle.uv_lint.specs.LocatedFault.{located_fault}
 use Rattle.uv_lint.specs.Report.{lines_text, lines_within}
+use Rattle.uv_lint.specs.ReportRows.{list_setting}
 
 -- a link that stands there
 abbrev pub stands : List ℕ → ℕ → ℕ → List ℕ → Option LocatedLink
@@ -42,17 +46,25 @@ pub record LocatedRows : Type 0 where
   pub sign : located (codes "a:+1:2:x") ≡ None
   pub no_utf8 : located (255 ∷ codes ":1:2:x") ≡ None
 
--- the setting of a list of located lines
+-- why lines aren't of the form: what stands first between two colons, or between one and the end, is LINE
+pub record LocatedFaultRows : Type 0 where
+  pub no_line : located_fault (codes "a.html:http://h/") ≡ NoLine
+  pub port : located_fault (codes "http://h:80/") ≡ NoLine
+  pub no_column : located_fault (codes "a.html:3:http://h/") ≡ NoColumn
+  pub short : located_fault (codes "a.html:3") ≡ NoColumn
+  pub sign : located_fault (codes "a:+1:2:x") ≡ NoColumn
+  pub broken : located_fault (codes "a:1:b:2:3") ≡ NoColumn
+  pub no_link : located_fault (codes "a.html:3:4") ≡ NoLink
+  pub no_file : located_fault (codes ":1:0:3:4:x") ≡ NoFile
+  pub line_0 : located_fault (codes "a:0:0:x") ≡ LineRange
+  pub column_0 : located_fault (codes "a:1:0:2:3:x") ≡ ColumnRange
+  pub line_above : located_fault (codes "a:4294967296:1:x") ≡ LineRange
+  pub column_above : located_fault (codes "a:1:4294967296:x") ≡ ColumnRange
+
+-- the setting of a list of located lines, of which the least violation is told
 abbrev pub located_setting : Format → Columns → FileSetting
-located_setting format columns = record {
-  file = codes "list";
-  base = None;
-  profile = Standard;
-  extent = First;
-  format = format;
-  columns = columns;
-  form = Located;
-}
+located_setting format columns =
+    record list_setting { extent = First; format = format; columns = columns; form = Located }
 
 -- a list of six lines: a link with a fault, one without, an empty link, one that isn't UTF-8, a line that isn't of the
 -- form, and one of more than 24 bytes
@@ -67,8 +79,8 @@ located_violations =
     (Refused (record { place = 5; rule = CodePoint }) ∷ [])
     ∷ []
     ∷ (Refused (record { place = 0; rule = NoScheme }) ∷ [])
-    ∷ (NotUtf8 ∷ [])
-    ∷ (NotLocated ∷ [])
+    ∷ (NotUtf8 0 ∷ [])
+    ∷ (NotLocated NoLine ∷ [])
     ∷ (TooLong ∷ [])
     ∷ []
 
@@ -93,13 +105,16 @@ pub record LocatedReportRows : Type 0 where
       ≡ codes "a.html:3:15: error: U+0020 SPACE may not stand in a URL [code-point]\n"
       ++ (codes "b:c:7:8: error: there is no scheme and no base [no-scheme]\n"
       ++ (codes "a.html:5:2: error: this line isn't UTF-8 [not-utf8]\n"
-      ++ (codes "list:5:1: error: this line isn't FILE:LINE:COLUMN:LINK [not-located]\n"
+      ++ (codes "list:5:1: error: this line isn't FILE:LINE:COLUMN:LINK, since LINE is missing [not-located]\n"
       ++ codes "list:6:1: error: this line has more than 65536 bytes [line-too-long]\n")))
   pub checkstyle : lines_text (located_setting Checkstyle CodePoints) 3 true
       (lines_within 24 (lines_of (codes "b:7:8:\n")))
       (unmended (Refused (record { place = 0; rule = NoScheme }) ∷ []) ∷ [])
       ≡ codes "<file name=\"b\">\n<error line=\"7\" column=\"8\" severity=\"error\" "
       ++ codes "message=\"there is no scheme and no base\" source=\"urlcheck.no-scheme\"/>\n</file>\n"
+  pub foreign : lines_text (located_setting Gnu Bytes) 1 true
+      (lines_within 24 (lines_of (codes "a:3:10:" ++ (0xC3 ∷ 0xA9 ∷ 255 ∷ codes "b"))))
+      (unmended (NotUtf8 1 ∷ []) ∷ []) ≡ codes "a:3:12: error: this line isn't UTF-8 [not-utf8]\n"
   pub points : wide_text CodePoints ≡ codes "a:3:15: error: U+0020 SPACE may not stand in a URL [code-point]\n"
   pub bytes : wide_text Bytes ≡ codes "a:3:18: error: U+0020 SPACE may not stand in a URL [code-point]\n"
   pub utf16 : wide_text Utf16 ≡ codes "a:3:16: error: U+0020 SPACE may not stand in a URL [code-point]\n"

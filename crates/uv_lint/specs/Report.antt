@@ -1,16 +1,17 @@
 -- The report on a file: what stands before its diagnostics, the diagnostics on each line, in order and numbered from 1,
 -- and what stands behind them.
-use Rattle.std.specs.Prelude.{◌≡◌, ℕ, ◌+◌, ◌==◌, Bool, false, List, [], ◌∷◌, ◌++◌, Option, Some, None, drop}
-use Rattle.std.specs.Prelude.{if◌then◌else◌, length, map, option_map, sum_by, take}
+use Rattle.std.specs.Prelude.{◌≡◌, ℕ, ◌+◌, ◌-◌, ◌^◌, ◌==◌, Bool, false, List, [], ◌∷◌, ◌++◌, Option, Some, None, drop}
+use Rattle.std.specs.Prelude.{if◌then◌else◌, length, map, min, option_map, sum_by, take}
 use Rattle.std.specs.Borrow.{Bor}
-use Rattle.std.specs.Str.{bytes_eq, chars}
+use Rattle.std.specs.Str.{IsUtf8, bytes_eq, chars}
+use Rattle.std.specs.Str.Lossy.{utf8_valid_len}
 use Rattle.uv_model.specs.declared.profile.Profile.{Profile}
 use Rattle.uv_report.specs.declared.column.Columns.{Columns}
 use Rattle.uv_report.specs.declared.diagnostic.Diagnostic.{Diagnostic}
 use Rattle.uv_report.specs.declared.line_violation.LineViolation.{LineViolation}
 use Rattle.uv_report.specs.declared.format.Format.{Format}
 use Rattle.uv_report.specs.declared.mended.Mended.{Mended}
-use Rattle.uv_report.specs.Column.{column_at}
+use Rattle.uv_report.specs.Column.{column_at, width}
 use Rattle.uv_report.specs.LineViolation.{violation_place}
 use Rattle.uv_report.specs.Report.{diagnostic_text, file_begin_text, file_end_text}
 use Rattle.uv_lines.specs.Lines.{short_line}
@@ -18,7 +19,7 @@ use Rattle.uv_lint.specs.declared.counts.LintCounts.{LintCounts}
 use Rattle.uv_lint.specs.declared.setting.LineForm.{LineForm}
 use Rattle.uv_lint.specs.declared.setting.LineForm.TheVariants.{Plain, Located}
 use Rattle.uv_lint.specs.Findings.{AreAllFindings, Findings, MendedText, shown}
-use Rattle.uv_lint.specs.LineViolations.{FileSetting, link_of}
+use Rattle.uv_lint.specs.LineViolations.{FileSetting, foreign_place, link_of}
 use Rattle.uv_lint.specs.Located.{LocatedLink}
 
 -- ---- the diagnostics
@@ -74,6 +75,13 @@ diagnostic_on columns profile reported mended violation = record {
   text = lent reported.text;
   mended = mended;
 }
+
+-- in each unit the column of bytes that aren't UTF-8 is that behind their longest beginning that is
+abbrev pub ForeignColumns : Type 0
+ForeignColumns =
+    (columns : Columns) (start : ℕ) (bytes : List ℕ) → ¬ (IsUtf8 bytes)
+    → column_at columns start (shown (Some bytes)) (foreign_place bytes)
+    ≡ min (start + width columns start (chars (take (utf8_valid_len bytes) bytes))) (2 ^ 64 - 1)
 
 -- A diagnostic for each violation; the first of them is the first one of the report, or isn't, and it alone says what
 -- to write in place of the text.

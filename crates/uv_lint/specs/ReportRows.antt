@@ -41,7 +41,7 @@ violations =
     ∷ []
     ∷ []
     ∷ (Refused (record { place = 4; rule = CodePoint }) ∷ Refused (record { place = 6; rule = CodePoint }) ∷ [])
-    ∷ (NotUtf8 ∷ [])
+    ∷ (NotUtf8 0 ∷ [])
     ∷ (TooLong ∷ [])
     ∷ []
 
@@ -59,7 +59,7 @@ pub record LintRows : Type 0 where
       ++ codes "list:6:1: error: this line has more than 65536 bytes [line-too-long]\n")))
   pub counts : tally short_lines findings ≡ record { lines = 5; refused = 4 }
   pub still_first : is_still_first true [] ≡ true
-  pub no_more : is_still_first true (NotUtf8 ∷ []) ≡ false
+  pub no_more : is_still_first true (NotUtf8 0 ∷ []) ≡ false
   pub marked : lines_within 12 (lines_of (byte_order_mark ++ (codes "b\n" ++ (byte_order_mark ++ codes "c"))))
       ≡ Some (codes "b") ∷ Some (byte_order_mark ++ codes "c") ∷ []
   pub mark_alone : lines_within 12 (lines_of byte_order_mark) ≡ Some [] ∷ []

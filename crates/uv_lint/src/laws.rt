@@ -1,5 +1,6 @@
 //! Laws over reports on files, each as the clause of a function that does nothing.
-ghost use Rattle.uv_lint.specs.LocatedRows.{LocatedReportRows, LocatedRows};
+ghost use Rattle.uv_lint.specs.LocatedRows.{LocatedFaultRows, LocatedReportRows, LocatedRows};
+ghost use Rattle.uv_lint.specs.Report.{ForeignColumns};
 ghost use Rattle.uv_lint.specs.ReportRows.{LintRows};
 
 /// The diagnostics on a list that is written out, and its counts.
@@ -12,7 +13,17 @@ pub fn located_rows()
     ensures { LocatedRows }
 {}
 
-/// The diagnostics on a list of such lines.
+/// Lines that don't say it, with the reason.
+pub fn located_fault_rows()
+    ensures { LocatedFaultRows }
+{}
+
+/// The column of a line that isn't UTF-8, in each unit.
+pub fn foreign_columns()
+    ensures { ForeignColumns }
+{}
+
+/// The diagnostics on a list of located lines.
 pub fn located_report_rows()
     ensures { LocatedReportRows }
 {}

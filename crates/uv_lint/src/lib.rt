@@ -1,12 +1,13 @@
 //! The faults of a list of links: each line of a file judged, and what is found written as diagnostics.
 #![tactic(auto)]
 
+mod code_points;
 mod counts;
 mod fault;
-mod found;
 pub mod laws;
 mod line_violations;
 mod located;
+mod located_fault;
 mod mended_line;
 mod reported_line;
 mod reporter;

@@ -23,19 +23,19 @@ pub(crate) struct LocatedLink<'l> {
     pub(crate) link: &'l [u8],
 }
 
-// One or more digits: the number, where it is from 1 to 2^32 - 1, and what follows them.
+/// One or more digits: the number, where it is from 1 to 2^32 - 1, and what follows them.
 #[derive(Clone, Copy)]
-struct Number<'l> {
-    value: Option<u32>,
-    rest: &'l [u8],
+pub(crate) struct Number<'l> {
+    pub(crate) value: Option<u32>,
+    pub(crate) rest: &'l [u8],
 }
 
-// `:LINE:COLUMN:`: the two numbers, where they are from 1 to 2^32 - 1, and the link behind them.
+/// `:LINE:COLUMN:`: the two numbers, where they are from 1 to 2^32 - 1, and the link behind them.
 #[derive(Clone, Copy)]
-struct Run<'l> {
-    line: Option<u32>,
-    column: Option<u32>,
-    link: &'l [u8],
+pub(crate) struct Run<'l> {
+    pub(crate) line: Option<u32>,
+    pub(crate) column: Option<u32>,
+    pub(crate) link: &'l [u8],
 }
 
 /// The link of a line that says where it stands, where lines are to say it.
@@ -58,8 +58,8 @@ pub(crate) fn located(line: &[u8]) -> Option<LocatedLink<'_>>
     link_in(file, run)
 }
 
-// How many bytes stand before the first run: all of them, where there is none.
-fn file_length(line: &[u8]) -> usize
+/// How many bytes stand before the first run: all of them, where there is none.
+pub(crate) fn file_length(line: &[u8]) -> usize
     ensures { result ≡ spec.file_length line.now }
 {
     for place in 0..line.len() {
@@ -96,9 +96,9 @@ fn name_of(file: &[u8]) -> Option<&str>
     }
 }
 
-// The run that a text begins with.
+/// The run that a text begins with.
 #[tactic(auto, unfolding(crate::specs::Located::run_of))]
-fn run_of(text: &[u8]) -> Option<Run<'_>>
+pub(crate) fn run_of(text: &[u8]) -> Option<Run<'_>>
     ensures { option_map run_view result ≡ spec.run_of text.now }
 {
     let line = number_of(text)?;
@@ -111,8 +111,8 @@ fn run_of(text: &[u8]) -> Option<Run<'_>>
     })
 }
 
-// The digits behind the colon that a text begins with, and what follows them.
-fn number_of(text: &[u8]) -> Option<Number<'_>>
+/// The digits behind the colon that a text begins with, and what follows them.
+pub(crate) fn number_of(text: &[u8]) -> Option<Number<'_>>
     ensures { option_map number_view result ≡ spec.number_of text.now }
 {
     let behind = behind_colon(text)?;

@@ -1,11 +1,11 @@
 //! What to write in place of the text of a line.
-ghost use Rattle.std.specs.Prelude.{◌≡◌, IfOk, length, option_copied, option_map};
-ghost use Rattle.std.specs.Str.{chars};
+ghost use Rattle.std.specs.Prelude.{◌≡◌, IfOk, option_copied, option_map};
 ghost use Rattle.uv_lint.specs.Findings as spec;
 ghost use Rattle.uv_lint.specs.Findings.{IsMended, mended_of};
 ghost use Rattle.uv_lint.specs.Report.{end_column, mended_at};
 ghost use Rattle.uv_lint.specs.ReportedView.{lent_if_mended, mended_line_view};
 
+use crate::code_points::count;
 use crate::setting::LintSetting;
 use std::alloc::{AllocError, Global};
 use uv_mend::{MendKind, Mending, mend};
@@ -85,22 +85,4 @@ fn end_column(columns: Columns, start: u64, text: &str) -> u64
     ensures { result ≡ end_column columns start text.now }
 {
     ColumnCounter::new(columns, start, text).column(count(text))
-}
-
-// How many code points a text has. ASCII isn't walked by them.
-fn count(text: &str) -> usize
-    ensures { result ≡ length (chars text.now) }
-{
-    if text.is_ascii() {
-        text.len()
-    } else {
-        count_walked(text)
-    }
-}
-
-// The same code point by code point.
-fn count_walked(text: &str) -> usize
-    ensures { result ≡ length (chars text.now) }
-{
-    text.chars().count()
 }

@@ -57,6 +57,7 @@ message_rows = record {
   user = refl;
   password = refl;
   path = refl;
+  located = refl;
 }
 
 -- messages on hosts

@@ -1,5 +1,6 @@
 -- The definitions, in the order in which to read them.
 pub mod Explanation
+pub mod LocatedFault
 pub mod LineViolation
 pub mod Escapes
 pub mod Column

@@ -5,51 +5,52 @@ use Rattle.uv_model.specs.Violations.Rule.{rule_name, rule_number, rule_sentence
 use Rattle.uv_report.specs.declared.line_violation.LineViolation.{LineViolation}
 use Rattle.uv_report.specs.Explanation.{rule_asks, rule_uri}
 use Rattle.uv_report.specs.declared.line_violation.LineViolation.TheVariants.{Refused, NotUtf8, TooLong, NotLocated}
+use Rattle.uv_report.specs.declared.located_fault.LocatedFault.TheVariants.{NoFile}
 
 -- the name of the violated rule, or one of its own
 abbrev pub violation_name : LineViolation → List ℕ
 violation_name (Refused refusal) = rule_name refusal.rule
-violation_name NotUtf8 = codes "not-utf8"
+violation_name (NotUtf8 place) = codes "not-utf8"
 violation_name TooLong = codes "line-too-long"
-violation_name NotLocated = codes "not-located"
+violation_name (NotLocated fault) = codes "not-located"
 
--- the violation with a name that is about no refusal, where there is one
+-- the first violation with a name that is about no refusal, by its place or the reason, where there is one
 abbrev pub named_violation : List ℕ → Option LineViolation
 named_violation name =
-    find (λ violation. bytes_eq name (violation_name violation)) (NotUtf8 ∷ TooLong ∷ NotLocated ∷ [])
+    find (λ violation. bytes_eq name (violation_name violation)) (NotUtf8 0 ∷ TooLong ∷ NotLocated NoFile ∷ [])
 
 -- what is wrong at the place
 abbrev pub violation_sentence : LineViolation → List ℕ
 violation_sentence (Refused refusal) = rule_sentence refusal.rule
-violation_sentence NotUtf8 = codes "this line isn't UTF-8"
+violation_sentence (NotUtf8 place) = codes "this line isn't UTF-8"
 violation_sentence TooLong = codes "this line has more than 65536 bytes"
-violation_sentence NotLocated = codes "this line isn't FILE:LINE:COLUMN:LINK"
+violation_sentence (NotLocated fault) = codes "this line isn't FILE:LINE:COLUMN:LINK"
 
 -- what a line is asked
 abbrev pub violation_help : LineViolation → List ℕ
 violation_help (Refused refusal) = rule_asks refusal.rule
-violation_help NotUtf8 = codes "A line is a text in UTF-8."
+violation_help (NotUtf8 place) = codes "A line is a text in UTF-8."
 violation_help TooLong = codes "A line has at most 65536 bytes."
-violation_help NotLocated =
+violation_help (NotLocated fault) =
     codes "A located line is FILE:LINE:COLUMN:LINK. FILE isn't empty; LINE and COLUMN are from 1 to 4294967295."
 
 -- where that stands: the section of the rule, or what a valid URL string is
 abbrev pub violation_uri : LineViolation → List ℕ
 violation_uri (Refused refusal) = rule_uri refusal.rule
-violation_uri NotUtf8 = codes "https://url.spec.whatwg.org/#valid-url-string"
+violation_uri (NotUtf8 place) = codes "https://url.spec.whatwg.org/#valid-url-string"
 violation_uri TooLong = codes "https://url.spec.whatwg.org/#valid-url-string"
-violation_uri NotLocated = codes "https://url.spec.whatwg.org/#valid-url-string"
+violation_uri (NotLocated fault) = codes "https://url.spec.whatwg.org/#valid-url-string"
 
 -- where its rule stands among all of them, from 0: behind the three that are no refusal, by the rule's number
 abbrev pub violation_index : LineViolation → ℕ
 violation_index (Refused refusal) = rule_number refusal.rule + 2
-violation_index NotUtf8 = 0
+violation_index (NotUtf8 place) = 0
 violation_index TooLong = 1
-violation_index NotLocated = 2
+violation_index (NotLocated fault) = 2
 
 -- the place at which a line is wrong
 abbrev pub violation_place : LineViolation → ℕ
 violation_place (Refused refusal) = refusal.place
-violation_place NotUtf8 = 0
+violation_place (NotUtf8 place) = place
 violation_place TooLong = 0
-violation_place NotLocated = 0
+violation_place (NotLocated fault) = 0

@@ -1,5 +1,5 @@
 -- What is reported of a line: a sentence that names the code point at the place, where the rule is about one, that
--- says why a host is no valid domain, or that a URL string has no credentials.
+-- says why a host is no valid domain or a line not located, or that a URL string has no credentials.
 use Rattle.std.specs.Prelude.{ℕ, Bool, true, false, ◌&&◌, ◌||◌, ◌==◌, List, ◌++◌, codes, drop, find, nat_le}
 use Rattle.std.specs.Prelude.{if◌then◌else◌, Option, Some, None, slice_get}
 use Rattle.std.specs.Str.{chars}
@@ -12,6 +12,7 @@ use Rattle.uv_model.specs.Violations.Rule.{rule_sentence}
 use Rattle.uv_report.specs.CodePoint.{point_text}
 use Rattle.uv_report.specs.Domain.{domain_sentence, host_text}
 use Rattle.uv_report.specs.LineViolation.{violation_sentence}
+use Rattle.uv_report.specs.LocatedFault.{located_sentence}
 use Rattle.uv_report.specs.declared.line_violation.LineViolation.{LineViolation}
 use Rattle.uv_report.specs.declared.line_violation.LineViolation.TheVariants.{Refused, NotUtf8, TooLong, NotLocated}
 
@@ -94,6 +95,6 @@ refusal_message profile line refusal =
 -- what is reported of a line that is judged by a profile
 abbrev pub message : Profile → List ℕ → LineViolation → List ℕ
 message profile line (Refused refusal) = refusal_message profile line refusal
-message profile line NotUtf8 = violation_sentence NotUtf8
+message profile line (NotUtf8 place) = violation_sentence (NotUtf8 place)
 message profile line TooLong = violation_sentence TooLong
-message profile line NotLocated = violation_sentence NotLocated
+message profile line (NotLocated fault) = located_sentence fault

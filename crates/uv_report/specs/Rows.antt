@@ -4,7 +4,8 @@ use Rattle.uv_model.specs.declared.profile.Profile.{Profile}
 use Rattle.uv_model.specs.declared.profile.Profile.TheVariants.{Standard, Wide, Parser}
 use Rattle.uv_model.specs.declared.rule.Rule.TheVariants.{NoScheme, HostDomain, PortDigit, CodePoint}
 use Rattle.uv_model.specs.Violations.Rule.{rule_sentence}
-use Rattle.uv_report.specs.declared.line_violation.LineViolation.TheVariants.{Refused}
+use Rattle.uv_report.specs.declared.line_violation.LineViolation.TheVariants.{Refused, NotLocated}
+use Rattle.uv_report.specs.declared.located_fault.LocatedFault.TheVariants.{NoColumn}
 use Rattle.uv_report.specs.declared.column.Columns.TheVariants.{CodePoints, Bytes, Utf16, Screen}
 use Rattle.uv_report.specs.CodePoint.{point_text}
 use Rattle.uv_report.specs.Column.{column_at, width}
@@ -40,7 +41,8 @@ pub record ColumnRows : Type 0 where
   pub first : column_at Bytes 40 (codes "ab") 0 ≡ 40
   pub second : column_at Screen 40 (codes "a\tb") 2 ≡ 49
 
--- messages: of a code point, of one before a scheme, and of credentials where an `@` follows in the authority
+-- messages: of a code point, of one before a scheme, of credentials where an `@` follows in the authority, and of a
+-- line that doesn't say where its link stands
 pub record MessageRows : Type 0 where
   pub point : message Standard (codes "urn:a b") (Refused (record { place = 5; rule = CodePoint }))
       ≡ codes "U+0020 SPACE may not stand in a URL"
@@ -57,6 +59,8 @@ pub record MessageRows : Type 0 where
       ≡ credentials_sentence
   pub password : has_credentials (codes "http://user:pw@h/") 12 ≡ true
   pub path : has_credentials (codes "http://x_y/@") 7 ≡ false
+  pub located : message Standard (codes "a:1:x") (NotLocated NoColumn)
+      ≡ codes "this line isn't FILE:LINE:COLUMN:LINK, since COLUMN is missing"
 
 -- the message on a host that begins behind `http://`
 abbrev pub of_host : Profile → List ℕ → List ℕ

@@ -15,6 +15,7 @@ use Rattle.uv_report.specs.declared.completion.Completion.TheVariants.{Whole, Un
 use Rattle.uv_report.specs.declared.diagnostic.Diagnostic.{Diagnostic}
 use Rattle.uv_report.specs.declared.line_violation.LineViolation.{LineViolation}
 use Rattle.uv_report.specs.declared.line_violation.LineViolation.TheVariants.{Refused, NotUtf8, TooLong, NotLocated}
+use Rattle.uv_report.specs.declared.located_fault.LocatedFault.TheVariants.{NoFile}
 use Rattle.uv_report.specs.declared.mended.Mended.{Mended}
 use Rattle.uv_report.specs.LineViolation.{violation_help, violation_index, violation_name, violation_place}
 use Rattle.uv_report.specs.LineViolation.{violation_sentence, violation_uri}
@@ -48,7 +49,7 @@ next_rule rule = codes "," ++ rule_text (Refused (record { place = 0; rule = rul
 -- all of them, in the order of their indices
 unfoldable pub all_rules : List ℕ
 all_rules =
-    rule_text NotUtf8 ++ (codes "," ++ (rule_text TooLong ++ (codes "," ++ (rule_text NotLocated
+    rule_text (NotUtf8 0) ++ (codes "," ++ (rule_text TooLong ++ (codes "," ++ (rule_text (NotLocated NoFile)
     ++ flat_map next_rule rules_in_order))))
 
 -- ---- the document

@@ -52,7 +52,7 @@ fn shows_line(line: &str, violation: LineViolation) -> bool
 {
     match violation {
         LineViolation::Refused(_) => true,
-        LineViolation::NotUtf8 | LineViolation::TooLong | LineViolation::NotLocated => {
+        LineViolation::NotUtf8(_) | LineViolation::TooLong | LineViolation::NotLocated(_) => {
             !line.is_empty()
         }
     }

@@ -4,6 +4,7 @@ ghost use Rattle.uv_report.specs.LineViolation.{violation_help, violation_index,
 ghost use Rattle.uv_report.specs.LineViolation.{violation_sentence, violation_uri, named_violation};
 
 use crate::explanation::{explain, section_uri};
+use crate::located_fault::LocatedFault;
 use uv_model::Refusal;
 
 /// What is wrong with a line of a file: as a text it is refused, or it is no text that is judged.
@@ -11,12 +12,12 @@ use uv_model::Refusal;
 pub enum LineViolation {
     /// The line violates a rule of valid URL strings at a place.
     Refused(Refusal),
-    /// The line isn't UTF-8.
-    NotUtf8,
+    /// The line isn't UTF-8. So many code points stand before the first byte that isn't.
+    NotUtf8(usize),
     /// The line has more than 65,536 bytes.
     TooLong,
-    /// The line doesn't say where its link stands, as `FILE:LINE:COLUMN:LINK` does.
-    NotLocated,
+    /// The line doesn't say where its link stands, as `FILE:LINE:COLUMN:LINK` does, for this reason.
+    NotLocated(LocatedFault),
 }
 
 impl LineViolation {
@@ -26,20 +27,21 @@ impl LineViolation {
     {
         match self {
             LineViolation::Refused(refusal) => refusal.rule.name(),
-            LineViolation::NotUtf8 => "not-utf8",
+            LineViolation::NotUtf8(_) => "not-utf8",
             LineViolation::TooLong => "line-too-long",
-            LineViolation::NotLocated => "not-located",
+            LineViolation::NotLocated(_) => "not-located",
         }
     }
 
-    /// The violation with this name that is about no refusal, or `None` where none has it.
+    /// The first violation with this name that is about no refusal, by its place or the reason, or `None` where none
+    /// has it.
     pub fn of_name(name: &str) -> Option<LineViolation>
         ensures { result ≡ named_violation name.now }
     {
         match name {
-            "not-utf8" => Some(LineViolation::NotUtf8),
+            "not-utf8" => Some(LineViolation::NotUtf8(0)),
             "line-too-long" => Some(LineViolation::TooLong),
-            "not-located" => Some(LineViolation::NotLocated),
+            "not-located" => Some(LineViolation::NotLocated(LocatedFault::NoFile)),
             _ => None,
         }
     }
@@ -50,9 +52,9 @@ impl LineViolation {
     {
         match self {
             LineViolation::Refused(refusal) => refusal.rule.sentence(),
-            LineViolation::NotUtf8 => "this line isn't UTF-8",
+            LineViolation::NotUtf8(_) => "this line isn't UTF-8",
             LineViolation::TooLong => "this line has more than 65536 bytes",
-            LineViolation::NotLocated => "this line isn't FILE:LINE:COLUMN:LINK",
+            LineViolation::NotLocated(_) => "this line isn't FILE:LINE:COLUMN:LINK",
         }
     }
 
@@ -62,9 +64,9 @@ impl LineViolation {
     {
         match self {
             LineViolation::Refused(refusal) => explain(refusal.rule).asks,
-            LineViolation::NotUtf8 => "A line is a text in UTF-8.",
+            LineViolation::NotUtf8(_) => "A line is a text in UTF-8.",
             LineViolation::TooLong => "A line has at most 65536 bytes.",
-            LineViolation::NotLocated => {
+            LineViolation::NotLocated(_) => {
                 "A located line is FILE:LINE:COLUMN:LINK. FILE isn't empty; LINE and COLUMN are from 1 to 4294967295."
             }
         }
@@ -76,7 +78,7 @@ impl LineViolation {
     {
         match self {
             LineViolation::Refused(refusal) => section_uri(refusal.rule),
-            LineViolation::NotUtf8 | LineViolation::TooLong | LineViolation::NotLocated => {
+            LineViolation::NotUtf8(_) | LineViolation::TooLong | LineViolation::NotLocated(_) => {
                 "https://url.spec.whatwg.org/#valid-url-string"
             }
         }
@@ -88,20 +90,21 @@ impl LineViolation {
     {
         match self {
             LineViolation::Refused(refusal) => u64::from(refusal.rule.number()) + 2,
-            LineViolation::NotUtf8 => 0,
+            LineViolation::NotUtf8(_) => 0,
             LineViolation::TooLong => 1,
-            LineViolation::NotLocated => 2,
+            LineViolation::NotLocated(_) => 2,
         }
     }
 
     /// The place at which it is wrong: a number of code points from the line's start, from 0. It is 0 for a line that
-    /// isn't judged.
+    /// is too long, and for one that doesn't say where its link stands.
     pub fn place(self) -> usize
         ensures { result ≡ violation_place self }
     {
         match self {
             LineViolation::Refused(refusal) => refusal.place,
-            LineViolation::NotUtf8 | LineViolation::TooLong | LineViolation::NotLocated => 0,
+            LineViolation::NotUtf8(place) => place,
+            LineViolation::TooLong | LineViolation::NotLocated(_) => 0,
         }
     }
 }

@@ -1,5 +1,5 @@
 //! What is reported of a line: a sentence that names the code point at the place, where the rule is about one, that
-//! says why a host is no valid domain, or that a URL string has no credentials.
+//! says why a host is no valid domain or a line not located, or that a URL string has no credentials.
 ghost use Rattle.std.specs.Prelude.{◌≡◌, ◌++◌, IfOk, OnOk, codes, option_copied, string_bytes};
 ghost use Rattle.uv_report.specs.CodePoint.{point_text};
 ghost use Rattle.uv_report.specs.Escapes.{escaped};
@@ -43,9 +43,8 @@ pub fn push_message(
 {
     match violation {
         LineViolation::Refused(refusal) => push_refusal(alloc, text, profile, line, refusal),
-        LineViolation::NotUtf8 | LineViolation::TooLong | LineViolation::NotLocated => {
-            text.push_str(violation.sentence())
-        }
+        LineViolation::NotLocated(fault) => text.push_str(fault.sentence()),
+        LineViolation::NotUtf8(_) | LineViolation::TooLong => text.push_str(violation.sentence()),
     }
 }
 

@@ -14,6 +14,7 @@ use crate::completion::Completion;
 use crate::diagnostic::Diagnostic;
 use crate::json::{push_link, push_number_member, push_text_member};
 use crate::line_violation::LineViolation;
+use crate::located_fault::LocatedFault;
 use crate::mended::Mended;
 use crate::message::message;
 use crate::quoted::push_quoted;
@@ -77,11 +78,11 @@ pub(crate) fn sarif_end(completion: Completion) -> &'static str
 fn push_rules(alloc: Global, text: &mut String) -> Result<(), AllocError>
     ensures { OnOk result (string_bytes text.new ≡ string_bytes text.old ++ spec.all_rules) }
 {
-    push_rule(alloc, text, LineViolation::NotUtf8)?;
+    push_rule(alloc, text, LineViolation::NotUtf8(0))?;
     text.push_str(",")?;
     push_rule(alloc, text, LineViolation::TooLong)?;
     text.push_str(",")?;
-    push_rule(alloc, text, LineViolation::NotLocated)?;
+    push_rule(alloc, text, LineViolation::NotLocated(LocatedFault::NoFile))?;
     push_uri_rules(alloc, text, Rule::in_order().as_slice())?;
     Ok(())
 }

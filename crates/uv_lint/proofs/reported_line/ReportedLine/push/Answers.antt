@@ -1,7 +1,6 @@
 -- A diagnostic more, and at the end no violation is left.
-use Rattle.std.proofs.Common.{◌≡◌, ◌+◌, ◌++◌, ◌∙◌, [], false, None, arith, get_or, option_map, take, take_all, refl}
+use Rattle.std.proofs.Common.{◌≡◌, ◌+◌, ◌++◌, ◌∙◌, [], arith, get_or, option_map, take, take_all, refl}
 use Rattle.std.proofs.Common.{sym, ap, subst, append-nil, append_assoc}
-use Rattle.std.proofs.lemmas.List.{take_more}
 use Rattle.uv_model.specs.declared.rule.Rule.TheVariants.{NoScheme}
 use Rattle.uv_report.specs.declared.line_violation.LineViolation.{LineViolation}
 use Rattle.uv_report.specs.declared.line_violation.LineViolation.TheVariants.{Refused}
@@ -12,7 +11,7 @@ use Rattle.uv_lines.proofs.WaitingLemmas.{parts_behind, passes_more, passes_none
 use Rattle.uv_lint.specs.Report.{AreFirstDiagnostics, diagnostics_text, framed_text, mended_on}
 use Rattle.uv_lint.specs.Reporting.{IsNoneOr}
 use Rattle.uv_lint.specs.ReportedView.{lent_if_mended, mended_line_view, reported_view}
-use Rattle.uv_lint.proofs.DiagnosticLemmas.{IsSaidBefore, first_with, said_first, said_more, said_none}
+use Rattle.uv_lint.proofs.DiagnosticLemmas.{IsSaidBefore, diagnostic_in, first_with, said_first, said_next, said_none}
 use Rattle.uv_lint.proofs.reported_line.ReportedLine.push.Goals as goal
 
 pub loop-violation-init : goal.loop-violation-init
@@ -48,15 +47,8 @@ loop-violation-preserved g c =
     let told = c.loop-violation.told in
     let mended = mended_on setting.columns (reported_view line) (option_map mended_line_view c.args.mended.now) in
     let one = framed_text setting.form setting.format line.file.now (diagnostic_text setting.format
-    c.loop-violation.is_first (record {
-      file = line.file;
-      line = line.line;
-      column = c.column-column.result;
-      profile = setting.profile;
-      violation = violation;
-      text = line.text;
-      mended = told;
-    })) in
+    c.loop-violation.is_first
+    (diagnostic_in line.file line.text line.line c.column-column.result setting.profile violation told)) in
     let old = g.W.Sink.contents c.args.writer.now in
     let new = g.W.Sink.contents c.say_framed.new.writer in
     record {
@@ -66,15 +58,10 @@ loop-violation-preserved g c =
             (passes_more (c.args.text.now.items ++ said.0) one old (g.W.Sink.contents c.loop-violation.writer) new
             c.loop-violation.text.items c.say_framed.new.text.items said.1
             (rw c.diagnostic_in-found.ensures at c.in_default.ensures.text)),
-        subst (λ before. IsSaidBefore setting.form setting.format setting.columns setting.profile
-            (reported_view line) c.args.is_first
-            mended before (said.0 ++ one) false None)
-            (sym (take_more violations i none c.loop-violation-test.true))
-            (said_more setting.form setting.format setting.columns setting.profile line.file line.text
-            line.line line.start
-            c.column-column.result c.args.is_first c.loop-violation.is_first mended told (take i violations) violation
-            said.0
-            (c.column-column.ensures.column ∙ rw (invariant.counter, c.place.ensures) refl) said.2),
+        said_next setting.form setting.format setting.columns setting.profile line.file line.text line.line line.start
+            c.column-column.result c.args.is_first c.loop-violation.is_first mended told violations i none said.0
+            c.loop-violation-test.true (c.column-column.ensures.column ∙ rw (invariant.counter, c.place.ensures) refl)
+            said.2,
       );
       quiet = c.in_default.ensures.quiet ∙ invariant.quiet;
       counter = c.column-column.ensures.same ∙ invariant.counter;
@@ -93,22 +80,11 @@ returns-in-Err-clause-fault g c =
     let told = c.loop-violation.told in
     let mended = mended_on setting.columns (reported_view line) (option_map mended_line_view c.args.mended.now) in
     let one = framed_text setting.form setting.format line.file.now (diagnostic_text setting.format
-    c.loop-violation.is_first (record {
-      file = line.file;
-      line = line.line;
-      column = c.column-column.result;
-      profile = setting.profile;
-      violation = violation;
-      text = line.text;
-      mended = told;
-    })) in
-    let with_one = subst (λ before. IsSaidBefore setting.form setting.format setting.columns setting.profile
-    (reported_view line)
-    c.args.is_first mended before (said.0 ++ one) false None)
-    (sym (take_more violations i none c.loop-violation-test.true))
-    (said_more setting.form setting.format setting.columns setting.profile line.file line.text line.line line.start
-    c.column-column.result c.args.is_first c.loop-violation.is_first mended told (take i violations) violation said.0
-    (c.column-column.ensures.column ∙ rw (invariant.counter, c.place.ensures) refl) said.2) in
+    c.loop-violation.is_first
+    (diagnostic_in line.file line.text line.line c.column-column.result setting.profile violation told)) in
+    let with_one = said_next setting.form setting.format setting.columns setting.profile line.file line.text line.line
+    line.start c.column-column.result c.args.is_first c.loop-violation.is_first mended told violations i none said.0
+    c.loop-violation-test.true (c.column-column.ensures.column ∙ rw (invariant.counter, c.place.ensures) refl) said.2 in
     parts_behind (IsNoneOr one) (AreFirstDiagnostics setting.form setting.format setting.columns
     setting.profile (reported_view line)
     c.args.is_first mended violations) c.in-Err.fault c.args.text.now.items said.0

@@ -1,7 +1,7 @@
 -- ASCII bytes are code points.
 use Rattle.std.proofs.Common.{ap, length, sym}
 use Rattle.std.proofs.lemmas.Str.{chars-IsAscii}
-use Rattle.uv_lint.proofs.mended_line.count.Goals as goal
+use Rattle.uv_lint.proofs.code_points.count.Goals as goal
 
 pub returns-then-is_ascii : goal.returns-then-is_ascii
 returns-then-is_ascii c = ap length (sym (chars-IsAscii c.args.text.now c.if-is_ascii.ensures.cases))

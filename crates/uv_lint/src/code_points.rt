@@ -1,0 +1,21 @@
+//! How many code points a text has.
+ghost use Rattle.std.specs.Prelude.{◌≡◌, length};
+ghost use Rattle.std.specs.Str.{chars};
+
+/// How many code points a text has. ASCII isn't walked by them.
+pub(crate) fn count(text: &str) -> usize
+    ensures { result ≡ length (chars text.now) }
+{
+    if text.is_ascii() {
+        text.len()
+    } else {
+        count_walked(text)
+    }
+}
+
+// The same code point by code point.
+fn count_walked(text: &str) -> usize
+    ensures { result ≡ length (chars text.now) }
+{
+    text.chars().count()
+}
