@@ -2,8 +2,9 @@
 use Rattle.std.specs.Prelude.{ℕ, List, [], ◌++◌, codes, decimal}
 use Rattle.std.specs.Fmt.Cut.{cut_to}
 use Rattle.uv_report.specs.Escapes.{shown_text}
-use Rattle.uv_vectors.specs.CaseFault.{Flaw, no_object, key, input, base, profile, expectation, text, place, rule}
-use Rattle.uv_vectors.specs.CaseFault.{flaw_of}
+use Rattle.uv_vectors.specs.CaseFault.{CaseFault, NoObject, UnknownKey, Input, Base, Profile, Expectation, Text, Place}
+use Rattle.uv_vectors.specs.CaseFault.{Rule}
+use Rattle.uv_vectors.specs.Views.{fault_view}
 use Rattle.uv_vectors.specs.declared.ends.CasesEnd.{CasesEnd}
 use Rattle.uv_vectors.specs.declared.ends.CasesEnd.TheVariants as ends
 use Rattle.uv_vectors.specs.declared.json_fault.FilePlace.{FilePlace}
@@ -52,26 +53,26 @@ unknown_key_text other =
     codes "\"" ++ (key_text other ++ no_key)
 
 -- why a value of a vector file is no case
-abbrev pub case_reason : Flaw → List ℕ
-case_reason no_object = codes "it is no object"
-case_reason (key other) = unknown_key_text other
-case_reason input = codes "\"input\" has to be a string"
-case_reason base = codes "\"base\" has to be a string or null"
-case_reason profile = codes "\"profile\" has to be \"standard\", \"wide\" or \"parser\""
-case_reason expectation = codes "it has to have either \"text\" or both \"place\" and \"rule\""
-case_reason text = codes "\"text\" has to be a string"
-case_reason place = codes "\"place\" has to be a number in digits alone, below 2^64"
-case_reason rule = codes "\"rule\" has to be the name of a rule"
+abbrev pub case_reason : CaseFault → List ℕ
+case_reason NoObject = codes "it is no object"
+case_reason (UnknownKey key) = unknown_key_text key
+case_reason Input = codes "\"input\" has to be a string"
+case_reason Base = codes "\"base\" has to be a string or null"
+case_reason Profile = codes "\"profile\" has to be \"standard\", \"wide\" or \"parser\""
+case_reason Expectation = codes "it has to have either \"text\" or both \"place\" and \"rule\""
+case_reason Text = codes "\"text\" has to be a string"
+case_reason Place = codes "\"place\" has to be a number in digits alone, below 2^64"
+case_reason Rule = codes "\"rule\" has to be the name of a rule"
 
 -- the line of a value that is no case, by its number
-abbrev pub case_text : ℕ → Flaw → List ℕ
-case_text number flaw =
-    codes "urlcheck: vector " ++ (decimal number ++ (codes ": " ++ (case_reason flaw ++ codes "\n")))
+abbrev pub case_text : ℕ → CaseFault → List ℕ
+case_text number fault =
+    codes "urlcheck: vector " ++ (decimal number ++ (codes ": " ++ (case_reason fault ++ codes "\n")))
 
 -- ---- an end
 
 -- what is reported of how a run over the file with this name ended
 abbrev pub unjudged_text : List ℕ → CasesEnd → List ℕ
 unjudged_text file (ends.NotJson fault) = json_text file fault
-unjudged_text file (ends.Malformed number fault) = case_text number (flaw_of fault)
+unjudged_text file (ends.Malformed number fault) = case_text number (fault_view fault)
 unjudged_text file other = []

@@ -1,6 +1,6 @@
 //! Why the cases of a file of vectors aren't judged: what is reported on standard error before the last line.
 ghost use Rattle.std.specs.Prelude.{◌≡◌, ◌++◌, IfOk, OnOk, string_bytes};
-ghost use Rattle.uv_vectors.specs.CaseFault.{flaw_of};
+ghost use Rattle.uv_vectors.specs.Views.{fault_view};
 ghost use Rattle.uv_cli.specs.Unjudged.{case_reason, case_text, fault_place, json_reason, json_text, key_text};
 ghost use Rattle.uv_cli.specs.Unjudged.{place_text, unjudged_text, unknown_key_text};
 
@@ -82,7 +82,7 @@ fn push_place(alloc: Global, line: &mut String, place: FilePlace) -> Result<(), 
 
 // The line of a value that is no case, by its number.
 fn case_line(alloc: Global, number: usize, fault: &CaseFault) -> Result<String, AllocError>
-    ensures { IfOk result (λ line. string_bytes line ≡ case_text number (flaw_of fault.now)) }
+    ensures { IfOk result (λ line. string_bytes line ≡ case_text number (fault_view fault.now)) }
 {
     let mut line = String::from_str(alloc, "urlcheck: vector ")?;
     line.push_str(number.to_string(alloc)?.as_str())?;
@@ -94,7 +94,7 @@ fn case_line(alloc: Global, number: usize, fault: &CaseFault) -> Result<String, 
 
 // Pushes why a value is no case.
 fn push_case_reason(line: &mut String, fault: &CaseFault) -> Result<(), AllocError>
-    ensures { OnOk result (string_bytes line.new ≡ string_bytes line.old ++ case_reason (flaw_of fault.now)) }
+    ensures { OnOk result (string_bytes line.new ≡ string_bytes line.old ++ case_reason (fault_view fault.now)) }
 {
     match fault {
         CaseFault::NoObject => line.push_str("it is no object"),

@@ -10,7 +10,7 @@ use Rattle.serde_json.specs.Data.{Data}
 use Rattle.serde_json.specs.View.{items_of, items_view, members_view, view}
 use Rattle.serde_json.specs.declared.value.Value.{Value}
 use Rattle.uv_vectors.specs.Case.{has_known_keys, is_known, is_malformed, list_of, unknown_key}
-use Rattle.uv_vectors.specs.CaseFault.{Flaw, case_flaw}
+use Rattle.uv_vectors.specs.CaseFault.{CaseFault, case_fault}
 
 -- each key is known where the members have known keys alone
 pub known_keys-members_view : (entries : List (String Global × Value))
@@ -58,12 +58,12 @@ position-items_view values =
     position-map is_malformed view values ∙ ap (position is_malformed) (sym (list_of-items_of (map view values)))
 
 -- why the value at a place is no case, as the code reads it
-pub flaw-items_view : (values : List Value) (at : ℕ) (value : Value) (flaw : Flaw)
-    → at < length values → value ≡ get_or values at value → flaw ≡ case_flaw (view value)
-    → option_map case_flaw (slice_get (list_of (items_view values)) at) ≡ Some flaw
-flaw-items_view values at value flaw within here is =
-    ap (λ vs. option_map case_flaw (slice_get vs at)) (list_of-items_of (map view values))
-    ∙ ap (option_map case_flaw) (slice_get-map view values at)
-    ∙ ap (λ v. option_map case_flaw (option_map view v))
+pub fault-items_view : (values : List Value) (at : ℕ) (value : Value) (fault : CaseFault)
+    → at < length values → value ≡ get_or values at value → fault ≡ case_fault (view value)
+    → option_map case_fault (slice_get (list_of (items_view values)) at) ≡ Some fault
+fault-items_view values at value fault within here is =
+    ap (λ vs. option_map case_fault (slice_get vs at)) (list_of-items_of (map view values))
+    ∙ ap (option_map case_fault) (slice_get-map view values at)
+    ∙ ap (λ v. option_map case_fault (option_map view v))
     (slice_get_read values (length values) at value refl within here)
     ∙ ap Some (sym is)

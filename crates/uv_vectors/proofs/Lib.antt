@@ -1,3 +1,4 @@
 mod CaseLemmas
 mod PassLemmas
+mod PlaceLemmas
 mod ReportLemmas

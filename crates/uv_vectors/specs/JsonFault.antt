@@ -1,30 +1,45 @@
 -- Why bytes are no JSON text, and where.
-use Rattle.std.specs.Prelude.{◌≡◌, ℕ, ◌+◌, ◌<◌, ◌==◌, ◌&&◌, Bool, IsUtf8, List, fold, if◌then◌else◌, length, nat_le}
-use Rattle.std.specs.Prelude.{nat_lt, take}
+use Rattle.std.specs.Prelude.{◌≡◌, ◌≢◌, ℕ, ◌+◌, ◌<◌, ◌==◌, ◌⊎◌, Bool, IsUtf8, List, count_by, length, take}
+use Rattle.std.specs.Fmt.{is_char_start}
+use Rattle.std.specs.List.{after_last}
 use Rattle.std.specs.Str.Lossy.{utf8_valid_len}
+use Rattle.uv_vectors.specs.declared.json_fault.BytePlace.{BytePlace}
 use Rattle.uv_vectors.specs.declared.json_fault.FilePlace.{FilePlace}
 use Rattle.uv_vectors.specs.declared.json_fault.JsonFault.{JsonFault}
 use Rattle.uv_vectors.specs.declared.json_fault.JsonFault.TheVariants.{NotUtf8, CutShort, Unreadable}
 
--- ---- places
+-- ---- lines and columns
 
--- the byte goes on with a code point that an earlier one begins
-abbrev pub goes_on : ℕ → Bool
-goes_on byte = nat_le 0x80 byte && nat_lt byte 0xC0
+-- the byte is a line feed, which ends a line
+abbrev pub is_line_feed : ℕ → Bool
+is_line_feed byte = byte == 10
 
--- the place at the start of a file
-abbrev pub first_place : FilePlace
-first_place = record { line = 1; column = 1 }
+-- how many lines end among these bytes
+abbrev pub line_feeds : List ℕ → ℕ
+line_feeds bytes = count_by is_line_feed bytes
 
--- the place behind one more byte: a line feed ends a line, and each code point is a column
-abbrev pub place_after : FilePlace → ℕ → FilePlace
-place_after place byte =
-    if byte == 10 then record { line = place.line + 1; column = 1 }
-    else (if goes_on byte then place else record { line = place.line; column = place.column + 1 })
+-- what stands behind the last line feed of these bytes: all of them, where they have none
+abbrev pub last_line : List ℕ → List ℕ
+last_line bytes = after_last is_line_feed bytes
 
--- the place behind these bytes
+-- how many code points these bytes begin
+abbrev pub code_points : List ℕ → ℕ
+code_points bytes = count_by is_char_start bytes
+
+-- the place behind these bytes: its line is 1 and the line feeds among them, its column 1 and the code points behind
+-- the last of these
 abbrev pub place_behind : List ℕ → FilePlace
-place_behind bytes = fold place_after first_place bytes
+place_behind bytes = record { line = 1 + line_feeds bytes; column = 1 + code_points (last_line bytes) }
+
+-- the same, where columns count bytes
+abbrev pub byte_place_behind : List ℕ → BytePlace
+byte_place_behind bytes = record { line = 1 + line_feeds bytes; column = 1 + length (last_line bytes) }
+
+-- so many bytes stand before the one at this place; or all of them, where none of them stands there
+abbrev pub IsOffsetOf : List ℕ → BytePlace → ℕ → Type 0
+IsOffsetOf bytes place at =
+    ((at < length bytes) × (byte_place_behind (take at bytes) ≡ place))
+    ⊎ ((at ≡ length bytes) × ((other : ℕ) → other < length bytes → byte_place_behind (take other bytes) ≢ place))
 
 -- ---- faults
 

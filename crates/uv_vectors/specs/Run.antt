@@ -10,10 +10,11 @@ use Rattle.uv_vectors.specs.declared.ends.CasesEnd.TheVariants as ends
 use Rattle.uv_vectors.specs.declared.run.Ending.{Ending}
 use Rattle.uv_vectors.specs.declared.run.Ending.TheVariants as ending
 use Rattle.uv_vectors.specs.Case.{is_malformed, list_of}
-use Rattle.uv_vectors.specs.CaseFault.{case_flaw, flaw_of}
+use Rattle.uv_vectors.specs.CaseFault.{case_fault}
 use Rattle.uv_vectors.specs.JsonFault.{IsFaultOf}
 use Rattle.uv_vectors.specs.declared.case_fault.CaseFault.{CaseFault}
 use Rattle.uv_vectors.specs.Report.{IsReportOn}
+use Rattle.uv_vectors.specs.Views.{fault_view}
 
 -- ---- what the bytes are
 
@@ -40,7 +41,7 @@ HasArray value P = (items : Items) × (as_array value ≡ Some items) × P (list
 abbrev pub IsFirstMalformed : ℕ → CaseFault → List Data → Type 0
 IsFirstMalformed number fault values =
     (at : ℕ) × (position is_malformed values ≡ Some at) × (number ≡ at + 1)
-    × (option_map case_flaw (slice_get values at) ≡ Some (flaw_of fault))
+    × (option_map case_fault (slice_get values at) ≡ Some (fault_view fault))
 
 -- all values are cases, this is the report on them, and a run that writes it ends so
 pub record IsReport (values : List Data) (end : CasesEnd) (text : List ℕ) : Type 0 where

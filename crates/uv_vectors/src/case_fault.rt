@@ -3,8 +3,8 @@ ghost use Rattle.std.specs.Prelude.{◌≡◌, ◌<◌, IfOk, Some, is_some, len
 ghost use Rattle.serde_json.specs.Find.{as_str};
 ghost use Rattle.serde_json.specs.View.{items_view, view};
 ghost use Rattle.uv_vectors.specs.Case.{list_of};
-ghost use Rattle.uv_vectors.specs.CaseFault.{case_flaw, expected_flaw, flaw_of, value_flaw};
-ghost use Rattle.uv_vectors.specs.Views.{value_view};
+ghost use Rattle.uv_vectors.specs.CaseFault.{case_fault, expected_fault, value_fault};
+ghost use Rattle.uv_vectors.specs.Views.{fault_view, value_view};
 
 use crate::case::{base_in, profile_in, unknown_key};
 use serde_json::Value;
@@ -36,7 +36,7 @@ pub enum CaseFault {
 impl CaseFault {
     /// Why a value that is no case is none. The error is out of memory.
     pub(crate) fn of(alloc: Global, value: &Value) -> Result<CaseFault, AllocError>
-        ensures { IfOk result (λ fault. flaw_of fault ≡ case_flaw (view value.now)) }
+        ensures { IfOk result (λ fault. fault_view fault ≡ case_fault (view value.now)) }
     {
         let Some(members) = value.as_object() else {
             return Ok(CaseFault::NoObject);
@@ -52,7 +52,7 @@ impl CaseFault {
 pub(crate) fn fault_at(alloc: Global, values: &[Value], at: usize) -> Result<CaseFault, AllocError>
     requires { at < length values.now }
     ensures { IfOk result (λ fault.
-        option_map case_flaw (slice_get (list_of (items_view values.now)) at) ≡ Some (flaw_of fault)) }
+        option_map case_fault (slice_get (list_of (items_view values.now)) at) ≡ Some (fault_view fault)) }
 {
     let fault = CaseFault::of(alloc, &values[at])?;
     Ok(fault)
@@ -60,7 +60,7 @@ pub(crate) fn fault_at(alloc: Global, values: &[Value], at: usize) -> Result<Cas
 
 // Why a value that has no other key than those of a case is none.
 fn value_fault(value: &Value) -> CaseFault
-    ensures { flaw_of result ≡ value_flaw (view value.now) }
+    ensures { fault_view result ≡ value_fault (view value.now) }
 {
     if !is_string(value.get("input")) {
         CaseFault::Input
@@ -75,8 +75,8 @@ fn value_fault(value: &Value) -> CaseFault
 
 // Why these values say nothing that is expected.
 fn expected_fault(text: Option<&Value>, place: Option<&Value>, rule: Option<&Value>) -> CaseFault
-    ensures { flaw_of result
-        ≡ expected_flaw (value_view text.entry) (value_view place.entry) (value_view rule.entry) }
+    ensures { fault_view result
+        ≡ expected_fault (value_view text.entry) (value_view place.entry) (value_view rule.entry) }
 {
     match (text, place, rule) {
         (Some(_), None, None) => CaseFault::Text,

@@ -1,6 +1,7 @@
 //! Why bytes are no JSON text, and where.
-ghost use Rattle.std.specs.Prelude.{◌≡◌, ◌+◌, ◌≤◌, IsUtf8, length};
-ghost use Rattle.uv_vectors.specs.JsonFault.{IsFaultOf, goes_on, place_after, place_behind};
+ghost use Rattle.std.specs.Prelude.{◌≡◌, ◌+◌, ◌≤◌, ◌++◌, ◌∷◌, [], ℕ, Decides, IsUtf8, List, length};
+ghost use Rattle.std.specs.Fmt.{is_char_start};
+ghost use Rattle.uv_vectors.specs.JsonFault.{IsFaultOf, IsOffsetOf, byte_place_behind, place_behind};
 ghost use Rattle.uv_vectors.specs.Run.{most_bytes};
 
 use serde_json::Error;
@@ -12,6 +13,13 @@ pub struct FilePlace {
     pub line: usize,
     /// The column in the line.
     pub column: usize,
+}
+
+// Where a byte stands: its line, and its column in the line, both from 1. A column counts bytes.
+#[derive(Clone, Copy, PartialEq, Eq)]
+struct BytePlace {
+    line: usize,
+    column: usize,
 }
 
 /// Why bytes are no JSON text, and where.
@@ -44,7 +52,11 @@ fn text_fault(bytes: &[u8], error: &Error) -> JsonFault
     requires few { length bytes.now ≤ most_bytes }
     ensures { IsFaultOf bytes.now result }
 {
-    let at = offset_of(bytes, error.line(), error.column());
+    let place = BytePlace {
+        line: error.line(),
+        column: error.column(),
+    };
+    let at = offset_of(bytes, place);
     if error.is_eof() || at >= bytes.len() {
         JsonFault::CutShort(place_behind(bytes))
     } else {
@@ -52,18 +64,48 @@ fn text_fault(bytes: &[u8], error: &Error) -> JsonFault
     }
 }
 
-// How many bytes stand before the one that a reader names by its line and its column in bytes, both from 1. What it
-// names is pinned by no contract, so that this isn't either.
-fn offset_of(bytes: &[u8], line: usize, column: usize) -> usize {
-    let mut start = 0;
-    let mut lines = 1;
+// How many bytes stand before the one at a place; all of them, where none of them stands there. What a reader names by
+// its line and its column is pinned by no contract.
+fn offset_of(bytes: &[u8], place: BytePlace) -> usize
+    requires { length bytes.now ≤ most_bytes }
+    ensures { IsOffsetOf bytes.now place result }
+{
+    let mut here = BytePlace { line: 1, column: 1 };
     for (at, byte) in bytes.iter().enumerate() {
-        if *byte == b'\n' && lines < line {
-            lines += 1;
-            start = at + 1;
+        if is_same(here, place) {
+            return at;
+        }
+        here = byte_place_after(here, *byte);
+    }
+    bytes.len()
+}
+
+fn is_same(here: BytePlace, place: BytePlace) -> bool
+    ensures { Decides result (here ≡ place) }
+{
+    here == place
+}
+
+// The place behind one more byte, where columns count bytes.
+fn byte_place_after(place: BytePlace, byte: u8) -> BytePlace
+    requires line { place.line ≤ most_bytes }
+    requires column { place.column ≤ most_bytes }
+    ensures place { (bytes : List ℕ) → place ≡ byte_place_behind bytes
+        → result ≡ byte_place_behind (bytes ++ byte ∷ []) }
+    ensures line { result.line ≤ place.line + 1 }
+    ensures column { result.column ≤ place.column + 1 }
+{
+    if byte == b'\n' {
+        BytePlace {
+            line: place.line + 1,
+            column: 1,
+        }
+    } else {
+        BytePlace {
+            line: place.line,
+            column: place.column + 1,
         }
     }
-    start.saturating_add(column.saturating_sub(1))
 }
 
 // The place behind these bytes.
@@ -78,11 +120,11 @@ fn place_behind(bytes: &[u8]) -> FilePlace
     place
 }
 
-// The place behind one more byte.
+// The place behind one more byte: a line feed ends a line, and each code point is a column.
 fn place_after(place: FilePlace, byte: u8) -> FilePlace
     requires line { place.line ≤ most_bytes }
     requires column { place.column ≤ most_bytes }
-    ensures place { result ≡ place_after place byte }
+    ensures place { (bytes : List ℕ) → place ≡ place_behind bytes → result ≡ place_behind (bytes ++ byte ∷ []) }
     ensures line { result.line ≤ place.line + 1 }
     ensures column { result.column ≤ place.column + 1 }
 {
@@ -92,19 +134,19 @@ fn place_after(place: FilePlace, byte: u8) -> FilePlace
             line: line + 1,
             column: 1,
         }
-    } else if goes_on(byte) {
-        place
-    } else {
+    } else if begins_code_point(byte) {
         FilePlace {
             line,
             column: column + 1,
         }
+    } else {
+        place
     }
 }
 
-// Whether a byte goes on with a code point that an earlier one begins.
-fn goes_on(byte: u8) -> bool
-    ensures { result ≡ goes_on byte }
+// Whether a byte is the first of a code point.
+fn begins_code_point(byte: u8) -> bool
+    ensures { result ≡ is_char_start byte }
 {
-    byte >= 0x80 && byte < 0xC0
+    byte < 0x80 || byte >= 0xC0
 }
