@@ -402,7 +402,7 @@ for python in python3 /usr/bin/python3; do
 done
 if [ -n "$dask" ]; then
     recipe 'A cluster' python | sed 's/^PIECE = .*/PIECE = 100_000/' >cluster.py
-    in_pieces 'distributed' timeout 300 "$dask" -W ignore cluster.py all.links
+    in_pieces 'distributed' env DASK_LOGGING__DISTRIBUTED=critical timeout 300 "$dask" -W ignore cluster.py all.links
 else
     echo "uses: the recipe for distributed is left out, since it isn't installed"
 fi
