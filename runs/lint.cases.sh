@@ -313,13 +313,16 @@ printf '%b' "$other" | cmp -s - "$room/out" || fail "lint of a folder among file
 # path through a file, one whose first read fails, and one that may not be read.
 expect 2 "$other" "urlcheck: missing: can't be read: there is no such file\\nurlcheck: 1 line, 1 refused\\n" \
     lint missing other.txt
-expect 2 "$other" "urlcheck: .: can't be read: it is a folder\\nurlcheck: '': can't be read: there is no such file\\n\
+of_folders='urlcheck: lint takes no folder; urlcheck-documents FOLDER reads the documents in it\n'
+expect 2 "$other" "urlcheck: .: can't be read: it is a folder\\n${of_folders}urlcheck: '': can't be read: there is no such file\\n\
 urlcheck: other.txt/x: can't be read: a part of its path is no folder\\nurlcheck: 1 line, 1 refused\\n" \
     lint . '' other.txt other.txt/x
 expect 2 '' "urlcheck: /proc/self/mem: can't be read\\nurlcheck: 2 lines, 0 refused\\n" lint /proc/self/mem right.txt
 expect 2 '' "urlcheck: missing: can't be read: there is no such file\\n" lint --quiet missing right.txt
 expect 2 '' "urlcheck: a\\0357\\0277\\0275[2J\\0357\\0277\\0275b: can't be read: there is no such file\\n\
 urlcheck: 0 lines, 0 refused\\n" lint $'a\e[2J\nb'
+printf '\xff\n' >"$room/other.html"
+cp "$room/right.txt" "$room/right.html"
 chmod 755 "$room"
 cp "$program" "$room/program"
 chmod 000 "$room/links.txt"
@@ -330,6 +333,25 @@ ends_with 2 $? "urlcheck: links.txt: can't be read: it may not be read\\nurlchec
     'lint of a file that may not be read'
 printf '%b' "$other" | cmp -s - "$room/out" || fail "lint of a file that isn't permitted: it wrote $(cat "$room/out")"
 chmod 644 "$room/links.txt"
+
+# A hint where lines are refused, one of the files has the name of a document, and counts are wanted.
+of_documents='urlcheck: lint takes a link a line; urlcheck-documents FILE judges the links of a document\n'
+for end in html htm xhtml xml rss atom opml md markdown MD; do
+    printf '<a href="b">\n' >"$room/page.$end"
+    expect 1 "page.$end:1:1: error: there is no scheme and no base [no-scheme]\n" \
+        "${of_documents}urlcheck: 1 line, 1 refused\n" lint page.$end
+    expect 1 "page.$end:1:1: error: there is no scheme and no base [no-scheme]\n" '' lint --quiet page.$end
+done
+expect 2 "$other${bytes//links.txt:5/other.html:1}" "urlcheck: missing.md: can't be read: there is no such file\\n\
+${of_documents}urlcheck: 4 lines, 2 refused\\n" lint other.txt missing.md right.txt other.html
+expect 0 '' 'urlcheck: 2 lines, 0 refused\n' lint right.html
+expect 2 '' "urlcheck: missing.html: can't be read: there is no such file\\nurlcheck: 0 lines, 0 refused\\n" lint missing.html
+"$program" lint "$room/other.html" >/dev/full 2>"$room/err"
+ended=$?
+count=$((count + 1))
+if [ $ended != 3 ] || [ "$(tail -n 1 "$room/err")" != write ] || grep -q urlcheck-documents "$room/err"; then
+    fail "lint of a document to a full device: status $ended, on standard error: $(cat "$room/err")"
+fi
 
 # Each file is opened by the very name that was given: with spaces, a `%`, a `:`, a `#`, `..`, of 255 bytes, beyond
 # ASCII, through a folder, and by a path of 4,004 bytes; beside each stands a file whose name is nearly the same.
@@ -346,7 +368,7 @@ for name in 'two words ' 'two  words' 'a b' 'a%2520b' "${name_255%n}" $'e\u0301\
     expect 2 '' "urlcheck: $name: can't be read: there is no such file\\n" lint -q -- "$name"
 done
 expect 2 '' "urlcheck: right.txt/: can't be read: a part of its path is no folder\\n" lint -q right.txt/
-expect 2 '' "urlcheck: folder/: can't be read: it is a folder\\n" lint -q folder/
+expect 2 '' "urlcheck: folder/: can't be read: it is a folder\\n$of_folders" lint -q folder/
 expect 2 '' "urlcheck: ${name_255}n: can't be read\\n" lint -q "${name_255}n"
 for name in "${names[@]}"; do rm -f -- "$room/$name"; done
 printf 'x\n' >"$room/"$'ends\n'

@@ -45,10 +45,11 @@ refused "'chek'" chek urn:a
 no_file='urlcheck: links reads standard input, and takes no file: urlcheck links <FILE'
 # (the usage names the file of the program)
 usage="urlcheck: Usage: $(basename "$program") links [OPTIONS]\nurlcheck: For more information, try '--help'.\n"
+of_all='urlcheck: --all is an option of check and lint\n'
 expect 2 '' "urlcheck: unexpected argument 'x' found\n$usage$no_file\nwords\n" links x
 expect 2 '' "urlcheck: unexpected argument 'links.txt' found\n$usage$no_file\nwords\n" links --base http://h/ links.txt
-expect 2 '' "urlcheck: unexpected argument '--all' found\n$usage$no_file\nwords\n" links --all links.txt
-expect 2 '' "urlcheck: unexpected argument '--all' found\n$usage""words\n" links --all
+expect 2 '' "urlcheck: unexpected argument '--all' found\n$usage$of_all$no_file\nwords\n" links --all links.txt
+expect 2 '' "urlcheck: unexpected argument '--all' found\n$usage$of_all""words\n" links --all
 refused "'--format'" mend --format gnu
 refused "'b'" mend a b
 refused '<FILE>' vectors
@@ -116,6 +117,73 @@ expect 0 'valid\n' '' mend --base http://h/ -
 expect 1 'refused 0 no-scheme\n' '' check -- --
 expect 1 'none\nrefused 0 no-scheme\n' '' mend -- -x
 expect 2 '' "$(no_base 0 no-scheme 'it has no scheme')" check --base - -
+
+# So does one where a refused text has no base and looks like the name of a file: it has no `:`, `?`, `#` or space, and
+# ends in a dot and what lists and documents end in, in any case. Whether there is such a file doesn't matter.
+file_of_check='is the text here; lint FILE judges the lines of a file\n'
+file_of_mend='is the text here; mend without a TEXT reads standard input\n'
+for end in txt csv tsv json html htm xhtml xml rss atom opml md markdown; do
+    expect 1 'refused 0 no-scheme\n' "urlcheck: links.$end $file_of_check" check links.$end
+    expect 1 'none\nrefused 0 no-scheme\n' "urlcheck: .${end^^} $file_of_mend" mend .${end^^}
+done
+expect 1 'refused 0 no-scheme\n' "urlcheck: ../a/x.y.Html $file_of_check" check --all --wide -- ../a/x.y.Html
+expect 1 'refused 0 no-scheme\nrefused 1 code-point\n' "urlcheck: a\0357\0277\0275.md $file_of_check" check --all $'a\e.md'
+for text in html x.htmlx x.html/ x.ht .h xhtml links.txt~ 'a b.html' a?b.html a#b.html .json.gz; do
+    expect 1 'refused 0 no-scheme\n' '' check "$text"
+done
+expect 1 'none\nrefused 0 no-scheme\n' '' mend 'x?y.md'
+expect 1 'refused 0 opaque-base\n' '' check --base urn:a page.html
+expect 1 'none\nrefused 0 opaque-base\n' '' mend --base urn:a page.html
+expect 1 'refused 7 host-domain\n' '' check http://a_b/page.html
+expect 0 'valid\nscheme http\nhost domain h\nsegment page.html\n' '' check --base http://h/ page.html
+expect 2 '' "$(no_base 0 no-scheme 'it has no scheme')" check --base page.html page.html
+
+# An option that another command takes: which commands these are, in place of the tip to hand it over as a text.
+# of_others COMMANDS COMMAND WORD.. : these words of a command are refused for the first of them, which these commands take
+of_others() {
+    local takers=$1 shown=${3%%=*} line
+    shift
+    (cd "$room" && "$program" "$@") >"$room/out" 2>"$room/err" </dev/null
+    line="urlcheck: $shown is an option of $takers"
+    ended=$?
+    count=$((count + 1))
+    if [ "$(head -n 1 "$room/err")" != "urlcheck: unexpected argument '$shown' found" ] || [ -s "$room/out" ] ||
+        ! grep -qxF -- "$line" "$room/err" || grep -q 'tip:' "$room/err" || [ "$(tail -n 1 "$room/err")" != words ]; then
+        fail "$*: on standard error: $(cat "$room/err")"
+    fi
+}
+of_others lint check --format json x
+of_others lint check --format=json x
+of_others lint mend --located
+of_others mend lint --only same x
+of_others 'check and lint' mend --all x
+of_others 'lint and mend' check -q x
+of_others 'lint and mend' vectors --quiet
+of_others 'check and lint and links and mend' explain --base x
+expect 2 '' "urlcheck: unexpected argument '--format' found\n${usage/links \[OPTIONS\]/check --all <TEXT>}\
+urlcheck: --format is an option of lint\nwords\n" check --all --format json x
+expect 2 '' "urlcheck: unexpected argument '--format' found\n${usage/links \[OPTIONS\]/<COMMAND>}\
+urlcheck: --format is an option of lint\nwords\n" --format json lint x
+# (one that none takes stands first, or no option does, or it stands behind --)
+for words in '--bogus --format x' '-- --format x' '- --bogus --format'; do
+    refused "unexpected argument '" check $words
+    ! grep -q 'is an option' "$room/err" || fail "check $words: on standard error: $(cat "$room/err")"
+done
+expect 2 '' "urlcheck: a value is required for '--base <TEXT>' but none was supplied\n\
+urlcheck: For more information, try '--help'.\nwords\n" check --base --format
+
+# Each option of the help is one of the commands that have it in their help, and of no other: as vectors says, which has none.
+count=$((count + 1))
+for command in check lint links mend; do
+    "$program" help $command | sed -n '/^Options:$/,/^$/p' | grep -o -e '--[a-z0-9-]*' -e '-[a-z],' | tr -d , |
+        grep -vx -e --help -e -h | sed "s/$/ $command/"
+done | sort -s -k 1,1 | awk '$1 != option { option = $1; printf "%s%s %s", NR > 1 ? "\n" : "", $1, $2; next }
+    { printf " and %s", $2 } END { print "" }' >"$room/options"
+[ "$(wc -l <"$room/options")" -gt 8 ] || fail "the help has these options: $(cat "$room/options")"
+while read -r option takers; do
+    "$program" vectors $option >"$room/out" 2>"$room/err"
+    grep -qxF -- "urlcheck: $option is an option of $takers" "$room/err" || fail "$option: of $takers: $(cat "$room/err")"
+done <"$room/options"
 
 # The text and the base are taken as they are given.
 expect 1 'refused 0 no-scheme\n' '' check ''

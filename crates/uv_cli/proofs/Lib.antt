@@ -3,5 +3,6 @@ mod CheckLemmas
 mod LintLemmas
 mod ListLemmas
 mod MendLemmas
+mod OptionLemmas
 mod ProgramLemmas
 mod ReportLemmas

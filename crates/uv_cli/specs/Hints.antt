@@ -1,25 +1,68 @@
 -- Hints at what was meant, where the arguments ask for something else: what is reported on standard error.
-use Rattle.std.specs.Prelude.{ℕ, ◌&&◌, ◌==◌, Bool, false, List, [], ◌∷◌, Option, Some, codes, if◌then◌else◌}
-use Rattle.std.specs.Prelude.{not, string_bytes}
+use Rattle.std.specs.Prelude.{ℕ, ◌&&◌, ◌==◌, Bool, false, List, [], ◌∷◌, ◌++◌, Option, Some, String, codes, is_some}
+use Rattle.std.specs.Prelude.{not, string_bytes, if◌then◌else◌}
+use Rattle.std.specs.List.{list_any}
 use Rattle.std.specs.Str.{bytes_eq}
+use Rattle.std.specs.declared.alloc.Global.{Global}
 use Rattle.clap.specs.declared.error.kind.ErrorKind.{ErrorKind}
 use Rattle.clap.specs.declared.error.kind.ErrorKind.TheVariants.{UnknownArgument}
+use Rattle.uv_report.specs.Escapes.{shown_text}
 use Rattle.uv_words.specs.declared.words.Job.{Job}
 use Rattle.uv_words.specs.declared.words.Job.TheVariants as job
+use Rattle.uv_words.specs.declared.words.LintJob.{LintJob}
+use Rattle.uv_cli.specs.FileNames.{has_document_end, names_file}
+use Rattle.uv_cli.specs.Linted.{is_clean, is_stopped}
 use Rattle.uv_cli.specs.declared.ends.End.{End}
-use Rattle.uv_cli.specs.declared.ends.End.TheVariants.{Refused}
+use Rattle.uv_cli.specs.declared.ends.End.TheVariants.{Linted, Refused}
+use Rattle.uv_cli.specs.declared.linted.Linted as linted
+use Rattle.uv_cli.specs.declared.unread.Unread.{Unread}
+use Rattle.uv_cli.specs.declared.unread.Unread.TheVariants as unread
 
--- the hint where the text is `-` alone, which is no name of standard input there
-abbrev pub hyphen_hint : List ℕ → List ℕ → List ℕ
-hyphen_hint text hint = if bytes_eq text (codes "-") then hint else []
+-- the line of a text that was likely meant as something else
+abbrev pub text_line : List ℕ → List ℕ → List ℕ
+text_line text instead =
+    codes "urlcheck: " ++ (shown_text text ++ (codes " is the text here; " ++ (instead ++ codes "\n")))
 
--- the hint behind a job that ended so: of a text `-` that is refused
+-- the hint of a text that is refused against a base or alone: these words where it is `-`, which is no name of standard
+-- input there, and those where it looks like the name of a file; against a base it may be right
+unfoldable pub text_hint : List ℕ → Bool → List ℕ → List ℕ → List ℕ
+text_hint text has_base of_input of_file =
+    if bytes_eq text (codes "-") then text_line text of_input
+    else (if not has_base && names_file text then text_line text of_file else [])
+
+-- one of the names ends as that of a document does
+abbrev pub has_document : List (String Global) → Bool
+has_document files = list_any (λ file. has_document_end (string_bytes file)) files
+
+-- a lint that isn't to be quiet came to its end and refused lines, and one of its files has the name of a document
+abbrev pub is_of_documents : LintJob → linted.Linted → Bool
+is_of_documents asked lint =
+    not lint.is_quiet
+    && (not (is_stopped lint)
+    && (not (is_clean lint) && has_document asked.files.items))
+
+-- the hint behind a lint
+abbrev pub lint_hint : LintJob → linted.Linted → List ℕ
+lint_hint asked lint =
+    if is_of_documents asked lint
+    then codes "urlcheck: lint takes a link a line; urlcheck-documents FILE judges the links of a document\n" else []
+
+-- the hint behind a job that ended so
 abbrev pub job_hint : Job → End → List ℕ
 job_hint (job.Check text base extent profile) Refused =
-    hyphen_hint (string_bytes text) (codes "urlcheck: - is the text here; lint - and links read standard input\n")
+    text_hint (string_bytes text) (is_some base) (codes "lint - and links read standard input")
+    (codes "lint FILE judges the lines of a file")
 job_hint (job.Mend text base profile) Refused =
-    hyphen_hint (string_bytes text) (codes "urlcheck: - is the text here; mend without a TEXT reads standard input\n")
+    text_hint (string_bytes text) (is_some base) (codes "mend without a TEXT reads standard input")
+    (codes "mend without a TEXT reads standard input")
+job_hint (job.Lint asked) (Linted lint) = lint_hint asked lint
 job_hint other end = []
+
+-- the hint behind a file that a lint couldn't read for this reason
+abbrev pub folder_hint : Unread → List ℕ
+folder_hint unread.Folder =
+    codes "urlcheck: lint takes no folder; urlcheck-documents FOLDER reads the documents in it\n"
+folder_hint _ = []
 
 -- the word begins as an option does
 abbrev pub begins_with_hyphen : List ℕ → Bool

@@ -5,6 +5,7 @@ pub mod CheckText
 pub mod Stream
 pub mod Ends
 pub mod Explain
+pub mod FileNames
 pub mod Flushed
 pub mod Hints
 pub mod Jobs
@@ -14,6 +15,7 @@ pub mod Mend
 pub mod Filtered
 pub mod Filter
 pub mod Messages
+pub mod Options
 pub mod Program
 pub mod Reasons
 pub mod Unjudged

@@ -1,47 +1,132 @@
 //! Hints at what was meant, where the arguments ask for something else: what is reported on standard error.
 ghost use Rattle.std.specs.Prelude.{◌≡◌, IfOk, option_copied, string_bytes};
-ghost use Rattle.uv_cli.specs.Hints.{begins_with_hyphen, hyphen_hint, is_file_of, job_hint, words_hint};
+ghost use Rattle.uv_cli.specs.Hints.{begins_with_hyphen, folder_hint, has_document, is_file_of, is_of_documents};
+ghost use Rattle.uv_cli.specs.Hints.{job_hint, lint_hint, text_hint, text_line, words_hint};
 
 use crate::ends::End;
+use crate::file_names::{has_document_end, names_file};
+use crate::linted::Linted;
+use crate::unread::Unread;
 use clap::error::ErrorKind;
 use std::alloc::{AllocError, Global};
-use uv_words::Job;
+use uv_report::push_shown;
+use uv_words::{Job, LintJob};
 
-// What is said where `check` is given `-`.
-const NO_INPUT_OF_CHECK: &str =
-    "urlcheck: - is the text here; lint - and links read standard input\n";
+// What `check` is told where its text is the standard input's name.
+const INPUT_OF_CHECK: &str = "lint - and links read standard input";
 
-// What is said where `mend` is given `-`.
-const NO_INPUT_OF_MEND: &str =
-    "urlcheck: - is the text here; mend without a TEXT reads standard input\n";
+// What `check` is told where its text looks like the name of a file.
+const FILE_OF_CHECK: &str = "lint FILE judges the lines of a file";
+
+// What `mend` is told in both cases.
+const INPUT_OF_MEND: &str = "mend without a TEXT reads standard input";
+
+// What is said where a lint refuses lines of a document.
+const OF_DOCUMENTS: &str =
+    "urlcheck: lint takes a link a line; urlcheck-documents FILE judges the links of a document\n";
+
+// What is said where a lint is given a folder.
+const OF_FOLDERS: &str =
+    "urlcheck: lint takes no folder; urlcheck-documents FOLDER reads the documents in it\n";
 
 // What is said where `links` is given a file.
 const NO_FILE_OF_LINKS: &str =
     "urlcheck: links reads standard input, and takes no file: urlcheck links <FILE\n";
 
-/// The hint behind a job that ended so, or nothing: of a text `-` that is refused.
+/// The hint behind a job that ended so, or nothing: of a text that is refused, where it is `-`, or looks like the name of
+/// a file and has no base; and of a lint that refuses lines of a document.
 pub(crate) fn job_hint(alloc: Global, job: &Job, end: End) -> Result<String, AllocError>
     ensures { IfOk result (λ hint. string_bytes hint ≡ job_hint job.now end) }
 {
     match (job, end) {
-        (Job::Check { text, .. }, End::Refused) => {
-            hyphen_hint(alloc, text.as_str(), NO_INPUT_OF_CHECK)
-        }
-        (Job::Mend { text, .. }, End::Refused) => {
-            hyphen_hint(alloc, text.as_str(), NO_INPUT_OF_MEND)
-        }
+        (Job::Check { text, base, .. }, End::Refused) => text_hint(
+            alloc,
+            text.as_str(),
+            base.is_some(),
+            INPUT_OF_CHECK,
+            FILE_OF_CHECK,
+        ),
+        (Job::Mend { text, base, .. }, End::Refused) => text_hint(
+            alloc,
+            text.as_str(),
+            base.is_some(),
+            INPUT_OF_MEND,
+            INPUT_OF_MEND,
+        ),
+        (Job::Lint(asked), End::Linted(linted)) => lint_hint(alloc, asked, linted),
         _ => Ok(String::new(alloc)),
     }
 }
 
-// A hint where the text is `-` alone, or nothing.
-fn hyphen_hint(alloc: Global, text: &str, hint: &str) -> Result<String, AllocError>
-    ensures { IfOk result (λ said. string_bytes said ≡ hyphen_hint text.now hint.now) }
+// The hint of a text that is refused against a base or alone, or nothing: these words where it is `-`, and those where it
+// looks like the name of a file.
+#[tactic(auto, unfolding(crate::specs::Hints::text_hint))]
+fn text_hint(
+    alloc: Global,
+    text: &str,
+    has_base: bool,
+    of_input: &str,
+    of_file: &str,
+) -> Result<String, AllocError>
+    ensures { IfOk result (λ hint. string_bytes hint ≡ text_hint text.now has_base of_input.now of_file.now) }
 {
     if text == "-" {
-        String::from_str(alloc, hint)
+        return text_line(alloc, text, of_input);
+    }
+    if !has_base && names_file(text) {
+        return text_line(alloc, text, of_file);
+    }
+    Ok(String::new(alloc))
+}
+
+// The line of a text that was likely meant as something else.
+fn text_line(alloc: Global, text: &str, instead: &str) -> Result<String, AllocError>
+    ensures { IfOk result (λ line. string_bytes line ≡ text_line text.now instead.now) }
+{
+    let mut line = String::from_str(alloc, "urlcheck: ")?;
+    push_shown(&mut line, text)?;
+    line.push_str(" is the text here; ")?;
+    line.push_str(instead)?;
+    line.push_str("\n")?;
+    Ok(line)
+}
+
+// The hint behind a lint, or nothing.
+fn lint_hint(alloc: Global, asked: &LintJob, linted: Linted) -> Result<String, AllocError>
+    ensures { IfOk result (λ hint. string_bytes hint ≡ lint_hint asked.now linted) }
+{
+    if is_of_documents(asked, linted) {
+        String::from_str(alloc, OF_DOCUMENTS)
     } else {
         Ok(String::new(alloc))
+    }
+}
+
+// Whether a lint that isn't to be quiet came to its end and refused lines, and one of its files has the name of a
+// document.
+fn is_of_documents(asked: &LintJob, linted: Linted) -> bool
+    ensures { result ≡ is_of_documents asked.now linted }
+{
+    !linted.is_quiet
+        && !linted.is_stopped()
+        && !linted.is_clean()
+        && has_document(asked.files.as_slice())
+}
+
+// Whether one of the names ends as that of a document does.
+fn has_document(files: &[String]) -> bool
+    ensures { result ≡ has_document files.now }
+{
+    files.iter().any(|file| has_document_end(file.as_str()))
+}
+
+/// The hint behind a file that a lint couldn't read for this reason, or nothing: of a folder.
+pub(crate) fn folder_hint(why: Unread) -> &'static str
+    ensures { result.now ≡ folder_hint why }
+{
+    match why {
+        Unread::Folder => OF_FOLDERS,
+        _ => "",
     }
 }
 

@@ -1,17 +1,20 @@
 //! The command `lint`: a report on the lines of files, in a format that people or tools read.
-ghost use Rattle.std.specs.Prelude.{◌≡◌, ◌-◌, ◌^◌, ◌<◌, ◌⊎◌, IfOk, map, option_copied, string_bytes, true};
+ghost use Rattle.std.specs.Prelude.{◌≡◌, ◌++◌, ◌-◌, ◌^◌, ◌<◌, ◌⊎◌, IfOk, map, option_copied, string_bytes, true};
 ghost use Rattle.uv_lint.specs.LineViolations.{file_setting};
 ghost use Rattle.uv_report.specs.Report.{begin_text};
+ghost use Rattle.uv_cli.specs.Hints.{folder_hint};
 ghost use Rattle.uv_cli.specs.Lint.{HasLinted, HasLintedAgainst, LintsAll, LintsNamed, LintsNext, LintsNothing};
 ghost use Rattle.uv_cli.specs.Lint.{LintsOpened, IsUnopened, IsWhyUnopened, WritesPiece, columns_of, form_of};
 ghost use Rattle.uv_cli.specs.Lint.{format_of, is_input};
 ghost use Rattle.uv_cli.specs.Linted.{is_stopped, is_writable};
+ghost use Rattle.uv_cli.specs.Unread.{unread_text};
 
 use crate::arguments::said_of;
 use crate::ends::End;
+use crate::hints::folder_hint;
 use crate::linted::Linted;
 use crate::messages::{message_line, say};
-use crate::unread::{Unread, report_unread};
+use crate::unread::{Unread, unread_line};
 use crate::watched::WatchedReader;
 use std::alloc::{AllocError, Global};
 use std::fs;
@@ -301,8 +304,17 @@ fn report_failed_read<R: Eprint + AllocGlobal>(
     kind: Option<ErrorKind>,
 ) {
     if answer == Err(LintFault::Read) {
-        report_unread(rt, file, Unread::of(kind));
+        say(rt, unread_lines(rt.alloc(), file, Unread::of(kind)));
     }
+}
+
+// What is reported of a file that isn't read for this reason, with a hint.
+fn unread_lines(alloc: Global, file: &str, why: Unread) -> Result<String, AllocError>
+    ensures { IfOk result (λ lines. string_bytes lines ≡ unread_text file.now why ++ folder_hint why) }
+{
+    let mut lines = unread_line(alloc, file, why)?;
+    lines.push_str(folder_hint(why))?;
+    Ok(lines)
 }
 
 // A file whose name isn't UTF-8 is never read, which is reported.
@@ -321,6 +333,6 @@ fn unopened<R: Eprint + AllocGlobal>(rt: &R, file: &str, kind: ErrorKind) -> Lin
     if kind == ErrorKind::OutOfMemory {
         return LintFault::Memory;
     }
-    report_unread(rt, file, Unread::of(Some(kind)));
+    say(rt, unread_lines(rt.alloc(), file, Unread::of(Some(kind))));
     LintFault::Read
 }

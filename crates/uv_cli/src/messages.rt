@@ -23,12 +23,17 @@ pub(crate) fn message_line(alloc: Global, line: &str) -> Result<String, AllocErr
     Ok(text)
 }
 
-/// The lines of a message of `clap`, each behind the program's name, without those that are empty.
-pub(crate) fn message_lines(alloc: Global, message: &str) -> Result<String, AllocError> {
+/// The lines of a message of `clap`, each behind the program's name, without those that are empty, and without its tips
+/// where others stand in their place.
+pub(crate) fn message_lines(
+    alloc: Global,
+    message: &str,
+    has_hint: bool,
+) -> Result<String, AllocError> {
     let mut text = String::new(alloc);
     for line in message.lines() {
         let line = line.strip_prefix("error: ").unwrap_or(line);
-        if !line.is_empty() {
+        if !line.is_empty() && !(has_hint && line.starts_with("  tip: ")) {
             push_message(&mut text, line)?;
         }
     }

@@ -11,6 +11,7 @@ use crate::ends::{End, end_after_output, end_without_file, end_without_job, erro
 use crate::hints::{job_hint, words_hint};
 use crate::jobs::run_job;
 use crate::messages::{message_line, message_lines, say};
+use crate::options::{foreign_option, option_hint};
 use crate::reasons::{base_of, profile_of, report_reasons};
 use crate::unknown::unknown_lines;
 use crate::unread::{FileFault, read_vector_file, report_unread};
@@ -185,7 +186,9 @@ fn shown<R: Print + Eprint + AllocGlobal>(rt: &R, words: &[&str], fault: &WordsF
     if fault.asks_to_show() {
         return printed(rt, end, error.print(rt));
     }
-    say(rt, clap_lines(rt.alloc(), error));
+    let option = foreign_option(words, error.kind());
+    say(rt, clap_lines(rt.alloc(), error, option.is_some()));
+    say(rt, option_hint(rt.alloc(), option));
     // (before the command stands the program's name)
     let (command, last) = (words.get(1).copied(), words.last().copied());
     say(rt, words_hint(rt.alloc(), command, last, error.kind()));
@@ -213,9 +216,9 @@ fn printed<R: Eprint + AllocGlobal>(rt: &R, end: End, answer: io::Result<()>) ->
     }
 }
 
-// The lines of an error of `clap`.
-fn clap_lines(alloc: Global, error: &clap::Error) -> Result<String, AllocError> {
-    message_lines(alloc, error.to_string(alloc)?.as_str())
+// The lines of an error of `clap`, without its tips where a hint stands in their place.
+fn clap_lines(alloc: Global, error: &clap::Error, has_hint: bool) -> Result<String, AllocError> {
+    message_lines(alloc, error.to_string(alloc)?.as_str(), has_hint)
 }
 
 // Says on standard error how the program ends, and gives the exit status. A failed write there has nowhere to be
