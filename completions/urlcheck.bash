@@ -15,6 +15,7 @@ _urlcheck() {
         lint:--profile) words='standard wide parser' is_value=yes ;;
         lint:--format) words='gnu caret json github sarif checkstyle' is_value=yes ;;
         lint:--columns) words='code-points bytes utf16 screen' is_value=yes ;;
+        lint:--stdin-name) words='' is_value=yes ;;
         links:--base) words='' is_value=yes ;;
         links:--profile) words='standard wide parser' is_value=yes ;;
         mend:--base) words='' is_value=yes ;;
@@ -24,7 +25,7 @@ _urlcheck() {
             case $command in
                 '') words='check lint links mend vectors explain help --help -h --version -V' ;;
                 check) words='--base --all --profile --wide --help -h' ;;
-                lint) words='--base --all --profile --wide --format --columns --located --quiet -q --help -h' ;;
+                lint) words='--base --all --profile --wide --format --columns --located --stdin-name --quiet -q --help -h' ;;
                 links) words='--base --profile --wide --help -h' ;;
                 mend) words='--base --profile --wide --only --quiet -q --help -h' ;;
                 vectors) words='--help -h' ;;

@@ -22,6 +22,7 @@ complete -c urlcheck -n '__fish_seen_subcommand_from lint' -l wide -d 'Short for
 complete -c urlcheck -n '__fish_seen_subcommand_from lint' -l format -x -a 'gnu caret json github sarif checkstyle' -d 'gnu, caret, json, github, sarif or checkstyle; without it gnu'
 complete -c urlcheck -n '__fish_seen_subcommand_from lint' -l columns -x -a 'code-points bytes utf16 screen' -d 'code-points, bytes, utf16 or screen; without it code-points'
 complete -c urlcheck -n '__fish_seen_subcommand_from lint' -l located -d 'Reads lines FILE:LINE:COLUMN:LINK, and reports on each LINK where it stands'
+complete -c urlcheck -n '__fish_seen_subcommand_from lint' -l stdin-name -x -d 'Reports on - under this name; without it under -'
 complete -c urlcheck -n '__fish_seen_subcommand_from lint' -s q -l quiet -d 'Leaves out the counts on standard error'
 complete -c urlcheck -n '__fish_seen_subcommand_from lint' -s h -l help -d 'Print help'
 complete -c urlcheck -n '__fish_seen_subcommand_from links' -l base -x -d 'The base, which is judged alone and first'

@@ -109,13 +109,31 @@ for pair in 'PERCENT percent' 'percent_ percent' 'host-mising host-missing' 'cod
     expect 2 '' "urlcheck: no rule is named '${word/_/ }'; the nearest is ${pair#* }\\n$rules\\nwords\\n" explain "${word/_/ }"
 done
 expect 2 '' "urlcheck: no rule is named 'no-scheme\\0357\\0277\\0275'; the nearest is no-scheme\\n$rules\\nwords\\n" explain $'no-scheme\n'
-for word in host '' nothing; do
+for word in '' nothing os xhost; do
     expect 2 '' "urlcheck: no rule is named '$word'\\n$rules\\nwords\\n" explain "$word"
 done
+# Where no name is near, those that begin so.
+for pair in 'host host-missing host-domain host-number host-ipv6 host-code-point' 'NOT- not-utf8 not-located' 'p port-digit port-range percent'; do
+    word=${pair%% *}
+    expect 2 '' "urlcheck: no rule is named '$word'\\nurlcheck: the rules that begin so: ${pair#* }\\n$rules\\nwords\\n" explain "$word"
+done
+
+# Several names: one explanation behind the other with an empty line between, in the order of the names, also twice; and
+# nothing where one of them is no name, of which the first is told.
+several='percent not-utf8 no-scheme percent'
+for name in $several; do "$program" explain "$name" >"$room/one.$name" 2>"$room/err"; done
+echo >"$room/empty"
+cat "$room/one.percent" "$room/empty" "$room/one.not-utf8" "$room/empty" "$room/one.no-scheme" "$room/empty" \
+    "$room/one.percent" >"$room/several"
+"$program" explain $several >"$room/out" 2>"$room/err"
+ends_with 0 $? '' 'explain of several names'
+cmp -s "$room/several" "$room/out" || fail "explain of several names: it wrote $(cat "$room/out")"
+expect 2 '' "urlcheck: no rule is named 'percemt'; the nearest is percent\\n$rules\\nwords\\n" explain no-scheme percemt nothing
+expect 2 '' "urlcheck: no rule is named 'nothing'\\n$rules\\nwords\\n" explain nothing percent
 
 # The output can't be written.
-for words in 'explain' 'explain percent'; do
+for words in 'explain' 'explain percent' 'explain percent no-scheme'; do
     "$program" $words >/dev/full 2>"$room/err"
     ends_with 3 $? "${no_space}write\\n" "$words to a full device"
 done
-all_cases 53
+all_cases 61

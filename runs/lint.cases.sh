@@ -334,6 +334,26 @@ ends_with 2 $? "urlcheck: links.txt: can't be read: it may not be read\\nurlchec
 printf '%b' "$other" | cmp -s - "$room/out" || fail "lint of a file that isn't permitted: it wrote $(cat "$room/out")"
 chmod 644 "$room/links.txt"
 
+# Standard input under another name: in each format, each time that it is read, beside other files, and not where it isn't.
+no_scheme='1:1: error: there is no scheme and no base [no-scheme]\n'
+of_input 1 "a b.txt:$no_scheme" '' 'x\n' -q --stdin-name 'a b.txt' -
+of_input 1 "${other}n:$no_scheme" 'urlcheck: 2 lines, 2 refused\n' 'x\n' other.txt --stdin-name=n -- -
+of_input 1 "n\0357\0277\0275:$no_scheme" '' 'x\n' -q --stdin-name $'n\e' - -
+of_input 1 ":$no_scheme" '' 'x\n' -q --stdin-name= -
+of_input 1 "-:$no_scheme" '' 'x\n' -q --stdin-name=- -
+of_input 0 '' 'urlcheck: 3 lines, 0 refused\n' 'urn:a\n' --stdin-name missing - right.txt
+of_input 1 "::error file=n%0A,line=1,col=1,title=no-scheme::there is no scheme and no base\n" '' 'x\n' -q --format github \
+    --stdin-name $'n\n' -
+of_input 1 "p.md:7:8: error: there is no scheme and no base [no-scheme]\nn:2:1: error: this line isn't FILE:LINE:COLUMN:LINK \
+[not-located]\n" '' 'p.md:7:8:x\nx\n' -q --located --stdin-name n -
+"$program" lint --stdin-name n - <"$room" >"$room/out" 2>"$room/err"
+ends_with 2 $? "${from_folder}urlcheck: 0 lines, 0 refused\\n" 'lint of a standard input that is a folder, under a name'
+unnamed='urlcheck: --stdin-name is the name of standard input: one of the FILEs has to be -\nwords\n'
+expect 2 '' "$unnamed" lint --stdin-name n other.txt
+expect 2 '' "$unnamed" lint --stdin-name=- ./- --format none --base 'a b'
+expect 2 '' "urlcheck: no profile is named 'n'\\nurlcheck: the profiles: standard wide parser\\nwords\\n" \
+    lint --stdin-name n --profile n other.txt
+
 # A hint where lines are refused, one of the files has the name of a document, and counts are wanted.
 of_documents='urlcheck: lint takes a link a line; urlcheck-documents FILE judges the links of a document\n'
 for end in html htm xhtml xml rss atom opml md markdown MD; do
@@ -530,4 +550,4 @@ ends_with 1 $? 'urlcheck: 1000000 lines, 10000 refused\n' 'lint of a million lin
 grep -qxF "$room/million:1000000:11: error: U+0020 SPACE may not stand in a URL [code-point]" "$room/out" ||
     fail "lint of a million lines: it ends with $(tail -n 1 "$room/out")"
 rm -f "$room/million" "$room"/hostile.* "$room"/none.*
-all_cases 179
+all_cases 215

@@ -53,7 +53,6 @@ expect 2 '' "urlcheck: unexpected argument '--all' found\n$usage$of_all""words\n
 refused "'--format'" mend --format gnu
 refused "'b'" mend a b
 refused '<FILE>' vectors
-refused "'percent'" explain percent percent
 expect 2 '' "urlcheck: argument 2 isn't UTF-8\nwords\n" check $'\xff'
 expect 2 '' "urlcheck: argument 1 isn't UTF-8\nwords\n" $'\xff'
 expect 2 '' "urlcheck: argument 3 isn't UTF-8\nwords\n" check a $'b\xff' --base $'\xfe'
@@ -78,6 +77,10 @@ shows '  1  a case fails' vectors --help
 shows '  2  the arguments are refused, or no rule has the name' explain --help
 shows '      --profile <PROFILE>  standard, wide or parser; without it standard' links --help
 shows '  -q, --quiet              Leaves out the counts on standard error' lint --help
+shows '      --stdin-name <NAME>  Reports on - under this name; without it under -' help lint
+# (a file that can't be read is 2 for lint, which goes on with the others, and 3 for vectors)
+shows "  2  the arguments or the base are refused, or a file can't be read; the others are judged" help lint
+shows "  3  out of memory, the file can't be read, or the output failed" help vectors
 
 # A profile by its name, by `--wide`, and by a name that none has.
 expect 0 'valid\nscheme http\nhost domain a_b\nsegment \n' '' check --profile wide http://a_b/
@@ -171,6 +174,8 @@ for words in '--bogus --format x' '-- --format x' '- --bogus --format'; do
 done
 expect 2 '' "urlcheck: a value is required for '--base <TEXT>' but none was supplied\n\
 urlcheck: For more information, try '--help'.\nwords\n" check --base --format
+
+of_others lint check --stdin-name x y
 
 # Each option of the help is one of the commands that have it in their help, and of no other: as vectors says, which has none.
 count=$((count + 1))
@@ -281,4 +286,4 @@ expect 0 'valid\nscheme file\nhost domain h\nsegment C:\nsegment x\n' '' check -
 expect 0 'valid\nscheme urn\nopaque a b\nfragment f\n' '' check --profile parser --base 'urn:a b' '#f'
 expect 2 '' "$(no_base 5 code-point 'U+0020 SPACE may not stand in a URL')" check --wide --base 'urn:a b' '#f'
 expect 2 '' "$(no_base 7 host-number 'the host that begins here ends in a number, and is no IPv4 address')" check --profile parser --base http://256/ x
-all_cases 177
+all_cases 240

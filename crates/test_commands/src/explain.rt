@@ -16,20 +16,30 @@ refused 8 host-missing
 mended https://example.com/a
 ";
 
+// The one name of a rule.
+fn only(alloc: Global, name: &str) -> Result<Vec<String>, Fail> {
+    let mut names = Vec::new(alloc);
+    names.push(name.to_string(alloc)?)?;
+    Ok(names)
+}
+
 #[test]
 fn explains_a_rule(rt: HostRuntime) -> Result<(), Fail> {
     let mut out = ToWriter::new(Vec::new(rt.alloc()));
-    let end = run_explain(rt.alloc(), Some("host-missing"), &mut out)?;
+    let names = only(rt.alloc(), "host-missing")?;
+    let end = run_explain(rt.alloc(), names.as_slice(), &mut out)?;
     assert!(rt; end == ExplainEnd::Explained);
     assert!(rt; out.into_writer().as_slice() == HOST_MISSING.as_bytes());
     Ok(())
 }
 
-// The name of no rule: nothing is written.
+// A name of no rule behind that of one: nothing is written.
 #[test]
 fn knows_no_other_names(rt: HostRuntime) -> Result<(), Fail> {
     let mut out = ToWriter::new(Vec::new(rt.alloc()));
-    let end = run_explain(rt.alloc(), Some("Percent"), &mut out)?;
+    let mut names = only(rt.alloc(), "host-missing")?;
+    names.push("Percent".to_string(rt.alloc())?)?;
+    let end = run_explain(rt.alloc(), names.as_slice(), &mut out)?;
     assert!(rt; end == ExplainEnd::Unknown);
     assert!(rt; out.into_writer().is_empty());
     Ok(())
@@ -38,7 +48,8 @@ fn knows_no_other_names(rt: HostRuntime) -> Result<(), Fail> {
 // Whether the write behind these short ones fails, so that a beginning is written.
 fn fails_behind(alloc: Global, writes: &[Result<usize, DeviceFault>]) -> Result<bool, Fail> {
     let mut out = ScriptSink::new(alloc, HOST_MISSING.len(), writes)?;
-    let answer = run_explain(alloc, Some("host-missing"), &mut out);
+    let names = only(alloc, "host-missing")?;
+    let answer = run_explain(alloc, names.as_slice(), &mut out);
     Ok(
         answer == Err(CliFault::Write)
             && out.failures() == 1

@@ -24,6 +24,7 @@ fn job(alloc: Global, other: Option<&str>) -> Result<Job, Fail> {
         format: None,
         columns: None,
         located: false,
+        stdin_name: None,
         quiet: false,
     }))
 }

@@ -48,6 +48,7 @@ fn is_full_lint(job: &LintJob) -> bool {
         && is_only(job.format.as_deref(), &["json"])
         && is_only(job.columns.as_deref(), &["screen"])
         && job.located
+        && is_only(job.stdin_name.as_deref(), &["n"])
         && job.quiet
 }
 
@@ -64,6 +65,7 @@ fn reads_lints(rt: HostRuntime) {
         "json",
         "--columns=screen",
         "--located",
+        "--stdin-name=n",
         "--quiet",
         "a b",
         "--",

@@ -22,7 +22,7 @@ use Rattle.uv_vectors.specs.declared.fault.CliFault.TheVariants as cli
 use Rattle.uv_cli.specs.declared.linted.Linted.{Linted}
 use Rattle.uv_cli.specs.Stream.{Stream}
 use Rattle.uv_cli.specs.Lint.{AreNamed, FailsAsAnswered, HasLinted, HasLintedAgainst, LintsAll, LintsNamed}
-use Rattle.uv_cli.specs.Lint.{LintsNext, LintsSource, WritesPiece, most}
+use Rattle.uv_cli.specs.Lint.{LintsNext, LintsSource, WritesPiece, most, reported_name}
 use Rattle.uv_cli.specs.Linted.{is_stopped, is_writable, no_file, with_file}
 
 -- what a run over a source has done
@@ -45,7 +45,7 @@ lints_source setting is_first counts (Err e) start rest old new a b c d report (
 pub all_more : (setting : List ℕ → FileSetting) (files : List (List ℕ)) (file : List ℕ) (before middle after : Linted)
     (input between rest old part new : Stream)
     → LintsAll setting files before middle input between old part
-    → LintsNext (is_stopped middle) (setting file) middle after between rest part new
+    → LintsNext (is_stopped middle) file (setting file) middle after between rest part new
     → LintsAll setting (files ++ file ∷ []) before after input rest old new
 all_more setting [] file before middle after input between rest old part new all next = (
   after,
@@ -107,24 +107,25 @@ writable_unstopped None h = refl
 writable_unstopped (Some fault) h = grind (arith, h)
 
 -- the next file: where no write has failed, none was counted, and none had failed before
-quiet_by : (stopped : Bool) (setting : FileSetting) (before after : Linted) (input rest old new : Stream)
-    → is_stopped before ≡ stopped → LintsNext stopped setting before after input rest old new
+quiet_by : (stopped : Bool) (file : List ℕ) (setting : FileSetting) (before after : Linted)
+    (input rest old new : Stream)
+    → is_stopped before ≡ stopped → LintsNext stopped file setting before after input rest old new
     → is_writable after.stopped ≡ true → (new.failed ≡ old.failed) × (is_writable before.stopped ≡ true)
-quiet_by true setting before after input rest old new is next writable = (
+quiet_by true file setting before after input rest old new is next writable = (
   ap (λ d. d.failed) next.unwritten,
   ap (λ l. is_writable l.stopped) (sym next.is_after) ∙ writable,
 )
-quiet_by false setting before after input rest old new is next writable = (
+quiet_by false file setting before after input rest old new is next writable = (
   named_quiet _ setting _ before next.counts next.answer input rest old new next.named
       (ap (λ l. is_writable l.stopped) (sym next.is_after) ∙ writable),
   writable_unstopped before.stopped is,
 )
 
-pub next_quiet : (setting : FileSetting) (before after : Linted) (input rest old new : Stream)
-    → LintsNext (is_stopped before) setting before after input rest old new
+pub next_quiet : (file : List ℕ) (setting : FileSetting) (before after : Linted) (input rest old new : Stream)
+    → LintsNext (is_stopped before) file setting before after input rest old new
     → is_writable after.stopped ≡ true → (new.failed ≡ old.failed) × (is_writable before.stopped ≡ true)
-next_quiet setting before after input rest old new next writable =
-    quiet_by (is_stopped before) setting before after input rest old new refl next writable
+next_quiet file setting before after input rest old new next writable =
+    quiet_by (is_stopped before) file setting before after input rest old new refl next writable
 
 -- ---- the whole report
 
@@ -138,12 +139,14 @@ begins_with piece text is_quiet none first old begun is same wrote =
     (subst (λ l. WritesPiece (is_writable l.stopped) piece l first old begun) is wrote)
 
 -- the same files were linted
-pub lints_files : (setting : LintSetting) (files names : List (List ℕ)) (before after : Linted)
+pub lints_files : (name : List ℕ) (setting : LintSetting) (files names : List (List ℕ)) (before after : Linted)
     (input rest old new : Stream)
-    → files ≡ names → LintsAll (λ file. file_setting file setting) files before after input rest old new
-    → LintsAll (λ file. file_setting file setting) names before after input rest old new
-lints_files setting files names before after input rest old new same all =
-    subst (λ f. LintsAll (λ file. file_setting file setting) f before after input rest old new) same all
+    → files ≡ names
+    → LintsAll (λ file. file_setting (reported_name name file) setting) files before after input rest old new
+    → LintsAll (λ file. file_setting (reported_name name file) setting) names before after input rest old new
+lints_files name setting files names before after input rest old new same all =
+    subst (λ f. LintsAll (λ file. file_setting (reported_name name file) setting) f before after input rest old new)
+    same all
 
 -- what was done against the URL of the base's text
 pub linted_against : (asked : LintJob) (base name unit : Option (Bor (List ℕ))) (url : Option Url) (format : Format)

@@ -1,7 +1,6 @@
 -- What an explanation of a rule says: the rule, what it asks, its section of the URL Standard, a text that is refused
 -- by it, and that text mended.
 use Rattle.std.specs.Prelude.{◌≡◌, ℕ, List, [], ◌∷◌, ◌++◌, codes, flat_map, Option, Some, None, option_map, take}
-use Rattle.std.specs.Borrow.{Bor}
 use Rattle.std.specs.Io.KnownBytes.{Appends}
 use Rattle.uv_model.specs.declared.rule.Rule.{Rule}
 use Rattle.uv_model.specs.Violations.Rule.{named_rule, rule_name, rule_sentence, rules_in_order}
@@ -53,17 +52,33 @@ abbrev pub explained_rule : List ℕ → Option Rule → Option (List ℕ)
 explained_rule name (Some rule) = Some (explanation_text rule)
 explained_rule name None = explained_violation name
 
--- what is written where this name is asked for, or none; nothing where it is the name of no rule and of no violation
-abbrev pub explained : Option (Bor (List ℕ)) → Option (List ℕ)
-explained None = Some (explanations_text rules_in_order)
-explained (Some name) = explained_rule name.now (named_rule name.now)
+-- what is written of the rule or the violation with this name, where there is one
+unfoldable pub explained_name : List ℕ → Option (List ℕ)
+explained_name name = explained_rule name (named_rule name)
 
--- what was asked for was written, or it is the name of no rule and of no violation
-abbrev pub HasExplained : Option (Bor (List ℕ)) → ExplainEnd → Option (List ℕ) → Option (List ℕ) → Type 0
-HasExplained rule Explained old new = (text : List ℕ) × (explained rule ≡ Some text) × Appends old new text
-HasExplained rule Unknown old new = explained rule ≡ None
+-- an explanation behind others, with an empty line between, where there are both
+abbrev pub next_behind : Option (List ℕ) → Option (List ℕ) → Option (List ℕ)
+next_behind None next = None
+next_behind (Some text) None = None
+next_behind (Some text) (Some next) = Some (text ++ (codes "\n" ++ next))
+
+-- what is written of these names behind others, where each has an explanation
+abbrev pub explained_behind : Option (List ℕ) → List (List ℕ) → Option (List ℕ)
+explained_behind text [] = text
+explained_behind text (name ∷ rest) = explained_behind (next_behind text (explained_name name)) rest
+
+-- what is written where these names are asked for: of each rule where there are none, and nothing where one of them is
+-- the name of no rule and of no violation
+abbrev pub explained : List (List ℕ) → Option (List ℕ)
+explained [] = Some (explanations_text rules_in_order)
+explained (name ∷ rest) = explained_behind (explained_name name) rest
+
+-- what was asked for was written, or one of the names is that of no rule and of no violation
+abbrev pub HasExplained : List (List ℕ) → ExplainEnd → Option (List ℕ) → Option (List ℕ) → Type 0
+HasExplained rules Explained old new = (text : List ℕ) × (explained rules ≡ Some text) × Appends old new text
+HasExplained rules Unknown old new = explained rules ≡ None
 
 -- a prefix of what was asked for was written
-abbrev pub HasExplainedPrefix : Option (Bor (List ℕ)) → Option (List ℕ) → Option (List ℕ) → Type 0
-HasExplainedPrefix rule old new =
-    (text : List ℕ) × (explained rule ≡ Some text) × ((count : ℕ) × Appends old new (take count text))
+abbrev pub HasExplainedPrefix : List (List ℕ) → Option (List ℕ) → Option (List ℕ) → Type 0
+HasExplainedPrefix rules old new =
+    (text : List ℕ) × (explained rules ≡ Some text) × ((count : ℕ) × Appends old new (take count text))

@@ -1,5 +1,5 @@
 -- What a job has done with its streams, by the end that it gave.
-use Rattle.std.specs.Prelude.{◌≡◌, ◌≢◌, ℕ, ◌+◌, false, List, Option, String, option_map, string_bytes}
+use Rattle.std.specs.Prelude.{◌≡◌, ◌≢◌, ℕ, ◌+◌, false, List, Option, String, map, option_map, string_bytes}
 use Rattle.std.specs.Borrow.{Bor}
 use Rattle.std.specs.Io.KnownBytes.{Consumes, IsAtEnd}
 use Rattle.std.specs.Str.{chars}
@@ -109,15 +109,15 @@ HasRunVectors bytes _ old new = ⊥
 
 -- ---- an explanation
 
--- what was written of the rule with this name, or of each rule
-abbrev pub HasRunExplain : Option (Bor (List ℕ)) → End → Stream → Stream → Type 0
-HasRunExplain rule end.Shown old new =
-    HasExplained rule explain.Explained old.bytes new.bytes × (new.failed ≡ old.failed)
-HasRunExplain rule end.UnknownRule old new = HasExplained rule explain.Unknown old.bytes new.bytes × (new ≡ old)
-HasRunExplain rule (end.Fault cli.Memory) old new = new ≡ old
-HasRunExplain rule (end.Fault cli.Write) old new =
-    HasExplainedPrefix rule old.bytes new.bytes × (new.failed ≡ old.failed + 1)
-HasRunExplain rule _ old new = ⊥
+-- what was written of the rules with these names, or of each rule
+abbrev pub HasRunExplain : List (List ℕ) → End → Stream → Stream → Type 0
+HasRunExplain rules end.Shown old new =
+    HasExplained rules explain.Explained old.bytes new.bytes × (new.failed ≡ old.failed)
+HasRunExplain rules end.UnknownRule old new = HasExplained rules explain.Unknown old.bytes new.bytes × (new ≡ old)
+HasRunExplain rules (end.Fault cli.Memory) old new = new ≡ old
+HasRunExplain rules (end.Fault cli.Write) old new =
+    HasExplainedPrefix rules old.bytes new.bytes × (new.failed ≡ old.failed + 1)
+HasRunExplain rules _ old new = ⊥
 
 -- ---- a job
 
@@ -148,9 +148,10 @@ HasDone (job.Links base profile) bytes end input rest old new =
 HasDone (job.Mend text base profile) bytes end input rest old new =
     AtLent base (λ lent. HasMended profile lent (string_bytes text) end old new) × (rest ≡ input)
 HasDone (job.Filter asked) bytes end input rest old new = HasDoneFilter asked end input rest old new
+HasDone job.LintWithoutInput bytes ended input rest old new = (ended ≡ end.Words) × (rest ≡ input) × (new ≡ old)
 HasDone job.FilterOfText bytes ended input rest old new = (ended ≡ end.Words) × (rest ≡ input) × (new ≡ old)
 HasDone (job.Vectors file) bytes end input rest old new = HasRunVectors bytes end old new × (rest ≡ input)
-HasDone (job.Explain rule) bytes end input rest old new =
-    AtLent rule (λ lent. HasRunExplain lent end old new) × (rest ≡ input)
+HasDone (job.Explain rules) bytes end input rest old new =
+    HasRunExplain (map string_bytes rules.items) end old new × (rest ≡ input)
 HasDone (job.UnknownProfile name) bytes ended input rest old new =
     (ended ≡ end.UnknownProfile) × (rest ≡ input) × (new ≡ old)

@@ -15,6 +15,7 @@ pub mod Mend
 pub mod Filtered
 pub mod Filter
 pub mod Messages
+pub mod Names
 pub mod Options
 pub mod Program
 pub mod Reasons

@@ -1,8 +1,9 @@
 -- What a lint of files has read and written, and what it has come to.
 use Rattle.std.specs.Prelude.{◌≡◌, ◌≢◌, ℕ, ◌+◌, ◌-◌, ◌^◌, Bool, true, false, List, [], ◌∷◌, ◌⊎◌, Option, Some, None}
-use Rattle.std.specs.Prelude.{Result, Ok, Err, codes, map, string_bytes, take}
+use Rattle.std.specs.Prelude.{Result, Ok, Err, codes, map, string_bytes, take, if◌then◌else◌}
 use Rattle.std.specs.Borrow.{Bor}
 use Rattle.std.specs.Io.KnownBytes.{Appends, Consumes, IsAtEnd}
+use Rattle.std.specs.Option.{option_map_or}
 use Rattle.std.specs.Str.{bytes_eq}
 use Rattle.std.specs.declared.io.ErrorKind.{ErrorKind}
 use Rattle.std.specs.declared.io.ErrorKind.TheVariants.{OutOfMemory}
@@ -49,10 +50,22 @@ abbrev pub form_of : Bool → LineForm
 form_of true = Located
 form_of false = Plain
 
+-- the name under which standard input is reported on: the one that the job gives, or `-`
+abbrev pub input_name : LintJob → List ℕ
+input_name asked = option_map_or string_bytes asked.stdin_name (codes "-")
+
+-- the file with this name is the standard input
+abbrev pub is_input : List ℕ → Bool
+is_input file = bytes_eq file (codes "-")
+
+-- the name under which a file is reported on, where standard input has that one
+abbrev pub reported_name : List ℕ → List ℕ → List ℕ
+reported_name input file = if is_input file then input else file
+
 -- the setting of a file of the job, by its name
 abbrev pub setting_of : LintJob → Option Url → Format → Columns → List ℕ → FileSetting
 setting_of asked base format columns file = record {
-  file = file;
+  file = reported_name (input_name asked) file;
   base = base;
   profile = asked.profile;
   extent = asked.extent;
@@ -124,16 +137,13 @@ LintsNamed false setting is_first counts answer input rest old new =
     (LintsOpened setting is_first counts answer old new
     ⊎ (LintsNothing counts old new × IsUnopened answer)) × (rest ≡ input)
 
--- the file with this name is the standard input
-abbrev pub is_input : List ℕ → Bool
-is_input file = bytes_eq file (codes "-")
-
--- the next file was linted
-pub record LintsFile (setting : FileSetting) (before after : Linted) (input rest old new : Stream) : Type 0 where
+-- the next file was linted, by its name
+pub record LintsFile (file : List ℕ) (setting : FileSetting) (before after : Linted)
+    (input rest old new : Stream) : Type 0 where
   pub counts : LintCounts
   pub answer : Result (Unit {0}) LintFault
-  pub named : LintsNamed (is_input setting.file) setting (is_clean before) counts answer input rest old new
-  pub is_after : after ≡ with_file before (is_input setting.file) counts answer
+  pub named : LintsNamed (is_input file) setting (is_clean before) counts answer input rest old new
+  pub is_after : after ≡ with_file before (is_input file) counts answer
 
 -- nothing is done behind what stopped the lint
 pub record StaysStopped (before after : Linted) (input rest old new : Stream) : Type 0 where
@@ -144,9 +154,9 @@ pub record StaysStopped (before after : Linted) (input rest old new : Stream) : 
 -- ---- the files
 
 -- the next file was linted, or the lint had stopped
-abbrev pub LintsNext : Bool → FileSetting → Linted → Linted → Stream → Stream → Stream → Stream → Type 0
-LintsNext true setting before after input rest old new = StaysStopped before after input rest old new
-LintsNext false setting before after input rest old new = LintsFile setting before after input rest old new
+abbrev pub LintsNext : Bool → List ℕ → FileSetting → Linted → Linted → Stream → Stream → Stream → Stream → Type 0
+LintsNext true file setting before after input rest old new = StaysStopped before after input rest old new
+LintsNext false file setting before after input rest old new = LintsFile file setting before after input rest old new
 
 -- these files were linted, one after the other
 abbrev pub LintsAll : (List ℕ → FileSetting) → List (List ℕ) → Linted → Linted
@@ -154,7 +164,7 @@ abbrev pub LintsAll : (List ℕ → FileSetting) → List (List ℕ) → Linted 
 LintsAll setting [] before after input rest old new = StaysStopped before after input rest old new
 LintsAll setting (file ∷ files) before after input rest old new =
     (one : Linted) × (read : Stream) × (wrote : Stream)
-    × LintsNext (is_stopped before) (setting file) before one input read old wrote
+    × LintsNext (is_stopped before) file (setting file) before one input read old wrote
     × LintsAll setting files one after read rest wrote new
 
 -- ---- the whole report

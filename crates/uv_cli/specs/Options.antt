@@ -52,8 +52,8 @@ foreign_among command (word ∷ rest) =
     if bytes_eq word (codes "--") then None
     else (if is_unknown command (option_name word) then taken (option_name word) else foreign_among command rest)
 
--- the same of all words, of which the first is the program's name and the second one the command, where they are refused
--- for an argument that is unknown
+-- the same of all words, of which the first is the program's name and the second one the command, where they are
+-- refused for an argument that is unknown
 abbrev pub foreign_option : List Text → ErrorKind → Option Text
 foreign_option (program ∷ command ∷ rest) UnknownArgument =
     if is_unknown command (option_name command) then taken (option_name command) else foreign_among command rest

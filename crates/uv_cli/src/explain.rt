@@ -1,7 +1,8 @@
-//! The command `explain`: what a rule asks, its section of the URL Standard, and an example, of one rule or of each.
-ghost use Rattle.std.specs.Prelude.{◌≡◌, ◌++◌, ◌+◌, ◌-◌, ◌^◌, ◌<◌, IfOk, OnOk, option_map, string_bytes};
-ghost use Rattle.uv_cli.specs.Explain.{HasExplained, HasExplainedPrefix, example_lines, explained, explanation_text};
-ghost use Rattle.uv_cli.specs.Explain.{explanations_text, explained_violation, violation_lines, rule_lines};
+//! The command `explain`: what rules ask, their sections of the URL Standard, and an example, of some rules or of each.
+ghost use Rattle.std.specs.Prelude.{◌≡◌, ◌++◌, ◌+◌, ◌-◌, ◌^◌, ◌<◌, IfOk, OnOk, map, option_map, string_bytes};
+ghost use Rattle.uv_cli.specs.Explain.{HasExplained, HasExplainedPrefix, example_lines, explained, explained_behind};
+ghost use Rattle.uv_cli.specs.Explain.{explained_name, explanation_text, explanations_text, explained_violation};
+ghost use Rattle.uv_cli.specs.Explain.{next_behind, violation_lines, rule_lines};
 
 use crate::report::{push_line, push_present, refused_line};
 use std::alloc::{AllocError, Global};
@@ -18,26 +19,27 @@ pub enum ExplainEnd {
     Unknown,
 }
 
-/// Writes what the rule with a name asks, where it stands, and an example; without a name it writes this of each rule,
-/// in the order of their numbers, with an empty line between two. By the name of a violation with a line that isn't
-/// judged it writes what a line is asked.
+/// Writes what the rules with these names ask, where they stand, and an example of each, in the order of the names and
+/// with an empty line between two; without a name it writes this of each rule, in the order of their numbers. By the
+/// name of a violation with a line that isn't judged it writes what a line is asked.
 ///
 /// An error of memory leaves the output as it was; an error of a write leaves a beginning of what was to be written.
 pub fn run_explain<S: Sink>(
     alloc: Global,
-    rule: Option<&str>,
+    rules: &[String],
     out: &mut S,
 ) -> Result<ExplainEnd, CliFault>
     requires { S.failed out.old < 2 ^ 64 - 1 }
-    ensures written { IfOk result (λ end. HasExplained rule.entry end (S.contents out.old) (S.contents out.new)) }
+    ensures written { IfOk result (λ end. HasExplained (map string_bytes rules.now) end
+        (S.contents out.old) (S.contents out.new)) }
     ensures unknown { result ≡ Ok ExplainEnd.Unknown → out.new ≡ out.old }
     ensures quiet { OnOk result (S.failed out.new ≡ S.failed out.old) }
     ensures memory { result ≡ Err CliFault.Memory → out.new ≡ out.old }
     ensures prefix { result ≡ Err CliFault.Write →
-        HasExplainedPrefix rule.entry (S.contents out.old) (S.contents out.new) }
+        HasExplainedPrefix (map string_bytes rules.now) (S.contents out.old) (S.contents out.new) }
     ensures failed { result ≡ Err CliFault.Write → S.failed out.new ≡ S.failed out.old + 1 }
 {
-    let Some(text) = text_of(alloc, rule)? else {
+    let Some(text) = text_of(alloc, rules)? else {
         return Ok(ExplainEnd::Unknown);
     };
     match write_whole(out, text.as_bytes()) {
@@ -46,13 +48,46 @@ pub fn run_explain<S: Sink>(
     }
 }
 
-// What is written where this name is asked for, or none.
-fn text_of(alloc: Global, rule: Option<&str>) -> Result<Option<String>, AllocError>
-    ensures { IfOk result (λ text. option_map string_bytes text ≡ explained rule.entry) }
+// What is written where these names are asked for, or none.
+fn text_of(alloc: Global, rules: &[String]) -> Result<Option<String>, AllocError>
+    ensures { IfOk result (λ text. option_map string_bytes text ≡ explained (map string_bytes rules.now)) }
 {
-    let Some(name) = rule else {
-        return Ok(Some(explanations(alloc, Rule::in_order().as_slice())?));
+    match rules.split_first() {
+        Some((first, rest)) => names_text(alloc, first.as_str(), rest),
+        None => Ok(Some(explanations(alloc, Rule::in_order().as_slice())?)),
+    }
+}
+
+// What is written of a name and of those behind it, with an empty line between two, where each has an explanation.
+fn names_text(alloc: Global, first: &str, rest: &[String]) -> Result<Option<String>, AllocError>
+    ensures { IfOk result (λ text. option_map string_bytes text
+        ≡ explained_behind (explained_name first.now) (map string_bytes rest.now)) }
+{
+    let mut text = name_text(alloc, first)?;
+    for name in rest {
+        text = next_behind(text, name_text(alloc, name.as_str())?)?;
+    }
+    Ok(text)
+}
+
+// An explanation behind others, with an empty line between, where there are both.
+fn next_behind(text: Option<String>, next: Option<String>) -> Result<Option<String>, AllocError>
+    ensures { IfOk result (λ both. option_map string_bytes both
+        ≡ next_behind (option_map string_bytes text) (option_map string_bytes next)) }
+{
+    let (Some(mut text), Some(next)) = (text, next) else {
+        return Ok(None);
     };
+    text.push_str("\n")?;
+    text.push_str(next.as_str())?;
+    Ok(Some(text))
+}
+
+// What is written of the rule with a name, else of the violation, where there is one.
+#[tactic(auto, unfolding(crate::specs::Explain::explained_name))]
+fn name_text(alloc: Global, name: &str) -> Result<Option<String>, AllocError>
+    ensures { IfOk result (λ text. option_map string_bytes text ≡ explained_name name.now) }
+{
     match Rule::of_name(name) {
         Some(rule) => Ok(Some(explanation(alloc, rule)?)),
         None => violation_text(alloc, name),

@@ -20,8 +20,8 @@ const DOCUMENT_ENDS: [&str; 9] = [
     ".markdown",
 ];
 
-/// Whether a text looks like the name of a file: it has no mark of a URL and no space, and ends as the name of a list or
-/// of a document does.
+/// Whether a text looks like the name of a file: it has no mark of a URL and no space, and ends as the name of a list
+/// or of a document does.
 #[tactic(auto, unfolding(crate::specs::FileNames::names_file))]
 pub(crate) fn names_file(text: &str) -> bool
     ensures { result ≡ names_file text.now }

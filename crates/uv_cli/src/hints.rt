@@ -33,8 +33,8 @@ const OF_FOLDERS: &str =
 const NO_FILE_OF_LINKS: &str =
     "urlcheck: links reads standard input, and takes no file: urlcheck links <FILE\n";
 
-/// The hint behind a job that ended so, or nothing: of a text that is refused, where it is `-`, or looks like the name of
-/// a file and has no base; and of a lint that refuses lines of a document.
+/// The hint behind a job that ended so, or nothing: of a text that is refused, where it is `-`, or looks like the name
+/// of a file and has no base; and of a lint that refuses lines of a document.
 pub(crate) fn job_hint(alloc: Global, job: &Job, end: End) -> Result<String, AllocError>
     ensures { IfOk result (λ hint. string_bytes hint ≡ job_hint job.now end) }
 {
@@ -58,8 +58,8 @@ pub(crate) fn job_hint(alloc: Global, job: &Job, end: End) -> Result<String, All
     }
 }
 
-// The hint of a text that is refused against a base or alone, or nothing: these words where it is `-`, and those where it
-// looks like the name of a file.
+// The hint of a text that is refused against a base or alone, or nothing: these words where it is `-`, and those where
+// it looks like the name of a file.
 #[tactic(auto, unfolding(crate::specs::Hints::text_hint))]
 fn text_hint(
     alloc: Global,

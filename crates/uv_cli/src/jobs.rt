@@ -1,5 +1,5 @@
 //! A job and the run that it asks for, over any reader and writer.
-ghost use Rattle.std.specs.Prelude.{◌≡◌, ◌-◌, ◌^◌, ◌<◌, chars};
+ghost use Rattle.std.specs.Prelude.{◌≡◌, ◌-◌, ◌^◌, ◌<◌, chars, map, string_bytes};
 ghost use Rattle.uv_cli.specs.Check.{RunsAgainst};
 ghost use Rattle.uv_cli.specs.Jobs.{HasChecked, HasDone, HasDoneFilter, HasDoneLint, HasRunExplain};
 ghost use Rattle.uv_cli.specs.Jobs.{HasRunVectors};
@@ -21,7 +21,7 @@ use uv_words::{FilterJob, Job, LintJob};
 
 /// Does what a job asks for: it checks the job's text, against the job's base and by the profile that the job names, or
 /// says what to write in its place, or says what is wrong with the lines of the job's files, or reports on the lines of
-/// the input, or mends them, or runs the cases of a vector file, or explains the job's rule, or each rule.
+/// the input, or mends them, or runs the cases of a vector file, or explains the job's rules, or each rule.
 ///
 /// The file has the bytes of the job's file, and only a run of vectors looks at it. A lint opens its files itself. The
 /// input is read only by a list, by a filter, and by a lint for a file that is named `-`, and the output isn't flushed.
@@ -49,6 +49,7 @@ pub fn run_job<R: Files + Eprint + AllocGlobal, I: Source, S: Sink>(
             profile,
         } => check_text(rt, text.as_str(), base.as_deref(), *extent, *profile, out),
         Job::Lint(asked) => lint_asked(rt, asked, input, out),
+        Job::LintWithoutInput => End::Words,
         Job::Links { base, profile } => list_links(alloc, base.as_deref(), *profile, input, out),
         Job::Mend {
             text,
@@ -58,7 +59,7 @@ pub fn run_job<R: Files + Eprint + AllocGlobal, I: Source, S: Sink>(
         Job::Filter(asked) => filter_asked(alloc, asked, input, out),
         Job::FilterOfText => End::Words,
         Job::Vectors { file: name } => vectors_run(rt, name.as_str(), file, out),
-        Job::Explain { rule } => explained(alloc, rule.as_deref(), out),
+        Job::Explain { rules } => explained(alloc, rules.as_slice(), out),
         Job::UnknownProfile { .. } => End::UnknownProfile,
     }
 }
@@ -130,14 +131,14 @@ fn mend_text<S: Sink>(
     end_of_check(run_mend(alloc, text, base, profile, out))
 }
 
-// Explains the rule with a name, or each rule.
-fn explained<S: Sink>(alloc: Global, rule: Option<&str>, out: &mut S) -> End
+// Explains the rules with these names, or each rule.
+fn explained<S: Sink>(alloc: Global, rules: &[String], out: &mut S) -> End
     requires { S.failed out.old < 2 ^ 64 - 1 }
-    ensures { HasRunExplain rule.entry result
+    ensures { HasRunExplain (map string_bytes rules.now) result
         (record { bytes = S.contents out.old; failed = S.failed out.old })
         (record { bytes = S.contents out.new; failed = S.failed out.new }) }
 {
-    end_of_explanation(run_explain(alloc, rule, out))
+    end_of_explanation(run_explain(alloc, rules, out))
 }
 
 // Runs the cases of a vector file with this name, or reports why they aren't judged.

@@ -5,7 +5,7 @@ ghost use Rattle.uv_report.specs.Report.{begin_text};
 ghost use Rattle.uv_cli.specs.Hints.{folder_hint};
 ghost use Rattle.uv_cli.specs.Lint.{HasLinted, HasLintedAgainst, LintsAll, LintsNamed, LintsNext, LintsNothing};
 ghost use Rattle.uv_cli.specs.Lint.{LintsOpened, IsUnopened, IsWhyUnopened, WritesPiece, columns_of, form_of};
-ghost use Rattle.uv_cli.specs.Lint.{format_of, is_input};
+ghost use Rattle.uv_cli.specs.Lint.{format_of, input_name, is_input, reported_name};
 ghost use Rattle.uv_cli.specs.Linted.{is_stopped, is_writable};
 ghost use Rattle.uv_cli.specs.Unread.{unread_text};
 
@@ -135,8 +135,16 @@ fn lint_against<R: Files + Eprint + AllocGlobal, I: Source, S: Sink>(
         return End::Fault(CliFault::Memory);
     };
     let linted = write_piece(out, begin.as_str(), Linted::new(job.quiet));
-    let linted = lint_each(rt, job.files.as_slice(), setting, linted, input, out);
+    let name = input_name(job);
+    let linted = lint_each(rt, job.files.as_slice(), name, setting, linted, input, out);
     End::Linted(write_piece(out, end_of(format, linted.completion()), linted))
+}
+
+// The name under which the standard input is reported on.
+fn input_name(job: &LintJob) -> &str
+    ensures { result.now ≡ input_name job.now }
+{
+    job.stdin_name.as_deref().unwrap_or("-")
 }
 
 // What a report begins with.
@@ -164,17 +172,19 @@ fn write_piece<S: Sink>(out: &mut S, piece: &str, linted: Linted) -> Linted
     }
 }
 
-// Reports on the files, one after the other.
+// Reports on the files, one after the other, and on the standard input under this name.
 fn lint_each<R: Files + Eprint + AllocGlobal, I: Source, S: Sink>(
     rt: &R,
     files: &[String],
+    name: &str,
     setting: LintSetting<'_>,
     linted: Linted,
     input: &mut I,
     out: &mut S,
 ) -> Linted
     requires { is_writable linted.stopped ≡ true → S.failed out.old < 2 ^ 64 - 1 }
-    ensures all { LintsAll (λ file. file_setting file setting.entry) (map string_bytes files.now) linted result
+    ensures all { LintsAll (λ file. file_setting (reported_name name.now file) setting.entry)
+        (map string_bytes files.now) linted result
         (record { bytes = I.remaining input.old; failed = I.failed input.old })
         (record { bytes = I.remaining input.new; failed = I.failed input.new })
         (record { bytes = S.contents out.old; failed = S.failed out.old })
@@ -184,22 +194,24 @@ fn lint_each<R: Files + Eprint + AllocGlobal, I: Source, S: Sink>(
 {
     let mut linted = linted;
     for file in files {
-        linted = lint_next(rt, file.as_str(), setting, linted, input, out);
+        linted = lint_next(rt, file.as_str(), name, setting, linted, input, out);
     }
     linted
 }
 
-// Reports on the next file, unless something has stopped the lint.
+// Reports on the next file, and on the standard input under this name, unless something has stopped the lint.
 fn lint_next<R: Files + Eprint + AllocGlobal, I: Source, S: Sink>(
     rt: &R,
     file: &str,
+    name: &str,
     setting: LintSetting<'_>,
     linted: Linted,
     input: &mut I,
     out: &mut S,
 ) -> Linted
     requires { is_writable linted.stopped ≡ true → S.failed out.old < 2 ^ 64 - 1 }
-    ensures next { LintsNext (is_stopped linted) (file_setting file.now setting.entry) linted result
+    ensures next { LintsNext (is_stopped linted) file.now (file_setting (reported_name name.now file.now) setting.entry)
+        linted result
         (record { bytes = I.remaining input.old; failed = I.failed input.old })
         (record { bytes = I.remaining input.new; failed = I.failed input.new })
         (record { bytes = S.contents out.old; failed = S.failed out.old })
@@ -209,7 +221,9 @@ fn lint_next<R: Files + Eprint + AllocGlobal, I: Source, S: Sink>(
         return linted;
     }
     let is_input = is_input(file);
-    let (counts, answer) = lint_named(rt, is_input, file, setting, linted.is_clean(), input, out);
+    let reported = if is_input { name } else { file };
+    let is_first = linted.is_clean();
+    let (counts, answer) = lint_named(rt, is_input, reported, setting, is_first, input, out);
     linted.with_file(is_input, counts, answer)
 }
 

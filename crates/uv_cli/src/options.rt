@@ -90,7 +90,7 @@ fn takers(name: &str) -> &'static [&'static str]
     match name {
         "--base" | "--profile" | "--wide" => &["check", "lint", "links", "mend"],
         "--all" => &["check", "lint"],
-        "--format" | "--columns" | "--located" => &["lint"],
+        "--format" | "--columns" | "--located" | "--stdin-name" => &["lint"],
         "--quiet" | "-q" => &["lint", "mend"],
         "--only" => &["mend"],
         _ => &[],

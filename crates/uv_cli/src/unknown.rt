@@ -1,6 +1,7 @@
 //! Names that none has: of a rule, a format, what columns count, a profile or a kind of mended texts.
-ghost use Rattle.std.specs.Prelude.{◌≡◌, ◌++◌, IfOk, OnOk, option_copied, string_bytes};
-ghost use Rattle.uv_cli.specs.Messages.{named_text, near_text, unknown_text};
+ghost use Rattle.std.specs.Prelude.{◌≡◌, ◌++◌, IfOk, OnOk, map, option_copied, string_bytes};
+ghost use Rattle.uv_cli.specs.Messages.{named_text, near_text, names_text, spaced_text, unknown_text};
+ghost use Rattle.uv_cli.specs.Names.{is_longer, is_rule, longer_names, nearest, unknown_rule};
 
 use crate::ends::End;
 use crate::messages::message_line;
@@ -69,6 +70,9 @@ const KIND: Noun = Noun {
     all: "kinds",
 };
 
+// What is said where the standard input has a name, and isn't read.
+const OF_INPUT: &str = "--stdin-name is the name of standard input: one of the FILEs has to be -";
+
 // What is said where one text is to be mended as lines are.
 const OF_LINES: &str = "--only and --quiet are for the lines of standard input, not for a TEXT";
 
@@ -76,8 +80,9 @@ const OF_LINES: &str = "--only and --quiet are for the lines of standard input, 
 /// near, and the names that there are; and where it asks of a text what is asked of lines.
 pub(crate) fn unknown_lines(alloc: Global, job: &Job, end: End) -> Result<String, AllocError> {
     match job {
-        Job::Explain { rule: Some(name) } if end == End::UnknownRule => {
-            lines(alloc, RULE, name.as_str(), rule_names(alloc)?.as_slice())
+        Job::Explain { rules } if end == End::UnknownRule => {
+            let name = unknown_rule(rules.as_slice());
+            lines(alloc, RULE, name, rule_names(alloc)?.as_slice())
         }
         Job::Lint(asked) if end == End::UnknownFormat => {
             let name = asked.format.as_deref().unwrap_or("");
@@ -88,6 +93,7 @@ pub(crate) fn unknown_lines(alloc: Global, job: &Job, end: End) -> Result<String
             let name = asked.only.as_deref().unwrap_or("");
             lines(alloc, KIND, name, kind_names(alloc)?.as_slice())
         }
+        Job::LintWithoutInput => message_line(alloc, OF_INPUT),
         Job::FilterOfText => message_line(alloc, OF_LINES),
         Job::UnknownProfile { name } => {
             lines(
@@ -111,6 +117,26 @@ fn unit_lines(alloc: Global, name: &str, end: End) -> Result<String, AllocError>
         }
         _ => Ok(String::new(alloc)),
     }
+}
+
+// The first of the names that is that of no rule, and of nothing else that is found with a line; an empty one where
+// each is one.
+fn unknown_rule(names: &[String]) -> &str
+    ensures { result.now ≡ unknown_rule (map string_bytes names.now) }
+{
+    for name in names {
+        if !is_rule(name.as_str()) {
+            return name.as_str();
+        }
+    }
+    ""
+}
+
+// Whether a name is that of a rule, or of what else is found with a line.
+fn is_rule(name: &str) -> bool
+    ensures { result ≡ is_rule name.now }
+{
+    Rule::of_name(name).is_some() || LineViolation::of_name(name).is_some()
 }
 
 // The names that are explained: those of the rules, and of what else is found with a line.
@@ -162,8 +188,12 @@ fn profile_names(alloc: Global) -> Result<Vec<&'static str>, AllocError> {
 
 // What is reported of a name that none has, of the kind that the noun says.
 fn lines(alloc: Global, noun: Noun, name: &str, names: &[&str]) -> Result<String, AllocError> {
-    let mut text = unknown_line(alloc, noun.one, name, nearest(alloc, name, names)?)?;
-    push_names(&mut text, noun.all, names)?;
+    let near = nearest(alloc, name, names)?;
+    let mut text = unknown_line(alloc, noun.one, name, near)?;
+    if near.is_none() {
+        push_longer(alloc, &mut text, noun, name, names)?;
+    }
+    push_names(&mut text, noun.all, "", names)?;
     Ok(text)
 }
 
@@ -205,33 +235,86 @@ fn push_near(text: &mut String, near: Option<&str>) -> Result<(), AllocError>
     text.push_str("\n")
 }
 
-// Pushes the line of the names that there are, of what the noun says.
-fn push_names(text: &mut String, noun: &str, names: &[&str]) -> Result<(), AllocError> {
+// Pushes the line of the names that begin with a word, if there are any.
+fn push_longer(
+    alloc: Global,
+    text: &mut String,
+    noun: Noun,
+    word: &str,
+    names: &[&str],
+) -> Result<(), AllocError> {
+    let longer = longer_names(alloc, word, names)?;
+    if longer.is_empty() {
+        return Ok(());
+    }
+    push_names(text, noun.all, " that begin so", longer.as_slice())
+}
+
+// Pushes the line of names that there are, of what the noun says, and which of them.
+fn push_names(text: &mut String, noun: &str, which: &str, names: &[&str]) -> Result<(), AllocError>
+    ensures { OnOk result (string_bytes text.new ≡ string_bytes text.old
+        ++ names_text noun.now which.now (map (λ n. n.now) names.now)) }
+{
     text.push_str("urlcheck: the ")?;
     text.push_str(noun)?;
+    text.push_str(which)?;
     text.push_str(":")?;
+    push_spaced(text, names)?;
+    text.push_str("\n")?;
+    Ok(())
+}
+
+// Pushes names, each behind a space.
+fn push_spaced(text: &mut String, names: &[&str]) -> Result<(), AllocError>
+    ensures { OnOk result (string_bytes text.new ≡ string_bytes text.old
+        ++ spaced_text (map (λ n. n.now) names.now)) }
+{
     for name in names {
         text.push_str(" ")?;
         text.push_str(name)?;
     }
-    text.push_str("\n")
+    Ok(())
+}
+
+// The names that begin with a word, whatever its case; none begins with an empty one.
+fn longer_names<'n>(
+    alloc: Global,
+    word: &str,
+    names: &[&'n str],
+) -> Result<Vec<&'n str>, AllocError>
+    ensures { IfOk result (λ found. map (λ n. n.now) found.items
+        ≡ longer_names word.now (map (λ n. n.now) names.now)) }
+{
+    let mut found = Vec::new(alloc);
+    let word = word.to_ascii_lowercase(alloc)?;
+    for name in names {
+        if is_longer(name.as_bytes(), word.as_bytes()) {
+            found.push(*name)?;
+        }
+    }
+    Ok(found)
+}
+
+// Whether a name begins with a word, which isn't empty.
+fn is_longer(name: &[u8], word: &[u8]) -> bool
+    ensures { result ≡ is_longer name.now word.now }
+{
+    !word.is_empty() && name.starts_with(word)
 }
 
 // The nearest of the names, where no more than a third of the word's letters, or one of a shorter word, have to be
 // changed, taken away, added or swapped with the next one, whatever their case.
-fn nearest<'n>(
-    alloc: Global,
-    word: &str,
-    names: &[&'n str],
-) -> Result<Option<&'n str>, AllocError> {
+fn nearest<'n>(alloc: Global, word: &str, names: &[&'n str]) -> Result<Option<&'n str>, AllocError>
+    ensures { IfOk result (λ near. option_copied near ≡ nearest word.now (map (λ n. n.now) names.now)) }
+{
     let word = word.to_ascii_lowercase(alloc)?;
     let mut near = None;
-    let mut least = (word.len() / 3).max(1);
+    let mut limit = (word.len() / 3).max(1) + 1;
     for name in names {
         let edits = osa_distance(alloc, word.as_str(), name)?;
-        if edits <= least && (near.is_none() || edits < least) {
+        if edits < limit {
             near = Some(*name);
-            least = edits;
+            limit = edits;
         }
     }
     Ok(near)

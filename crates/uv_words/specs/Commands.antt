@@ -34,9 +34,9 @@ file_rule = record (new_rule (codes "FILE")) { required = true }
 abbrev pub files_rule : Rule
 files_rule = record (new_rule (codes "FILE")) { required = true; action = Some Append }
 
--- RULE
-abbrev pub name_rule : Rule
-name_rule = new_rule (codes "RULE")
+-- RULE, none or more
+abbrev pub names_rule : Rule
+names_rule = record (new_rule (codes "RULE")) { action = Some Append }
 
 -- `check [--base TEXT] [--all] [--profile PROFILE] [--wide] TEXT`
 abbrev pub check_command : App
@@ -46,15 +46,16 @@ check_command =
     (flag_rule (codes "wide")))
     text_rule
 
--- `lint [--base TEXT] [--all] [--profile PROFILE] [--wide] [--format FORMAT] [--columns UNIT] [--located] [--quiet]
--- FILE..`
+-- `lint [--base TEXT] [--all] [--profile PROFILE] [--wide] [--format FORMAT] [--columns UNIT] [--located]
+-- [--stdin-name NAME] [--quiet] FILE..`
 abbrev pub lint_command : App
 lint_command =
-    with_rule (with_rule (with_rule (with_rule (with_rule (with_rule (with_rule (with_rule (with_rule
+    with_rule (with_rule (with_rule (with_rule (with_rule (with_rule (with_rule (with_rule (with_rule (with_rule
     (new_app (codes "lint"))
     (option_rule (codes "base"))) (flag_rule (codes "all"))) (option_rule (codes "profile")))
     (flag_rule (codes "wide")))
-    (option_rule (codes "format"))) (option_rule (codes "columns"))) (flag_rule (codes "located"))) quiet_rule)
+    (option_rule (codes "format"))) (option_rule (codes "columns"))) (flag_rule (codes "located")))
+    (option_rule (codes "stdin-name"))) quiet_rule)
     files_rule
 
 -- `links [--base TEXT] [--profile PROFILE] [--wide]`
@@ -74,9 +75,9 @@ mend_command =
 abbrev pub vectors_command : App
 vectors_command = with_rule (new_app (codes "vectors")) file_rule
 
--- `explain [RULE]`
+-- `explain [RULE..]`
 abbrev pub explain_command : App
-explain_command = with_rule (new_app (codes "explain")) name_rule
+explain_command = with_rule (new_app (codes "explain")) names_rule
 
 -- a command has to be given, and there is `--version`
 abbrev pub with_required : App → App

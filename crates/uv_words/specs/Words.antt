@@ -1,6 +1,7 @@
 -- What the arguments of the command line ask for, by `clap`'s definition of the arguments that a command takes.
-use Rattle.std.specs.Prelude.{◌≡◌, ◌≢◌, ◌||◌, Bool, List, Option, Some, None, true, false, String, codes, is_some, map}
-use Rattle.std.specs.Prelude.{option_and_then, option_map, string_bytes, if◌then◌else◌}
+use Rattle.std.specs.Prelude.{◌≡◌, ◌≢◌, ◌||◌, Bool, List, [], Option, Some, None, true, false, String, codes, is_some}
+use Rattle.std.specs.Prelude.{map, option_and_then, option_map, string_bytes, unwrap_or, if◌then◌else◌}
+use Rattle.std.specs.List.{list_any}
 use Rattle.std.specs.Option.{option_map_or}
 use Rattle.std.specs.Str.{bytes_eq}
 use Rattle.std.specs.declared.alloc.Global.{Global}
@@ -27,7 +28,8 @@ use Rattle.uv_words.specs.declared.words.WordsFault.TheVariants as fault
 -- ---- what is asked for
 
 -- what a lint asks for: the files, the base, how many violations of a line, the profile, the names of the format and of
--- the unit of columns, whether each line says where its link stands, and whether no counts are wanted
+-- the unit of columns, whether each line says where its link stands, the name of standard input, and whether no counts
+-- are wanted
 pub record LintRequest : Type 0 where
   pub files : List Text
   pub base : Option Text
@@ -36,6 +38,7 @@ pub record LintRequest : Type 0 where
   pub format : Option Text
   pub columns : Option Text
   pub located : Bool
+  pub stdin_name : Option Text
   pub quiet : Bool
 
 -- what a filter asks for: the base, the profile, the name of the kind of the mended texts that are wanted, where not
@@ -48,16 +51,18 @@ pub record FilterRequest : Type 0 where
 
 -- a command with its texts and options: of a check the text, the base, how many violations and the profile; of a list
 -- the base and the profile; of a mending the text, the base and the profile, or it is asked by what is of a filter
--- alone; of vectors the file; of an explanation the rule's name; or a profile's name that none has
+-- alone; of vectors the file; of an explanation the rules' names; or a profile's name that none has; or a lint is
+-- asked by a name of standard input, which it doesn't read
 pub data Request : Type 0 where
   check : Text → Option Text → Extent → Profile → Request
   lint : LintRequest → Request
+  lint_without_input : Request
   links : Option Text → Profile → Request
   mend : Text → Option Text → Profile → Request
   filter : FilterRequest → Request
   filter_of_text : Request
   vectors : Text → Request
-  explain : Option Text → Request
+  explain : List Text → Request
   unknown_profile : Text → Request
 
 -- the base that was given
@@ -126,9 +131,13 @@ mend_by false (Some text) rows profile = mend text (base_in rows) profile
 abbrev pub mend_in : List Row → Profile → Option Request
 mend_in rows profile = Some (mend_by (is_filtered rows) (first_of (codes "TEXT") rows) rows profile)
 
--- the request of a lint, from its entries and by the profile
-abbrev pub lint_in : List Row → Profile → Option Request
-lint_in rows profile = option_map (λ files. lint (record {
+-- the file with this name is standard input
+abbrev pub is_input : Text → Bool
+is_input file = bytes_eq file (codes "-")
+
+-- what a lint of these files asks for, by its entries and by the profile
+abbrev pub lint_of : List Text → List Row → Profile → LintRequest
+lint_of files rows profile = record {
   files = files;
   base = base_in rows;
   extent = extent_in rows;
@@ -136,8 +145,21 @@ lint_in rows profile = option_map (λ files. lint (record {
   format = first_of (codes "format") rows;
   columns = first_of (codes "columns") rows;
   located = has_flag (codes "located") rows;
+  stdin_name = first_of (codes "stdin-name") rows;
   quiet = has_flag (codes "quiet") rows;
-})) (all_of (codes "FILE") rows)
+}
+
+-- the request of a lint of these files: standard input has a name only where it is one of them
+abbrev pub lint_by : Bool → List Text → List Row → Profile → Request
+lint_by false files rows profile = lint (lint_of files rows profile)
+lint_by true files rows profile =
+    if list_any is_input files then lint (lint_of files rows profile) else lint_without_input
+
+-- the request of a lint, from its entries and by the profile
+abbrev pub lint_in : List Row → Profile → Option Request
+lint_in rows profile =
+    option_map (λ files. lint_by (is_some (first_of (codes "stdin-name") rows)) files rows profile)
+    (all_of (codes "FILE") rows)
 
 -- the request of a command that judges by a profile
 abbrev pub judged_in : Text → List Row → Profile → Option Request
@@ -154,11 +176,15 @@ profiled_in name rows None = None
 profiled_in name rows (Some (known profile)) = judged_in name rows profile
 profiled_in name rows (Some (unknown other)) = Some (unknown_profile other)
 
+-- the names of the rules that are to be explained
+abbrev pub rules_in : List Row → List Text
+rules_in rows = unwrap_or (all_of (codes "RULE") rows) []
+
 -- the request that a command's name and its entries make
 unfoldable pub request_in : Text → List Row → Option Request
 request_in name rows =
     if bytes_eq name (codes "vectors") then option_map vectors (first_of (codes "FILE") rows)
-    else (if bytes_eq name (codes "explain") then Some (explain (first_of (codes "RULE") rows))
+    else (if bytes_eq name (codes "explain") then Some (explain (rules_in rows))
     else profiled_in name rows (wanted_in rows))
 
 -- the same of the command that `clap`'s definition finds in the arguments, if it finds one
@@ -181,6 +207,7 @@ request_by asked = record {
   format = text_in asked.format;
   columns = text_in asked.columns;
   located = asked.located;
+  stdin_name = text_in asked.stdin_name;
   quiet = asked.quiet;
 }
 
@@ -197,12 +224,13 @@ filter_by asked = record {
 abbrev pub asked_by : Job → Request
 asked_by (job.Check text base extent profile) = check (string_bytes text) (text_in base) extent profile
 asked_by (job.Lint asked) = lint (request_by asked)
+asked_by job.LintWithoutInput = lint_without_input
 asked_by (job.Links base profile) = links (text_in base) profile
 asked_by (job.Mend text base profile) = mend (string_bytes text) (text_in base) profile
 asked_by (job.Filter asked) = filter (filter_by asked)
 asked_by job.FilterOfText = filter_of_text
 asked_by (job.Vectors file) = vectors (string_bytes file)
-asked_by (job.Explain rule) = explain (text_in rule)
+asked_by (job.Explain rules) = explain (map string_bytes rules.items)
 asked_by (job.UnknownProfile name) = unknown_profile (string_bytes name)
 
 -- what is read of the profile that is asked for

@@ -3,7 +3,7 @@ ghost use Rattle.std.specs.Prelude.{◌≡◌, IfOk, codes, false};
 ghost use Rattle.clap.specs.Words.{App, Rule, app_of, new_app, rule_of, with_rule, with_subcommand};
 ghost use Rattle.uv_words.specs.Commands.{check_command, explain_command, links_command, lint_command, mend_command};
 ghost use Rattle.uv_words.specs.Commands.{vectors_command};
-ghost use Rattle.uv_words.specs.Commands.{file_rule, files_rule, flag_rule, name_rule, option_rule, quiet_rule};
+ghost use Rattle.uv_words.specs.Commands.{file_rule, files_rule, flag_rule, names_rule, option_rule, quiet_rule};
 ghost use Rattle.uv_words.specs.Commands.{mended_rule, text_rule};
 ghost use Rattle.uv_words.specs.Commands.{urlcheck, IsApp};
 
@@ -82,11 +82,11 @@ Example:
   urlcheck vectors vectors/standard.json";
 
 const EXPLAIN_NOTES: &str =
-    "Prints what the rule asks, its section of the URL Standard, and a text that it refuses.
+    "Prints what each RULE asks, its section of the URL Standard, and a text that it refuses.
 Without RULE it prints this of each rule.
 
 Exit statuses:
-  0  the rule is explained, or each rule
+  0  each RULE is explained, or each rule
   2  the arguments are refused, or no rule has the name
   3  out of memory, or the output failed
 
@@ -162,6 +162,7 @@ fn lint<'a>(alloc: Global) -> Result<Command<'a>, AllocError>
     let command = and_arg(command, format(alloc));
     let command = and_arg(command, columns(alloc));
     let command = and_arg(command, located(alloc));
+    let command = and_arg(command, stdin_name(alloc));
     let command = and_arg(command, quiet(alloc));
     and_arg(command, files(alloc))
 }
@@ -205,7 +206,7 @@ fn explain<'a>(alloc: Global) -> Result<Command<'a>, AllocError>
     let about = "Says what a rule asks";
     and_arg(
         Ok(bare(alloc, "explain", about, EXPLAIN_NOTES)),
-        name(alloc),
+        names(alloc),
     )
 }
 
@@ -291,6 +292,14 @@ fn located<'a>(alloc: Global) -> Arg<'a>
     flag(alloc, "located", help)
 }
 
+fn stdin_name<'a>(alloc: Global) -> Arg<'a>
+    ensures rule { rule_of result ≡ option_rule (codes "stdin-name") }
+    ensures local { result.global ≡ false }
+{
+    let help = "Reports on - under this name; without it under -";
+    option(alloc, "stdin-name", "NAME", help)
+}
+
 fn quiet<'a>(alloc: Global) -> Arg<'a>
     ensures rule { rule_of result ≡ quiet_rule }
     ensures local { result.global ≡ false }
@@ -342,9 +351,11 @@ fn file<'a>(alloc: Global) -> Arg<'a>
         .help("The file of vectors, a JSON array of cases")
 }
 
-fn name<'a>(alloc: Global) -> Arg<'a>
-    ensures rule { rule_of result ≡ name_rule }
+fn names<'a>(alloc: Global) -> Arg<'a>
+    ensures rule { rule_of result ≡ names_rule }
     ensures local { result.global ≡ false }
 {
-    Arg::new(alloc, "RULE").help("The rule's name; without it, each rule is explained")
+    Arg::new(alloc, "RULE")
+        .action(ArgAction::Append)
+        .help("The name of a rule; without one, each rule is explained")
 }

@@ -1,10 +1,11 @@
 //! What the arguments of the command line ask for.
-ghost use Rattle.std.specs.Prelude.{◌≡◌, IfOk, IfErr, codes, map, option_map, string_bytes, true};
+ghost use Rattle.std.specs.List.{list_any};
+ghost use Rattle.std.specs.Prelude.{◌≡◌, IfOk, IfErr, Some, codes, map, option_map, string_bytes, true};
 ghost use Rattle.clap.specs.Words.{all_of, first_of, found_of, kind_of, rows_of, subcommand_of, subcommand_rows_of};
 ghost use Rattle.clap.specs.Words.{takes};
 ghost use Rattle.uv_words.specs.Commands.{urlcheck};
 ghost use Rattle.uv_words.specs.Words.{asked_by, asks_to_show, check_in, extent_in, has_flag, judged_in, lint_in};
-ghost use Rattle.uv_words.specs.Words.{filter_by, filter_in, mend_in};
+ghost use Rattle.uv_words.specs.Words.{explain, filter_by, filter_in, is_input, mend_in, rules_in};
 ghost use Rattle.uv_words.specs.Words.{request_in, request_of, vectors, wanted_in, wanted_view, IsFaultOf, IsFrom};
 
 use crate::commands::urlcheck;
@@ -30,6 +31,8 @@ pub enum Job {
     },
     /// To say what is wrong with the lines of files.
     Lint(LintJob),
+    /// To say it under a name of the standard input, which is none of the files.
+    LintWithoutInput,
     /// To report on the lines of the standard input.
     Links {
         /// The base's text, if there is a base.
@@ -55,10 +58,10 @@ pub enum Job {
         /// The file's name.
         file: String,
     },
-    /// To say what a rule asks, or each of the rules.
+    /// To say what rules ask.
     Explain {
-        /// The rule's name, if one rule is meant.
-        rule: Option<String>,
+        /// The rules' names, in order, or none where each rule is meant.
+        rules: Vec<String>,
     },
     /// To judge by a profile that there is none of.
     UnknownProfile {
@@ -84,6 +87,8 @@ pub struct LintJob {
     pub columns: Option<String>,
     /// Whether each line says where its link stands.
     pub located: bool,
+    /// The name under which the standard input is reported on, if another one than `-`.
+    pub stdin_name: Option<String>,
     /// Whether no counts are wanted.
     pub quiet: bool,
 }
@@ -129,7 +134,7 @@ impl WordsFault {
 ///
 /// The job has the command, the texts and the options that the arguments give. There is none where `clap` takes the
 /// arguments, but they name no command, no TEXT or no FILE, or give `--wide` beside `--profile`. A RULE, a FORMAT, a
-/// UNIT and a KIND may be any text; a PROFILE that is the name of none gives the job that says so.
+/// UNIT, a KIND and a NAME may be any text; a PROFILE that is the name of none gives the job that says so.
 pub fn read_words(alloc: Global, words: &[&str]) -> Result<Option<Job>, WordsFault>
     ensures job { IfOk result (λ job. option_map asked_by job
         ≡ request_of (subcommand_of urlcheck (map (λ word. word.now) words.now))) }
@@ -180,8 +185,7 @@ fn job_in(alloc: Global, name: &str, entries: &ArgMatches<'_>) -> Result<Option<
         return vectors_in(alloc, entries);
     }
     if name == "explain" {
-        let rule = copied(alloc, value(entries, "RULE"))?;
-        return Ok(Some(Job::Explain { rule }));
+        return explain_in(alloc, entries);
     }
     match profile_asked(entries) {
         Some(Asked::Known(profile)) => judged_in(alloc, name, entries, profile),
@@ -203,6 +207,18 @@ fn vectors_in(alloc: Global, entries: &ArgMatches<'_>) -> Result<Option<Job>, Al
         })),
         None => Ok(None),
     }
+}
+
+// The explanation that a command's entries ask for.
+fn explain_in(alloc: Global, entries: &ArgMatches<'_>) -> Result<Option<Job>, AllocError>
+    ensures { IfOk result (λ job.
+        option_map asked_by job ≡ Some (explain (rules_in (rows_of (found_of entries.now))))) }
+{
+    let rules = match values(entries, "RULE") {
+        Some(rules) => copied_all(alloc, rules)?,
+        None => Vec::new(alloc),
+    };
+    Ok(Some(Job::Explain { rules }))
 }
 
 // The profile that a command's entries ask for.
@@ -309,6 +325,9 @@ fn lint_in(
     let Some(files) = values(entries, "FILE") else {
         return Ok(None);
     };
+    if value(entries, "stdin-name").is_some() && !has_input(files) {
+        return Ok(Some(Job::LintWithoutInput));
+    }
     Ok(Some(Job::Lint(LintJob {
         files: copied_all(alloc, files)?,
         base: copied(alloc, value(entries, "base"))?,
@@ -317,8 +336,21 @@ fn lint_in(
         format: copied(alloc, value(entries, "format"))?,
         columns: copied(alloc, value(entries, "columns"))?,
         located: has(entries, "located"),
+        stdin_name: copied(alloc, value(entries, "stdin-name"))?,
         quiet: has(entries, "quiet"),
     })))
+}
+
+// Whether the standard input is one of the files.
+fn has_input(files: &[&str]) -> bool
+    ensures { result ≡ list_any is_input (map (λ f. f.now) files.now) }
+{
+    for file in files {
+        if *file == "-" {
+            return true;
+        }
+    }
+    false
 }
 
 fn copied_all(alloc: Global, texts: &[&str]) -> Result<Vec<String>, AllocError>

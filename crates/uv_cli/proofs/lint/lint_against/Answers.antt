@@ -1,6 +1,6 @@
 -- The report on the files, with its beginning and its end.
 use Rattle.std.proofs.Common.{◌∙◌, ap, map, string_bytes}
-use Rattle.uv_cli.specs.Lint.{form_of}
+use Rattle.uv_cli.specs.Lint.{form_of, input_name}
 use Rattle.uv_cli.proofs.LintLemmas.{begins_with, lints_files}
 use Rattle.uv_cli.proofs.lint.lint_against.Goals as goal
 
@@ -20,7 +20,7 @@ returns g c = record {
       begins_with _ _ c.args.job.now.quiet c.new.result c.write_piece-linted.result _ _ c.new.ensures
       (c.as_str.ensures.value ∙ c.in-Ok.ensures) c.write_piece-linted.ensures;
   all =
-      lints_files (record {
+      lints_files (input_name c.args.job.now) (record {
         base = c.args.base;
         profile = c.args.job.now.profile;
         extent = c.args.job.now.extent;
@@ -29,6 +29,6 @@ returns g c = record {
         form = form_of c.args.job.now.located;
       })
       _ _ _ _ _ _ _ _ (ap (map string_bytes) c.as_slice.ensures.value)
-      (rw c.form_of.ensures at c.lint_each-linted.ensures.all);
+      (rw c.form_of.ensures at (rw c.input_name-name.ensures at c.lint_each-linted.ensures.all));
   ends = rw (← c.completion.ensures, ← c.end_of.ensures) c.write_piece.ensures;
 }

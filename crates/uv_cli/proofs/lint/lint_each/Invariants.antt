@@ -1,14 +1,14 @@
 -- The files so far.
 use Rattle.std.proofs.Common.{◌≡◌, map, take, string_bytes, true}
 use Rattle.uv_lint.specs.LineViolations.{file_setting}
-use Rattle.uv_cli.specs.Lint.{LintsAll}
+use Rattle.uv_cli.specs.Lint.{LintsAll, reported_name}
 use Rattle.uv_cli.specs.Linted.{is_writable}
 use Rattle.uv_cli.proofs.lint.lint_each.Given as goal
 
 abbrev pub invariant-loop-file : goal.invariant-loop-file
 invariant-loop-file g l = record {
-  all : LintsAll (λ file. file_setting file l.setting) (map string_bytes (take l.file-index l.files)) l.initial.linted
-      l.linted
+  all : LintsAll (λ file. file_setting (reported_name l.name file) l.setting)
+      (map string_bytes (take l.file-index l.files)) l.initial.linted l.linted
       (record { bytes = g.I.Source.remaining l.initial.input; failed = g.I.Source.failed l.initial.input })
       (record { bytes = g.I.Source.remaining l.input; failed = g.I.Source.failed l.input })
       (record { bytes = g.S.Sink.contents l.initial.out; failed = g.S.Sink.failed l.initial.out })

@@ -1,9 +1,10 @@
--- The command with its nine arguments, one after the other.
+-- The command with its ten arguments, one after the other.
 use Rattle.uv_words.proofs.commands.lint.Goals as goal
 
 pub returns : goal.returns
 returns c =
     c.and_arg.ensures _ _
+    (c.and_arg-command-9.ensures _ _
     (c.and_arg-command-8.ensures _ _
     (c.and_arg-command-7.ensures _ _
     (c.and_arg-command-6.ensures _ _
@@ -14,5 +15,5 @@ returns c =
     (c.and_arg-command.ensures _ _ c.bare-command.ensures c.base.ensures.rule c.base.ensures.local) c.all.ensures.rule
     c.all.ensures.local) c.profile.ensures.rule c.profile.ensures.local) c.wide.ensures.rule c.wide.ensures.local)
     c.format.ensures.rule c.format.ensures.local) c.columns.ensures.rule c.columns.ensures.local)
-    c.located.ensures.rule c.located.ensures.local) c.quiet.ensures.rule c.quiet.ensures.local) c.files.ensures.rule
-    c.files.ensures.local
+    c.located.ensures.rule c.located.ensures.local) c.stdin_name.ensures.rule c.stdin_name.ensures.local)
+    c.quiet.ensures.rule c.quiet.ensures.local) c.files.ensures.rule c.files.ensures.local

@@ -1,0 +1,42 @@
+-- Names that none has: which one of them is told of, and the names that may have been meant.
+use Rattle.std.specs.Prelude.{ℕ, ◌+◌, ◌/◌, ◌&&◌, ◌||◌, ◌==◌, Bool, List, [], ◌∷◌, Option, Some, None, chars, filter}
+use Rattle.std.specs.Prelude.{is_some, length, max, nat_eq, nat_lt, not, unwrap_or, if◌then◌else◌}
+use Rattle.std.specs.List.{starts_with}
+use Rattle.std.specs.Str.{str_to_ascii_lowercase}
+use Rattle.strsim.specs.Edits.{osa_table}
+use Rattle.uv_model.specs.Violations.Rule.{named_rule}
+use Rattle.uv_report.specs.LineViolation.{named_violation}
+
+-- the name is that of a rule, or of what else is found with a line
+abbrev pub is_rule : List ℕ → Bool
+is_rule name = is_some (named_rule name) || is_some (named_violation name)
+
+-- the first of the names that is none of these, or nothing
+abbrev pub unknown_rule : List (List ℕ) → List ℕ
+unknown_rule [] = []
+unknown_rule (name ∷ rest) = if is_rule name then unknown_rule rest else name
+
+-- how many letters have to be changed, taken away, added or swapped with the next one to come from one text to another
+abbrev pub edits_between : List ℕ → List ℕ → ℕ
+edits_between word name = (osa_table (chars word) (chars name)).last_row (length (chars name))
+
+-- the first of the names to which the fewest edits of a word lead, where they are fewer than this
+abbrev pub nearest_below : List ℕ → ℕ → List (List ℕ) → Option (List ℕ)
+nearest_below word limit [] = None
+nearest_below word limit (name ∷ rest) =
+    if nat_lt (edits_between word name) limit
+    then Some (unwrap_or (nearest_below word (edits_between word name) rest) name)
+    else nearest_below word limit rest
+
+-- the nearest of the names, whatever the word's case: where no more than a third of its letters are edited, or one of a
+-- shorter word
+abbrev pub nearest : List ℕ → List (List ℕ) → Option (List ℕ)
+nearest word names = nearest_below (str_to_ascii_lowercase word) (max (length word / 3) 1 + 1) names
+
+-- the name begins with the word, which isn't empty
+abbrev pub is_longer : List ℕ → List ℕ → Bool
+is_longer name word = not (length word == 0) && starts_with nat_eq name word
+
+-- the names that begin with a word, whatever its case
+abbrev pub longer_names : List ℕ → List (List ℕ) → List (List ℕ)
+longer_names word names = filter (λ name. is_longer name (str_to_ascii_lowercase word)) names
