@@ -1,14 +1,14 @@
 //! What the arguments of the command line ask for.
-ghost use Rattle.std.specs.List.{list_any};
 ghost use Rattle.std.specs.Prelude.{◌≡◌, IfOk, IfErr, Some, codes, map, option_map, string_bytes, true};
 ghost use Rattle.clap.specs.Words.{all_of, first_of, found_of, kind_of, rows_of, subcommand_of, subcommand_rows_of};
 ghost use Rattle.clap.specs.Words.{takes};
 ghost use Rattle.uv_words.specs.Commands.{urlcheck};
 ghost use Rattle.uv_words.specs.Words.{asked_by, asks_to_show, check_in, extent_in, has_flag, judged_in, lint_in};
-ghost use Rattle.uv_words.specs.Words.{explain, filter_by, filter_in, is_input, mend_in, rules_in};
+ghost use Rattle.uv_words.specs.Words.{explain, filter_by, filter_in, mend_in, rules_in};
 ghost use Rattle.uv_words.specs.Words.{request_in, request_of, vectors, wanted_in, wanted_view, IsFaultOf, IsFrom};
 
 use crate::commands::urlcheck;
+use crate::inputs::has_input;
 use crate::profile::{Asked, asked_for};
 use clap::error::ErrorKind;
 use clap::{ArgMatches, Error};
@@ -339,18 +339,6 @@ fn lint_in(
         stdin_name: copied(alloc, value(entries, "stdin-name"))?,
         quiet: has(entries, "quiet"),
     })))
-}
-
-// Whether the standard input is one of the files.
-fn has_input(files: &[&str]) -> bool
-    ensures { result ≡ list_any is_input (map (λ f. f.now) files.now) }
-{
-    for file in files {
-        if *file == "-" {
-            return true;
-        }
-    }
-    false
 }
 
 fn copied_all(alloc: Global, texts: &[&str]) -> Result<Vec<String>, AllocError>

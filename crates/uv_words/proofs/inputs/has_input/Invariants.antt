@@ -2,7 +2,7 @@
 use Rattle.std.proofs.Common.{◌≡◌, drop, map}
 use Rattle.std.specs.List.{list_any}
 use Rattle.uv_words.specs.Words.{is_input}
-use Rattle.uv_words.proofs.words.has_input.Given as goal
+use Rattle.uv_words.proofs.inputs.has_input.Given as goal
 
 abbrev pub invariant-loop-file : goal.invariant-loop-file
 invariant-loop-file l =
