@@ -198,4 +198,4 @@ ends_with 1 $? "$(counted 7 4)" 'results of SARIF of three files'
 grep '"ruleIndex":' "$room/out" | cmp -s - "$room/twice" || fail "results of SARIF of three files: $(cat "$room/out")"
 rm -f "$room/wanted" "$room/twice" "$room/right"
 
-all_cases 46
+all_cases 54
