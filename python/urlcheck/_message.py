@@ -63,8 +63,8 @@ _CONTROLS = (
 ).split(",")
 """The names of the controls below U+0020, which ``unicodedata`` doesn't have."""
 
-_HIDDEN = re.compile("[\x00-\x1f\x7f-\x9f\u061c\u200e\u200f\u2028-\u202e\u2066-\u2069]")
-"""The controls, and what turns the direction of a text or ends its line."""
+_HIDDEN = re.compile("[\x00-\x1f\x7f-\x9f\u061c\u200e\u200f\u2028-\u202e\u2066-\u2069\ufeff]")
+"""The controls, what turns the direction of a text or ends its line, and the byte order mark, which shows nothing."""
 
 
 def message(text: str, rule: str, place: int, profile: Profile) -> str:
