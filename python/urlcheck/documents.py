@@ -7,62 +7,29 @@ those that ``urlcheck lint --located -`` reads, which judges them too and has mo
 
 import argparse
 import codecs
-import errno
-import fnmatch
 import os
-import pickle
 import re
 import resource
 import signal
 import sys
-from typing import Callable, Dict, Iterator, List, NamedTuple, Optional, Set, Tuple
+from typing import Callable, Dict, List, NamedTuple, Optional, Set, Tuple
 
 from . import BaseRefused, Profile, check, resolve, version
 from . import _html_links, _markdown_links, _xml_links
+from ._apart import MOST_MEMORY, Taken, apart, nothing
+from ._folders import KINDS, Excluded, documents_of, kind_of, no_document
 from ._message import message
 from ._source import Broken, Link, Source
+from ._streams import closed, flush, reason_of, stop, tell, write, write_nowhere
 
 MOST_BYTES = 32 * 1024 * 1024
 """How many bytes a document may have."""
 
-MOST_SECONDS = 60
-"""How long a document may take to read."""
-
-MOST_MEMORY = 480 * 1024 * 1024
-"""How many bytes of memory the program may have."""
-
 SOMEWHERE = "https://example.com/"
 """What a reference is judged against where neither the document nor the caller names a base."""
 
-KINDS = {
-    "html": "html",
-    "htm": "html",
-    "xhtml": "xml",
-    "xht": "xml",
-    "xml": "xml",
-    "rss": "xml",
-    "atom": "xml",
-    "rdf": "xml",
-    "svg": "xml",
-    "md": "markdown",
-    "markdown": "markdown",
-}
-"""The kind of a document by its name's end."""
-
 MARKDOWN = "the package markdown-it-py: pip install markdown-it-py, or Debian's python3-markdown-it"
 """What reads Markdown, and how to have it."""
-
-REASONS = {
-    errno.ENOENT: "there is no such file",
-    errno.EISDIR: "it is a folder",
-    errno.ENOTDIR: "a part of its path is no folder",
-    errno.EACCES: "it may not be read",
-    errno.EPERM: "it may not be read",
-    errno.ENOSPC: "no space is left",
-    errno.EDQUOT: "the quota is used up",
-    errno.EFBIG: "the file may not get larger",
-}
-"""Why a file can't be read or written, as ``urlcheck`` says it; any other reason is said in the system's words."""
 
 Report = Callable[[str], None]
 Writer = Callable[[bytes], None]
@@ -70,30 +37,6 @@ Writer = Callable[[bytes], None]
 
 class Unread(Exception):
     """Why a document can't be read."""
-
-
-def reason_of(error: OSError) -> str:
-    """Why the system couldn't do what was asked of it."""
-    return REASONS.get(error.errno or 0) or str(error.strerror or error)
-
-
-class Excluded(NamedTuple):
-    """What is left out of a folder: all that a pattern matches."""
-
-    pattern: "re.Pattern[str]"
-    is_of_folders: bool
-    """Whether the pattern ended with ``/``, so that it is one of folders alone."""
-
-    @classmethod
-    def by(cls, pattern: str) -> "Excluded":
-        """What a pattern of the shell leaves out, in which ``*`` and ``?`` stand for ``/`` too."""
-        return cls(re.compile(fnmatch.translate(pattern.rstrip("/"))), pattern.endswith("/"))
-
-    def has(self, below: str, name: str, is_folder: bool) -> bool:
-        """Whether a file or a folder of that name is left out, which stands in the folder at the path ``below``."""
-        if self.is_of_folders and not is_folder:
-            return False
-        return any(self.pattern.match(it) for it in (name, os.path.join(below, name)))
 
 
 class Settings(NamedTuple):
@@ -116,7 +59,7 @@ class Counts:
         self.ignored = 0
         self.unread = 0
 
-    def add(self, taken: "Taken") -> None:
+    def add(self, taken: Taken) -> None:
         """Adds what a document gave."""
         self.documents += taken.documents
         self.links += taken.links
@@ -127,11 +70,6 @@ class Counts:
     def status(self) -> int:
         """2 where a document wasn't read, else 1 where a link is refused, else 0."""
         return 2 if self.unread else 1 if self.refused else 0
-
-
-def kind_of(name: str) -> Optional[str]:
-    """The kind of a document of that name, if its end says so."""
-    return KINDS.get(os.path.basename(name).rpartition(".")[2].lower())
 
 
 class Found(NamedTuple):
@@ -220,108 +158,12 @@ def read_document(name: str) -> bytes:
         if name == "-":
             # (there is none where it was closed before the start)
             if sys.stdin is None:
-                raise OSError(errno.EBADF, os.strerror(errno.EBADF))
+                raise closed()
             return sys.stdin.buffer.read(MOST_BYTES + 1)
         with open(name, "rb") as file:
             return file.read(MOST_BYTES + 1)
     except OSError as error:
         raise Unread("can't be read: {}".format(reason_of(error))) from None
-
-
-def documents_of(names: List[str], excluded: Tuple[Excluded, ...] = ()) -> Iterator[str]:
-    """The documents of these names, and those within a folder whose names' ends say a kind, in order, but for what is
-    left out of folders; then a folder of them that can't be read, and one that has no document in it."""
-    for name in names:
-        if name == "-" or not os.path.isdir(name):
-            yield name
-            continue
-        count = 0
-        closed: List[str] = []
-        for folder, folders, files in os.walk(name, onerror=lambda error: closed.append(error.filename)):
-            below = folder[len(name) :].lstrip("/")
-            folders[:] = [it for it in sorted(folders) if not _is_excluded(excluded, below, it, True)]
-            for file in sorted(filter(kind_of, files)):
-                if not _is_excluded(excluded, below, file, False):
-                    count += 1
-                    yield os.path.join(folder, file)
-        yield from closed or [name] * (count == 0)
-
-
-def _is_excluded(excluded: Tuple[Excluded, ...], below: str, name: str, is_folder: bool) -> bool:
-    return any(it.has(below, name, is_folder) for it in excluded)
-
-
-def _no_document(folder: str, is_all: bool) -> str:
-    """Why a folder gives no document, of which nothing is left out if ``is_all``."""
-    try:
-        os.listdir(folder)
-    except OSError as error:
-        return "can't be read: {}".format(reason_of(error))
-    taken = "no name in this folder" if is_all else "no name in this folder that isn't excluded"
-    return "has no document: {} ends in .{}".format(taken, ", .".join(KINDS))
-
-
-class Taken(NamedTuple):
-    """What a document has given."""
-
-    documents: int
-    links: int
-    refused: int
-    ignored: int
-    lines: bytes
-    fault: Optional[str]
-    """What is said behind its name where it wasn't read to its end: the place where the reader stopped, and why."""
-
-
-def _nothing(reason: str) -> Taken:
-    """What a document gives that isn't read."""
-    return Taken(0, 0, 0, 0, b"", ": " + reason)
-
-
-def _apart(take: Callable[[], Taken]) -> Taken:
-    """What a document gives, taken in a process of its own. Where memory is short Python may do anything, also go on
-    without an end: so the process is ended from without, and only what it gave whole is taken."""
-    reader, writer = os.pipe()
-    try:
-        child = os.fork()
-    except OSError as error:
-        os.close(reader)
-        os.close(writer)
-        return _nothing("can't be read: no process: {}".format(reason_of(error)))
-    if child == 0:
-        ended = 1
-        try:
-            signal.signal(signal.SIGALRM, signal.SIG_DFL)
-            signal.alarm(MOST_SECONDS)
-            _write_nowhere(2)
-            given = pickle.dumps(_given_by(take))
-            with os.fdopen(writer, "wb") as pipe:
-                pipe.write(given)
-            ended = 0
-        finally:
-            os._exit(ended)
-    os.close(writer)
-    with os.fdopen(reader, "rb") as pipe:
-        given = pipe.read()
-    status = os.waitpid(child, 0)[1]
-    if status == 0:
-        taken: Taken = pickle.loads(given)
-        return taken
-    is_late = os.WIFSIGNALED(status) and os.WTERMSIG(status) == signal.SIGALRM
-    return _nothing("takes more than {} seconds to read".format(MOST_SECONDS) if is_late else _NO_MEMORY)
-
-
-def _given_by(take: Callable[[], Taken]) -> Taken:
-    try:
-        return take()
-    except (MemoryError, SystemError):
-        # (Python raises a SystemError too where an allocation failed)
-        raise
-    except Exception as error:
-        return _nothing("its reader failed: {!r}".format(error))
-
-
-_NO_MEMORY = "needs more than {} MiB of memory".format(MOST_MEMORY >> 20)
 
 
 class Run:
@@ -337,7 +179,7 @@ class Run:
     def take(self, name: str) -> None:
         """Writes the located links of a document or, with a judge, what is wrong with them."""
         shown = re.sub("[\x00-\x1f\x7f-\x9f]", "\ufffd", name)
-        taken = _apart(lambda: self._taken(name, shown))
+        taken = apart(lambda: self._taken(name, shown))
         self.counts.add(taken)
         self._write(taken.lines)
         if taken.fault is not None:
@@ -348,9 +190,9 @@ class Run:
         try:
             found = self._read(name, shown)
         except Unread as reason:
-            return _nothing(str(reason))
+            return nothing(str(reason))
         except RecursionError:
-            return _nothing("is nested too deeply")
+            return nothing("is nested too deeply")
         refused = ignored = 0
         lines = []
         for link in found.links:
@@ -369,7 +211,7 @@ class Run:
 
     def _read(self, name: str, shown: str) -> Found:
         if os.path.isdir(name):
-            raise Unread(_no_document(name, not self._settings.excluded))
+            raise Unread(no_document(name, not self._settings.excluded))
         kind = self._settings.kind or kind_of(name)
         if kind is None:
             if name != "-" and not os.path.exists(name):
@@ -395,54 +237,17 @@ def _patterns(name: Optional[str]) -> Tuple["re.Pattern[str]", ...]:
         with open(name, encoding="utf-8") as file:
             lines = [line.rstrip("\r\n") for line in file]
     except OSError as error:
-        raise SystemExit(_stop("{}: can't be read: {}".format(name, reason_of(error))))
+        raise SystemExit(stop("{}: can't be read: {}".format(name, reason_of(error))))
     except UnicodeDecodeError:
-        raise SystemExit(_stop("{}: isn't UTF-8".format(name))) from None
+        raise SystemExit(stop("{}: isn't UTF-8".format(name))) from None
     patterns = []
     for number, line in enumerate(lines, 1):
         if line.strip() and not line.startswith("#"):
             try:
                 patterns.append(re.compile(line))
             except re.error as error:
-                raise SystemExit(_stop("{}:{}: no regular expression: {}".format(name, number, error)))
+                raise SystemExit(stop("{}:{}: no regular expression: {}".format(name, number, error)))
     return tuple(patterns)
-
-
-def _tell(line: str) -> None:
-    """Writes a line to standard error, in one piece: others may write there at the same time. Where that takes nothing
-    the status stands alone."""
-    try:
-        if sys.stderr is not None:
-            sys.stderr.write("urlcheck-documents: " + line + "\n")
-    except OSError:
-        _write_nowhere(2)
-
-
-def _stop(line: str) -> int:
-    _tell(line)
-    return 2
-
-
-_DRIVES = re.compile("[\x00-\x08\x0b-\x1f\x7f-\x9f\u061c\u200e\u200f\u2028-\u202e\u2066-\u2069]")
-"""What drives a terminal: controls but the tab and the line feed, and what ends a line or turns a text's direction."""
-
-
-def _write(lines: bytes) -> None:
-    """Writes whole lines, as they are; to a terminal what drives it is shown as U+FFFD."""
-    if not lines:
-        return
-    # (there is none where it was closed before the start)
-    if sys.stdout is None:
-        raise OSError(errno.EBADF, os.strerror(errno.EBADF))
-    if sys.stdout.isatty():
-        shown = _DRIVES.sub("\ufffd", lines.decode("utf-8", "surrogateescape"))
-        lines = shown.encode("utf-8", "surrogateescape")
-    sys.stdout.buffer.write(lines)
-
-
-def _write_nowhere(number: int) -> None:
-    """What is left to be written to this file goes nowhere, so that Python's own end says nothing of it."""
-    os.dup2(os.open(os.devnull, os.O_WRONLY), number)
 
 
 def _parser() -> argparse.ArgumentParser:
@@ -491,14 +296,13 @@ def run(words: Optional[List[str]] = None) -> int:
             # A base is judged alone, so that it needs a scheme.
             rule, place = refused.rule, refused.place
             why = "it has no scheme" if rule == "no-scheme" else message(given.base, rule, place, profile)
-            return _stop("the base is refused at place {}: {} [{}]".format(place, why, rule))
-    seen = Run(settings, Judge(settings) if given.check else None, _write, _tell)
+            return stop("the base is refused at place {}: {} [{}]".format(place, why, rule))
+    seen = Run(settings, Judge(settings) if given.check else None, write, tell)
     for name in documents_of(given.files, excluded):
         seen.take(name)
-    if sys.stdout is not None:
-        sys.stdout.buffer.flush()
+    flush()
     if not given.quiet:
-        _tell(_counted(seen.counts, given.check))
+        tell(_counted(seen.counts, given.check))
     return seen.counts.status()
 
 
@@ -528,9 +332,9 @@ def main() -> None:
     try:
         status = run()
     except OSError as error:
-        _write_nowhere(1)
+        write_nowhere(1)
         if not isinstance(error, BrokenPipeError):
-            _tell("standard output: can't be written: {}".format(reason_of(error)))
+            tell("standard output: can't be written: {}".format(reason_of(error)))
         status = 3
     sys.exit(status)
 

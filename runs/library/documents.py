@@ -10,7 +10,7 @@ import sys
 import tempfile
 import unittest
 
-from urlcheck.documents import REASONS, reason_of
+from urlcheck._streams import REASONS, reason_of
 
 TOP = os.path.join(os.path.dirname(os.path.abspath(__file__)), "..", "..")
 PROGRAM = [sys.executable, "-m", "urlcheck.documents"]
