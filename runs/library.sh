@@ -93,24 +93,10 @@ fi
 for tests in documents errors; do
     python3 $tests.py >"$room/tests" 2>&1 || { cat "$room/tests"; exit 1; }
 done
-# What is said of a link is what `lint` says of it where it stands.
-python3 - >"$room/points.html" <<'END'
-for at in [*range(1, 0x80), 0x80, 0x9F, 0xA0, 0x61C, 0x200E, 0x2028, 0x202E, 0x2066, 0xE9, 0xFDD0, 0xFFFE, 0x10FFFF]:
-    if chr(at) not in "\n\r'":
-        for text in ("x{}y", "foo://x{}y", "http://x{}y", "http://h:{}8/", "http://x{}y@h/", "http://{}:y@h/"):
-            print("<a href='" + text.format(chr(at)) + "'>")
-for host in ". a..b a.. -a a.b-:8 ab--c -. xn--a- \u00e9..b \u00e9_ -\u00e9".split() + ["a" * 63, "a" * 64]:
-    for end in "", "/_", "?_", "#_":
-        print("<a href='http://" + host + end + "'>")
-END
-for profile in standard wide parser; do
-    python3 -m urlcheck.documents --quiet --check --profile $profile "$room/points.html" >"$room/said" || [ $? = 1 ]
-    python3 -m urlcheck.documents --quiet "$room/points.html" |
-        { "$program" lint --quiet --located --profile $profile --base https://example.com/ - || [ $? = 1 ]; } |
-        cmp - "$room/said"
-    [ "$(wc -l <"$room/said")" -gt 300 ] || { echo "FAILED: links in documents: few are refused"; exit 1; }
-done
-echo 'library: links in documents, errors of the package'
+# What is said of a link in each format is what `lint` says of it where it stands.
+python3 formats.py "$program" >"$room/tests" 2>&1 || { cat "$room/tests"; exit 1; }
+python3 widths.py "$program"
+echo 'library: links in documents in each format, errors of the package'
 URLCHECK_LIBRARY=$shared bash "$top/runs/uses.sh" "$program" documents
 
 # The links of this repository's own pages, by a Python that has the reader of Markdown. A spoiled page is found.

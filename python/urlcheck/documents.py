@@ -2,7 +2,7 @@
 
 ``python3 -m urlcheck.documents FILE..`` (or ``urlcheck-documents FILE..``) prints a line ``FILE:LINE:COLUMN:LINK`` for
 each link, as ``rg --vimgrep -o`` does; with ``--check`` it judges them, and reports each that is refused. The lines are
-those that ``urlcheck lint --located -`` reads, which judges them too and has more formats.
+those that ``urlcheck lint --located -`` reads, which judges them too.
 """
 
 import argparse
@@ -12,27 +12,23 @@ import re
 import resource
 import signal
 import sys
-from typing import Callable, Dict, List, NamedTuple, Optional, Set, Tuple
+from typing import List, NamedTuple, Optional, Set, Tuple
 
-from . import BaseRefused, Profile, check, resolve, version
+from . import BaseRefused, Profile, check, version
 from . import _html_links, _markdown_links, _xml_links
 from ._apart import MOST_MEMORY, Taken, apart, nothing
 from ._folders import KINDS, Excluded, documents_of, kind_of, no_document
+from ._judge import SOMEWHERE, Judge
 from ._message import message
+from ._report import FORMATS, Format, Report, named
 from ._source import Broken, Link, Source
 from ._streams import closed, flush, reason_of, stop, tell, write, write_nowhere
 
 MOST_BYTES = 32 * 1024 * 1024
 """How many bytes a document may have."""
 
-SOMEWHERE = "https://example.com/"
-"""What a reference is judged against where neither the document nor the caller names a base."""
-
 MARKDOWN = "the package markdown-it-py: pip install markdown-it-py, or Debian's python3-markdown-it"
 """What reads Markdown, and how to have it."""
-
-Report = Callable[[str], None]
-Writer = Callable[[bytes], None]
 
 
 class Unread(Exception):
@@ -47,6 +43,7 @@ class Settings(NamedTuple):
     profile: Profile = Profile.STANDARD
     ignored: Tuple["re.Pattern[str]", ...] = ()
     excluded: Tuple[Excluded, ...] = ()
+    format: Format = FORMATS["gnu"]
 
 
 class Counts:
@@ -125,33 +122,6 @@ def located(name: str, source: Source, link: Link) -> str:
     return "{}:{}:{}:{}".format(name, line, column, re.sub("[\r\n]", "\t", link.text))
 
 
-class Judge:
-    """Judges links against the base of their document."""
-
-    def __init__(self, settings: Settings) -> None:
-        self._settings = settings
-        self._bases: Dict[str, str] = {}
-
-    def _base(self, named: Optional[str]) -> str:
-        """What a link is judged against: the base that its document names, read against the caller's, if valid."""
-        outer = self._settings.base or SOMEWHERE
-        if named is None:
-            return outer
-        if named not in self._bases:
-            found = resolve(named, outer, self._settings.profile)
-            self._bases[named] = found if isinstance(found, str) else outer
-        return self._bases[named]
-
-    def finding(self, name: str, source: Source, link: Link) -> Optional[str]:
-        """What is wrong with a link, if something is: a line as compilers write it."""
-        answer = check(link.text, self._base(link.base), self._settings.profile)
-        if answer:
-            return None
-        offset = link.offset + answer.place if link.is_verbatim else link.offset
-        said = message(link.text, answer.rule, answer.place, self._settings.profile)
-        return "{}:{}:{}: error: {} [{}]".format(name, *source.position(offset), said, answer.rule)
-
-
 def read_document(name: str) -> bytes:
     """The document's bytes, at most one more than it may have; those of standard input for ``-``. Raises ``Unread``."""
     try:
@@ -169,22 +139,21 @@ def read_document(name: str) -> bytes:
 class Run:
     """The documents read so far: what was asked for, and what was seen."""
 
-    def __init__(self, settings: Settings, judge: Optional[Judge], write: Writer, tell: Report) -> None:
+    def __init__(self, settings: Settings, judge: Optional[Judge], report: Report) -> None:
         self._settings = settings
         self._judge = judge
-        self._write = write
-        self._tell = tell
+        self._report = report
         self.counts = Counts()
 
     def take(self, name: str) -> None:
         """Writes the located links of a document or, with a judge, what is wrong with them."""
-        shown = re.sub("[\x00-\x1f\x7f-\x9f]", "\ufffd", name)
+        shown = named(name)
         taken = apart(lambda: self._taken(name, shown))
         self.counts.add(taken)
-        self._write(taken.lines)
+        self._report.add(taken.lines)
         if taken.fault is not None:
             is_input = name == "-" and taken.fault.startswith(": ")
-            self._tell(("standard input" if is_input else shown or "''") + taken.fault)
+            tell(("standard input" if is_input else shown or "''") + taken.fault)
 
     def _taken(self, name: str, shown: str) -> Taken:
         try:
@@ -193,21 +162,25 @@ class Run:
             return nothing(str(reason))
         except RecursionError:
             return nothing("is nested too deeply")
-        refused = ignored = 0
-        lines = []
+        said = ignored = 0
+        lines = bytearray()
         for link in found.links:
             if found.source.position(link.offset)[0] in found.ignored or self._is_meant(link.text):
                 ignored += 1
-            elif self._judge is None:
-                lines.append(located(shown, found.source, link))
-            else:
-                finding = self._judge.finding(shown, found.source, link)
-                if finding:
-                    refused += 1
-                    lines.append(finding)
-        data = "".join(line + "\n" for line in lines).encode("utf-8", "surrogateescape")
+                continue
+            more = self._said(name, shown, found.source, link)
+            said += more != ""
+            lines += more.encode("utf-8", "surrogateescape")
+        refused = said if self._judge else 0
         broken = None if found.broken is None else ":{}".format(found.broken)
-        return Taken(1, len(found.links), refused, ignored, data, broken)
+        return Taken(1, len(found.links), refused, ignored, bytes(lines), broken)
+
+    def _said(self, name: str, shown: str, source: Source, link: Link) -> str:
+        """The lines on a link: none where a judge finds it valid."""
+        if self._judge is None:
+            return located(shown, source, link) + "\n"
+        finding = self._judge.finding(name, source, link)
+        return self._settings.format.said(finding) if finding else ""
 
     def _read(self, name: str, shown: str) -> Found:
         if os.path.isdir(name):
@@ -265,6 +238,7 @@ def _parser() -> argparse.ArgumentParser:
     add = parser.add_argument
     add("files", nargs="+", metavar="FILE", help="a document, a folder of documents, or - for standard input")
     add("--check", action="store_true", help="judge the links, and report those that are refused")
+    add("--format", choices=list(FORMATS), help="how --check reports them; without it gnu, as compilers do")
     add("--base", metavar="URL", help="what the documents' references are relative to")
     names = [it.name.lower() for it in Profile]
     add("--profile", choices=names, default="standard", help="the profile to judge by")
@@ -285,25 +259,43 @@ def _parser() -> argparse.ArgumentParser:
 
 def run(words: Optional[List[str]] = None) -> int:
     """Runs the program on these words, and gives its status."""
-    given = _parser().parse_args(words)
+    parser = _parser()
+    given = parser.parse_args(words)
+    if given.format and not given.check:
+        parser.error("argument --format: not allowed without argument --check")
     profile = Profile[given.profile.upper()]
     excluded = tuple(Excluded.by(it) for it in given.exclude)
-    settings = Settings(given.kind, given.base, profile, _patterns(given.ignore), excluded)
-    if given.base is not None:
-        try:
-            check("", given.base, profile)
-        except BaseRefused as refused:
-            # A base is judged alone, so that it needs a scheme.
-            rule, place = refused.rule, refused.place
-            why = "it has no scheme" if rule == "no-scheme" else message(given.base, rule, place, profile)
-            return stop("the base is refused at place {}: {} [{}]".format(place, why, rule))
-    seen = Run(settings, Judge(settings) if given.check else None, write, tell)
+    settings = Settings(
+        given.kind, given.base, profile, _patterns(given.ignore), excluded, FORMATS[given.format or "gnu"]
+    )
+    refused = _base_refused(given.base, profile)
+    if refused is not None:
+        return stop(refused)
+    report = Report(settings.format, write)
+    judge = Judge(settings.base, settings.profile, settings.format.has_mended) if given.check else None
+    seen = Run(settings, judge, report)
+    report.begin()
     for name in documents_of(given.files, excluded):
         seen.take(name)
+    report.end(not seen.counts.unread)
     flush()
     if not given.quiet:
         tell(_counted(seen.counts, given.check))
     return seen.counts.status()
+
+
+def _base_refused(base: Optional[str], profile: Profile) -> Optional[str]:
+    """Why nothing can be judged against this base, if there is one and it is refused."""
+    if base is None:
+        return None
+    try:
+        check("", base, profile)
+    except BaseRefused as refused:
+        # A base is judged alone, so that it needs a scheme.
+        rule, place = refused.rule, refused.place
+        why = "it has no scheme" if rule == "no-scheme" else message(base, rule, place, profile)
+        return "the base is refused at place {}: {} [{}]".format(place, why, rule)
+    return None
 
 
 def _counted(counts: Counts, is_judged: bool) -> str:

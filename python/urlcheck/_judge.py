@@ -1,0 +1,63 @@
+"""What is wrong with the links of documents."""
+
+import re
+from typing import Dict, Optional
+
+from . import Mended, Profile, check, mend, resolve
+from ._finding import Finding, Region
+from ._message import message
+from ._source import Link, Source
+
+SOMEWHERE = "https://example.com/"
+"""What a reference is judged against where neither the document nor the caller names a base."""
+
+MOST_MENDED = 65_536
+"""How many bytes a link may have for which a text is sought to write in its place."""
+
+
+class Judge:
+    """Judges links against the base of their document."""
+
+    def __init__(self, base: Optional[str], profile: Profile, has_mended: bool) -> None:
+        self._outer = base or SOMEWHERE
+        self._profile = profile
+        self._has_mended = has_mended
+        self._bases: Dict[str, str] = {}
+
+    def _base(self, named: Optional[str]) -> str:
+        """What a link is judged against: the base that its document names, read against the caller's, if valid."""
+        if named is None:
+            return self._outer
+        if named not in self._bases:
+            found = resolve(named, self._outer, self._profile)
+            self._bases[named] = found if isinstance(found, str) else self._outer
+        return self._bases[named]
+
+    def finding(self, name: str, source: Source, link: Link) -> Optional[Finding]:
+        """What is wrong with a link of the document of that name, if something is."""
+        base = self._base(link.base)
+        answer = check(link.text, base, self._profile)
+        if answer:
+            return None
+        offset = link.offset + answer.place if link.is_verbatim else link.offset
+        line, column = source.position(offset)
+        said = message(link.text, answer.rule, answer.place, self._profile)
+        mended = self._mended(link.text, base)
+        region = None if mended is None else _region(source, link)
+        return Finding(name, line, column, answer.rule, said, link.text, answer.place, mended, region)
+
+    def _mended(self, text: str, base: str) -> Optional[Mended]:
+        """What to write in place of a refused link, where that is wanted and there is such a text."""
+        if not self._has_mended or len(text.encode("utf-8")) > MOST_MENDED:
+            return None
+        answer = mend(text, base, self._profile)
+        return answer if isinstance(answer, Mended) else None
+
+
+def _region(source: Source, link: Link) -> Optional[Region]:
+    """Where a link stands, if another text may be written there as it is."""
+    # (without the tab or the line's end, what follows the & might be read as a character reference)
+    if not link.is_verbatim or ("&" in link.text and re.search("[\t\n\r]", link.text)):
+        return None
+    line, column = source.position(link.offset)
+    return Region(line, column, *source.position(link.offset + len(link.text)))

@@ -1,0 +1,162 @@
+"""Reports as documents of SARIF 2.1.0, as ``urlcheck lint`` writes them."""
+
+from typing import Dict, List, NamedTuple, Tuple
+from urllib.parse import quote
+
+from . import RULES, Mended, MendKind, sentence, version
+from ._finding import Finding, Region, carried, compact, is_cut
+
+Object = Dict[str, object]
+
+
+class _Asked(NamedTuple):
+    """A rule as the document has it."""
+
+    name: str
+    sentence: str
+    asks: str
+    section: str
+    """The anchor of its section in the URL Standard."""
+
+
+_OF_LINES: Tuple[_Asked, ...] = (
+    _Asked("not-utf8", "this line isn't UTF-8", "A line is a text in UTF-8.", "valid-url-string"),
+    _Asked(
+        "line-too-long",
+        "this line has more than 65536 bytes",
+        "A line has at most 65536 bytes.",
+        "valid-url-string",
+    ),
+    _Asked(
+        "not-located",
+        "this line isn't FILE:LINE:COLUMN:LINK",
+        "A located line is FILE:LINE:COLUMN:LINK. FILE isn't empty; LINE and COLUMN are from 1 to 4294967295.",
+        "valid-url-string",
+    ),
+)
+"""The rules of lines, which no link violates: the documents of `lint` have them first."""
+
+_ASKS: Dict[str, Tuple[str, str]] = {
+    "no-scheme": (
+        "A text that is read without a base begins with a scheme and a colon.",
+        "relative-url-string",
+    ),
+    "opaque-base": (
+        "Against a base whose path is opaque, a text without a scheme is # and a fragment, and nothing else.",
+        "no-scheme-state",
+    ),
+    "two-slashes": (
+        "The schemes ftp, http, https, ws, wss and file are followed by a colon and //.",
+        "absolute-url-string",
+    ),
+    "host-missing": (
+        "After //, ftp, http, https, ws and wss have a host, file a host or a path, and a port follows a host.",
+        "valid-host-string",
+    ),
+    "host-domain": (
+        "A domain is of letters, digits and inner hyphens, in labels of 1 to 63 that ToASCII of UTS 46 accepts.",
+        "valid-domain-string",
+    ),
+    "host-number": (
+        "A host that ends in a number is an IPv4 address: four decimal numbers up to 255 without leading zeros.",
+        "ends-in-a-number-checker",
+    ),
+    "host-ipv6": (
+        "A host in brackets is an IPv6 address: eight pieces of 1 to 4 hex digits, where :: stands for zeros.",
+        "valid-ipv6-address-string",
+    ),
+    "host-code-point": (
+        "Under a scheme that isn't special a host has URL units, but no forbidden host code points.",
+        "valid-opaque-host-string",
+    ),
+    "port-digit": ("A port is of ASCII digits.", "url-port-string"),
+    "port-range": ("A port is at most 65535.", "url-port-string"),
+    "first-segment-empty": (
+        "After an authority, a path whose first segment is empty has no other one: it doesn't begin with //.",
+        "path-absolute-url-string",
+    ),
+    "drive-after-host": (
+        "After the host of a file URL, the path doesn't begin with /, a drive letter and /.",
+        "path-absolute-non-windows-file-url-string",
+    ),
+    "code-point": (
+        "A path, query and fragment have URL code points and percent-escapes; all else is percent-encoded.",
+        "url-code-points",
+    ),
+    "percent": ("A % is followed by two hex digits. To stand for itself, it is written %25.", "url-units"),
+}
+"""What each rule of the library asks, and the anchor of its section in the URL Standard."""
+
+_FIXES = {
+    MendKind.SAME: "write the same URL as a valid URL string",
+    MendKind.ESCAPED: "percent-encode what may not stand in a URL string",
+    MendKind.CHANGED: "write a valid URL string, which may be another URL",
+}
+"""What a fix does."""
+
+_UNREAD = "a file can't be read, which standard error names"
+
+
+def begin() -> str:
+    """The document up to its results: the version, what columns count, the tool and its rules."""
+    rules = [_rule(it) for it in _OF_LINES]
+    rules += [_rule(_Asked(name, sentence(name), *_ASKS[name])) for name in RULES]
+    return (
+        '{"$schema":"https://json.schemastore.org/sarif-2.1.0.json","version":"2.1.0","runs":[{'
+        '"columnKind":"unicodeCodePoints","tool":{"driver":{"name":"urlcheck","version":"' + version() + '","rules":['
+        + ",".join(map(compact, rules))
+        + ']}},"results":[\n'
+    )
+
+
+def end(is_whole: bool) -> str:
+    """The document behind its results: whether each document was read to its end."""
+    invocation: Object = {"executionSuccessful": is_whole}
+    if not is_whole:
+        invocation["toolExecutionNotifications"] = [{"level": "error", "message": {"text": _UNREAD}}]
+    return '],"invocations":[' + compact(invocation) + "]}]}\n"
+
+
+def result(found: Finding) -> str:
+    """What is wrong with a link, with a fix where there is a text to write in its place."""
+    artifact = {"uri": uri_path(found.name)}
+    region = {"startColumn": found.column, "startLine": found.line}
+    members: Object = {
+        "level": "error",
+        "locations": [{"physicalLocation": {"artifactLocation": artifact, "region": region}}],
+        "message": {"text": found.message},
+        "properties": {"cut": is_cut(found.text), "text": carried(found.text, found.place)},
+        "ruleId": found.rule,
+        "ruleIndex": len(_OF_LINES) + RULES.index(found.rule),
+    }
+    if found.mended is not None and found.region is not None:
+        members["fixes"] = _fixes(artifact, found.region, found.mended)
+    return compact(members) + "\n"
+
+
+def uri_path(name: str) -> str:
+    """A document's name as the path of a URI reference. One that begins with ``//`` would name a host, so its second
+    ``/`` is escaped."""
+    begin = "/%2F" if name.startswith("//") else ""
+    return begin + quote(name[2:] if begin else name, safe="/-._~", errors="surrogateescape")
+
+
+def _rule(asked: _Asked) -> Object:
+    """A rule, with what is wrong where it is violated, and what it asks."""
+    return {
+        "id": asked.name,
+        "shortDescription": {"text": asked.sentence},
+        "fullDescription": {"text": asked.asks},
+        "help": {"text": asked.asks},
+        "helpUri": "https://url.spec.whatwg.org/#" + asked.section,
+    }
+
+
+def _fixes(artifact: Dict[str, str], region: Region, mended: Mended) -> List[Object]:
+    """The fix that writes the mended text where the link stands."""
+    deleted = {"startLine": region.line, "startColumn": region.column, "endColumn": region.end_column}
+    if region.last_line != region.line:
+        deleted["endLine"] = region.last_line
+    replacement = {"deletedRegion": deleted, "insertedContent": {"text": mended.text}}
+    change = {"artifactLocation": artifact, "replacements": [replacement]}
+    return [{"artifactChanges": [change], "description": {"text": _FIXES[mended.kind]}}]

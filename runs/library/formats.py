@@ -1,0 +1,306 @@
+"""Tests of the formats of urlcheck.documents. The package is on PYTHONPATH.
+
+    formats.py PROGRAM: each format is held against that of `PROGRAM lint` over the same links, byte by byte. Where a
+    document says what no located line does, what has to be written is worked out by hand.
+"""
+
+import importlib.util
+import json
+import os
+import subprocess
+import sys
+import tempfile
+import unittest
+from xml.etree import ElementTree
+
+import urlcheck
+
+LINT = [os.path.realpath(sys.argv.pop(1)), "lint", "--quiet", "--located"] if len(sys.argv) > 1 else []
+PROGRAM = [sys.executable, "-m", "urlcheck.documents"]
+FORMATS = ("gnu", "caret", "json", "github", "sarif", "checkstyle")
+BASE = "https://example.com/"
+
+BEYOND = (0x80, 0x85, 0x9F, 0xA0, 0xAD, 0xE9, 0x301, 0x5D0, 0x61C, 0x17D8, 0x200B, 0x200D, 0x200E, 0x2028, 0x202E,
+          0x2066, 0x3042, 0x4E2D, 0xAC00, 0xFDD0, 0xFEFF, 0xFF21, 0xFFFD, 0xFFFE, 0xFFFF, 0x1F600, 0x1FFFF, 0xE0001, 0x10FFFF)
+POINTS = [chr(at) for at in (*range(1, 0x80), *BEYOND) if chr(at) not in "\n\r'"]
+PLACES = ("x{}y", "{0}^{0}", "foo://x{}y", "http://x{}y", "http://h:{}8/", "http://x{}y@h/", "http://{}:y@h/")
+HOSTS = [". a..b a.. -a a.b-:8 ab--c -. xn--a- \u00e9..b \u00e9_ -\u00e9".split(), ["a" * 63, "a" * 64]]
+
+RULES = {
+    BASE: ("http:/h", "http:///a", "http://a..b/", "http://256/", "http://[::1/", "foo://a^b", "http://h:x/",
+           "http://h:99999/", "http://h//a", "a^", "%4", "http:\\\\h\\a", "100%\t", "x"),
+    "file://h/a": ("/C:/x", "//", "a"),
+    "urn:a": ("x", "", "#x"),
+}
+"""Links that violate each rule but `no-scheme`, which none violates against a base, and some more, by their base."""
+
+NAMES = ("two words.html", "b\u00fccher.html", "\u65e5\u672c.html", "a%20b,c;d=e.html", "<&\"'>.html", "C:\\x.html",
+         "e\u0301 \U0001f600.html", "~a+b(c)#?.html", "-x.html", "s p/\u00e9/[a].html")
+
+
+def page(links):
+    """A document of HTML with these links, which have no character reference and no line's end."""
+    return "".join("<a href='{}'>\n".format(link) for link in links)
+
+
+def long_links():
+    """Links of lengths at which a part is shown, with the wrong place near to and far from their ends."""
+    for fill in ("a", "\u00e9", "\u4e2d", "e\u0301", "\U0001f600"):
+        for length in (199, 200, 201, 202, 1999, 2000, 2001, 2500):
+            for place in (10, 98, 99, 100, 101, length - 101, length - 100, length - 99, length - 98, length - 1):
+                yield ("http://h/" + fill * length)[:place] + "^" + (fill * length)[: length - place - 1]
+    for count in (60, 70, 190, 199, 200, 2000, 20_000):
+        yield "http://h/" + "^" * count
+    yield "x" * 32_000 + "^" + "\u00e9" * 16_000
+
+
+class Room(unittest.TestCase):
+    """A folder, and runs in it."""
+
+    def setUp(self):
+        room = tempfile.TemporaryDirectory()
+        self.addCleanup(room.cleanup)
+        self.room = room.name
+
+    def write(self, name, text):
+        path = os.path.join(os.fsencode(self.room), os.fsencode(name))
+        os.makedirs(os.path.dirname(path), exist_ok=True)
+        with open(path, "wb") as file:
+            file.write(text.encode())
+
+    def run_on(self, *words, program=PROGRAM, stdin=b""):
+        """The status, what was written, and what was said on standard error."""
+        ran = subprocess.run([*program, *words], cwd=self.room, input=stdin, capture_output=True)
+        return ran.returncode, ran.stdout, ran.stderr
+
+    def reported(self, form, *words):
+        """What is written in a format of the links of what is named."""
+        return self.run_on("--quiet", "--check", "--format", form, *words)[1].decode()
+
+    def results(self, *words):
+        """The results of a document of SARIF."""
+        return json.loads(self.reported("sarif", *words))["runs"][0]["results"]
+
+
+@unittest.skipUnless(LINT, "no program is named to hold the formats against")
+class Compared(Room):
+    """Documents without a base of their own and without character references: `lint` writes the same."""
+
+    def same(self, name, base=BASE, profile="standard", forms=FORMATS):
+        """How many links are refused of what is named, once each format was found to be that of `lint`."""
+        status, links, said = self.run_on("--quiet", "--", name)
+        self.assertEqual((status, said), (0, b""))
+        words = ("--base", base, "--profile", profile)
+        for form in forms:
+            with self.subTest(name=name, base=base, profile=profile, form=form):
+                status, wanted, _ = self.run_on(*words, "--format", form, "-", program=LINT, stdin=links)
+                found = self.run_on("--quiet", "--check", *words, "--format", form, "--", name)
+                if found != (status, wanted, b""):
+                    self.fail(difference(found[1], wanted) or "it ends with {}: {}".format(found[0], found[2]))
+        return len(self.run_on("--quiet", "--check", *words, "--", name)[1].splitlines())
+
+    def test_points(self):
+        """Each code point of ASCII and some others, in several places, and hosts, by each profile."""
+        links = [place.format(point) for point in POINTS for place in PLACES]
+        links += ["http://" + host + end for hosts in HOSTS for host in hosts for end in ("", "/_", "?_", "#_")]
+        self.write("points.html", page(links))
+        for profile in ("standard", "wide", "parser"):
+            self.assertGreater(self.same("points.html", profile=profile), 300)
+
+    def test_rules(self):
+        seen = set()
+        for base, links in RULES.items():
+            self.write("rules.html", page(links))
+            self.same("rules.html", base)
+            lines = self.reported("json", "--base", base, "rules.html").splitlines()
+            seen.update(json.loads(line)["rule"] for line in lines)
+        self.assertEqual(seen, set(urlcheck.RULES) - {"no-scheme"})
+
+    def test_long_links(self):
+        links = list(long_links())
+        self.write("long.html", page(links))
+        self.assertEqual(self.same("long.html"), len(links))
+
+    def test_names(self):
+        for name in NAMES:
+            self.write(os.path.join("d", name), page(["a b", "c", "http://x_y/"]))
+        folder = os.path.join(self.room, "d")
+        for name in ("d", ".", "./d/", folder, "/" + folder):
+            self.assertEqual(self.same(name), 2 * len(NAMES))
+        # What turns a text's direction stays in a line of `gnu` that goes to a file.
+        self.write("e/\u202ea\u2028.html", page(["a b"]))
+        self.assertEqual(self.same("e", forms=FORMATS[1:]), 1)
+
+    def test_nothing_refused(self):
+        self.write("a.html", page(["a", "http://h/"]))
+        self.write("b.html", "")
+        for name in (".", "b.html"):
+            self.assertEqual(self.same(name), 0)
+
+    def test_xml(self):
+        self.write("a.xml", "<urlset>\n<url>\u00e9<loc>\n  http://h/ b </loc>\n"
+                   "<loc>http://\u65e5_/</loc></url></urlset>")
+        self.write("b.rss", "<rss><channel><link>http://h/%</link><enclosure url='\u00e9 x'/></channel></rss>")
+        self.write("c.svg", "<svg xmlns='http://www.w3.org/2000/svg'><a href='\U0001f600^'/></svg>")
+        self.assertEqual(self.same("."), 5)
+
+    @unittest.skipUnless(importlib.util.find_spec("markdown_it"), "markdown-it-py isn't installed")
+    def test_markdown(self):
+        self.write("a.md", "# [a](<b c> 't') \u00e9 <http://h/%4>\n\n> - [c](http://[::1) ![d](\u00e9^)\n\n"
+                   "[e]: http://h/^\n")
+        self.assertEqual(self.same("."), 5)
+
+
+def difference(found, wanted):
+    """The first line that isn't the one that is wanted, shortened."""
+    lines = zip(found.split(b"\n") + [b""], wanted.split(b"\n") + [b""])
+    first = next(((it, other) for it, other in lines if it != other), None)
+    return first and "it writes\n{}\nand not\n{}".format(*(line[:1000].decode("utf-8", "replace") for line in first))
+
+
+class Alone(Room):
+    """What no located line says."""
+
+    def test_a_base_of_the_document(self):
+        """A link is judged and mended against the base that its document names."""
+        self.write("a.html", '<base href="http://h/">\n<a href="http:a">')
+        self.write("b.html", '<a href="http:a">')
+        self.write("c.html", '<base href="urn:a">\n<a href="x"><a href="#x">')
+        line = ('{"column":15,"cut":false,"file":"a.html","kind":"changed","line":2,"mended":"http://a",'
+                '"message":"// has to follow this scheme","rule":"two-slashes","text":"http:a"}\n')
+        self.assertEqual(self.reported("json", "a.html"), line)
+        # Against a base of another scheme it is no reference, and is read as what is written in its place.
+        line = line.replace("changed", "same").replace("a.html", "b.html").replace('"line":2', '"line":1')
+        self.assertEqual(self.reported("json", "b.html"), line)
+        self.assertEqual(self.reported("github", "c.html"), "::error file=c.html,line=2,col=10,title=opaque-base::"
+                         + urlcheck.sentence("opaque-base") + "\n")
+        self.assertNotIn("mended", self.reported("json", "c.html"))
+        self.assertEqual(self.reported("caret", "a.html"), "a.html:2:15: error: // has to follow this scheme "
+                         "[two-slashes]\nhttp:a\n     ^\nhelp: write http://a\n")
+        fix = self.fix("a.html", (2, 10, 2, 16), "http://a", "changed")
+        self.assertEqual(self.results("a.html")[0]["fixes"], [fix])
+
+    def fix(self, uri, region, text, kind):
+        """A fix: `text` stands from a line and a column to a line and the column behind it."""
+        line, start, last, end = region
+        deleted = {"startLine": line, "startColumn": start, "endColumn": end}
+        if last != line:
+            deleted["endLine"] = last
+        said = {"same": "write the same URL as a valid URL string",
+                "changed": "write a valid URL string, which may be another URL"}
+        return {"artifactChanges": [{"artifactLocation": {"uri": uri}, "replacements": [
+            {"deletedRegion": deleted, "insertedContent": {"text": text}}]}], "description": {"text": said[kind]}}
+
+    def test_character_references(self):
+        """The place is the value's beginning, the texts are those that were read, and no fix writes them."""
+        self.write("a.html", "<a href='a&amp;b c'><a href='?a&b c'>")
+        first, second = self.reported("json", "a.html").splitlines()
+        self.assertEqual(first, '{"column":10,"cut":false,"file":"a.html","kind":"same","line":1,"mended":"a&b%20c",'
+                         '"message":"U+0020 SPACE may not stand in a URL","rule":"code-point","text":"a&b c"}')
+        self.assertEqual(json.loads(second)["column"], 34)
+        first, second = self.results("a.html")
+        self.assertEqual(first["locations"][0]["physicalLocation"]["region"], {"startColumn": 10, "startLine": 1})
+        self.assertEqual((first["properties"]["text"], "fixes" in first), ("a&b c", False))
+        self.assertEqual(second["fixes"], [self.fix("a.html", (1, 30, 1, 36), "?a&b%20c", "same")])
+        caret = self.reported("caret", "a.html").splitlines()
+        self.assertEqual(caret[1:4], ["a&b c", "   ^", "help: write a&b%20c"])
+        self.write("b.xml", "<urlset><loc>http://h/?a&amp;b c</loc></urlset>")
+        self.assertNotIn("fixes", self.results("b.xml")[0])
+        # Without the tab `&amp;` would stand there, which is read as another link.
+        self.write("c.html", "<a href='a&am\tp;'>")
+        self.assertEqual(json.loads(self.reported("json", "c.html"))["mended"], "a&amp;")
+        self.assertNotIn("fixes", self.results("c.html")[0])
+
+    def test_a_link_over_two_lines(self):
+        self.write("a.html", "<p>\n<a href='a\nb^'>")
+        found = json.loads(self.reported("json", "a.html"))
+        self.assertEqual((found["line"], found["column"], found["text"], found["mended"]), (2, 11, "a\nb^", "ab%5E"))
+        self.assertEqual(found["message"], "U+000A LINE FEED may not stand in a URL")
+        self.assertEqual(self.results("a.html")[0]["fixes"], [self.fix("a.html", (2, 10, 3, 3), "ab%5E", "same")])
+        self.assertEqual(self.reported("caret", "a.html").splitlines()[1:], ["a\ufffdb^", " ^", "help: write ab%5E"])
+
+    def test_names(self):
+        """A control in a name, and what isn't UTF-8: as each format writes them, and in `gnu` as without a format."""
+        for name, gnu, text, path, attribute in (
+            ("a\nb.html", "a\ufffdb.html", "a\nb.html", "a%0Ab.html", "a&#10;b.html"),
+            ("\t\x1b\x7f.html", "\ufffd\ufffd\ufffd.html", "\t\x1b\x7f.html", "%09%1B%7F.html", "&#9;\ufffd\x7f.html"),
+            (b"\xff\xe9.html", os.fsdecode(b"\xff\xe9.html"), "\ufffd\ufffd.html", "%FF%E9.html", "\ufffd\ufffd.html"),
+        ):
+            self.write(name, "<a href='a b'>")
+            with self.subTest(name):
+                written = self.run_on("--quiet", "--check", "--format", "gnu", name)
+                self.assertEqual(written, self.run_on("--quiet", "--check", name))
+                self.assertTrue(written[1].startswith(gnu.encode("utf-8", "surrogateescape") + b":1:11: error: "))
+                self.assertEqual(json.loads(self.reported("json", name))["file"], text)
+                command = "::error file={},line=1,".format(text.replace("\n", "%0A"))
+                self.assertTrue(self.reported("github", name).startswith(command))
+                place = self.results(name)[0]["locations"][0]["physicalLocation"]
+                self.assertEqual(place["artifactLocation"]["uri"], path)
+                self.assertIn('<file name="{}">\n'.format(attribute), self.reported("checkstyle", name))
+                shown = text.replace("\n", "\ufffd").replace("\x1b", "\ufffd").replace("\x7f", "\ufffd")
+                self.assertTrue(self.reported("caret", name).startswith(shown + ":1:11: error: "))
+
+    def test_documents_that_are_not_read(self):
+        """SARIF says that a document wasn't read to its end, and each report has its end."""
+        self.write("a.html", "<a href='x'>")
+        self.write("b.xml", "<urlset><loc>http://h/ a</loc>")
+        self.write("c.html", "<a href='x y'>")
+        names = ("a.html", "b.xml", "c.html", "missing.html")
+        for form in FORMATS:
+            status, written, _ = self.run_on("--check", "--format", form, *names)
+            self.assertEqual((status, written.count(b"U+0020 SPACE")), (2, 2))
+        run = json.loads(self.reported("sarif", *names))["runs"][0]
+        self.assertEqual([it["ruleId"] for it in run["results"]], ["code-point"] * 2)
+        self.assertEqual(run["invocations"], [{"executionSuccessful": False, "toolExecutionNotifications": [
+            {"level": "error", "message": {"text": "a file can't be read, which standard error names"}}]}])
+        self.assertEqual(len(ElementTree.fromstring(self.reported("checkstyle", *names).encode())), 2)
+        self.assertEqual(self.results("missing.html"), [])
+        self.assertEqual(list(ElementTree.fromstring(self.reported("checkstyle", "missing.html").encode())), [])
+
+    def test_what_is_left_out(self):
+        self.write("a.html", "<!-- urlcheck: ignore -->\n<a href='x y'>\n<a href='{{ a }}'><a href='z^'>")
+        self.write("patterns", "\\{\\{\n")
+        for form in FORMATS:
+            status, written, said = self.run_on("--check", "--format", form, "--ignore", "patterns", "a.html")
+            self.assertEqual((status, written.count(b"CIRCUMFLEX"), written.count(b"SPACE")), (1, 1, 0))
+            self.assertEqual(said, b"urlcheck-documents: 1 document, 3 links, 1 refused, 2 ignored\n")
+
+    def test_a_very_long_link(self):
+        """A link longer than a line of `lint` may be is reported, and nothing is written in its place."""
+        self.write("a.html", "<a href='" + "a" * 65_535 + "^'><a href='" + "a" * 65_536 + "^'>")
+        first, second = (json.loads(line) for line in self.reported("json", "a.html").splitlines())
+        self.assertEqual(first["mended"], "a" * 65_535 + "%5E")
+        self.assertEqual((second["column"], second["cut"], "mended" in second), (65_557 + 65_536, True, False))
+        self.assertEqual(second["text"], "\u2026" + "a" * 99 + "^")
+
+    def test_many_links(self):
+        """The longest of the formats is written of a document in which 20,000 links are refused."""
+        self.write("a.html", "<a href='a b'>" * 20_000)
+        self.assertEqual(len(self.results("a.html")), 20_000)
+
+    def test_wrong_words(self):
+        self.write("a.html", "<a href='x y'>")
+        for words, wanted in (
+            (("--format", "json", "a.html"), "argument --format: not allowed without argument --check"),
+            (("--format=gnu", "a.html"), "argument --format: not allowed without argument --check"),
+            (("--check", "--format", "jsn", "a.html"), "argument --format: invalid choice: 'jsn' (choose from "),
+            (("--check", "a.html", "--format"), "argument --format: expected one argument"),
+        ):
+            status, written, said = self.run_on(*words)
+            self.assertEqual((status, written), (2, b""))
+            self.assertIn("urlcheck-documents: error: " + wanted, said.decode())
+        status, written, said = self.run_on("--check", "--format", "sarif", "--base", "x", "a.html")
+        self.assertEqual((status, written), (2, b""))
+
+    def test_output_that_takes_nothing(self):
+        self.write("a.html", "<a href='x'>")
+        for form in ("sarif", "checkstyle"):
+            for shut in (">&-", ">/dev/full"):
+                line = '"{}" -m urlcheck.documents --check --format {} a.html {}'.format(sys.executable, form, shut)
+                ran = subprocess.run(["bash", "-c", line], cwd=self.room, capture_output=True)
+                self.assertEqual(ran.returncode, 3, ran.stderr)
+                self.assertNotIn(b"Traceback", ran.stderr)
+
+
+if __name__ == "__main__":
+    unittest.main()
