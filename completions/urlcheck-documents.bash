@@ -7,10 +7,11 @@ _urlcheck_documents() {
     elif [[ $word == --*=* ]]; then previous=${word%%=*} option=$previous= word=${word#*=}; fi
     case $previous in
         --profile) words='standard wide parser' ;;
+        --format) words='gnu caret json github sarif checkstyle' ;;
         --type) words='html markdown xml' ;;
         --ignore) takes_files=yes ;;
         --base | --exclude) ;;
-        *) words='--check --base --profile --type --ignore --exclude --quiet -q --help -h --version' takes_files=yes ;;
+        *) words='--check --format --base --profile --type --ignore --exclude --quiet -q --help -h --version' takes_files=yes ;;
     esac
     mapfile -t COMPREPLY < <(compgen -P "$option" -W "$words" -- "$word")
     if [[ -n $takes_files ]]; then

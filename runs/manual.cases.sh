@@ -126,6 +126,9 @@ completes 'made' --ignore ma
 completes '--ignore=made' --ignore=ma
 completes '' --exclude ma
 completes 'wide' --profile w
+completes '--format' --fo
+completes 'sarif' --check --format s
+completes 'gnu caret json github sarif checkstyle' --format =
 completes 'html markdown xml' --type =
 completes '--type=xml' --type=x
-all_cases 54
+all_cases 57

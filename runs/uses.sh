@@ -89,11 +89,11 @@ if [ -n "${URLCHECK_LIBRARY:-}" ]; then
     chmod +x ../path/urlcheck-documents
     recipe 'Links in documents' sh >../check.sh
     recipe 'Links in documents' bash >../formats.sh
-    # (a runner runs a step with `shell: bash` so)
     recipe 'Links in documents' yaml | sed -n 's/^ *run: //p' >../step.sh
     recipe 'A sitemap or a feed' sh >../feeds.sh
     sentence='U+005F LOW LINE may not stand in a domain'
-    for recipe in 'check.sh' 'formats.sh' '-eo pipefail step.sh'; do
+    # (a runner runs a step so)
+    for recipe in 'check.sh' 'formats.sh' '-e step.sh'; do
         script=../${recipe##* } options=${recipe%"${recipe##* }"}
         rm -rf docs
         ends any "documents in no folder, $recipe" bash $options "$script"
@@ -108,6 +108,14 @@ if [ -n "${URLCHECK_LIBRARY:-}" ]; then
         printf '<a>' >docs/b.xml
         ends any "a document that isn't read, $recipe" bash $options "$script"
     done
+    words=$(sed -n 's/.*judges begins with `\(urlcheck-documents [^`]*\)`\.$/\1/p' "$page")
+    recipe 'Known faults' sh | sed "s/^urlcheck lint --quiet --format json /${words:-no words} /" >../new-faults.sh
+    printf '<a href="b c">b</a>\n' >a.html
+    : >known.json
+    ends 1 'faults of a document of which none is known' sh ../new-faults.sh a.html
+    cp ../out known.json
+    ends 0 'known faults of a document' sh ../new-faults.sh a.html
+    ends 2 'known faults of a document that is missing' sh ../new-faults.sh missing.html
     printf '<urlset><loc>http://h/ b</loc></urlset>' | tee feed.xml | gzip >sitemap.xml.gz
     ends 1 'a feed and a sitemap' bash ../feeds.sh
     for place in feed.xml:1:23: -:1:23:; do
