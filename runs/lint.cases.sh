@@ -344,8 +344,8 @@ of_input 1 "-:$no_scheme" '' 'x\n' -q --stdin-name=- -
 of_input 0 '' 'urlcheck: 3 lines, 0 refused\n' 'urn:a\n' --stdin-name missing - right.txt
 of_input 1 "::error file=n%0A,line=1,col=1,title=no-scheme::there is no scheme and no base\n" '' 'x\n' -q --format github \
     --stdin-name $'n\n' -
-of_input 1 "p.md:7:8: error: there is no scheme and no base [no-scheme]\nn:2:1: error: this line isn't FILE:LINE:COLUMN:LINK \
-[not-located]\n" '' 'p.md:7:8:x\nx\n' -q --located --stdin-name n -
+of_input 1 "p.md:7:8: error: there is no scheme and no base [no-scheme]\nn:2:1: error: this line isn't FILE:LINE:COLUMN:LINK, since \
+LINE is missing [not-located]\n" '' 'p.md:7:8:x\nx\n' -q --located --stdin-name n -
 "$program" lint --stdin-name n - <"$room" >"$room/out" 2>"$room/err"
 ends_with 2 $? "${from_folder}urlcheck: 0 lines, 0 refused\\n" 'lint of a standard input that is a folder, under a name'
 unnamed='urlcheck: --stdin-name is the name of standard input: one of the FILEs has to be -\nwords\n'

@@ -172,8 +172,8 @@ for words in '--bogus --format x' '-- --format x' '- --bogus --format'; do
     refused "unexpected argument '" check $words
     ! grep -q 'is an option' "$room/err" || fail "check $words: on standard error: $(cat "$room/err")"
 done
-expect 2 '' "urlcheck: a value is required for '--base <TEXT>' but none was supplied\n\
-urlcheck: For more information, try '--help'.\nwords\n" check --base --format
+expect 2 '' "urlcheck: unexpected argument '--format' found\nurlcheck: Usage: urlcheck check [OPTIONS] <TEXT>\n\
+urlcheck: For more information, try '--help'.\nurlcheck: --format is an option of lint\nwords\n" check --base --format
 
 of_others lint check --stdin-name x y
 
@@ -182,7 +182,7 @@ count=$((count + 1))
 for command in check lint links mend; do
     "$program" help $command | sed -n '/^Options:$/,/^$/p' | grep -o -e '--[a-z0-9-]*' -e '-[a-z],' | tr -d , |
         grep -vx -e --help -e -h | sed "s/$/ $command/"
-done | sort -s -k 1,1 | awk '$1 != option { option = $1; printf "%s%s %s", NR > 1 ? "\n" : "", $1, $2; next }
+done | awk '!seen[$0]++' | sort -s -k 1,1 | awk '$1 != option { option = $1; printf "%s%s %s", (NR > 1 ? "\n" : ""), $1, $2; next }
     { printf " and %s", $2 } END { print "" }' >"$room/options"
 [ "$(wc -l <"$room/options")" -gt 8 ] || fail "the help has these options: $(cat "$room/options")"
 while read -r option takers; do
