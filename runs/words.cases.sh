@@ -172,8 +172,8 @@ for words in '--bogus --format x' '-- --format x' '- --bogus --format'; do
     refused "unexpected argument '" check $words
     ! grep -q 'is an option' "$room/err" || fail "check $words: on standard error: $(cat "$room/err")"
 done
-expect 2 '' "urlcheck: unexpected argument '--format' found\nurlcheck: Usage: urlcheck check [OPTIONS] <TEXT>\n\
-urlcheck: For more information, try '--help'.\nurlcheck: --format is an option of lint\nwords\n" check --base --format
+expect 2 '' "urlcheck: unexpected argument '--format' found\nurlcheck: Usage: $(basename "$program") check \
+[OPTIONS] <TEXT>\nurlcheck: For more information, try '--help'.\nurlcheck: --format is an option of lint\nwords\n" check --base --format
 
 of_others lint check --stdin-name x y
 
