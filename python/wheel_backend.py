@@ -10,6 +10,7 @@ import glob
 import hashlib
 import os
 import re
+import stat
 import time
 import zipfile
 
@@ -129,6 +130,7 @@ def build_wheel(wheel_directory, config_settings=None, metadata_directory=None):
         for name, data in files.items():
             entry = zipfile.ZipInfo(name, _date())
             entry.compress_type = zipfile.ZIP_DEFLATED
-            entry.external_attr = (0o755 if name.startswith(_scripts()) else 0o644) << 16
+            # (an installer makes a script executable where its mode says so, as that of a regular file)
+            entry.external_attr = (stat.S_IFREG | (0o755 if name.startswith(_scripts()) else 0o644)) << 16
             out.writestr(entry, data)
     return wheel
