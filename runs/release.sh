@@ -3,10 +3,10 @@
 # installed in a root of their own the program, the manual page and the programs of docs/LIBRARY.md work, also on an old
 # processor, all vectors pass by the program and by the libraries, and removed nothing is left. A release asks for it,
 # and no gate: it needs root's rights, `rt`, `cc`, `dpkg`, `lintian`, `man`, `pip`, `pkg-config`, `python3` and
-# `qemu-x86_64`.
+# `qemu-x86_64`, and what `./build-packages` needs.
 set -euo pipefail
 cd "$(dirname "$(realpath "$0")")/.."
-for tool in cc cmp dpkg dpkg-deb lintian man objcopy pkg-config python3 qemu-x86_64 rt; do
+for tool in cc cmp dpkg dpkg-deb lintian man objcopy pkg-config python3 qemu-x86_64 rt wasm-opt; do
     command -v $tool >/dev/null || { echo "release: $tool is missing" >&2; exit 70; }
 done
 room=$(mktemp -d)
@@ -26,6 +26,7 @@ for crate in urlcheck urlcheck_c; do
     mkdir -p "$room/other/crates/$crate/out"
     cp crates/$crate/out/x86-64* "$room/other/crates/$crate/out/"
 done
+cp -r --parents crates/*/out/rlib "$room/other"
 "$room/other/build-packages" "$room/two"
 diff -r "$room/one" "$room/two" || fail "two builds differ"
 (cd "$room/one" && sha256sum --quiet -c SHA256SUMS)
