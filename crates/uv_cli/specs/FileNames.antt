@@ -9,13 +9,13 @@ has_end name end = str_eq_ignore_ascii_case (drop (length name - length end) nam
 
 -- how the names of lists end
 abbrev pub list_ends : List (List ℕ)
-list_ends = codes ".txt" ∷ codes ".csv" ∷ codes ".tsv" ∷ codes ".json" ∷ []
+list_ends = codes ".txt" ∷ codes ".csv" ∷ codes ".tsv" ∷ codes ".json" ∷ codes ".links" ∷ []
 
--- how the names of documents end: of HTML, of XML with its feeds and outlines, and of Markdown
+-- how the names of documents end: of HTML, of XML with its feeds, and of Markdown
 abbrev pub document_ends : List (List ℕ)
 document_ends =
-    codes ".html" ∷ codes ".htm" ∷ codes ".xhtml" ∷ codes ".xml" ∷ codes ".rss" ∷ codes ".atom" ∷ codes ".opml"
-    ∷ codes ".md" ∷ codes ".markdown" ∷ []
+    codes ".html" ∷ codes ".htm" ∷ codes ".xhtml" ∷ codes ".xht" ∷ codes ".xml" ∷ codes ".rss" ∷ codes ".atom"
+    ∷ codes ".rdf" ∷ codes ".svg" ∷ codes ".md" ∷ codes ".markdown" ∷ []
 
 -- the name ends as that of a list does
 unfoldable pub has_list_end : List ℕ → Bool

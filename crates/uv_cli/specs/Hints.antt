@@ -1,11 +1,11 @@
 -- Hints at what was meant, where the arguments ask for something else: what is reported on standard error.
-use Rattle.std.specs.Prelude.{ℕ, ◌&&◌, ◌==◌, Bool, false, List, [], ◌∷◌, ◌++◌, Option, Some, String, codes, is_some}
+use Rattle.std.specs.Prelude.{ℕ, ◌&&◌, ◌==◌, Bool, false, List, [], ◌∷◌, ◌++◌, Option, None, Some, String, codes, is_some}
 use Rattle.std.specs.Prelude.{not, string_bytes, if◌then◌else◌}
 use Rattle.std.specs.List.{list_any}
 use Rattle.std.specs.Str.{bytes_eq}
 use Rattle.std.specs.declared.alloc.Global.{Global}
 use Rattle.clap.specs.declared.error.kind.ErrorKind.{ErrorKind}
-use Rattle.clap.specs.declared.error.kind.ErrorKind.TheVariants.{UnknownArgument}
+use Rattle.clap.specs.declared.error.kind.ErrorKind.TheVariants.{MissingRequiredArgument, UnknownArgument}
 use Rattle.uv_report.specs.Escapes.{shown_text}
 use Rattle.uv_words.specs.declared.words.Job.{Job}
 use Rattle.uv_words.specs.declared.words.Job.TheVariants as job
@@ -23,12 +23,18 @@ abbrev pub text_line : List ℕ → List ℕ → List ℕ
 text_line text instead =
     codes "urlcheck: " ++ (shown_text text ++ (codes " is the text here; " ++ (instead ++ codes "\n")))
 
+-- what is said of the name of a file: of a document's the one, of a list's these words
+abbrev pub of_file : List ℕ → List ℕ → List ℕ
+of_file name of_list =
+    if has_document_end name then codes "urlcheck-documents --check FILE judges the links of a document" else of_list
+
 -- the hint of a text that is refused against a base or alone: these words where it is `-`, which is no name of standard
--- input there, and those where it looks like the name of a file; against a base it may be right
+-- input there, and where it looks like the name of a file those, or what is said of a document; against a base it may be
+-- right
 unfoldable pub text_hint : List ℕ → Bool → List ℕ → List ℕ → List ℕ
-text_hint text has_base of_input of_file =
+text_hint text has_base of_input of_list =
     if bytes_eq text (codes "-") then text_line text of_input
-    else (if not has_base && names_file text then text_line text of_file else [])
+    else (if not has_base && names_file text then text_line text (of_file text of_list) else [])
 
 -- one of the names ends as that of a document does
 abbrev pub has_document : List (String Global) → Bool
@@ -54,7 +60,7 @@ job_hint (job.Check text base extent profile) Refused =
     (codes "lint FILE judges the lines of a file")
 job_hint (job.Mend text base profile) Refused =
     text_hint (string_bytes text) (is_some base) (codes "mend without a TEXT reads standard input")
-    (codes "mend without a TEXT reads standard input")
+    (codes "mend <FILE mends the lines of a file")
 job_hint (job.Lint asked) (Linted lint) = lint_hint asked lint
 job_hint other end = []
 
@@ -74,10 +80,17 @@ abbrev pub is_file_of : Option (List ℕ) → Option (List ℕ) → Bool
 is_file_of (Some command) (Some last) = bytes_eq command (codes "links") && not (begins_with_hyphen last)
 is_file_of _ _ = false
 
+-- the command is `lint`
+abbrev pub is_lint : Option (List ℕ) → Bool
+is_lint (Some command) = bytes_eq command (codes "lint")
+is_lint None = false
+
 -- the hint where words of this command, with this last one, are refused for this reason: of `links` with a word too
--- many, whose last one may be a file
+-- many, whose last one may be a file, and of `lint` without a file
 abbrev pub words_hint : Option (List ℕ) → Option (List ℕ) → ErrorKind → List ℕ
 words_hint command last UnknownArgument =
     if is_file_of command last
     then codes "urlcheck: links reads standard input, and takes no file: urlcheck links <FILE\n" else []
+words_hint command last MissingRequiredArgument =
+    if is_lint command then codes "urlcheck: lint reads standard input as the FILE -\n" else []
 words_hint command last other = []

@@ -5,17 +5,19 @@ ghost use Rattle.uv_cli.specs.FileNames.{has_document_end, has_end, has_file_end
 ghost use Rattle.uv_cli.specs.FileNames.{names_file};
 
 // How the names of lists end.
-const LIST_ENDS: [&str; 4] = [".txt", ".csv", ".tsv", ".json"];
+const LIST_ENDS: [&str; 5] = [".txt", ".csv", ".tsv", ".json", ".links"];
 
-// How the names of documents end: of HTML, of XML with its feeds and outlines, and of Markdown.
-const DOCUMENT_ENDS: [&str; 9] = [
+// How the names of documents end: of HTML, of XML with its feeds, and of Markdown.
+const DOCUMENT_ENDS: [&str; 11] = [
     ".html",
     ".htm",
     ".xhtml",
+    ".xht",
     ".xml",
     ".rss",
     ".atom",
-    ".opml",
+    ".rdf",
+    ".svg",
     ".md",
     ".markdown",
 ];

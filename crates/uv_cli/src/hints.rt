@@ -1,7 +1,7 @@
 //! Hints at what was meant, where the arguments ask for something else: what is reported on standard error.
 ghost use Rattle.std.specs.Prelude.{◌≡◌, IfOk, option_copied, string_bytes};
-ghost use Rattle.uv_cli.specs.Hints.{begins_with_hyphen, folder_hint, has_document, is_file_of, is_of_documents};
-ghost use Rattle.uv_cli.specs.Hints.{job_hint, lint_hint, text_hint, text_line, words_hint};
+ghost use Rattle.uv_cli.specs.Hints.{begins_with_hyphen, folder_hint, has_document, is_file_of, is_lint};
+ghost use Rattle.uv_cli.specs.Hints.{is_of_documents, job_hint, lint_hint, of_file, text_hint, text_line, words_hint};
 
 use crate::ends::End;
 use crate::file_names::{has_document_end, names_file};
@@ -15,11 +15,17 @@ use uv_words::{Job, LintJob};
 // What `check` is told where its text is the standard input's name.
 const INPUT_OF_CHECK: &str = "lint - and links read standard input";
 
-// What `check` is told where its text looks like the name of a file.
-const FILE_OF_CHECK: &str = "lint FILE judges the lines of a file";
+// What `check` is told where its text looks like the name of a list.
+const LIST_OF_CHECK: &str = "lint FILE judges the lines of a file";
 
-// What `mend` is told in both cases.
+// What `mend` is told where its text is the standard input's name.
 const INPUT_OF_MEND: &str = "mend without a TEXT reads standard input";
+
+// What `mend` is told where its text looks like the name of a list.
+const LIST_OF_MEND: &str = "mend <FILE mends the lines of a file";
+
+// What both are told where their text looks like the name of a document.
+const DOCUMENT: &str = "urlcheck-documents --check FILE judges the links of a document";
 
 // What is said where a lint refuses lines of a document.
 const OF_DOCUMENTS: &str =
@@ -33,6 +39,9 @@ const OF_FOLDERS: &str =
 const NO_FILE_OF_LINKS: &str =
     "urlcheck: links reads standard input, and takes no file: urlcheck links <FILE\n";
 
+// What is said where `lint` is given no file.
+const INPUT_OF_LINT: &str = "urlcheck: lint reads standard input as the FILE -\n";
+
 /// The hint behind a job that ended so, or nothing: of a text that is refused, where it is `-`, or looks like the name
 /// of a file and has no base; and of a lint that refuses lines of a document.
 pub(crate) fn job_hint(alloc: Global, job: &Job, end: End) -> Result<String, AllocError>
@@ -44,39 +53,50 @@ pub(crate) fn job_hint(alloc: Global, job: &Job, end: End) -> Result<String, All
             text.as_str(),
             base.is_some(),
             INPUT_OF_CHECK,
-            FILE_OF_CHECK,
+            LIST_OF_CHECK,
         ),
         (Job::Mend { text, base, .. }, End::Refused) => text_hint(
             alloc,
             text.as_str(),
             base.is_some(),
             INPUT_OF_MEND,
-            INPUT_OF_MEND,
+            LIST_OF_MEND,
         ),
         (Job::Lint(asked), End::Linted(linted)) => lint_hint(alloc, asked, linted),
         _ => Ok(String::new(alloc)),
     }
 }
 
-// The hint of a text that is refused against a base or alone, or nothing: these words where it is `-`, and those where
-// it looks like the name of a file.
+// The hint of a text that is refused against a base or alone, or nothing: these words where it is `-`, and where it
+// looks like the name of a file those, or what is said of a document.
 #[tactic(auto, unfolding(crate::specs::Hints::text_hint))]
 fn text_hint(
     alloc: Global,
     text: &str,
     has_base: bool,
     of_input: &str,
-    of_file: &str,
+    of_list: &str,
 ) -> Result<String, AllocError>
-    ensures { IfOk result (λ hint. string_bytes hint ≡ text_hint text.now has_base of_input.now of_file.now) }
+    ensures { IfOk result (λ hint. string_bytes hint ≡ text_hint text.now has_base of_input.now of_list.now) }
 {
     if text == "-" {
         return text_line(alloc, text, of_input);
     }
     if !has_base && names_file(text) {
-        return text_line(alloc, text, of_file);
+        return text_line(alloc, text, of_file(text, of_list));
     }
     Ok(String::new(alloc))
+}
+
+// What is said of the name of a file: of a document's the one, of a list's these words.
+fn of_file<'w>(name: &str, of_list: &'w str) -> &'w str
+    ensures { result.now ≡ of_file name.now of_list.now }
+{
+    if has_document_end(name) {
+        DOCUMENT
+    } else {
+        of_list
+    }
 }
 
 // The line of a text that was likely meant as something else.
@@ -131,7 +151,7 @@ pub(crate) fn folder_hint(why: Unread) -> &'static str
 }
 
 /// The hint where words of this command, with this last one, are refused for this reason, or nothing: of `links` with a
-/// word too many, whose last one doesn't look like an option.
+/// word too many, whose last one doesn't look like an option, and of `lint` without a file.
 pub(crate) fn words_hint(
     alloc: Global,
     command: Option<&str>,
@@ -145,7 +165,20 @@ pub(crate) fn words_hint(
         ErrorKind::UnknownArgument if is_file_of(command, last) => {
             String::from_str(alloc, NO_FILE_OF_LINKS)
         }
+        ErrorKind::MissingRequiredArgument if is_lint(command) => {
+            String::from_str(alloc, INPUT_OF_LINT)
+        }
         _ => Ok(String::new(alloc)),
+    }
+}
+
+// Whether the command is `lint`.
+fn is_lint(command: Option<&str>) -> bool
+    ensures { result ≡ is_lint (option_copied command.entry) }
+{
+    match command {
+        Some(command) => command == "lint",
+        None => false,
     }
 }
 

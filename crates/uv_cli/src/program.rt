@@ -189,9 +189,11 @@ fn shown<R: Print + Eprint + AllocGlobal>(rt: &R, words: &[&str], fault: &WordsF
     let option = foreign_option(words, error.kind());
     say(rt, clap_lines(rt.alloc(), error, option.is_some()));
     say(rt, option_hint(rt.alloc(), option));
-    // (before the command stands the program's name)
-    let (command, last) = (words.get(1).copied(), words.last().copied());
-    say(rt, words_hint(rt.alloc(), command, last, error.kind()));
+    if option.is_none() {
+        // (before the command stands the program's name)
+        let (command, last) = (words.get(1).copied(), words.last().copied());
+        say(rt, words_hint(rt.alloc(), command, last, error.kind()));
+    }
     open(end)
 }
 
