@@ -356,7 +356,7 @@ expect 2 '' "urlcheck: no profile is named 'n'\\nurlcheck: the profiles: standar
 
 # A hint where lines are refused, one of the files has the name of a document, and counts are wanted.
 of_documents='urlcheck: lint takes a link a line; urlcheck-documents FILE judges the links of a document\n'
-for end in html htm xhtml xml rss atom opml md markdown MD; do
+for end in html htm xhtml xht xml rss atom rdf svg md markdown MD; do
     printf '<a href="b">\n' >"$room/page.$end"
     expect 1 "page.$end:1:1: error: there is no scheme and no base [no-scheme]\n" \
         "${of_documents}urlcheck: 1 line, 1 refused\n" lint page.$end

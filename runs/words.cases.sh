@@ -123,15 +123,20 @@ expect 2 '' "$(no_base 0 no-scheme 'it has no scheme')" check --base - -
 
 # So does one where a refused text has no base and looks like the name of a file: it has no `:`, `?`, `#` or space, and
 # ends in a dot and what lists and documents end in, in any case. Whether there is such a file doesn't matter.
-file_of_check='is the text here; lint FILE judges the lines of a file\n'
-file_of_mend='is the text here; mend without a TEXT reads standard input\n'
-for end in txt csv tsv json html htm xhtml xml rss atom opml md markdown; do
-    expect 1 'refused 0 no-scheme\n' "urlcheck: links.$end $file_of_check" check links.$end
-    expect 1 'none\nrefused 0 no-scheme\n' "urlcheck: .${end^^} $file_of_mend" mend .${end^^}
+list_of_check='is the text here; lint FILE judges the lines of a file\n'
+list_of_mend='is the text here; mend <FILE mends the lines of a file\n'
+document='is the text here; urlcheck-documents --check FILE judges the links of a document\n'
+for end in txt csv tsv json links; do
+    expect 1 'refused 0 no-scheme\n' "urlcheck: links.$end $list_of_check" check links.$end
+    expect 1 'none\nrefused 0 no-scheme\n' "urlcheck: .${end^^} $list_of_mend" mend .${end^^}
 done
-expect 1 'refused 0 no-scheme\n' "urlcheck: ../a/x.y.Html $file_of_check" check --all --wide -- ../a/x.y.Html
-expect 1 'refused 0 no-scheme\nrefused 1 code-point\n' "urlcheck: a\0357\0277\0275.md $file_of_check" check --all $'a\e.md'
-for text in html x.htmlx x.html/ x.ht .h xhtml links.txt~ 'a b.html' a?b.html a#b.html .json.gz; do
+for end in html htm xhtml xht xml rss atom rdf svg md markdown; do
+    expect 1 'refused 0 no-scheme\n' "urlcheck: page.$end $document" check page.$end
+    expect 1 'none\nrefused 0 no-scheme\n' "urlcheck: .${end^^} $document" mend .${end^^}
+done
+expect 1 'refused 0 no-scheme\n' "urlcheck: ../a/x.y.Html $document" check --all --wide -- ../a/x.y.Html
+expect 1 'refused 0 no-scheme\nrefused 1 code-point\n' "urlcheck: a\0357\0277\0275.md $document" check --all $'a\e.md'
+for text in html x.opml x.htmlx x.html/ x.ht .h xhtml links.txt~ 'a b.html' a?b.html a#b.html .json.gz; do
     expect 1 'refused 0 no-scheme\n' '' check "$text"
 done
 expect 1 'none\nrefused 0 no-scheme\n' '' mend 'x?y.md'
@@ -140,6 +145,11 @@ expect 1 'none\nrefused 0 opaque-base\n' '' mend --base urn:a page.html
 expect 1 'refused 7 host-domain\n' '' check http://a_b/page.html
 expect 0 'valid\nscheme http\nhost domain h\nsegment page.html\n' '' check --base http://h/ page.html
 expect 2 '' "$(no_base 0 no-scheme 'it has no scheme')" check --base page.html page.html
+
+# A lint without a file: a hint at standard input.
+expect 2 '' "urlcheck: the following required arguments were not provided:\nurlcheck:   <FILE>...\n\
+urlcheck: Usage: $(basename "$program") lint <FILE>...\nurlcheck: For more information, try '--help'.\n\
+urlcheck: lint reads standard input as the FILE -\nwords\n" lint
 
 # An option that another command takes: which commands these are, in place of the tip to hand it over as a text.
 # of_others COMMANDS COMMAND WORD.. : these words of a command are refused for the first of them, which these commands take
