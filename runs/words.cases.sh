@@ -48,7 +48,7 @@ usage="urlcheck: Usage: $(basename "$program") links [OPTIONS]\nurlcheck: For mo
 of_all='urlcheck: --all is an option of check and lint\n'
 expect 2 '' "urlcheck: unexpected argument 'x' found\n$usage$no_file\nwords\n" links x
 expect 2 '' "urlcheck: unexpected argument 'links.txt' found\n$usage$no_file\nwords\n" links --base http://h/ links.txt
-expect 2 '' "urlcheck: unexpected argument '--all' found\n$usage$of_all$no_file\nwords\n" links --all links.txt
+expect 2 '' "urlcheck: unexpected argument '--all' found\n$usage$of_all""words\n" links --all links.txt
 expect 2 '' "urlcheck: unexpected argument '--all' found\n$usage$of_all""words\n" links --all
 refused "'--format'" mend --format gnu
 refused "'b'" mend a b
