@@ -7,13 +7,12 @@ import re
 import resource
 import subprocess
 import sys
-import tempfile
 import unittest
 
+from room import PROGRAM, Room
 from urlcheck._streams import REASONS, reason_of
 
 TOP = os.path.join(os.path.dirname(os.path.abspath(__file__)), "..", "..")
-PROGRAM = [sys.executable, "-m", "urlcheck.documents"]
 
 PAGE = """<!DOCTYPE html><title>x <a href="no link"></title>
 <base href="http://h/a/b">
@@ -93,20 +92,11 @@ NOTES_LINKS = """1:13:http://h/a%20b
 """
 
 
-class Documents(unittest.TestCase):
-    def setUp(self):
-        room = tempfile.TemporaryDirectory()
-        self.addCleanup(room.cleanup)
-        self.room = room.name
-
-    def write(self, name, text):
-        with open(os.path.join(self.room, name), "wb") as file:
-            file.write(text if isinstance(text, bytes) else text.encode())
-
+class Documents(Room):
     def run_on(self, *words, stdin=b""):
-        """The status, what was written, and what was said on standard error."""
-        ran = subprocess.run([*PROGRAM, *words], cwd=self.room, input=stdin, capture_output=True)
-        return ran.returncode, ran.stdout.decode(), ran.stderr.decode()
+        """The same as texts."""
+        status, out, err = super().run_on(*words, stdin=stdin)
+        return status, out.decode(), err.decode()
 
     def finds(self, name, text, links):
         self.write(name, text)

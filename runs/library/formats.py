@@ -9,14 +9,13 @@ import json
 import os
 import subprocess
 import sys
-import tempfile
 import unittest
 from xml.etree import ElementTree
 
 import urlcheck
+from room import PROGRAM, Room
 
 LINT = [os.path.realpath(sys.argv.pop(1)), "lint", "--quiet", "--located"] if len(sys.argv) > 1 else []
-PROGRAM = [sys.executable, "-m", "urlcheck.documents"]
 FORMATS = ("gnu", "caret", "json", "github", "sarif", "checkstyle")
 BASE = "https://example.com/"
 
@@ -54,24 +53,8 @@ def long_links():
     yield "x" * 32_000 + "^" + "\u00e9" * 16_000
 
 
-class Room(unittest.TestCase):
-    """A folder, and runs in it."""
-
-    def setUp(self):
-        room = tempfile.TemporaryDirectory()
-        self.addCleanup(room.cleanup)
-        self.room = room.name
-
-    def write(self, name, text):
-        path = os.path.join(os.fsencode(self.room), os.fsencode(name))
-        os.makedirs(os.path.dirname(path), exist_ok=True)
-        with open(path, "wb") as file:
-            file.write(text.encode())
-
-    def run_on(self, *words, program=PROGRAM, stdin=b""):
-        """The status, what was written, and what was said on standard error."""
-        ran = subprocess.run([*program, *words], cwd=self.room, input=stdin, capture_output=True)
-        return ran.returncode, ran.stdout, ran.stderr
+class Reported(Room):
+    """Reports on the documents of a folder."""
 
     def reported(self, form, *words):
         """What is written in a format of the links of what is named."""
@@ -83,7 +66,7 @@ class Room(unittest.TestCase):
 
 
 @unittest.skipUnless(LINT, "no program is named to hold the formats against")
-class Compared(Room):
+class Compared(Reported):
     """Documents without a base of their own and without character references: `lint` writes the same."""
 
     def same(self, name, base=BASE, profile="standard", forms=FORMATS):
@@ -158,7 +141,7 @@ def difference(found, wanted):
     return first and "it writes\n{}\nand not\n{}".format(*(line[:1000].decode("utf-8", "replace") for line in first))
 
 
-class Alone(Room):
+class Alone(Reported):
     """What no located line says."""
 
     def test_a_base_of_the_document(self):
