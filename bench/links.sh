@@ -3,15 +3,22 @@
 # bench_second) and of `wc -l`, least of so many rounds with a run of each in turn, the start of each program taken off;
 # and the peak of resident memory of `urlcheck links` on 10,000 lines and on all. It wants that `urlcheck links` costs
 # at most 1.6 times the second parser alone, that a line of the long list costs what one of the short list costs within
-# 10 %, and that its memory is the same on both, within 256 KiB, and below 10 MB. It fails where a program is missing, a
-# figure is empty, an answer isn't the wanted one, or a bound is broken.
+# 10 %, and that its memory is the same on both, within 256 KiB, and below 10 MB. With --registry FOLDER also the time of
+# Rust's crate `url` with its validation errors counted, which reports on each line alike: `urlcheck links` is to cost at
+# most 0.75 of that. FOLDER has the sources of 2.5 or newer, as Debian's librust-url-dev has them. It fails where a program
+# is missing, a figure is empty, an answer isn't the wanted one, or a bound is broken.
 # Usage: bench/links.sh [--seed SEED] [--count COUNT] [--rounds ROUNDS] [--program FILE] [--second FILE]
+#        [--registry FOLDER]
 set -euo pipefail
 top=$(dirname "$(dirname "$(realpath "$0")")")
 seed=1 count=1000000 short=10000 rounds=5
 program=$top/crates/urlcheck/out/urlcheck second=$top/crates/bench_second/out/bench_second
+registry=
 . "$top/bench/words.sh"
-words seed count rounds program second -- "$@"
+words seed count rounds program second registry -- "$@"
+asked=$registry
+. "$top/bench/peers/build.sh"
+registry=$asked
 ((count >= 10 * short && rounds > 0)) || { echo "at least $((10 * short)) lines and one round"; exit 2; }
 for file in "$program" "$second"; do
     [ -x "$file" ] || { echo "$file is no program: build its crate first (rt run)"; exit 2; }
@@ -23,6 +30,14 @@ fail() {
     echo "FAILED: $*"
     failed=1
 }
+
+names=(links second wc)
+if [ -n "$registry" ]; then
+    [[ $(cd "$registry" && printf '%s\n' url-*) =~ url-(2\.([5-9]|[1-9][0-9])|[3-9])\. ]] ||
+        { echo "$registry has no sources of the crate url 2.5 or newer"; exit 2; }
+    build_url "$room/url" url_lines.rs || exit 1
+    names+=(url)
+fi
 
 python3 "$top/bench/links.py" "$count" "$seed" >"$room/long"
 head -n $short "$room/long" >"$room/short"
@@ -44,6 +59,16 @@ answers() {
     awk '$2 == "bad" { print $1 }' "$room/report" | cmp -s - "$room/wanted" || fail "$1: other lines are bad"
     [ "$(grep -c '' "$room/report")" = $((lines + 1)) ] || fail "$1: the report has another number of lines"
     [ "$("$second" <"$room/$1")" = "$lines lines, $lines parsed" ] || fail "$1: the second parser: $("$second" <"$room/$1")"
+    [ -z "$registry" ] || url_answers "$1" "$lines"
+}
+
+# url_answers LIST LINES : the crate `url` writes of each line that both accept what `urlcheck links` does, and of one in
+# twenty at most something else
+url_answers() {
+    "$room/url/target/release/peer" <"$room/$1" >"$room/of_url"
+    [ "$(grep -c '' "$room/of_url")" = $(($2 + 1)) ] || fail "$1: the crate url reports another number of lines"
+    same=$(comm -12 <(grep ' ok ' "$room/report" | sort) <(grep ' ok ' "$room/of_url" | sort) | grep -c '')
+    ((same * 20 >= $2 * 19)) || fail "$1: the crate url accepts $same of $2 lines with the same text"
 }
 answers short
 answers long
@@ -54,6 +79,7 @@ once() {
         links) "$program" links ;;
         second) "$second" ;;
         wc) wc -l ;;
+        url) "$room/url/target/release/peer" ;;
     esac <"$room/$2" >/dev/null || true
 }
 
@@ -67,7 +93,7 @@ spent() {
 declare -A least
 runs=$((count / short))
 for ((round = 0; round < rounds; round++)); do
-    for name in links second wc; do
+    for name in "${names[@]}"; do
         for list in long short empty; do
             times=$runs
             if [ $list = long ]; then times=1; fi
@@ -121,6 +147,12 @@ echo "the second parser alone: $alone ns a line"
 echo "wc -l: $lines ns a line"
 echo "urlcheck links to the second parser alone: $(ratio "$links" "$alone")"
 echo "urlcheck links to wc -l: $(ratio "$links" "$lines")"
+if [ -n "$registry" ]; then
+    of_url=$(cost url long)
+    awk -v f="$of_url" 'BEGIN { exit !(f > 0) }' || { echo "a figure is empty or zero: '$of_url'"; exit 1; }
+    echo "the crate url with its validation errors: $of_url ns a line"
+    echo "urlcheck links to that: $(ratio "$links" "$of_url")"
+fi
 echo "peak of resident memory: $peak_short KiB on $short lines, $peak_long KiB on $count"
 
 # holds CONDITION WORDS.. : a bound that the figures keep
@@ -128,6 +160,7 @@ holds() {
     awk "BEGIN { exit !($1) }" || fail "${*:2}"
 }
 holds "$links <= 1.6 * $alone" "more than 1.6 times the second parser alone"
+[ -z "$registry" ] || holds "$links <= 0.75 * $of_url" "more than 0.75 of the crate url with its validation errors"
 holds "$links <= 1.1 * $links_short && $links_short <= 1.1 * $links" "the cost a line changes with the length by more than 10 %"
 holds "$peak_long <= $peak_short + 256 && $peak_short <= $peak_long + 256" "the memory changes with the length"
 holds "$peak_long < 10000 && $peak_short < 10000" "the memory isn't below 10 MB"

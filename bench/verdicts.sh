@@ -105,7 +105,7 @@ else
     echo 'without Ada: give the folder of a release by --ada'
 fi
 
-if [ "$call $base" = 'check -' ] && has_url && build_url "$room/url"; then
+if [ "$call $base" = 'check -' ] && has_url && build_url "$room/url" url.rs; then
     names+=(url)
     program[url]=$room/url/target/release/peer mode[url]=check
 fi

@@ -1,4 +1,5 @@
-# Sourced by bench/verdicts.sh: how the drivers of its peers are built. `$top` is the top of this repository.
+# Sourced by bench/verdicts.sh and bench/links.sh: how the drivers of their peers are built. `$top` is the top of this
+# repository, and `$registry` a folder with sources of crates.
 registry=/usr/share/cargo/registry
 
 # build_ada FOLDER PROGRAM : Ada's driver, over the sources of a release
@@ -12,10 +13,10 @@ has_url() {
     command -v cargo >/dev/null && compgen -G "$registry/url-*" >/dev/null
 }
 
-# build_url FOLDER : the driver of the crate `url`, which is target/release/peer in the folder
+# build_url FOLDER DRIVER : a driver of the crate `url`, which is target/release/peer in the folder
 build_url() {
     mkdir -p "$1/src" "$1/.cargo"
-    cp "$top/bench/peers/url.rs" "$1/src/main.rs"
+    cp "$top/bench/peers/$2" "$1/src/main.rs"
     printf '[package]\nname = "peer"\nversion = "0.1.0"\nedition = "2021"\n[dependencies]\nurl = "2"\n' >"$1/Cargo.toml"
     printf '[source.crates-io]\nreplace-with = "debian"\n[source.debian]\ndirectory = "%s"\n' "$registry" \
         >"$1/.cargo/config.toml"
