@@ -65,6 +65,8 @@ for page in urlcheck.1 urlcheck-documents.1; do
     grep -qF "urlcheck $version" man/$page || fail "man/$page has another version than VERSION"
 done
 grep -qF "rev: v$version " docs/USES.md || fail "docs/USES.md names another tag than VERSION"
+[ "$(grep -oE '(/v|urlcheck-)[0-9]+[.][0-9]+[.][0-9]+' docs/USES.md | sort -u | xargs)" = "/v$version urlcheck-$version" ] ||
+    fail "docs/USES.md fetches another release than that of VERSION"
 grep -qE "^## $version - [0-9]{4}-[0-9]{2}-[0-9]{2}$" CHANGELOG.md ||
     fail "CHANGELOG.md has no '## $version - ' with its day"
 

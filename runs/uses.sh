@@ -245,36 +245,80 @@ if has git && has pre-commit; then
     grep -q 'x.links:1:11: error' "$room/out" || { echo "FAILED: pre-commit says: $(cat "$room/out")"; failed=1; }
 fi
 
-# The program of a release, put where a job finds it; one whose bytes are others isn't.
-in_folder fetched
-cp "$room/path/urlcheck" urlcheck-0-x86_64-linux
-{ sha256sum urlcheck-0-x86_64-linux && echo "$(printf '%064d' 0)  another"; } >SHA256SUMS
-recipe 'GitHub and GitLab' sh >../fetched.sh
-ends 0 'a program that was fetched' bash -e ../fetched.sh
-ends 0 'the program that is put there' "$HOME/.local/bin/urlcheck" check $right
-rm -r "$HOME/.local"
-echo x >>urlcheck-0-x86_64-linux
-ends any 'a program with other bytes' bash -e ../fetched.sh
-[ ! -e "$HOME/.local" ] || { echo 'FAILED: a program with other bytes is put there'; failed=1; }
+# The workflows: each script that a runner gives to its shell, as a reader of YAML finds it.
+try_workflows() {
+    local number step
+    in_folder jobs
+    recipe 'GitHub and GitLab' yaml >../workflow-1.yml
+    recipe 'GitHub and GitLab' yaml 2 >../workflow-2.yml
+    recipe 'GitHub and GitLab' yaml 3 >../workflow-3.yml
+    cat >../steps.py <<'PYTHON'
+import sys, yaml
+count = 0
+for name in sys.argv[1:]:
+    found = yaml.safe_load(open(name))
+    steps = found if isinstance(found, list) else found.get("jobs", {}).get("links", {}).get("steps")
+    scripts = [step["run"] for step in steps if "run" in step] if steps else [
+        "\n".join(found["links"][part]) for part in ("before_script", "script")]
+    for script in scripts:
+        count += 1
+        open("../step-%d" % count, "w").write(script)
+PYTHON
+    rm -f ../step-[0-9]
+    ends 0 'the workflows are YAML' python3 ../steps.py ../workflow-1.yml ../workflow-2.yml ../workflow-3.yml
+    [ "$(printf '%s ' ../step-[0-9])" = '../step-1 ../step-2 ../step-3 ../step-4 ../step-5 ' ] ||
+        { echo "FAILED: docs/USES.md has other steps: $(printf '%s ' ../step-*)"; failed=1; }
+    [ "$(grep -c 'PROGRAM: urlcheck' ../workflow-[13].yml | xargs)" = '../workflow-1.yml:1 ../workflow-3.yml:1' ] ||
+        { echo 'FAILED: docs/USES.md names the program of a release otherwise'; failed=1; }
+    try_fetching 1
+    try_fetching 4
+    for step in ../step-2 ../step-3 ../step-5; do
+        rm -rf docs
+        mkdir docs
+        ends 2 "without a list: $(head -n 1 $step)" bash -eo pipefail $step
+        echo $right >docs/a.links
+        ends 0 "right: $(head -n 1 $step)" bash -eo pipefail $step
+        echo "$wrong" >'docs/two words.links'
+        ends 1 "wrong: $(head -n 1 $step)" bash -eo pipefail $step
+    done
+    grep -q code-point urlcheck.sarif || { echo 'FAILED: urlcheck.sarif lacks the wrong place'; failed=1; }
+    python3 -c 'import json
+found, = json.load(open("links-quality.json"))
+assert found["location"] == {"path": "docs/two words.links", "lines": {"begin": 1}}, found
+assert found["check_name"] == "code-point" and found["description"] and found["fingerprint"] and found["severity"] == "major"' ||
+        { echo "FAILED: the report for GitLab: $(cat links-quality.json)"; failed=1; }
+}
 
-# The steps of workflows: each line that a runner gives to its shell.
-in_folder jobs
-number=0
-{ recipe 'GitHub and GitLab' yaml 1; recipe 'GitHub and GitLab' yaml 2; recipe 'GitHub and GitLab' yaml 3; } |
-    sed -n 's/^ *-\{0,1\} *run: //p; s/^    - urlcheck/urlcheck/p' >../steps
-[ "$(wc -l <../steps)" = 3 ] || { echo "FAILED: docs/USES.md has other steps: $(cat ../steps)"; failed=1; }
-while IFS= read -r step; do
-    rm -rf docs
-    mkdir docs
-    ends 2 "without a list: $step" bash -e -c "$step"
-    echo $right >docs/a.links
-    ends 0 "right: $step" bash -e -c "$step"
-    echo "$wrong" >'docs/two words.links'
-    ends 1 "wrong: $step" bash -e -c "$step"
-done <../steps
-for report in urlcheck.sarif:code-point links.xml:code-point; do
-    grep -q "${report#*:}" "${report%:*}" || { echo "FAILED: ${report%:*} lacks the wrong place"; failed=1; }
-done
+# try_fetching NUMBER : a step that gets the program of a release, put where a job finds it; one whose bytes are others isn't
+try_fetching() {
+    local program
+    program=$(sed -n 's/^ *PROGRAM: //p' ../workflow-1.yml)
+    rm -rf release fetched
+    mkdir release fetched
+    cp "$room/path/urlcheck" "release/$program"
+    { (cd release && sha256sum "$program") && echo "$(printf '%064d' 0)  another"; } >sums
+    mv sums release/SHA256SUMS
+    cd fetched || exit 1
+    fetch=(env RELEASE="file://$room/jobs/release" PROGRAM="$program" GITHUB_PATH="$room/jobs/paths" bash -eo pipefail "../../step-$1")
+    ends 0 'a program that was fetched' "${fetch[@]}"
+    ends 0 'the program that is put there' "$HOME/.local/bin/urlcheck" check $right
+    [ "$(cat ../paths)" = "$HOME/.local/bin" ] || { echo "FAILED: a later step looks into: $(cat ../paths)"; failed=1; }
+    rm -r "$HOME/.local"
+    echo x >>"../release/$program"
+    ends any 'a program with other bytes' "${fetch[@]}"
+    rm ../release/SHA256SUMS "$program"
+    ends any 'a release without its checksums' "${fetch[@]}"
+    [ ! -e "$HOME/.local" ] || { echo 'FAILED: a program with other bytes is put there'; failed=1; }
+    cd ..
+}
+
+if has jq && has curl; then
+    if python3 -c 'import yaml' 2>/dev/null; then
+        try_workflows
+    else
+        echo "uses: the recipes for GitHub and GitLab are left out, since Python's package yaml isn't installed"
+    fi
+fi
 
 # Editors: the place they go to, in a line with wide and combining characters and a tab before it.
 in_folder editors
