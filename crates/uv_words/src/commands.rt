@@ -20,6 +20,7 @@ Example:
   urlcheck check 'http://h/a b'";
 
 const CHECK_NOTES: &str = "Prints `valid` and the parts of the URL, or `refused PLACE RULE`.
+PLACE counts code points from 0, and `urlcheck explain RULE` says more.
 
 Exit statuses:
   0  the text is valid
@@ -42,7 +43,9 @@ Exit statuses:
 Example:
   urlcheck lint --format caret links.txt";
 
-const LINKS_NOTES: &str = "Prints a line for each line, and at the end how many are ok.
+const LINKS_NOTES: &str =
+    "Prints `N ok URL`, `N bad PLACE RULE` or `N differs` for line N, and at the end the counts.
+A line differs where a second parser, the crate `url`, makes another URL of it.
 
 Exit statuses:
   0  each line is ok
@@ -248,7 +251,7 @@ fn all<'a>(alloc: Global) -> Arg<'a>
     ensures rule { rule_of result ≡ flag_rule (codes "all") }
     ensures local { result.global ≡ false }
 {
-    let help = "Prints all violations of a text, and not the first alone";
+    let help = "Prints each violation, and not the first alone";
     flag(alloc, "all", help)
 }
 
@@ -329,9 +332,9 @@ fn text<'a>(alloc: Global) -> Arg<'a>
     ensures rule { rule_of result ≡ text_rule }
     ensures local { result.global ≡ false }
 {
-    Arg::new(alloc, "TEXT")
-        .required(true)
-        .help("The text to check; after -- where it begins with -")
+    Arg::new(alloc, "TEXT").required(true).help(
+        "The text to check, in quotes for the shell; after -- where it begins with -",
+    )
 }
 
 fn mended<'a>(alloc: Global) -> Arg<'a>
