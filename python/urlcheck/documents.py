@@ -5,24 +5,24 @@ each link, as ``rg --vimgrep -o`` does; with ``--check`` it judges them, and rep
 those that ``urlcheck lint --located -`` reads, which judges them too.
 """
 
-import argparse
 import codecs
 import os
 import re
 import resource
 import signal
 import sys
-from typing import List, NamedTuple, Optional, Set, Tuple
+from typing import List, NamedTuple, Optional, Set
 
-from . import BaseRefused, Profile, check, version
+from . import BaseRefused, Profile, check
 from . import _html_links, _markdown_links, _xml_links
 from ._apart import MOST_MEMORY, Taken, apart, nothing
-from ._folders import KINDS, Excluded, documents_of, kind_of, no_document
-from ._judge import SOMEWHERE, Judge
+from ._folders import documents_of, kind_of, no_document
+from ._judge import Judge
 from ._message import message
-from ._report import FORMATS, Format, Report, named
+from ._report import Report, named
 from ._source import Broken, Link, Source
 from ._streams import closed, flush, reason_of, stop, tell, write, write_nowhere
+from ._words import Settings, asked
 
 MOST_BYTES = 32 * 1024 * 1024
 """How many bytes a document may have."""
@@ -33,17 +33,6 @@ MARKDOWN = "the package markdown-it-py: pip install markdown-it-py, or Debian's 
 
 class Unread(Exception):
     """Why a document can't be read."""
-
-
-class Settings(NamedTuple):
-    """What documents are read and judged by."""
-
-    kind: Optional[str] = None
-    base: Optional[str] = None
-    profile: Profile = Profile.STANDARD
-    ignored: Tuple["re.Pattern[str]", ...] = ()
-    excluded: Tuple[Excluded, ...] = ()
-    format: Format = FORMATS["gnu"]
 
 
 class Counts:
@@ -202,85 +191,22 @@ class Run:
         return any(it.search(text) for it in self._settings.ignored)
 
 
-def _patterns(name: Optional[str]) -> Tuple["re.Pattern[str]", ...]:
-    """The regular expressions of a file, one a line; a line that begins with ``#`` is a comment."""
-    if name is None:
-        return ()
-    try:
-        with open(name, encoding="utf-8") as file:
-            lines = [line.rstrip("\r\n") for line in file]
-    except OSError as error:
-        raise SystemExit(stop("{}: can't be read: {}".format(name, reason_of(error))))
-    except UnicodeDecodeError:
-        raise SystemExit(stop("{}: isn't UTF-8".format(name))) from None
-    patterns = []
-    for number, line in enumerate(lines, 1):
-        if line.strip() and not line.startswith("#"):
-            try:
-                patterns.append(re.compile(line))
-            except re.error as error:
-                raise SystemExit(stop("{}:{}: no regular expression: {}".format(name, number, error)))
-    return tuple(patterns)
-
-
-def _parser() -> argparse.ArgumentParser:
-    parser = argparse.ArgumentParser(
-        prog="urlcheck-documents",
-        description="Prints the links of documents as lines FILE:LINE:COLUMN:LINK, which 'urlcheck lint --located -' "
-        "reads; with --check, judges them.",
-        epilog="A reference is judged against the base that its document names, else against --base, else against "
-        + SOMEWHERE
-        + ", since a verdict depends on the base's scheme, whether its host is empty and whether its path is opaque. "
-        "`urlcheck: ignore` in a comment on the line before a link in HTML, XML and Markdown leaves it out. "
-        "Status: 0 where no link is refused, 1 where one is, 2 where a document can't be read or the arguments are "
-        "wrong, 3 where the output can't be written.",
-    )
-    add = parser.add_argument
-    add("files", nargs="+", metavar="FILE", help="a document, a folder of documents, or - for standard input")
-    add("--check", action="store_true", help="judge the links, and report those that are refused")
-    add("--format", choices=list(FORMATS), help="how --check reports them; without it gnu, as compilers do")
-    add("--base", metavar="URL", help="what the documents' references are relative to")
-    names = [it.name.lower() for it in Profile]
-    add("--profile", choices=names, default="standard", help="the profile to judge by")
-    add("--type", dest="kind", choices=sorted(set(KINDS.values())), help="the kind of all documents")
-    add("--ignore", metavar="FILE", help="regular expressions, one a line, of links that are meant as they are")
-    add(
-        "--exclude",
-        action="append",
-        default=[],
-        metavar="PATTERN",
-        help="a pattern of the shell: what is found in a folder is left out where its name, or its path below that "
-        "folder, matches; it may be given more than once",
-    )
-    add("-q", "--quiet", action="store_true", help="leave out the counts on standard error")
-    add("--version", action="version", version="urlcheck-documents " + version())
-    return parser
-
-
 def run(words: Optional[List[str]] = None) -> int:
     """Runs the program on these words, and gives its status."""
-    parser = _parser()
-    given = parser.parse_args(words)
-    if given.format and not given.check:
-        parser.error("argument --format: not allowed without argument --check")
-    profile = Profile[given.profile.upper()]
-    excluded = tuple(Excluded.by(it) for it in given.exclude)
-    settings = Settings(
-        given.kind, given.base, profile, _patterns(given.ignore), excluded, FORMATS[given.format or "gnu"]
-    )
-    refused = _base_refused(given.base, profile)
+    files, settings, is_judged, is_quiet = asked(sys.argv[1:] if words is None else words)
+    refused = _base_refused(settings.base, settings.profile)
     if refused is not None:
         return stop(refused)
     report = Report(settings.format, write)
-    judge = Judge(settings.base, settings.profile, settings.format.has_mended) if given.check else None
+    judge = Judge(settings.base, settings.profile, settings.format.has_mended) if is_judged else None
     seen = Run(settings, judge, report)
     report.begin()
-    for name in documents_of(given.files, excluded):
+    for name in documents_of(files, settings.excluded):
         seen.take(name)
     report.end(not seen.counts.unread)
     flush()
-    if not given.quiet:
-        tell(_counted(seen.counts, given.check))
+    if not is_quiet:
+        tell(_counted(seen.counts, is_judged))
     return seen.counts.status()
 
 

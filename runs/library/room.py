@@ -1,11 +1,13 @@
 """A folder of its own for each test of urlcheck.documents, and runs of that program in it. The package is on PYTHONPATH."""
 
 import os
+import re
 import subprocess
 import sys
 import tempfile
 import unittest
 
+TOP = os.path.join(os.path.dirname(os.path.abspath(__file__)), "..", "..")
 PROGRAM = [sys.executable, "-m", "urlcheck.documents"]
 
 
@@ -28,3 +30,26 @@ class Room(unittest.TestCase):
         """The status, what was written, and what was said on standard error."""
         ran = subprocess.run([*program, *words], cwd=self.room, input=stdin, capture_output=True)
         return ran.returncode, ran.stdout, ran.stderr
+
+
+class Texts(Room):
+    """The same with texts, and what is looked for in them."""
+
+    def run_on(self, *words, stdin=b""):
+        """The same as texts."""
+        status, out, err = super().run_on(*words, stdin=stdin)
+        return status, out.decode(), err.decode()
+
+    def finds(self, name, text, links):
+        self.write(name, text)
+        status, out, _ = self.run_on(name)
+        self.assertEqual(out, "".join(name + ":" + line + "\n" for line in links.splitlines()))
+        self.assertEqual(status, 0)
+
+    def judges(self, name, places, *words):
+        """The program names these places, each with its rule."""
+        status, out, _ = self.run_on("--check", *words, name)
+        found = re.findall(r"^.*?:(\d+:\d+): error: .* \[(.*)\]$", out, re.M)
+        self.assertEqual(found, places)
+        self.assertEqual(len(found), out.count("\n"))
+        self.assertEqual(status, 1 if places else 0)

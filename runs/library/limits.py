@@ -1,0 +1,181 @@
+"""Tests of what urlcheck.documents can't read or write, of hostile documents, and of an end without the shared library.
+The package is on PYTHONPATH."""
+
+import errno
+import importlib.util
+import os
+import resource
+import subprocess
+import sys
+import unittest
+
+from room import PROGRAM, TOP, Texts
+from urlcheck._streams import REASONS, reason_of
+
+
+class Limits(Texts):
+    def test_unread(self):
+        self.write("a.html", "<a href=x>")
+        self.write("utf16.html", "<a href=x>".encode("utf-16"))
+        self.write("broken.xml", "<urlset>\n<loc>http://h/</loc><b></urlset>")
+        self.write("a.txt", "x")
+        status, out, said = self.run_on("missing.html", "missing", "", "utf16.html", "broken.xml", "a.txt", "a.html")
+        self.assertEqual(status, 2)
+        self.assertEqual(out, "broken.xml:2:6:http://h/\na.html:1:9:x\n")
+        for word in ("missing.html: can't be read: there is no such file",
+                     "missing: can't be read: there is no such file",
+                     "urlcheck-documents: '': can't be read: there is no such file",
+                     "utf16.html: isn't UTF-8 at byte 0", "broken.xml:2:26: can't be read from here on: mismatched tag",
+                     "a.txt: its name's end says no kind"):
+            self.assertIn(word, said)
+
+    def test_reasons(self):
+        """Why a file can't be read or written, in the words of `urlcheck`."""
+        self.write("a.html", "<a href=x>")
+        self.write("wrong", b"a\xff")
+        for words, wanted in (
+            (["a.html/b.html"], "a.html/b.html: can't be read: a part of its path is no folder"),
+            (["--ignore", ".", "a.html"], ".: can't be read: it is a folder"),
+            (["--ignore", "missing", "a.html"], "missing: can't be read: there is no such file"),
+            (["--ignore", "wrong", "a.html"], "wrong: isn't UTF-8"),
+        ):
+            status, _, said = self.run_on("--quiet", *words)
+            self.assertEqual((status, said), (2, "urlcheck-documents: {}\n".format(wanted)))
+        for number, reason in ((errno.EACCES, "it may not be read"), (errno.EPERM, "it may not be read"),
+                               (errno.EIO, os.strerror(errno.EIO)), (errno.EFBIG, "the file may not get larger")):
+            self.assertEqual(reason_of(OSError(number, os.strerror(number))), reason)
+        with open(os.path.join(TOP, "docs", "ERRORS.md"), encoding="utf-8") as page:
+            text = page.read()
+        for reason in REASONS.values():
+            self.assertIn("`: {}`".format(reason), text)
+
+    def test_names(self):
+        self.write("a\nb.html", "<a href='x y'>")
+        status, out, said = self.run_on("a\nb.html")
+        self.assertEqual((status, out), (2, ""))
+        self.assertIn("a\ufffdb.html: its name has a control", said)
+        self.assertIn("a\ufffdb.html:1:11: error: ", self.run_on("--check", "a\nb.html")[1])
+
+    def test_names_with_a_place(self):
+        """A name that a located line would cut elsewhere: it is judged, and not written."""
+        for name in ("a:1:2:b.html", "a:1:2.html", ":3:4:.html", "C:\\b.html", "a:1b:2:.html"):
+            with self.subTest(name):
+                self.write(name, "<a href='x y'>")
+                is_written = name in ("a:1:2.html", "C:\\b.html", "a:1b:2:.html")
+                status, out, said = self.run_on(name)
+                self.assertEqual((status, out), (0, name + ":1:10:x y\n") if is_written else (2, ""))
+                self.assertEqual("what a located line would read" in said, not is_written)
+                self.assertIn(name + ":1:11: error: ", self.run_on("--check", name)[1])
+        self.write("a.html:7", "<a href='x y'>")
+        self.assertEqual(self.run_on("--type", "html", "a.html:7")[:2], (2, ""))
+
+    def test_no_library(self):
+        """Where no shared library fits: a sentence on standard error and status 2, and of an import an error with it."""
+        self.write("text.so", "no library")
+        self.write("urlcheck-documents", "from urlcheck.documents import main\nmain()\n")
+        self.write("other.py", "import urlcheck\n")
+        remedy = ("; the wheel of a release has it, './build-library DIR' makes it in a checkout, and "
+                  "URLCHECK_LIBRARY may name its file\n")
+        opened = "can't be loaded: {}: cannot open shared object file: No such file or directory"
+        text = os.path.join(self.room, "text.so")
+        for library, why in (
+            ("/missing/liburlcheck.so.0", opened.format("/missing/liburlcheck.so.0")),
+            (text, "can't be loaded: {}: file too short".format(text)),
+            ("libc.so.6", "libc.so.6 has no function urlcheck_check"),
+        ):
+            given = dict(os.environ, URLCHECK_LIBRARY=library)
+            wanted = "the shared library " + why + remedy
+            runs = [(["urlcheck-documents"], 2), (["-c", "import urlcheck"], 1), (["-m", "other"], 1)]
+            if hasattr(sys, "orig_argv"):
+                runs += [(["-m", "urlcheck.documents", "a.html"], 2), (["-m", "urlcheck.documents"], 2)]
+            for words, status in runs:
+                with self.subTest(library=library, words=words):
+                    ran = subprocess.run([sys.executable, *words], cwd=self.room, env=given, capture_output=True)
+                    self.assertEqual((ran.returncode, ran.stdout), (status, b""))
+                    *before, last = ran.stderr.decode().splitlines(True)
+                    self.assertEqual(last, ("urlcheck-documents: " if status == 2 else "ImportError: ") + wanted)
+                    self.assertEqual(before == [], status == 2, ran.stderr)
+            for shut in ("2>&-", "2>/dev/full"):
+                with self.subTest(library=library, shut=shut):
+                    line = '"{}" urlcheck-documents a.html {}'.format(sys.executable, shut)
+                    ran = subprocess.run(["bash", "-c", line], cwd=self.room, env=given, capture_output=True)
+                    self.assertEqual((ran.returncode, ran.stdout, ran.stderr), (2, b"", b""))
+
+    def test_full_output(self):
+        self.write("a.html", "<a href=x>")
+        with open("/dev/full", "wb") as full:
+            ran = subprocess.run([*PROGRAM, "a.html"], cwd=self.room, stdout=full, stderr=subprocess.PIPE)
+        self.assertEqual(ran.returncode, 3)
+        self.assertIn(b"urlcheck-documents: standard output: can't be written: no space is left\n", ran.stderr)
+
+    def test_closed_files(self):
+        """Where a file of the three was closed before the start: a status of the page, and no traceback."""
+        self.write("a.html", "<a href='x y'>")
+        for closed, words, wanted in (
+            ("0", "--type html -", 2), ("1", "a.html", 3), ("1", "--check a.html", 3), ("2", "--check a.html", 1),
+            ("12", "a.html", 3), ("012", "--type html -", 2), ("02", "a.html", 0),
+        ):
+            with self.subTest(closed=closed, words=words):
+                shut = "".join(" {}>&-".format(number) for number in closed)
+                line = '"{}" -m urlcheck.documents {}{}'.format(sys.executable, words, shut)
+                ran = subprocess.run(["bash", "-c", line], cwd=self.room, capture_output=True, timeout=60)
+                self.assertEqual(ran.returncode, wanted, ran.stderr)
+                self.assertNotIn(b"Traceback", ran.stderr)
+        with open("/dev/full", "wb") as full:
+            ran = subprocess.run([*PROGRAM, "--check", "a.html"], cwd=self.room, stderr=full, stdout=subprocess.PIPE)
+        self.assertEqual((ran.returncode, ran.stdout.count(b"\n")), (1, 1))
+
+    def test_a_terminal(self):
+        """What drives a terminal isn't written to one, and to all else it is."""
+        self.write("a.html", "<a href='x\x1b[31m\u202ey\tz\u00e9'>")
+        terminal, end = os.openpty()
+        subprocess.run([*PROGRAM, "a.html"], cwd=self.room, stdout=end, stderr=subprocess.DEVNULL)
+        self.assertEqual(os.read(terminal, 1000).decode(), "a.html:1:10:x\ufffd[31m\ufffdy\tz\u00e9\r\n")
+        os.close(end)
+        os.close(terminal)
+        self.assertEqual(self.run_on("a.html")[1], "a.html:1:10:x\x1b[31m\u202ey\tz\u00e9\n")
+
+    def test_less_memory_than_is_taken(self):
+        """A limit of the caller's that is lower than the program's own stays."""
+        self.write("a.html", "<a href=x>")
+        for limit in ("-v", "-Sv"):
+            line = 'ulimit {} 400000; "{}" -m urlcheck.documents a.html'.format(limit, sys.executable)
+            ran = subprocess.run(["bash", "-c", line], cwd=self.room, capture_output=True)
+            self.assertEqual((ran.returncode, ran.stdout), (0, b"a.html:1:9:x\n"), ran.stderr)
+
+    @unittest.skipUnless(importlib.util.find_spec("markdown_it"), "markdown-it-py isn't installed")
+    def test_memory_of_markdown(self):
+        """A document that takes all memory is reported, and the next one is read."""
+        self.write("a.md", "[a](<b c>)\n\n" * 200_000)
+        self.write("b.html", "<a href='x y'>")
+        status, out, said = self.run_on("--check", "a.md", "b.html")
+        self.assertEqual((status, out.count("\n")), (2, 1))
+        wanted = "^urlcheck-documents: a.md: (needs more than 480 MiB of memory|takes more than 60 seconds)"
+        self.assertRegex(said, wanted)
+        self.assertNotIn("Traceback", said)
+
+    def test_hostile(self):
+        entities = "".join('<!ENTITY a{} "{}">'.format(at, "&a{};".format(at - 1) * 10) for at in range(1, 10))
+        documents = {
+            "nested.html": ("<div>" * 1_000_000 + "<a href='x y'>", 1),
+            "quoted.html": ("<a href='" + "x" * (31 << 20), 0),
+            "unended.html": ("<a " * (10 << 20), 0),
+            "attributes.html": ("<a " * (10 << 20) + ">", 2),
+            "comments.html": ("<!--" * (7 << 20), 0),
+            "sections.html": ("<![" * (9 << 20) + "><a href='a b'>", 1),
+            "big.html": ("x" * (33 << 20), 2),
+            "nul.html": ("<a href='a\0b'>", 1),
+            "bomb.xml": ('<!DOCTYPE l [<!ENTITY a0 "a">' + entities + "]><l><loc>http://h/&a9;</loc></l>", 2),
+            "deep.xml": ("<a>" * 1_000_000, 2),
+        }
+        for name, (text, wanted) in documents.items():
+            with self.subTest(name):
+                self.write(name, text)
+                status, _, said = self.run_on("--check", name)
+                self.assertEqual(status, wanted, said)
+                self.assertNotIn("Traceback", said)
+        self.assertLess(resource.getrusage(resource.RUSAGE_CHILDREN).ru_maxrss, 500 * 1024)
+
+
+if __name__ == "__main__":
+    unittest.main()

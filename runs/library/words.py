@@ -1,0 +1,200 @@
+"""Tests of what words ask urlcheck.documents for: options, folders, and what is left out. The package is on PYTHONPATH."""
+
+import os
+import re
+import subprocess
+import unittest
+
+from room import PROGRAM, TOP, Texts
+
+
+class Words(Texts):
+    def test_folders_and_input(self):
+        os.mkdir(os.path.join(self.room, "d"))
+        self.write("d/b.html", "<a href=x>")
+        self.write("d/a.html", "<a href=y>")
+        self.write("d/c.txt", "<a href=z>")
+        self.assertEqual(self.run_on("d")[1], "d/a.html:1:9:y\nd/b.html:1:9:x\n")
+        self.assertEqual(self.run_on("--type", "html", "-", stdin=b"\n<a href=x>")[1], "-:2:9:x\n")
+        wanted = "standard input: it has no name that says its kind: give --type html, xml or markdown\n"
+        status, _, said = self.run_on("--quiet", "-")
+        self.assertEqual((status, said), (2, "urlcheck-documents: " + wanted))
+
+    def test_folders_that_give_nothing(self):
+        os.mkdir(os.path.join(self.room, "empty"))
+        self.write("a.html", "<a href=x>")
+        status, out, said = self.run_on("--check", "empty", "a.html")
+        self.assertEqual((status, out), (2, ""))
+        self.assertIn("empty: has no document: no name in this folder ends in .html, ", said)
+        self.assertIn("1 document, 1 link", said)
+
+    def test_excluded(self):
+        names = ["d/a.html", "d/a.min.html", "d/.hidden/h.html", "d/drafts/x.html", "d/drafts/deep/y.html",
+                 "d/node_modules/m.html", "d/sub/v.html", "d/sub/drafts/z.html", "d/sub/node_modules/n.html",
+                 "d/v.html/p.html"]
+        for name in names:
+            os.makedirs(os.path.join(self.room, os.path.dirname(name)), exist_ok=True)
+            self.write(name, "<a href=x>")
+        for patterns, out in (
+            ([], ""),
+            (["node_modules"], "mn"),
+            (["node_modules", "*.min.html", "drafts/*"], "mn-xy"),
+            (["drafts"], "xyz"),
+            (["*/drafts"], "z"),
+            (["drafts/deep"], "y"),
+            (["d*s/x*"], "x"),
+            (["sub/*"], "vzn"),
+            (["**/n.html"], "n"),
+            (["v.html"], "vp"),
+            (["v.html/"], "p"),
+            (["*/"], "hxymvznp"),
+            ([".*"], "h"),
+            (["?.html"], "ahxymvznp"),
+            (["[hx].html"], "hx"),
+            (["[!a]*.html"], "hxymvznp"),
+            # What matches nothing: another case, a part of a name, the folder that is named, a path of the shell.
+            (["A.html", "min.html", "d", "d/*", "./a.html", "/a.html", "", "/", "[", "{a,v}.html", "*.min"], ""),
+        ):
+            # (a letter stands for the document that is named so, and - for the one with a longer name)
+            left = [it for it in names if ("-" if ".min." in it else os.path.basename(it)[0]) not in out]
+            words = [word for pattern in patterns for word in ("--exclude", pattern)]
+            with self.subTest(patterns):
+                status, found, said = self.run_on("--quiet", *words, "d")
+                self.assertEqual((status, found, said), (0, "".join(it + ":1:9:x\n" for it in left), ""))
+
+    def test_what_is_named_is_read(self):
+        """A pattern leaves nothing out that is an argument itself."""
+        os.makedirs(os.path.join(self.room, "d", "e"))
+        self.write("d/a.html", "<a href=x>")
+        self.write("d/e/b.html", "<a href=x>")
+        folder = os.path.join(self.room, "d")
+        for pattern, name, found in (
+            ("*", "d/a.html", ["d/a.html"]),
+            ("d", "d", ["d/a.html", "d/e/b.html"]),
+            ("e", "d/e", ["d/e/b.html"]),
+            ("e/*", "d/", ["d/a.html"]),
+            ("d/e/*", ".", ["./d/a.html"]),
+            ("e/*", ".", ["./d/a.html", "./d/e/b.html"]),
+            ("e/*", folder, [folder + "/a.html"]),
+        ):
+            with self.subTest(pattern=pattern, name=name):
+                status, out, _ = self.run_on("--exclude", pattern, name)
+                self.assertEqual((status, out), (0, "".join(it + ":1:9:x\n" for it in found)))
+
+    def test_excluded_without_a_word(self):
+        """What is left out is neither read nor counted; a folder of which nothing is left has no document."""
+        os.mkdir(os.path.join(self.room, "d"))
+        self.write("d/a.html", "<a href=x>")
+        os.symlink("missing", os.path.join(self.room, "d", "b.html"))
+        status, _, said = self.run_on("d")
+        self.assertEqual(status, 2)
+        self.assertIn("urlcheck-documents: d/b.html: can't be read: there is no such file\n", said)
+        said = self.run_on("--exclude", "b.*", "d")[2]
+        self.assertEqual(said, "urlcheck-documents: 1 document, 1 link, 0 ignored\n")
+        status, out, said = self.run_on("--exclude", "*.html", "d")
+        self.assertEqual((status, out), (2, ""))
+        self.assertIn("d: has no document: no name in this folder that isn't excluded ends in .html, ", said)
+
+    def test_quiet(self):
+        """The counts alone are left out."""
+        self.write("a.html", "<a href='x y'>")
+        for quiet in ("-q", "--quiet"):
+            for words, wanted in ((["a.html"], 0), (["--check", "a.html"], 1)):
+                status, out, said = self.run_on(quiet, *words)
+                self.assertEqual((status, out.count("\n"), said), (wanted, 1, ""))
+            status, _, said = self.run_on(quiet, "b.html", "a.html")
+            self.assertEqual((status, said), (2, "urlcheck-documents: b.html: can't be read: there is no such file\n"))
+
+    def test_options_between_documents(self):
+        """Options stand before, between and behind the documents; behind `--` each word is one."""
+        for name in ("a.html", "b.html", "--check", "-q"):
+            self.write(name, "<a href='x y'>")
+        links = "a.html:1:10:x y\nb.html:1:10:x y\n"
+        refused = "".join("{}.html:1:11: error: U+0020 SPACE may not stand in a URL [code-point]\n".format(it) for it in "ab")
+        for words, wanted in (
+            ("-q a.html b.html", links),
+            ("a.html -q b.html", links),
+            ("a.html b.html --quiet", links),
+            ("a.html --check b.html -q", refused),
+            ("-q a.html --check --format gnu b.html", refused),
+            ("a.html --base http://h/ b.html --format=gnu --quiet --check", refused),
+            ("a.html --check -q -- b.html", refused),
+            ("-q -- a.html b.html", links),
+            ("--quiet --type html -- --check", "--check:1:10:x y\n"),
+            ("--type=html a.html -q -- -q", "a.html:1:10:x y\n-q:1:10:x y\n"),
+        ):
+            with self.subTest(words):
+                status, out, said = self.run_on(*words.split())
+                self.assertEqual((status, out, said), (int("--check" in words.split(" -- ")[0]), wanted, ""))
+        self.assertEqual(self.run_on("--type", "html", "-q", "--", "--", "-q"), (2, "-q:1:10:x y\n",
+                         "urlcheck-documents: --: can't be read: there is no such file\n"))
+
+    def test_wrong_words(self):
+        self.write("a.html", "<a href='x y'>")
+        for words, wanted in (
+            ("", "the following arguments are required: FILE"),
+            ("--check", "the following arguments are required: FILE"),
+            ("--check --", "the following arguments are required: FILE"),
+            ("a.html --base -- a.html", "argument --base: expected one argument"),
+            ("a.html --all a.html", "there is no option --all"),
+            ("a.html --wide=yes --all", "there is no option --wide"),
+            ("-x a.html", "there is no option -x"),
+            ("a.html --profile wider", "argument --profile: invalid choice: 'wider' (choose from "),
+        ):
+            with self.subTest(words):
+                status, out, said = self.run_on(*words.split())
+                usage = "usage: urlcheck-documents [OPTIONS] FILE..\nurlcheck-documents: error: "
+                self.assertEqual((status, out, said[: len(usage + wanted)]), (2, "", usage + wanted))
+
+    def test_options(self):
+        """The manual page, the completions and the page have the options of the help, and no other."""
+        shown = subprocess.run([*PROGRAM, "--help"], capture_output=True).stdout.decode()
+        wanted = {name for names in re.findall(r"^  (?:(-[a-z]), )?(--[a-z]+)", shown, re.M) for name in names if name}
+        self.assertLessEqual({"-h", "-q", "--exclude", "--version"}, wanted)
+        for path, part, name in (
+            ("docs/DOCUMENTS.md", r"^\| (`-.*?) \|", r"`(--?[a-z]+)"),
+            ("man/urlcheck-documents.1", r"^\.B[IR]* (\\-.*)", r"(?<![a-z-])--?[a-z]+"),
+            ("completions/urlcheck-documents.bash", r"^ *\*\) words='(.*?)'", r"\S+"),
+            ("completions/_urlcheck-documents", r"^    (.*)", r"(?<=[',{*])--?[a-z]+(?=[\[=,}])"),
+            ("completions/urlcheck-documents.fish", r"^complete -c urlcheck-documents(.*) -d", r" (-[sl] [a-z]+)"),
+        ):
+            with self.subTest(path), open(os.path.join(TOP, path), encoding="utf-8") as file:
+                parts = "\n".join(re.findall(part, file.read(), re.M)).replace("\\-", "-")
+                names = {it.replace("-s ", "-").replace("-l ", "--") for it in re.findall(name, parts)}
+                self.assertEqual(names, wanted)
+
+    def test_ignored(self):
+        self.write("patterns", "# templates\n\\{\\{\n")
+        self.write("a.html", '<a href="{{ a }}"><a href="b c">')
+        self.judges("a.html", [("1:29", "code-point")], "--ignore", "patterns")
+        self.assertIn("1 ignored", self.run_on("--ignore", "patterns", "a.html")[2])
+        self.write("wrong", "(\n")
+        self.assertEqual(self.run_on("--ignore", "wrong", "a.html")[0], 2)
+
+    def test_several_files_of_ignored_links(self):
+        """Each file counts, as one file of all their lines would."""
+        self.write("braces", "\\{\\{\n")
+        self.write("bars", "# bars\n\\|\n")
+        self.write("none", "")
+        self.write("wrong", "x\n(\n")
+        self.write("a.html", '<a href="{{ a }}"><a href="b c"><a href="|">')
+        for names, places, count in (
+            ([], ["1:10", "1:29", "1:42"], 0),
+            (["braces"], ["1:29", "1:42"], 1),
+            (["bars"], ["1:10", "1:29"], 1),
+            (["braces", "bars"], ["1:29"], 2),
+            (["bars", "none", "braces", "bars"], ["1:29"], 2),
+        ):
+            words = [word for name in names for word in ("--ignore", name)]
+            with self.subTest(names):
+                self.judges("a.html", [(place, "code-point") for place in places], *words)
+                counts = "urlcheck-documents: 1 document, 3 links, {} ignored\n".format(count)
+                self.assertEqual(self.run_on(*words, "a.html")[2], counts)
+        for name, why in (("wrong", "wrong:2: no regular expression: "), ("missing", "missing: can't be read: ")):
+            status, out, said = self.run_on("--ignore", "braces", "--ignore", name, "--check", "a.html")
+            self.assertEqual((status, out), (2, ""))
+            self.assertTrue(said.startswith("urlcheck-documents: " + why), said)
+
+
+if __name__ == "__main__":
+    unittest.main()
