@@ -4,14 +4,16 @@
 >>> answer = urlcheck.check("https://example.com/a?q")
 >>> answer.host, answer.path, answer.query
 ('example.com', '/a', 'q')
->>> urlcheck.check("http://h/a b")
-Refused(rule='code-point', place=10)
+>>> answer = urlcheck.check("http://h/a b")
+>>> bool(answer), answer, urlcheck.sentence(answer.rule)
+(False, Refused(rule='code-point', place=10), 'this code point may not stand in a URL')
 >>> urlcheck.resolve("../x", "http://h/a/b")
 'http://h/x'
 >>> urlcheck.mend("http://h/a b")
 Mended(text='http://h/a%20b', kind=<MendKind.SAME: 'same'>)
 
-The functions keep no state and may be called from any thread.
+A text without a scheme is valid against a base alone: ``check("../x", "http://h/a/b")``. The functions keep no state
+and may be called from any thread.
 """
 
 import ctypes
@@ -48,7 +50,12 @@ _MENDED = 8
 
 
 class Profile(enum.IntEnum):
-    """Which texts are valid; a text and its base are judged by one. Each takes what the one before it takes."""
+    """Which texts are valid; a text and its base are judged by one. Each takes what the one before it takes.
+
+    ``STANDARD`` takes the URL Standard's valid URL strings; ``WIDE`` also ``_`` and hyphens wherever they stand in
+    domains, and any segments after an authority; ``PARSER`` each text that the URL Standard's parser takes without a
+    validation error, and no other.
+    """
 
     STANDARD = 0
     """The URL Standard's valid URL strings."""
@@ -60,7 +67,8 @@ class Profile(enum.IntEnum):
 
 @dataclass(frozen=True)
 class Valid:
-    """A valid URL string, with its parts: slices of the text, without their delimiters, and ``None`` where absent."""
+    """A valid URL string, which is true. Its parts are slices of the text, without their delimiters, and ``None`` where
+    absent."""
 
     scheme: Optional[str]
     host: Optional[str]
@@ -75,7 +83,8 @@ class Valid:
 
 @dataclass(frozen=True)
 class Refused:
-    """A text that violates ``rule`` at ``place``, counted in code points from 0: its first fault."""
+    """A text that violates ``rule`` at ``place``, counted in code points from 0: its first fault. It is false.
+    ``sentence(rule)`` says what is wrong there."""
 
     rule: str
     place: int
@@ -85,7 +94,11 @@ class Refused:
 
 
 class MendKind(enum.Enum):
-    """How a mended text stands to the refused one."""
+    """How a mended text stands to the refused one.
+
+    ``SAME``: a second parser reads both as the same URL. ``ESCAPED``: not so, and some code points of the refused text
+    are percent-encoded, and nothing else. ``CHANGED``: neither, so its author has to look.
+    """
 
     SAME = "same"
     """A second parser reads both as the same URL."""
@@ -105,7 +118,7 @@ class Mended:
 
 @dataclass(frozen=True)
 class Fault:
-    """A rule that a text violates at a place, counted in code points from 0."""
+    """A rule that a text violates at a place, counted in code points from 0; ``sentence(rule)`` says what is wrong."""
 
     rule: str
     place: int
@@ -120,7 +133,8 @@ class BaseRefused(ValueError):
         self.place = place
 
     def __str__(self) -> str:
-        return "the base is refused: {} at {}".format(self.rule, self.place)
+        why = "it has no scheme" if self.rule == "no-scheme" else sentence(self.rule)
+        return "the base is refused at place {}: {} [{}]".format(self.place, why, self.rule)
 
 
 class Base:
@@ -134,6 +148,8 @@ class Base:
     __slots__ = ("text", "profile", "_data", "_held")
 
     def __init__(self, text: str, profile: Profile = Profile.STANDARD) -> None:
+        if not isinstance(text, str):
+            raise TypeError("a base is a str, not {}".format(type(text).__name__))
         self._data, _, self.profile = _given(text, None, profile)
         self.text = text
         self._held = LIBRARY.urlcheck_prepare(self._data, len(self._data), self.profile)
@@ -189,7 +205,7 @@ def check_each(
     """
     if isinstance(texts, (str, bytes)):
         raise TypeError("texts are wanted, not one {}".format(type(texts).__name__))
-    return _answers(texts, base, profile)
+    return _answers(iter(texts), base, profile)
 
 
 def faults(text: str, base: AnyBase = None, profile: Profile = Profile.STANDARD) -> List[Fault]:
@@ -254,7 +270,7 @@ def version() -> str:
     return "{}.{}.{}".format(number // 10000, number // 100 % 100, number % 100)
 
 
-def _answers(texts: Iterable[str], base: AnyBase, profile: Profile) -> Iterator[Union[Valid, Refused]]:
+def _answers(texts: Iterator[str], base: AnyBase, profile: Profile) -> Iterator[Union[Valid, Refused]]:
     """The answers on the texts, against a base that is judged at the first of them."""
     for text in texts:
         if isinstance(base, str):
@@ -268,18 +284,23 @@ def _given(text: str, base: AnyBase, profile: Profile) -> Tuple[bytes, Union[byt
         raise TypeError("a text is a str, not {}".format(type(text).__name__))
     if base is not None and not isinstance(base, (str, Base)):
         raise TypeError("a base is a str, a urlcheck.Base or None, not {}".format(type(base).__name__))
-    if isinstance(profile, bool) or not isinstance(profile, int):
-        raise TypeError("a profile is a urlcheck.Profile, not {}".format(type(profile).__name__))
-    try:
-        judged_by = Profile(profile)
-    except ValueError:
-        names = ", ".join("{} ({})".format(it.name, it.value) for it in Profile)
-        raise ValueError("no profile has the number {}: there are {}".format(profile, names)) from None
+    judged_by = profile if type(profile) is Profile else _profile(profile)
     if isinstance(base, Base):
         if judged_by not in (Profile.STANDARD, base.profile):
             raise ValueError("the base is judged by another profile: {}".format(base.profile.name))
         return text.encode(), base, base.profile
     return text.encode(), None if base is None else base.encode(), judged_by
+
+
+def _profile(number: object) -> Profile:
+    """The profile of a number."""
+    if isinstance(number, bool) or not isinstance(number, int):
+        raise TypeError("a profile is a urlcheck.Profile, not {}".format(type(number).__name__))
+    try:
+        return Profile(number)
+    except ValueError:
+        names = ", ".join("{} ({})".format(it.name, it.value) for it in Profile)
+        raise ValueError("no profile has the number {}: there are {}".format(number, names)) from None
 
 
 def _judged(name: str, data: bytes, held: Optional[Base], number: Profile) -> Any:

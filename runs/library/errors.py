@@ -36,6 +36,21 @@ class Errors(unittest.TestCase):
                 with self.subTest(words), self.assertRaisesRegex(error, said):
                     function(*words)
 
+    def test_a_refused_base_says_why(self):
+        """In the words of `lint`: of a base the place, what is wrong there, and the rule."""
+        for base, said in (
+            ("x", "the base is refused at place 0: it has no scheme [no-scheme]"),
+            ("", "the base is refused at place 0: it has no scheme [no-scheme]"),
+            ("http://h/a b", "the base is refused at place 10: this code point may not stand in a URL [code-point]"),
+        ):
+            for call in (urlcheck.Base, against, lambda it: next(urlcheck.check_each(["x"], it))):
+                with self.assertRaises(urlcheck.BaseRefused) as refused:
+                    call(base)
+                self.assertEqual(str(refused.exception), said)
+        for base in (None, b"a:", 5):
+            with self.assertRaisesRegex(TypeError, "a base is a str, not "):
+                urlcheck.Base(base)
+
     def test_a_base_is_held(self):
         base = urlcheck.Base("http://h_/a", urlcheck.Profile.WIDE)
         self.assertEqual(repr(base), "Base('http://h_/a', Profile.WIDE)")
@@ -74,8 +89,13 @@ class Errors(unittest.TestCase):
         answers = list(urlcheck.check_each(["../x", "http://h:x/", ""], "http://h/a"))
         self.assertEqual([bool(it) for it in answers], [True, False, True])
         self.assertEqual(answers[1], urlcheck.Refused("port-digit", 9))
-        with self.assertRaises(TypeError):
-            urlcheck.check_each("http://h/")
+        for texts, said in (("http://h/", "texts are wanted, not one str"), (b"a:", "texts are wanted, not one bytes"),
+                            (None, "'NoneType' object is not iterable"), (5, "'int' object is not iterable")):
+            with self.assertRaisesRegex(TypeError, said):
+                urlcheck.check_each(texts)
+        for texts in ([None], [b"a:"], [5]):
+            with self.assertRaisesRegex(TypeError, "a text is a str, not "):
+                next(urlcheck.check_each(texts))
 
     def test_the_version(self):
         self.assertEqual(urlcheck.__version__, urlcheck.version())
