@@ -8,10 +8,12 @@ _urlcheck_documents() {
     case $previous in
         --profile) words='standard wide parser' ;;
         --format) words='gnu caret json github sarif checkstyle' ;;
+        --columns) words='code-points bytes utf16 screen' ;;
         --type) words='html markdown xml' ;;
         --ignore) takes_files=yes ;;
         --base | --exclude) ;;
-        *) words='--check --format --base --profile --type --ignore --exclude --quiet -q --help -h --version' takes_files=yes ;;
+        *) words='--check --format --columns --base --profile --type --ignore --exclude --quiet -q --help -h --version'
+           takes_files=yes ;;
     esac
     mapfile -t COMPREPLY < <(compgen -P "$option" -W "$words" -- "$word")
     if [[ -n $takes_files ]]; then

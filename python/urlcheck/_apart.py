@@ -3,27 +3,65 @@
 import os
 import pickle
 import signal
-from typing import Callable, NamedTuple, Optional
+from typing import BinaryIO, Callable, Iterator, NamedTuple, Optional
 
 from ._streams import reason_of, write_nowhere
 
 MOST_SECONDS = 60
-"""How long a document may take to read."""
+"""How long a document's bytes may take to come, and how much processor time it may take."""
 
 MOST_MEMORY = 480 * 1024 * 1024
 """How many bytes of memory the program may have."""
 
 
 class Taken(NamedTuple):
-    """What a document has given."""
+    """What a part of a document has given."""
 
     documents: int
+    """1 in the first part of a document that is read."""
     links: int
     refused: int
     ignored: int
     lines: bytes
-    fault: Optional[str]
+    fault: Optional[str] = None
     """What is said behind its name where it wasn't read to its end: the place where the reader stopped, and why."""
+
+
+class Part:
+    """A part of a document that is being taken."""
+
+    def __init__(self, documents: int) -> None:
+        self._documents = documents
+        self._links = 0
+        self._refused = 0
+        self._ignored = 0
+        self._lines = bytearray()
+
+    def add(self, lines: str, is_judged: bool) -> None:
+        """Adds a link, of which these lines are said: none where it is judged and valid."""
+        self._links += 1
+        self._refused += is_judged and lines != ""
+        self._lines += lines.encode("utf-8", "surrogateescape")
+
+    def add_ignored(self) -> None:
+        """Adds a link that is left out."""
+        self._links += 1
+        self._ignored += 1
+
+    def is_full(self) -> bool:
+        """Whether it has as many bytes as a part is to have."""
+        return len(self._lines) >= _ENOUGH
+
+    def taken(self, fault: Optional[str] = None) -> Taken:
+        """What it has given."""
+        return Taken(self._documents, self._links, self._refused, self._ignored, bytes(self._lines), fault)
+
+
+_ENOUGH = 256 * 1024
+"""How many bytes the lines of a part have, before the next one begins."""
+
+Parts = Callable[[], Iterator[Taken]]
+"""What takes a document part by part."""
 
 
 def nothing(reason: str) -> Taken:
@@ -31,53 +69,81 @@ def nothing(reason: str) -> Taken:
     return Taken(0, 0, 0, 0, b"", ": " + reason)
 
 
-def apart(take: Callable[[], Taken]) -> Taken:
+def apart(parts: Parts) -> Iterator[Taken]:
     """What a document gives, taken in a process of its own. Where memory is short Python may do anything, also go on
-    without an end: so the process is ended from without, and only what it gave whole is taken."""
+    without an end: so the process is ended from without, and only the parts that it gave whole are taken."""
     reader, writer = os.pipe()
     try:
         child = os.fork()
     except OSError as error:
         os.close(reader)
         os.close(writer)
-        return nothing("can't be read: no process: {}".format(reason_of(error)))
+        yield nothing("can't be read: no process: {}".format(reason_of(error)))
+        return
     if child == 0:
-        _give(take, writer)
+        os.close(reader)
+        _give(parts, writer)
     os.close(writer)
+    is_begun = False
     with os.fdopen(reader, "rb") as pipe:
-        given = pipe.read()
+        for part in _whole(pipe):
+            is_begun = True
+            yield part
     status = os.waitpid(child, 0)[1]
-    if status == 0:
-        taken: Taken = pickle.loads(given)
-        return taken
-    is_late = os.WIFSIGNALED(status) and os.WTERMSIG(status) == signal.SIGALRM
-    return nothing("takes more than {} seconds to read".format(MOST_SECONDS) if is_late else _NO_MEMORY)
+    if status != 0:
+        yield nothing(_ended_by(status) + (", and isn't reported to its end" if is_begun else " to read"))
 
 
-_NO_MEMORY = "needs more than {} MiB of memory".format(MOST_MEMORY >> 20)
+def _whole(pipe: BinaryIO) -> Iterator[Taken]:
+    """The parts that were written whole."""
+    while True:
+        try:
+            part: Taken = pickle.load(pipe)
+        except (EOFError, pickle.UnpicklingError):
+            return
+        yield part
 
 
-def _give(take: Callable[[], Taken], writer: int) -> None:
-    """Writes what a document gives to this file, and ends the process: with 0 where it was written whole."""
+def _ended_by(status: int) -> str:
+    """Why the process was ended."""
+    signal_seen = os.WTERMSIG(status) if os.WIFSIGNALED(status) else None
+    if signal_seen == signal.SIGALRM:
+        return "takes more than {} seconds".format(MOST_SECONDS)
+    if signal_seen == signal.SIGPROF:
+        return "takes more than {} seconds of processor time".format(MOST_SECONDS)
+    return "needs more than {} MiB of memory".format(MOST_MEMORY >> 20)
+
+
+def _give(parts: Parts, writer: int) -> None:
+    """Writes the parts of a document to this file, and ends the process: with 0 where all were written whole."""
     ended = 1
     try:
-        signal.signal(signal.SIGALRM, signal.SIG_DFL)
-        signal.alarm(MOST_SECONDS)
+        for number in (signal.SIGALRM, signal.SIGPROF):
+            signal.signal(number, signal.SIG_DFL)
+        signal.setitimer(signal.ITIMER_REAL, MOST_SECONDS)
+        signal.setitimer(signal.ITIMER_PROF, MOST_SECONDS)
         write_nowhere(2)
-        # (this takes more memory than to read it again, so that where it fails, it fails here)
-        given = pickle.dumps(_given_by(take))
         with os.fdopen(writer, "wb") as pipe:
-            pipe.write(given)
+            for part in _sure(parts):
+                pickle.dump(part, pipe)
+                pipe.flush()
         ended = 0
     finally:
         os._exit(ended)
 
 
-def _given_by(take: Callable[[], Taken]) -> Taken:
+def has_come() -> None:
+    """Says that the document's bytes have come: from here on processor time counts alone, so that neither other programs
+    nor a slow reader of the report end it."""
+    signal.setitimer(signal.ITIMER_REAL, 0)
+
+
+def _sure(parts: Parts) -> Iterator[Taken]:
+    """The parts of a document, and what is said where its reader failed."""
     try:
-        return take()
+        yield from parts()
     except (MemoryError, SystemError):
         # (Python raises a SystemError too where an allocation failed)
         raise
     except Exception as error:
-        return nothing("its reader failed: {!r}".format(error))
+        yield nothing("its reader failed: {!r}".format(error))

@@ -13,7 +13,7 @@ MOST_CARRIED = 2_000
 
 
 class Region(NamedTuple):
-    """Where a text stands in its document: lines and columns from 1, columns in code points."""
+    """Where a text stands in its document: lines and columns from 1."""
 
     line: int
     column: int
@@ -30,7 +30,7 @@ class Finding(NamedTuple):
     line: int
     """The line of the wrong place, from 1."""
     column: int
-    """The column of the wrong place, from 1, in code points."""
+    """The column of the wrong place, from 1."""
     rule: str
     message: str
     """What is wrong there, in a sentence without its end."""
@@ -73,6 +73,9 @@ def window(text: str, place: int) -> str:
     return ("…" if start else "") + text[start:end] + ("…" if end < len(text) else "")
 
 
+_ENCODER = json.JSONEncoder(ensure_ascii=False, check_circular=False, sort_keys=True, separators=(",", ":"))
+
+
 def compact(value: Mapping[str, object]) -> str:
     """An object as JSON, with the members in the order of their names."""
-    return json.dumps(value, ensure_ascii=False, sort_keys=True, separators=(",", ":"))
+    return _ENCODER.encode(value)

@@ -151,8 +151,7 @@ class _Reader(HTMLParser):
     def parse_starttag(self, i: int) -> int:
         end = self.rawdata.find(">", i)
         if end - i > MOST_OUTSIDE_QUOTES < len(_QUOTED.sub("", self.rawdata[i:end])):
-            line, column = self._source.position(self._offset())
-            raise Broken(line, column, "a tag has more than {} code points".format(MOST_OUTSIDE_QUOTES))
+            raise Broken(self._offset(), "a tag has more than {} code points".format(MOST_OUTSIDE_QUOTES))
         return self._whole(super().parse_starttag(i) if end >= 0 else end)
 
     def parse_endtag(self, i: int) -> int:

@@ -1,9 +1,10 @@
 """Reports on links that are refused, in each format, as ``urlcheck lint`` writes them."""
 
 import re
-from typing import Callable, Dict, NamedTuple
+from typing import Callable, Dict, NamedTuple, Tuple
 
 from . import _caret, _sarif
+from ._columns import Unit
 from ._finding import Finding, carried, compact, is_cut, readable
 
 Writer = Callable[[bytes], None]
@@ -14,14 +15,16 @@ class Format(NamedTuple):
 
     finding: Callable[[Finding], str]
     """What is said of a link that is refused: whole lines."""
-    begin: Callable[[], str] = lambda: ""
-    """What the report begins with."""
+    begin: Callable[[Unit], str] = lambda unit: ""
+    """What the report begins with, by what columns count."""
     end: Callable[[bool], str] = lambda is_whole: ""
     """What it ends with, by whether each document was read to its end."""
     separator: str = ""
     """What stands between what is said of two links."""
     has_mended: bool = False
     """Whether it says what to write in place of a link."""
+    units: Tuple[Unit, ...] = tuple(Unit)
+    """What its columns may count."""
 
     def said(self, found: Finding) -> str:
         """What is said of a link, behind the separator."""
@@ -95,10 +98,12 @@ FORMATS = {
     "caret": Format(_caret.result, has_mended=True),
     "json": Format(_json, has_mended=True),
     "github": Format(_github),
-    "sarif": Format(_sarif.result, _sarif.begin, _sarif.end, separator=",", has_mended=True),
+    "sarif": Format(
+        _sarif.result, _sarif.begin, _sarif.end, separator=",", has_mended=True, units=tuple(_sarif.COLUMN_KINDS)
+    ),
     "checkstyle": Format(
         _checkstyle,
-        lambda: '<?xml version="1.0" encoding="UTF-8"?>\n<checkstyle version="4.3">\n',
+        lambda unit: '<?xml version="1.0" encoding="UTF-8"?>\n<checkstyle version="4.3">\n',
         lambda is_whole: "</checkstyle>\n",
     ),
 }
@@ -108,14 +113,15 @@ FORMATS = {
 class Report:
     """A report that is written document by document."""
 
-    def __init__(self, format: Format, write: Writer) -> None:
+    def __init__(self, format: Format, unit: Unit, write: Writer) -> None:
         self._format = format
+        self._unit = unit
         self._write = write
         self._is_first = True
 
     def begin(self) -> None:
         """Writes what stands before all."""
-        self._write(self._format.begin().encode("utf-8"))
+        self._write(self._format.begin(self._unit).encode("utf-8"))
 
     def add(self, lines: bytes) -> None:
         """Writes what is said of a document's links, each behind the format's separator."""

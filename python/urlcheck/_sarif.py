@@ -1,9 +1,11 @@
 """Reports as documents of SARIF 2.1.0, as ``urlcheck lint`` writes them."""
 
+import functools
 from typing import Dict, List, NamedTuple, Tuple
 from urllib.parse import quote
 
 from . import RULES, Mended, MendKind, sentence, version
+from ._columns import Unit
 from ._finding import Finding, Region, carried, compact, is_cut
 
 Object = Dict[str, object]
@@ -94,16 +96,20 @@ _FIXES = {
 }
 """What a fix does."""
 
+COLUMN_KINDS = {Unit.CODE_POINTS: "unicodeCodePoints", Unit.UTF16: "utf16CodeUnits"}
+"""The words of SARIF for what columns count; it has none for the other units."""
+
 _UNREAD = "a file can't be read, which standard error names"
 
 
-def begin() -> str:
+def begin(unit: Unit) -> str:
     """The document up to its results: the version, what columns count, the tool and its rules."""
     rules = [_rule(it) for it in _OF_LINES]
     rules += [_rule(_Asked(name, sentence(name), *_ASKS[name])) for name in RULES]
     return (
         '{"$schema":"https://json.schemastore.org/sarif-2.1.0.json","version":"2.1.0","runs":[{'
-        '"columnKind":"unicodeCodePoints","tool":{"driver":{"name":"urlcheck","version":"' + version() + '","rules":['
+        '"columnKind":"' + COLUMN_KINDS[unit] + '",'
+        '"tool":{"driver":{"name":"urlcheck","version":"' + version() + '","rules":['
         + ",".join(map(compact, rules))
         + ']}},"results":[\n'
     )
@@ -134,6 +140,7 @@ def result(found: Finding) -> str:
     return compact(members) + "\n"
 
 
+@functools.lru_cache(maxsize=1)
 def uri_path(name: str) -> str:
     """A document's name as the path of a URI reference. One that begins with ``//`` would name a host, so its second
     ``/`` is escaped."""

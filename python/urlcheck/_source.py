@@ -2,8 +2,7 @@
 
 import bisect
 import re
-from dataclasses import dataclass
-from typing import Iterator, List, Optional, Tuple
+from typing import Iterator, List, NamedTuple, Optional, Tuple
 
 SPACES = " \t\n\f\r"
 """What HTML and XML allow around a URL: ASCII whitespace."""
@@ -14,8 +13,7 @@ IGNORE = "urlcheck: ignore"
 _WORD = re.compile("[^" + SPACES + "]+")
 
 
-@dataclass(frozen=True)
-class Link:
+class Link(NamedTuple):
     """A link of a document."""
 
     text: str
@@ -29,10 +27,12 @@ class Link:
 
 
 class Broken(ValueError):
-    """Why a reader stopped before a document's end, and where, from 1; what was found before stands."""
+    """Why a reader stopped before a document's end, and where, in code points from 0; what was found before stands."""
 
-    def __init__(self, line: int, column: int, reason: str) -> None:
-        super().__init__("{}:{}: can't be read from here on: {}".format(line, column, reason))
+    def __init__(self, offset: int, reason: str) -> None:
+        super().__init__(offset, reason)
+        self.offset = offset
+        self.reason = reason
 
 
 class Source:

@@ -5,10 +5,11 @@ import re
 from typing import List, NamedTuple, Optional, Tuple
 
 from . import Profile, version
+from ._columns import Unit
 from ._folders import KINDS, Excluded
 from ._judge import SOMEWHERE
 from ._report import FORMATS, Format
-from ._streams import reason_of, stop
+from ._streams import reason_of, stop, tell
 
 
 class Settings(NamedTuple):
@@ -20,6 +21,8 @@ class Settings(NamedTuple):
     ignored: Tuple["re.Pattern[str]", ...] = ()
     excluded: Tuple[Excluded, ...] = ()
     format: Format = FORMATS["gnu"]
+    unit: Unit = Unit.CODE_POINTS
+    """What columns count."""
 
 
 class Asked(NamedTuple):
@@ -29,6 +32,32 @@ class Asked(NamedTuple):
     settings: Settings
     is_judged: bool
     is_quiet: bool
+
+
+_ABOUT = """\
+Prints the links of HTML, XML and Markdown as lines FILE:LINE:COLUMN:LINK, which
+'urlcheck lint --located -' reads; with --check, judges them."""
+
+_NOTES = """\
+A folder stands for all documents in it whose names end in
+{}.
+
+A reference is judged against the base that its document names, else against
+--base, else against {}. A link is left out where a comment
+on the line before it is 'urlcheck: ignore'.
+
+Exit statuses:
+  0  no link is refused
+  1  a link is refused
+  2  a document can't be read to its end, a folder has none, the base is refused
+     or the arguments are wrong
+  3  the output can't be written
+
+Examples:
+  urlcheck-documents --check site
+  urlcheck-documents --check --format caret README.md
+  gzip -dc sitemap.xml.gz | urlcheck-documents --check --type xml -
+""".format(", ".join("." + it for it in KINDS), SOMEWHERE)
 
 
 def asked(words: List[str]) -> Asked:
@@ -45,6 +74,7 @@ def asked(words: List[str]) -> Asked:
         tuple(pattern for name in given.ignore for pattern in _patterns(name)),
         tuple(Excluded.by(it) for it in given.exclude),
         FORMATS[given.format or "gnu"],
+        _unit(given.columns, given.format or "gnu"),
     )
     return Asked(given.files, settings, given.check, given.quiet)
 
@@ -62,27 +92,35 @@ def _given(parser: argparse.ArgumentParser, words: List[str]) -> argparse.Namesp
     return given
 
 
+def _unit(name: str, format: str) -> Unit:
+    """What columns count, by its name and that of the format. Raises ``SystemExit`` where the format has no word for
+    it."""
+    unit, units = Unit(name), FORMATS[format].units
+    if unit not in units:
+        tell("no column unit of {} is named '{}'".format(format, name))
+        raise SystemExit(stop("the column units of {}: {}".format(format, " ".join(it.value for it in units))))
+    return unit
+
+
 def _parser() -> argparse.ArgumentParser:
     parser = argparse.ArgumentParser(
         prog="urlcheck-documents",
         usage="urlcheck-documents [OPTIONS] FILE..",
-        description="Prints the links of documents as lines FILE:LINE:COLUMN:LINK, which 'urlcheck lint --located -' "
-        "reads; with --check, judges them.",
-        epilog="A reference is judged against the base that its document names, else against --base, else against "
-        + SOMEWHERE
-        + ", since a verdict depends on the base's scheme, whether its host is empty and whether its path is opaque. "
-        "`urlcheck: ignore` in a comment on the line before a link in HTML, XML and Markdown leaves it out. "
-        "Status: 0 where no link is refused, 1 where one is, 2 where a document can't be read or the arguments are "
-        "wrong, 3 where the output can't be written.",
+        description=_ABOUT,
+        epilog=_NOTES,
+        formatter_class=argparse.RawDescriptionHelpFormatter,
     )
     add = parser.add_argument
     add("files", nargs="*", metavar="FILE", help="a document, a folder of documents, or - for standard input")
     add("--check", action="store_true", help="judge the links, and report those that are refused")
     add("--format", choices=list(FORMATS), help="how --check reports them; without it gnu, as compilers do")
-    add("--base", metavar="URL", help="what the documents' references are relative to")
+    units = [it.value for it in Unit]
+    add("--columns", choices=units, default="code-points", help="what columns count; without it code-points")
+    add("--base", metavar="URL", help="what the documents' references are relative to, without a base of their own")
     names = [it.name.lower() for it in Profile]
-    add("--profile", choices=names, default="standard", help="the profile to judge by")
-    add("--type", dest="kind", choices=sorted(set(KINDS.values())), help="the kind of all documents")
+    add("--profile", choices=names, default="standard", help="the profile to judge by; without it standard")
+    kinds = sorted(set(KINDS.values()))
+    add("--type", dest="kind", choices=kinds, help="the kind of all documents; without it by their names")
     add(
         "--ignore",
         action="append",

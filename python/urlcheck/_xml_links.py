@@ -14,6 +14,7 @@ ATOM = "http://www.w3.org/2005/Atom"
 XHTML = "http://www.w3.org/1999/xhtml"
 SVG = "http://www.w3.org/2000/svg"
 RDF = "http://www.w3.org/1999/02/22-rdf-syntax-ns#"
+MATHML = "http://www.w3.org/1998/Math/MathML"
 XLINK = "http://www.w3.org/1999/xlink"
 XML = "http://www.w3.org/XML/1998/namespace"
 RSS_1 = "http://purl.org/rss/1.0/"
@@ -41,6 +42,9 @@ ATTRIBUTES: Dict[Name, Set[str]] = {
 
 QUALIFIED = {(XLINK, "href"), (RDF, "about"), (RDF, "resource")}
 """The attributes of any element whose value is a URL."""
+
+OF_PAGES = {XHTML, SVG, MATHML}
+"""The namespaces of the elements that a page may have, whose links are relative to the ``base`` of XHTML."""
 
 # The start of a start tag, and an attribute of it; both are well-formed.
 _NAME = re.compile(r"<[^\s/>]+")
@@ -83,7 +87,9 @@ class _Reader:
         self._is_ascii = len(data) == len(source.text)
         self._seen_bytes = 0
         self._seen_points = 0
+        # What `xml:base` says of each element that isn't ended, and what the first `base` of XHTML says.
         self._bases: List[Optional[str]] = [None]
+        self._page_base: Optional[str] = None
         self._is_rss = False
         # The text of the element that is being read, if it is a URL: its pieces with their places.
         self._pieces: Optional[List[Tuple[str, int]]] = None
@@ -95,7 +101,7 @@ class _Reader:
 
     def broken(self, reason: str) -> Broken:
         """Why the document can't be read from here on. (The parser's own lines end with a carriage return too.)"""
-        return Broken(*self._source.position(self._offset()), reason)
+        return Broken(self._offset(), reason)
 
     def _offset(self) -> int:
         """Where what is being read begins in the source, in code points."""
@@ -135,7 +141,7 @@ class _Reader:
         self._bases.append(base)
 
     def _take_attributes(self, element: Name, names: List[Name], values: List[str]) -> Optional[str]:
-        """Takes the links of a start tag, and gives the base within the element."""
+        """Takes the links of a start tag, and gives what ``xml:base`` says within the element."""
         base = self._bases[-1]
         if not any(_is_url(element, it) or it == (XML, "base") for it in names):
             return base
@@ -153,6 +159,11 @@ class _Reader:
         """Takes the links of an attribute's value, which is written so in the source, at that place."""
         tag, (raw, offset) = element[1], place
         is_verbatim = raw == value
+        if (element, name) == ((XHTML, "base"), "href"):
+            self._take_base(stripped(value, offset, is_verbatim, base))
+            return
+        if base is None and element[0] in OF_PAGES:
+            base = self._page_base
         words = None
         if element[0] == XHTML and _html_links.has(_html_links.LISTS, name, tag):
             words = words_of(value)
@@ -163,6 +174,12 @@ class _Reader:
             return
         for word, at in words:
             self.links.append(Link(word, offset + at if is_verbatim else offset, is_verbatim, base))
+
+    def _take_base(self, link: Link) -> None:
+        """Takes what a ``base`` of XHTML says: the first one counts."""
+        self.links.append(link)
+        if self._page_base is None:
+            self._page_base = link.text
 
     def _places(self, start: int) -> List[Tuple[str, int]]:
         """The values of the start tag at that place, but for namespaces: each as it is written, and where it begins."""

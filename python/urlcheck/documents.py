@@ -11,11 +11,12 @@ import re
 import resource
 import signal
 import sys
-from typing import List, NamedTuple, Optional, Set
+from typing import Iterator, List, NamedTuple, Optional, Set
 
 from . import BaseRefused, Profile, check
 from . import _html_links, _markdown_links, _xml_links
-from ._apart import MOST_MEMORY, Taken, apart, nothing
+from ._apart import MOST_MEMORY, Part, Taken, apart, has_come, nothing
+from ._columns import Places
 from ._folders import documents_of, kind_of, no_document
 from ._judge import Judge
 from ._message import message
@@ -104,11 +105,17 @@ _PLACE = re.compile(":[0-9]+:[0-9]+:")
 """What ends the name of the file in a located line."""
 
 
-def located(name: str, source: Source, link: Link) -> str:
+def located(name: str, places: Places, link: Link) -> str:
     """The line that says where a link stands. A line feed or a carriage return within it is written as a tab, which is
     refused alike."""
-    line, column = source.position(link.offset)
+    line, column = places.position(link.offset)
     return "{}:{}:{}:{}".format(name, line, column, re.sub("[\r\n]", "\t", link.text))
+
+
+def _stopped(places: Places, broken: Broken) -> str:
+    """What is said behind a document's name where its reader stopped."""
+    line, column = places.position(broken.offset)
+    return ":{}:{}: can't be read from here on: {}".format(line, column, broken.reason)
 
 
 def read_document(name: str) -> bytes:
@@ -137,38 +144,40 @@ class Run:
     def take(self, name: str) -> None:
         """Writes the located links of a document or, with a judge, what is wrong with them."""
         shown = named(name)
-        taken = apart(lambda: self._taken(name, shown))
-        self.counts.add(taken)
-        self._report.add(taken.lines)
-        if taken.fault is not None:
-            is_input = name == "-" and taken.fault.startswith(": ")
-            tell(("standard input" if is_input else shown or "''") + taken.fault)
+        for taken in apart(lambda: self._parts(name, shown)):
+            self.counts.add(taken)
+            self._report.add(taken.lines)
+            if taken.fault is not None:
+                is_input = name == "-" and taken.fault.startswith(": ")
+                tell(("standard input" if is_input else shown or "''") + taken.fault)
 
-    def _taken(self, name: str, shown: str) -> Taken:
+    def _parts(self, name: str, shown: str) -> Iterator[Taken]:
+        """What a document gives, part by part."""
         try:
             found = self._read(name, shown)
         except Unread as reason:
-            return nothing(str(reason))
+            yield nothing(str(reason))
+            return
         except RecursionError:
-            return nothing("is nested too deeply")
-        said = ignored = 0
-        lines = bytearray()
+            yield nothing("is nested too deeply")
+            return
+        places = Places(found.source, self._settings.unit)
+        part = Part(1)
         for link in found.links:
             if found.source.position(link.offset)[0] in found.ignored or self._is_meant(link.text):
-                ignored += 1
-                continue
-            more = self._said(name, shown, found.source, link)
-            said += more != ""
-            lines += more.encode("utf-8", "surrogateescape")
-        refused = said if self._judge else 0
-        broken = None if found.broken is None else ":{}".format(found.broken)
-        return Taken(1, len(found.links), refused, ignored, bytes(lines), broken)
+                part.add_ignored()
+            else:
+                part.add(self._said(name, shown, places, link), self._judge is not None)
+            if part.is_full():
+                yield part.taken()
+                part = Part(0)
+        yield part.taken(None if found.broken is None else _stopped(places, found.broken))
 
-    def _said(self, name: str, shown: str, source: Source, link: Link) -> str:
+    def _said(self, name: str, shown: str, places: Places, link: Link) -> str:
         """The lines on a link: none where a judge finds it valid."""
         if self._judge is None:
-            return located(shown, source, link) + "\n"
-        finding = self._judge.finding(name, source, link)
+            return located(shown, places, link) + "\n"
+        finding = self._judge.finding(name, places, link)
         return self._settings.format.said(finding) if finding else ""
 
     def _read(self, name: str, shown: str) -> Found:
@@ -185,7 +194,9 @@ class Run:
         place = _PLACE.search(name + ":1:1:")
         if self._judge is None and place is not None and place.start() != len(name):
             raise Unread("its name has what a located line would read as its line and column")
-        return links_in(read_document(name), kind)
+        data = read_document(name)
+        has_come()
+        return links_in(data, kind)
 
     def _is_meant(self, text: str) -> bool:
         return any(it.search(text) for it in self._settings.ignored)
@@ -197,7 +208,7 @@ def run(words: Optional[List[str]] = None) -> int:
     refused = _base_refused(settings.base, settings.profile)
     if refused is not None:
         return stop(refused)
-    report = Report(settings.format, write)
+    report = Report(settings.format, settings.unit, write)
     judge = Judge(settings.base, settings.profile, settings.format.has_mended) if is_judged else None
     seen = Run(settings, judge, report)
     report.begin()

@@ -198,6 +198,48 @@ class Documents(Texts):
             self.assertEqual(status, 2)
             self.assertIn("urlcheck-documents: the base is refused at place " + wanted, said)
 
+    def test_bases_whose_text_is_refused(self):
+        """A base is valid though the text of its URL isn't, where a `..` or a `.` in its path goes."""
+        space, drive, host = ("2:11", "code-point"), ("2:24", "drive-after-host"), ("2:42", "host-missing")
+        for base, places in (
+            ("http://h/a/..//b?c//d", [space, host]),
+            ("/a/..//b", [space, host]),
+            ("//h/./a/../../..//b", [space, host]),
+            ("file://h/./C:/x", [space, drive]),
+            ("file:///a/..//b", [space]),
+            ("foo://h/a/..//b", [space]),
+            ("foo:///a/..//b", [space]),
+            ("foo:/a/..//b", [space]),
+        ):
+            with self.subTest(base):
+                self.write("a.html", '<base href="{}">\n<a href="x y"><a href="/C:/z"><a href="///">'.format(base))
+                self.judges("a.html", places)
+
+    def test_bases_of_xhtml(self):
+        """The first `base` with an `href` counts for what a page has behind it, but where `xml:base` stands around."""
+        page = '<html xmlns="http://www.w3.org/1999/xhtml" xmlns:x="http://www.w3.org/1999/xlink">{}</html>'
+        for name, text, places in (
+            ("a.xhtml", '\n<a href="x"/><base/><base target="y"/><base href=" urn:a "/><a href="x"/>', ["2:70"]),
+            ("a.xht", '\n<base href="http://h/"/>\n<base href="urn:a"/><a href="x"/>', []),
+            ("b.xhtml", '\n<base href="urn:a"/>\n<base href="y"/><base href="a b"/><img src="x"/>',
+             ["3:30 code-point", "3:45"]),
+            # One that isn't valid is passed over, and the next doesn't count.
+            ("c.xhtml", '\n<base href="a b"/>\n<base href="urn:a"/><a href="x"/>', ["2:14 code-point"]),
+            ("d.xhtml", '<base href="urn:a"/>\n<p xml:base="http://h/"><a href="x"/></p><a href="#f"/><a href="?q"/>',
+             ["2:65"]),
+            ("e.xhtml", '<p xml:base="urn:a">\n<base href="http://h/"/><a href="x"/></p>\n<a href="x"/>', ["2:34"]),
+            ("f.xhtml", '<base href="urn:a"/>\n'
+             '<svg xmlns="http://www.w3.org/2000/svg"><a href="x"/><b x:href="y"/></svg>', ["2:50", "2:65"]),
+            ("g.xhtml", '<base href="urn:a"/>\n<m xmlns="http://www.w3.org/1998/Math/MathML" x:href="x"/>', ["2:55"]),
+            ("h.xml", '<base href="urn:a"/>\n<link xmlns="http://www.w3.org/2005/Atom" href="x"/><a href="x"/>',
+             ["2:62"]),
+            ("i.xhtml", '<BASE href="urn:a"/><base HREF="urn:a"/><base xmlns="" href="urn:a"/><a href="x"/>', []),
+        ):
+            with self.subTest(name):
+                self.write(name, page.format(text))
+                wanted = [(place, rule or "opaque-base") for place, _, rule in (it.partition(" ") for it in places)]
+                self.judges(name, wanted)
+
     def test_profiles(self):
         self.write("a.html", '<a href="http://a_b/">')
         self.judges("a.html", [("1:17", "host-domain")])

@@ -17,6 +17,8 @@ from room import PROGRAM, Room
 
 LINT = [os.path.realpath(sys.argv.pop(1)), "lint", "--quiet", "--located"] if len(sys.argv) > 1 else []
 FORMATS = ("gnu", "caret", "json", "github", "sarif", "checkstyle")
+UNITS = ("code-points", "bytes", "utf16", "screen")
+UNITS_OF_SARIF = {"code-points", "utf16"}
 BASE = "https://example.com/"
 
 BEYOND = (0x80, 0x85, 0x9F, 0xA0, 0xAD, 0xE9, 0x301, 0x5D0, 0x61C, 0x17D8, 0x200B, 0x200D, 0x200E, 0x2028, 0x202E,
@@ -69,13 +71,14 @@ class Reported(Room):
 class Compared(Reported):
     """Documents without a base of their own and without character references: `lint` writes the same."""
 
-    def same(self, name, base=BASE, profile="standard", forms=FORMATS):
+    def same(self, name, base=BASE, profile="standard", forms=FORMATS, unit="code-points"):
         """How many links are refused of what is named, once each format was found to be that of `lint`."""
-        status, links, said = self.run_on("--quiet", "--", name)
+        columns = () if unit == "code-points" else ("--columns", unit)
+        status, links, said = self.run_on("--quiet", *columns, "--", name)
         self.assertEqual((status, said), (0, b""))
-        words = ("--base", base, "--profile", profile)
+        words = ("--base", base, "--profile", profile, *columns)
         for form in forms:
-            with self.subTest(name=name, base=base, profile=profile, form=form):
+            with self.subTest(name=name, base=base, profile=profile, form=form, unit=unit):
                 status, wanted, _ = self.run_on(*words, "--format", form, "-", program=LINT, stdin=links)
                 found = self.run_on("--quiet", "--check", *words, "--format", form, "--", name)
                 if found != (status, wanted, b""):
@@ -113,6 +116,33 @@ class Compared(Reported):
         # What turns a text's direction stays in a line of `gnu` that goes to a file.
         self.write("e/\u202ea\u2028.html", page(["a b"]))
         self.assertEqual(self.same("e", forms=FORMATS[1:]), 1)
+
+    def test_columns(self):
+        """Columns in each unit, behind and within what takes several or none of it, on short lines and on a long one."""
+        parts = ("h\u0301", "\u65e5\u672c", "\U0001f600", "\t", "\u200b\u202e", "\u17d8\u0378", "ab \x7f\x01", "\u00ad\ufdd0")
+        links = [place.format(part) for part in parts for place in ("{0}^{0}^", "x{0} y", "http://{0}_/", "\tz{0}^")]
+        links += ["http://h/{}^{}^".format(part * 70, part * 70) for part in parts]
+        rows = "".join("{}<a href='{}'>".format(parts[at % len(parts)], link) for at, link in enumerate(links))
+        self.write("lines.html", rows.replace("<a", "\n<a").replace("'>", "'>\n\t"))
+        self.write("long.html", rows * 20)
+        self.write("lines.xml", "<urlset>{}</urlset>".format("".join(
+            "\u65e5\t<loc> \t{}</loc>\n".format(link.replace("\x01", "").strip()) for link in links)))
+        for unit in UNITS:
+            forms = FORMATS if unit in UNITS_OF_SARIF else [it for it in FORMATS if it != "sarif"]
+            self.assertGreater(self.same("lines.html", forms=forms, unit=unit), len(links) - 8)
+            self.assertGreater(self.same("long.html", forms=forms, unit=unit), (len(links) - 8) * 20)
+            self.assertGreater(self.same("lines.xml", forms=forms, unit=unit), len(links) - 8)
+
+    def test_columns_without_a_word(self):
+        """SARIF has no word for two units: they are refused as `lint` refuses them."""
+        self.write("a.html", page(["a b"]))
+        for unit in sorted(set(UNITS) - UNITS_OF_SARIF):
+            words = ("--format", "sarif", "--columns", unit)
+            for base in (BASE, "no base"):
+                status, written, said = self.run_on("--base", base, *words, "-", program=LINT)
+                self.assertEqual((status, written), (2, b""))
+                wanted = said.replace(b"urlcheck: ", b"urlcheck-documents: ").replace(b"\nwords\n", b"\n")
+                self.assertEqual(self.run_on("--base", base, "--check", *words, "a.html"), (2, b"", wanted))
 
     def test_nothing_refused(self):
         self.write("a.html", page(["a", "http://h/"]))
@@ -261,6 +291,48 @@ class Alone(Reported):
         self.write("a.html", "<a href='a b'>" * 20_000)
         self.assertEqual(len(self.results("a.html")), 20_000)
 
+    def test_columns(self):
+        """Where a link and a wrong place stand in each unit: behind `h` with a combining mark, two wide code points of three
+        bytes, one of four bytes and two code units of UTF-16, and a tab, which goes on to the column 17."""
+        text = "<p>h\u0301\u65e5\u672c\U0001f600 \t<a href='x\u65e5 \U0001f600'>\n"
+        self.write("a.html", text)
+        self.write("b.html", text.replace("href='", "href='&amp;"))
+        for unit, link, place, end in (
+            ("code-points", 20, 22, 24), ("bytes", 28, 32, 37), ("utf16", 21, 23, 26), ("screen", 26, 29, 32),
+        ):
+            with self.subTest(unit):
+                words = ("--quiet", "--columns", unit)
+                self.assertEqual(self.run_on(*words, "a.html")[1].split(b":")[2], str(link).encode())
+                self.assertEqual(self.run_on(*words, "--check", "a.html")[1].split(b":")[2], str(place).encode())
+                found = [json.loads(self.reported("json", "--columns", unit, name)) for name in ("a.html", "b.html")]
+                # (where the value has references, the place is its beginning)
+                self.assertEqual([it["column"] for it in found], [place, link])
+                self.assertIn(",col={},".format(place), self.reported("github", "--columns", unit, "a.html"))
+                self.assertIn(' column="{}" '.format(place), self.reported("checkstyle", "--columns", unit, "a.html"))
+                if unit in UNITS_OF_SARIF:
+                    run = json.loads(self.reported("sarif", "--columns", unit, "a.html"))["runs"][0]
+                    kind = {"code-points": "unicodeCodePoints", "utf16": "utf16CodeUnits"}[unit]
+                    self.assertEqual(run["columnKind"], kind)
+                    where = run["results"][0]["locations"][0]["physicalLocation"]["region"]
+                    self.assertEqual(where, {"startLine": 1, "startColumn": place})
+                    fix = self.fix("a.html", (1, link, 1, end), "x\u65e5%20\U0001f600", "same")
+                    self.assertEqual(run["results"][0]["fixes"], [fix])
+        for unit in ("bytes", "screen"):
+            words = ("--check", "--format", "sarif", "--columns", unit, "--base", "no base", "a.html")
+            said = ("urlcheck-documents: no column unit of sarif is named '{}'\n"
+                    "urlcheck-documents: the column units of sarif: code-points utf16\n").format(unit)
+            self.assertEqual(self.run_on(*words), (2, b"", said.encode()))
+
+    def test_columns_of_two_lines(self):
+        """A fix over two lines, and the place from which on a document can't be read."""
+        self.write("a.html", "<a href='\U0001f600\n\U0001f600^'>")
+        fix = self.fix("a.html", (1, 10, 2, 4), "\U0001f600\U0001f600%5E", "same")
+        self.assertEqual(self.results("--columns", "utf16", "a.html")[0]["fixes"], [fix])
+        self.write("b.xml", "<a>\n\u65e5\U0001f600</b></a>")
+        for unit, column in (("code-points", 5), ("bytes", 10), ("utf16", 6), ("screen", 7)):
+            said = "urlcheck-documents: b.xml:2:{}: can't be read from here on: mismatched tag\n".format(column)
+            self.assertEqual(self.run_on("--quiet", "--columns", unit, "b.xml"), (2, b"", said.encode()))
+
     def test_wrong_words(self):
         self.write("a.html", "<a href='x y'>")
         for words, wanted in (
@@ -268,6 +340,7 @@ class Alone(Reported):
             (("--format=gnu", "a.html"), "argument --format: not allowed without argument --check"),
             (("--check", "--format", "jsn", "a.html"), "argument --format: invalid choice: 'jsn' (choose from "),
             (("--check", "a.html", "--format"), "argument --format: expected one argument"),
+            (("--columns", "utf-16", "a.html"), "argument --columns: invalid choice: 'utf-16' (choose from "),
         ):
             status, written, said = self.run_on(*words)
             self.assertEqual((status, written), (2, b""))

@@ -3,14 +3,23 @@ The package is on PYTHONPATH."""
 
 import errno
 import importlib.util
+import json
 import os
 import resource
 import subprocess
 import sys
+import time
 import unittest
+from unittest import mock
 
 from room import PROGRAM, TOP, Texts
+from urlcheck import _apart
 from urlcheck._streams import REASONS, reason_of
+
+PART = _apart.Taken(1, 1, 0, 0, b"x" * 300_000)
+
+MEMORY_OF_LINKS = 120_000
+"""How much memory, in KiB, the program has for 100,000 links, a report on which has 54 MB as SARIF."""
 
 
 class Limits(Texts):
@@ -153,6 +162,78 @@ class Limits(Texts):
         wanted = "^urlcheck-documents: a.md: (needs more than 480 MiB of memory|takes more than 60 seconds)"
         self.assertRegex(said, wanted)
         self.assertNotIn("Traceback", said)
+
+    def taken(self, parts, pause=0):
+        """The lines and the faults of what is taken of parts, by limits of one second and a reader that pauses."""
+        lines, faults = b"", []
+        with mock.patch.object(_apart, "MOST_SECONDS", 1):
+            for taken in _apart.apart(parts):
+                lines += taken.lines
+                faults += [taken.fault] * (taken.fault is not None)
+                time.sleep(pause)
+        return lines, faults
+
+    def test_parts(self):
+        """What a document has given before it takes too long or too much memory is taken, in whole parts."""
+        def endless():
+            _apart.has_come()
+            yield PART
+            while True:
+                pass
+
+        def without_memory():
+            yield PART
+            yield PART
+            raise MemoryError
+
+        def failing():
+            yield PART
+            raise ValueError("x")
+
+        def waiting():
+            time.sleep(100)
+            yield PART
+
+        def busy():
+            while True:
+                pass
+            yield PART
+
+        rest = ", and isn't reported to its end"
+        for parts, count, fault in (
+            (endless, 1, "takes more than 1 seconds of processor time" + rest),
+            (without_memory, 2, "needs more than 480 MiB of memory" + rest),
+            (failing, 1, "its reader failed: ValueError('x')"),
+            (waiting, 0, "takes more than 1 seconds to read"),
+            (lambda: iter([PART] * 5), 5, None),
+            (lambda: iter([]), 0, None),
+        ):
+            with self.subTest(fault):
+                faults = [] if fault is None else [": " + fault]
+                self.assertEqual(self.taken(parts), (PART.lines * count, faults))
+        _, (fault,) = self.taken(busy)
+        self.assertRegex(fault, "^: takes more than 1 seconds (of processor time )?to read$")
+
+    def test_a_slow_reader(self):
+        """A report that is read slowly takes no processor time."""
+        def parts():
+            _apart.has_come()
+            return iter([PART] * 6)
+
+        self.assertEqual(self.taken(parts, pause=0.4), (PART.lines * 6, []))
+
+    def test_many_refused_links(self):
+        """A report is written part by part, so that a long one takes no more memory than a short one."""
+        self.write("a.html", "<a href='a b'>\n" * 100_000)
+        line = 'ulimit -v {}; "{}" -m urlcheck.documents --check --format sarif a.html'
+        line = line.format(MEMORY_OF_LINKS, sys.executable)
+        ran = subprocess.run(["bash", "-c", line], cwd=self.room, capture_output=True)
+        self.assertEqual(ran.stderr, b"urlcheck-documents: 1 document, 100000 links, 100000 refused, 0 ignored\n")
+        self.assertEqual(ran.returncode, 1)
+        (run,) = json.loads(ran.stdout.decode())["runs"]
+        self.assertEqual(len(run["results"]), 100_000)
+        self.assertEqual(run["results"][-1]["locations"][0]["physicalLocation"]["region"]["startLine"], 100_000)
+        self.assertEqual(run["invocations"], [{"executionSuccessful": True}])
 
     def test_hostile(self):
         entities = "".join('<!ENTITY a{} "{}">'.format(at, "&a{};".format(at - 1) * 10) for at in range(1, 10))

@@ -1,8 +1,11 @@
-"""Tests of what words ask urlcheck.documents for: options, folders, and what is left out. The package is on PYTHONPATH."""
+"""Tests of what words ask urlcheck.documents for: options, folders, what is left out. The package is on PYTHONPATH."""
 
+import gzip
+import importlib.util
 import os
 import re
 import subprocess
+import sys
 import unittest
 
 from room import PROGRAM, TOP, Texts
@@ -110,7 +113,8 @@ class Words(Texts):
         for name in ("a.html", "b.html", "--check", "-q"):
             self.write(name, "<a href='x y'>")
         links = "a.html:1:10:x y\nb.html:1:10:x y\n"
-        refused = "".join("{}.html:1:11: error: U+0020 SPACE may not stand in a URL [code-point]\n".format(it) for it in "ab")
+        line = "{}.html:1:11: error: U+0020 SPACE may not stand in a URL [code-point]\n"
+        refused = line.format("a") + line.format("b")
         for words, wanted in (
             ("-q a.html b.html", links),
             ("a.html -q b.html", links),
@@ -162,6 +166,29 @@ class Words(Texts):
                 parts = "\n".join(re.findall(part, file.read(), re.M)).replace("\\-", "-")
                 names = {it.replace("-s ", "-").replace("-l ", "--") for it in re.findall(name, parts)}
                 self.assertEqual(names, wanted)
+
+    def test_examples(self):
+        """Each example of the help and of the manual page judges, and finds the wrong link."""
+        wrong = '<a href="x y">'
+        for name in ("site/a.html", "docs/a.html", "vendor/a.min.html"):
+            self.write(name, wrong)
+        self.write("README.md", wrong + "\n")
+        self.write("sitemap.xml.gz", gzip.compress(b"<urlset><loc>http://h/ a</loc></urlset>"))
+        shown = self.run_on("--help")[1].split("Examples:\n")[1]
+        with open(os.path.join(TOP, "man", "urlcheck-documents.1"), encoding="utf-8") as page:
+            manual = page.read().split(".SH EXAMPLES\n.nf\n")[1].split(".fi\n")[0].replace("|\n", "|")
+        lines = (shown + manual.replace("\\-", "-").replace("\\(aq", "'")).splitlines()
+        lines = [it.strip() for it in lines if it.strip()]
+        self.assertGreater(len(lines), 6)
+        prelude = 'urlcheck-documents() {{ "{}" -m urlcheck.documents "$@"; }}\n'.format(sys.executable)
+        for line in lines:
+            if "README.md" in line and not importlib.util.find_spec("markdown_it"):
+                continue
+            with self.subTest(line):
+                # (the list goes to `cat`, since the program isn't there)
+                command = re.sub(r"urlcheck lint .*", "cat", line)
+                ran = subprocess.run(["bash", "-c", prelude + command], cwd=self.room, capture_output=True)
+                self.assertEqual((ran.returncode, ran.stderr.count(b" refused")), (0, 0) if command != line else (1, 1))
 
     def test_ignored(self):
         self.write("patterns", "# templates\n\\{\\{\n")
