@@ -36,7 +36,8 @@ class Asked(NamedTuple):
 
 _ABOUT = """\
 Prints the links of HTML, XML and Markdown as lines FILE:LINE:COLUMN:LINK, which
-'urlcheck lint --located -' reads; with --check, judges them."""
+'urlcheck lint --located -' reads; with --check, judges how they are written.
+Nothing is fetched."""
 
 _NOTES = """\
 A folder stands for all documents in it whose names end in

@@ -32,6 +32,13 @@ MARKDOWN = "the package markdown-it-py: pip install markdown-it-py, or Debian's 
 """What reads Markdown, and how to have it."""
 
 
+_GZIP = b"\x1f\x8b"
+"""How a file begins that gzip wrote."""
+
+_URL = re.compile("[A-Za-z][A-Za-z0-9+.-]*://")
+"""How a URL begins that is no name of a file."""
+
+
 class Unread(Exception):
     """Why a document can't be read."""
 
@@ -75,6 +82,8 @@ def links_in(data: bytes, kind: str) -> Found:
     part of its first line."""
     if len(data) > MOST_BYTES:
         raise Unread("has more than {} MiB".format(MOST_BYTES >> 20))
+    if data.startswith(_GZIP):
+        raise Unread("is compressed: gzip -dc unpacks it, and - reads what that writes")
     mark = len(codecs.BOM_UTF8) if data.startswith(codecs.BOM_UTF8) else 0
     data = data[mark:]
     try:
@@ -129,7 +138,8 @@ def read_document(name: str) -> bytes:
         with open(name, "rb") as file:
             return file.read(MOST_BYTES + 1)
     except OSError as error:
-        raise Unread("can't be read: {}".format(reason_of(error))) from None
+        more = ", and no URL is fetched" if _URL.match(name) else ""
+        raise Unread("can't be read: {}{}".format(reason_of(error), more)) from None
 
 
 class Run:

@@ -2,6 +2,7 @@
 The package is on PYTHONPATH."""
 
 import errno
+import gzip
 import importlib.util
 import json
 import os
@@ -37,6 +38,19 @@ class Limits(Texts):
                      "utf16.html: isn't UTF-8 at byte 0", "broken.xml:2:26: can't be read from here on: mismatched tag",
                      "a.txt: its name's end says no kind"):
             self.assertIn(word, said)
+
+    def test_what_is_no_document(self):
+        """What is compressed is named as such, and so is a URL: both look like a document to a new user."""
+        packed = gzip.compress(b"<urlset><loc>http://h/ a</loc></urlset>")
+        self.write("a.xml", packed)
+        wanted = "is compressed: gzip -dc unpacks it, and - reads what that writes\n"
+        self.assertEqual(self.run_on("--quiet", "a.xml"), (2, "", "urlcheck-documents: a.xml: " + wanted))
+        status, out, said = self.run_on("--quiet", "--type", "xml", "-", stdin=packed)
+        self.assertEqual((status, out, said), (2, "", "urlcheck-documents: standard input: " + wanted))
+        wanted = "urlcheck-documents: {}: can't be read: there is no such file{}\n"
+        for name, more in (("https://h/a", ", and no URL is fetched"), ("file://h/a.html", ", and no URL is fetched"),
+                           ("http:a.html", ""), ("h/a.html", "")):
+            self.assertEqual(self.run_on("--quiet", name), (2, "", wanted.format(name, more)))
 
     def test_reasons(self):
         """Why a file can't be read or written, in the words of `urlcheck`."""
