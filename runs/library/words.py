@@ -167,12 +167,29 @@ class Words(Texts):
                 names = {it.replace("-s ", "-").replace("-l ", "--") for it in re.findall(name, parts)}
                 self.assertEqual(names, wanted)
 
+    def test_values_of_options(self):
+        """The completions have the values that the help names, of each option that takes one of several."""
+        shown = self.run_on("--help")[1]
+        wanted = {name: set(values.split(",")) for name, values in re.findall(r"^  --([a-z]+) \{(.*)\}", shown, re.M)}
+        self.assertEqual(wanted["columns"], {"code-points", "bytes", "utf16", "screen"})
+        self.assertLessEqual({"format", "profile", "type"}, set(wanted))
+        for path, pattern in (
+            ("completions/urlcheck-documents.bash", r"--([a-z]+)\) words='(.*?)'"),
+            ("completions/_urlcheck-documents", r"--([a-z]+)=\[.*?\]:[A-Z]+:\((.*?)\)"),
+            ("completions/urlcheck-documents.fish", r"-l ([a-z]+) -x -a '(.*?)'"),
+        ):
+            with self.subTest(path), open(os.path.join(TOP, path), encoding="utf-8") as file:
+                found = {name: set(values.split()) for name, values in re.findall(pattern, file.read())}
+                self.assertEqual(found, wanted)
+
     def test_examples(self):
         """Each example of the help and of the manual page judges, and finds the wrong link."""
         wrong = '<a href="x y">'
         for name in ("site/a.html", "docs/a.html", "vendor/a.min.html"):
             self.write(name, wrong)
-        self.write("README.md", wrong + "\n")
+        # (without the reader of Markdown there is none, since it can't be read)
+        if importlib.util.find_spec("markdown_it"):
+            self.write("README.md", wrong + "\n")
         self.write("sitemap.xml.gz", gzip.compress(b"<urlset><loc>http://h/ a</loc></urlset>"))
         shown = self.run_on("--help")[1].split("Examples:\n")[1]
         with open(os.path.join(TOP, "man", "urlcheck-documents.1"), encoding="utf-8") as page:
@@ -182,7 +199,7 @@ class Words(Texts):
         self.assertGreater(len(lines), 6)
         prelude = 'urlcheck-documents() {{ "{}" -m urlcheck.documents "$@"; }}\n'.format(sys.executable)
         for line in lines:
-            if "README.md" in line and not importlib.util.find_spec("markdown_it"):
+            if "README.md" in line and not os.path.exists(os.path.join(self.room, "README.md")):
                 continue
             with self.subTest(line):
                 # (the list goes to `cat`, since the program isn't there)
