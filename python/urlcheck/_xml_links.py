@@ -18,6 +18,8 @@ MATHML = "http://www.w3.org/1998/Math/MathML"
 XLINK = "http://www.w3.org/1999/xlink"
 XML = "http://www.w3.org/XML/1998/namespace"
 RSS_1 = "http://purl.org/rss/1.0/"
+ITUNES = "http://www.itunes.com/dtds/podcast-1.0.dtd"
+MEDIA = "http://search.yahoo.com/mrss/"
 NOWHERE = " "
 """Stands for no namespace, where that means nothing: outside RSS."""
 
@@ -35,6 +37,9 @@ namespace, for sitemaps and their extensions."""
 ATTRIBUTES: Dict[Name, Set[str]] = {
     ("", "enclosure"): {"url"},
     ("", "source"): {"url"},
+    (ITUNES, "image"): {"href"},
+    (MEDIA, "content"): {"url"},
+    (MEDIA, "thumbnail"): {"url"},
     (ATOM, "link"): {"href"},
     (ATOM, "content"): {"src"},
 }

@@ -59,6 +59,14 @@ SITEMAP = """<urlset xmlns="http://www.sitemaps.org/schemas/sitemap/0.9"><url><l
   http://h/ b</loc></url></urlset>
 """
 
+PODCAST = """<rss xmlns:itunes="http://www.itunes.com/dtds/podcast-1.0.dtd" xmlns:m="http://search.yahoo.com/mrss/">
+<itunes:image href="http://h/ b"/><image href="no link"/><itunes:image url="no link"/>
+<item><m:title url="no link">no link</m:title>
+<m:content type="x/y" url="http://h/c"/>
+<m:thumbnail  url="d.png"/></item>
+</rss>
+"""
+
 NOTES = """# Title [a](http://h/a%20b "t") and <http://h/%4>
 
 > quote [b](<http://h/a b>) text ![img](http://[::1)
@@ -112,6 +120,7 @@ class Documents(Texts):
         self.finds("a.rss", FEED, FEED_LINKS)
         self.judges("a.rss", [("3:18", "code-point"), ("4:51", "port-range"), ("5:62", "percent"), ("6:60", "code-point")])
         self.finds("sitemap.xml", SITEMAP, "2:3:http://h/ b\n")
+        self.finds("podcast.rss", PODCAST, "2:21:http://h/ b\n4:28:http://h/c\n5:20:d.png\n")
 
     @unittest.skipUnless(importlib.util.find_spec("markdown_it"), "markdown-it-py isn't installed")
     def test_markdown(self):
