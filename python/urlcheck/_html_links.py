@@ -5,7 +5,7 @@ from html.entities import html5
 from html.parser import HTMLParser
 from typing import Dict, Iterator, List, Match, Optional, Set, Tuple
 
-from ._source import IGNORE, SPACES, Broken, Link, Source, stripped, words_of
+from ._source import IGNORE, SPACES, Broken, Link, Source, base_of, stripped, words_of
 
 URLS: Dict[str, Set[str]] = {
     "action": {"form"},
@@ -121,7 +121,7 @@ class _Reader(HTMLParser):
             self.links.append(link)
             # The first base with an href counts.
             if tag == "base" and name == "href" and self._base is None:
-                self._base = link.text
+                self._base = base_of(link.text)
         elif has(LISTS, name, tag):
             for word, at in words_of(value):
                 self._add(word, at, offset, is_verbatim)

@@ -72,6 +72,16 @@ def stripped(value: str, offset: int, is_verbatim: bool, base: Optional[str] = N
     return Link(link, offset, is_verbatim, base)
 
 
+_NO_BASE = re.compile("(?:data|javascript):", re.IGNORECASE)
+"""How the text of a ``base`` begins that says nothing."""
+
+
+def base_of(text: str) -> str:
+    """What a ``base`` of a page says, as the HTML Standard has it in section 4.2.3: one whose scheme is ``data`` or
+    ``javascript`` says nothing, and no further one counts."""
+    return "" if _NO_BASE.match(text) else text
+
+
 def words_of(value: str) -> Iterator[Tuple[str, int]]:
     """The words of a value that spaces separate, each with where it begins in the value."""
     for found in _WORD.finditer(value):

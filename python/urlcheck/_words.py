@@ -89,7 +89,7 @@ def _given(parser: argparse.ArgumentParser, words: List[str]) -> argparse.Namesp
         parser.error("there is no option " + name.partition("=")[0])
     given.files = given.files + words[end + 1 :]
     if not given.files:
-        parser.error("the following arguments are required: FILE")
+        parser.error("there is no FILE; - is standard input")
     return given
 
 

@@ -5,7 +5,7 @@ from typing import Dict, List, Optional, Set, Tuple
 from xml.parsers import expat
 
 from . import _html_links
-from ._source import IGNORE, Broken, Link, Source, stripped, words_of
+from ._source import IGNORE, Broken, Link, Source, base_of, stripped, words_of
 
 Name = Tuple[str, str]
 """A namespace and a local name."""
@@ -184,7 +184,7 @@ class _Reader:
         """Takes what a ``base`` of XHTML says: the first one counts."""
         self.links.append(link)
         if self._page_base is None:
-            self._page_base = link.text
+            self._page_base = base_of(link.text)
 
     def _places(self, start: int) -> List[Tuple[str, int]]:
         """The values of the start tag at that place, but for namespaces: each as it is written, and where it begins."""

@@ -193,6 +193,12 @@ class Documents(Texts):
         self.judges("none.html", [("1:15", "code-point")])
         self.write("base.html", '<base href="urn:a"><a href="x">')
         self.judges("base.html", [("1:29", "opaque-base")])
+        # (the Standard lets no base be of these schemes, and a further one doesn't count)
+        self.write("data.html", '<base href="DATA:,">\n<base href="urn:a">\n<a href="x"><a href="y z">')
+        self.judges("data.html", [("3:23", "code-point")])
+        self.write("script.xhtml", '<html xmlns="http://www.w3.org/1999/xhtml"><base href="javascript:x"/>\n'
+                   '<base href="urn:a"/><a href="x"/><a href="y z"/></html>')
+        self.judges("script.xhtml", [("2:44", "code-point")])
         self.write("given.html", '<a href="/C:/x"><a href="//">')
         self.judges("given.html", [("1:10", "drive-after-host"), ("1:28", "host-missing")], "--base", "file://h/a")
         status, _, said = self.run_on("--check", "--base", "x", "none.html")

@@ -136,9 +136,9 @@ class Words(Texts):
     def test_wrong_words(self):
         self.write("a.html", "<a href='x y'>")
         for words, wanted in (
-            ("", "the following arguments are required: FILE"),
-            ("--check", "the following arguments are required: FILE"),
-            ("--check --", "the following arguments are required: FILE"),
+            ("", "there is no FILE; - is standard input\n"),
+            ("--check", "there is no FILE; - is standard input\n"),
+            ("--check --", "there is no FILE; - is standard input\n"),
             ("a.html --base -- a.html", "argument --base: expected one argument"),
             ("a.html --all a.html", "there is no option --all"),
             ("a.html --wide=yes --all", "there is no option --wide"),
