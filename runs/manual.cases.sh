@@ -130,5 +130,7 @@ completes '--format' --fo
 completes 'sarif' --check --format s
 completes 'gnu caret json github sarif checkstyle' --format =
 completes 'html markdown xml' --type =
+completes 'code-points bytes utf16 screen' --check --columns =
+completes 'screen' --columns s
 completes '--type=xml' --type=x
-all_cases 57
+all_cases 59
