@@ -1,1 +1,6 @@
 mod SameLemmas
+mod WrittenLemmas
+mod NameLemmas
+mod PlainLemmas
+mod LinkLemmas
+mod ComparedLemmas

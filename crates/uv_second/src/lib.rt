@@ -3,8 +3,10 @@
 
 mod answer;
 mod fault;
+mod links;
 mod readings;
 mod same;
+mod written;
 
 pub use answer::{read_as, reads_as, serial};
 pub use fault::RoomFault;

@@ -1,9 +1,11 @@
 //! Whether the second parser reads two texts as one URL.
-ghost use Rattle.std.specs.Prelude.{◌≡◌, ◌↔◌, IfOk, IsTrue, option_copied};
+ghost use Rattle.std.specs.Prelude.{◌≡◌, ◌↔◌, IfOk, IfSome, IsTrue, None, option_copied};
 ghost use Rattle.uv_second.specs.Second.{IsOwnBase, ReadsSame, SameAgainst};
 
 use crate::answer::{read_as, second_url};
 use crate::fault::RoomFault;
+use crate::links::{behind, cut_link, is_bounded};
+use crate::written::writes_same;
 use std::alloc::Global;
 use url::Url;
 use uv_model::Record;
@@ -20,7 +22,7 @@ pub fn reads_same(
     ensures { IfOk result (λ same. IsTrue same ↔ ReadsSame (option_copied base.entry) text.now other.now) }
 {
     let Some(record) = base else {
-        return same_against(alloc, None, text, other);
+        return same_alone(alloc, text, other);
     };
     let written = record.text(alloc)?;
     match second_url(alloc, None, written.as_str())? {
@@ -29,6 +31,31 @@ pub fn reads_same(
             same_against(alloc, Some(&base), text, other)
         }
         None => Ok(false),
+    }
+}
+
+// The same without a base.
+#[tactic(auto, unfolding(crate::specs::Second::reading, crate::specs::Second::text_against))]
+fn same_alone(alloc: Global, text: &str, other: &str) -> Result<bool, RoomFault>
+    ensures { IfOk result (λ same. IsTrue same ↔ ReadsSame None text.now other.now) }
+{
+    match seen_same(text, other) {
+        Some(same) => Ok(same),
+        None => same_against(alloc, None, text, other),
+    }
+}
+
+// The same of two texts that begin with one scheme and one name, where a look at them tells.
+fn seen_same(text: &str, other: &str) -> Option<bool>
+    ensures { IfSome result (λ same. IsTrue same ↔ ReadsSame None text.now other.now) }
+{
+    let link = cut_link(text.as_bytes())?;
+    let other_behind = behind(other.as_bytes(), link.front)?;
+    if is_bounded(link.behind) && is_bounded(other_behind) {
+        let same = writes_same(link.behind, other_behind)?;
+        Some(same)
+    } else {
+        None
     }
 }
 

@@ -8,8 +8,8 @@ use Rattle.uv_second.specs.Second.{SameAgainst, parsed}
 use Rattle.uv_second.proofs.SameLemmas.{own_base, reads_against}
 use Rattle.uv_second.proofs.same.reads_same.Goals as goal
 
-pub same_against-requires-in-Some-2 : goal.same_against-requires-in-Some-2
-same_against-requires-in-Some-2 c =
+pub same_against-requires : goal.same_against-requires
+same_against-requires c =
     own_base c.as_str.result.now c.in-Some-2.base c.as_str-valid.ensures.valid
     (sym c.in-Some-2.is ∙ c.in_ok-base.ensures)
 
@@ -24,6 +24,6 @@ returns-in-Some-2 c =
     ∙ ap (λ t. parsed (parse_url None t)) (c.as_str.ensures.value ∙ c.in_ok-written.ensures) in
     let both = reads_against given own text other is in
     rw c.in-Some.is
-    (IfOk-weaker c.same_against-in-Some-2.result (λ same. IsTrue same ↔ SameAgainst (Some own) text other) _
+    (IfOk-weaker c.same_against.result (λ same. IsTrue same ↔ SameAgainst (Some own) text other) _
     (λ same told. (λ yes. both.0 (told.0 yes), λ reads. told.1 (both.1 reads)))
-    c.same_against-in-Some-2.ensures)
+    c.same_against.ensures)

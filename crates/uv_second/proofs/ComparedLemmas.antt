@@ -1,0 +1,158 @@
+-- Two texts compared byte by byte.
+use Rattle.std.proofs.Common.{◌≡◌, ◌≢◌, ◌∙◌, ℕ, Bool, true, false, ◌&&◌, not, List, [], ◌∷◌, ◌++◌, append_assoc, ap}
+use Rattle.std.proofs.Common.{arith, ◌-◌, ◌≤◌, All, drop, length, take, take_all, get_or, inl, inr, refl, subst, sym}
+use Rattle.std.proofs.lemmas.Bool.{and_from, and_parts, cases_Bool, not-true, true≢false}
+use Rattle.std.proofs.lemmas.Bool.Decides.{nat_tests}
+use Rattle.std.proofs.lemmas.List.{append_cancel_left}
+use Rattle.std.proofs.lemmas.List.Elements.{All-head, All-tail}
+use Rattle.percent_encoding.specs.AsciiSet.{should_percent_encode}
+use Rattle.percent_encoding.specs.Percent.{percent_encode_byte}
+use Rattle.percent_encoding.proofs.PercentLemmas.{All-percent_encode_byte, IsEscapeByte}
+use Rattle.url.proofs.SetLemmas.{kept_from_escape}
+use Rattle.uv_second.specs.declared.written.Part.{Part}
+use Rattle.uv_second.specs.declared.written.Part.TheVariants.{Path, Query, Fragment}
+use Rattle.uv_second.specs.Links.{IsCompared, escape_set, is_escaped, is_mark, is_plain, is_plain_at, part_behind}
+use Rattle.uv_second.specs.Links.{written, written_byte}
+
+-- a first byte and what follows it
+pub first_rest : (xs : List ℕ) → 1 ≤ length xs → xs ≡ get_or xs 0 0 ∷ take (length xs - 1) (drop 1 xs)
+first_rest [] long = absurd (omega (arith, long))
+first_rest (x ∷ xs) long = ap (λ l. x ∷ l) (sym (take_all (length (x ∷ xs) - 1) xs (omega arith)))
+
+-- two texts before the first byte
+pub compared_start : (text other : List ℕ) → IsCompared text other Path true text other
+compared_start text other = record {
+  plain = λ plain. plain;
+  other_plain = λ plain. plain;
+  alike = λ same. ([], refl, refl);
+  differing = λ different. absurd (true≢false different);
+}
+
+-- one byte that stands in both
+pub compared_byte : (text other : List ℕ) (part : Part) (same : Bool) (b : ℕ) (rest other_rest : List ℕ)
+    → is_plain_at b rest ≡ true → is_plain_at b other_rest ≡ true
+    → IsCompared text other part same (b ∷ rest) (b ∷ other_rest)
+    → IsCompared text other (part_behind part b) same rest other_rest
+compared_byte text other part same b rest other_rest plain other_plain so_far = record {
+  plain = λ more. so_far.plain (and_from _ _ plain more);
+  other_plain = λ more. so_far.other_plain (and_from _ _ other_plain more);
+  alike = λ is.
+      let written_so_far = so_far.alike is in
+      let front = written_so_far.0 in
+      let byte = written_byte part b in (
+        front ++ byte,
+        written_so_far.1 ∙ sym (append_assoc front byte (written (part_behind part b) rest)),
+        written_so_far.2 ∙ sym (append_assoc front byte (written (part_behind part b) other_rest)),
+      );
+  differing = so_far.differing;
+}
+
+-- ---- escapes
+
+-- bytes of escapes are plain
+escape_plain : (bytes rest : List ℕ) → All IsEscapeByte bytes → is_plain rest ≡ true → is_plain (bytes ++ rest) ≡ true
+unfolding is_plain_at
+escape_plain [] rest escape plain = plain
+escape_plain (b ∷ bytes) rest escape plain =
+    let here : IsEscapeByte b = All-head IsEscapeByte b bytes escape in
+    and_from _ _ (grind (arith, nat_tests)) (escape_plain bytes rest (All-tail IsEscapeByte b bytes escape) plain)
+
+-- they are no marks
+escape_no_mark : (part : Part) (b : ℕ) → IsEscapeByte b → is_mark part b ≡ false
+escape_no_mark Path b escape = grind (arith, nat_tests)
+escape_no_mark Query b escape = grind (arith, nat_tests)
+escape_no_mark Fragment b escape = refl
+
+-- a byte that is no mark goes on with the part
+same_part : (part : Part) (b : ℕ) → is_mark part b ≡ false → part_behind part b ≡ part
+same_part Path b none = grind (arith, nat_tests)
+same_part Query b none = grind (arith, nat_tests)
+same_part Fragment b none = refl
+
+-- they are kept
+escape_kept : (part : Part) (b : ℕ) → IsEscapeByte b → should_percent_encode (escape_set part) b ≡ false
+escape_kept Path = kept_from_escape (escape_set Path) refl
+escape_kept Query = kept_from_escape (escape_set Query) refl
+escape_kept Fragment = kept_from_escape (escape_set Fragment) refl
+
+-- so they are written as they stand
+escape_written : (part : Part) (bytes rest : List ℕ) → All IsEscapeByte bytes
+    → written part (bytes ++ rest) ≡ bytes ++ written part rest
+escape_written part [] rest escape = refl
+escape_written part (b ∷ bytes) rest escape =
+    let here : IsEscapeByte b = All-head IsEscapeByte b bytes escape in
+    let no_mark = escape_no_mark part b here in
+    let kept = escape_kept part b here in
+    rw (no_mark, kept, same_part part b no_mark)
+    (ap (λ t. b ∷ t) (escape_written part bytes rest (All-tail IsEscapeByte b bytes escape)))
+
+-- a byte that is written as its escape
+escaped_written : (part : Part) (b : ℕ) (rest : List ℕ) → is_escaped part b ≡ true
+    → written part (b ∷ rest) ≡ percent_encode_byte b ++ written part rest
+unfolding is_escaped
+escaped_written part b rest escaped =
+    let parts = and_parts (not (is_mark part b)) (should_percent_encode (escape_set part) b) escaped in
+    let no_mark = not-true (is_mark part b) parts.0 in
+    rw (no_mark, parts.1, same_part part b no_mark) refl
+
+-- a byte that is written as it stands
+kept_written : (part : Part) (b : ℕ) (rest : List ℕ) → is_escaped part b ≡ false
+    → written part (b ∷ rest) ≡ b ∷ written (part_behind part b) rest
+unfolding is_escaped
+kept_written part b rest kept =
+    elim (cases_Bool (is_mark part b)) [
+      | inl mark ↦ rw mark refl
+      | inr no_mark ↦
+          let outside : should_percent_encode (escape_set part) b ≡ false = rw no_mark at kept in
+          rw (no_mark, outside) refl
+    ]
+
+-- one byte in place of which the other text has its escape
+pub compared_escape : (text other : List ℕ) (part : Part) (same : Bool) (b : ℕ) (rest other_rest behind : List ℕ)
+    → b ≢ 37 → is_plain_at b rest ≡ true → other_rest ≡ percent_encode_byte b ++ behind
+    → IsCompared text other part same (b ∷ rest) other_rest
+    → IsCompared text other part (same && is_escaped part b) rest behind
+unfolding percent_encode_byte
+compared_escape text other part same b rest other_rest behind no_percent plain is so_far =
+    let escape = percent_encode_byte b in
+    let escapes = All-percent_encode_byte b in
+    let other_written : written part other_rest ≡ escape ++ written part behind =
+    ap (written part) is ∙ escape_written part escape behind escapes in
+    record {
+      plain = λ more. so_far.plain (and_from _ _ plain more);
+      other_plain = λ more.
+          so_far.other_plain (subst (λ t. is_plain t ≡ true) (sym is) (escape_plain escape behind escapes more));
+      alike = λ both.
+          let parts = and_parts same (is_escaped part b) both in
+          let before = so_far.alike parts.0 in
+          let front = before.0 in (
+            front ++ escape,
+            before.1 ∙ ap (λ t. front ++ t) (escaped_written part b rest parts.1)
+                ∙ sym (append_assoc front escape (written part rest)),
+            before.2 ∙ ap (λ t. front ++ t) other_written ∙ sym (append_assoc front escape (written part behind)),
+          );
+      differing = λ none. elim (cases_Bool same) [
+        | inr different ↦ so_far.differing different
+        | inl alike ↦ λ equal.
+            let kept : is_escaped part b ≡ false = rw alike at none in
+            let before = so_far.alike alike in
+            let front = before.0 in
+            let behind_front = append_cancel_left front (written part (b ∷ rest)) (written part other_rest)
+            (sym before.1 ∙ equal ∙ before.2) in
+            no_percent (ap (λ t. get_or t 0 0) (sym (kept_written part b rest kept) ∙ behind_front ∙ other_written))
+      ];
+    }
+
+-- two texts to their ends
+pub compared_end : (text other : List ℕ) (part : Part) (same : Bool) → IsCompared text other part same [] []
+    → (is_plain text ≡ true) × (is_plain other ≡ true) × (same ≡ true → written Path text ≡ written Path other)
+    × (written Path text ≡ written Path other → same ≡ true)
+compared_end text other part same whole = (
+  whole.plain refl,
+  whole.other_plain refl,
+  λ alike. (let before = whole.alike alike in before.1 ∙ sym before.2),
+  λ equal. elim (cases_Bool same) [
+    | inl alike ↦ alike
+    | inr different ↦ absurd (whole.differing different equal)
+  ],
+)

@@ -1,0 +1,72 @@
+-- A plain name is a domain, which the second parser writes as it stands.
+use Rattle.std.proofs.Common.{◌≡◌, ◌∙◌, ℕ, ◌<◌, Bool, true, false, not, ◌&&◌, ◌||◌, ◌==◌, List, [], ◌∷◌, length}
+use Rattle.std.proofs.Common.{get_or, Option, Some, None, All, ap, arith, refl, sym}
+use Rattle.std.specs.Char.{is_ascii_digit, is_digit, is_ascii_lowercase, to_ascii_lowercase}
+use Rattle.std.specs.List.{list_all}
+use Rattle.std.proofs.lemmas.Bool.{true≢false}
+use Rattle.std.proofs.lemmas.Bool.Decides.{nat_tests}
+use Rattle.std.proofs.lemmas.List.Elements.{All-weaker}
+use Rattle.percent_encoding.specs.Percent.{IsKept}
+use Rattle.url.specs.declared.sets.TheConstants.{FORBIDDEN_DOMAIN}
+use Rattle.url.specs.Ascii.{digit_zero, dot}
+use Rattle.url.specs.Input.{is_empty, rsplit_once}
+use Rattle.url.specs.Ipv4.{ends_in_a_number, is_number, last_label_of, parse_number}
+use Rattle.url.proofs.InputLemmas.{Passes, is_empty_nonempty, lowercase_other, map_fixed}
+use Rattle.url.proofs.SetLemmas.{kept_from_passes}
+use Rattle.uv_second.specs.Links.{IsName, is_name_byte}
+
+-- the last label is not an empty one before a last dot
+letter_label : (label : List ℕ) → is_ascii_lowercase (get_or label 0 0) ≡ true → (front : Option (List ℕ))
+    → last_label_of front label ≡ label
+letter_label [] letter front = absurd (true≢false (sym letter))
+letter_label (c ∷ more) letter (Some front) = rw (is_empty_nonempty (c ∷ more) (omega arith)) refl
+letter_label (c ∷ more) letter None = refl
+
+-- a last label is read as a number
+abbrev is_number_label : List ℕ → Bool
+is_number_label label = (not (is_empty label) && list_all is_ascii_digit label) || is_number (parse_number label)
+
+-- one that begins with a letter isn't
+letter_no_number : (label : List ℕ) → is_ascii_lowercase (get_or label 0 0) ≡ true → is_number_label label ≡ false
+unfolding parse_number
+letter_no_number [] letter = absurd (true≢false (sym letter))
+letter_no_number (c ∷ more) letter =
+    let some = is_empty_nonempty (c ∷ more) (omega arith) in
+    let no_zero : (c == digit_zero) ≡ false = grind (arith, nat_tests) in
+    let no_decimal : is_digit c 10 ≡ false = grind (arith, nat_tests) in
+    let no_digit : is_ascii_digit c ≡ false = grind (arith, nat_tests) in
+    rw (some, no_digit, no_zero, no_decimal) refl
+
+-- a name whose last label begins with a letter doesn't end in a number
+named : (name : List ℕ) → is_ascii_lowercase (get_or (rsplit_once dot name).1 0 0) ≡ true
+    → ends_in_a_number name ≡ false
+unfolding ends_in_a_number
+named name letter =
+    let split = rsplit_once dot name in
+    ap is_number_label (letter_label split.1 letter split.0) ∙ letter_no_number split.1 letter
+
+-- and isn't empty
+nonempty : (name : List ℕ) → is_ascii_lowercase (get_or (rsplit_once dot name).1 0 0) ≡ true → 0 < length name
+unfolding rsplit_once
+nonempty [] letter = absurd (true≢false (sym letter))
+nonempty (b ∷ name) letter = omega arith
+
+-- a byte of a name is allowed in a domain, and isn't made lower case
+name_byte_kept : (b : ℕ) → Passes is_name_byte b → IsKept FORBIDDEN_DOMAIN b
+name_byte_kept b passes = kept_from_passes is_name_byte FORBIDDEN_DOMAIN refl b (grind (arith, nat_tests)) passes
+
+name_byte_lower : (b : ℕ) → Passes is_name_byte b → to_ascii_lowercase b ≡ b
+name_byte_lower b passes = lowercase_other b (grind (arith, nat_tests))
+
+-- such bytes are a name
+pub is_name : (name : List ℕ) → All (Passes is_name_byte) name
+    → is_ascii_lowercase (get_or (rsplit_once dot name).1 0 0) ≡ true → IsName name
+is_name name each letter = (
+  record {
+    allowed = All-weaker (Passes is_name_byte) (IsKept FORBIDDEN_DOMAIN) name_byte_kept name each;
+    lower = map_fixed to_ascii_lowercase name
+        (All-weaker (Passes is_name_byte) (λ b. to_ascii_lowercase b ≡ b) name_byte_lower name each);
+    named = named name letter;
+  },
+  nonempty name letter,
+)

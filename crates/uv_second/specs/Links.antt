@@ -1,0 +1,109 @@
+-- Texts that the second parser reads part by part as they stand: `https://` or `http://`, a plain name, and a path that
+-- begins with `/` and has no dot segment. What it writes of such a text.
+use Rattle.std.specs.Prelude.{◌≡◌, ◌≢◌, ◌⊎◌, ◌<◌, ℕ, Bool, true, false, not, ◌&&◌, ◌||◌, ◌==◌, nat_le, List, [], ◌∷◌}
+use Rattle.std.specs.Prelude.{◌++◌, ◌-◌, codes, length, slice_index, if◌then◌else◌}
+use Rattle.std.specs.Char.{is_ascii_digit, is_ascii_lowercase}
+use Rattle.percent_encoding.specs.declared.ascii_set.AsciiSet.{AsciiSet}
+use Rattle.percent_encoding.specs.AsciiSet.{should_percent_encode}
+use Rattle.percent_encoding.specs.Percent.{encode_byte}
+use Rattle.url.specs.declared.sets.TheConstants.{FRAGMENT, PATH, SPECIAL_QUERY}
+use Rattle.url.specs.Ascii.{backslash, dot, hyphen, number_sign, question_mark, slash, space}
+use Rattle.url.specs.Host.{IsDomain}
+use Rattle.url.specs.Path.{dot_len}
+use Rattle.uv_second.specs.declared.links.Link.{Link}
+use Rattle.uv_second.specs.declared.written.Part.{Part}
+use Rattle.uv_second.specs.declared.written.Part.TheVariants.{Path, Query, Fragment}
+
+-- ---- such texts
+
+-- the scheme of a link
+abbrev pub IsWebScheme : List ℕ → Type 0
+IsWebScheme scheme = (scheme ≡ codes "https") ⊎ (scheme ≡ codes "http")
+
+-- what follows the start of such a text
+abbrev pub IsBehindStart : List ℕ → List ℕ → Type 0
+IsBehindStart text rest = (scheme : List ℕ) × IsWebScheme scheme × (text ≡ scheme ++ (codes "://" ++ rest))
+
+-- the byte may stand in a plain name: a small letter, a digit, `-`, `.` or `_`
+abbrev pub is_name_byte : ℕ → Bool
+is_name_byte b = is_ascii_lowercase b || (is_ascii_digit b || ((b == hyphen) || ((b == dot) || (b == 0x5F))))
+
+-- the domain of a link, which is written as it stands
+abbrev pub IsName : List ℕ → Type 0
+IsName name = IsDomain name × (0 < length name)
+
+-- bytes cut behind a name
+abbrev pub IsNameCut : List ℕ → List ℕ → List ℕ → Type 0
+IsNameCut bytes name behind = IsName name × (bytes ≡ name ++ behind)
+
+-- the bytes begin with a slash, and don't end with a space
+pub record IsBounded (bytes : List ℕ) : Type 0 where
+  pub rest : List ℕ
+  pub begins : bytes ≡ slash ∷ rest
+  pub ends : slice_index bytes (length bytes - 1) ≢ space
+
+-- what stands before the path
+abbrev pub link_front : List ℕ → List ℕ → List ℕ
+link_front scheme name = scheme ++ (codes "://" ++ name)
+
+-- the byte is no control and no backslash, and where it is a slash no dot follows it, nor the escape of one
+unfoldable pub is_plain_at : ℕ → List ℕ → Bool
+is_plain_at b rest = nat_le 32 b && (not (b == backslash) && (not (b == slash) || (dot_len rest == 0)))
+
+-- each byte is such
+abbrev pub is_plain : List ℕ → Bool
+is_plain [] = true
+is_plain (b ∷ rest) = is_plain_at b rest && is_plain rest
+
+-- a text cut behind its name
+pub record IsLink (text : List ℕ) (link : Link) : Type 0 where
+  pub scheme : List ℕ
+  pub name : List ℕ
+  pub web : IsWebScheme scheme
+  pub named : IsName name
+  pub front : link.front.now ≡ link_front scheme name
+  pub joined : text ≡ link.front.now ++ link.behind.now
+
+-- ---- what the second parser writes of what stands behind the name
+
+-- the bytes that it escapes in a part
+abbrev pub escape_set : Part → AsciiSet
+escape_set Path = PATH
+escape_set Query = SPECIAL_QUERY
+escape_set Fragment = FRAGMENT
+
+-- the byte ends the part, and begins another one
+abbrev pub is_mark : Part → ℕ → Bool
+is_mark Path b = (b == number_sign) || (b == question_mark)
+is_mark Query b = b == number_sign
+is_mark Fragment b = false
+
+-- the part behind the byte
+abbrev pub part_behind : Part → ℕ → Part
+part_behind Path b = if b == number_sign then Fragment else (if b == question_mark then Query else Path)
+part_behind Query b = if b == number_sign then Fragment else Query
+part_behind Fragment b = Fragment
+
+-- the byte is written as its escape
+unfoldable pub is_escaped : Part → ℕ → Bool
+is_escaped part b = not (is_mark part b) && should_percent_encode (escape_set part) b
+
+-- what is written of a byte
+abbrev pub written_byte : Part → ℕ → List ℕ
+written_byte part b = if is_mark part b then b ∷ [] else encode_byte (escape_set part) b
+
+-- what is written of bytes of which the first stands in the part
+abbrev pub written : Part → List ℕ → List ℕ
+written part [] = []
+written part (b ∷ rest) = written_byte part b ++ written (part_behind part b) rest
+
+-- ---- two texts, byte by byte
+
+-- Two texts so far. Both are plain if what is left of them is. Where what is written so far is the same, it goes on
+-- with what is written of what is left; else what is written of the two texts differs.
+pub record IsCompared (text other : List ℕ) (part : Part) (same : Bool) (rest other_rest : List ℕ) : Type 0 where
+  pub plain : is_plain rest ≡ true → is_plain text ≡ true
+  pub other_plain : is_plain other_rest ≡ true → is_plain other ≡ true
+  pub alike : same ≡ true → (front : List ℕ) × (written Path text ≡ front ++ written part rest)
+      × (written Path other ≡ front ++ written part other_rest)
+  pub differing : same ≡ false → written Path text ≢ written Path other

@@ -1,0 +1,181 @@
+//! Two texts compared by what the second parser writes of them.
+ghost use Rattle.std.specs.Prelude.{◌≡◌, ◌↔◌, ◌++◌, ◌&&◌, ◌<◌, ◌==◌, ℕ, List, IfSome, IsTrue, length, not, true};
+ghost use Rattle.percent_encoding.specs.Percent as percent;
+ghost use Rattle.url.specs.Path.{dot_len};
+ghost use Rattle.uv_second.specs.Links as spec;
+ghost use Rattle.uv_second.specs.Links.{IsCompared, is_plain, written};
+ghost use Rattle.uv_second.specs.declared.written.Part.TheVariants as the_part;
+
+use crate::links::behind;
+use percent_encoding::{AsciiSet, CONTROLS, ascii_set, percent_encode_byte};
+
+// The sets of the crate `url`, which keeps them to itself.
+const FRAGMENT: AsciiSet = ascii_set!(CONTROLS.add(b' ').add(b'"').add(b'<').add(b'>').add(b'`'));
+
+const PATH: AsciiSet = ascii_set!(FRAGMENT.add(b'#').add(b'?').add(b'^').add(b'{').add(b'}'));
+
+const SPECIAL_QUERY: AsciiSet = ascii_set!(
+    CONTROLS
+        .add(b' ')
+        .add(b'"')
+        .add(b'#')
+        .add(b'<')
+        .add(b'>')
+        .add(b'\'')
+);
+
+/// A part of a link behind its name.
+#[derive(Clone, Copy, Debug, PartialEq, Eq)]
+pub(crate) enum Part {
+    Path,
+    Query,
+    Fragment,
+}
+
+/// Two texts so far: the part in which both stand, whether what is written of both is the same, and what is left.
+#[derive(Clone, Copy)]
+pub(crate) struct Compared<'t> {
+    pub part: Part,
+    pub same: bool,
+    pub rest: &'t [u8],
+    pub other: &'t [u8],
+}
+
+/// Whether the second parser writes the same of both, where the other one is the first with escapes in place of some
+/// bytes, and both are plain; none elsewhere.
+pub(crate) fn writes_same(text: &[u8], other: &[u8]) -> Option<bool>
+    ensures plain { IfSome result (λ same. is_plain text.now ≡ true) }
+    ensures other_plain { IfSome result (λ same. is_plain other.now ≡ true) }
+    ensures same { IfSome result (λ same.
+        IsTrue same ↔ (written the_part.Path text.now ≡ written the_part.Path other.now)) }
+{
+    let mut state = Compared {
+        part: Part::Path,
+        same: true,
+        rest: text,
+        other,
+    };
+    while !state.rest.is_empty() {
+        state = step(state)?;
+    }
+    if state.other.is_empty() {
+        Some(state.same)
+    } else {
+        None
+    }
+}
+
+// One byte further.
+fn step(state: Compared<'_>) -> Option<Compared<'_>>
+    ensures further { IfSome result (λ next. (text other : List ℕ)
+        → IsCompared text other state.entry.part state.entry.same state.entry.rest.now state.entry.other.now
+        → IsCompared text other next.part next.same next.rest.now next.other.now) }
+    ensures shorter { IfSome result (λ next. length next.rest.now < length state.entry.rest.now) }
+{
+    let [first, rest @ ..] = state.rest else {
+        return None;
+    };
+    let [second, other @ ..] = state.other else {
+        return None;
+    };
+    if first != second {
+        return escape_step(state);
+    }
+    if !is_plain_at(*first, rest) || !is_plain_at(*first, other) {
+        return None;
+    }
+    Some(Compared {
+        part: part_behind(state.part, *first),
+        same: state.same,
+        rest,
+        other,
+    })
+}
+
+// The same over a byte in place of which the other text has its escape.
+fn escape_step(state: Compared<'_>) -> Option<Compared<'_>>
+    ensures further { IfSome result (λ next. (text other : List ℕ)
+        → IsCompared text other state.entry.part state.entry.same state.entry.rest.now state.entry.other.now
+        → IsCompared text other next.part next.same next.rest.now next.other.now) }
+    ensures shorter { IfSome result (λ next. length next.rest.now < length state.entry.rest.now) }
+{
+    let [byte, rest @ ..] = state.rest else {
+        return None;
+    };
+    let other = behind_escape(*byte, state.other)?;
+    if *byte == b'%' || !is_plain_at(*byte, rest) {
+        return None;
+    }
+    Some(Compared {
+        part: state.part,
+        same: state.same && is_escaped(state.part, *byte),
+        rest,
+        other,
+    })
+}
+
+// What stands behind the escape of a byte with which a text begins.
+fn behind_escape(byte: u8, text: &[u8]) -> Option<&[u8]>
+    ensures { IfSome result (λ rest. text.now ≡ percent.percent_encode_byte byte ++ rest.now) }
+{
+    behind(text, percent_encode_byte(byte).as_bytes())
+}
+
+// Whether a byte is no control and no backslash, and where it is a slash no dot follows it, nor the escape of one.
+#[tactic(auto, unfolding(crate::specs::Links::is_plain_at))]
+fn is_plain_at(byte: u8, rest: &[u8]) -> bool
+    ensures { result ≡ spec.is_plain_at byte rest.now }
+{
+    byte >= b' ' && byte != b'\\' && (byte != b'/' || !begins_with_dot(rest))
+}
+
+// Whether bytes begin with a dot or the escape of one.
+fn begins_with_dot(bytes: &[u8]) -> bool
+    ensures { result ≡ not (dot_len bytes.now == 0) }
+{
+    matches!(bytes, [b'.', ..] | [b'%', b'2', b'e' | b'E', ..])
+}
+
+// The part behind a byte.
+fn part_behind(part: Part, byte: u8) -> Part
+    ensures { result ≡ spec.part_behind part byte }
+{
+    match part {
+        Part::Path if byte == b'#' => Part::Fragment,
+        Part::Path if byte == b'?' => Part::Query,
+        Part::Path => Part::Path,
+        Part::Query if byte == b'#' => Part::Fragment,
+        Part::Query => Part::Query,
+        Part::Fragment => Part::Fragment,
+    }
+}
+
+// Whether the second parser writes a byte of a part as its escape.
+#[tactic(auto, unfolding(crate::specs::Links::is_escaped))]
+fn is_escaped(part: Part, byte: u8) -> bool
+    ensures { result ≡ spec.is_escaped part byte }
+{
+    !is_mark(part, byte) && escape_set(part).should_percent_encode(byte)
+}
+
+// Whether a byte ends a part.
+fn is_mark(part: Part, byte: u8) -> bool
+    ensures { result ≡ spec.is_mark part byte }
+{
+    match part {
+        Part::Path => byte == b'#' || byte == b'?',
+        Part::Query => byte == b'#',
+        Part::Fragment => false,
+    }
+}
+
+// The bytes that the second parser escapes in a part.
+fn escape_set(part: Part) -> AsciiSet
+    ensures { result ≡ spec.escape_set part }
+{
+    match part {
+        Part::Path => PATH,
+        Part::Query => SPECIAL_QUERY,
+        Part::Fragment => FRAGMENT,
+    }
+}
