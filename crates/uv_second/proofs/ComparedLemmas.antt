@@ -1,6 +1,6 @@
 -- Two texts compared byte by byte.
 use Rattle.std.proofs.Common.{◌≡◌, ◌≢◌, ◌∙◌, ℕ, Bool, true, false, ◌&&◌, not, List, [], ◌∷◌, ◌++◌, append_assoc, ap}
-use Rattle.std.proofs.Common.{arith, ◌-◌, ◌≤◌, All, drop, length, take, take_all, get_or, inl, inr, refl, subst, sym}
+use Rattle.std.proofs.Common.{zero, suc, nat_le, ◌<◌, ◌==◌, arith, ◌-◌, ◌≤◌, All, drop, length, take, take_all, get_or, inl, inr, refl, subst, sym}
 use Rattle.std.proofs.lemmas.Bool.{and_from, and_parts, cases_Bool, not-true, true≢false}
 use Rattle.std.proofs.lemmas.Bool.Decides.{nat_tests}
 use Rattle.std.proofs.lemmas.List.{append_cancel_left}
@@ -11,7 +11,7 @@ use Rattle.percent_encoding.proofs.PercentLemmas.{All-percent_encode_byte, IsEsc
 use Rattle.url.proofs.SetLemmas.{kept_from_escape}
 use Rattle.uv_second.specs.declared.written.Part.{Part}
 use Rattle.uv_second.specs.declared.written.Part.TheVariants.{Path, Query, Fragment}
-use Rattle.uv_second.specs.Links.{IsCompared, escape_set, is_escaped, is_mark, is_plain, is_plain_at, part_behind}
+use Rattle.uv_second.specs.Links.{IsCompared, escape_set, is_common, is_escaped, is_mark, is_plain, is_plain_at, part_behind}
 use Rattle.uv_second.specs.Links.{written, written_byte}
 
 -- a first byte and what follows it
@@ -47,6 +47,49 @@ compared_byte text other part same b rest other_rest plain other_plain so_far = 
   differing = so_far.differing;
 }
 
+-- a byte that is no mark goes on with the part
+same_part : (part : Part) (b : ℕ) → is_mark part b ≡ false → part_behind part b ≡ part
+same_part Path b none = grind (arith, nat_tests)
+same_part Query b none = grind (arith, nat_tests)
+same_part Fragment b none = refl
+
+-- a common byte is plain
+common_plain : (b : ℕ) (rest : List ℕ) → is_common b ≡ true → is_plain_at b rest ≡ true
+unfolding is_plain_at
+common_plain b rest common =
+    let shown : nat_le 32 b ≡ true = grind (arith, nat_tests) in
+    let no_backslash : (b == 92) ≡ false = grind (arith, nat_tests) in
+    let no_slash : (b == 47) ≡ false = grind (arith, nat_tests) in
+    rw (shown, no_backslash, no_slash) refl
+
+-- and no mark
+common_no_mark : (part : Part) (b : ℕ) → is_common b ≡ true → is_mark part b ≡ false
+common_no_mark Path b common = grind (arith, nat_tests)
+common_no_mark Query b common = grind (arith, nat_tests)
+common_no_mark Fragment b common = refl
+
+-- so many bytes that are common and stand in both
+pub compared_run : (text other : List ℕ) (part : Part) (same : Bool) (count : ℕ) (rest other_rest : List ℕ)
+    → count ≤ length rest → count ≤ length other_rest
+    → ((k : ℕ) → k < count → get_or rest k 0 ≡ get_or other_rest k 0)
+    → ((k : ℕ) → k < count → is_common (get_or rest k 0) ≡ true)
+    → IsCompared text other part same rest other_rest
+    → IsCompared text other part same (drop count rest) (drop count other_rest)
+compared_run text other part same zero rest other_rest within other_within equal common so_far = so_far
+compared_run text other part same (suc count) [] other_rest within other_within equal common so_far =
+    absurd (omega (arith, within))
+compared_run text other part same (suc count) (b ∷ rest) [] within other_within equal common so_far =
+    absurd (omega (arith, other_within))
+compared_run text other part same (suc count) (b ∷ rest) (c ∷ other_rest) within other_within equal common so_far =
+    let first : b ≡ c = equal 0 (omega arith) in
+    let here : is_common b ≡ true = common 0 (omega arith) in
+    let both = subst (λ d. IsCompared text other part same (b ∷ rest) (d ∷ other_rest)) (sym first) so_far in
+    let next = compared_byte text other part same b rest other_rest (common_plain b rest here)
+    (common_plain b other_rest here) both in
+    compared_run text other part same count rest other_rest (omega (arith, within)) (omega (arith, other_within))
+    (λ k below. equal (suc k) (omega (arith, below))) (λ k below. common (suc k) (omega (arith, below)))
+    (subst (λ p. IsCompared text other p same rest other_rest) (same_part part b (common_no_mark part b here)) next)
+
 -- ---- escapes
 
 -- bytes of escapes are plain
@@ -62,12 +105,6 @@ escape_no_mark : (part : Part) (b : ℕ) → IsEscapeByte b → is_mark part b �
 escape_no_mark Path b escape = grind (arith, nat_tests)
 escape_no_mark Query b escape = grind (arith, nat_tests)
 escape_no_mark Fragment b escape = refl
-
--- a byte that is no mark goes on with the part
-same_part : (part : Part) (b : ℕ) → is_mark part b ≡ false → part_behind part b ≡ part
-same_part Path b none = grind (arith, nat_tests)
-same_part Query b none = grind (arith, nat_tests)
-same_part Fragment b none = refl
 
 -- they are kept
 escape_kept : (part : Part) (b : ℕ) → IsEscapeByte b → should_percent_encode (escape_set part) b ≡ false

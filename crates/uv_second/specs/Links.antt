@@ -1,6 +1,6 @@
 -- Texts that the second parser reads part by part as they stand: `https://` or `http://`, a plain name, and a path that
 -- begins with `/` and has no dot segment. What it writes of such a text.
-use Rattle.std.specs.Prelude.{◌≡◌, ◌≢◌, ◌⊎◌, ◌<◌, ℕ, Bool, true, false, not, ◌&&◌, ◌||◌, ◌==◌, nat_le, List, [], ◌∷◌}
+use Rattle.std.specs.Prelude.{◌≡◌, ◌≢◌, ◌⊎◌, ◌<◌, ℕ, Bool, true, false, not, ◌&&◌, ◌||◌, ◌==◌, nat_le, nat_lt, List, [], ◌∷◌}
 use Rattle.std.specs.Prelude.{◌++◌, ◌-◌, codes, length, slice_index, if◌then◌else◌}
 use Rattle.std.specs.Char.{is_ascii_digit, is_ascii_lowercase}
 use Rattle.percent_encoding.specs.declared.ascii_set.AsciiSet.{AsciiSet}
@@ -49,6 +49,12 @@ link_front scheme name = scheme ++ (codes "://" ++ name)
 -- the byte is no control and no backslash, and where it is a slash no dot follows it, nor the escape of one
 unfoldable pub is_plain_at : ℕ → List ℕ → Bool
 is_plain_at b rest = nat_le 32 b && (not (b == backslash) && (not (b == slash) || (dot_len rest == 0)))
+
+-- the byte is such before any other ones, and ends no part
+abbrev pub is_common : ℕ → Bool
+is_common b =
+    nat_lt backslash b || (nat_lt number_sign b
+    && (not (b == slash) && (not (b == question_mark) && not (b == backslash))))
 
 -- each byte is such
 abbrev pub is_plain : List ℕ → Bool

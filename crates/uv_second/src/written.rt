@@ -1,5 +1,6 @@
 //! Two texts compared by what the second parser writes of them.
-ghost use Rattle.std.specs.Prelude.{◌≡◌, ◌↔◌, ◌++◌, ◌&&◌, ◌<◌, ◌==◌, ℕ, List, IfSome, IsTrue, length, not, true};
+ghost use Rattle.std.specs.Prelude.{◌≡◌, ◌↔◌, ◌++◌, ◌&&◌, ◌<◌, ◌≤◌, ◌==◌, ℕ, List, IfSome, IsTrue, length, not};
+ghost use Rattle.std.specs.Prelude.{slice_index, true};
 ghost use Rattle.percent_encoding.specs.Percent as percent;
 ghost use Rattle.url.specs.Path.{dot_len};
 ghost use Rattle.uv_second.specs.Links as spec;
@@ -49,20 +50,61 @@ pub(crate) fn writes_same(text: &[u8], other: &[u8]) -> Option<bool>
     ensures same { IfSome result (λ same.
         IsTrue same ↔ (written the_part.Path text.now ≡ written the_part.Path other.now)) }
 {
-    let mut state = Compared {
+    let mut state = behind_common(Compared {
         part: Part::Path,
         same: true,
         rest: text,
         other,
-    };
+    });
     while !state.rest.is_empty() {
-        state = step(state)?;
+        state = behind_common(step(state)?);
     }
     if state.other.is_empty() {
         Some(state.same)
     } else {
         None
     }
+}
+
+// What is left behind the common bytes at the start of both.
+fn behind_common(state: Compared<'_>) -> Compared<'_>
+    ensures further { (text other : List ℕ)
+        → IsCompared text other state.entry.part state.entry.same state.entry.rest.now state.entry.other.now
+        → IsCompared text other result.part result.same result.rest.now result.other.now }
+    ensures shorter { length result.rest.now ≤ length state.entry.rest.now }
+{
+    let length = common_length(state.rest, state.other);
+    let (_, rest) = state.rest.split_at(length);
+    let (_, other) = state.other.split_at(length);
+    Compared {
+        part: state.part,
+        same: state.same,
+        rest,
+        other,
+    }
+}
+
+// How many bytes at the start of both are the same, and common.
+fn common_length(text: &[u8], other: &[u8]) -> usize
+    ensures within { result ≤ length text.now }
+    ensures other_within { result ≤ length other.now }
+    ensures same { (k : ℕ) → k < result → slice_index text.now k ≡ slice_index other.now k }
+    ensures common { (k : ℕ) → k < result → spec.is_common (slice_index text.now k) ≡ true }
+{
+    let end = text.len().min(other.len());
+    for place in 0..end {
+        if text[place] != other[place] || !is_common(text[place]) {
+            return place;
+        }
+    }
+    end
+}
+
+// Whether a byte is plain wherever it stands, and ends no part: most are.
+fn is_common(byte: u8) -> bool
+    ensures { result ≡ spec.is_common byte }
+{
+    byte > b'\\' || (byte > b'#' && byte != b'/' && byte != b'?' && byte != b'\\')
 }
 
 // One byte further.
