@@ -3,10 +3,10 @@ ghost use Rattle.std.specs.Prelude.{◌≡◌, ◌≤◌, IfOk, chars, length, o
 ghost use Rattle.uv_mend.specs.Edits as spec;
 
 use crate::code_points::{code_points, push_all, text_of};
-use crate::escaped::{escaped, escaped_text};
+use crate::escaped::{escaped, escaped_link};
 use crate::hosts::rehosted;
 use crate::prepared::prepared;
-use crate::settled::is_settled;
+use crate::settled::settled_link;
 use crate::slashes::slashed;
 use std::alloc::{AllocError, Global};
 use uv_model::{Record, Refusal, Rule};
@@ -22,10 +22,9 @@ pub(crate) fn cleaned(
     ensures { IfOk result (λ out. chars (string_bytes out)
         ≡ spec.cleaned (option_copied base.entry) (chars text.now)) }
 {
-    if is_settled(text) {
-        escaped_text(alloc, text)
-    } else {
-        cleaned_list(alloc, text, base)
+    match settled_link(text) {
+        Some(link) => escaped_link(alloc, link),
+        None => cleaned_list(alloc, text, base),
     }
 }
 

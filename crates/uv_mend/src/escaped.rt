@@ -43,8 +43,8 @@ fn escaped_list(alloc: Global, text: &str) -> Result<String, AllocError>
     text_of(alloc, &list)
 }
 
-// The same of a text by its parts.
-fn escaped_link(alloc: Global, link: WebLink<'_>) -> Result<String, AllocError>
+/// The same of a text by its parts.
+pub(crate) fn escaped_link(alloc: Global, link: WebLink<'_>) -> Result<String, AllocError>
     ensures { (text : List ℕ) → IsWebLink text link.entry
         → IfOk result (λ out. chars (string_bytes out) ≡ escaped (chars text)) }
 {

@@ -1,20 +1,23 @@
 //! Texts in which the URL parser passes over nothing, which a look at them finds.
-ghost use Rattle.std.specs.Prelude.{◌≡◌, ◌&&◌, ◌==◌, IsTrue, chars, true};
+ghost use Rattle.std.specs.Prelude.{◌≡◌, ◌&&◌, ◌==◌, IfSome, IsTrue, chars, true};
 ghost use Rattle.std.specs.List.{list_all};
 ghost use Rattle.uv_mend.specs.Settled as spec;
 ghost use Rattle.uv_mend.specs.Settled.{EndsShown, IsSettled};
+ghost use Rattle.uv_mend.specs.WebLinks.{IsWebLink};
 
-use crate::web_links::web_link;
+use crate::web_links::{WebLink, web_link};
 
-/// Whether a text is seen to be one of which the URL parser takes nothing off and in which it reads each slash as it
-/// stands. Of some such texts that isn't seen.
-pub(crate) fn is_settled(text: &str) -> bool
-    ensures { IsTrue result → IsSettled (chars text.now) }
+/// The parts of a text that is seen to be one of which the URL parser takes nothing off and in which it reads each slash
+/// as it stands; none of another one. Of some such texts that isn't seen.
+pub(crate) fn settled_link(text: &str) -> Option<WebLink<'_>>
+    ensures link { IfSome result (IsWebLink text.now) }
+    ensures settled { IfSome result (λ link. IsSettled (chars text.now)) }
 {
-    match web_link(text) {
-        Some(link) if !link.authority.is_empty() => stays_whole(text.as_bytes()),
-        _ => false,
+    let link = web_link(text)?;
+    if link.authority.is_empty() || !stays_whole(text.as_bytes()) {
+        return None;
     }
+    Some(link)
 }
 
 // Whether each byte is no control and no backslash, and the last one is no space.
