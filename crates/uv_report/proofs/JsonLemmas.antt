@@ -8,6 +8,13 @@ use Rattle.std.proofs.lemmas.Bool.Decides.{nat_tests}
 use Rattle.serde_json.proofs.OnLiterals.{serde_json_on_literals}
 use Rattle.serde_json.specs.Data.{boolean, object}
 use Rattle.serde_json.specs.Written.{compact_text}
+use Rattle.uv_model.specs.Violations.Rule.{rule_name}
+use Rattle.uv_model.specs.declared.rule.Rule.{Rule}
+use Rattle.uv_model.specs.declared.rule.Rule.TheVariants.{NoScheme, OpaqueBase, TwoSlashes, HostMissing, HostDomain}
+use Rattle.uv_model.specs.declared.rule.Rule.TheVariants.{HostNumber, HostIpv6, HostCodePoint, PortDigit, PortRange}
+use Rattle.uv_model.specs.declared.rule.Rule.TheVariants.{FirstSegmentEmpty, DriveAfterHost, CodePoint, Percent}
+use Rattle.uv_report.specs.declared.line_violation.LineViolation.{LineViolation}
+use Rattle.uv_report.specs.declared.line_violation.LineViolation.TheVariants.{Refused, NotUtf8, TooLong, NotLocated}
 use Rattle.uv_report.specs.declared.diagnostic.Diagnostic.{Diagnostic}
 use Rattle.uv_report.specs.declared.mended.Mended.{Mended}
 use Rattle.uv_report.specs.Json.{json_members, kind_member, mended_member}
@@ -15,6 +22,32 @@ use Rattle.uv_report.specs.LineViolation.{violation_name, violation_place}
 use Rattle.uv_report.specs.Message.{message}
 use Rattle.uv_report.specs.Quoted.{is_plain, quoted}
 use Rattle.uv_report.specs.Window.{carried, is_cut}
+
+-- ---- plain texts
+
+-- the name of a rule is plain
+rule_plain : (rule : Rule) → list_all is_plain (rule_name rule) ≡ true
+rule_plain NoScheme = refl
+rule_plain OpaqueBase = refl
+rule_plain TwoSlashes = refl
+rule_plain HostMissing = refl
+rule_plain HostDomain = refl
+rule_plain HostNumber = refl
+rule_plain HostIpv6 = refl
+rule_plain HostCodePoint = refl
+rule_plain PortDigit = refl
+rule_plain PortRange = refl
+rule_plain FirstSegmentEmpty = refl
+rule_plain DriveAfterHost = refl
+rule_plain CodePoint = refl
+rule_plain Percent = refl
+
+-- and so is that of a violation
+pub name_plain : (violation : LineViolation) → list_all is_plain (violation_name violation) ≡ true
+name_plain (Refused refusal) = rule_plain refusal.rule
+name_plain (NotUtf8 place) = refl
+name_plain TooLong = refl
+name_plain (NotLocated fault) = refl
 
 -- a plain byte stands as it is
 plain_step : (byte : ℕ) (text : List ℕ) → is_plain byte ≡ true

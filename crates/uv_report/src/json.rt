@@ -1,21 +1,23 @@
 //! Diagnostics as objects of JSON, one a line.
-ghost use Rattle.std.specs.Prelude.{◌≡◌, ◌++◌, OnOk, codes, decimal, string_bytes};
+ghost use Rattle.std.specs.Prelude.{◌≡◌, ◌++◌, OnOk, codes, decimal, string_bytes, true};
+ghost use Rattle.std.specs.List.{list_all};
 ghost use Rattle.serde_json.specs.Data.{boolean};
 ghost use Rattle.serde_json.specs.Written.{compact_text};
+ghost use Rattle.uv_model.specs.MendKindName.{kind_name};
 ghost use Rattle.uv_report.specs.Json.{json_text, json_value, kind_member, mended_member};
 ghost use Rattle.uv_report.specs.LineViolation.{violation_name, violation_place};
 ghost use Rattle.uv_report.specs.Message as reported;
-ghost use Rattle.uv_report.specs.Quoted.{quoted};
+ghost use Rattle.uv_report.specs.Quoted.{is_plain, quoted};
 ghost use Rattle.uv_report.specs.Window as shown;
 
 use crate::diagnostic::Diagnostic;
 use crate::gnu::push_number;
 use crate::line_violation::LineViolation;
 use crate::message::message;
-use crate::quoted::push_quoted;
+use crate::quoted::{push_plain, push_quoted};
 use crate::window::{is_cut, window};
 use std::alloc::{AllocError, Global};
-use uv_model::Profile;
+use uv_model::{MendKind, Profile};
 
 /// Pushes the object of a diagnostic, and a line feed.
 #[tactic(auto, unfolding(crate::specs::Json::json_text))]
@@ -43,7 +45,7 @@ fn push_object(
     push_number_member(text, "{\"column\":", diagnostic.column)?;
     push_cut(text, diagnostic.text)?;
     push_text_member(alloc, text, ",\"file\":", diagnostic.file)?;
-    push_kind(alloc, text, diagnostic)?;
+    push_kind(text, diagnostic)?;
     push_number_member(text, ",\"line\":", diagnostic.line)?;
     push_mended(alloc, text, diagnostic)?;
     push_message(
@@ -53,7 +55,7 @@ fn push_object(
         diagnostic.text,
         diagnostic.violation,
     )?;
-    push_rule(alloc, text, diagnostic.violation)?;
+    push_rule(text, diagnostic.violation)?;
     push_link(alloc, text, diagnostic.text, diagnostic.violation)?;
     text.push_str("}")?;
     Ok(())
@@ -86,6 +88,20 @@ pub(crate) fn push_text_member(
     Ok(())
 }
 
+/// The same of a text of which each byte stands in a string of JSON as it is.
+pub(crate) fn push_plain_member(
+    text: &mut String,
+    before: &str,
+    value: &str,
+) -> Result<(), AllocError>
+    requires { list_all is_plain value.now ≡ true }
+    ensures { OnOk result (string_bytes text.new ≡ string_bytes text.old ++ (before.now ++ quoted value.now)) }
+{
+    text.push_str(before)?;
+    push_plain(text, value)?;
+    Ok(())
+}
+
 // Pushes whether a window of the link alone is carried.
 fn push_cut(text: &mut String, line: &str) -> Result<(), AllocError>
     ensures { OnOk result (string_bytes text.new
@@ -106,16 +122,23 @@ fn cut_member(cut: bool) -> &'static str
 }
 
 // Pushes how a mended text stands to the refused one, where there is a mended text.
-fn push_kind(
-    alloc: Global,
-    text: &mut String,
-    diagnostic: &Diagnostic<'_>,
-) -> Result<(), AllocError>
+fn push_kind(text: &mut String, diagnostic: &Diagnostic<'_>) -> Result<(), AllocError>
     ensures { OnOk result (string_bytes text.new ≡ string_bytes text.old ++ kind_member diagnostic.now.mended) }
 {
     match diagnostic.mended {
-        Some(mended) => push_text_member(alloc, text, ",\"kind\":", mended.kind.name()),
+        Some(mended) => text.push_str(kind_text(mended.kind)),
         None => Ok(()),
+    }
+}
+
+// The member that says how a mended text stands to the refused one.
+fn kind_text(kind: MendKind) -> &'static str
+    ensures { result.now ≡ codes ",\"kind\":" ++ quoted (kind_name kind) }
+{
+    match kind {
+        MendKind::Same => ",\"kind\":\"same\"",
+        MendKind::Escaped => ",\"kind\":\"escaped\"",
+        MendKind::Changed => ",\"kind\":\"changed\"",
     }
 }
 
@@ -149,11 +172,11 @@ fn push_message(
 }
 
 // Pushes the name of a violation.
-fn push_rule(alloc: Global, text: &mut String, violation: LineViolation) -> Result<(), AllocError>
+fn push_rule(text: &mut String, violation: LineViolation) -> Result<(), AllocError>
     ensures { OnOk result (string_bytes text.new
         ≡ string_bytes text.old ++ (codes ",\"rule\":" ++ quoted (violation_name violation))) }
 {
-    push_text_member(alloc, text, ",\"rule\":", violation.name())
+    push_plain_member(text, ",\"rule\":", violation.name())
 }
 
 /// Pushes the link that a diagnostic is about, as far as it is carried.

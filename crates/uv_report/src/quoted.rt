@@ -17,8 +17,8 @@ pub(crate) fn push_quoted(alloc: Global, text: &mut String, value: &str) -> Resu
     }
 }
 
-// Pushes a text as a string of JSON, where each of its bytes stands as it is.
-fn push_plain(text: &mut String, value: &str) -> Result<(), AllocError>
+/// Pushes a text as a string of JSON, where each of its bytes stands as it is.
+pub(crate) fn push_plain(text: &mut String, value: &str) -> Result<(), AllocError>
     requires { list_all is_plain value.now ≡ true }
     ensures { OnOk result (string_bytes text.new ≡ string_bytes text.old ++ quoted value.now) }
 {

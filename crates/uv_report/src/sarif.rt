@@ -12,7 +12,7 @@ ghost use Rattle.uv_report.specs.Sarif as spec;
 use crate::column::Columns;
 use crate::completion::Completion;
 use crate::diagnostic::Diagnostic;
-use crate::json::{push_link, push_number_member, push_text_member};
+use crate::json::{push_link, push_number_member, push_plain_member};
 use crate::line_violation::LineViolation;
 use crate::located_fault::LocatedFault;
 use crate::mended::Mended;
@@ -174,7 +174,7 @@ fn push_result(
     )?;
     text.push_str(",\"properties\":")?;
     push_link_object(alloc, text, diagnostic.text, diagnostic.violation)?;
-    push_rule_id(alloc, text, diagnostic.violation)?;
+    push_rule_id(text, diagnostic.violation)?;
     push_rule_index(text, diagnostic.violation)?;
     text.push_str("}")?;
     Ok(())
@@ -329,15 +329,11 @@ fn flag(value: bool) -> &'static str
 }
 
 // Pushes the name of a violation as the one of its rule.
-fn push_rule_id(
-    alloc: Global,
-    text: &mut String,
-    violation: LineViolation,
-) -> Result<(), AllocError>
+fn push_rule_id(text: &mut String, violation: LineViolation) -> Result<(), AllocError>
     ensures { OnOk result (string_bytes text.new
         ≡ string_bytes text.old ++ (codes ",\"ruleId\":" ++ quoted (violation_name violation))) }
 {
-    push_text_member(alloc, text, ",\"ruleId\":", violation.name())
+    push_plain_member(text, ",\"ruleId\":", violation.name())
 }
 
 // Pushes where the rule of a violation stands among all.
@@ -361,27 +357,27 @@ fn push_fix(
     text.push_str("{\"artifactChanges\":")?;
     push_changes(alloc, text, diagnostic, mended)?;
     text.push_str(",\"description\":")?;
-    push_description(alloc, text, mended.kind)?;
+    push_description(text, mended.kind)?;
     text.push_str("}")?;
     Ok(())
 }
 
 // Pushes what a fix does.
-fn push_description(alloc: Global, text: &mut String, kind: MendKind) -> Result<(), AllocError>
+fn push_description(text: &mut String, kind: MendKind) -> Result<(), AllocError>
     ensures { OnOk result (string_bytes text.new
         ≡ string_bytes text.old ++ compact_text (spec.message (spec.fix_sentence kind))) }
 {
-    push_text_object(alloc, text, fix_sentence(kind))
+    text.push_str(fix_text(kind))
 }
 
-// What a fix does.
-fn fix_sentence(kind: MendKind) -> &'static str
-    ensures { result.now ≡ spec.fix_sentence kind }
+// What a fix does, alone in an object.
+fn fix_text(kind: MendKind) -> &'static str
+    ensures { result.now ≡ compact_text (spec.message (spec.fix_sentence kind)) }
 {
     match kind {
-        MendKind::Same => "write the same URL as a valid URL string",
-        MendKind::Escaped => "percent-encode what may not stand in a URL string",
-        MendKind::Changed => "write a valid URL string, which may be another URL",
+        MendKind::Same => "{\"text\":\"write the same URL as a valid URL string\"}",
+        MendKind::Escaped => "{\"text\":\"percent-encode what may not stand in a URL string\"}",
+        MendKind::Changed => "{\"text\":\"write a valid URL string, which may be another URL\"}",
     }
 }
 
