@@ -1,6 +1,8 @@
 -- What an explanation of a rule says: the rule, what it asks, its section of the URL Standard, a text that is refused
 -- by it, and that text mended.
-use Rattle.std.specs.Prelude.{◌≡◌, ℕ, List, [], ◌∷◌, ◌++◌, codes, flat_map, Option, Some, None, option_map, take}
+use Rattle.std.specs.Prelude.{◌≡◌, ℕ, Bool, List, [], ◌∷◌, ◌++◌, codes, filter_map, Option, Some, None}
+use Rattle.std.specs.Prelude.{is_some, map, option_map, take, if◌then◌else◌}
+use Rattle.std.specs.List.{join_by, list_all}
 use Rattle.std.specs.Io.KnownBytes.{Appends}
 use Rattle.uv_model.specs.declared.rule.Rule.{Rule}
 use Rattle.uv_model.specs.Violations.Rule.{named_rule, rule_name, rule_sentence, rules_in_order}
@@ -28,15 +30,6 @@ example_lines rule =
 unfoldable pub explanation_text : Rule → List ℕ
 explanation_text rule = rule_lines rule ++ example_lines rule
 
--- an explanation behind another one, with an empty line between the two
-abbrev pub next_text : Rule → List ℕ
-next_text rule = codes "\n" ++ explanation_text rule
-
--- the explanations of rules
-abbrev pub explanations_text : List Rule → List ℕ
-explanations_text [] = []
-explanations_text (rule ∷ rest) = explanation_text rule ++ flat_map next_text rest
-
 -- the lines of a violation with a line that isn't judged: its name, what is wrong, and what a line is asked
 abbrev pub violation_lines : LineViolation → List ℕ
 violation_lines violation =
@@ -56,22 +49,27 @@ explained_rule name None = explained_violation name
 unfoldable pub explained_name : List ℕ → Option (List ℕ)
 explained_name name = explained_rule name (named_rule name)
 
--- an explanation behind others, with an empty line between, where there are both
-abbrev pub next_behind : Option (List ℕ) → Option (List ℕ) → Option (List ℕ)
-next_behind None next = None
-next_behind (Some text) None = None
-next_behind (Some text) (Some next) = Some (text ++ (codes "\n" ++ next))
+-- the name is that of a rule or of a violation, so that it is explained
+abbrev pub is_explained : List ℕ → Bool
+is_explained name = is_some (explained_name name)
 
--- what is written of these names behind others, where each has an explanation
-abbrev pub explained_behind : Option (List ℕ) → List (List ℕ) → Option (List ℕ)
-explained_behind text [] = text
-explained_behind text (name ∷ rest) = explained_behind (next_behind text (explained_name name)) rest
+-- the explanations of these names, in their order, where each of them is explained
+abbrev pub explanations_of : List (List ℕ) → Option (List (List ℕ))
+explanations_of names = if list_all is_explained names then Some (filter_map explained_name names) else None
 
--- what is written where these names are asked for: of each rule where there are none, and nothing where one of them is
--- the name of no rule and of no violation
+-- the explanations that are asked for by these names: those of the names, and of each rule where there are none
+abbrev pub asked_explanations : List (List ℕ) → Option (List (List ℕ))
+asked_explanations [] = Some (map explanation_text rules_in_order)
+asked_explanations (name ∷ rest) = explanations_of (name ∷ rest)
+
+-- texts one behind the other, with an empty line between two
+abbrev pub separated : List (List ℕ) → List ℕ
+separated texts = join_by (λ text. text) (codes "\n") texts
+
+-- what is written where these names are asked for, and nothing where one of them is the name of no rule and of no
+-- violation
 abbrev pub explained : List (List ℕ) → Option (List ℕ)
-explained [] = Some (explanations_text rules_in_order)
-explained (name ∷ rest) = explained_behind (explained_name name) rest
+explained names = option_map separated (asked_explanations names)
 
 -- what was asked for was written, or one of the names is that of no rule and of no violation
 abbrev pub HasExplained : List (List ℕ) → ExplainEnd → Option (List ℕ) → Option (List ℕ) → Type 0

@@ -1,8 +1,8 @@
 //! The command `explain`: what rules ask, their sections of the URL Standard, and an example, of some rules or of each.
 ghost use Rattle.std.specs.Prelude.{◌≡◌, ◌++◌, ◌+◌, ◌-◌, ◌^◌, ◌<◌, IfOk, OnOk, map, option_map, string_bytes};
-ghost use Rattle.uv_cli.specs.Explain.{HasExplained, HasExplainedPrefix, example_lines, explained, explained_behind};
-ghost use Rattle.uv_cli.specs.Explain.{explained_name, explanation_text, explanations_text, explained_violation};
-ghost use Rattle.uv_cli.specs.Explain.{next_behind, violation_lines, rule_lines};
+ghost use Rattle.uv_cli.specs.Explain.{HasExplained, HasExplainedPrefix, asked_explanations, example_lines};
+ghost use Rattle.uv_cli.specs.Explain.{explained_name, explained_violation, explanation_text, explanations_of};
+ghost use Rattle.uv_cli.specs.Explain.{rule_lines, separated, violation_lines};
 
 use crate::report::{push_line, push_present, refused_line};
 use std::alloc::{AllocError, Global};
@@ -39,48 +39,49 @@ pub fn run_explain<S: Sink>(
         HasExplainedPrefix (map string_bytes rules.now) (S.contents out.old) (S.contents out.new) }
     ensures failed { result ≡ Err CliFault.Write → S.failed out.new ≡ S.failed out.old + 1 }
 {
-    let Some(text) = text_of(alloc, rules)? else {
+    let Some(texts) = asked_explanations(alloc, rules)? else {
         return Ok(ExplainEnd::Unknown);
     };
+    let text = separated(alloc, texts.as_slice())?;
     match write_whole(out, text.as_bytes()) {
         Ok(()) => Ok(ExplainEnd::Explained),
         Err(DeviceFault) => Err(CliFault::Write),
     }
 }
 
-// What is written where these names are asked for, or none.
-fn text_of(alloc: Global, rules: &[String]) -> Result<Option<String>, AllocError>
-    ensures { IfOk result (λ text. option_map string_bytes text ≡ explained (map string_bytes rules.now)) }
+// The explanations that are asked for by these names: those of the names, where each is explained, and of each rule
+// where there are none.
+fn asked_explanations(alloc: Global, names: &[String]) -> Result<Option<Vec<String>>, AllocError>
+    ensures { IfOk result (λ texts. option_map (λ t. map string_bytes t.items) texts
+        ≡ asked_explanations (map string_bytes names.now)) }
 {
-    match rules.split_first() {
-        Some((first, rest)) => names_text(alloc, first.as_str(), rest),
-        None => Ok(Some(explanations(alloc, Rule::in_order().as_slice())?)),
+    if names.is_empty() {
+        Ok(Some(explanations(alloc, Rule::in_order().as_slice())?))
+    } else {
+        explanations_of(alloc, names)
     }
 }
 
-// What is written of a name and of those behind it, with an empty line between two, where each has an explanation.
-fn names_text(alloc: Global, first: &str, rest: &[String]) -> Result<Option<String>, AllocError>
-    ensures { IfOk result (λ text. option_map string_bytes text
-        ≡ explained_behind (explained_name first.now) (map string_bytes rest.now)) }
+// The explanations of names, in their order, where each is explained.
+fn explanations_of(alloc: Global, names: &[String]) -> Result<Option<Vec<String>>, AllocError>
+    ensures { IfOk result (λ texts. option_map (λ t. map string_bytes t.items) texts
+        ≡ explanations_of (map string_bytes names.now)) }
 {
-    let mut text = name_text(alloc, first)?;
-    for name in rest {
-        text = next_behind(text, name_text(alloc, name.as_str())?)?;
+    let mut texts = Vec::new(alloc);
+    for name in names {
+        match name_text(alloc, name.as_str())? {
+            Some(text) => texts.push(text)?,
+            None => return Ok(None),
+        }
     }
-    Ok(text)
+    Ok(Some(texts))
 }
 
-// An explanation behind others, with an empty line between, where there are both.
-fn next_behind(text: Option<String>, next: Option<String>) -> Result<Option<String>, AllocError>
-    ensures { IfOk result (λ both. option_map string_bytes both
-        ≡ next_behind (option_map string_bytes text) (option_map string_bytes next)) }
+// Texts one behind the other, with an empty line between two.
+fn separated(alloc: Global, texts: &[String]) -> Result<String, AllocError>
+    ensures { IfOk result (λ text. string_bytes text ≡ separated (map string_bytes texts.now)) }
 {
-    let (Some(mut text), Some(next)) = (text, next) else {
-        return Ok(None);
-    };
-    text.push_str("\n")?;
-    text.push_str(next.as_str())?;
-    Ok(Some(text))
+    texts.join(alloc, "\n")
 }
 
 // What is written of the rule with a name, else of the violation, where there is one.
@@ -115,19 +116,15 @@ fn push_violation(text: &mut String, violation: LineViolation) -> Result<(), All
     push_line(text, "asks ", violation.help())
 }
 
-// The explanations of rules, with an empty line between two.
-fn explanations(alloc: Global, rules: &[Rule]) -> Result<String, AllocError>
-    ensures { IfOk result (λ text. string_bytes text ≡ explanations_text rules.now) }
+// The explanations of rules.
+fn explanations(alloc: Global, rules: &[Rule]) -> Result<Vec<String>, AllocError>
+    ensures { IfOk result (λ texts. map string_bytes texts.items ≡ map explanation_text rules.now) }
 {
-    let Some((first, rest)) = rules.split_first() else {
-        return Ok(String::new(alloc));
-    };
-    let mut text = explanation(alloc, *first)?;
-    for rule in rest {
-        text.push_str("\n")?;
-        text.push_str(explanation(alloc, *rule)?.as_str())?;
+    let mut texts = Vec::new(alloc);
+    for rule in rules {
+        texts.push(explanation(alloc, *rule)?)?;
     }
-    Ok(text)
+    Ok(texts)
 }
 
 // The explanation of a rule.
