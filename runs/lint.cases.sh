@@ -313,7 +313,7 @@ printf '%b' "$other" | cmp -s - "$room/out" || fail "lint of a folder among file
 # path through a file, one whose first read fails, and one that may not be read.
 expect 2 "$other" "urlcheck: missing: can't be read: there is no such file\\nurlcheck: 1 line, 1 refused\\n" \
     lint missing other.txt
-of_folders='urlcheck: lint takes no folder; urlcheck-documents FOLDER reads the documents in it\n'
+of_folders='urlcheck: lint takes no folder; urlcheck-documents --check FOLDER judges the documents in it\n'
 expect 2 "$other" "urlcheck: .: can't be read: it is a folder\\n${of_folders}urlcheck: '': can't be read: there is no such file\\n\
 urlcheck: other.txt/x: can't be read: a part of its path is no folder\\nurlcheck: 1 line, 1 refused\\n" \
     lint . '' other.txt other.txt/x
@@ -354,8 +354,8 @@ expect 2 '' "$unnamed" lint --stdin-name=- ./- --format none --base 'a b'
 expect 2 '' "urlcheck: no profile is named 'n'\\nurlcheck: the profiles: standard wide parser\\nwords\\n" \
     lint --stdin-name n --profile n other.txt
 
-# A hint where lines are refused, one of the files has the name of a document, and counts are wanted.
-of_documents='urlcheck: lint takes a link a line; urlcheck-documents FILE judges the links of a document\n'
+# A hint where a line is refused of a file with the name of a document, and counts are wanted.
+of_documents='urlcheck: lint takes a link a line; urlcheck-documents --check FILE judges the links of a document\n'
 for end in html htm xhtml xht xml rss atom rdf svg md markdown MD; do
     printf '<a href="b">\n' >"$room/page.$end"
     expect 1 "page.$end:1:1: error: there is no scheme and no base [no-scheme]\n" \
@@ -365,6 +365,9 @@ done
 expect 2 "$other${bytes//links.txt:5/other.html:1}" "urlcheck: missing.md: can't be read: there is no such file\\n\
 ${of_documents}urlcheck: 4 lines, 2 refused\\n" lint other.txt missing.md right.txt other.html
 expect 0 '' 'urlcheck: 2 lines, 0 refused\n' lint right.html
+expect 1 "$other" 'urlcheck: 3 lines, 1 refused\n' lint right.html other.txt
+expect 1 "${bytes//links.txt:5/other.html:1}$other" "${of_documents}urlcheck: 4 lines, 2 refused\n" \
+    lint other.html other.txt right.html
 expect 2 '' "urlcheck: missing.html: can't be read: there is no such file\\nurlcheck: 0 lines, 0 refused\\n" lint missing.html
 "$program" lint "$room/other.html" >/dev/full 2>"$room/err"
 ended=$?

@@ -72,32 +72,33 @@ pub files_all : (files : List (String Global)) (at : ℕ) → length files ≤ a
 files_all files at end = ap (map string_bytes) (take_all at files end)
 
 -- a source that was linted: where no write has failed, none was counted
-source_quiet : (before : Linted) (is_input : Bool) (counts : LintCounts) (answer : Result (Unit {0}) LintFault)
-    (input rest old new : Stream)
-    → FailsAsAnswered answer input rest old new → is_writable (with_file before is_input counts answer).stopped ≡ true
-    → new.failed ≡ old.failed
-source_quiet before is_input counts (Ok u) input rest old new failed writable = failed.1
-source_quiet before is_input counts (Err Memory) input rest old new failed writable =
+source_quiet : (before : Linted) (is_input is_document : Bool) (counts : LintCounts)
+    (answer : Result (Unit {0}) LintFault) (input rest old new : Stream)
+    → FailsAsAnswered answer input rest old new
+    → is_writable (with_file before is_input is_document counts answer).stopped ≡ true → new.failed ≡ old.failed
+source_quiet before is_input is_document counts (Ok u) input rest old new failed writable = failed.1
+source_quiet before is_input is_document counts (Err Memory) input rest old new failed writable =
     let h = failed.1 in omega (arith, h)
-source_quiet before is_input counts (Err Read) input rest old new failed writable =
+source_quiet before is_input is_document counts (Err Read) input rest old new failed writable =
     let h = failed.1 in omega (arith, h)
-source_quiet before is_input counts (Err Write) input rest old new failed writable = grind (arith, writable)
-source_quiet before is_input counts (Err TooManyLines) input rest old new failed writable =
+source_quiet before is_input is_document counts (Err Write) input rest old new failed writable =
+    grind (arith, writable)
+source_quiet before is_input is_document counts (Err TooManyLines) input rest old new failed writable =
     let h = failed.1 in omega (arith, h)
-source_quiet before is_input counts (Err Endless) input rest old new failed writable =
+source_quiet before is_input is_document counts (Err Endless) input rest old new failed writable =
     let h = failed.1 in omega (arith, h)
 
 -- the same of a file by its name
-named_quiet : (is_input : Bool) (setting : FileSetting) (is_first : Bool) (before : Linted) (counts : LintCounts)
-    (answer : Result (Unit {0}) LintFault) (input rest old new : Stream)
+named_quiet : (is_input is_document : Bool) (setting : FileSetting) (is_first : Bool) (before : Linted)
+    (counts : LintCounts) (answer : Result (Unit {0}) LintFault) (input rest old new : Stream)
     → LintsNamed is_input setting is_first counts answer input rest old new
-    → is_writable (with_file before is_input counts answer).stopped ≡ true → new.failed ≡ old.failed
-named_quiet true setting is_first before counts answer input rest old new named writable = elim named [
-  | inl source ↦ source_quiet before true counts answer input rest old new source.failed writable
+    → is_writable (with_file before is_input is_document counts answer).stopped ≡ true → new.failed ≡ old.failed
+named_quiet true is_document setting is_first before counts answer input rest old new named writable = elim named [
+  | inl source ↦ source_quiet before true is_document counts answer input rest old new source.failed writable
   | inr nothing ↦ ap (λ d. d.failed) nothing.0.1
 ]
-named_quiet false setting is_first before counts answer input rest old new named writable = elim (named.0) [
-  | inl opened ↦ source_quiet before false counts answer opened.0 opened.1 old new opened.2.failed writable
+named_quiet false is_document setting is_first before counts answer input rest old new named writable = elim (named.0) [
+  | inl opened ↦ source_quiet before false is_document counts answer opened.0 opened.1 old new opened.2.failed writable
   | inr nothing ↦ ap (λ d. d.failed) nothing.0.1
 ]
 
@@ -116,7 +117,7 @@ quiet_by true file setting before after input rest old new is next writable = (
   ap (λ l. is_writable l.stopped) (sym next.is_after) ∙ writable,
 )
 quiet_by false file setting before after input rest old new is next writable = (
-  named_quiet _ setting _ before next.counts next.answer input rest old new next.named
+  named_quiet _ _ setting _ before next.counts next.answer input rest old new next.named
       (ap (λ l. is_writable l.stopped) (sym next.is_after) ∙ writable),
   writable_unstopped before.stopped is,
 )

@@ -1,17 +1,14 @@
 -- Hints at what was meant, where the arguments ask for something else: what is reported on standard error.
-use Rattle.std.specs.Prelude.{ℕ, ◌&&◌, ◌==◌, Bool, false, List, [], ◌∷◌, ◌++◌, Option, None, Some, String, codes, is_some}
+use Rattle.std.specs.Prelude.{ℕ, ◌&&◌, ◌==◌, Bool, false, List, [], ◌∷◌, ◌++◌, Option, None, Some, codes, is_some}
 use Rattle.std.specs.Prelude.{not, string_bytes, if◌then◌else◌}
-use Rattle.std.specs.List.{list_any}
 use Rattle.std.specs.Str.{bytes_eq}
-use Rattle.std.specs.declared.alloc.Global.{Global}
 use Rattle.clap.specs.declared.error.kind.ErrorKind.{ErrorKind}
 use Rattle.clap.specs.declared.error.kind.ErrorKind.TheVariants.{MissingRequiredArgument, UnknownArgument}
 use Rattle.uv_report.specs.Escapes.{shown_text}
 use Rattle.uv_words.specs.declared.words.Job.{Job}
 use Rattle.uv_words.specs.declared.words.Job.TheVariants as job
-use Rattle.uv_words.specs.declared.words.LintJob.{LintJob}
 use Rattle.uv_cli.specs.FileNames.{has_document_end, names_file}
-use Rattle.uv_cli.specs.Linted.{is_clean, is_stopped}
+use Rattle.uv_cli.specs.Linted.{is_stopped}
 use Rattle.uv_cli.specs.declared.ends.End.{End}
 use Rattle.uv_cli.specs.declared.ends.End.TheVariants.{Linted, Refused}
 use Rattle.uv_cli.specs.declared.linted.Linted as linted
@@ -36,22 +33,13 @@ text_hint text has_base of_input of_list =
     if bytes_eq text (codes "-") then text_line text of_input
     else (if not has_base && names_file text then text_line text (of_file text of_list) else [])
 
--- one of the names ends as that of a document does
-abbrev pub has_document : List (String Global) → Bool
-has_document files = list_any (λ file. has_document_end (string_bytes file)) files
-
--- a lint that isn't to be quiet came to its end and refused lines, and one of its files has the name of a document
-abbrev pub is_of_documents : LintJob → linted.Linted → Bool
-is_of_documents asked lint =
-    not lint.is_quiet
-    && (not (is_stopped lint)
-    && (not (is_clean lint) && has_document asked.files.items))
-
--- the hint behind a lint
-abbrev pub lint_hint : LintJob → linted.Linted → List ℕ
-lint_hint asked lint =
-    if is_of_documents asked lint
-    then codes "urlcheck: lint takes a link a line; urlcheck-documents FILE judges the links of a document\n" else []
+-- the hint behind a lint: where it isn't to be quiet, came to its end, and refused a line of a file that has the name of
+-- a document
+abbrev pub lint_hint : linted.Linted → List ℕ
+lint_hint lint =
+    if not lint.is_quiet && (not (is_stopped lint) && lint.is_document_refused)
+    then codes "urlcheck: lint takes a link a line; urlcheck-documents --check FILE judges the links of a document\n"
+    else []
 
 -- the hint behind a job that ended so
 abbrev pub job_hint : Job → End → List ℕ
@@ -61,13 +49,13 @@ job_hint (job.Check text base extent profile) Refused =
 job_hint (job.Mend text base profile) Refused =
     text_hint (string_bytes text) (is_some base) (codes "mend without a TEXT reads standard input")
     (codes "mend <FILE mends the lines of a file")
-job_hint (job.Lint asked) (Linted lint) = lint_hint asked lint
+job_hint (job.Lint asked) (Linted lint) = lint_hint lint
 job_hint other end = []
 
 -- the hint behind a file that a lint couldn't read for this reason
 abbrev pub folder_hint : Unread → List ℕ
 folder_hint unread.Folder =
-    codes "urlcheck: lint takes no folder; urlcheck-documents FOLDER reads the documents in it\n"
+    codes "urlcheck: lint takes no folder; urlcheck-documents --check FOLDER judges the documents in it\n"
 folder_hint _ = []
 
 -- the word begins as an option does

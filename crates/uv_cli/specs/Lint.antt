@@ -30,6 +30,7 @@ use Rattle.uv_cli.specs.declared.ends.End.{End}
 use Rattle.uv_cli.specs.declared.ends.End.TheVariants as end
 use Rattle.uv_vectors.specs.declared.fault.CliFault.TheVariants as cli
 use Rattle.uv_cli.specs.declared.linted.Linted.{Linted}
+use Rattle.uv_cli.specs.FileNames.{has_document_end}
 use Rattle.uv_cli.specs.Stream.{Stream}
 use Rattle.uv_cli.specs.Linted.{completion_of, is_clean, is_stopped, is_writable, no_file, with_fault, with_file}
 
@@ -143,7 +144,7 @@ pub record LintsFile (file : List ℕ) (setting : FileSetting) (before after : L
   pub counts : LintCounts
   pub answer : Result (Unit {0}) LintFault
   pub named : LintsNamed (is_input file) setting (is_clean before) counts answer input rest old new
-  pub is_after : after ≡ with_file before (is_input file) counts answer
+  pub is_after : after ≡ with_file before (is_input file) (has_document_end file) counts answer
 
 -- nothing is done behind what stopped the lint
 pub record StaysStopped (before after : Linted) (input rest old new : Stream) : Type 0 where

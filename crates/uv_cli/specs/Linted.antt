@@ -1,6 +1,6 @@
 -- What a lint of files has come to, its exit status, and its lines on standard error.
-use Rattle.std.specs.Prelude.{ℕ, ◌+◌, ◌-◌, ◌^◌, ◌==◌, ◌||◌, Bool, true, false, List, [], ◌++◌, Option, Some, None}
-use Rattle.std.specs.Prelude.{Result, Ok, Err, codes, decimal, is_some, min, if◌then◌else◌}
+use Rattle.std.specs.Prelude.{ℕ, ◌+◌, ◌-◌, ◌^◌, ◌==◌, ◌&&◌, ◌||◌, Bool, true, false, List, [], ◌++◌, Option, Some, None}
+use Rattle.std.specs.Prelude.{Result, Ok, Err, codes, decimal, is_some, min, not, if◌then◌else◌}
 use Rattle.uv_lint.specs.declared.counts.LintCounts.{LintCounts}
 use Rattle.uv_lint.specs.declared.fault.LintFault.{LintFault}
 use Rattle.uv_lint.specs.declared.fault.LintFault.TheVariants.{Memory, Read, Write, TooManyLines, Endless}
@@ -15,6 +15,7 @@ no_file is_quiet = record {
   counts = none_counted;
   is_unread = false;
   is_input_unread = false;
+  is_document_refused = false;
   stopped = None;
   is_quiet = is_quiet;
 }
@@ -35,15 +36,25 @@ abbrev pub with_unread : Linted → Bool → Linted
 with_unread linted is_input =
     record linted { is_unread = true; is_input_unread = is_input || linted.is_input_unread }
 
--- behind a file with these counts
-abbrev pub with_counts : Linted → LintCounts → Linted
-with_counts linted counts = record linted { counts = sum_counts linted.counts counts }
+-- a line of these was refused
+abbrev pub has_refused : LintCounts → Bool
+has_refused counts = not (counts.refused == 0)
 
--- behind a file with these counts and this answer: a failed read stops nothing, and each other fault does
-abbrev pub with_file : Linted → Bool → LintCounts → Result (Unit {0}) LintFault → Linted
-with_file linted is_input counts (Ok done) = with_counts linted counts
-with_file linted is_input counts (Err Read) = with_unread (with_counts linted counts) is_input
-with_file linted is_input counts (Err fault) = with_fault (with_counts linted counts) fault
+-- behind a file with these counts, which has the name of a document or of something else
+abbrev pub with_counts : Linted → Bool → LintCounts → Linted
+with_counts linted is_document counts =
+    record linted {
+      counts = sum_counts linted.counts counts;
+      is_document_refused = (is_document && has_refused counts) || linted.is_document_refused;
+    }
+
+-- behind a file with these counts and this answer, which is the standard input or another one, and has the name of a
+-- document or of something else: a failed read stops nothing, and each other fault does
+abbrev pub with_file : Linted → Bool → Bool → LintCounts → Result (Unit {0}) LintFault → Linted
+with_file linted is_input is_document counts (Ok done) = with_counts linted is_document counts
+with_file linted is_input is_document counts (Err Read) =
+    with_unread (with_counts linted is_document counts) is_input
+with_file linted is_input is_document counts (Err fault) = with_fault (with_counts linted is_document counts) fault
 
 -- something stopped it
 abbrev pub is_stopped : Linted → Bool

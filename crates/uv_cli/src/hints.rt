@@ -1,7 +1,7 @@
 //! Hints at what was meant, where the arguments ask for something else: what is reported on standard error.
 ghost use Rattle.std.specs.Prelude.{◌≡◌, IfOk, option_copied, string_bytes};
-ghost use Rattle.uv_cli.specs.Hints.{begins_with_hyphen, folder_hint, has_document, is_file_of, is_lint};
-ghost use Rattle.uv_cli.specs.Hints.{is_of_documents, job_hint, lint_hint, of_file, text_hint, text_line, words_hint};
+ghost use Rattle.uv_cli.specs.Hints.{begins_with_hyphen, folder_hint, is_file_of, is_lint, job_hint, lint_hint, of_file};
+ghost use Rattle.uv_cli.specs.Hints.{text_hint, text_line, words_hint};
 
 use crate::ends::End;
 use crate::file_names::{has_document_end, names_file};
@@ -10,7 +10,7 @@ use crate::unread::Unread;
 use clap::error::ErrorKind;
 use std::alloc::{AllocError, Global};
 use uv_report::push_shown;
-use uv_words::{Job, LintJob};
+use uv_words::Job;
 
 // What `check` is told where its text is the standard input's name.
 const INPUT_OF_CHECK: &str = "lint - and links read standard input";
@@ -29,11 +29,11 @@ const DOCUMENT: &str = "urlcheck-documents --check FILE judges the links of a do
 
 // What is said where a lint refuses lines of a document.
 const OF_DOCUMENTS: &str =
-    "urlcheck: lint takes a link a line; urlcheck-documents FILE judges the links of a document\n";
+    "urlcheck: lint takes a link a line; urlcheck-documents --check FILE judges the links of a document\n";
 
 // What is said where a lint is given a folder.
 const OF_FOLDERS: &str =
-    "urlcheck: lint takes no folder; urlcheck-documents FOLDER reads the documents in it\n";
+    "urlcheck: lint takes no folder; urlcheck-documents --check FOLDER judges the documents in it\n";
 
 // What is said where `links` is given a file.
 const NO_FILE_OF_LINKS: &str =
@@ -62,7 +62,7 @@ pub(crate) fn job_hint(alloc: Global, job: &Job, end: End) -> Result<String, All
             INPUT_OF_MEND,
             LIST_OF_MEND,
         ),
-        (Job::Lint(asked), End::Linted(linted)) => lint_hint(alloc, asked, linted),
+        (Job::Lint(_), End::Linted(linted)) => lint_hint(alloc, linted),
         _ => Ok(String::new(alloc)),
     }
 }
@@ -111,33 +111,16 @@ fn text_line(alloc: Global, text: &str, instead: &str) -> Result<String, AllocEr
     Ok(line)
 }
 
-// The hint behind a lint, or nothing.
-fn lint_hint(alloc: Global, asked: &LintJob, linted: Linted) -> Result<String, AllocError>
-    ensures { IfOk result (λ hint. string_bytes hint ≡ lint_hint asked.now linted) }
+// The hint behind a lint, or nothing: where it isn't to be quiet, came to its end, and refused a line of a file that has
+// the name of a document.
+fn lint_hint(alloc: Global, linted: Linted) -> Result<String, AllocError>
+    ensures { IfOk result (λ hint. string_bytes hint ≡ lint_hint linted) }
 {
-    if is_of_documents(asked, linted) {
+    if !linted.is_quiet && !linted.is_stopped() && linted.is_document_refused {
         String::from_str(alloc, OF_DOCUMENTS)
     } else {
         Ok(String::new(alloc))
     }
-}
-
-// Whether a lint that isn't to be quiet came to its end and refused lines, and one of its files has the name of a
-// document.
-fn is_of_documents(asked: &LintJob, linted: Linted) -> bool
-    ensures { result ≡ is_of_documents asked.now linted }
-{
-    !linted.is_quiet
-        && !linted.is_stopped()
-        && !linted.is_clean()
-        && has_document(asked.files.as_slice())
-}
-
-// Whether one of the names ends as that of a document does.
-fn has_document(files: &[String]) -> bool
-    ensures { result ≡ has_document files.now }
-{
-    files.iter().any(|file| has_document_end(file.as_str()))
 }
 
 /// The hint behind a file that a lint couldn't read for this reason, or nothing: of a folder.

@@ -11,6 +11,7 @@ ghost use Rattle.uv_cli.specs.Unread.{unread_text};
 
 use crate::arguments::said_of;
 use crate::ends::End;
+use crate::file_names::has_document_end;
 use crate::hints::folder_hint;
 use crate::linted::Linted;
 use crate::messages::{message_line, say};
@@ -224,7 +225,7 @@ fn lint_next<R: Files + Eprint + AllocGlobal, I: Source, S: Sink>(
     let reported = if is_input { name } else { file };
     let is_first = linted.is_clean();
     let (counts, answer) = lint_named(rt, is_input, reported, setting, is_first, input, out);
-    linted.with_file(is_input, counts, answer)
+    linted.with_file(is_input, has_document_end(file), counts, answer)
 }
 
 // Whether the file with a name is the standard input.

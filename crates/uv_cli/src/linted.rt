@@ -16,6 +16,8 @@ pub struct Linted {
     pub is_unread: bool,
     /// Whether the standard input is among these.
     pub is_input_unread: bool,
+    /// Whether a line was refused of a file that has the name of a document.
+    pub is_document_refused: bool,
     /// What stopped the lint, if something did. A failed read stops none.
     pub stopped: Option<LintFault>,
     /// Whether no counts are wanted.
@@ -34,21 +36,24 @@ impl Linted {
             },
             is_unread: false,
             is_input_unread: false,
+            is_document_refused: false,
             stopped: None,
             is_quiet,
         }
     }
 
-    /// The same behind a file of which so many lines were counted: the standard input, or another one.
+    /// The same behind a file of which so many lines were counted: the standard input, or another one, with the name of
+    /// a document or of something else.
     pub(crate) fn with_file(
         self,
         is_input: bool,
+        is_document: bool,
         counts: LintCounts,
         answer: Result<(), LintFault>,
     ) -> Linted
-        ensures { result ≡ spec.with_file self is_input counts answer }
+        ensures { result ≡ spec.with_file self is_input is_document counts answer }
     {
-        let counted = self.with_counts(counts);
+        let counted = self.with_counts(is_document, counts);
         match answer {
             Ok(()) => counted,
             Err(LintFault::Read) => counted.with_unread(is_input),
@@ -56,10 +61,11 @@ impl Linted {
         }
     }
 
-    // The same behind a file of which so many lines were counted.
-    fn with_counts(self, counts: LintCounts) -> Linted
-        ensures { result ≡ spec.with_counts self counts }
+    // The same behind a file of which so many lines were counted, with the name of a document or of something else.
+    fn with_counts(self, is_document: bool, counts: LintCounts) -> Linted
+        ensures { result ≡ spec.with_counts self is_document counts }
     {
+        let is_refused = is_document && counts.refused != 0;
         Linted {
             counts: LintCounts {
                 lines: self.counts.lines.saturating_add(counts.lines),
@@ -67,6 +73,7 @@ impl Linted {
             },
             is_unread: self.is_unread,
             is_input_unread: self.is_input_unread,
+            is_document_refused: is_refused || self.is_document_refused,
             stopped: self.stopped,
             is_quiet: self.is_quiet,
         }
@@ -80,6 +87,7 @@ impl Linted {
             counts: self.counts,
             is_unread: true,
             is_input_unread: is_input || self.is_input_unread,
+            is_document_refused: self.is_document_refused,
             stopped: self.stopped,
             is_quiet: self.is_quiet,
         }
@@ -93,6 +101,7 @@ impl Linted {
             counts: self.counts,
             is_unread: self.is_unread,
             is_input_unread: self.is_input_unread,
+            is_document_refused: self.is_document_refused,
             stopped: Some(fault),
             is_quiet: self.is_quiet,
         }
